@@ -10,7 +10,7 @@ invariant-loop-bytes g l = record {
   later : g.S.Source.count l.initial.source ≤ g.S.Source.count l.source;
   came : Consumes (g.S.Source.left l.initial.source) (g.S.Source.left l.source) l.bytes.items;
   tells : StillTells (g.S.Source.left l.initial.source) (g.S.Source.left l.source);
-  turns : l.steps ≤ l.initial.steps + vec_len l.bytes
+  turns : l.steps ≤ l.initial.steps + vec_len l.bytes;
 }
 
 abbrev pub decreases-loop-bytes : goal.decreases-loop-bytes

@@ -9,7 +9,7 @@ invariant-loop-taken g l = record {
   within : l.taken ≤ length l.bytes;
   later : g.K.Sink.count l.initial.sink ≤ g.K.Sink.count l.sink;
   written : Appends (g.K.Sink.written l.initial.sink) (g.K.Sink.written l.sink) (take l.taken l.bytes);
-  tells : StillTells (g.K.Sink.written l.initial.sink) (g.K.Sink.written l.sink)
+  tells : StillTells (g.K.Sink.written l.initial.sink) (g.K.Sink.written l.sink);
 }
 
 abbrev pub decreases-loop-taken : goal.decreases-loop-taken
