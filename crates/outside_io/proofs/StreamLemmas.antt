@@ -1,5 +1,5 @@
 -- A front of the bytes was written, and then a front of the rest.
-use Rattle.std.proofs.Common.{◌≡◌, ℕ, ◌+◌, ◌-◌, ◌<◌, ◌≤◌, Option, None, Some, List, [], ◌++◌, length, length-drop, take, drop, min, append_assoc, arith, ap, ◌∙◌, sym}
+use Rattle.std.proofs.Common.{◌≡◌, ℕ, ◌+◌, ◌-◌, ◌<◌, Option, None, Some, List, [], ◌++◌, length, length-drop, take, drop, min, append_assoc, arith, ap, ◌∙◌, sym}
 use Rattle.std.specs.Io.KnownBytes.{Appends}
 use Rattle.std.proofs.lemmas.List.{take-append-drop, drop-drop, drop_all, take_rest}
 use Rattle.std.proofs.Math.Seq.{take-add}

@@ -18,3 +18,16 @@ pub enum ReadAllFault {
     /// There was no memory for the bytes.
     NoMemory,
 }
+
+/// Why a file wasn't fetched.
+#[derive(Clone, Copy, PartialEq, Eq, Debug)]
+pub enum FetchFault {
+    /// There is no file with this name.
+    Absent,
+    /// The file has more bytes than the limit.
+    TooLong,
+    /// The shelf failed.
+    Failed,
+    /// There was no memory for the bytes.
+    NoMemory,
+}
