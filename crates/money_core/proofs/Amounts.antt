@@ -1,10 +1,11 @@
 -- An amount's text and its two parts: the last three bytes, and what stands before.
-use Rattle.std.proofs.Common.{◌≡◌, ℕ, ◌+◌, ◌-◌, ◌*◌, ◌/◌, ◌%◌, ◌^◌, ◌<◌, List, length, take, drop, sym, ap, ◌∙◌, refl, arith, length-append, take-append-drop}
+use lib.Dec.{leb-zero}
+use Rattle.std.proofs.Common.{◌∷◌, ℤ, pos, negsuc, false, int_le, unsigned_abs, true≢false, ◌≡◌, ℕ, ◌+◌, ◌-◌, ◌*◌, ◌/◌, ◌%◌, ◌^◌, ◌<◌, List, length, take, drop, sym, ap, ◌∙◌, refl, arith, length-append, take-append-drop}
 use Rattle.std.specs.Fmt.{decimal}
 use Rattle.std.specs.Str.Parse.{digits_value}
 use Rattle.std.proofs.lemmas.Fmt.{decimal_is_IsNumeral_wide}
 use Rattle.std.proofs.lemmas.List.{take_at, drop_at}
-use Rattle.money_core.specs.CentsText.{cents_text, hundredths_text}
+use Rattle.money_core.specs.CentsText.{cents_text, hundredths_text, signed_cents_text}
 
 -- two numbers of at most 64 digits have different digits
 pub decimal_injective_wide : (m n : ℕ) → m < 10 ^ 64 → n < 10 ^ 64 → decimal m ≡ decimal n → m ≡ n
@@ -42,3 +43,7 @@ text_from_parts text whole fraction units hundredths small before last w f =
     let u : (units * 100 + hundredths) / 100 ≡ units = omega arith in
     let h : (units * 100 + hundredths) % 100 ≡ hundredths = omega arith in
     rw (u, h, ← w, ← f, before, last) (sym (take-append-drop (length text - 3) text))
+
+pub minus_first : (z : ℤ) → int_le (pos 0) z ≡ false → 45 ∷ cents_text (unsigned_abs z) ≡ signed_cents_text z
+minus_first (pos n) e = absurd (true≢false (sym (leb-zero n) ∙ e))
+minus_first (negsuc n) e = refl

@@ -4,7 +4,9 @@
 mod bytes;
 mod number;
 mod parse;
+mod print;
 
 pub use bytes::Text;
 pub use number::parse_number;
 pub use parse::parse_cents;
+pub use print::print_cents;
