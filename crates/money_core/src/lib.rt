@@ -5,6 +5,8 @@ mod bytes;
 mod number;
 mod parse;
 mod print;
+#[cfg(test)]
+mod tests;
 
 pub use bytes::Text;
 pub use number::parse_number;
