@@ -4,6 +4,8 @@
 mod fault;
 mod shape;
 mod table;
+#[cfg(test)]
+mod tests;
 
 pub use fault::RatesFault;
 pub use shape::Shape;

@@ -1,6 +1,6 @@
-ghost use Rattle.std.specs.Prelude.{◌≡◌, ◌+◌, ◌-◌, ◌*◌, ◌<◌, ◌≤◌, ◌^◌, ℕ, List, length, slice_index, SomeIff, IfSome, IfNone, MatchResult, EachIndex};
+ghost use Rattle.std.specs.Prelude.{◌≡◌, ◌≤◌, slice_index, SomeIff, IfSome, IfNone, IfOk, MatchResult, EachIndex};
 ghost use Rattle.rate_table.specs.Rates.{Rates, ONE, AreRates, HoldsAge, rate_at, last_age_of};
-ghost use Rattle.rate_table.specs.Faults.{IsFirstFault};
+ghost use Rattle.rate_table.specs.Faults.{IsFirstFault, IsFirstAbove};
 
 use crate::fault::RatesFault;
 use std::marker::Model;
@@ -23,8 +23,9 @@ impl Model for RateTable {
 impl RateTable {
     /// The table of these rates, in units of 10^-9, from `first_age` on.
     pub fn new(first_age: u8, rates: Vec<u32>) -> Result<RateTable, RatesFault>
-        ensures table { MatchResult result (λ t. t ≡ record { first_age = first_age; rates = rates.items }) (λ e. IsFirstFault first_age rates.items e) }
-        ensures within { MatchResult result AreRates (λ _. Unit {0}) }
+        ensures table { let given : Rates = record { first_age = first_age; rates = rates.items } in
+            MatchResult result (λ table. table ≡ given) (λ fault. IsFirstFault given fault) }
+        ensures within { IfOk result (λ table. AreRates table) }
     {
         let count = rates.len();
         if count == 0 {
@@ -75,7 +76,7 @@ impl RateTable {
 
 /// The place of the first rate above 1.
 fn first_above_one(rates: &[u32]) -> Option<usize>
-    ensures found { IfSome result (λ place. (place < length rates.now) × (ONE < slice_index rates.now place) × ((k : ℕ) → k < place → slice_index rates.now k ≤ ONE)) }
+    ensures found { IfSome result (λ place. IsFirstAbove rates.now place) }
     ensures absent { IfNone result (EachIndex rates.now (λ k. slice_index rates.now k ≤ ONE)) }
 {
     for (place, rate) in rates.iter().enumerate() {
