@@ -1,4 +1,4 @@
-use Rattle.std.specs.Prelude.{ℕ, ◌+◌, ◌-◌, ◌<◌, ◌≤◌, List, length, slice_index, EachIndex}
+use Rattle.std.specs.Prelude.{◌≡◌, ℕ, ◌+◌, ◌-◌, ◌<◌, ◌≤◌, List, length, slice_index, EachIndex}
 
 -- a mortality table: the rate of death within a year, in units of 10^-9, for each age from the first on
 pub record Rates : Type 0 where
@@ -25,3 +25,8 @@ rate_at table age = slice_index table.rates (age - table.first_age)
 
 abbrev pub last_age_of : Rates → ℕ
 last_age_of table = table.first_age + length table.rates - 1
+
+-- the rates of the ages from this one to the table's last
+pub record AreRatesFrom (table : Rates) (age : ℕ) (rates : List ℕ) : Type 0 where
+  pub count : age + length rates ≡ table.first_age + length table.rates
+  pub each : EachIndex rates (λ k. slice_index rates k ≡ rate_at table (age + k))

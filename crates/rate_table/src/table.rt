@@ -1,5 +1,5 @@
-ghost use Rattle.std.specs.Prelude.{◌≡◌, ◌≤◌, slice_index, SomeIff, IfSome, IfNone, IfOk, MatchResult, EachIndex};
-ghost use Rattle.rate_table.specs.Rates.{Rates, ONE, AreRates, HoldsAge, rate_at, last_age_of};
+ghost use Rattle.std.specs.Prelude.{◌≡◌, ◌≤◌, ◌+◌, length, slice_index, SomeIff, IfSome, IfNone, IfOk, MatchResult, EachIndex};
+ghost use Rattle.rate_table.specs.Rates.{Rates, ONE, AreRates, HoldsAge, AreRatesFrom, rate_at, last_age_of};
 ghost use Rattle.rate_table.specs.Faults.{IsFirstFault, IsFirstAbove};
 
 use crate::fault::RatesFault;
@@ -54,6 +54,17 @@ impl RateTable {
         } else {
             None
         }
+    }
+
+    /// The rates of an age that the table holds and of all later ages, in units of 10^-9.
+    pub fn rates_from(&self, age: u8) -> &[u32]
+        requires { HoldsAge self.now age }
+        ensures rates { AreRatesFrom self.now age result.now }
+        ensures bound { EachIndex result.now (λ k. slice_index result.now k ≤ ONE) }
+        ensures ages { age + length result.now ≤ 131 }
+    {
+        let place = (age - self.first_age) as usize;
+        &self.rates.as_slice()[place..]
     }
 
     /// The first age of the table.
