@@ -51,6 +51,9 @@ fn rates_by_age(rt: HostRuntime) -> Result<(), Fail> {
     assert_eq!(rt; table.rate(42), Some(1_000_000_000));
     assert_eq!(rt; table.rate(43), None);
     assert_eq!(rt; table.rate(255), None);
-    assert_eq!(rt; table.rates_from(41), [200_000_000, 1_000_000_000].as_slice());
+    assert_eq!(rt;
+        table.rates_from(41),
+        [200_000_000, 1_000_000_000].as_slice()
+    );
     Ok(())
 }
