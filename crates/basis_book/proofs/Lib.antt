@@ -1,0 +1,5 @@
+pub mod Ascii
+pub mod Digits
+pub mod Additions
+pub mod ThreeFields
+pub mod Picking
