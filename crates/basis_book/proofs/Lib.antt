@@ -3,3 +3,4 @@ pub mod Digits
 pub mod Additions
 pub mod ThreeFields
 pub mod Picking
+pub mod Exact

@@ -1,8 +1,10 @@
-ghost use Rattle.std.specs.Prelude.{◌≤◌, ℕ, List, length, IfOk, IfErr};
+ghost use Rattle.std.specs.Prelude.{◌≤◌, ℕ, List, length, IfOk, IfErr, Result};
 ghost use Rattle.csv.specs.Records.{fields_of};
 ghost use Rattle.basis_book.specs.Dated.{AreBounded};
+ghost use Rattle.basis_book.specs.declared.row.BasisRow.{BasisRow};
+ghost use Rattle.basis_book.specs.declared.fault.BasisFault.{BasisFault as AFault};
 ghost use Rattle.basis_book.specs.Fields.{AreThree};
-ghost use Rattle.basis_book.specs.File.{HasRows, IsBasisFile, IsFileFault};
+ghost use Rattle.basis_book.specs.File.{Gives, HasRows, IsBasisFile, IsDue, IsFileFault};
 ghost use Rattle.basis_book.specs.Judged.{Judged};
 
 use crate::fault::BasisFault;
@@ -19,6 +21,16 @@ pub const LONGEST_FILE: usize = 4_194_304;
 /// The rows of a basis file, whose bytes these are.
 pub fn read_basis(alloc: Global, bytes: &[u8]) -> Result<BasisRows, BasisFault>
     requires { length bytes.now ≤ LONGEST_FILE }
+    ensures rows { IfOk result (IsBasisFile bytes.now) }
+    ensures bounded { IfOk result AreBounded }
+    ensures faults { IfErr result (IsFileFault bytes.now) }
+    // Whatever answer is due is given, unless memory is refused.
+    ensures due { (answer : Result (List BasisRow) AFault) → IsDue bytes.now answer → Gives result answer }
+{
+    read_rows(alloc, bytes)
+}
+
+fn read_rows(alloc: Global, bytes: &[u8]) -> Result<BasisRows, BasisFault>
     ensures rows { IfOk result (IsBasisFile bytes.now) }
     ensures bounded { IfOk result AreBounded }
     ensures faults { IfErr result (IsFileFault bytes.now) }
