@@ -16,6 +16,7 @@ use Rattle.basis_book.specs.declared.fault.BasisFault.TheVariants.{TooManyRows, 
 use Rattle.basis_book.specs.Points.{IsPoints}
 use Rattle.basis_book.specs.Row.{IsRow}
 use Rattle.basis_book.specs.Rows.{DaysRise, IsAfter, Falls, AreRows, StopsAt, IsFirstBad, IsFirstFall, IsFault}
+use Rattle.basis_book.proofs.ListCuts.{compare_cuts}
 use Rattle.basis_book.specs.File.{HasRows, IsBasisFile, IsFileFault, IsDue, Gives}
 
 -- the records of a text are one list
@@ -124,22 +125,6 @@ right_not_wrong good fields rest before found h k wrong =
       | inr fall ↦
           let row : c.row ≡ fall.0 = one_row fields c.row fall.0 c.is_row fall.1 in
           not_both before fall.0.from_day (subst (λ (r : BasisRow). IsAfter before r.from_day) row (subst (λ xs. IsAfter xs c.row.from_day) same after)) fall.2
-    ]
-
--- two cuts of a list are at one place, or the one lies in the front of the other
-abbrev Compares : List (List (List ℕ)) → List (List ℕ) → List (List (List ℕ)) → List (List ℕ) → Type 0
-Compares g f h e = ((g ≡ h) × (f ≡ e)) ⊎ (((t : List (List (List ℕ))) × (h ≡ g ++ f ∷ t)) ⊎ ((t : List (List (List ℕ))) × (g ≡ h ++ e ∷ t)))
-
-compare_cuts : (g : List (List (List ℕ))) (f : List (List ℕ)) (r h : List (List (List ℕ))) (e : List (List ℕ)) (s : List (List (List ℕ))) → g ++ f ∷ r ≡ h ++ e ∷ s → Compares g f h e
-compare_cuts [] f r [] e s same = inl (refl, cc)
-compare_cuts [] f r (y ∷ h) e s same = inr (inl (h, cc))
-compare_cuts (x ∷ g) f r [] e s same = inr (inr (g, cc))
-compare_cuts (x ∷ g) f r (y ∷ h) e s same =
-    let heads : x ≡ y = cc in
-    let tails : g ++ f ∷ r ≡ h ++ e ∷ s = cc in
-    elim (compare_cuts g f r h e s tails) [
-      | inl k ↦ inl (let a = k.0 in cc, k.1)
-      | inr k ↦ elim k [ inl t ↦ inr (inl (t.0, let a = t.1 in cc)) | inr t ↦ inr (inr (t.0, let a = t.1 in cc)) ]
     ]
 
 -- two wrong rows behind right ones are one row

@@ -4,3 +4,5 @@ pub mod Additions
 pub mod ThreeFields
 pub mod Picking
 pub mod Exact
+pub mod ListCuts
+pub mod CallerLemmas

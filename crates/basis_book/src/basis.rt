@@ -1,4 +1,4 @@
-ghost use Rattle.std.specs.Prelude.{◌≡◌, ◌≤◌, ℕ, ◌<◌, ◌<ℤ◌, List, map, All, IsSome, IfOk, IfErr, MatchOption};
+ghost use Rattle.std.specs.Prelude.{◌≡◌, ◌≤◌, ℕ, ◌<◌, ◌<ℤ◌, List, map, All, IsSome, IfOk, IfErr, IfSome, MatchOption};
 ghost use Rattle.indexmap.specs.IndexMap.{get_by_text};
 ghost use Rattle.basis_book.specs.Dated.{Dated, dated, AreBounded, IsFirstMissing, IsPicked};
 
@@ -50,6 +50,7 @@ impl Basis {
     pub fn pick(&self, issued: i32) -> Option<(u16, &RateTable, u16)>
         ensures picked { MatchOption result (All (λ entry. issued <ℤ entry.from_day) self.now)
             (λ p. (entry : Dated) × IsPicked self.now issued p.0 entry × (p.1.now ≡ entry.table) × (p.2 ≡ entry.bp)) }
+        ensures bounded { IfSome result (λ p. (p.0 < 1000) × (p.2 ≤ 2000)) }
     {
         let rows = self.rows.as_slice();
         for index in (0..rows.len()).rev() {

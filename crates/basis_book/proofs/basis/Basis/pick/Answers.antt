@@ -1,4 +1,4 @@
-use Rattle.std.proofs.Common.{◌≡◌, ◌+◌, ◌-◌, ◌<◌, ◌<ℤ◌, ◌≤ℤ◌, false, sym, ap, ◌∙◌, subst, refl, All, IsSome, is_some, List, length, map, drop, get_or, ℤ, w32, to_z, of_z, arith}
+use Rattle.std.proofs.Common.{◌≡◌, ◌+◌, ◌-◌, ◌<◌, ◌≤◌, ◌<ℤ◌, ◌≤ℤ◌, false, sym, ap, ◌∙◌, subst, refl, All, IsSome, is_some, List, length, map, drop, get_or, ℤ, w32, to_z, of_z, arith}
 use Rattle.indexmap.specs.IndexMap.{get_by_text}
 use Rattle.std.proofs.lemmas.Int.{ints, to_z-of_z}
 use Rattle.basis_book.specs.declared.row.BasisRow.{BasisRow}
@@ -32,6 +32,10 @@ returns-then-row-issued c =
     let found : All (λ (r : BasisRow). day <ℤ r.from_day) (drop (i + 1) rows) = rw again c.loop-index.invariant.1 in
     let rest = subst (λ (z : ℤ). All (λ (r : BasisRow). z <ℤ r.from_day) (drop (i + 1) rows)) plain found in
     let begun : row.from_day ≤ℤ c.args.issued = omega (arith, ints) in
+    let longs = ap (λ (xs : List BasisRow). length xs) c.as_slice-rows.ensures in
+    let same : row ≡ get_or c.self.inside.rows i row = rw c.as_slice-rows.ensures at c.index-rows-index.is in
+    let inside : i < length c.self.inside.rows = omega (arith, longs) in
+    let points : row.bp ≤ 2000 = subst (λ (r : BasisRow). r.bp ≤ 2000) (sym same) (c.self.invariant.0.points i row inside) in
     let picked = picked_at t rows c.args.issued i row within c.index-rows-index.is begun rest in
     let whole : map (dated t) rows ≡ c.args.self.now = ap (λ (xs : List BasisRow). map (dated t) xs) c.as_slice-rows.ensures ∙ c.self.view_is in
     record {
@@ -41,6 +45,7 @@ returns-then-row-issued c =
         table_is (t row.table) c.in_ok-table.table.now _ (rw c.text.ensures.text at c.in_ok-table.ensures.value),
         refl,
       );
+      bounded = (omega (arith, c.self.invariant.0.few, longs), points);
     }
 
 pub returns : goal.returns
@@ -53,4 +58,4 @@ returns c =
     let found : All (λ (r : BasisRow). day <ℤ r.from_day) rows = rw first at c.loop-index.invariant.1 in
     let all = subst (λ (z : ℤ). All (λ (r : BasisRow). z <ℤ r.from_day) rows) plain found in
     let whole : map (dated t) rows ≡ c.args.self.now = ap (λ (xs : List BasisRow). map (dated t) xs) c.as_slice-rows.ensures ∙ c.self.view_is in
-    record { picked = subst (λ (xs : List Dated). All (λ (entry : Dated). c.args.issued <ℤ entry.from_day) xs) whole (none_begun t rows c.args.issued all) }
+    record { picked = subst (λ (xs : List Dated). All (λ (entry : Dated). c.args.issued <ℤ entry.from_day) xs) whole (none_begun t rows c.args.issued all); bounded = tt }
