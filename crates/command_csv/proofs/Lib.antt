@@ -1,0 +1,6 @@
+pub mod Clerks
+pub mod Cuts
+pub mod Faults
+pub mod FieldTexts
+pub mod Issues
+pub mod Progress
