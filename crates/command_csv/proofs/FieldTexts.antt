@@ -43,7 +43,7 @@ years_within Whole age years h = omega arith
 years_within Endowment age years h = omega arith
 years_within Limited age years h = omega arith
 
-term_day : (day : ℤ) → IsDay day → IsTermDay day
+pub term_day : (day : ℤ) → IsDay day → IsTermDay day
 term_day day h = (h.0, omega (arith, ints))
 
 pub day_read : (found : Option ℤ) (text : List ℕ) (left new : List (List ℕ)) → left ≡ text ∷ new
