@@ -1,19 +1,18 @@
 -- A script is read in one way
-use Rattle.std.proofs.Common.{◌≡◌, ℕ, ◌+◌, ◌<◌, ◌≤◌, ◌^◌, cond, Bool, true, false, List, [], ◌∷◌, Option, Some, None, refl, ap, sym, ◌∙◌, subst, arith, lit≤, ℤ}
-use Rattle.std.specs.Prelude.{codes, decimal, ◌==◌, ◌||◌}
+use Rattle.std.proofs.Common.{◌≡◌, ℕ, ◌≤◌, cond, Bool, true, false, List, [], ◌∷◌, Some, refl, ap, sym, ◌∙◌, subst, arith, lit≤, ℤ}
+use Rattle.std.specs.Prelude.{decimal, ◌==◌, ◌||◌}
 use Rattle.std.specs.List.{AllZip}
 use Rattle.std.proofs.lemmas.Fmt.{decimal_injective}
 use Rattle.policy_types.specs.declared.command.Command.TheVariants.{Issue}
 use Rattle.policy_types.specs.declared.script.Line.{Line}
 use Rattle.policy_types.specs.declared.script.Line.TheVariants.{Post}
 use Rattle.policy_types.specs.declared.script.Lane.{Lane}
-use Rattle.life_dates.specs.Calendar.{Date, IsDay, IsTermDay, days_in_month, is_leap_year, day_number}
+use Rattle.life_dates.specs.Calendar.{IsDay, days_in_month, is_leap_year, day_number}
 use Rattle.life_dates.specs.DayText.{day_text, IsDayText}
 use Rattle.life_dates.proofs.TextLemmas.{IsDayText-day_text, read_exact}
-use Rattle.money_core.specs.CentsText.{cents_text}
 use Rattle.money_core.proofs.Amounts.{cents_text_injective}
 use Rattle.command_csv.specs.Rows.{rows_of}
-use Rattle.command_csv.specs.Spelling.{ClerkLine, by_first, plan_word, line_fields, row_fields}
+use Rattle.command_csv.specs.Spelling.{ClerkLine, line_fields}
 use Rattle.command_csv.specs.Reads.{IsIssueLine, IsRowOf, Reads, lanes_of}
 use Rattle.command_csv.proofs.FieldTexts.{term_day, years_within}
 use Rattle.command_csv.proofs.Issues.{plan_word_injective}
