@@ -1,5 +1,5 @@
 -- A script with a first fault isn't read, and has no other first fault
-use Rattle.std.proofs.Common.{◌≡◌, ℕ, ◌+◌, ◌-◌, ◌<◌, ◌≤◌, List, [], ◌∷◌, ◌++◌, length, take, map, suc, refl, ap, sym, ◌∙◌, subst, inl, inr, arith}
+use Rattle.std.proofs.Common.{◌≡◌, ℕ, ◌+◌, ◌-◌, ◌≤◌, List, [], ◌∷◌, ◌++◌, length, take, map, suc, refl, ap, sym, ◌∙◌, subst, inl, inr, arith}
 use Rattle.std.specs.List.{AllZip, All}
 use Rattle.std.proofs.lemmas.Bool.{cases_order}
 use Rattle.std.proofs.lemmas.List.{take-take}
@@ -7,7 +7,7 @@ use Rattle.std.proofs.lemmas.List.Elements.{All-from_recursion}
 use Rattle.policy_types.specs.declared.script.Line.{Line}
 use Rattle.policy_types.specs.declared.script.Lane.{Lane}
 use Rattle.command_csv.specs.Rows.{rows_of, fields_of}
-use Rattle.command_csv.specs.Spelling.{by_first, ClerkLine, row_fields}
+use Rattle.command_csv.specs.Spelling.{ClerkLine, row_fields}
 use Rattle.command_csv.specs.Reads.{IsIssueLine, IsRowOf, Reads, FitsUpTo, IsFirstBadField, IsFirstFault, lane_of, lanes_of}
 use Rattle.command_csv.proofs.Clerks.{lanes_of_first, entries_of_first, all_issues}
 

@@ -1,5 +1,5 @@
 -- A field that is another number, and the first two fields of a row
-use Rattle.std.proofs.Common.{◌≡◌, ◌≢◌, ℕ, ◌<◌, ◌≤◌, ◌^◌, List, [], ◌∷◌, take, refl, ap, sym, ◌∙◌, subst, arith, lit<, Option, Some, None, ℤ, ◌+◌}
+use Rattle.std.proofs.Common.{◌≡◌, ◌≢◌, ℕ, ◌<◌, ◌≤◌, ◌^◌, List, [], ◌∷◌, take, ap, sym, ◌∙◌, subst, arith, lit<, Option, Some, None, ℤ}
 use Rattle.std.specs.Prelude.{codes, decimal, IfSome, IfNone, IsTrue, is_some, ◌↔◌, Bool, true, false}
 use Rattle.std.proofs.lemmas.Fmt.{decimal_injective, decimal_digit}
 use Rattle.std.proofs.lemmas.Int.{ints}
@@ -43,7 +43,7 @@ years_within Whole age years h = omega arith
 years_within Endowment age years h = omega arith
 years_within Limited age years h = omega arith
 
-term_day : (day : ℤ) → IsDay day → IsTermDay day
+pub term_day : (day : ℤ) → IsDay day → IsTermDay day
 term_day day h = (h.0, omega (arith, ints))
 
 pub day_read : (found : Option ℤ) (text : List ℕ) (left new : List (List ℕ)) → left ≡ text ∷ new

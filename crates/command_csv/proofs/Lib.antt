@@ -3,4 +3,5 @@ pub mod Cuts
 pub mod Faults
 pub mod FieldTexts
 pub mod Issues
+pub mod OneReading
 pub mod Progress

@@ -14,7 +14,7 @@ abbrev pub IsIssueLine : Line → Type 0
 IsIssueLine (Post (Issue id day plan age years amount premium)) = IsIssue id day plan age years amount premium
 IsIssueLine _ = ⊥
 
--- the lines of clerk 1, who is the only one
+-- a line of a script: one of clerk 1, who is the only clerk
 pub record IsAllowed (entry : ClerkLine) : Type 0 where
   pub first_clerk : entry.clerk ≡ 1
   pub issue : IsIssueLine entry.line
@@ -28,7 +28,7 @@ pub record IsRowOf (row : List ℕ) (entry : ClerkLine) : Type 0 where
 abbrev pub lines_of : ℕ → List ClerkLine → List Line
 lines_of clerk entries = map (λ (entry : ClerkLine). entry.line) (filter (λ entry. entry.clerk == clerk) entries)
 
--- the clerk's lane, where there is a line
+-- a clerk's lane; a clerk without lines has none
 abbrev pub lane_of : ℕ → List Line → List Lane
 lane_of clerk [] = []
 lane_of clerk (line ∷ lines) = record { number = clerk; lines = line ∷ lines } ∷ []
@@ -43,14 +43,16 @@ pub record Reads (bytes : List ℕ) (lanes : List Lane) : Type 0 where
   pub rows : AllZip IsRowOf (rows_of bytes) entries
   pub by_clerk : lanes ≡ lanes_of entries
 
--- the first fields up to this place, counted from 1, are those of some line; where the place lies behind the
--- row's end, the line's row ends there too
+-- The first fields, up to this place, are those of the row of some line. Places are counted from 1; where the
+-- fields end before the place, that line's row ends there too.
 pub record FitsUpTo (fields : List (List ℕ)) (place : ℕ) : Type 0 where
   pub entry : ClerkLine
   pub allowed : IsAllowed entry
   pub same : take place fields ≡ take place (row_fields entry)
 
--- the first place at which a row is no line's any more
+-- The first place whose field doesn't fit: some line's row has all fields before it, and no line's row has these
+-- and the one at the place. So a missing field doesn't fit, nor does one behind the last, and whether a field fits
+-- may rest on those before it, as years rest on the plan and the age.
 pub record IsFirstBadField (fields : List (List ℕ)) (place : ℕ) : Type 0 where
   pub before : FitsUpTo fields (place - 1)
   pub bad : ¬ FitsUpTo fields place

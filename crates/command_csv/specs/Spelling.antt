@@ -20,13 +20,15 @@ pub record ClerkLine : Type 0 where
 abbrev pub by_first : Line → ClerkLine
 by_first line = record { clerk = 1; line = line }
 
+-- a plan's name
 abbrev pub plan_word : Plan → List ℕ
 plan_word Term = codes "term"
 plan_word Whole = codes "whole"
 plan_word Endowment = codes "endowment"
 plan_word Limited = codes "limited"
 
--- the kind and what the command holds; years, days and amounts as they are spoken of elsewhere
+-- the kind, the policy's number, the day, and what else the command holds: whole numbers without leading zeros,
+-- days as YYYY-MM-DD, amounts with a point and two digits
 abbrev pub command_fields : Command → List (List ℕ)
 command_fields (Issue id day plan age years amount premium) =
     codes "issue" ∷ decimal id ∷ day_text day ∷ plan_word plan ∷ decimal age ∷ decimal years ∷ cents_text amount ∷ cents_text premium ∷ []
@@ -38,10 +40,12 @@ command_fields (Claim id day) = codes "claim" ∷ decimal id ∷ day_text day �
 command_fields (Settle id day amount) = codes "settle" ∷ decimal id ∷ day_text day ∷ cents_text amount ∷ []
 command_fields (Mature id day) = codes "mature" ∷ decimal id ∷ day_text day ∷ []
 
+-- the position of a valuation
 abbrev pub at_text : At → List ℕ
 at_text Now = codes "now"
 at_text (Position n) = decimal n
 
+-- the fields of a line behind the clerk's number
 abbrev pub line_fields : Line → List (List ℕ)
 line_fields (Post command) = command_fields command
 line_fields (Value on at workers) = codes "value" ∷ day_text on ∷ at_text at ∷ decimal workers ∷ []

@@ -11,6 +11,11 @@ pub fn faults_are_exact()
     ensures one { (bytes : List ℕ) (row other field place : ℕ) → IsFirstFault bytes row field → IsFirstFault bytes other place → (row ≡ other) × (field ≡ place) }
 {}
 
+/// A script is read in one way.
+pub fn readings_are_one()
+    ensures { (bytes : List ℕ) (lanes others : List Lane) → Reads bytes lanes → Reads bytes others → lanes ≡ others }
+{}
+
 /// What is read is no lane, or the one lane of clerk 1, and each of its lines is a valid issue.
 pub fn one_clerk()
     ensures { (bytes : List ℕ) (lanes : List Lane) → Reads bytes lanes → (lines : List Line) × (lanes ≡ lane_of 1 lines) × All IsIssueLine lines }

@@ -9,5 +9,8 @@ mod reader;
 mod row;
 
 pub use fault::ScriptFault;
-pub use laws::{faults_are_exact, one_clerk};
+pub use laws::{faults_are_exact, one_clerk, readings_are_one};
 pub use reader::read_script;
+
+#[cfg(test)]
+mod tests;

@@ -9,6 +9,7 @@ ghost use Rattle.command_csv.specs.Spelling.{row_fields, by_first};
 use crate::pieces::Pieces;
 use policy_types::{Command, Line};
 
+// The places of an issue's fields.
 const CLERK: u32 = 1;
 
 const KIND: u32 = 2;

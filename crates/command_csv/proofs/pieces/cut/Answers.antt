@@ -1,4 +1,4 @@
-use Rattle.std.proofs.Common.{◌==◌, sym, take, drop, length, ◌+◌, ◌-◌}
+use Rattle.std.proofs.Common.{◌==◌, sym, ◌+◌}
 use Rattle.std.proofs.lemmas.List.{take_rest}
 use Rattle.command_csv.proofs.Cuts.{one_piece, first_piece}
 use Rattle.command_csv.proofs.pieces.cut.Goals as goal
