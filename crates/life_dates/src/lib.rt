@@ -5,6 +5,8 @@
 
 mod calendar;
 mod laws;
+#[cfg(test)]
+mod tests;
 mod text;
 mod years;
 
