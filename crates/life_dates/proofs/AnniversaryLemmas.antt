@@ -1,5 +1,5 @@
 -- Anniversaries are days, and come one after another.
-use Rattle.std.proofs.Common.{◌∙◌, ◌≡◌, ℕ, suc, ◌+◌, ◌-◌, ◌<◌, ◌≤◌, min, inl, inr, refl, ap, arith, ℤ, pos, ◌<ℤ◌, ◌≤ℤ◌, ◌*ℤ◌, ◌*◌, ◌+ℤ◌}
+use Rattle.std.proofs.Common.{◌∙◌, ◌≡◌, ℕ, suc, ◌+◌, ◌-◌, ◌<◌, ◌≤◌, ◌↔◌, min, inl, inr, refl, ap, arith, ℤ, pos, ◌<ℤ◌, ◌≤ℤ◌, ◌*ℤ◌, ◌*◌, ◌+ℤ◌}
 use Rattle.std.proofs.lemmas.Bool.{cases_lt}
 use Rattle.std.specs.Int.{int_min}
 use Rattle.std.proofs.lemmas.Int.{clamps, by_lt_z}
@@ -160,3 +160,17 @@ completed_years issued on last y h came is e =
             (omega arith, IsCompleted-next issued on (y - 1) h (omega arith) (omega (arith, signed_arith, clamps, before)) (λ _. rw back missed))
       ],
     )
+
+-- anniversaries that aren't after one another
+pub anniversary_le : (issued : ℤ) (t u : ℕ) → IsDay issued → t ≤ u → u ≤ 134 → anniversary_of issued t ≤ℤ anniversary_of issued u
+anniversary_le issued t u h le most = elim (cases_lt t u) [
+  | inl lt ↦ omega (arith, signed_arith, anniversary_lt issued t u h lt most)
+  | inr ge ↦ let e : u ≡ t = omega arith in rw e (omega (arith, signed_arith))
+]
+
+-- the anniversaries that have come are those up to the completed years
+pub IsCompleted-come : (issued on : ℤ) (t u : ℕ) → IsDay issued → IsCompleted issued on t → u ≤ 131 → (anniversary_of issued u ≤ℤ on) ↔ (u ≤ t)
+IsCompleted-come issued on t u h k most = (
+  λ came. k.greatest u most came,
+  λ le. omega (arith, signed_arith, k.reached, anniversary_le issued u t h le (omega (arith, k.most))),
+)
