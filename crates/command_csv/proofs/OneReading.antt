@@ -10,7 +10,7 @@ use Rattle.policy_types.specs.declared.script.Lane.{Lane}
 use Rattle.life_dates.specs.Calendar.{IsDay, days_in_month, is_leap_year, day_number}
 use Rattle.life_dates.specs.DayText.{day_text, IsDayText}
 use Rattle.life_dates.proofs.TextLemmas.{IsDayText-day_text, read_exact}
-use Rattle.money_core.proofs.Amounts.{cents_text_injective}
+use Rattle.money_core.proofs.CentsTextLemmas.{cents_text_injective}
 use Rattle.command_csv.specs.Rows.{rows_of}
 use Rattle.command_csv.specs.Spelling.{ClerkLine, line_fields}
 use Rattle.command_csv.specs.Reads.{IsIssueLine, IsRowOf, Reads, lanes_of}

@@ -1,2 +1,3 @@
-pub mod Amounts
+pub mod CentsTextLemmas
 pub mod Numerals
+pub mod WorkedTexts

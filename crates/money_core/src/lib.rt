@@ -4,7 +4,11 @@
 mod bytes;
 mod number;
 mod parse;
+mod print;
+#[cfg(test)]
+mod tests;
 
 pub use bytes::Text;
 pub use number::parse_number;
 pub use parse::parse_cents;
+pub use print::print_cents;

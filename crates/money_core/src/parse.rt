@@ -1,4 +1,4 @@
-ghost use Rattle.std.specs.Prelude.{◌≡◌, ◌≢◌, ℕ, ◌<◌, ◌≤◌, IfSome, IfNone};
+ghost use Rattle.std.specs.Prelude.{◌≡◌, ◌≢◌, ℕ, ◌<◌, ◌≤◌, ◌↔◌, IsTrue, IfSome, IfNone};
 ghost use Rattle.money_core.specs.CentsText.{cents_text, hundredths_text};
 
 use crate::number::parse_number;
@@ -13,10 +13,17 @@ pub fn parse_cents(text: &[u8], most: u64) -> Option<u64>
     let units = parse_number(whole, most / 100)?;
     let hundredths = parse_hundredths(fraction)?;
     let cents = (units * 100).checked_add(hundredths)?;
-    if cents == 0 || cents > most {
-        return None;
+    if is_amount(cents, most) {
+        Some(cents)
+    } else {
+        None
     }
-    Some(cents)
+}
+
+fn is_amount(cents: u64, most: u64) -> bool
+    ensures { IsTrue result ↔ ((1 ≤ cents) × (cents ≤ most)) }
+{
+    (1..=most).contains(&cents)
 }
 
 // Reads a point and two digits, from `.00` to `.99`.
