@@ -8,9 +8,9 @@ use Rattle.command_csv.specs.declared.fault.ScriptFault.{ScriptFault}
 use Rattle.std.proofs.lemmas.Bool.{lt-ltb, le-ltb}
 use Rattle.policy_types.specs.declared.script.Line.{Line}
 use Rattle.policy_types.specs.declared.script.Lane.{Lane}
-use Rattle.command_csv.specs.Rows.{pieces_of, rows_of, rows_among, fields_of}
+use Rattle.command_csv.specs.Rows.{pieces_of, rows_of, rows_among}
 use Rattle.command_csv.specs.Spelling.{by_first, ClerkLine}
-use Rattle.command_csv.specs.Reads.{IsRowOf, Reads, IsFirstBadField, IsFirstFault, lane_of}
+use Rattle.command_csv.specs.Reads.{IsRowOf, Reads, lane_of}
 use Rattle.command_csv.proofs.Clerks.{lanes_of_first}
 
 pub record IsReadUpTo (rows : List (List ℕ)) (count : ℕ) (lines : List Line) (rest : List (List ℕ)) : Type 0 where
@@ -34,18 +34,6 @@ goes_on rows count lines row rest line h r = record {
   parts = h.parts ∙ sym (append_assoc h.behind (row ∷ []) rest);
   number = omega (arith, length-append h.behind (row ∷ []), h.number);
   right = rw (map-append by_first lines (line ∷ [])) (push h.behind (map by_first lines) row (by_first line) h.right r);
-}
-
-stops : (bytes : List ℕ) (count : ℕ) (lines : List Line) (row : List ℕ) (rest : List (List ℕ)) (field : ℕ) → IsReadUpTo (rows_of bytes) count lines (row ∷ rest) → IsFirstBadField (fields_of row) field → IsFirstFault bytes (count + 1) field
-stops bytes count lines row rest field h bad = record {
-  before = h.behind;
-  faulty = row;
-  after = rest;
-  rows = h.parts;
-  number = ap (λ n. n + 1) h.number;
-  entries = map by_first lines;
-  right = h.right;
-  bad = bad;
 }
 
 ends : (bytes : List ℕ) (count : ℕ) (lines : List Line) (lanes : List Lane) → IsReadUpTo (rows_of bytes) count lines [] → lanes ≡ lane_of 1 lines → Reads bytes lanes
@@ -82,11 +70,6 @@ takes bytes count lines more pieces next row line h e full is pushed =
     let P : List (List ℕ) → Type 0 = λ rest. IsReadUpTo (rows_of bytes) count lines rest in
     let Q : List Line → Type 0 = λ ls. IsReadUpTo (rows_of bytes) (count + 1) ls (rows_among next) in
     subst Q (sym pushed) (goes_on (rows_of bytes) count lines row (rows_among next) line (subst P (row_among pieces next row e full) h) is)
-
-pub faults : (bytes : List ℕ) (count : ℕ) (lines : List Line) (pieces next : List (List ℕ)) (row : List ℕ) (field : ℕ) → IsReadTo bytes count lines pieces → pieces ≡ row ∷ next → 0 < length row → IsFirstBadField (fields_of row) field → IsFirstFault bytes (count + 1) field
-faults bytes count lines pieces next row field h e full bad =
-    let P : List (List ℕ) → Type 0 = λ rest. IsReadUpTo (rows_of bytes) count lines rest in
-    stops bytes count lines row (rows_among next) field (subst P (row_among pieces next row e full) h) bad
 
 pub done : (bytes : List ℕ) (count : ℕ) (lines : List Line) (pieces : List (List ℕ)) (script : Result (List Lane) ScriptFault) → IsReadTo bytes count lines pieces → pieces ≡ [] → IfOk script (λ lanes. lanes ≡ lane_of 1 lines) → IfOk script (Reads bytes)
 done bytes count lines pieces script h e made =
