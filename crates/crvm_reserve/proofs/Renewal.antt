@@ -1,12 +1,11 @@
 -- The level premium after the first year is that of the benefits and the premiums from the second year on.
-use Rattle.std.proofs.Common.{◌≡◌, ℕ, zero, suc, ◌+◌, ◌-◌, ◌*◌, ◌^◌, ◌<◌, ◌≤◌, refl, ap, sym, ◌∙◌, arith}
-use Rattle.std.proofs.Math.Nat.{mul-pos, pow-succ', mul_comm, mul_assoc}
-use Rattle.rate_table.specs.Rates.{ONE}
-use Rattle.present_value.specs.Fractions.{Fraction, Between, whole, less, over}
+use Rattle.std.proofs.Common.{◌≡◌, ℕ, suc, ◌+◌, ◌-◌, ◌*◌, ◌^◌, ◌<◌, ◌≤◌, refl, arith}
+use Rattle.std.proofs.Math.Nat.{mul-pos, pow-succ'}
+use Rattle.present_value.specs.Fractions.{Between, whole, less, over}
 use Rattle.present_value.specs.Sums.{Cover, year, survival, death, ben, ann}
 use Rattle.present_value.specs.Premium.{term_premium, renewal_premium}
 use Rattle.present_value.specs.Rounding.{UNIT}
-use Rattle.present_value.specs.Recursion.{ann_lo, ann_hi}
+use Rattle.present_value.specs.Recursion.{ann_lo}
 use Rattle.present_value.proofs.Fractions.{positive_num, equal-between}
 use Rattle.present_value.proofs.Years.{ben_num, ann_num, ben_step, ann_step, ben_is, ann_is}
 use Rattle.present_value.proofs.Enclosing.{year_pos, power_pos}

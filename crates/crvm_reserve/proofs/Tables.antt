@@ -1,14 +1,13 @@
 -- What a table and the columns made from it say of the covers.
-use Rattle.std.proofs.Common.{◌≡◌, ℕ, zero, suc, ◌+◌, ◌-◌, ◌*◌, ◌/◌, ◌<◌, ◌≤◌, refl, ap, sym, ◌∙◌, arith, min, length, get_or, true, add-zero}
+use Rattle.std.proofs.Common.{◌≡◌, ℕ, ◌+◌, ◌-◌, ◌*◌, ◌<◌, ◌≤◌, refl, ap, ◌∙◌, arith, min, length, true, add-zero}
 use Rattle.std.proofs.Math.Nat.{le_trans, min_comm, mul-le-mul_right}
 use Rattle.std.proofs.lemmas.Nat.{mul-le}
 use Rattle.rate_table.specs.Rates.{Rates, ONE, AreRates, rate_at, last_age_of}
 use Rattle.rate_table.specs.declared.shape.Shape.{Shape}
 use Rattle.present_value.specs.Rounding.{UNIT, down, up}
-use Rattle.present_value.specs.Sums.{Cover, cover_of, year}
+use Rattle.present_value.specs.Sums.{Cover, cover_of}
 use Rattle.present_value.specs.Premium.{cap_of, cap_shape}
-use Rattle.present_value.specs.Recursion.{ben_lo, ben_hi, ann_lo, ann_hi}
-use Rattle.present_value.specs.Values.{CanValue, AreColumns, pair_at, pair_of}
+use Rattle.present_value.specs.Values.{CanValue, AreColumns, pair_at}
 use Rattle.present_value.specs.declared.pair.Columns.{Columns}
 use Rattle.present_value.proofs.Steps.{ben_hi-most, ben_lo-most, ann_lo-least, ann_lo-most, ann_hi-most}
 use Rattle.crvm_reserve.specs.Rounded.{term_lo, term_hi, level_lo, level_hi, excess_lo, excess_hi, beta_lo, beta_hi, reserve_lo, reserve_hi, amount_lo, amount_hi}

@@ -48,3 +48,7 @@ amount_lo c cap amount t = down (amount * reserve_lo c cap t) UNIT
 
 unfoldable pub amount_hi : Cover → Cover → ℕ → ℕ → ℕ
 amount_hi c cap amount t = up (amount * reserve_hi c cap t) UNIT
+
+-- both
+abbrev pub rounded : Cover → Cover → ℕ → ℕ → ℕ × ℕ
+rounded c cap amount t = (amount_lo c cap amount t, amount_hi c cap amount t)

@@ -18,10 +18,16 @@ const UNITS_IN_ONE: u128 = 10_000_000_000_000_000;
 pub fn basis_premium(table: &RateTable, shape: &Shape, bp: u16, columns: &Columns) -> Premium
     requires can { CanReserve table.now shape.now bp }
     requires columns { AreColumns (cover_of table.now shape.now bp) columns.now }
-    ensures rounded { result ≡ premium_of (cover_of table.now shape.now bp) (cap_of table.now shape.now.age bp) }
-    ensures exact { Between result.lo result.hi UNIT (beta (cover_of table.now shape.now bp) (cap_of table.now shape.now.age bp)) }
+    ensures rounded { let cover = cover_of table.now shape.now bp in
+        let cap = cap_of table.now shape.now.age bp in
+        result ≡ premium_of cover cap }
+    ensures exact { let cover = cover_of table.now shape.now bp in
+        let cap = cap_of table.now shape.now.age bp in
+        Between result.lo result.hi UNIT (beta cover cap) }
     ensures narrow { result.hi ≤ result.lo + 100000 }
-    ensures made { AreMadeFor (cover_of table.now shape.now bp) (cap_of table.now shape.now.age bp) columns.now result }
+    ensures made { let cover = cover_of table.now shape.now bp in
+        let cap = cap_of table.now shape.now.age bp in
+        AreMadeFor cover cap columns.now result }
 {
     let excess = excess_premium(table, shape, bp, columns);
     let benefits = columns.ben[0];
@@ -41,8 +47,10 @@ fn excess_premium(table: &RateTable, shape: &Shape, bp: u16, columns: &Columns) 
     requires can { CanReserve table.now shape.now bp }
     requires columns { AreColumns (cover_of table.now shape.now bp) columns.now }
     ensures within { AreRates table.now }
-    ensures lo { result.lo ≡ excess_lo (cover_of table.now shape.now bp) (cap_of table.now shape.now.age bp) }
-    ensures hi { result.hi ≡ excess_hi (cover_of table.now shape.now bp) (cap_of table.now shape.now.age bp) }
+    ensures lo { let cover = cover_of table.now shape.now bp in
+        result.lo ≡ excess_lo cover (cap_of table.now shape.now.age bp) }
+    ensures hi { let cover = cover_of table.now shape.now bp in
+        result.hi ≡ excess_hi cover (cap_of table.now shape.now.age bp) }
 {
     let first = first_year_premium(table, shape.age, bp);
     let cap = cap_premium(table, shape.age, bp);

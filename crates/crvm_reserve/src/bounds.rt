@@ -1,7 +1,7 @@
 ghost use Rattle.std.specs.Prelude.{◌≡◌, ◌+◌, ◌*◌, ◌-◌, ◌<◌, ◌≤◌};
 ghost use Rattle.present_value.specs.Reserve.{reserve, Encloses};
 ghost use Rattle.present_value.specs.Sums.{Cover};
-ghost use Rattle.crvm_reserve.specs.Rounded.{reserve_lo, reserve_hi, amount_lo, amount_hi};
+ghost use Rattle.crvm_reserve.specs.Rounded.{reserve_lo, reserve_hi, rounded};
 ghost use Rattle.crvm_reserve.specs.Made.{AreMade, AreMadeFor, AreClose};
 
 use crate::premium::Premium;
@@ -15,7 +15,7 @@ pub fn reserve_bounds(columns: &Columns, premium: &Premium, amount: u64, t: u8) 
     requires amount { amount ≤ 10000000000 }
     requires year { t ≤ columns.now.n }
     ensures rounded { (c cap : Cover) → AreMadeFor c cap columns.now premium.now
-        → result ≡ (amount_lo c cap amount t, amount_hi c cap amount t) }
+        → result ≡ rounded c cap amount t }
     ensures exact { (c cap : Cover) → AreMadeFor c cap columns.now premium.now
         → Encloses result.0 result.1 amount (reserve c cap t) }
     ensures close { (c cap : Cover) → AreMadeFor c cap columns.now premium.now

@@ -1,4 +1,4 @@
-use Rattle.std.specs.Prelude.{◌≡◌, ℕ, ◌+◌, ◌-◌, ◌||◌, Bool, true, false, Result, Ok, Err, min, nat_lt, ◌≤◌, length, if◌then◌else◌}
+use Rattle.std.specs.Prelude.{ℕ, ◌+◌, ◌-◌, ◌||◌, Bool, true, false, Result, Ok, Err, min, nat_lt, ◌≤◌, length, if◌then◌else◌}
 use Rattle.rate_table.specs.Rates.{Rates, rate_at, last_age_of}
 use Rattle.rate_table.specs.declared.shape.Shape.{Shape}
 use Rattle.policy_types.specs.declared.command.Plan.{Plan}

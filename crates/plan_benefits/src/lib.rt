@@ -3,6 +3,8 @@
 
 mod fault;
 mod shaping;
+#[cfg(test)]
+mod tests;
 
 pub use fault::NotValued;
 pub use shaping::shape;

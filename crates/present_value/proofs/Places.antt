@@ -1,9 +1,8 @@
 -- Columns place by place.
-use Rattle.std.proofs.Common.{◌≡◌, ◌≢◌, ℕ, zero, suc, ◌+◌, ◌-◌, ◌*◌, ◌<◌, ◌≤◌, refl, ap, sym, ◌∙◌, arith, List, length, slice_index_or, slice_set, inl, inr, get_or, EachIndex}
+use Rattle.std.proofs.Common.{◌≡◌, ◌≢◌, ℕ, zero, suc, ◌+◌, ◌<◌, ◌≤◌, refl, ap, sym, ◌∙◌, arith, List, length, slice_set, inl, inr, get_or, EachIndex}
 use Rattle.std.specs.Prelude.{replicate}
-use Rattle.std.proofs.lemmas.List.{get_or-set_same, get_or-set_other, get_or-replicate, length-replicate, length-set}
+use Rattle.std.proofs.lemmas.List.{get_or-set_same, get_or-set_other, length-replicate, length-set}
 use Rattle.std.proofs.lemmas.Bool.{cases_eq}
-use Rattle.std.proofs.lemmas.Bool.Decides.{leb_tells}
 use Rattle.present_value.specs.declared.pair.Pair.{Pair}
 use Rattle.rate_table.specs.Rates.{Rates, ONE, AreRatesFrom}
 use Rattle.rate_table.specs.declared.shape.Shape.{Shape}

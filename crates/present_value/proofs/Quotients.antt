@@ -1,6 +1,5 @@
 -- Rounded quotients.
-use Rattle.std.proofs.Common.{◌≡◌, ℕ, ◌+◌, ◌-◌, ◌*◌, ◌/◌, ◌<◌, ◌≤◌, arith, lt_of_mul-lt-mul_right}
-use Rattle.std.proofs.Math.Nat.{mul-le-mul_left, mul-le-mul_right, mul_comm}
+use Rattle.std.proofs.Common.{ℕ, ◌+◌, ◌-◌, ◌*◌, ◌<◌, ◌≤◌, arith, lt_of_mul-lt-mul_right}
 use Rattle.present_value.specs.Rounding.{down, up}
 
 pub down-le : (n d : ℕ) → down n d * d ≤ n

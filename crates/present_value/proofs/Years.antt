@@ -1,7 +1,6 @@
 -- The sums of one year from those of the next.
-use Rattle.std.proofs.Common.{◌≡◌, ℕ, zero, suc, ◌+◌, ◌-◌, ◌*◌, ◌^◌, ◌<◌, ◌≤◌, refl, ap, sym, ◌∙◌, arith, Bool, true, false, if◌then◌else◌, add-zero, one-mul, mul-one}
-use Rattle.std.proofs.Math.Nat.{add-suc, suc-add, pow-suc, pow-zero, mul-add, mul_assoc, mul_comm, sub-zero, suc-sub-suc, mul-zero}
-use Rattle.present_value.specs.Fractions.{Fraction}
+use Rattle.std.proofs.Common.{◌≡◌, ℕ, zero, suc, ◌+◌, ◌-◌, ◌*◌, ◌^◌, ◌<◌, refl, sym, ◌∙◌, arith, true, false, if◌then◌else◌, add-zero, one-mul, mul-one}
+use Rattle.std.proofs.Math.Nat.{mul-add, mul_assoc, mul-zero}
 use Rattle.present_value.specs.Sums.{Cover, year, survival, death, survivors, sum_below, ben, ann}
 
 -- the first term apart, and a factor of all the others

@@ -1,5 +1,5 @@
-use Rattle.std.specs.Prelude.{ℕ, zero, suc, ◌+◌, ◌-◌, ◌*◌, ◌^◌, Bool, if◌then◌else◌, min, true}
-use Rattle.rate_table.specs.Rates.{Rates, ONE, rate_at, last_age_of}
+use Rattle.std.specs.Prelude.{ℕ, zero, suc, ◌+◌, ◌-◌, ◌*◌, ◌^◌, Bool, if◌then◌else◌}
+use Rattle.rate_table.specs.Rates.{Rates, ONE, rate_at}
 use Rattle.rate_table.specs.declared.shape.Shape.{Shape}
 use Rattle.present_value.specs.Fractions.{Fraction}
 

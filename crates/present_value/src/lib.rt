@@ -3,6 +3,8 @@
 
 mod pair;
 mod quotient;
+#[cfg(test)]
+mod tests;
 mod valuation;
 mod year;
 

@@ -1,14 +1,8 @@
-use Rattle.std.proofs.Common.{◌≡◌, ◌+◌, ◌*◌, ◌-◌, ◌<◌, ◌≤◌, min, length, arith, refl, ap, sym, ◌∙◌}
-use Rattle.rate_table.specs.Rates.{Rates, last_age_of}
-use Rattle.present_value.specs.Fractions.{Between}
-use Rattle.present_value.specs.Rounding.{UNIT, down, up}
-use Rattle.present_value.specs.Sums.{Cover, cover_of}
-use Rattle.present_value.specs.Premium.{beta, cap_of}
-use Rattle.present_value.specs.Values.{AreColumns}
-use Rattle.crvm_reserve.specs.Rounded.{level_lo, level_hi, term_lo, term_hi, excess_lo, excess_hi, beta_lo, beta_hi}
-use Rattle.crvm_reserve.specs.Made.{IsReserved, CanReserve, premium_of}
-use Rattle.crvm_reserve.proofs.Enclosed.{IsCover, own, excess_lo-most, excess_hi-most, beta-between, beta-narrow}
-use Rattle.crvm_reserve.proofs.Tables.{reserved, AreDue, due_at, level_lo_is, level_hi_is, term_is, excess_lo_is, excess_hi_is, beta_lo_is, beta_hi_is, pair_is}
+use Rattle.std.proofs.Common.{arith, ◌∙◌}
+use Rattle.present_value.specs.Sums.{cover_of}
+use Rattle.present_value.specs.Premium.{cap_of}
+use Rattle.crvm_reserve.proofs.Enclosed.{own, excess_lo-most, excess_hi-most, beta-between, beta-narrow}
+use Rattle.crvm_reserve.proofs.Tables.{reserved, due_at, beta_lo_is, beta_hi_is, pair_is}
 use Rattle.crvm_reserve.proofs.basis.basis_premium.Goals as goal
 
 pub overflow_add-charged : goal.overflow_add-charged

@@ -1,11 +1,6 @@
-use Rattle.std.proofs.Common.{◌≡◌, ◌+◌, ◌*◌, ◌-◌, ◌<◌, ◌≤◌, min, length, arith, refl, ap, sym, ◌∙◌}
-use Rattle.rate_table.specs.Rates.{Rates, last_age_of}
-use Rattle.present_value.specs.Rounding.{UNIT, down, up}
+use Rattle.std.proofs.Common.{◌-◌, arith, ap, ◌∙◌}
 use Rattle.present_value.specs.Premium.{cap_of}
-use Rattle.present_value.specs.Recursion.{ben_lo, ben_hi, ann_lo, ann_hi}
-use Rattle.present_value.specs.Values.{AreColumns}
-use Rattle.crvm_reserve.specs.Rounded.{level_lo, level_hi}
-use Rattle.crvm_reserve.proofs.Tables.{cap_columns, cap_is_cover, AreDue, due_at, level_lo_is, level_hi_is}
+use Rattle.crvm_reserve.proofs.Tables.{cap_columns, cap_is_cover, due_at, level_lo_is, level_hi_is}
 use Rattle.crvm_reserve.proofs.basis.cap_premium.Goals as goal
 
 pub level_premium-requires-clause-due : goal.level_premium-requires-clause-due

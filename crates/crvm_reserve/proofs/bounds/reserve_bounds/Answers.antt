@@ -1,8 +1,4 @@
-use Rattle.std.proofs.Common.{◌≡◌, ◌+◌, ◌*◌, ◌-◌, ◌<◌, ◌≤◌, ℕ, arith, refl, ap, sym, ◌∙◌}
-use Rattle.present_value.specs.Sums.{Cover}
-use Rattle.present_value.specs.Rounding.{UNIT, down, up}
-use Rattle.crvm_reserve.specs.Made.{AreMadeFor}
-use Rattle.crvm_reserve.specs.Rounded.{reserve_lo, reserve_hi, amount_lo, amount_hi}
+use Rattle.std.proofs.Common.{arith, ◌∙◌}
 use Rattle.crvm_reserve.proofs.Enclosed.{amount-encloses, reserve-close}
 use Rattle.crvm_reserve.proofs.Tables.{amount_lo_is, amount_hi_is}
 use Rattle.crvm_reserve.proofs.bounds.reserve_bounds.Goals as goal

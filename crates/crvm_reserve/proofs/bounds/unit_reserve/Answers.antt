@@ -1,9 +1,6 @@
-use Rattle.std.proofs.Common.{◌≡◌, ◌+◌, ◌*◌, ◌-◌, ◌<◌, ◌≤◌, ℕ, arith, refl, ap, sym, ◌∙◌}
-use Rattle.present_value.specs.Sums.{Cover}
+use Rattle.std.proofs.Common.{◌-◌, arith, ap, ◌∙◌}
 use Rattle.present_value.specs.Values.{pair_at}
-use Rattle.crvm_reserve.specs.Made.{AreMadeFor}
-use Rattle.crvm_reserve.specs.Rounded.{reserve_lo, reserve_hi}
-use Rattle.crvm_reserve.proofs.Tables.{AreSmall, small, reserve_lo_is, reserve_hi_is}
+use Rattle.crvm_reserve.proofs.Tables.{small, reserve_lo_is, reserve_hi_is}
 use Rattle.crvm_reserve.proofs.bounds.unit_reserve.Goals as goal
 
 pub quotient_up-most-requires-clause-fits : goal.quotient_up-most-requires-clause-fits

@@ -1,9 +1,8 @@
-use Rattle.std.proofs.Common.{◌≡◌, ◌≢◌, ◌+◌, ◌-◌, ◌*◌, ◌<◌, ◌≤◌, ℕ, arith, inl, inr, ap, sym, ◌∙◌, length}
+use Rattle.std.proofs.Common.{◌≡◌, ◌+◌, ◌-◌, ◌<◌, arith, sym, ◌∙◌}
 use Rattle.std.proofs.lemmas.List.{length-set}
-use Rattle.present_value.specs.Rounding.{UNIT}
-use Rattle.present_value.specs.Sums.{Cover, cover_of}
+use Rattle.present_value.specs.Sums.{cover_of}
 use Rattle.present_value.specs.Recursion.{ben_lo, ben_hi}
-use Rattle.present_value.specs.Values.{pair_at, pair_of}
+use Rattle.present_value.specs.Values.{pair_of}
 use Rattle.present_value.proofs.Steps.{ben-end, ben_lo-most, ben_hi-most}
 use Rattle.present_value.proofs.Places.{next, rest_stays, ben_pair-before, rates_are, rates_most}
 use Rattle.present_value.proofs.valuation.benefit_column.Goals as goal

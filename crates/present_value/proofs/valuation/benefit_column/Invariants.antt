@@ -1,4 +1,4 @@
-use Rattle.std.proofs.Common.{◌≡◌, ◌+◌, ◌*◌, ◌<◌, ◌≤◌, ℕ, length}
+use Rattle.std.proofs.Common.{◌≡◌, ◌<◌, ◌≤◌, ℕ, length}
 use Rattle.present_value.specs.Sums.{cover_of}
 use Rattle.present_value.specs.Recursion.{ben_lo, ben_hi}
 use Rattle.present_value.specs.Values.{pair_at, pair_of}

@@ -1,4 +1,4 @@
-use Rattle.std.proofs.Common.{◌≡◌, ◌+◌, ◌*◌, ◌<◌, ◌≤◌, arith, refl}
+use Rattle.std.proofs.Common.{arith, refl}
 use Rattle.present_value.proofs.Places.{only}
 use Rattle.present_value.proofs.valuation.column_with.Goals as goal
 

@@ -1,4 +1,3 @@
-use Rattle.std.proofs.Common.{◌≡◌, ◌+◌, ◌*◌, ◌≤◌, ℕ, arith}
 use Rattle.present_value.specs.Sums.{cover_of}
 use Rattle.present_value.proofs.Steps.{ben-pair, ann-pair}
 use Rattle.present_value.proofs.valuation.columns.Goals as goal

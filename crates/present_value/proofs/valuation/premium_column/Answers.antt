@@ -1,9 +1,9 @@
-use Rattle.std.proofs.Common.{◌≡◌, ◌≢◌, ◌+◌, ◌-◌, ◌*◌, ◌<◌, ◌≤◌, ℕ, arith, inl, inr, ap, sym, ◌∙◌, length}
+use Rattle.std.proofs.Common.{◌≡◌, ◌+◌, ◌-◌, ◌*◌, ◌<◌, ◌≤◌, ℕ, arith, inl, inr, sym, ◌∙◌}
 use Rattle.std.proofs.lemmas.List.{length-set}
 use Rattle.std.proofs.lemmas.Bool.{cases_eq}
 use Rattle.std.proofs.Math.Nat.{le_trans, mul-le-mul_right}
 use Rattle.present_value.specs.Rounding.{UNIT}
-use Rattle.present_value.specs.Sums.{Cover, cover_of}
+use Rattle.present_value.specs.Sums.{cover_of}
 use Rattle.present_value.specs.Recursion.{ann_lo, ann_hi}
 use Rattle.present_value.specs.Values.{pair_at, pair_of}
 use Rattle.present_value.proofs.Steps.{ann-after, ann_lo-most, ann_hi-most}
