@@ -4,3 +4,4 @@ pub mod Years
 pub mod Enclosing
 pub mod Steps
 pub mod Places
+pub mod Reciprocals

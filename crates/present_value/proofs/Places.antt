@@ -1,5 +1,5 @@
 -- Columns place by place.
-use Rattle.std.proofs.Common.{◌≡◌, ◌≢◌, ℕ, zero, suc, ◌+◌, ◌<◌, ◌≤◌, refl, ap, sym, ◌∙◌, arith, List, length, slice_set, inl, inr, get_or, EachIndex}
+use Rattle.std.proofs.Common.{◌≡◌, ◌≢◌, ℕ, zero, suc, ◌+◌, ◌*◌, ◌<◌, ◌≤◌, refl, ap, sym, ◌∙◌, arith, List, length, slice_set, inl, inr, get_or, EachIndex}
 use Rattle.std.specs.Prelude.{replicate}
 use Rattle.std.proofs.lemmas.List.{get_or-set_same, get_or-set_other, length-replicate, length-set}
 use Rattle.std.proofs.lemmas.Bool.{cases_eq}
@@ -78,3 +78,7 @@ pub rates_most : (table : Rates) (shape : Shape) (bp : ℕ) (rates : List ℕ) �
 rates_most table shape bp rates can from bound k below =
     let place = rates_are table shape bp rates can from k below in
     rw (sym place.1) (bound k place.0)
+
+-- a year's denominator, of which the code divides by the ten thousandth part
+pub year_is : (bp divisor : ℕ) → divisor ≡ 100000 * (10000 + bp) → 10000 * divisor ≡ ONE * (10000 + bp)
+year_is bp divisor p = omega arith

@@ -3,6 +3,7 @@
 
 mod pair;
 mod quotient;
+mod reciprocal;
 #[cfg(test)]
 mod tests;
 mod valuation;

@@ -5,6 +5,7 @@ ghost use Rattle.present_value.specs.Sums.{cover_of};
 ghost use Rattle.present_value.specs.Values.{CanValue, AreColumns, AreBenefits, ArePremiums, Enclose, HoldsOnly, pair_of};
 
 use crate::pair::{Columns, Pair};
+use crate::reciprocal::Reciprocal;
 use crate::year::{benefits_before, premiums_before};
 use rate_table::{RateTable, Shape};
 
@@ -29,13 +30,13 @@ fn benefit_column(table: &RateTable, shape: &Shape, bp: u16) -> [Pair; 132]
     ensures values { AreBenefits (cover_of table.now shape.now bp) result }
 {
     let rates = table.rates_from(shape.age);
-    let denominator = year_denominator(bp);
+    let year = year_reciprocal(bp);
     let mut column = column_with(shape.n, end_value(shape.matures));
     let mut t = shape.n;
     while t > 0 {
         t -= 1;
         let later = column[t as usize + 1];
-        column[t as usize] = benefits_before(rates[t as usize], denominator, later);
+        column[t as usize] = benefits_before(rates[t as usize], &year, later);
     }
     column
 }
@@ -46,23 +47,23 @@ fn premium_column(table: &RateTable, shape: &Shape, bp: u16) -> [Pair; 132]
     ensures { ArePremiums (cover_of table.now shape.now bp) result }
 {
     let rates = table.rates_from(shape.age);
-    let denominator = year_denominator(bp);
+    let year = year_reciprocal(bp);
     let mut column = column_with(shape.h, 0);
     let mut t = shape.h;
     while t > 0 {
         t -= 1;
         let later = column[t as usize + 1];
-        column[t as usize] = premiums_before(rates[t as usize], denominator, later);
+        column[t as usize] = premiums_before(rates[t as usize], &year, later);
     }
     column
 }
 
-/// 10^9 times what 10,000 has grown to after a year.
-fn year_denominator(bp: u16) -> u128
+/// 10^5 times what 10,000 has grown to after a year.
+fn year_reciprocal(bp: u16) -> Reciprocal
     requires { bp ≤ 2000 }
-    ensures { result ≡ ONE * (10000 + bp) }
+    ensures { result.divisor ≡ 100000 * (10000 + bp) }
 {
-    1_000_000_000 * (10_000 + bp as u128)
+    Reciprocal::of(100_000 * (10_000 + bp as u64))
 }
 
 /// What a survivor is paid at the end of the cover.

@@ -4,7 +4,7 @@ use Rattle.present_value.specs.Sums.{cover_of}
 use Rattle.present_value.specs.Recursion.{ben_lo, ben_hi}
 use Rattle.present_value.specs.Values.{pair_of}
 use Rattle.present_value.proofs.Steps.{ben-end, ben_lo-most, ben_hi-most}
-use Rattle.present_value.proofs.Places.{next, rest_stays, ben_pair-before, rates_are, rates_most}
+use Rattle.present_value.proofs.Places.{year_is, next, rest_stays, ben_pair-before, rates_are, rates_most}
 use Rattle.present_value.proofs.valuation.benefit_column.Goals as goal
 
 pub loop-t-init : goal.loop-t-init
@@ -40,7 +40,7 @@ loop-t-preserved c =
     let below : i < c.args.shape.now.n = omega (arith, c.loop-t.invariant.within) in
     let rate = rates_are c.args.table.now c.args.shape.now c.args.bp c.rates_from-rates.result.now c.requires c.rates_from-rates.ensures.rates i below in
     let later = c.loop-t.invariant.done (i + 1) (omega arith) (omega arith) in
-    let pair = ben_pair-before cover i _ _ _ c.benefits_before.result below rate.1 c.year_denominator-denominator.ensures later
+    let pair = ben_pair-before cover i _ _ _ c.benefits_before.result below rate.1 (year_is c.args.bp c.year_reciprocal-year.result.divisor c.year_reciprocal-year.ensures) later
     c.benefits_before.ensures.lo c.benefits_before.ensures.hi in
     record {
       places = length-set c.loop-t.column i c.benefits_before.result ∙ c.loop-t.invariant.places;

@@ -7,7 +7,7 @@ use Rattle.present_value.specs.Sums.{cover_of}
 use Rattle.present_value.specs.Recursion.{ann_lo, ann_hi}
 use Rattle.present_value.specs.Values.{pair_at, pair_of}
 use Rattle.present_value.proofs.Steps.{ann-after, ann_lo-most, ann_hi-most}
-use Rattle.present_value.proofs.Places.{next, rest_stays, ann_pair-before, rates_are}
+use Rattle.present_value.proofs.Places.{year_is, next, rest_stays, ann_pair-before, rates_are}
 use Rattle.present_value.proofs.valuation.premium_column.Goals as goal
 
 pub loop-t-init : goal.loop-t-init
@@ -52,7 +52,7 @@ loop-t-preserved c =
     let below : i < c.args.shape.now.n = omega arith in
     let rate = rates_are c.args.table.now c.args.shape.now c.args.bp c.rates_from-rates.result.now c.requires c.rates_from-rates.ensures.rates i below in
     let later = c.loop-t.invariant.done (i + 1) (omega arith) (omega arith) in
-    let pair = ann_pair-before cover i _ _ _ c.premiums_before.result below due rate.1 c.year_denominator-denominator.ensures later
+    let pair = ann_pair-before cover i _ _ _ c.premiums_before.result below due rate.1 (year_is c.args.bp c.year_reciprocal-year.result.divisor c.year_reciprocal-year.ensures) later
     c.premiums_before.ensures.lo c.premiums_before.ensures.hi in
     record {
       places = length-set c.loop-t.column i c.premiums_before.result ∙ c.loop-t.invariant.places;
