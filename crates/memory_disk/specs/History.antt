@@ -53,3 +53,16 @@ pub record IsWriteOf (at : ℕ) (bytes : List ℕ) (failed : Bool) (before now :
   pub kept : Vec ℕ Global
   pub same : kept.items ≡ bytes
   pub pushed : now ≡ before ++ Write at kept failed ∷ []
+
+-- a part of a write put on a disk that is long enough for it to begin
+abbrev pub put_within : List ℕ → ℕ → List ℕ → List ℕ
+put_within old at bytes = if nat_le at (length old) then put old at bytes else old
+
+-- The image of these calls in which, of each write since the last sync, the first so many bytes reached the disk. A
+-- write that begins past the image's end is lost.
+abbrev pub kept_after : List ℕ → List ℕ → ℕ → List DiskCall → List ℕ
+kept_after bytes image keep [] = image
+kept_after bytes image keep (Write at data_ failed ∷ calls) =
+    kept_after (put bytes at (reaching failed data_.items)) (put_within image at (take keep data_.items)) keep calls
+kept_after bytes image keep (Sync false ∷ calls) = kept_after bytes bytes keep calls
+kept_after bytes image keep (call ∷ calls) = kept_after bytes image keep calls

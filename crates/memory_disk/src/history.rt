@@ -109,6 +109,16 @@ impl History {
         Ok(copy)
     }
 
+    // What was there at first.
+    pub(crate) fn first(&self) -> &[u8]
+        ensures { result.now ≡ first_bytes self.now.first self.now.bytes }
+    {
+        match &self.first {
+            Some(kept) => kept.as_slice(),
+            None => self.bytes.as_slice(),
+        }
+    }
+
     // Keeps what was there at first, before anything is written over it.
     fn keep_first(&mut self, alloc: Global) -> Result<(), AllocError>
         ensures kept { OnOk result (IsSome self.new.first) }
@@ -124,7 +134,7 @@ impl History {
 }
 
 // What of a write is read from then on.
-fn reaching_part(bytes: &[u8], failed: bool) -> &[u8]
+pub(crate) fn reaching_part(bytes: &[u8], failed: bool) -> &[u8]
     ensures { result.now ≡ reaching failed bytes.now }
 {
     if failed {

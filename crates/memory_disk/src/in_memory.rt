@@ -3,13 +3,14 @@ ghost use Rattle.std.specs.Prelude.{◌≡◌, ℕ, List, [], length, take, IfOk
 ghost use Rattle.outside_io.specs.Faults.{Rose};
 ghost use Rattle.outside_io.specs.Plans.{plan_faults, plan_failing, plan_calls};
 ghost use Rattle.memory_disk.specs.Disk.{disk_first, disk_bytes, disk_calls, disk_plan};
-ghost use Rattle.memory_disk.specs.History.{IsImage, WasImage, bytes_after, all_within};
+ghost use Rattle.memory_disk.specs.History.{IsImage, WasImage, kept_after};
 ghost use Rattle.memory_disk.specs.HistoryLaws.{replayed_image, now_counts, only_now_left};
 
 use crate::DiskCall;
 use crate::history::History;
+use crate::images::image_of;
 use outside_io::{Disk, Failed, FaultPlan};
-use std::alloc::Global;
+use std::alloc::{AllocError, Global};
 
 /// A disk in memory that follows the disk model. It keeps each call, and fails at the calls whose numbers, from 1,
 /// it is told. Want of memory for a call's record is a fault too, and such a call does nothing else.
@@ -43,6 +44,21 @@ impl MemoryDisk {
         ensures { result.now ≡ disk_bytes self.now }
     {
         &self.history.bytes
+    }
+
+    /// An image that a crash after so many of the calls might have left: that in which, of each write since the last
+    /// sync, the first `keep` bytes reached the disk. A write that begins past the image's end is lost.
+    pub fn image(&self, alloc: Global, moment: usize, keep: usize) -> Result<Vec<u8>, AllocError>
+        requires { moment ≤ length (disk_calls self.now) }
+        ensures kept { IfOk result (λ image. image.items ≡ kept_after (disk_first self.now) (disk_first self.now) keep (take moment (disk_calls self.now))) }
+        ensures possible { IfOk result (λ image. IsImage (disk_first self.now) (take moment (disk_calls self.now)) image.items) }
+    {
+        image_of(
+            alloc,
+            self.history.first(),
+            &self.history.calls[..moment],
+            keep,
+        )
     }
 
     /// All calls, in order.

@@ -3,6 +3,7 @@
 
 mod disk_call;
 mod history;
+mod images;
 mod in_memory;
 
 pub use disk_call::DiskCall;
