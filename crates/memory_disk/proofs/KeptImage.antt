@@ -1,7 +1,7 @@
 -- What is kept of each write makes an image.
 use Rattle.std.specs.declared.alloc.Global.{Global}
-use Rattle.std.proofs.Common.{Vec, Result, Ok, Err, IfOk, ◌≡◌, ℕ, ◌+◌, ◌-◌, ◌≤◌, min, Bool, true, false, List, [], ◌∷◌, ◌++◌, length, take, drop, nat_le, refl, arith, ap, ap₂, ◌∙◌, cond}
-use Rattle.std.proofs.lemmas.List.{length-take, drop_all, take_all}
+use Rattle.std.proofs.Common.{Vec, Result, Ok, Err, IfOk, ◌≡◌, ℕ, ◌≤◌, Bool, true, false, List, [], ◌∷◌, length, take, nat_le, refl, arith, cond}
+use Rattle.std.proofs.lemmas.List.{length-take}
 use Rattle.std.proofs.lemmas.Bool.{leb-true}
 use Rattle.outside_io.specs.Disks.{Torn}
 use Rattle.memory_disk.specs.History.{put, put_within, reaching, images_after, kept_after, IsImage}

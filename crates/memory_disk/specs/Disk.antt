@@ -1,6 +1,7 @@
 -- What a disk in memory shows.
-use Rattle.std.specs.Prelude.{ℕ, List}
+use Rattle.std.specs.Prelude.{◌≡◌, ℕ, List, Result, IsErr}
 use Rattle.outside_io.specs.declared.fault_plan.FaultPlan.{FaultPlan}
+use Rattle.outside_io.specs.Plans.{plan_calls, plan_failing, number_after, FailsNext}
 use Rattle.memory_disk.specs.First.{first_bytes}
 use Rattle.memory_disk.specs.declared.disk_call.DiskCall.{DiskCall}
 use Rattle.memory_disk.specs.declared.in_memory.MemoryDisk.{MemoryDisk}
@@ -20,3 +21,9 @@ disk_calls disk = disk.history.calls.items
 -- the calls that are to fail, and those that were made
 abbrev pub disk_plan : MemoryDisk → FaultPlan
 disk_plan disk = disk.plan
+
+-- a call whose number was to fail failed, and one call more was made
+pub record FollowsPlan {T E : Type 0} (before now : FaultPlan) (result : Result T E) : Type 0 where
+  pub fails : FailsNext before → IsErr result
+  pub counted : plan_calls now ≡ number_after (plan_calls before)
+  pub stays : plan_failing now ≡ plan_failing before

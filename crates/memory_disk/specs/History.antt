@@ -1,10 +1,10 @@
 -- What a list of calls makes of a disk that had these bytes at first, all of them safe: what is read, and the images
 -- that a crash may leave.
 use Rattle.std.specs.declared.alloc.Global.{Global}
-use Rattle.std.specs.Prelude.{⊤, Vec, ◌≡◌, ℕ, ◌+◌, ◌/◌, ◌≤◌, Bool, true, false, List, [], ◌∷◌, ◌++◌, length, take, drop, nat_le, if◌then◌else◌, ◌&&◌, min}
+use Rattle.std.specs.Prelude.{⊤, Vec, ◌≡◌, ℕ, ◌+◌, ◌/◌, ◌≤◌, Bool, true, false, List, [], ◌∷◌, ◌++◌, length, take, drop, nat_le, if◌then◌else◌, ◌&&◌}
 use Rattle.outside_io.specs.Disks.{Torn}
 use Rattle.memory_disk.specs.declared.disk_call.DiskCall.{DiskCall}
-use Rattle.memory_disk.specs.declared.disk_call.DiskCall.TheVariants.{Len, Read, Write, Sync}
+use Rattle.memory_disk.specs.declared.disk_call.DiskCall.TheVariants.{Write, Sync}
 
 -- old with these bytes over it from a place on
 abbrev pub put : List ℕ → ℕ → List ℕ → List ℕ

@@ -1,10 +1,11 @@
 // The disk: a history, and the calls that are to fail.
-ghost use Rattle.std.specs.Prelude.{◌≡◌, ℕ, List, [], length, take, IfOk, ◌≤◌, ⊤};
-ghost use Rattle.outside_io.specs.Faults.{Rose};
+ghost use Rattle.std.specs.Prelude.{◌≡◌, ℕ, List, [], ◌∷◌, ◌++◌, ◌+◌, ◌≤◌, false, length, take, drop, IfOk, OnOk, ⊤};
+ghost use Rattle.outside_io.specs.Disks.{HasDiskCause, Looks, Writes, Syncs, Elapses};
 ghost use Rattle.outside_io.specs.Plans.{plan_faults, plan_failing, plan_calls};
-ghost use Rattle.memory_disk.specs.Disk.{disk_first, disk_bytes, disk_calls, disk_plan};
-ghost use Rattle.memory_disk.specs.History.{IsImage, WasImage, kept_after};
+ghost use Rattle.memory_disk.specs.Disk.{disk_first, disk_bytes, disk_calls, disk_plan, FollowsPlan};
+ghost use Rattle.memory_disk.specs.History.{IsImage, WasImage, IsWriteOf, kept_after};
 ghost use Rattle.memory_disk.specs.HistoryLaws.{replayed_image, now_counts, only_now_left};
+ghost use Rattle.memory_disk.specs.declared.disk_call.DiskCall.TheVariants.{Len, Read, Sync};
 
 use crate::DiskCall;
 use crate::history::History;
@@ -92,7 +93,17 @@ impl Disk for MemoryDisk {
         self.plan.faults()
     }
 
-    fn len(&mut self) -> Result<u64, Failed> {
+    fn len(&mut self) -> Result<u64, Failed>
+        ensures cause { HasDiskCause (plan_faults (disk_plan self.old)) (plan_faults (disk_plan self.new)) result }
+        ensures length { IfOk result (λ n. n ≡ length (disk_bytes self.old)) }
+        ensures facts { Looks (disk_bytes self.old) (disk_bytes self.new)
+            (IsImage (disk_first self.old) (disk_calls self.old)) (IsImage (disk_first self.new) (disk_calls self.new)) }
+        ensures time { Elapses (length (disk_calls self.old)) (length (disk_calls self.new))
+            (WasImage (disk_first self.old) (disk_calls self.old)) (WasImage (disk_first self.new) (disk_calls self.new))
+            (IsImage (disk_first self.new) (disk_calls self.new)) }
+        ensures planned { FollowsPlan (disk_plan self.old) (disk_plan self.new) result }
+        ensures kept { OnOk result (disk_calls self.new ≡ disk_calls self.old ++ Len false ∷ []) }
+    {
         let failed = self.plan.fails_next();
         if !self.history.note(DiskCall::Len { failed }) || failed {
             self.plan.add_fault();
@@ -101,7 +112,18 @@ impl Disk for MemoryDisk {
         Ok(self.history.bytes.len() as u64)
     }
 
-    fn read(&mut self, at: u64, buf: &mut [u8]) -> Result<(), Failed> {
+    fn read(&mut self, at: u64, buf: &mut [u8]) -> Result<(), Failed>
+        requires { at + length buf.old ≤ length (disk_bytes self.old) }
+        ensures cause { HasDiskCause (plan_faults (disk_plan self.old)) (plan_faults (disk_plan self.new)) result }
+        ensures bytes { OnOk result (buf.new ≡ take (length buf.old) (drop at (disk_bytes self.old))) }
+        ensures facts { Looks (disk_bytes self.old) (disk_bytes self.new)
+            (IsImage (disk_first self.old) (disk_calls self.old)) (IsImage (disk_first self.new) (disk_calls self.new)) }
+        ensures time { Elapses (length (disk_calls self.old)) (length (disk_calls self.new))
+            (WasImage (disk_first self.old) (disk_calls self.old)) (WasImage (disk_first self.new) (disk_calls self.new))
+            (IsImage (disk_first self.new) (disk_calls self.new)) }
+        ensures planned { FollowsPlan (disk_plan self.old) (disk_plan self.new) result }
+        ensures kept { OnOk result (disk_calls self.new ≡ disk_calls self.old ++ Read at (length buf.old) false ∷ []) }
+    {
         let failed = self.plan.fails_next();
         let many = buf.len();
         if !self.history.note(DiskCall::Read { at, many, failed }) || failed {
@@ -113,7 +135,17 @@ impl Disk for MemoryDisk {
         Ok(())
     }
 
-    fn write_at(&mut self, at: u64, bytes: &[u8]) -> Result<(), Failed> {
+    fn write_at(&mut self, at: u64, bytes: &[u8]) -> Result<(), Failed>
+        requires { at ≤ length (disk_bytes self.old) }
+        ensures cause { HasDiskCause (plan_faults (disk_plan self.old)) (plan_faults (disk_plan self.new)) result }
+        ensures facts { Writes at bytes.now result (disk_bytes self.old) (disk_bytes self.new)
+            (IsImage (disk_first self.old) (disk_calls self.old)) (IsImage (disk_first self.new) (disk_calls self.new)) }
+        ensures time { Elapses (length (disk_calls self.old)) (length (disk_calls self.new))
+            (WasImage (disk_first self.old) (disk_calls self.old)) (WasImage (disk_first self.new) (disk_calls self.new))
+            (IsImage (disk_first self.new) (disk_calls self.new)) }
+        ensures planned { FollowsPlan (disk_plan self.old) (disk_plan self.new) result }
+        ensures kept { OnOk result (IsWriteOf at bytes.now false (disk_calls self.old) (disk_calls self.new)) }
+    {
         let failed = self.plan.fails_next();
         if !self.history.write(self.alloc, at, bytes, failed) || failed {
             self.plan.add_fault();
@@ -122,7 +154,16 @@ impl Disk for MemoryDisk {
         Ok(())
     }
 
-    fn sync(&mut self) -> Result<(), Failed> {
+    fn sync(&mut self) -> Result<(), Failed>
+        ensures cause { HasDiskCause (plan_faults (disk_plan self.old)) (plan_faults (disk_plan self.new)) result }
+        ensures facts { Syncs result (disk_bytes self.old) (disk_bytes self.new)
+            (IsImage (disk_first self.old) (disk_calls self.old)) (IsImage (disk_first self.new) (disk_calls self.new)) }
+        ensures time { Elapses (length (disk_calls self.old)) (length (disk_calls self.new))
+            (WasImage (disk_first self.old) (disk_calls self.old)) (WasImage (disk_first self.new) (disk_calls self.new))
+            (IsImage (disk_first self.new) (disk_calls self.new)) }
+        ensures planned { FollowsPlan (disk_plan self.old) (disk_plan self.new) result }
+        ensures kept { OnOk result (disk_calls self.new ≡ disk_calls self.old ++ Sync false ∷ []) }
+    {
         let failed = self.plan.fails_next();
         if !self.history.note_sync(failed) || failed {
             self.plan.add_fault();

@@ -1,5 +1,5 @@
 -- The history after a write is that before it and the write.
-use Rattle.std.proofs.Common.{◌≡◌, ◌∙◌}
+use Rattle.std.proofs.Common.{◌∙◌}
 use Rattle.memory_disk.specs.First.{first_bytes}
 use Rattle.memory_disk.proofs.Kept.{written_at, first_stays, write_images, write_time, write_torn}
 use Rattle.memory_disk.specs.declared.disk_call.DiskCall.TheVariants.{Write}
