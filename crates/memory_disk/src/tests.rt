@@ -10,6 +10,7 @@ fn images_of_each_moment(rt: HostRuntime) -> Result<(), Fail> {
     let first = disk.write_at(4, b"EFGH");
     let second = disk.sync();
     let third = disk.write_at(0, b"ABC");
+    assert!(rt; disk.bytes() == b"ABCdEFGH".as_slice());
     let fourth = disk.write_at(8, b"IJ");
     let fifth = disk.sync();
     let sixth = disk.write_at(6, b"xy");
