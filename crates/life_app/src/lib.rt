@@ -8,6 +8,8 @@ mod intake;
 mod program;
 mod refusing;
 mod run;
+#[cfg(test)]
+mod tests;
 mod transcript;
 mod words;
 
