@@ -1,0 +1,107 @@
+-- One more row.
+use Rattle.std.proofs.Common.{◌≡◌, ℕ, suc, ◌+◌, ◌-◌, ◌≤◌, ◌<ℤ◌, ◌≤ℤ◌, ℤ, Bool, true, false, List, [], ◌∷◌, ◌++◌, length, Option, Some, None, is_some, Result, Ok, Err, is_ok, OnOk, All, MatchBool, refl, sym, ap, ◌∙◌, subst, arith}
+use Rattle.std.specs.List.{AllZip, slice_get}
+use Rattle.std.specs.Int.Signed.{lt_z, lt_z_yes, lt_z_no}
+use Rattle.std.proofs.lemmas.List.{length_push, append_assoc}
+use Rattle.basis_book.specs.declared.row.BasisRow.{BasisRow}
+use Rattle.basis_book.specs.declared.fault.BasisFault.{BasisFault}
+use Rattle.basis_book.specs.declared.fault.BasisFault.TheVariants.{TooManyRows, BadBasisRow, NotRising, NoMemory}
+use Rattle.std.proofs.lemmas.List.Elements.{All-nil, All-cons}
+use Rattle.basis_book.specs.Dated.{AreBounded}
+use Rattle.basis_book.specs.Row.{IsRow}
+use Rattle.basis_book.specs.Rows.{DaysRise, IsAfter, Falls, AreRows, StopsAt, IsFirstFall, IsFault}
+
+DaysRise-push : (rows : List BasisRow) (row : BasisRow) → DaysRise rows → IsAfter rows row.from_day → DaysRise (rows ++ row ∷ [])
+DaysRise-push [] row h a = tt
+DaysRise-push (r ∷ []) row h a = (a, tt)
+DaysRise-push (r ∷ next ∷ rows) row h a = (h.0, DaysRise-push (next ∷ rows) row h.1 a)
+
+AllZip_push : {A B : Type 0} (R : A → B → Type 0) (xs : List A) (ys : List B) (x : A) (y : B) → AllZip R xs ys → R x y → AllZip R (xs ++ x ∷ []) (ys ++ y ∷ [])
+AllZip_push R [] [] x y h k = (k, tt)
+AllZip_push R [] (b ∷ ys) x y h k = absurd h
+AllZip_push R (a ∷ xs) [] x y h k = absurd h
+AllZip_push R (a ∷ xs) (b ∷ ys) x y h k = (h.0, AllZip_push R xs ys x y h.1 k)
+
+pub AreRows-push : (rows : List (List (List ℕ))) (found : List BasisRow) (fields : List (List ℕ)) (row : BasisRow) → AreRows rows found → IsRow fields row → IsAfter found row.from_day
+    → AreRows (rows ++ fields ∷ []) (found ++ row ∷ [])
+AreRows-push rows found fields row h k a = record { each = AllZip_push IsRow rows found fields row h.each k; rise = DaysRise-push found row h.rise a }
+
+stops_here : (rows : List (List (List ℕ))) (found : List BasisRow) (fields : List (List ℕ)) (n : ℕ) → AreRows rows found → n ≡ length rows + 1 → StopsAt (rows ++ fields ∷ []) n found fields
+stops_here rows found fields n h e = record { good = rows; rest = []; split = refl; number = e; right = h }
+
+pub falls_here : (rows : List (List (List ℕ))) (found : List BasisRow) (fields : List (List ℕ)) (row : BasisRow) (n : ℕ) → AreRows rows found → n ≡ length rows + 1 → n ≤ 1000
+    → IsRow fields row → Falls found row.from_day → (length (rows ++ fields ∷ []) ≤ 1000) × IsFirstFall (rows ++ fields ∷ []) n
+falls_here rows found fields row n h e most k f =
+    (omega (arith, length_push rows fields), record { before = found; fields = fields; row = row; stops = stops_here rows found fields n h e; is_row = k; falls = f })
+
+-- a fault that was found stays the first, whatever row follows
+StopsAt-more : (rows : List (List (List ℕ))) (n : ℕ) (before : List BasisRow) (fields next : List (List ℕ)) → StopsAt rows n before fields → StopsAt (rows ++ next ∷ []) n before fields
+StopsAt-more rows n before fields next h =
+    record { good = h.good; rest = h.rest ++ next ∷ []; split = ap (λ xs. xs ++ next ∷ []) h.split ∙ append_assoc h.good (fields ∷ h.rest) (next ∷ []); number = h.number; right = h.right }
+
+pub IsFault-more : (rows : List (List (List ℕ))) (next : List (List ℕ)) (fault : BasisFault) → length (rows ++ next ∷ []) ≤ 1000 → IsFault rows fault → IsFault (rows ++ next ∷ []) fault
+IsFault-more rows next TooManyRows few h = absurd (omega (arith, length_push rows next))
+IsFault-more rows next (BadBasisRow n) few h =
+    let b = h.1 in (few, record { before = b.before; fields = b.fields; stops = StopsAt-more rows n b.before b.fields next b.stops; bad = b.bad })
+IsFault-more rows next (NotRising n) few h =
+    let b = h.1 in (few, record { before = b.before; fields = b.fields; row = b.row; stops = StopsAt-more rows n b.before b.fields next b.stops; is_row = b.is_row; falls = b.falls })
+IsFault-more rows next NoMemory few h = tt
+
+-- the last of a list ends it
+pub ends_with : {X : Type 0} (xs : List X) (x : X) → Some x ≡ slice_get xs (length xs - 1) → (before : List X) × (xs ≡ before ++ x ∷ [])
+ends_with [] x e = cc
+ends_with (a ∷ []) x e = ([], cc)
+ends_with (a ∷ b ∷ xs) x e =
+    let same : suc (suc (length xs)) - 1 ≡ suc (suc (length xs) - 1) = omega arith in
+    let rest = ends_with (b ∷ xs) x (rw same at e) in
+    (a ∷ rest.0, ap (λ t. a ∷ t) rest.1)
+
+pub IsAfter-last : (before : List BasisRow) (last : BasisRow) (day : ℤ) → last.from_day <ℤ day → IsAfter (before ++ last ∷ []) day
+IsAfter-last [] last day h = h
+IsAfter-last (r ∷ []) last day h = h
+IsAfter-last (r ∷ next ∷ rows) last day h = IsAfter-last (next ∷ rows) last day h
+
+pub after_last : (rows : List BasisRow) (last : BasisRow) (day : ℤ) (b : Bool) → Some last ≡ slice_get rows (length rows - 1)
+    → (b ≡ true → last.from_day <ℤ day) → (b ≡ false → day ≤ℤ last.from_day) → MatchBool b (IsAfter rows day) (Falls rows day)
+after_last rows last day b e =
+    let ends = ends_with rows last e in
+    elim b as (λ v. (v ≡ true → last.from_day <ℤ day) → (v ≡ false → day ≤ℤ last.from_day) → MatchBool v (IsAfter rows day) (Falls rows day)) [
+      | true ↦ λ yes no. subst (λ xs. IsAfter xs day) (sym ends.1) (IsAfter-last ends.0 last day (yes refl))
+      | false ↦ λ yes no. record { before = ends.0; last = last; split = ends.1; falls = no refl }
+    ]
+
+pub lt_true : (a b : ℤ) → lt_z a b ≡ true → a <ℤ b
+lt_true a b e = lt_z_yes (rw e tt)
+
+pub lt_false : (a b : ℤ) → lt_z a b ≡ false → b ≤ℤ a
+lt_false a b e = lt_z_no (rw e tt)
+
+pub none_of : {X : Type 0} (o : Option X) → is_some o ≡ false → o ≡ None
+none_of None h = refl
+none_of (Some x) h = cc
+
+pub OnOk_holds : {A E : Type 0} (r : Result A E) (P : Type 0) → is_ok r ≡ true → OnOk r P → P
+OnOk_holds (Ok x) P e h = h
+OnOk_holds (Err x) P e h = cc
+
+row_points : (fields : List (List ℕ)) (row : BasisRow) → IsRow fields row → row.bp ≤ 2000
+row_points [] row h = absurd h
+row_points (day ∷ []) row h = absurd h
+row_points (day ∷ name ∷ []) row h = absurd h
+row_points (day ∷ name ∷ points ∷ []) row h = h.4.most
+row_points (day ∷ name ∷ points ∷ more ∷ rest) row h = absurd h
+
+same_length : (rows : List (List (List ℕ))) (found : List BasisRow) → AllZip IsRow rows found → length found ≡ length rows
+same_length [] [] h = refl
+same_length [] (y ∷ ys) h = absurd h
+same_length (x ∷ xs) [] h = absurd h
+same_length (x ∷ xs) (y ∷ ys) h = ap suc (same_length xs ys h.1)
+
+few_points : (rows : List (List (List ℕ))) (found : List BasisRow) → AllZip IsRow rows found → All (λ (row : BasisRow). row.bp ≤ 2000) found
+few_points [] [] h = All-nil (λ (row : BasisRow). row.bp ≤ 2000)
+few_points [] (y ∷ ys) h = absurd h
+few_points (x ∷ xs) [] h = absurd h
+few_points (x ∷ xs) (y ∷ ys) h = All-cons (λ (row : BasisRow). row.bp ≤ 2000) y ys (row_points x y h.0) (few_points xs ys h.1)
+
+pub AreBounded-rows : (rows : List (List (List ℕ))) (found : List BasisRow) → length rows ≤ 1000 → AreRows rows found → AreBounded found
+AreBounded-rows rows found few h = record { few = omega (arith, same_length rows found h.each); points = few_points rows found h.each }

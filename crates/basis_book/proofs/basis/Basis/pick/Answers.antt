@@ -1,0 +1,56 @@
+use Rattle.std.proofs.Common.{◌≡◌, ◌+◌, ◌-◌, ◌<◌, ◌<ℤ◌, ◌≤ℤ◌, false, sym, ap, ◌∙◌, subst, refl, All, IsSome, is_some, List, length, map, drop, get_or, ℤ, w32, to_z, of_z, arith}
+use Rattle.indexmap.specs.IndexMap.{get_by_text}
+use Rattle.std.proofs.lemmas.Int.{ints, to_z-of_z}
+use Rattle.basis_book.specs.declared.row.BasisRow.{BasisRow}
+use Rattle.basis_book.specs.Dated.{Dated, dated, IsPicked}
+use Rattle.basis_book.proofs.Picking.{picked_at, none_begun, table_is}
+use Rattle.basis_book.proofs.basis.Basis.pick.Goals as goal
+
+pub returns-in_err-table : goal.returns-in_err-table
+returns-in_err-table c =
+    let rows = c.self.inside.rows in
+    let tables = c.self.inside.tables in
+    let row = c.index-rows-index.result in
+    let i = c.loop-index.index - 1 in
+    let same : row ≡ get_or rows i row = rw c.as_slice-rows.ensures at c.index-rows-index.is in
+    let within : i < length rows = omega (arith, c.loop-index.invariant.0, ap (λ (xs : List BasisRow). length xs) c.as_slice-rows.ensures) in
+    let some : IsSome (get_by_text tables row.table) = subst (λ (r : BasisRow). IsSome (get_by_text tables r.table)) (sym same) (c.self.invariant.1 i row within) in
+    let none = rw c.text.ensures.text at c.in_err-table.ensures.value in
+    let no : is_some (get_by_text tables row.table) ≡ false = ap is_some (sym none) in
+    absurd (cc)
+
+pub returns-then-row-issued : goal.returns-then-row-issued
+returns-then-row-issued c =
+    let rows = c.as_slice-rows.result.now in
+    let t = get_by_text c.self.inside.tables in
+    let row = c.index-rows-index.result in
+    let i = c.loop-index.index - 1 in
+    let within : i < length rows = omega (arith, c.loop-index.invariant.0) in
+    let again : i + 1 ≡ c.loop-index.index = omega arith in
+    let day = to_z w32 (of_z w32 c.args.issued) in
+    let plain : day ≡ c.args.issued = to_z-of_z w32 c.args.issued c.ranges.issued in
+    let found : All (λ (r : BasisRow). day <ℤ r.from_day) (drop (i + 1) rows) = rw again c.loop-index.invariant.1 in
+    let rest = subst (λ (z : ℤ). All (λ (r : BasisRow). z <ℤ r.from_day) (drop (i + 1) rows)) plain found in
+    let begun : row.from_day ≤ℤ c.args.issued = omega (arith, ints) in
+    let picked = picked_at t rows c.args.issued i row within c.index-rows-index.is begun rest in
+    let whole : map (dated t) rows ≡ c.args.self.now = ap (λ (xs : List BasisRow). map (dated t) xs) c.as_slice-rows.ensures ∙ c.self.view_is in
+    record {
+      picked = (
+        dated t row,
+        subst (λ (xs : List Dated). IsPicked xs c.args.issued i (dated t row)) whole picked,
+        table_is (t row.table) c.in_ok-table.table.now _ (rw c.text.ensures.text at c.in_ok-table.ensures.value),
+        refl,
+      );
+    }
+
+pub returns : goal.returns
+returns c =
+    let rows = c.as_slice-rows.result.now in
+    let t = get_by_text c.self.inside.tables in
+    let first : c.loop-index.index ≡ 0 = omega arith in
+    let day = to_z w32 (of_z w32 c.args.issued) in
+    let plain : day ≡ c.args.issued = to_z-of_z w32 c.args.issued c.ranges.issued in
+    let found : All (λ (r : BasisRow). day <ℤ r.from_day) rows = rw first at c.loop-index.invariant.1 in
+    let all = subst (λ (z : ℤ). All (λ (r : BasisRow). z <ℤ r.from_day) rows) plain found in
+    let whole : map (dated t) rows ≡ c.args.self.now = ap (λ (xs : List BasisRow). map (dated t) xs) c.as_slice-rows.ensures ∙ c.self.view_is in
+    record { picked = subst (λ (xs : List Dated). All (λ (entry : Dated). c.args.issued <ℤ entry.from_day) xs) whole (none_begun t rows c.args.issued all) }

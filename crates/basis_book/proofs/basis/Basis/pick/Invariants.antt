@@ -1,0 +1,6 @@
+use Rattle.std.proofs.Common.{◌≤◌, ◌<ℤ◌, length, drop, All}
+use Rattle.basis_book.specs.declared.row.BasisRow.{BasisRow}
+use Rattle.basis_book.proofs.basis.Basis.pick.Given as goal
+
+abbrev pub invariant-loop-index : goal.invariant-loop-index
+invariant-loop-index l = (l.index ≤ length l.rows) × All (λ (row : BasisRow). l.issued <ℤ row.from_day) (drop l.index l.rows)

@@ -1,0 +1,8 @@
+pub mod Name
+pub mod Points
+pub mod Row
+pub mod Rows
+pub mod File
+pub mod Fields
+pub mod Judged
+pub mod Dated

@@ -1,0 +1,62 @@
+-- The rows of a basis file, each a list of fields: what they are read as, or the first fault.
+use Rattle.std.specs.Prelude.{◌≡◌, ℕ, ◌+◌, ◌<◌, ◌≤◌, ⊤, List, [], ◌∷◌, ◌++◌, length, ℤ, ◌<ℤ◌, ◌≤ℤ◌}
+use Rattle.std.specs.List.{AllZip}
+use Rattle.basis_book.specs.declared.row.BasisRow.{BasisRow}
+use Rattle.basis_book.specs.declared.fault.BasisFault.{BasisFault}
+use Rattle.basis_book.specs.declared.fault.BasisFault.TheVariants.{TooManyRows, BadBasisRow, NotRising, NoMemory}
+use Rattle.basis_book.specs.Row.{IsRow}
+
+-- each day is after the one before
+abbrev pub DaysRise : List BasisRow → Type 0
+DaysRise [] = ⊤
+DaysRise (row ∷ []) = ⊤
+DaysRise (row ∷ next ∷ rows) = (row.from_day <ℤ next.from_day) × DaysRise (next ∷ rows)
+
+-- the day is after that of the last of the rows, if there is one
+abbrev pub IsAfter : List BasisRow → ℤ → Type 0
+IsAfter [] day = ⊤
+IsAfter (row ∷ []) day = row.from_day <ℤ day
+IsAfter (row ∷ next ∷ rows) day = IsAfter (next ∷ rows) day
+
+-- the fields of each row spell a basis row, and their days rise
+pub record AreRows (rows : List (List (List ℕ))) (found : List BasisRow) : Type 0 where
+  pub each : AllZip IsRow rows found
+  pub rise : DaysRise found
+
+-- the rows before the n-th are right, and these are the fields of the n-th
+pub record StopsAt (rows : List (List (List ℕ))) (n : ℕ) (before : List BasisRow) (fields : List (List ℕ)) : Type 0 where
+  pub good : List (List (List ℕ))
+  pub rest : List (List (List ℕ))
+  pub split : rows ≡ good ++ fields ∷ rest
+  pub number : n ≡ length good + 1
+  pub right : AreRows good before
+
+-- the n-th row is the first that is no basis row
+pub record IsFirstBad (rows : List (List (List ℕ))) (n : ℕ) : Type 0 where
+  pub before : List BasisRow
+  pub fields : List (List ℕ)
+  pub stops : StopsAt rows n before fields
+  pub bad : (row : BasisRow) → IsRow fields row → ⊥
+
+-- the day isn't after that of the last of the rows
+pub record Falls (rows : List BasisRow) (day : ℤ) : Type 0 where
+  pub before : List BasisRow
+  pub last : BasisRow
+  pub split : rows ≡ before ++ last ∷ []
+  pub falls : day ≤ℤ last.from_day
+
+-- the n-th row is a basis row, as those before it are, and the first whose day isn't after the one before
+pub record IsFirstFall (rows : List (List (List ℕ))) (n : ℕ) : Type 0 where
+  pub before : List BasisRow
+  pub fields : List (List ℕ)
+  pub row : BasisRow
+  pub stops : StopsAt rows n before fields
+  pub is_row : IsRow fields row
+  pub falls : Falls before row.from_day
+
+-- the fault of the rows: that they are more than 1,000 comes before all others. Memory may always be refused.
+abbrev pub IsFault : List (List (List ℕ)) → BasisFault → Type 0
+IsFault rows TooManyRows = 1000 < length rows
+IsFault rows (BadBasisRow n) = (length rows ≤ 1000) × IsFirstBad rows n
+IsFault rows (NotRising n) = (length rows ≤ 1000) × IsFirstFall rows n
+IsFault rows NoMemory = ⊤

@@ -1,0 +1,16 @@
+/// Why a basis file isn't read. Rows are counted from 1.
+#[derive(Clone, Copy, PartialEq, Eq, Debug)]
+pub enum BasisFault {
+    /// There are more than 1,000 rows.
+    TooManyRows,
+    /// The first row that doesn't fit.
+    BadBasisRow(u32),
+    /// The first row that doesn't fit, since its day isn't after that of the row before.
+    NotRising(u32),
+    /// Memory was refused.
+    NoMemory,
+}
+
+/// The first row, counted from 1, whose table isn't among the tables.
+#[derive(Clone, Copy, PartialEq, Eq, Debug)]
+pub struct NoSuchTable(pub u32);

@@ -1,0 +1,131 @@
+ghost use Rattle.std.specs.Prelude.{◌≡◌, ℕ, ◌+◌, ◌≤◌, ◌<◌, [], ◌∷◌, ◌++◌, List, OnOk, IfOk, MatchBool, MatchOption, MatchResult, length, Some, None};
+ghost use Rattle.basis_book.specs.declared.row.BasisRow.{BasisRow as ARow};
+ghost use Rattle.basis_book.specs.Row.{IsRow};
+ghost use Rattle.basis_book.specs.Rows.{AreRows, IsAfter, Falls, IsFault};
+ghost use Rattle.basis_book.specs.Dated.{AreBounded};
+ghost use Rattle.basis_book.specs.Fields.{AreThree, list_of};
+ghost use Rattle.basis_book.specs.Judged.{Judged};
+
+use crate::fault::BasisFault;
+use crate::fields::Fields;
+use crate::name::Name;
+use crate::points::points_of;
+use crate::reading::Reading;
+use crate::row::{BasisRow, BasisRows};
+use life_dates::parse_day;
+use policy_types::NoMemory;
+use std::alloc::Global;
+
+/// The most rows of a basis file.
+const MOST_ROWS: u32 = 1_000;
+
+/// The basis row that three fields spell.
+fn row_of(alloc: Global, fields: &Fields) -> Result<Option<BasisRow>, NoMemory>
+    ensures { IfOk result (λ found. MatchOption found ((row : ARow) → IsRow (list_of fields.now) row → ⊥) (IsRow (list_of fields.now))) }
+{
+    let Some(from_day) = parse_day(fields.day) else {
+        return Ok(None);
+    };
+    let Some(bp) = points_of(fields.points) else {
+        return Ok(None);
+    };
+    match Name::of(alloc, fields.table) {
+        Ok(Some(table)) => Ok(Some(BasisRow {
+            from_day,
+            table,
+            bp,
+        })),
+        Ok(None) => Ok(None),
+        Err(NoMemory) => Err(NoMemory),
+    }
+}
+
+/// Whether the day of the next row is after that of the last.
+fn is_after(rows: &[BasisRow], next: &BasisRow) -> bool
+    ensures { MatchBool result (IsAfter rows.now next.now.from_day) (Falls rows.now next.now.from_day) }
+{
+    let Some(last) = rows.last() else {
+        return true;
+    };
+    last.from_day < next.from_day
+}
+
+/// Judges the next row, whose number, counted from 1, and fields these are.
+fn judge(
+    alloc: Global,
+    found: &mut Vec<BasisRow>,
+    number: u32,
+    fields: Option<Fields>,
+) -> Result<(), BasisFault>
+    ensures { (rows : List (List (List ℕ))) (row : List (List ℕ)) → AreThree row fields.entry → AreRows rows found.old.items
+        → number ≡ length rows + 1 → number ≤ 1000
+        → MatchResult result (λ _. AreRows (rows ++ row ∷ []) found.new.items) (IsFault (rows ++ row ∷ [])) }
+{
+    let Some(fields) = fields else {
+        return Err(BasisFault::BadBasisRow(number));
+    };
+    let row = match row_of(alloc, &fields) {
+        Ok(Some(row)) => row,
+        Ok(None) => return Err(BasisFault::BadBasisRow(number)),
+        Err(NoMemory) => return Err(BasisFault::NoMemory),
+    };
+    if !is_after(found.as_slice(), &row) {
+        return Err(BasisFault::NotRising(number));
+    }
+    if found.push(row).is_err() {
+        return Err(BasisFault::NoMemory);
+    }
+    Ok(())
+}
+
+impl Reading {
+    /// No rows.
+    pub fn new(alloc: Global) -> Self
+        ensures { Judged [] result }
+    {
+        Reading {
+            found: Vec::new(alloc),
+            count: 0,
+            fault: None,
+        }
+    }
+
+    /// Takes the next row.
+    pub fn add(&mut self, alloc: Global, fields: Option<Fields>) -> Result<(), NoMemory>
+        ensures { (rows : List (List (List ℕ))) (row : List (List ℕ)) → AreThree row fields.entry → Judged rows self.old
+            → OnOk result (Judged (rows ++ row ∷ []) self.new) }
+    {
+        if self.count > MOST_ROWS {
+            return Ok(());
+        }
+        self.count += 1;
+        if self.count > MOST_ROWS {
+            return Ok(());
+        }
+        if self.fault.is_some() {
+            return Ok(());
+        }
+        match judge(alloc, &mut self.found, self.count, fields) {
+            Ok(()) => Ok(()),
+            Err(BasisFault::NoMemory) => Err(NoMemory),
+            Err(fault) => {
+                self.fault = Some(fault);
+                Ok(())
+            }
+        }
+    }
+
+    /// The rows, or their fault.
+    pub fn finish(self) -> Result<BasisRows, BasisFault>
+        ensures { (rows : List (List (List ℕ))) → Judged rows self
+            → MatchResult result (λ found. (length rows ≤ 1000) × AreRows rows found × AreBounded found) (IsFault rows) }
+    {
+        if self.count > MOST_ROWS {
+            return Err(BasisFault::TooManyRows);
+        }
+        match self.fault {
+            Some(fault) => Err(fault),
+            None => Ok(BasisRows::new(self.found)),
+        }
+    }
+}

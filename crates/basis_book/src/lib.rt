@@ -1,0 +1,20 @@
+//! The basis file of an insurer: which mortality table and rate of interest hold from which day of issue.
+#![tactic(auto)]
+
+mod basis;
+mod fault;
+mod fields;
+mod file;
+mod judging;
+mod name;
+mod points;
+mod reading;
+mod row;
+#[cfg(test)]
+mod tests;
+
+pub use basis::Basis;
+pub use fault::{BasisFault, NoSuchTable};
+pub use file::{LONGEST_FILE, read_basis};
+pub use name::Name;
+pub use row::{BasisRow, BasisRows};
