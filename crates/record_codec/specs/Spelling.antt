@@ -1,42 +1,34 @@
 -- The body of a journal's record: 64 bytes that spell one command.
-use Rattle.std.specs.Prelude.{◌≡◌, ℕ, ◌++◌, List, [], ◌∷◌, ℤ, replicate}
+use Rattle.std.specs.Prelude.{◌≡◌, ◌++◌, List, [], ◌∷◌, ℕ, ◌<◌, ◌^◌, FitsSigned, replicate}
 use Rattle.std.specs.Int.{w32, w64, to_be_bytes, cast_unsigned}
 use Rattle.policy_types.specs.declared.command.Command.{Command}
-use Rattle.policy_types.specs.declared.command.Command.TheVariants.{Issue, Premium, Alter, Lapse, Reinstate, Claim, Settle, Mature}
-use Rattle.policy_types.specs.declared.command.Plan.{Plan}
-use Rattle.policy_types.specs.declared.command.Plan.TheVariants.{Term, Whole, Endowment, Limited}
+use Rattle.policy_types.specs.declared.command.Command.TheVariants.{Issue}
 use Rattle.policy_types.specs.Valid.{IsValid}
-
--- the byte of a plan
-abbrev pub plan_byte : Plan → ℕ
-plan_byte Term = 1
-plan_byte Whole = 2
-plan_byte Endowment = 3
-plan_byte Limited = 4
+use Rattle.record_codec.specs.declared.fields.Fields.{Fields}
+use Rattle.record_codec.specs.Fields.{fields_of}
 
 -- kind, plan, age and years, a byte each; then the id and the day in four bytes, the day in two's
 -- complement; then the amount and the premium in eight; each with its high byte first
-abbrev pub field_bytes : (kind plan age years id : ℕ) (day : ℤ) (amount premium : ℕ) → List ℕ
-field_bytes kind plan age years id day amount premium =
-    (kind ∷ plan ∷ age ∷ years ∷ []) ++ to_be_bytes w32 id ++ to_be_bytes w32 (cast_unsigned w32 day)
-    ++ to_be_bytes w64 amount ++ to_be_bytes w64 premium
+abbrev pub field_bytes : Fields → List ℕ
+field_bytes f =
+    (f.kind ∷ f.plan ∷ f.age ∷ f.years ∷ []) ++ to_be_bytes w32 f.id
+    ++ to_be_bytes w32 (cast_unsigned w32 f.day) ++ to_be_bytes w64 f.amount
+    ++ to_be_bytes w64 f.premium
 
 -- these 28 bytes and 36 zeros
-abbrev pub body_of : (kind plan age years id : ℕ) (day : ℤ) (amount premium : ℕ) → List ℕ
-body_of kind plan age years id day amount premium =
-    field_bytes kind plan age years id day amount premium ++ replicate 36 0
+abbrev pub body_of : Fields → List ℕ
+body_of f = field_bytes f ++ replicate 36 0
 
--- the body of a command, in which every field that its kind doesn't have is 0
+-- the numbers fit their bytes
+pub record AreInRange (f : Fields) : Type 0 where
+  pub id_in : f.id < 2 ^ 32
+  pub day_in : FitsSigned w32 f.day
+  pub amount_in : f.amount < 2 ^ 64
+  pub premium_in : f.premium < 2 ^ 64
+
+-- the body of a command
 unfoldable pub spelling_of : Command → List ℕ
-spelling_of (Issue id day plan age years amount premium) =
-    body_of 1 (plan_byte plan) age years id day amount premium
-spelling_of (Premium id day amount) = body_of 2 0 0 0 id day amount 0
-spelling_of (Alter id day amount premium) = body_of 3 0 0 0 id day amount premium
-spelling_of (Lapse id day) = body_of 4 0 0 0 id day 0 0
-spelling_of (Reinstate id day amount) = body_of 5 0 0 0 id day amount 0
-spelling_of (Claim id day) = body_of 6 0 0 0 id day 0 0
-spelling_of (Settle id day amount) = body_of 7 0 0 0 id day amount 0
-spelling_of (Mature id day) = body_of 8 0 0 0 id day 0 0
+spelling_of command = body_of (fields_of command)
 
 -- the body spells the command, which is valid
 pub record IsSpelling (body : List ℕ) (command : Command) : Type 0 where

@@ -1,52 +1,132 @@
-// The fields of a body at their places.
-ghost use Rattle.std.specs.Prelude.{◌≡◌, ◌+◌, ◌≤◌, [], ◌∷◌, slice_index};
-ghost use Rattle.std.specs.Int.{w32, w64, from_be_bytes};
-ghost use Rattle.record_codec.specs.Spelling.{field_bytes, body_of};
+// The fields of a record, and the command that has them.
+ghost use Rattle.std.specs.Prelude.{◌≡◌};
+ghost use Rattle.record_codec.specs.Fields.{fields_of, short_fields, plan_byte, plan_at, command_at};
 
-// The body with these fields; `head` is the kind, the plan, the age and the years.
-pub fn body_with(head: [u8; 4], id: u32, day: i32, amount: u64, premium: u64) -> [u8; 64]
-    ensures { result ≡ body_of (slice_index head 0) (slice_index head 1) (slice_index head 2)
-        (slice_index head 3) id day amount premium }
-{
-    let mut body = [0; 64];
-    body[..28].copy_from_slice(&bytes_with(head, id, day, amount, premium));
-    body
+use policy_types::{Command, Plan};
+
+/// The fields in their order, each 0 where the command's kind has none.
+#[derive(Clone, Copy)]
+pub struct Fields {
+    pub kind: u8,
+    pub plan: u8,
+    pub age: u8,
+    pub years: u8,
+    pub id: u32,
+    pub day: i32,
+    pub amount: u64,
+    pub premium: u64,
 }
 
-fn bytes_with(head: [u8; 4], id: u32, day: i32, amount: u64, premium: u64) -> [u8; 28]
-    ensures { result ≡ field_bytes (slice_index head 0) (slice_index head 1) (slice_index head 2)
-        (slice_index head 3) id day amount premium }
+pub fn fields_with(command: &Command) -> Fields
+    ensures { result ≡ fields_of command.now }
 {
-    let [kind, plan, age, years] = head;
-    let [a, b, c, d] = id.to_be_bytes();
-    let [e, f, g, h] = day.to_be_bytes();
-    let [i, j, k, l, m, n, o, p] = amount.to_be_bytes();
-    let [q, r, s, t, u, v, w, x] = premium.to_be_bytes();
-    [
-        kind, plan, age, years, a, b, c, d, e, f, g, h, i, j, k, l, m, n, o, p, q, r, s, t, u, v,
-        w, x,
-    ]
+    match *command {
+        Command::Issue {
+            id,
+            day,
+            plan,
+            age,
+            years,
+            amount,
+            premium,
+        } => Fields {
+            kind: 1,
+            plan: byte_of(plan),
+            age,
+            years,
+            id,
+            day,
+            amount,
+            premium,
+        },
+        Command::Premium { id, day, amount } => short(2, id, day, amount, 0),
+        Command::Alter {
+            id,
+            day,
+            amount,
+            premium,
+        } => short(3, id, day, amount, premium),
+        Command::Lapse { id, day } => short(4, id, day, 0, 0),
+        Command::Reinstate { id, day, amount } => short(5, id, day, amount, 0),
+        Command::Claim { id, day } => short(6, id, day, 0, 0),
+        Command::Settle { id, day, amount } => short(7, id, day, amount, 0),
+        Command::Mature { id, day } => short(8, id, day, 0, 0),
+    }
 }
 
-// The four bytes at a place.
-pub fn four_at(body: &[u8; 64], at: usize) -> [u8; 4]
-    requires { at ≤ 60 }
-    ensures { result ≡ slice_index body.now at ∷ slice_index body.now (at + 1)
-        ∷ slice_index body.now (at + 2) ∷ slice_index body.now (at + 3) ∷ [] }
+pub fn command_with(fields: Fields) -> Option<Command>
+    ensures { result ≡ command_at fields }
 {
-    [body[at], body[at + 1], body[at + 2], body[at + 3]]
+    let Fields {
+        kind,
+        plan,
+        age,
+        years,
+        id,
+        day,
+        amount,
+        premium,
+    } = fields;
+    match kind {
+        1 => Some(Command::Issue {
+            id,
+            day,
+            plan: plan_of(plan)?,
+            age,
+            years,
+            amount,
+            premium,
+        }),
+        2 => Some(Command::Premium { id, day, amount }),
+        3 => Some(Command::Alter {
+            id,
+            day,
+            amount,
+            premium,
+        }),
+        4 => Some(Command::Lapse { id, day }),
+        5 => Some(Command::Reinstate { id, day, amount }),
+        6 => Some(Command::Claim { id, day }),
+        7 => Some(Command::Settle { id, day, amount }),
+        8 => Some(Command::Mature { id, day }),
+        _ => None,
+    }
 }
 
-// The number in the eight bytes at a place.
-pub fn u64_at(body: &[u8; 64], at: usize) -> u64
-    requires { at ≤ 56 }
-    ensures { result ≡ from_be_bytes w64 (slice_index body.now at
-        ∷ slice_index body.now (at + 1) ∷ slice_index body.now (at + 2)
-        ∷ slice_index body.now (at + 3) ∷ slice_index body.now (at + 4)
-        ∷ slice_index body.now (at + 5) ∷ slice_index body.now (at + 6)
-        ∷ slice_index body.now (at + 7) ∷ []) }
+fn short(kind: u8, id: u32, day: i32, amount: u64, premium: u64) -> Fields
+    ensures { result ≡ short_fields kind id day amount premium }
 {
-    let [a, b, c, d] = four_at(body, at);
-    let [e, f, g, h] = four_at(body, at + 4);
-    u64::from_be_bytes([a, b, c, d, e, f, g, h])
+    Fields {
+        kind,
+        plan: 0,
+        age: 0,
+        years: 0,
+        id,
+        day,
+        amount,
+        premium,
+    }
+}
+
+fn byte_of(plan: Plan) -> u8
+    ensures { result ≡ plan_byte plan }
+{
+    match plan {
+        Plan::Term => 1,
+        Plan::Whole => 2,
+        Plan::Endowment => 3,
+        Plan::Limited => 4,
+    }
+}
+
+fn plan_of(byte: u8) -> Option<Plan>
+    ensures { result ≡ plan_at byte }
+{
+    match byte {
+        1 => Some(Plan::Term),
+        2 => Some(Plan::Whole),
+        3 => Some(Plan::Endowment),
+        4 => Some(Plan::Limited),
+        _ => None,
+    }
 }
