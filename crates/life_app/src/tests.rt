@@ -63,16 +63,47 @@ fn runs_end_as_they_must(rt: HostRuntime) -> Result<(), AllocError> {
         run_of(&[], 0, ""),
         run_of(&["\n\n"], 0, ""),
         run_of(&[POLICY], 0, "1,issue,7001,accepted,1\n"),
-        run_of(&[POLICY, POLICY], 0, "1,issue,7001,accepted,1\n1,issue,7001,refused,taken\n"),
-        run_of(&["1,issue,9,1900-01-01,whole,129,0,0.01,0.01\n", POLICY], 0, "1,issue,9,accepted,1\n1,issue,7001,accepted,2\n"),
-        run_of(&["1,issue,0,2020-01-01,term,30,10,1.00,1.00\n"], 3, "badscript,1,3\n"),
+        run_of(
+            &[POLICY, POLICY],
+            0,
+            "1,issue,7001,accepted,1\n1,issue,7001,refused,taken\n",
+        ),
+        run_of(
+            &["1,issue,9,1900-01-01,whole,129,0,0.01,0.01\n", POLICY],
+            0,
+            "1,issue,9,accepted,1\n1,issue,7001,accepted,2\n",
+        ),
+        run_of(
+            &["1,issue,0,2020-01-01,term,30,10,1.00,1.00\n"],
+            3,
+            "badscript,1,3\n",
+        ),
         run_of(&[POLICY, "\n9,lapse,1,2020-01-01\n"], 3, "badscript,2,1\n"),
-        run_of(&["1,issue,5,2020-01-01,term,30,10,1.00,1.00,\n"], 3, "badscript,1,10\n"),
-        Case { words: &["run", "--at"], ..run_of(&[POLICY], 2, "usage\n") },
-        Case { words: &[], ..run_of(&[POLICY], 2, "usage\n") },
-        Case { failing_reads: &[1], ..run_of(&[POLICY], 6, "readfault\n") },
-        Case { failing_reads: &[2], ..run_of(&[POLICY], 6, "readfault\n") },
-        Case { failing_writes: &[1], ..run_of(&[POLICY], 7, "") },
+        run_of(
+            &["1,issue,5,2020-01-01,term,30,10,1.00,1.00,\n"],
+            3,
+            "badscript,1,10\n",
+        ),
+        Case {
+            words: &["run", "--at"],
+            ..run_of(&[POLICY], 2, "usage\n")
+        },
+        Case {
+            words: &[],
+            ..run_of(&[POLICY], 2, "usage\n")
+        },
+        Case {
+            failing_reads: &[1],
+            ..run_of(&[POLICY], 6, "readfault\n")
+        },
+        Case {
+            failing_reads: &[2],
+            ..run_of(&[POLICY], 6, "readfault\n")
+        },
+        Case {
+            failing_writes: &[1],
+            ..run_of(&[POLICY], 7, "")
+        },
     ];
     for case in cases.iter() {
         assert!(rt; holds(rt.alloc(), case)?);
