@@ -1,0 +1,5 @@
+pub mod Options
+pub mod Runs
+pub mod Lexing
+pub mod Behind
+pub mod AttributeRuns

@@ -1,0 +1,8 @@
+//! The reader of a mortality table file: this product's profile of the Society of Actuaries' XTbML.
+#![tactic(auto)]
+
+mod attribute;
+mod class;
+mod text;
+mod token;
+
