@@ -3,3 +3,5 @@ pub mod Runs
 pub mod Lexing
 pub mod Behind
 pub mod AttributeRuns
+pub mod Stack
+pub mod PieceReading

@@ -21,7 +21,7 @@ pub some_is : {A : Type 0} (x y : A) → some x ≡ some y → x ≡ y
 some_is x y e = cc
 
 -- the same with pairs
-abbrev some_pair : {A B : Type 0} → A → B → Option (A × B)
+abbrev pub some_pair : {A B : Type 0} → A → B → Option (A × B)
 some_pair x y = Some (x, y)
 
 pub pair_is : {A B : Type 0} (a c : A) (b d : B) → some_pair a b ≡ some_pair c d → (a ≡ c) × (b ≡ d)

@@ -1,4 +1,6 @@
 pub mod Classes
 pub mod Pieces
+pub mod Nesting
 pub mod Reading
 pub mod Tokens
+pub mod Walk

@@ -3,6 +3,8 @@
 
 mod attribute;
 mod class;
+mod nesting;
+mod state;
 mod text;
 mod token;
 
