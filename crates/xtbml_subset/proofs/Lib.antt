@@ -5,3 +5,4 @@ pub mod Behind
 pub mod AttributeRuns
 pub mod Stack
 pub mod PieceReading
+pub mod Walking

@@ -3,7 +3,7 @@ ghost use Rattle.std.specs.Option.{option_map, option_copied};
 ghost use Rattle.xtbml_subset.specs.Nesting.{State, after_piece, after_outside, outside, past};
 ghost use Rattle.xtbml_subset.specs.Pieces.{Tag, start, whole, finish, declaration};
 ghost use Rattle.xtbml_subset.specs.Tokens.{piece_of};
-ghost use Rattle.xtbml_subset.specs.Walk.{state_of, after_mark, fault_at, walk_at, is_ended};
+ghost use Rattle.xtbml_subset.specs.Walk.{state_of, after_mark, fault_at, fault_place, is_ended};
 
 use crate::class::{Class, is_in};
 use crate::state::{DEEPEST, Nesting, Phase};
@@ -173,7 +173,8 @@ fn past(phase: Phase) -> Phase
 
 /// The bytes behind the mark of UTF-8, or all of them.
 fn after_mark(bytes: &[u8]) -> &[u8]
-    ensures { result.now ≡ after_mark bytes.now }
+    ensures rest { result.now ≡ after_mark bytes.now }
+    ensures length { length result.now ≤ length bytes.now }
 {
     match bytes {
         [239, 187, 191, rest @ ..] => rest,
@@ -181,9 +182,20 @@ fn after_mark(bytes: &[u8]) -> &[u8]
     }
 }
 
+/// The answer where the pieces end.
+fn place_at_end(bytes: &[u8], rest: &[u8], nesting: &Nesting) -> Option<usize>
+    requires { length rest.now ≤ length bytes.now }
+    ensures { result ≡ fault_place (length bytes.now) (state_of nesting.now, rest.now) }
+{
+    match rest {
+        [] => if nesting.is_ended() { None } else { Some(bytes.len()) },
+        [_, ..] => Some(bytes.len() - rest.len()),
+    }
+}
+
 /// The place up to which the pieces nest, or `None` where the bytes are a document.
 #[tactic(auto, unfolding(crate::specs::Walk::fault_at))]
-pub fn fault_place(bytes: &[u8]) -> Option<usize>
+pub fn place_of_fault(bytes: &[u8]) -> Option<usize>
     ensures { result ≡ fault_at bytes.now }
 {
     let mut nesting = Nesting::new(bytes);
@@ -194,5 +206,5 @@ pub fn fault_place(bytes: &[u8]) -> Option<usize>
         }
         rest = after;
     }
-    if rest.is_empty() && nesting.is_ended() { None } else { Some(bytes.len() - rest.len()) }
+    place_at_end(bytes, rest, &nesting)
 }
