@@ -1,6 +1,8 @@
 -- Attributes read one after the other.
-use Rattle.std.proofs.Common.{◌≡◌, ℕ, zero, suc, ◌+◌, ◌-◌, ◌<◌, ◌≤◌, List, [], ◌∷◌, ◌++◌, length, Option, Some, None, refl, sym, ap, subst, ◌∙◌, append_assoc, arith}
+use Rattle.std.proofs.Common.{cond, ◌≡◌, ℕ, zero, suc, ◌+◌, ◌-◌, ◌<◌, ◌≤◌, List, [], ◌∷◌, ◌++◌, length, Option, Some, None, refl, sym, ap, subst, ◌∙◌, append_assoc, arith}
 use Rattle.std.specs.Option.{option_map_or}
+use Rattle.std.specs.Str.{bytes_eq}
+use Rattle.xtbml_subset.specs.Elements.{value_of}
 use Rattle.xtbml_subset.specs.Pieces.{Attribute, IsSpace, IsAttribute}
 use Rattle.xtbml_subset.specs.Reading.{attribute_at, attributes_from, attributes_at, with_attribute}
 use Rattle.xtbml_subset.proofs.Behind.{IsBehind, behind_count}
@@ -39,3 +41,10 @@ pub attributes_stop : (bytes : List ℕ) → attribute_at bytes ≡ None → att
 unfolding attributes_from
 attributes_stop [] e = refl
 attributes_stop (b ∷ bytes) e = rw e refl
+
+pub value_step : (name bytes : List ℕ) (a : Attribute) (rest : List ℕ) → attribute_at bytes ≡ Some (a, rest)
+    → value_of name (attributes_at bytes).0 ≡ cond (bytes_eq a.0 name) (Some a.1) (value_of name (attributes_at rest).0)
+value_step name bytes a rest e = ap (λ read. value_of name read.0) (attributes_step bytes a rest e)
+
+pub value_stop : (name bytes : List ℕ) → attribute_at bytes ≡ None → value_of name (attributes_at bytes).0 ≡ None
+value_stop name bytes e = ap (λ read. value_of name read.0) (attributes_stop bytes e)

@@ -6,3 +6,4 @@ pub mod AttributeRuns
 pub mod Stack
 pub mod PieceReading
 pub mod Walking
+pub mod Searching

@@ -4,3 +4,5 @@ pub mod Nesting
 pub mod Reading
 pub mod Tokens
 pub mod Walk
+pub mod Elements
+pub mod Views

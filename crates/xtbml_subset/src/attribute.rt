@@ -1,5 +1,6 @@
 ghost use Rattle.std.specs.Prelude.{◌≡◌};
-ghost use Rattle.std.specs.Option.{option_map};
+ghost use Rattle.std.specs.Option.{option_map, option_copied};
+ghost use Rattle.xtbml_subset.specs.Elements.{value_of};
 ghost use Rattle.xtbml_subset.specs.Reading.{closed_at, quoted_at, attribute_at, attributes_at};
 
 use crate::class::Class;
@@ -52,4 +53,19 @@ pub fn after_attributes(bytes: &[u8]) -> &[u8]
         rest = next;
     }
     rest
+}
+
+/// The value of the first attribute of the name, of those at the front.
+pub fn attribute_value<'a>(bytes: &'a [u8], name: &[u8]) -> Option<&'a [u8]>
+    ensures { option_copied result ≡ value_of name.now (attributes_at bytes.now).0 }
+{
+    let mut rest = bytes;
+    while let Some((attribute, next)) = next_attribute(rest) {
+        let Attribute { name: found, value } = attribute;
+        if found == name {
+            return Some(value);
+        }
+        rest = next;
+    }
+    None
 }

@@ -3,6 +3,8 @@
 
 mod attribute;
 mod class;
+mod element;
+mod finder;
 mod nesting;
 mod state;
 mod text;
