@@ -1,0 +1,13 @@
+use Rattle.std.proofs.Common.{◌<◌, ◌≤◌, ◌^◌, length, arith}
+use Rattle.std.proofs.lemmas.List.{take_all}
+use Rattle.std.proofs.Math.Nat.{pow-le-pow_right}
+use Rattle.decimal_text.specs.Decimal.{number}
+use Rattle.decimal_text.proofs.Numbers.{number-lt}
+use Rattle.decimal_text.proofs.digits.short_number.Goals as goal
+
+pub returns-clause-small : goal.returns-clause-small
+returns-clause-small c =
+    let bound : number c.args.digits.now < 10 ^ length c.args.digits.now = number-lt c.args.digits.now c.requires.digits in
+    let few : 10 ^ length c.args.digits.now ≤ 10 ^ 3 = pow-le-pow_right (omega arith) c.requires.short in
+    let all = take_all c.loop-digit.digit-index c.args.digits.now c.loop-digit-test.false in
+    omega (arith, rw all at c.loop-digit.invariant)

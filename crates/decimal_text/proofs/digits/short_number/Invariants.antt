@@ -1,0 +1,6 @@
+use Rattle.std.proofs.Common.{◌≡◌, take}
+use Rattle.decimal_text.specs.Decimal.{number}
+use Rattle.decimal_text.proofs.digits.short_number.Given as goal
+
+abbrev pub invariant-loop-digit : goal.invariant-loop-digit
+invariant-loop-digit l = l.value ≡ number (take l.digit-index l.digits)

@@ -1,0 +1,5 @@
+pub mod Decimal
+pub mod Rate
+pub mod Splits
+pub mod Places
+pub mod Parts

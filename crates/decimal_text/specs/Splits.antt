@@ -1,0 +1,20 @@
+-- How a text is cut behind the digits at its front.
+use Rattle.std.specs.Prelude.{◌≡◌, ◌≢◌, ℕ, ◌⊎◌, List, [], ◌∷◌, ◌++◌}
+use Rattle.std.specs.Char.{IsAsciiDigit}
+use Rattle.decimal_text.specs.Decimal.{AreDigits, point}
+
+-- the text is over, or goes on with something else than a digit
+abbrev pub StopsDigits : List ℕ → Type 0
+StopsDigits [] = Unit {0}
+StopsDigits (byte ∷ rest) = IsAsciiDigit byte → ⊥
+
+pub record SplitsDigits (text digits rest : List ℕ) : Type 0 where
+  pub joined : text ≡ digits ++ rest
+  pub are_digits : AreDigits digits
+  pub stops : StopsDigits rest
+
+-- the digits behind a point, or none where no point stands there
+abbrev pub SplitsFraction : List ℕ → List ℕ → List ℕ → Type 0
+SplitsFraction [] fraction rest = (fraction ≡ []) × (rest ≡ [])
+SplitsFraction (byte ∷ text) fraction rest =
+    ((byte ≡ point) × SplitsDigits text fraction rest) ⊎ ((byte ≢ point) × (fraction ≡ []) × (rest ≡ byte ∷ text))

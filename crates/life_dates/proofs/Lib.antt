@@ -1,0 +1,4 @@
+pub mod AnniversaryLemmas
+pub mod CalendarLemmas
+pub mod KnownDays
+pub mod TextLemmas

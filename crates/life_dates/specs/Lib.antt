@@ -1,0 +1,3 @@
+pub mod Anniversary
+pub mod Calendar
+pub mod DayText

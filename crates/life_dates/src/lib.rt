@@ -1,0 +1,13 @@
+//! Civil days, as days since 1970-01-01: the anniversaries of an issue day, and the texts of days.
+//!
+//! The calendar's arithmetic is `jiff`'s; `specs/Calendar.antt` states the calendar anew.
+#![tactic(auto)]
+
+mod calendar;
+mod laws;
+mod text;
+mod years;
+
+pub use laws::{anniversaries_ascend, texts_are_exact};
+pub use text::{parse_day, print_day};
+pub use years::{anniversary, completed};

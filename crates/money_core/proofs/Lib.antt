@@ -1,0 +1,3 @@
+pub mod CentsTextLemmas
+pub mod Numerals
+pub mod WorkedTexts

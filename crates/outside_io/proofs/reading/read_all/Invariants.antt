@@ -1,0 +1,5 @@
+-- The count of turns belongs to the blank's ledger.
+use Rattle.outside_io.proofs.reading.read_all.Given as goal
+
+abbrev pub ghosts-read_all_from : goal.ghosts-read_all_from
+ghosts-read_all_from g a = record { name = a.blank.name; parts = a.blank.parts }

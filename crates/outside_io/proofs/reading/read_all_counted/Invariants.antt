@@ -1,0 +1,17 @@
+-- So far the bytes came off the front of what the source had left, each turn gave one at least, and its count didn't fall.
+use Rattle.std.proofs.Common.{◌-◌, ◌+◌, ◌≤◌, vec_len}
+use Rattle.std.specs.Io.KnownBytes.{Consumes}
+use Rattle.outside_io.specs.Streams.{StillTells}
+use Rattle.outside_io.proofs.reading.read_all_counted.Given as goal
+
+abbrev pub invariant-loop-bytes : goal.invariant-loop-bytes
+invariant-loop-bytes g l = record {
+  within : vec_len l.bytes ≤ l.room;
+  later : g.S.Source.count l.initial.source ≤ g.S.Source.count l.source;
+  came : Consumes (g.S.Source.left l.initial.source) (g.S.Source.left l.source) l.bytes.items;
+  tells : StillTells (g.S.Source.left l.initial.source) (g.S.Source.left l.source);
+  turns : l.steps ≤ l.initial.steps + vec_len l.bytes;
+}
+
+abbrev pub decreases-loop-bytes : goal.decreases-loop-bytes
+decreases-loop-bytes g l = l.room - vec_len l.bytes

@@ -1,0 +1,16 @@
+-- So far the sink took the front of the bytes that was counted, and its count didn't fall.
+use Rattle.std.proofs.Common.{length, take, ◌-◌, ◌≤◌}
+use Rattle.std.specs.Io.KnownBytes.{Appends}
+use Rattle.outside_io.specs.Streams.{StillTells}
+use Rattle.outside_io.proofs.writing.write_all.Given as goal
+
+abbrev pub invariant-loop-taken : goal.invariant-loop-taken
+invariant-loop-taken g l = record {
+  within : l.taken ≤ length l.bytes;
+  later : g.K.Sink.count l.initial.sink ≤ g.K.Sink.count l.sink;
+  written : Appends (g.K.Sink.written l.initial.sink) (g.K.Sink.written l.sink) (take l.taken l.bytes);
+  tells : StillTells (g.K.Sink.written l.initial.sink) (g.K.Sink.written l.sink);
+}
+
+abbrev pub decreases-loop-taken : goal.decreases-loop-taken
+decreases-loop-taken g l = length l.bytes - l.taken

@@ -1,0 +1,5 @@
+pub mod Disks
+pub mod Faults
+pub mod Memory
+pub mod Plans
+pub mod Streams

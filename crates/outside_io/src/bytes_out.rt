@@ -1,0 +1,68 @@
+// Output to memory.
+ghost use Rattle.std.specs.Prelude.{◌≡◌, ℕ, ◌<◌, ◌≤◌, [], Some, List, length, IfOk, OnOk, IsErr};
+ghost use Rattle.std.specs.Io.KnownBytes.{WriteAppends};
+ghost use Rattle.outside_io.specs.Faults.{HasCause};
+ghost use Rattle.outside_io.specs.Streams.{StillTells};
+ghost use Rattle.outside_io.specs.Plans.{FailsNext, plan_faults, plan_failing, plan_calls, number_after};
+ghost use Rattle.outside_io.specs.Memory.{sink_bytes, sink_plan};
+
+use crate::{Failed, FaultPlan, Sink};
+use std::alloc::Global;
+
+/// Keeps what is written, whole pieces at a time, and fails at the calls whose numbers, from 1, it is told.
+/// Want of memory for the bytes is a fault too.
+#[derive(Drop)]
+pub struct BytesSink {
+    bytes: Vec<u8>,
+    plan: FaultPlan,
+}
+
+impl BytesSink {
+    pub fn new(alloc: Global, failing: Vec<u64>) -> BytesSink
+        ensures bytes { sink_bytes result ≡ [] }
+        ensures failing { plan_failing (sink_plan result) ≡ failing.items }
+        ensures calls { plan_calls (sink_plan result) ≡ 0 }
+        ensures faults { plan_faults (sink_plan result) ≡ 0 }
+    {
+        BytesSink {
+            bytes: Vec::new(alloc),
+            plan: FaultPlan::new(failing),
+        }
+    }
+
+    /// What was written.
+    pub fn bytes(&self) -> &[u8]
+        ensures { result.now ≡ sink_bytes self.now }
+    {
+        self.bytes.as_slice()
+    }
+}
+
+impl Sink for BytesSink {
+    ghost count = { λ s. plan_faults (sink_plan s) };
+
+    ghost written = { λ s. Some (sink_bytes s) };
+
+    fn faults(&self) -> u64 {
+        self.plan.faults()
+    }
+
+    fn write(&mut self, bytes: &[u8]) -> Result<usize, Failed>
+        ensures cause { HasCause (plan_faults (sink_plan self.old)) (plan_faults (sink_plan self.new)) result }
+        ensures bound { IfOk result (λ n. n ≤ length bytes.now) }
+        ensures some { 0 < length bytes.now → IfOk result (λ n. 0 < n) }
+        ensures bytes { WriteAppends (Some (sink_bytes self.old)) (Some (sink_bytes self.new)) result bytes.now }
+        ensures tells { StillTells (Some (sink_bytes self.old)) (Some (sink_bytes self.new)) }
+        ensures whole { IfOk result (λ n. n ≡ length bytes.now) }
+        ensures fails { FailsNext (sink_plan self.old) → IsErr result }
+        ensures failing { plan_failing (sink_plan self.new) ≡ plan_failing (sink_plan self.old) }
+        ensures calls { plan_calls (sink_plan self.new) ≡ number_after (plan_calls (sink_plan self.old)) }
+    {
+        let planned = self.plan.fails_next();
+        if planned || self.bytes.extend_from_slice(bytes).is_err() {
+            self.plan.add_fault();
+            return Err(Failed);
+        }
+        Ok(bytes.len())
+    }
+}

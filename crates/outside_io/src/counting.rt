@@ -1,0 +1,21 @@
+// A call of the standard library, whose failure is a fault.
+ghost use Rattle.std.specs.Prelude.{◌≡◌};
+ghost use Rattle.std.specs.Result.{result_ok};
+ghost use Rattle.outside_io.specs.Disks.{HasDiskCause};
+
+use crate::Failed;
+use std::io;
+
+// The same result, and one more fault where it is a failure. The count stands still at its type's end.
+pub(crate) fn counted<T>(done: io::Result<T>, faults: &mut u64) -> Result<T, Failed>
+    ensures value { result_ok result ≡ result_ok done }
+    ensures cause { HasDiskCause faults.old faults.new result }
+{
+    match done {
+        Ok(value) => Ok(value),
+        Err(_) => {
+            *faults = faults.saturating_add(1);
+            Err(Failed)
+        }
+    }
+}

@@ -1,0 +1,36 @@
+//! The devices of the program: streams, files and disks as traits with a count of faults, in memory and real.
+#![tactic(auto)]
+
+mod bytes_in;
+mod bytes_out;
+mod counting;
+mod disks;
+mod failures;
+mod fault_plan;
+mod file_disk;
+mod folder_shelf;
+mod gates;
+mod map_shelf;
+mod reading;
+mod real_streams;
+mod shelves;
+mod step_count;
+mod writing;
+
+pub use bytes_in::BytesSource;
+pub use bytes_out::BytesSink;
+pub use disks::Disk;
+pub use failures::{Failed, FetchFault, ReadAllFault, WriteFault};
+pub use fault_plan::FaultPlan;
+pub use file_disk::FileDisk;
+pub use folder_shelf::FolderShelf;
+pub use gates::{Gate, OpenGate};
+pub use map_shelf::MapShelf;
+pub use reading::{Source, read_all, read_all_counted};
+pub use real_streams::{StdSink, StdSource};
+pub use shelves::{SHELF_LIMIT, Shelf};
+pub use step_count::Steps;
+pub use writing::{Sink, write_all};
+
+#[cfg(test)]
+mod tests;

@@ -1,0 +1,126 @@
+// Input: a source gives its bytes in pieces, and `read_all` puts them together.
+ghost use Rattle.std.specs.Prelude.{◌≡◌, ℕ, ◌+◌, ◌<◌, ◌≤◌, Option, List, length, vec_len, IfOk, OnOk, IfSome, IsErrOf};
+ghost use Rattle.std.specs.Io.KnownBytes.{ReadConsumes, IsAtEnd};
+ghost use Rattle.outside_io.specs.Faults.{Rose, HasCause};
+ghost use Rattle.outside_io.specs.Streams.{StillTells};
+ghost use Rattle.outside_io.specs.declared.failures.ReadAllFault.TheVariants.{ReadFault, TooLong};
+
+use crate::{Failed, ReadAllFault, Steps};
+use std::alloc::Global;
+use std::marker::Brand;
+use std::sync::ledger::{Blank, Ledger};
+
+/// The bytes that one read asks for.
+const PIECE: usize = 65_536;
+
+/// Gives bytes in pieces. Its count of faults never falls.
+pub trait Source {
+    /// How many faults it has had.
+    ghost count: { Self → ℕ };
+
+    /// The bytes that are left, where it tells them.
+    ghost left: { Self → Option (List ℕ) };
+
+    /// How many faults it has had. The count stands still at its type's end.
+    fn faults(&self) -> u64
+        ensures { result ≡ count self.now };
+
+    /// Puts bytes into the front of the buffer and answers how many. None into a buffer that isn't empty
+    /// is the end.
+    fn read(&mut self, buf: &mut [u8]) -> Result<usize, Failed>
+        ensures cause { HasCause (count self.old) (count self.new) result }
+        ensures bound { IfOk result (λ n. n ≤ length buf.new) }
+        ensures bytes { ReadConsumes (left self.old) (left self.new) result buf.new }
+        ensures tells { StillTells (left self.old) (left self.new) };
+}
+
+/// The bytes of the source up to its end, of which there may be at most `limit`.
+pub fn read_all<S: Source>(
+    alloc: Global,
+    source: &mut S,
+    limit: u32,
+) -> Result<Vec<u8>, ReadAllFault>
+    ensures whole { IfOk result (λ bytes. IfSome (S.left source.old) (λ told. bytes.items ≡ told)) }
+    ensures end { OnOk result (IsAtEnd (S.left source.new)) }
+    ensures within { IfOk result (λ bytes. vec_len bytes ≤ limit) }
+    ensures too_long { IsErrOf result ReadAllFault.TooLong → IfSome (S.left source.old) (λ told. limit < length told) }
+    ensures fault { IsErrOf result ReadAllFault.ReadFault → Rose (S.count source.old) (S.count source.new) }
+    ensures later { S.count source.old ≤ S.count source.new }
+    ensures tells { StillTells (S.left source.old) (S.left source.new) }
+{
+    read_all_from::<S, Brand>(alloc, source, limit, Blank::new(1))
+}
+
+// The same with a ledger that the blank becomes.
+fn read_all_from<S: Source, L: Ledger>(
+    alloc: Global,
+    source: &mut S,
+    limit: u32,
+    blank: Blank,
+) -> Result<Vec<u8>, ReadAllFault>
+    requires name { blank.name ≡ L.name }
+    requires parts { blank.parts ≡ L.parts }
+    requires some { 0 < L.parts }
+    ensures whole { IfOk result (λ bytes. IfSome (S.left source.old) (λ told. bytes.items ≡ told)) }
+    ensures end { OnOk result (IsAtEnd (S.left source.new)) }
+    ensures within { IfOk result (λ bytes. vec_len bytes ≤ limit) }
+    ensures too_long { IsErrOf result ReadAllFault.TooLong → IfSome (S.left source.old) (λ told. limit < length told) }
+    ensures fault { IsErrOf result ReadAllFault.ReadFault → Rose (S.count source.old) (S.count source.new) }
+    ensures later { S.count source.old ≤ S.count source.new }
+    ensures tells { StillTells (S.left source.old) (S.left source.new) }
+{
+    let mut steps: Steps<L> = Steps::open(blank);
+    read_all_counted(alloc, source, limit, &mut steps)
+}
+
+/// Does what `read_all` does and counts its turns, one for each read. There are at most `limit + 1`, whatever
+/// the source gives.
+pub fn read_all_counted<S: Source, L: Ledger>(
+    alloc: Global,
+    source: &mut S,
+    limit: u32,
+    steps: &mut Steps<L>,
+) -> Result<Vec<u8>, ReadAllFault>
+    ensures whole { IfOk result (λ bytes. IfSome (S.left source.old) (λ told. bytes.items ≡ told)) }
+    ensures end { OnOk result (IsAtEnd (S.left source.new)) }
+    ensures within { IfOk result (λ bytes. vec_len bytes ≤ limit) }
+    ensures too_long { IsErrOf result ReadAllFault.TooLong → IfSome (S.left source.old) (λ told. limit < length told) }
+    ensures fault { IsErrOf result ReadAllFault.ReadFault → Rose (S.count source.old) (S.count source.new) }
+    ensures later { S.count source.old ≤ S.count source.new }
+    ensures tells { StillTells (S.left source.old) (S.left source.new) }
+    ensures turns { steps.new ≤ steps.old + (limit + 1) }
+{
+    let room = limit as usize;
+    let mut bytes = Vec::new(alloc);
+    let mut piece = [0; PIECE];
+    loop {
+        let n = turn(source, &mut piece, steps)?;
+        if n == 0 {
+            return Ok(bytes);
+        }
+        if n > room - bytes.len() {
+            return Err(ReadAllFault::TooLong);
+        }
+        if bytes.extend_from_slice(&piece[..n]).is_err() {
+            return Err(ReadAllFault::NoMemory);
+        }
+    }
+}
+
+// One read, which is one step. It is the only reader of the source.
+fn turn<S: Source, L: Ledger>(
+    source: &mut S,
+    piece: &mut [u8],
+    steps: &mut Steps<L>,
+) -> Result<usize, ReadAllFault>
+    ensures fault { IsErrOf result ReadAllFault.ReadFault → Rose (S.count source.old) (S.count source.new) }
+    ensures only { IsErrOf result ReadAllFault.TooLong → ⊥ }
+    ensures later { S.count source.old ≤ S.count source.new }
+    ensures bound { IfOk result (λ n. n ≤ length piece.new) }
+    ensures bytes { ReadConsumes (S.left source.old) (S.left source.new) result piece.new }
+    ensures tells { StillTells (S.left source.old) (S.left source.new) }
+    ensures step { steps.new ≡ steps.old + 1 }
+{
+    steps.tick();
+    source.read(piece).map_err(|_| ReadAllFault::ReadFault)
+}

@@ -1,0 +1,32 @@
+// A shelf of files, each fetched whole by its name.
+ghost use Rattle.std.specs.Prelude.{◌≡◌, ℕ, ◌<◌, ◌≤◌, Option, None, Some, List, length, vec_len, IfOk, OnOk, OnErr, IfSome, IsSomeAnd, IsErrOf};
+ghost use Rattle.outside_io.specs.Faults.{Rose};
+
+use crate::FetchFault;
+use std::alloc::Global;
+
+/// The bytes that a file on the shelf may have.
+pub const SHELF_LIMIT: u32 = 4_194_304;
+
+/// Fetches files by name. Its count of faults never falls, and fetching changes no file.
+pub trait Shelf {
+    /// How many faults it has had.
+    ghost count: { Self → ℕ };
+
+    /// The bytes at each name, where it tells them.
+    ghost files: { Self → Option (List ℕ → Option (List ℕ)) };
+
+    /// How many faults it has had. The count stands still at its type's end.
+    fn faults(&self) -> u64
+        ensures { result ≡ count self.now };
+
+    /// The bytes of the file with this name, of which there may be at most 4 MiB.
+    fn fetch(&mut self, alloc: Global, name: &str) -> Result<Vec<u8>, FetchFault>
+        ensures found { IfSome (files self.old) (λ at. IfOk result (λ bytes. at name.now ≡ Some bytes.items)) }
+        ensures within { IfOk result (λ bytes. vec_len bytes ≤ SHELF_LIMIT) }
+        ensures absent { IsErrOf result FetchFault.Absent → IfSome (files self.old) (λ at. at name.now ≡ None) }
+        ensures too_long { IsErrOf result FetchFault.TooLong → IfSome (files self.old) (λ at. IsSomeAnd (at name.now) (λ bytes. SHELF_LIMIT < length bytes)) }
+        ensures failed { IsErrOf result FetchFault.Failed → Rose (count self.old) (count self.new) }
+        ensures later { count self.old ≤ count self.new }
+        ensures stays { files self.new ≡ files self.old };
+}

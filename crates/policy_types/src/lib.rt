@@ -1,0 +1,20 @@
+//! The shared language of the back office: commands, policies, refusals, turns of the history, script lines and
+//! the trait of the auditors.
+#![tactic(auto)]
+
+mod command;
+mod entry;
+mod policy;
+mod refusal;
+mod script;
+mod watcher;
+
+pub use command::{
+    Command, END_AGE, FIRST_DAY, LAST_DAY, LAST_ISSUE_AGE, MOST_CENTS, MOST_REINSTATEMENT_CENTS,
+    Plan,
+};
+pub use entry::{At, Call, Entry, PinRefusal, Reply, Slice};
+pub use policy::{Policy, Status};
+pub use refusal::Refusal;
+pub use script::{Lane, Line, Lines, Script};
+pub use watcher::{Attention, NoMemory, Report, Watcher};

@@ -1,0 +1,63 @@
+ghost use Rattle.std.specs.Prelude.{◌≡◌, ℕ, ◌<◌, ◌≤◌, ◌+◌, ◌++◌, ◌∷◌, ◌↔◌, [], List, Bool, length, IsTrue, OnOk, OnErr};
+ghost use Rattle.policy_types.specs.declared.command.Command.{Command as ACommand};
+ghost use Rattle.policy_types.specs.Valid.{IsValid};
+
+use crate::command::Command;
+
+/// Memory was refused.
+#[derive(Clone, Copy, PartialEq, Eq, Debug)]
+pub struct NoMemory;
+
+/// What an auditor has to say at the end.
+#[derive(Clone, Copy, PartialEq, Eq, Debug)]
+pub struct Report {
+    /// How many commands were noted.
+    pub seen: u32,
+    /// A number of the auditor's own.
+    pub tally: u64,
+}
+
+/// Whether an auditor goes on.
+#[derive(Clone, Copy, PartialEq, Eq, Debug)]
+pub enum Attention {
+    More,
+    Done,
+}
+
+/// An auditor, who is told of each accepted command.
+pub trait Watcher: Drop {
+    /// The commands noted so far, in order.
+    ghost noted: { Self → List ACommand };
+
+    /// How many further commands can be noted without memory.
+    ghost spare: { Self → ℕ };
+
+    /// Of which lists it says that it is done.
+    ghost stops: { Self → List ACommand → Bool };
+
+    /// Its own number of a list.
+    ghost number: { Self → List ACommand → ℕ };
+
+    /// Makes room for one command. For want of memory all stays.
+    fn ready(&mut self) -> Result<(), NoMemory>
+        ensures noted { noted self.new ≡ noted self.old }
+        ensures ok { OnOk result (1 ≤ spare self.new) }
+        ensures err { OnErr result (spare self.new ≡ spare self.old) }
+        ensures stops { (h : List ACommand) → stops self.new h ≡ stops self.old h }
+        ensures number { (h : List ACommand) → number self.new h ≡ number self.old h };
+
+    /// Notes the command at this position of the accepted list. It takes no memory.
+    fn note(&mut self, position: u32, command: &Command) -> Attention
+        requires room { 1 ≤ spare self.old }
+        requires valid { IsValid command.now }
+        requires few { length (noted self.old) < 4000000 }
+        ensures noted { noted self.new ≡ noted self.old ++ command.now ∷ [] }
+        ensures done { (result ≡ Attention.Done) ↔ IsTrue (stops self.old (noted self.new)) }
+        ensures stops { (h : List ACommand) → stops self.new h ≡ stops self.old h }
+        ensures number { (h : List ACommand) → number self.new h ≡ number self.old h };
+
+    /// The length of its list, and its number of it.
+    fn report(&self) -> Report
+        ensures seen { result.seen ≡ length (noted self.now) }
+        ensures tally { result.tally ≡ number self.now (noted self.now) };
+}

@@ -1,0 +1,10 @@
+/// Why a list of rates is no table. The first that applies is the answer.
+#[derive(Clone, Copy, PartialEq, Eq, Debug)]
+pub enum RatesFault {
+    /// There is no rate.
+    Empty,
+    /// The last age would be above 130.
+    PastAge130,
+    /// The rate at this age, the first such, is above 1.
+    RateAboveOne(u8),
+}
