@@ -7,3 +7,5 @@ pub mod Stack
 pub mod PieceReading
 pub mod Walking
 pub mod Searching
+pub mod RowRuns
+pub mod LexAgain

@@ -6,3 +6,5 @@ pub mod Tokens
 pub mod Walk
 pub mod Elements
 pub mod Views
+pub mod Checks
+pub mod Rows

@@ -1,4 +1,4 @@
-ghost use Rattle.std.specs.Prelude.{◌≡◌, ◌≤◌, [], ◌∷◌, length, MatchOption};
+ghost use Rattle.std.specs.Prelude.{◌≡◌, ◌≤◌, [], ◌∷◌, length, MatchOption, IfSome, ◌-◌, ◌<◌, ◌^◌};
 ghost use Rattle.std.specs.Option.{option_copied};
 ghost use Rattle.xtbml_subset.specs.Elements.{children_at, siblings_at, value_of, text_at};
 ghost use Rattle.xtbml_subset.specs.Views.{found_of};
@@ -6,20 +6,8 @@ ghost use Rattle.xtbml_subset.specs.Views.{found_of};
 use crate::attribute::attribute_value;
 use crate::class::Class;
 use crate::finder::next_element;
+use crate::found::Element;
 use crate::text::{after_byte, split};
-use crate::token::Tag;
-
-/// An element of a document.
-#[derive(Clone, Copy)]
-pub struct Element<'a> {
-    /// From its `<` to the end of the file.
-    pub from: &'a [u8],
-    pub tag: Tag<'a>,
-    /// Whether content and an end tag follow the tag.
-    pub is_open: bool,
-    /// The bytes behind the tag.
-    pub rest: &'a [u8],
-}
 
 impl<'a> Element<'a> {
     /// The first element of this name in the content.
@@ -33,7 +21,8 @@ impl<'a> Element<'a> {
 
     /// The next element of this name behind this one, with the same parent.
     pub fn next_sibling(&self, name: &[u8]) -> Option<Element<'a>>
-        ensures { MatchOption result
+        ensures shorter { IfSome result (λ e. length e.rest.now < length self.now.rest.now) }
+        ensures siblings { MatchOption result
             (siblings_at name.now (found_of self.now) ≡ [])
             (λ e. siblings_at name.now (found_of self.now) ≡ found_of e ∷ siblings_at name.now (found_of e)) }
     {
@@ -51,6 +40,7 @@ impl<'a> Element<'a> {
     #[tactic(auto, unfolding(crate::specs::Elements::text_at))]
     pub fn text(&self) -> Option<&'a [u8]>
         ensures text { option_copied result ≡ text_at (found_of self.now) }
+        ensures short { IfSome result (λ text. length text.now ≤ 4194304) }
     {
         if !self.is_open {
             return Some(b"");
@@ -58,5 +48,12 @@ impl<'a> Element<'a> {
         let (text, rest) = split(self.rest, Class::Text);
         after_byte(after_byte(rest, 60)?, 47)?;
         Some(text)
+    }
+
+    /// The place of its `<` in a file of so many bytes.
+    pub fn place(&self, total: u32) -> u32
+        ensures { result ≡ total - length (found_of self.now).from }
+    {
+        (total as usize).saturating_sub(self.from.len()) as u32
     }
 }

@@ -1,10 +1,10 @@
-ghost use Rattle.std.specs.Prelude.{◌≡◌, ◌≤◌, ◌<◌, ◌+◌, ◌^◌, [], ◌∷◌, length, MatchOption};
+ghost use Rattle.std.specs.Prelude.{◌≡◌, ◌≤◌, ◌<◌, ◌+◌, ◌^◌, [], ◌∷◌, length, MatchOption, IfSome};
 ghost use Rattle.std.specs.Option.{option_copied};
 ghost use Rattle.xtbml_subset.specs.Elements.{is_wanted, is_hit, step_of, elements_at, depth_in};
 ghost use Rattle.xtbml_subset.specs.Tokens.{piece_of, tag_of};
 ghost use Rattle.xtbml_subset.specs.Views.{found_of, step_seen};
 
-use crate::element::Element;
+use crate::found::Element;
 use crate::token::{Tag, Token, next_token};
 
 /// Where a piece leads in a search for elements.
@@ -51,8 +51,10 @@ fn look<'a>(token: Token<'a>, depth: usize, wanted: Option<&[u8]>) -> Seen<'a>
 
 /// The first element that is wanted, of a level that lies `depth` levels above the first byte.
 pub fn next_element<'a>(bytes: &'a [u8], depth: usize, wanted: Option<&[u8]>) -> Option<Element<'a>>
-    requires { depth ≤ 1 }
-    ensures { MatchOption result
+    requires level { depth ≤ 1 }
+    requires short { length bytes.now ≤ 4194304 }
+    ensures shorter { IfSome result (λ e. length e.rest.now < length bytes.now) }
+    ensures elements { MatchOption result
         (elements_at depth (option_copied wanted.entry) bytes.now ≡ [])
         (λ e. elements_at depth (option_copied wanted.entry) bytes.now
             ≡ found_of e ∷ elements_at (depth_in e.is_open) (option_copied wanted.entry) e.rest.now) }

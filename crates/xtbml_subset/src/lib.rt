@@ -4,9 +4,14 @@
 mod attribute;
 mod class;
 mod element;
+mod fault;
 mod finder;
+mod found;
 mod nesting;
+mod row;
 mod state;
 mod text;
 mod token;
 
+
+pub use fault::{TableFault, TableKind};

@@ -1,5 +1,6 @@
-ghost use Rattle.std.specs.Prelude.{◌≡◌, ◌≤◌, length};
+ghost use Rattle.std.specs.Prelude.{◌≡◌, ◌≤◌, ◌+◌, length};
 ghost use Rattle.std.specs.Option.{option_map, option_copied};
+ghost use Rattle.xtbml_subset.specs.Elements.{without_end, trimmed};
 ghost use Rattle.xtbml_subset.specs.Reading.{front, after, byte_at, spaces_at, name_at};
 
 use crate::class::{Class, is_in, starts_name};
@@ -8,6 +9,7 @@ use crate::class::{Class, is_in, starts_name};
 pub fn split(bytes: &[u8], class: Class) -> (&[u8], &[u8])
     ensures front { result.0.now ≡ front class bytes.now }
     ensures after { result.1.now ≡ after class bytes.now }
+    ensures length { length result.0.now + length result.1.now ≡ length bytes.now }
 {
     let mut count = 0;
     while count < bytes.len() && is_in(class, bytes[count]) {
@@ -18,7 +20,8 @@ pub fn split(bytes: &[u8], class: Class) -> (&[u8], &[u8])
 
 /// The bytes after the front bytes of the class.
 pub fn skip(bytes: &[u8], class: Class) -> &[u8]
-    ensures { result.now ≡ after class bytes.now }
+    ensures after { result.now ≡ after class bytes.now }
+    ensures shorter { length result.now ≤ length bytes.now }
 {
     split(bytes, class).1
 }
@@ -53,4 +56,28 @@ pub fn name(bytes: &[u8]) -> Option<(&[u8], &[u8])>
         [first, ..] if starts_name(*first) => Some(split(bytes, Class::Name)),
         _ => None,
     }
+}
+
+/// The bytes without white space at their end.
+fn without_end(bytes: &[u8]) -> &[u8]
+    ensures kept { result.now ≡ without_end bytes.now }
+    ensures shorter { length result.now ≤ length bytes.now }
+{
+    let mut rest = bytes;
+    while let [front @ .., last] = rest {
+        if !is_in(Class::White, *last) {
+            break;
+        }
+        rest = front;
+    }
+    rest
+}
+
+/// The bytes without white space at both ends.
+#[tactic(auto, unfolding(crate::specs::Elements::trimmed))]
+pub fn trim(bytes: &[u8]) -> &[u8]
+    ensures kept { result.now ≡ trimmed bytes.now }
+    ensures shorter { length result.now ≤ length bytes.now }
+{
+    without_end(skip(bytes, Class::White))
 }

@@ -15,14 +15,14 @@ look-requires c =
     let low : c.loop-token.below + length c.loop-token.rest.now ≤ 1 + length c.args.bytes.now = c.loop-token.invariant.low in
     omega arith
 
-pub returns-in-Wanted : goal.returns-in-Wanted
-returns-in-Wanted c =
+pub returns-in-Wanted-clause-elements : goal.returns-in-Wanted-clause-elements
+returns-in-Wanted-clause-elements c =
     let step : Step = found (tag_of c.in-Wanted.tag) c.in-Wanted.is_open in
     sym c.loop-token.invariant.same
     ∙ elements_by c.loop-token.rest.now (piece_of c.in-Some.token) c.in-Some.after.now c.loop-token.below (option_copied c.args.wanted) step (sym c.in-Some.ensures) c.in-Wanted.ensures
 
-pub returns-in-Closed : goal.returns-in-Closed
-returns-in-Closed c =
+pub returns-in-Closed-clause-elements : goal.returns-in-Closed-clause-elements
+returns-in-Closed-clause-elements c =
     sym c.loop-token.invariant.same
     ∙ elements_by c.loop-token.rest.now (piece_of c.in-Some.token) c.in-Some.after.now c.loop-token.below (option_copied c.args.wanted) closed (sym c.in-Some.ensures) c.in-Closed.ensures
 
@@ -38,11 +38,28 @@ loop-token-preserved c =
     let wanted = option_copied c.args.wanted in
     let shorter : length after < length rest = behind_shorter rest after (piece_behind rest piece after (sym c.in-Some.ensures)) in
     let low : c.loop-token.below + length rest ≤ 1 + length c.args.bytes.now = c.loop-token.invariant.low in
+    let within : length rest ≤ length c.args.bytes.now = c.loop-token.invariant.within in
     let deeper : c.in-On.depth ≤ c.loop-token.below + 1 = step_low c.loop-token.below wanted piece c.in-On.depth c.in-On.ensures in
     record {
       same = sym (elements_by rest piece after c.loop-token.below wanted (on c.in-On.depth) (sym c.in-Some.ensures) c.in-On.ensures) ∙ c.loop-token.invariant.same;
+      within = omega arith;
       low = omega arith;
     }
 
-pub returns : goal.returns
-returns c = sym c.loop-token.invariant.same ∙ elements_end c.loop-token.rest.now c.loop-token.below (option_copied c.args.wanted) (sym c.in_default.ensures)
+pub returns-clause-elements : goal.returns-clause-elements
+returns-clause-elements c = sym c.loop-token.invariant.same ∙ elements_end c.loop-token.rest.now c.loop-token.below (option_copied c.args.wanted) (sym c.in_default.ensures)
+
+pub invariant_of-result : goal.invariant_of-result
+invariant_of-result c =
+    let rest = c.loop-token.rest.now in
+    let shorter : length c.in-Some.after.now < length rest = behind_shorter rest c.in-Some.after.now (piece_behind rest (piece_of c.in-Some.token) c.in-Some.after.now (sym c.in-Some.ensures)) in
+    let within : length rest ≤ length c.args.bytes.now = c.loop-token.invariant.within in
+    let short : length c.args.bytes.now ≤ 4194304 = c.requires.short in
+    record { small = omega arith }
+
+pub returns-in-Wanted-clause-shorter : goal.returns-in-Wanted-clause-shorter
+returns-in-Wanted-clause-shorter c =
+    let rest = c.loop-token.rest.now in
+    let shorter : length c.in-Some.after.now < length rest = behind_shorter rest c.in-Some.after.now (piece_behind rest (piece_of c.in-Some.token) c.in-Some.after.now (sym c.in-Some.ensures)) in
+    let within : length rest ≤ length c.args.bytes.now = c.loop-token.invariant.within in
+    omega arith
