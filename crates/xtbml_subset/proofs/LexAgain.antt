@@ -45,7 +45,7 @@ white_cases b h =
     ]
 
 -- what a test says of each byte of white space it says of all
-at_white : (test : ℕ → Bool) → test 9 ≡ false → test 10 ≡ false → test 13 ≡ false → test 32 ≡ false → (b : ℕ) → is_in White b ≡ true → test b ≡ false
+pub at_white : (test : ℕ → Bool) → test 9 ≡ false → test 10 ≡ false → test 13 ≡ false → test 32 ≡ false → (b : ℕ) → is_in White b ≡ true → test b ≡ false
 at_white test h9 h10 h13 h32 b h =
     elim (white_cases b h) [
       | inl e ↦ ap test e ∙ h9
@@ -98,10 +98,9 @@ unfolding name_at
 name_again [] rest h stops = absurd h
 name_again (b ∷ name) rest h stops =
     let first = h.0 in
-    let in_name = starts_in b first in
     let front_is = front_again Name name rest h.1 stops in
     let after_is = after_again Name name rest h.1 stops in
-    rw (first, in_name, front_is, after_is) refl
+    rw (first, front_is, after_is) refl
 
 closed_again : (quote : ℕ) (class : Class) (value rest : List ℕ) → InClass class value → is_in class quote ≡ false
     → closed_at quote class (value ++ quote ∷ rest) ≡ Some (value, rest)

@@ -9,3 +9,5 @@ pub mod Walking
 pub mod Searching
 pub mod RowRuns
 pub mod LexAgain
+pub mod PieceAgain
+pub mod Accepting

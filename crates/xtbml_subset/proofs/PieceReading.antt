@@ -19,7 +19,7 @@ pub record TakesPiece (bytes : List ℕ) (piece : Piece) (rest : List ℕ) : Typ
 
 -- ---- comments
 
-dashes_take : (bytes rest : List ℕ) → dashes_at bytes ≡ Some rest → bytes ≡ 45 ∷ 45 ∷ 62 ∷ rest
+pub dashes_take : (bytes rest : List ℕ) → dashes_at bytes ≡ Some rest → bytes ≡ 45 ∷ 45 ∷ 62 ∷ rest
 dashes_take bytes rest e =
     let b = bind_some (byte_at 45 bytes >>= (λ more. byte_at 45 more)) (λ more. byte_at 62 more) rest e in
     let a = bind_some (byte_at 45 bytes) (λ more. byte_at 45 more) b.0 b.1 in

@@ -8,3 +8,5 @@ pub mod Elements
 pub mod Views
 pub mod Checks
 pub mod Rows
+pub mod Documents
+pub mod Answers

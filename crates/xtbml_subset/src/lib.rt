@@ -10,6 +10,7 @@ mod found;
 mod nesting;
 mod row;
 mod state;
+mod table;
 mod text;
 mod token;
 
