@@ -11,3 +11,6 @@ pub mod RowRuns
 pub mod LexAgain
 pub mod PieceAgain
 pub mod Accepting
+pub mod Scales
+pub mod TableRates
+pub mod Building

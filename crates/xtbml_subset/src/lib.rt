@@ -8,6 +8,7 @@ mod fault;
 mod finder;
 mod found;
 mod nesting;
+mod reader;
 mod row;
 mod state;
 mod table;
@@ -16,3 +17,4 @@ mod token;
 
 
 pub use fault::{TableFault, TableKind};
+pub use reader::read_table;

@@ -1,4 +1,4 @@
-ghost use Rattle.std.specs.Prelude.{◌≡◌, ◌≤◌, ◌<◌, ◌-◌, ℕ, [], ◌∷◌, length, map, MatchBool};
+ghost use Rattle.std.specs.Prelude.{◌≡◌, ◌≤◌, ◌<◌, ◌-◌, ℕ, [], ◌∷◌, length, map, MatchBool, IfSome};
 ghost use Rattle.std.specs.Option.{option_map, option_copied};
 ghost use Rattle.xtbml_subset.specs.Nesting.{State, after_piece, after_outside, outside, past};
 ghost use Rattle.xtbml_subset.specs.Pieces.{Tag, start, whole, finish, declaration};
@@ -185,7 +185,8 @@ fn after_mark(bytes: &[u8]) -> &[u8]
 /// The answer where the pieces end.
 fn place_at_end(bytes: &[u8], rest: &[u8], nesting: &Nesting) -> Option<usize>
     requires { length rest.now ≤ length bytes.now }
-    ensures { result ≡ fault_place (length bytes.now) (state_of nesting.now, rest.now) }
+    ensures within { IfSome result (λ at. at ≤ length bytes.now) }
+    ensures fault { result ≡ fault_place (length bytes.now) (state_of nesting.now, rest.now) }
 {
     match rest {
         [] => if nesting.is_ended() { None } else { Some(bytes.len()) },
@@ -196,7 +197,8 @@ fn place_at_end(bytes: &[u8], rest: &[u8], nesting: &Nesting) -> Option<usize>
 /// The place up to which the pieces nest, or `None` where the bytes are a document.
 #[tactic(auto, unfolding(crate::specs::Walk::fault_at))]
 pub fn place_of_fault(bytes: &[u8]) -> Option<usize>
-    ensures { result ≡ fault_at bytes.now }
+    ensures fault { result ≡ fault_at bytes.now }
+    ensures within { IfSome result (λ at. at ≤ length bytes.now) }
 {
     let mut nesting = Nesting::new(bytes);
     let mut rest = after_mark(bytes);

@@ -1,8 +1,8 @@
-ghost use Rattle.std.specs.Prelude.{◌≡◌, ℕ, ◌≤◌, length, IfOk, IfErr, MatchResult, MatchBool, Ok, Err, codes};
+ghost use Rattle.std.specs.Prelude.{◌≡◌, ◌==◌, ◌||◌, ℕ, ◌≤◌, OnOk, length, IfOk, IfErr, MatchResult, MatchBool, Ok, Err, codes};
 ghost use Rattle.std.specs.Option.{option_copied, ForSome};
-ghost use Rattle.xtbml_subset.specs.Checks.{within, path, rates_of, factor_of, option_row, parts_of, IsUnscaled, IsScale, IsTable};
+ghost use Rattle.xtbml_subset.specs.Checks.{within, path, rates_of, factor_of, option_row, parts_of, IsUnscaled, IsScale, IsScaledTable, IsTable};
 ghost use Rattle.xtbml_subset.specs.Elements.{children_at};
-ghost use Rattle.xtbml_subset.specs.Rows.{found_asks, Unless};
+ghost use Rattle.xtbml_subset.specs.Rows.{found_asks, rows_at, Unless};
 ghost use Rattle.xtbml_subset.specs.Views.{found_of, found_result, found_pair};
 
 use crate::class::Class;
@@ -41,7 +41,8 @@ fn path<'a>(root: &Element<'a>, total: u32) -> Result<(Element<'a>, Element<'a>)
 /// Whether an axis has rates of its own.
 #[tactic(auto, unfolding(crate::specs::Checks::rates_of))]
 fn check_axis(axis: &Element<'_>, total: u32) -> Result<(), TableFault>
-    ensures { MatchResult result
+    ensures some { OnOk result (1 ≤ length (children_at (codes "Y") (found_of axis.now))) }
+    ensures rates { MatchResult result
         (λ _. rates_of (found_asks total) (found_of axis.now) ≡ Ok (children_at (codes "Y") (found_of axis.now)))
         (λ fault. rates_of (found_asks total) (found_of axis.now) ≡ Err fault) }
 {
@@ -66,10 +67,15 @@ fn is_unscaled(text: Option<&[u8]>) -> bool
         return true;
     }
     match rate_in(Some(content)) {
-        Some(0) => true,
-        Some(1_000_000_000) => true,
-        _ => false,
+        Some(rate) => is_unit(rate),
+        None => false,
     }
+}
+
+fn is_unit(rate: u32) -> bool
+    ensures { result ≡ (rate == 0 || rate == 1000000000) }
+{
+    rate == 0 || rate == 1_000_000_000
 }
 
 /// Whether the factor of a table leaves its rates as they are.
@@ -91,7 +97,11 @@ fn check_scale(table: &Element<'_>, total: u32) -> Result<(), TableFault>
 }
 
 /// The rates of an axis as a table.
-fn rates_table(alloc: Global, axis: &Element<'_>, total: u32) -> Result<RateTable, TableFault> {
+fn rates_table(alloc: Global, axis: &Element<'_>, total: u32) -> Result<RateTable, TableFault>
+    requires { 1 ≤ length (children_at (codes "Y") (found_of axis.now)) }
+    ensures read { IfOk result (λ table. IsScaledTable (rows_at total (found_of axis.now)) (Ok tt) (Ok table)) }
+    ensures fault { IfErr result (λ fault. Unless fault (IsScaledTable (rows_at total (found_of axis.now)) (Ok tt) (Err fault))) }
+{
     let rates = read_rows(alloc, axis, total)?;
     match RateTable::new(first_age(axis), rates) {
         Ok(table) => Ok(table),

@@ -8,9 +8,9 @@ use Rattle.xtbml_subset.proofs.PieceReading.{piece_behind}
 use Rattle.xtbml_subset.proofs.Walking.{walk_step, walk_stuck, walk_end, place_stuck}
 use Rattle.xtbml_subset.proofs.nesting.place_of_fault.Goals as goal
 
-pub returns-then-not-take : goal.returns-then-not-take
+pub returns-then-not-take-clause-fault : goal.returns-then-not-take-clause-fault
 unfolding fault_at
-returns-then-not-take c =
+returns-then-not-take-clause-fault c =
     let rest = c.loop-token.rest.now in
     let state = state_of c.loop-token.nesting in
     let total = length c.args.bytes.now in
@@ -36,11 +36,11 @@ loop-token-preserved c =
       within = omega arith;
     }
 
-pub returns : goal.returns
+pub returns-clause-fault : goal.returns-clause-fault
 unfolding fault_at
-returns c =
+returns-clause-fault c =
     let rest = c.loop-token.rest.now in
     let state = state_of c.loop-token.nesting in
     let total = length c.args.bytes.now in
     let end = walk_end rest state (sym c.in_default.ensures) in
-    c.place_at_end.ensures ∙ ap (fault_place total) (sym end ∙ c.loop-token.invariant.same_end)
+    c.place_at_end.ensures.fault ∙ ap (fault_place total) (sym end ∙ c.loop-token.invariant.same_end)
