@@ -194,18 +194,18 @@ unmarked_walk opening before text behind root at is_opening misc_before is_root 
 -- ---- EF BB BF
 
 -- the bytes don't begin with EF
-abbrev NoMark : List ℕ → Type 0
+abbrev pub NoMark : List ℕ → Type 0
 NoMark [] = Unit {0}
 NoMark (b ∷ rest) = eqb b 239 ≡ false
 
-no_mark_after : (bytes : List ℕ) → NoMark bytes → after_mark bytes ≡ bytes
+pub no_mark_after : (bytes : List ℕ) → NoMark bytes → after_mark bytes ≡ bytes
 no_mark_after [] h = refl
 no_mark_after (b ∷ rest) h = rw h refl
 
-white_no_mark : (b : ℕ) → is_in White b ≡ true → eqb b 239 ≡ false
+pub white_no_mark : (b : ℕ) → is_in White b ≡ true → eqb b 239 ≡ false
 white_no_mark b white = at_white (λ n. eqb n 239) refl refl refl refl b white
 
-begins_no_mark : (text more rest : List ℕ) → text ≡ 60 ∷ more → NoMark (text ++ rest)
+pub begins_no_mark : (text more rest : List ℕ) → text ≡ 60 ∷ more → NoMark (text ++ rest)
 begins_no_mark text more rest e = subst (λ (s : List ℕ). NoMark (s ++ rest)) (sym e) refl
 
 misc_no_mark : (pieces : List Piece) (bytes rest : List ℕ) → Spell pieces bytes → AreMisc pieces → NoMark rest → NoMark (bytes ++ rest)

@@ -14,3 +14,5 @@ pub mod Accepting
 pub mod Scales
 pub mod TableRates
 pub mod Building
+pub mod Sounding
+pub mod Matching

@@ -131,7 +131,7 @@ declaration_again space inside rest is_space declared =
 
 -- ---- all pieces
 
-not_start : (b n : ℕ) → starts_name b ≡ true → starts_name n ≡ false → eqb b n ≡ false
+pub not_start : (b n : ℕ) → starts_name b ≡ true → starts_name n ≡ false → eqb b n ≡ false
 not_start b n is other =
     elim (cases_Bool (eqb b n)) [
       | inl e ↦ absurd (true≢false (sym is ∙ ap starts_name (eqb-true b n e) ∙ other))
