@@ -16,3 +16,5 @@ pub mod TableRates
 pub mod Building
 pub mod Sounding
 pub mod Matching
+pub mod Judging
+pub mod Final
