@@ -1,5 +1,5 @@
 -- The walk goes through each document to its end.
-use Rattle.std.proofs.Common.{◌≡◌, ℕ, zero, suc, ◌+◌, ◌<◌, ◌≤◌, Bool, true, false, cond, eqb, ltb, List, [], ◌∷◌, ◌++◌, length, Option, Some, None, refl, sym, ap, subst, ◌∙◌, ◌⊎◌, inl, inr, append_assoc, arith}
+use Rattle.std.proofs.Common.{◌≡◌, ℕ, zero, suc, ◌+◌, ◌<◌, true, false, eqb, ltb, List, [], ◌∷◌, ◌++◌, length, Some, None, refl, sym, ap, subst, ◌∙◌, inl, inr, append_assoc, arith}
 use Rattle.std.proofs.lemmas.Bool.{lt-ltb}
 use Rattle.std.proofs.lemmas.List.{append-nil}
 use Rattle.std.proofs.lemmas.Slice.Eq.{bytes_eq-Decides}
@@ -9,8 +9,7 @@ use Rattle.xtbml_subset.specs.declared.state.Phase.{Phase}
 use Rattle.xtbml_subset.specs.declared.state.Phase.TheVariants.{Opening, Prolog, Epilog}
 use Rattle.xtbml_subset.specs.Classes.{is_in, InClass}
 use Rattle.xtbml_subset.specs.Pieces.{Tag, Piece, byte, comment, declaration, start, whole, finish, IsPiece}
-use Rattle.xtbml_subset.specs.Reading.{byte_at}
-use Rattle.xtbml_subset.specs.Nesting.{State, outside, past, after_piece, Spell, Nests, IsMark}
+use Rattle.xtbml_subset.specs.Nesting.{State, outside, past, after_piece, Spell, IsMark}
 use Rattle.xtbml_subset.specs.Walk.{walk_at, walk_from, after_mark, fault_place, fault_at}
 use Rattle.xtbml_subset.specs.Documents.{Content, nothing, letter, remark, element, IsElement, IsContent, AreMisc, IsMisc, IsOpening, Node, IsDocument}
 use Rattle.xtbml_subset.proofs.LexAgain.{at_white}
@@ -66,11 +65,11 @@ content_walk (suc levels) (element place tag inner more) at bytes rest name name
     let over : walk_at state (text ++ behind) ≡ walk_at state behind = elim is.3.1 [
       | inl w ↦ piece_walk (whole tag) text behind state state w.0 (whole_goes tag name names lt)
       | inr w ↦
-        let opened = inside_of tag.name (name ∷ names) in
-        ap (λ (s : List ℕ). walk_at state (s ++ behind)) w.3 ∙ ap (walk_at state) (three w.0 w.1 w.2 behind)
-        ∙ piece_walk (start tag) w.0 (w.1 ++ (w.2 ++ behind)) state opened w.4 (start_goes tag name names lt)
-        ∙ content_walk levels inner (at + length w.0) w.1 (w.2 ++ behind) tag.name (name ∷ names) w.5 deeper
-        ∙ piece_walk (finish tag.name) w.2 behind opened state w.6 (finish_goes tag.name (name ∷ names))
+          let opened = inside_of tag.name (name ∷ names) in
+          ap (λ (s : List ℕ). walk_at state (s ++ behind)) w.3 ∙ ap (walk_at state) (three w.0 w.1 w.2 behind)
+          ∙ piece_walk (start tag) w.0 (w.1 ++ (w.2 ++ behind)) state opened w.4 (start_goes tag name names lt)
+          ∙ content_walk levels inner (at + length w.0) w.1 (w.2 ++ behind) tag.name (name ∷ names) w.5 deeper
+          ∙ piece_walk (finish tag.name) w.2 behind opened state w.6 (finish_goes tag.name (name ∷ names))
     ] in
     ap (λ (s : List ℕ). walk_at state (s ++ rest)) is.2 ∙ ap (walk_at state) (append_assoc text is.1 rest)
     ∙ over
@@ -154,11 +153,11 @@ root_walk root at text rest phase is may =
     elim is.1 [
       | inl w ↦ piece_walk (whole root.tag) text rest (outside phase) (outside Epilog) w.0 (begin_whole phase root.tag may)
       | inr w ↦
-        let opened = inside_of root.tag.name [] in
-        ap (λ (s : List ℕ). walk_at (outside phase) (s ++ rest)) w.3 ∙ ap (walk_at (outside phase)) (three w.0 w.1 w.2 rest)
-        ∙ piece_walk (start root.tag) w.0 (w.1 ++ (w.2 ++ rest)) (outside phase) opened w.4 (begin_start phase root.tag may)
-        ∙ content_walk 63 root.inner (at + length w.0) w.1 (w.2 ++ rest) root.tag.name [] w.5 refl
-        ∙ piece_walk (finish root.tag.name) w.2 rest opened (outside Epilog) w.6 (finish_goes root.tag.name [])
+          let opened = inside_of root.tag.name [] in
+          ap (λ (s : List ℕ). walk_at (outside phase) (s ++ rest)) w.3 ∙ ap (walk_at (outside phase)) (three w.0 w.1 w.2 rest)
+          ∙ piece_walk (start root.tag) w.0 (w.1 ++ (w.2 ++ rest)) (outside phase) opened w.4 (begin_start phase root.tag may)
+          ∙ content_walk 63 root.inner (at + length w.0) w.1 (w.2 ++ rest) root.tag.name [] w.5 refl
+          ∙ piece_walk (finish root.tag.name) w.2 rest opened (outside Epilog) w.6 (finish_goes root.tag.name [])
     ]
 
 white_is_text : (b : ℕ) → is_in White b ≡ true → is_in Text b ≡ true
@@ -172,11 +171,13 @@ space_walk (b ∷ space) rest phase white =
 
 opening_walk : (opening rest : List ℕ) → IsOpening opening → (phase : Phase) × MayBegin phase × (walk_at (outside Opening) (opening ++ rest) ≡ walk_at (outside phase) rest)
 opening_walk opening rest (inl none) = (Opening, tt, ap (λ (s : List ℕ). walk_at (outside Opening) (s ++ rest)) none)
-opening_walk opening rest (inr h) =
-    (Prolog, tt,
-      ap (λ (s : List ℕ). walk_at (outside Opening) (s ++ rest)) h.2 ∙ ap (walk_at (outside Opening)) (append_assoc h.0 h.1 rest)
+opening_walk opening rest (inr h) = (
+  Prolog,
+  tt,
+  ap (λ (s : List ℕ). walk_at (outside Opening) (s ++ rest)) h.2 ∙ ap (walk_at (outside Opening)) (append_assoc h.0 h.1 rest)
       ∙ space_walk h.0 (h.1 ++ rest) Opening h.3
-      ∙ piece_walk declaration h.1 rest (outside Opening) (outside Prolog) h.4 refl)
+      ∙ piece_walk declaration h.1 rest (outside Opening) (outside Prolog) h.4 refl,
+)
 
 pub unmarked_walk : (opening before text behind : List ℕ) (root : Node) (at : ℕ) → IsOpening opening → IsMisc before
     → IsElement (λ place inside. IsContent 63 root.inner place inside) at root.at root.tag root.inner text → IsMisc behind
@@ -186,8 +187,8 @@ unmarked_walk opening before text behind root at is_opening misc_before is_root 
     let o = opening_walk opening (before ++ (text ++ behind)) is_opening in
     let begins = misc_begins misc_before.0 o.0 o.1 in
     let last : walk_at (outside Epilog) behind ≡ walk_at (outside Epilog) [] =
-      ap (walk_at (outside Epilog)) (sym (append-nil behind)) ∙ misc_walk misc_behind.0 behind [] Epilog misc_behind.1 misc_behind.2
-      ∙ ap (λ phase. walk_at (outside phase) []) (misc_ends misc_behind.0) in
+    ap (walk_at (outside Epilog)) (sym (append-nil behind)) ∙ misc_walk misc_behind.0 behind [] Epilog misc_behind.1 misc_behind.2
+    ∙ ap (λ phase. walk_at (outside phase) []) (misc_ends misc_behind.0) in
     o.2 ∙ misc_walk misc_before.0 before (text ++ behind) o.0 misc_before.1 misc_before.2
     ∙ root_walk root at text behind (misc_phase misc_before.0 o.0) is_root begins ∙ last
 
@@ -232,7 +233,7 @@ element_no_mark root at text rest is =
     elim is.1 [
       | inl w ↦ begins_no_mark text (root.tag.name ++ (w.0.attributes ++ (w.0.space ++ 47 ∷ 62 ∷ []))) rest w.0.parts
       | inr w ↦
-        begins_no_mark text ((root.tag.name ++ (w.4.attributes ++ (w.4.space ++ 62 ∷ []))) ++ (w.1 ++ w.2)) rest (w.3 ∙ ap (λ (t : List ℕ). t ++ (w.1 ++ w.2)) w.4.parts)
+          begins_no_mark text ((root.tag.name ++ (w.4.attributes ++ (w.4.space ++ 62 ∷ []))) ++ (w.1 ++ w.2)) rest (w.3 ∙ ap (λ (t : List ℕ). t ++ (w.1 ++ w.2)) w.4.parts)
     ]
 
 mark_after : (mark rest : List ℕ) → IsMark mark → NoMark rest → after_mark (mark ++ rest) ≡ rest
@@ -245,7 +246,7 @@ document_accepted bytes root d =
     let rest = d.opening ++ (d.before ++ (d.text ++ d.behind)) in
     let at = length d.mark + length d.opening + length d.before in
     let clear = opening_no_mark d.opening (d.before ++ (d.text ++ d.behind)) d.is_opening
-      (misc_no_mark d.misc_before.0 d.before (d.text ++ d.behind) d.misc_before.1 d.misc_before.2 (element_no_mark root at d.text d.behind d.is_root)) in
+    (misc_no_mark d.misc_before.0 d.before (d.text ++ d.behind) d.misc_before.1 d.misc_before.2 (element_no_mark root at d.text d.behind d.is_root)) in
     let unmarked : after_mark bytes ≡ rest = ap after_mark d.parts ∙ mark_after d.mark rest d.is_mark clear in
     let walked = ap (walk_at (outside Opening)) unmarked ∙ unmarked_walk d.opening d.before d.text d.behind root at d.is_opening d.misc_before d.is_root d.misc_behind in
     ap (λ end. fault_place (length bytes) end) walked

@@ -1,9 +1,8 @@
 -- Attributes read one after the other.
-use Rattle.std.proofs.Common.{cond, ◌≡◌, ℕ, zero, suc, ◌+◌, ◌-◌, ◌<◌, ◌≤◌, List, [], ◌∷◌, ◌++◌, length, Option, Some, None, refl, sym, ap, subst, ◌∙◌, append_assoc, arith}
-use Rattle.std.specs.Option.{option_map_or}
+use Rattle.std.proofs.Common.{cond, ◌≡◌, ℕ, List, [], ◌∷◌, ◌++◌, length, Some, None, refl, ap, ◌∙◌}
 use Rattle.std.specs.Str.{bytes_eq}
 use Rattle.xtbml_subset.specs.Elements.{value_of}
-use Rattle.xtbml_subset.specs.Pieces.{Attribute, IsSpace, IsAttribute}
+use Rattle.xtbml_subset.specs.Pieces.{Attribute, IsSpace}
 use Rattle.xtbml_subset.specs.Reading.{attribute_at, attributes_from, attributes_at, with_attribute}
 use Rattle.xtbml_subset.proofs.Behind.{IsBehind, behind_count}
 use Rattle.xtbml_subset.proofs.Lexing.{attribute_takes}

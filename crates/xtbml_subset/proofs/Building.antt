@@ -1,17 +1,16 @@
 -- What the walk goes through to its end is a document.
-use Rattle.std.proofs.Common.{◌≡◌, ℕ, zero, suc, ◌+◌, ◌-◌, ◌<◌, ◌≤◌, Bool, true, false, cond, eqb, ltb, List, [], ◌∷◌, ◌++◌, length, take, Option, Some, None, refl, sym, ap, subst, ◌∙◌, ◌⊎◌, inl, inr, append_assoc, arith}
-use Rattle.std.proofs.lemmas.Bool.{ltb-true, cases_Bool}
-use Rattle.std.proofs.lemmas.List.{length-append, append-nil}
+use Rattle.std.proofs.Common.{◌≡◌, ℕ, zero, suc, ◌+◌, ◌<◌, true, ltb, List, [], ◌∷◌, ◌++◌, length, Option, Some, None, refl, sym, ap, subst, ◌∙◌, inl, inr, append_assoc, arith}
+use Rattle.std.proofs.lemmas.Bool.{ltb-true}
+use Rattle.std.proofs.lemmas.List.{length-append}
 use Rattle.std.proofs.lemmas.Slice.Eq.{bytes_eq-Decides}
 use Rattle.std.specs.Str.{bytes_eq}
 use Rattle.xtbml_subset.specs.declared.class.Class.TheVariants.{White, Text}
-use Rattle.xtbml_subset.specs.declared.state.Phase.{Phase}
 use Rattle.xtbml_subset.specs.declared.state.Phase.TheVariants.{Opening, Prolog, Epilog}
-use Rattle.xtbml_subset.specs.Classes.{is_in, InClass}
+use Rattle.xtbml_subset.specs.Classes.{is_in}
 use Rattle.xtbml_subset.specs.Pieces.{Tag, Piece, byte, comment, declaration, start, whole, finish, IsPiece}
-use Rattle.xtbml_subset.specs.Nesting.{State, outside, past, after_piece, Spell, Nests, IsMark}
+use Rattle.xtbml_subset.specs.Nesting.{State, outside, Spell, Nests, IsMark}
 use Rattle.xtbml_subset.specs.Documents.{Content, nothing, letter, remark, element, IsElement, IsContent, AreMisc, IsMisc, IsOpening, Node, IsDocument}
-use Rattle.xtbml_subset.proofs.Options.{chosen, some_is}
+use Rattle.xtbml_subset.proofs.Options.{chosen}
 
 abbrev open_state : List (List ℕ) → State
 open_state names = record { phase = Epilog; names = names }
@@ -27,8 +26,8 @@ abbrev Closes : ℕ → List (List ℕ) → ℕ → List ℕ → Type 0
 Closes levels [] at bytes = IsMisc bytes
 Closes levels (name ∷ names) at bytes =
     (content : Content) × (inside : List ℕ) × (closing : List ℕ) × (rest : List ℕ)
-  × (bytes ≡ inside ++ (closing ++ rest)) × IsContent levels content at inside × IsPiece (finish name) closing
-  × Closes (suc levels) names (at + length inside + length closing) rest
+    × (bytes ≡ inside ++ (closing ++ rest)) × IsContent levels content at inside × IsPiece (finish name) closing
+    × Closes (suc levels) names (at + length inside + length closing) rest
 
 misc_more : (piece : Piece) (bytes text rest : List ℕ) → bytes ≡ text ++ rest → IsPiece piece text → ((pieces : List Piece) → AreMisc pieces → AreMisc (piece ∷ pieces))
     → IsMisc rest → IsMisc bytes
@@ -44,25 +43,46 @@ Inside levels content at bytes = IsContent levels content at bytes
 letter_closes : (levels : ℕ) (name : List ℕ) (names : List (List ℕ)) (at : ℕ) (b : ℕ) (rest : List ℕ) → is_in Text b ≡ true
     → Closes levels (name ∷ names) (at + 1) rest → Closes levels (name ∷ names) at (b ∷ rest)
 letter_closes levels name names at b rest is h =
-    let moved : (at + 1) + length h.1 + length h.2 ≡ at + length (b ∷ h.1) + length h.2 = omega arith in
-    (letter b h.0, b ∷ h.1, h.2, h.3, ap (λ (s : List ℕ). b ∷ s) h.4, (h.1, refl, is, h.5), h.6,
-      place_moves (suc levels) names _ (at + length (b ∷ h.1) + length h.2) h.3 moved h.7)
+    let moved : (at + 1) + length h.1 + length h.2 ≡ at + length (b ∷ h.1) + length h.2 = omega arith in (
+      letter b h.0,
+      b ∷ h.1,
+      h.2,
+      h.3,
+      ap (λ (s : List ℕ). b ∷ s) h.4,
+      (h.1, refl, is, h.5),
+      h.6,
+      place_moves (suc levels) names _ (at + length (b ∷ h.1) + length h.2) h.3 moved h.7,
+    )
 
 remark_closes : (levels : ℕ) (name : List ℕ) (names : List (List ℕ)) (at : ℕ) (text rest : List ℕ) → IsPiece comment text
     → Closes levels (name ∷ names) (at + length text) rest → Closes levels (name ∷ names) at (text ++ rest)
 remark_closes levels name names at text rest is h =
-    let moved : (at + length text) + length h.1 + length h.2 ≡ at + length (text ++ h.1) + length h.2 = omega (arith, length-append text h.1) in
-    (remark h.0, text ++ h.1, h.2, h.3, ap (λ (s : List ℕ). text ++ s) h.4 ∙ sym (append_assoc text h.1 (h.2 ++ h.3)), (text, h.1, refl, is, h.5), h.6,
-      place_moves (suc levels) names _ (at + length (text ++ h.1) + length h.2) h.3 moved h.7)
+    let moved : (at + length text) + length h.1 + length h.2 ≡ at + length (text ++ h.1) + length h.2 = omega (arith, length-append text h.1) in (
+      remark h.0,
+      text ++ h.1,
+      h.2,
+      h.3,
+      ap (λ (s : List ℕ). text ++ s) h.4 ∙ sym (append_assoc text h.1 (h.2 ++ h.3)),
+      (text, h.1, refl, is, h.5),
+      h.6,
+      place_moves (suc levels) names _ (at + length (text ++ h.1) + length h.2) h.3 moved h.7,
+    )
 
 -- an element before the content
 element_closes : (levels : ℕ) (name : List ℕ) (names : List (List ℕ)) (at : ℕ) (tag : Tag) (inner : Content) (text rest : List ℕ)
     → IsElement (λ place inside. IsContent levels inner place inside) at at tag inner text
     → Closes (suc levels) (name ∷ names) (at + length text) rest → Closes (suc levels) (name ∷ names) at (text ++ rest)
 element_closes levels name names at tag inner text rest is h =
-    let moved : (at + length text) + length h.1 + length h.2 ≡ at + length (text ++ h.1) + length h.2 = omega (arith, length-append text h.1) in
-    (element at tag inner h.0, text ++ h.1, h.2, h.3, ap (λ (s : List ℕ). text ++ s) h.4 ∙ sym (append_assoc text h.1 (h.2 ++ h.3)), (text, h.1, refl, is, h.5), h.6,
-      place_moves (suc (suc levels)) names _ (at + length (text ++ h.1) + length h.2) h.3 moved h.7)
+    let moved : (at + length text) + length h.1 + length h.2 ≡ at + length (text ++ h.1) + length h.2 = omega (arith, length-append text h.1) in (
+      element at tag inner h.0,
+      text ++ h.1,
+      h.2,
+      h.3,
+      ap (λ (s : List ℕ). text ++ s) h.4 ∙ sym (append_assoc text h.1 (h.2 ++ h.3)),
+      (text, h.1, refl, is, h.5),
+      h.6,
+      place_moves (suc (suc levels)) names _ (at + length (text ++ h.1) + length h.2) h.3 moved h.7,
+    )
 
 three : (opening inside closing rest : List ℕ) → opening ++ (inside ++ (closing ++ rest)) ≡ (opening ++ (inside ++ closing)) ++ rest
 three opening inside closing rest = sym (simp append_assoc)
@@ -103,13 +123,13 @@ closes [] levels (name ∷ names) at bytes room spelled nests = absurd (let e : 
 closes (byte b ∷ pieces) levels [] at bytes room spelled nests =
     elim (chosen (is_in White b) (Some (outside Epilog)) None (Some nests.0) nests.1) [
       | inl h ↦
-        misc_more (byte b) bytes spelled.0 spelled.1 spelled.2 spelled.3 (λ more are. (h.0, are))
+          misc_more (byte b) bytes spelled.0 spelled.1 spelled.2 spelled.3 (λ more are. (h.0, are))
           (closes pieces levels [] (at + length spelled.0) spelled.1 room spelled.4 (next_is (outside Epilog) nests.0 pieces h.1 nests.2))
       | inr h ↦ no_next nests.0 (IsMisc bytes) h.1
     ]
 closes (comment ∷ pieces) levels [] at bytes room spelled nests =
     misc_more comment bytes spelled.0 spelled.1 spelled.2 spelled.3 (λ more are. are)
-      (closes pieces levels [] (at + length spelled.0) spelled.1 room spelled.4 (next_is (outside Epilog) nests.0 pieces nests.1 nests.2))
+    (closes pieces levels [] (at + length spelled.0) spelled.1 room spelled.4 (next_is (outside Epilog) nests.0 pieces nests.1 nests.2))
 closes (declaration ∷ pieces) levels [] at bytes room spelled nests = no_next nests.0 (IsMisc bytes) nests.1
 closes (start tag ∷ pieces) levels [] at bytes room spelled nests = no_next nests.0 (IsMisc bytes) nests.1
 closes (whole tag ∷ pieces) levels [] at bytes room spelled nests = no_next nests.0 (IsMisc bytes) nests.1
@@ -130,10 +150,10 @@ closes (start tag ∷ pieces) zero (name ∷ names) at bytes room spelled nests 
 closes (start tag ∷ pieces) (suc levels) (name ∷ names) at bytes room spelled nests =
     elim (chosen (ltb (length (name ∷ names)) 64) (Some (open_state (tag.name ∷ name ∷ names))) None (Some nests.0) nests.1) [
       | inl h ↦
-        let deeper : levels + length (tag.name ∷ name ∷ names) ≡ 64 = omega arith in
-        let behind = closes pieces levels (tag.name ∷ name ∷ names) (at + length spelled.0) spelled.1 deeper spelled.4
+          let deeper : levels + length (tag.name ∷ name ∷ names) ≡ 64 = omega arith in
+          let behind = closes pieces levels (tag.name ∷ name ∷ names) (at + length spelled.0) spelled.1 deeper spelled.4
           (next_is (open_state (tag.name ∷ name ∷ names)) nests.0 pieces h.1 nests.2) in
-        subst (Closes (suc levels) (name ∷ names) at) (sym spelled.2) (opened_closes levels name names at tag spelled.0 spelled.1 spelled.3 behind)
+          subst (Closes (suc levels) (name ∷ names) at) (sym spelled.2) (opened_closes levels name names at tag spelled.0 spelled.1 spelled.3 behind)
       | inr h ↦ no_next nests.0 (Closes (suc levels) (name ∷ names) at bytes) h.1
     ]
 closes (whole tag ∷ pieces) zero (name ∷ names) at bytes room spelled nests =
@@ -144,20 +164,20 @@ closes (whole tag ∷ pieces) zero (name ∷ names) at bytes room spelled nests 
 closes (whole tag ∷ pieces) (suc levels) (name ∷ names) at bytes room spelled nests =
     elim (chosen (ltb (length (name ∷ names)) 64) (Some (open_state (name ∷ names))) None (Some nests.0) nests.1) [
       | inl h ↦
-        let behind = closes pieces (suc levels) (name ∷ names) (at + length spelled.0) spelled.1 room spelled.4
+          let behind = closes pieces (suc levels) (name ∷ names) (at + length spelled.0) spelled.1 room spelled.4
           (next_is (open_state (name ∷ names)) nests.0 pieces h.1 nests.2) in
-        let an_element : IsElement (λ place inside. IsContent levels nothing place inside) at at tag nothing spelled.0 = (refl, inl (spelled.3, refl)) in
-        subst (Closes (suc levels) (name ∷ names) at) (sym spelled.2) (element_closes levels name names at tag nothing spelled.0 spelled.1 an_element behind)
+          let an_element : IsElement (λ place inside. IsContent levels nothing place inside) at at tag nothing spelled.0 = (refl, inl (spelled.3, refl)) in
+          subst (Closes (suc levels) (name ∷ names) at) (sym spelled.2) (element_closes levels name names at tag nothing spelled.0 spelled.1 an_element behind)
       | inr h ↦ no_next nests.0 (Closes (suc levels) (name ∷ names) at bytes) h.1
     ]
 closes (finish last ∷ pieces) levels (name ∷ names) at bytes room spelled nests =
     elim (chosen (bytes_eq last name) (Some (open_state names)) None (Some nests.0) nests.1) [
       | inl h ↦
-        let same : last ≡ name = (bytes_eq-Decides last name).0 h.0 in
-        let higher : suc levels + length names ≡ 64 = omega arith in
-        let behind = closes pieces (suc levels) names (at + length spelled.0) spelled.1 higher spelled.4 (next_is (open_state names) nests.0 pieces h.1 nests.2) in
-        let is_end : IsPiece (finish name) spelled.0 = subst (λ (n : List ℕ). IsPiece (finish n) spelled.0) same spelled.3 in
-        subst (Closes levels (name ∷ names) at) (sym spelled.2) (finish_closes levels name names at spelled.0 spelled.1 is_end behind)
+          let same : last ≡ name = (bytes_eq-Decides last name).0 h.0 in
+          let higher : suc levels + length names ≡ 64 = omega arith in
+          let behind = closes pieces (suc levels) names (at + length spelled.0) spelled.1 higher spelled.4 (next_is (open_state names) nests.0 pieces h.1 nests.2) in
+          let is_end : IsPiece (finish name) spelled.0 = subst (λ (n : List ℕ). IsPiece (finish n) spelled.0) same spelled.3 in
+          subst (Closes levels (name ∷ names) at) (sym spelled.2) (finish_closes levels name names at spelled.0 spelled.1 is_end behind)
       | inr h ↦ no_next nests.0 (Closes levels (name ∷ names) at bytes) h.1
     ]
 
@@ -223,8 +243,8 @@ roots [] at bytes spelled nests = absurd (let e : Prolog ≡ Epilog = ap (λ (s 
 roots (byte b ∷ pieces) at bytes spelled nests =
     elim (chosen (is_in White b) (Some (outside Prolog)) None (Some nests.0) nests.1) [
       | inl h ↦
-        let rest = roots pieces (at + length spelled.0) spelled.1 spelled.4 (next_is (outside Prolog) nests.0 pieces h.1 nests.2) in
-        subst (Roots at) (sym spelled.2) (roots_more (byte b) at spelled.0 spelled.1 spelled.3 (λ more are. (h.0, are)) rest)
+          let rest = roots pieces (at + length spelled.0) spelled.1 spelled.4 (next_is (outside Prolog) nests.0 pieces h.1 nests.2) in
+          subst (Roots at) (sym spelled.2) (roots_more (byte b) at spelled.0 spelled.1 spelled.3 (λ more are. (h.0, are)) rest)
       | inr h ↦ no_next nests.0 (Roots at bytes) h.1
     ]
 roots (comment ∷ pieces) at bytes spelled nests =
@@ -254,20 +274,20 @@ opens_white : (at b : ℕ) (rest : List ℕ) → is_in White b ≡ true → is_i
 opens_white at b rest white is_text o =
     elim o.is_opening [
       | inl none ↦
-        let bare : rest ≡ o.rest = o.parts ∙ ap (λ (s : List ℕ). s ++ o.rest) none in
-        let there : Roots (at + 1) o.rest = subst (λ (n : ℕ). Roots n o.rest) (let count : length o.opening ≡ 0 = ap (λ (s : List ℕ). length s) none in omega arith) o.roots_in in
-        let here : Roots (at + 1) rest = subst (Roots (at + 1)) (sym bare) there in
-        opens_none at (b ∷ rest) (roots_more (byte b) at (b ∷ []) rest (refl, is_text) (λ more are. (white, are)) here)
+          let bare : rest ≡ o.rest = o.parts ∙ ap (λ (s : List ℕ). s ++ o.rest) none in
+          let there : Roots (at + 1) o.rest = subst (λ (n : ℕ). Roots n o.rest) (let count : length o.opening ≡ 0 = ap (λ (s : List ℕ). length s) none in omega arith) o.roots_in in
+          let here : Roots (at + 1) rest = subst (Roots (at + 1)) (sym bare) there in
+          opens_none at (b ∷ rest) (roots_more (byte b) at (b ∷ []) rest (refl, is_text) (λ more are. (white, are)) here)
       | inr h ↦
-        let moved : (at + 1) + length o.opening ≡ at + length (b ∷ o.opening) = omega arith in
-        let is_opening : IsOpening (b ∷ o.opening) = inr (b ∷ h.0, h.1, ap (λ (s : List ℕ). b ∷ s) h.2, (white, h.3), h.4) in
-        record {
-          opening = b ∷ o.opening;
-          rest = o.rest;
-          parts = ap (λ (s : List ℕ). b ∷ s) o.parts;
-          is_opening = is_opening;
-          roots_in = subst (λ (n : ℕ). Roots n o.rest) moved o.roots_in;
-        }
+          let moved : (at + 1) + length o.opening ≡ at + length (b ∷ o.opening) = omega arith in
+          let is_opening : IsOpening (b ∷ o.opening) = inr (b ∷ h.0, h.1, ap (λ (s : List ℕ). b ∷ s) h.2, (white, h.3), h.4) in
+          record {
+            opening = b ∷ o.opening;
+            rest = o.rest;
+            parts = ap (λ (s : List ℕ). b ∷ s) o.parts;
+            is_opening = is_opening;
+            roots_in = subst (λ (n : ℕ). Roots n o.rest) moved o.roots_in;
+          }
     ]
 
 pub opens : (pieces : List Piece) (at : ℕ) (bytes : List ℕ) → Spell pieces bytes → Nests (outside Opening) pieces (outside Epilog) → Opens at bytes
@@ -275,9 +295,9 @@ opens [] at bytes spelled nests = absurd (let e : Opening ≡ Epilog = ap (λ (s
 opens (byte b ∷ pieces) at bytes spelled nests =
     elim (chosen (is_in White b) (Some (outside Opening)) None (Some nests.0) nests.1) [
       | inl h ↦
-        let bytes_are : bytes ≡ b ∷ spelled.1 = spelled.2 ∙ ap (λ (t : List ℕ). t ++ spelled.1) spelled.3.0 in
-        let rest = opens pieces (at + 1) spelled.1 spelled.4 (next_is (outside Opening) nests.0 pieces h.1 nests.2) in
-        subst (Opens at) (sym bytes_are) (opens_white at b spelled.1 h.0 spelled.3.1 rest)
+          let bytes_are : bytes ≡ b ∷ spelled.1 = spelled.2 ∙ ap (λ (t : List ℕ). t ++ spelled.1) spelled.3.0 in
+          let rest = opens pieces (at + 1) spelled.1 spelled.4 (next_is (outside Opening) nests.0 pieces h.1 nests.2) in
+          subst (Opens at) (sym bytes_are) (opens_white at b spelled.1 h.0 spelled.3.1 rest)
       | inr h ↦ no_next nests.0 (Opens at bytes) h.1
     ]
 opens (comment ∷ pieces) at bytes spelled nests =
@@ -288,25 +308,27 @@ opens (declaration ∷ pieces) at bytes spelled nests =
     subst (Opens at) (sym spelled.2) (record { opening = spelled.0; rest = spelled.1; parts = refl; is_opening = inr ([], spelled.0, refl, tt, spelled.3); roots_in = rest })
 opens (start tag ∷ pieces) at bytes spelled nests =
     subst (Opens at) (sym spelled.2)
-      (opens_none at (spelled.0 ++ spelled.1) (roots_start at tag spelled.0 spelled.1 pieces spelled.3 spelled.4 (next_is (open_state (tag.name ∷ [])) nests.0 pieces nests.1 nests.2)))
+    (opens_none at (spelled.0 ++ spelled.1) (roots_start at tag spelled.0 spelled.1 pieces spelled.3 spelled.4 (next_is (open_state (tag.name ∷ [])) nests.0 pieces nests.1 nests.2)))
 opens (whole tag ∷ pieces) at bytes spelled nests =
     subst (Opens at) (sym spelled.2)
-      (opens_none at (spelled.0 ++ spelled.1) (roots_whole at tag spelled.0 spelled.1 pieces spelled.3 spelled.4 (next_is (outside Epilog) nests.0 pieces nests.1 nests.2)))
+    (opens_none at (spelled.0 ++ spelled.1) (roots_whole at tag spelled.0 spelled.1 pieces spelled.3 spelled.4 (next_is (outside Epilog) nests.0 pieces nests.1 nests.2)))
 opens (finish name ∷ pieces) at bytes spelled nests = no_next nests.0 (Opens at bytes) nests.1
 
 pub document_of : (bytes mark rest : List ℕ) → bytes ≡ mark ++ rest → IsMark mark → Opens (length mark) rest → (root : Node) × IsDocument bytes root
 document_of bytes mark rest parts is_mark o =
-    let r = o.roots_in in
-    (r.root, record {
-      mark = mark;
-      opening = o.opening;
-      before = r.before;
-      text = r.text;
-      behind = r.behind;
-      parts = parts ∙ ap (λ (s : List ℕ). mark ++ s) (o.parts ∙ ap (λ (s : List ℕ). o.opening ++ s) r.parts);
-      is_mark = is_mark;
-      is_opening = o.is_opening;
-      misc_before = r.misc_before;
-      is_root = r.is_root;
-      misc_behind = r.misc_behind;
-    })
+    let r = o.roots_in in (
+      r.root,
+      record {
+        mark = mark;
+        opening = o.opening;
+        before = r.before;
+        text = r.text;
+        behind = r.behind;
+        parts = parts ∙ ap (λ (s : List ℕ). mark ++ s) (o.parts ∙ ap (λ (s : List ℕ). o.opening ++ s) r.parts);
+        is_mark = is_mark;
+        is_opening = o.is_opening;
+        misc_before = r.misc_before;
+        is_root = r.is_root;
+        misc_behind = r.misc_behind;
+      },
+    )

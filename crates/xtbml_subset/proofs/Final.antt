@@ -1,18 +1,16 @@
 -- The answer of the reader is the one that is due.
-use Rattle.std.proofs.Common.{◌≡◌, ℕ, ◌≤◌, List, [], ◌∷◌, length, take, Option, Some, None, Result, Ok, Err, refl, sym, ap, subst, ◌∙◌, ◌⊎◌, inl, inr, arith}
+use Rattle.std.proofs.Common.{◌≡◌, ℕ, ◌≤◌, List, [], ◌∷◌, length, Some, None, Result, Ok, Err, refl, sym, ap, subst, ◌∙◌, inl, inr, arith}
 use Rattle.std.specs.Prelude.{IfOk, IfErr}
 use Rattle.rate_table.specs.Rates.{Rates}
-use Rattle.xtbml_subset.specs.declared.fault.TableKind.{TableKind}
 use Rattle.xtbml_subset.specs.declared.fault.TableKind.TheVariants.{NotDocument}
 use Rattle.xtbml_subset.specs.declared.fault.TableFault.{TableFault}
 use Rattle.xtbml_subset.specs.declared.fault.TableFault.TheVariants.{Bad, NoMemory}
-use Rattle.xtbml_subset.specs.Nesting.{State, IsNested}
 use Rattle.xtbml_subset.specs.Walk.{fault_at}
 use Rattle.xtbml_subset.specs.Elements.{Found, elements_at}
 use Rattle.xtbml_subset.specs.Checks.{Parts, parts_of, IsTable}
 use Rattle.xtbml_subset.specs.Rows.{found_asks, Unless}
 use Rattle.xtbml_subset.specs.Documents.{Node, IsDocument, node_asks}
-use Rattle.xtbml_subset.specs.Answers.{IsLongestNested, IsJudged, Spells, IsNoDocument, IsDue, Gives}
+use Rattle.xtbml_subset.specs.Answers.{IsLongestNested, IsJudged, IsNoDocument, IsDue, Gives}
 use Rattle.xtbml_subset.proofs.Accepting.{document_accepted}
 use Rattle.xtbml_subset.proofs.Sounding.{whole_document, longest_nested}
 use Rattle.xtbml_subset.proofs.Matching.{Matches, finds_root}

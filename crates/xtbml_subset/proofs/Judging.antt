@@ -1,11 +1,10 @@
 -- The checks find the same of the elements that are found as of the document, and one answer.
-use Rattle.std.proofs.Common.{◌≡◌, ℕ, ◌+◌, Bool, true, false, cond, List, [], ◌∷◌, map, Option, Some, None, Result, Ok, Err, refl, sym, ap, subst, ◌∙◌, ◌⊎◌, inl, inr, codes}
+use Rattle.std.proofs.Common.{◌≡◌, ℕ, ◌+◌, Bool, true, false, cond, List, [], ◌∷◌, map, Option, Some, None, Result, Ok, Err, refl, sym, ap, subst, ◌∙◌, codes}
 use Rattle.std.specs.Prelude.{MatchBool}
 use Rattle.std.specs.Str.{bytes_eq}
-use Rattle.decimal_text.specs.Rate.{IsRate}
 use Rattle.decimal_text.proofs.CallerLemmas.{one_rate}
 use Rattle.rate_table.specs.Rates.{Rates}
-use Rattle.xtbml_subset.specs.declared.fault.TableKind.TheVariants.{NoTable, Select, Scaled, BadAge, AgeGap, BadRate}
+use Rattle.xtbml_subset.specs.declared.fault.TableKind.TheVariants.{NoTable, Select}
 use Rattle.xtbml_subset.specs.declared.fault.TableFault.{TableFault}
 use Rattle.xtbml_subset.specs.declared.fault.TableFault.TheVariants.{Bad}
 use Rattle.xtbml_subset.specs.Reading.{◌>>=◌}
@@ -13,7 +12,7 @@ use Rattle.xtbml_subset.specs.Pieces.{Tag}
 use Rattle.xtbml_subset.specs.Elements.{Found, trimmed, children_at}
 use Rattle.xtbml_subset.specs.Rows.{row_of, found_asks}
 use Rattle.xtbml_subset.specs.Documents.{Node, named_in, node_row, node_asks}
-use Rattle.xtbml_subset.specs.Checks.{Row, Asks, first, ◌>=>◌, or_fault, within, rooted, path, rates_in, rates_of, factor_of, age_of, is_due, Reads, rated, IsAged, IsRow, with_rate, Continues, AreRows, IsUnscaled, IsScale, Parts, option_row, parts_of, first_age, IsScaledTable, IsTable}
+use Rattle.xtbml_subset.specs.Checks.{Row, first, ◌>=>◌, or_fault, within, rooted, path, rates_in, rates_of, factor_of, age_of, is_due, Reads, rated, IsAged, with_rate, Continues, AreRows, IsScale, Parts, option_row, parts_of, first_age, IsScaledTable, IsTable}
 use Rattle.xtbml_subset.proofs.Matching.{Matches, AllMatch, children_match, row_match}
 
 -- ---- what is found is what the document has
@@ -54,21 +53,21 @@ within_same : (total : ℕ) (name : List ℕ) (f : Found) (node : Node) → Matc
 unfolding within
 within_same total name f node m =
     first_same total (children_at name f) (named_in name node.inner) (Bad (row_of total f).at NoTable) (Bad (node_row node).at NoTable) (children_match total f node name m)
-      (ap (λ (n : ℕ). Bad n NoTable) m.at_is)
+    (ap (λ (n : ℕ). Bad n NoTable) m.at_is)
 
 rooted_same : (total : ℕ) (f : Found) (node : Node) → Matches total f node → SameBy (Tied total) (rooted (found_asks total) f) (rooted node_asks node)
 rooted_same total f node m =
     let P : Bool → Type 0 = λ t. bytes_eq node.tag.name (codes "XTbML") ≡ t
-      → SameBy (Tied total) (cond (bytes_eq f.tag.name (codes "XTbML")) (Ok f) (Err (Bad (row_of total f).at NoTable))) (cond t (Ok node) (Err (Bad (node_row node).at NoTable))) in
+    → SameBy (Tied total) (cond (bytes_eq f.tag.name (codes "XTbML")) (Ok f) (Err (Bad (row_of total f).at NoTable))) (cond t (Ok node) (Err (Bad (node_row node).at NoTable))) in
     let names : bytes_eq f.tag.name (codes "XTbML") ≡ bytes_eq node.tag.name (codes "XTbML") = ap (λ (tag : Tag). bytes_eq tag.name (codes "XTbML")) m.tag_is in
     let faults : Bad (row_of total f).at NoTable ≡ Bad (node_row node).at NoTable = ap (λ (n : ℕ). Bad n NoTable) m.at_is in
     let both : P (bytes_eq node.tag.name (codes "XTbML")) = elim (bytes_eq node.tag.name (codes "XTbML")) as P [
       | true ↦ λ e.
-        let t = names ∙ e in
-        subst (λ (b : Bool). SameBy (Tied total) (cond b (Ok f) (Err (Bad (row_of total f).at NoTable))) (Ok node)) (sym t) m
+          let t = names ∙ e in
+          subst (λ (b : Bool). SameBy (Tied total) (cond b (Ok f) (Err (Bad (row_of total f).at NoTable))) (Ok node)) (sym t) m
       | false ↦ λ e.
-        let t = names ∙ e in
-        subst (λ (b : Bool). SameBy (Tied total) (cond b (Ok f) (Err (Bad (row_of total f).at NoTable))) (Err (Bad (node_row node).at NoTable))) (sym t) faults
+          let t = names ∙ e in
+          subst (λ (b : Bool). SameBy (Tied total) (cond b (Ok f) (Err (Bad (row_of total f).at NoTable))) (Err (Bad (node_row node).at NoTable))) (sym t) faults
     ] in
     both refl
 
@@ -79,22 +78,22 @@ path_same : (total : ℕ) (f : Found) (node : Node) → Matches total f node →
 unfolding path
 path_same total f node m =
     then_same (Tied total) (TiedPairs total)
-      (rooted (found_asks total) f >=> λ top. within (found_asks total) (codes "Table") top)
-      (rooted node_asks node >=> λ top. within node_asks (codes "Table") top)
-      (λ table. within (found_asks total) (codes "Values") table >=> (λ values. within (found_asks total) (codes "Axis") values) >=> λ axis. Ok (table, axis))
-      (λ table. within node_asks (codes "Values") table >=> (λ values. within node_asks (codes "Axis") values) >=> λ axis. Ok (table, axis))
-      (then_same (Tied total) (Tied total) (rooted (found_asks total) f) (rooted node_asks node) (λ top. within (found_asks total) (codes "Table") top) (λ top. within node_asks (codes "Table") top)
-        (rooted_same total f node m) (λ a b t. within_same total (codes "Table") a b t))
-      (λ table node_table tied.
-        then_same (Tied total) (TiedPairs total)
-          (within (found_asks total) (codes "Values") table >=> λ values. within (found_asks total) (codes "Axis") values)
-          (within node_asks (codes "Values") node_table >=> λ values. within node_asks (codes "Axis") values)
-          (λ axis. Ok (table, axis))
-          (λ axis. Ok (node_table, axis))
-          (then_same (Tied total) (Tied total) (within (found_asks total) (codes "Values") table) (within node_asks (codes "Values") node_table)
-            (λ values. within (found_asks total) (codes "Axis") values) (λ values. within node_asks (codes "Axis") values)
-            (within_same total (codes "Values") table node_table tied) (λ a b t. within_same total (codes "Axis") a b t))
-          (λ a b t. (tied, t)))
+    (rooted (found_asks total) f >=> λ top. within (found_asks total) (codes "Table") top)
+    (rooted node_asks node >=> λ top. within node_asks (codes "Table") top)
+    (λ table. within (found_asks total) (codes "Values") table >=> (λ values. within (found_asks total) (codes "Axis") values) >=> λ axis. Ok (table, axis))
+    (λ table. within node_asks (codes "Values") table >=> (λ values. within node_asks (codes "Axis") values) >=> λ axis. Ok (table, axis))
+    (then_same (Tied total) (Tied total) (rooted (found_asks total) f) (rooted node_asks node) (λ top. within (found_asks total) (codes "Table") top) (λ top. within node_asks (codes "Table") top)
+    (rooted_same total f node m) (λ a b t. within_same total (codes "Table") a b t))
+    (λ table node_table tied.
+    then_same (Tied total) (TiedPairs total)
+    (within (found_asks total) (codes "Values") table >=> λ values. within (found_asks total) (codes "Axis") values)
+    (within node_asks (codes "Values") node_table >=> λ values. within node_asks (codes "Axis") values)
+    (λ axis. Ok (table, axis))
+    (λ axis. Ok (node_table, axis))
+    (then_same (Tied total) (Tied total) (within (found_asks total) (codes "Values") table) (within node_asks (codes "Values") node_table)
+    (λ values. within (found_asks total) (codes "Axis") values) (λ values. within node_asks (codes "Axis") values)
+    (within_same total (codes "Values") table node_table tied) (λ a b t. within_same total (codes "Axis") a b t))
+    (λ a b t. (tied, t)))
 
 rates_in_same : (total : ℕ) (f : Found) (node : Node) (inner ys : List Found) (node_inner node_ys : List Node) → Matches total f node → AllMatch total inner node_inner → AllMatch total ys node_ys
     → SameBy (AllMatch total) (rates_in (found_asks total) f inner ys) (rates_in node_asks node node_inner node_ys)
@@ -110,7 +109,7 @@ rates_same : (total : ℕ) (f : Found) (node : Node) → Matches total f node �
 unfolding rates_of
 rates_same total f node m =
     rates_in_same total f node (children_at (codes "Axis") f) (children_at (codes "Y") f) (named_in (codes "Axis") node.inner) (named_in (codes "Y") node.inner) m
-      (children_match total f node (codes "Axis") m) (children_match total f node (codes "Y") m)
+    (children_match total f node (codes "Axis") m) (children_match total f node (codes "Y") m)
 
 first_row : (total : ℕ) (fs : List Found) (ns : List Node) → AllMatch total fs ns → option_row (found_asks total) (first fs) ≡ option_row node_asks (first ns)
 first_row total [] [] all = refl
@@ -142,19 +141,19 @@ rows_same total (f ∷ fs) (n ∷ ns) all =
 pub parts_same : (total : ℕ) (f : Found) (node : Node) → Matches total f node → parts_of (found_asks total) f ≡ parts_of node_asks node
 parts_same total f node m =
     equal_by (parts_of (found_asks total) f) (parts_of node_asks node)
-      (then_same (TiedPairs total) (λ a b. a ≡ b) (path (found_asks total) f) (path node_asks node)
-        (λ found. rates_of (found_asks total) found.1 >=> λ rates. Ok (record { factor = option_row (found_asks total) (factor_of (found_asks total) found.0); rows = map (λ x. row_of total x) rates }))
-        (λ found. rates_of node_asks found.1 >=> λ rates. Ok (record { factor = option_row node_asks (factor_of node_asks found.0); rows = map (λ x. node_row x) rates }))
-        (path_same total f node m)
-        (λ fs ns tied.
-          then_same (AllMatch total) (λ a b. a ≡ b) (rates_of (found_asks total) fs.1) (rates_of node_asks ns.1)
-            (λ rates. Ok (record { factor = option_row (found_asks total) (factor_of (found_asks total) fs.0); rows = map (λ x. row_of total x) rates }))
-            (λ rates. Ok (record { factor = option_row node_asks (factor_of node_asks ns.0); rows = map (λ x. node_row x) rates }))
-            (rates_same total fs.1 ns.1 tied.1)
-            (λ a b all.
-              let factors = factor_same total fs.0 ns.0 tied.0 in
-              let rows = rows_same total a b all in
-              cc)))
+    (then_same (TiedPairs total) (λ a b. a ≡ b) (path (found_asks total) f) (path node_asks node)
+    (λ found. rates_of (found_asks total) found.1 >=> λ rates. Ok (record { factor = option_row (found_asks total) (factor_of (found_asks total) found.0); rows = map (λ x. row_of total x) rates }))
+    (λ found. rates_of node_asks found.1 >=> λ rates. Ok (record { factor = option_row node_asks (factor_of node_asks found.0); rows = map (λ x. node_row x) rates }))
+    (path_same total f node m)
+    (λ fs ns tied.
+    then_same (AllMatch total) (λ a b. a ≡ b) (rates_of (found_asks total) fs.1) (rates_of node_asks ns.1)
+    (λ rates. Ok (record { factor = option_row (found_asks total) (factor_of (found_asks total) fs.0); rows = map (λ x. row_of total x) rates }))
+    (λ rates. Ok (record { factor = option_row node_asks (factor_of node_asks ns.0); rows = map (λ x. node_row x) rates }))
+    (rates_same total fs.1 ns.1 tied.1)
+    (λ a b all.
+    let factors = factor_same total fs.0 ns.0 tied.0 in
+    let rows = rows_same total a b all in
+    cc)))
 
 -- ---- one answer
 
@@ -173,8 +172,8 @@ aged_one : (due : Option ℕ) (row : Row) (age : Option ℕ) (a b : Result (ℕ 
 aged_one due row None a b h k = h ∙ sym k
 aged_one due row (Some age) a b h k =
     by_bool (is_due due age) _ _ _ _ (a ≡ b) h k
-      (λ x y. x.2 ∙ ap (λ (o : Option ℕ). rated row.at age o) (reads_one row.text x.0 y.0 x.1 y.1) ∙ sym y.2)
-      (λ x y. x ∙ sym y)
+    (λ x y. x.2 ∙ ap (λ (o : Option ℕ). rated row.at age o) (reads_one row.text x.0 y.0 x.1 y.1) ∙ sym y.2)
+    (λ x y. x ∙ sym y)
 
 goes_one : (rows : List Row) (one : Result (ℕ × ℕ) TableFault) (a b : Result (List ℕ) TableFault)
     → ((due : Option ℕ) (x y : Result (List ℕ) TableFault) → AreRows due rows x → AreRows due rows y → x ≡ y)

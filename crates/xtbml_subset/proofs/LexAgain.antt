@@ -1,11 +1,11 @@
 -- What is a part by the grammar is read again, whatever follows it.
-use Rattle.std.proofs.Common.{◌≡◌, ◌≢◌, ℕ, zero, suc, ◌+◌, ◌<◌, ◌≤◌, Bool, true, false, cond, eqb, ◌||◌, ◌&&◌, List, [], ◌∷◌, ◌++◌, length, Option, Some, None, refl, sym, ap, subst, ◌∙◌, ◌⊎◌, inl, inr, append_assoc, arith}
+use Rattle.std.proofs.Common.{◌≡◌, ℕ, Bool, true, false, eqb, ◌||◌, List, [], ◌∷◌, ◌++◌, Some, None, refl, sym, ap, subst, ◌∙◌, ◌⊎◌, inl, inr, append_assoc}
 use Rattle.std.proofs.lemmas.Bool.{eqb-true, eq-eqb, or_cases, cases_Bool, true≢false}
 use Rattle.xtbml_subset.specs.declared.class.Class.{Class}
-use Rattle.xtbml_subset.specs.declared.class.Class.TheVariants.{White, Name, DoubleQuoted, SingleQuoted, Declared, Text}
+use Rattle.xtbml_subset.specs.declared.class.Class.TheVariants.{White, Name, DoubleQuoted, SingleQuoted}
 use Rattle.xtbml_subset.specs.Classes.{is_in, starts_name, InClass}
 use Rattle.xtbml_subset.specs.Pieces.{Attribute, IsSpace, IsName, IsQuoted, IsAttribute}
-use Rattle.xtbml_subset.specs.Reading.{◌>>=◌, front, after, byte_at, spaces_at, name_at, closed_at, quoted_at, attribute_at}
+use Rattle.xtbml_subset.specs.Reading.{front, after, spaces_at, name_at, closed_at, quoted_at, attribute_at}
 
 -- the bytes are over, or go on with a byte that isn't of the class
 abbrev pub Stops : Class → List ℕ → Type 0
@@ -34,14 +34,14 @@ white_cases b h =
     elim (or_cases (eqb b 9 || eqb b 10 || eqb b 13) (eqb b 32) h) [
       | inr e ↦ inr (inr (inr (eqb-true b 32 e)))
       | inl k ↦
-        elim (or_cases (eqb b 9 || eqb b 10) (eqb b 13) k) [
-          | inr e ↦ inr (inr (inl (eqb-true b 13 e)))
-          | inl m ↦
-            elim (or_cases (eqb b 9) (eqb b 10) m) [
-              | inr e ↦ inr (inl (eqb-true b 10 e))
-              | inl e ↦ inl (eqb-true b 9 e)
-            ]
-        ]
+          elim (or_cases (eqb b 9 || eqb b 10) (eqb b 13) k) [
+            | inr e ↦ inr (inr (inl (eqb-true b 13 e)))
+            | inl m ↦
+                elim (or_cases (eqb b 9) (eqb b 10) m) [
+                  | inr e ↦ inr (inl (eqb-true b 10 e))
+                  | inl e ↦ inl (eqb-true b 9 e)
+                ]
+          ]
     ]
 
 -- what a test says of each byte of white space it says of all
@@ -50,14 +50,14 @@ at_white test h9 h10 h13 h32 b h =
     elim (white_cases b h) [
       | inl e ↦ ap test e ∙ h9
       | inr k ↦
-        elim k [
-          | inl e ↦ ap test e ∙ h10
-          | inr m ↦
-            elim m [
-              | inl e ↦ ap test e ∙ h13
-              | inr e ↦ ap test e ∙ h32
-            ]
-        ]
+          elim k [
+            | inl e ↦ ap test e ∙ h10
+            | inr m ↦
+                elim m [
+                  | inl e ↦ ap test e ∙ h13
+                  | inr e ↦ ap test e ∙ h32
+                ]
+          ]
     ]
 
 white_no_name : (b : ℕ) → is_in White b ≡ true → is_in Name b ≡ false

@@ -1,8 +1,8 @@
 -- What the readers of the small parts take is as the grammar has it.
-use Rattle.std.proofs.Common.{◌≡◌, ℕ, zero, suc, ◌+◌, ◌<◌, ◌≤◌, Bool, true, false, cond, eqb, List, [], ◌∷◌, ◌++◌, length, Option, Some, None, refl, sym, ap, subst, ◌∙◌, ◌⊎◌, inl, inr, append_assoc, arith}
+use Rattle.std.proofs.Common.{◌≡◌, ℕ, true, cond, eqb, List, [], ◌∷◌, ◌++◌, Some, None, refl, sym, ap, subst, ◌∙◌, inl, inr, append_assoc}
 use Rattle.std.proofs.lemmas.Bool.{eqb-true}
 use Rattle.xtbml_subset.specs.declared.class.Class.{Class}
-use Rattle.xtbml_subset.specs.declared.class.Class.TheVariants.{White, Name, DoubleQuoted, SingleQuoted, Declared, Text}
+use Rattle.xtbml_subset.specs.declared.class.Class.TheVariants.{White, Name, DoubleQuoted, SingleQuoted}
 use Rattle.xtbml_subset.specs.Classes.{is_in, starts_name, InClass}
 use Rattle.xtbml_subset.specs.Pieces.{Attribute, IsSpace, IsName, IsQuoted, IsAttribute}
 use Rattle.xtbml_subset.specs.Reading.{◌>>=◌, front, after, byte_at, spaces_at, name_at, closed_at, quoted_at, attribute_at}
@@ -23,9 +23,9 @@ spaces_takes [] rest e = absurd cc
 spaces_takes (b ∷ bytes) rest e =
     elim (chosen (is_in White b) (Some (after White bytes)) None (Some rest) e) [
       | inl h ↦
-        let more : after White bytes ≡ rest = some_is (after White bytes) rest h.1 in
-        let parts : b ∷ bytes ≡ (b ∷ front White bytes) ++ rest = rw (← more) (ap (λ (s : List ℕ). b ∷ s) (front-after White bytes)) in
-        (b ∷ front White bytes, parts, (h.0, front_in White bytes))
+          let more : after White bytes ≡ rest = some_is (after White bytes) rest h.1 in
+          let parts : b ∷ bytes ≡ (b ∷ front White bytes) ++ rest = rw (← more) (ap (λ (s : List ℕ). b ∷ s) (front-after White bytes)) in
+          (b ∷ front White bytes, parts, (h.0, front_in White bytes))
       | inr h ↦ absurd (let no = h.1 in cc)
     ]
 
@@ -38,11 +38,11 @@ name_takes [] name rest e = absurd cc
 name_takes (b ∷ bytes) name rest e =
     elim (chosen (starts_name b) (Some (front Name (b ∷ bytes), after Name (b ∷ bytes))) None (Some (name, rest)) e) [
       | inl h ↦
-        let parts = pair_is (front Name (b ∷ bytes)) name (after Name (b ∷ bytes)) rest h.1 in
-        let first : front Name (b ∷ bytes) ≡ b ∷ front Name bytes = rw (starts_in b h.0) refl in
-        let whole : b ∷ bytes ≡ name ++ rest = rw (← parts.0, ← parts.1) (front-after Name (b ∷ bytes)) in
-        let is : IsName (b ∷ front Name bytes) = (h.0, front_in Name bytes) in
-        (whole, subst IsName (sym first ∙ parts.0) is)
+          let parts = pair_is (front Name (b ∷ bytes)) name (after Name (b ∷ bytes)) rest h.1 in
+          let first : front Name (b ∷ bytes) ≡ b ∷ front Name bytes = rw (starts_in b h.0) refl in
+          let whole : b ∷ bytes ≡ name ++ rest = rw (← parts.0, ← parts.1) (front-after Name (b ∷ bytes)) in
+          let is : IsName (b ∷ front Name bytes) = (h.0, front_in Name bytes) in
+          (whole, subst IsName (sym first ∙ parts.0) is)
       | inr h ↦ absurd (let no = h.1 in cc)
     ]
 
@@ -65,17 +65,17 @@ quoted_takes [] value rest e = absurd cc
 quoted_takes (b ∷ bytes) value rest e =
     elim (chosen (eqb b 34) (closed_at 34 DoubleQuoted bytes) (cond (eqb b 39) (closed_at 39 SingleQuoted bytes) None) (Some (value, rest)) e) [
       | inl h ↦
-        let same : b ≡ 34 = eqb-true b 34 h.0 in
-        let t = closed_takes 34 DoubleQuoted bytes value rest h.1 in
-        (34 ∷ (value ++ 34 ∷ []), rw (same, t.0) (quoted_text 34 value rest), inl (refl, t.1))
+          let same : b ≡ 34 = eqb-true b 34 h.0 in
+          let t = closed_takes 34 DoubleQuoted bytes value rest h.1 in
+          (34 ∷ (value ++ 34 ∷ []), rw (same, t.0) (quoted_text 34 value rest), inl (refl, t.1))
       | inr h ↦
-        elim (chosen (eqb b 39) (closed_at 39 SingleQuoted bytes) None (Some (value, rest)) h.1) [
-          | inl k ↦
-            let same : b ≡ 39 = eqb-true b 39 k.0 in
-            let t = closed_takes 39 SingleQuoted bytes value rest k.1 in
-            (39 ∷ (value ++ 39 ∷ []), rw (same, t.0) (quoted_text 39 value rest), inr (refl, t.1))
-          | inr k ↦ absurd (let no = k.1 in cc)
-        ]
+          elim (chosen (eqb b 39) (closed_at 39 SingleQuoted bytes) None (Some (value, rest)) h.1) [
+            | inl k ↦
+                let same : b ≡ 39 = eqb-true b 39 k.0 in
+                let t = closed_takes 39 SingleQuoted bytes value rest k.1 in
+                (39 ∷ (value ++ 39 ∷ []), rw (same, t.0) (quoted_text 39 value rest), inr (refl, t.1))
+            | inr k ↦ absurd (let no = k.1 in cc)
+          ]
     ]
 
 regroup : (space name before after quoted rest : List ℕ)
@@ -104,16 +104,19 @@ attribute_takes bytes name value rest e =
     let tail : g.0 ≡ a ++ (qt.0 ++ rest) = behind ∙ ap (λ (t : List ℕ). a ++ t) (qt.1 ∙ ap (λ (t : List ℕ). qt.0 ++ t) both.1) in
     let middle : n.0.1 ≡ b ++ 61 ∷ (a ++ (qt.0 ++ rest)) = before ∙ ap (λ (t : List ℕ). b ++ t) (sign ∙ ap (λ (t : List ℕ). 61 ∷ t) tail) in
     let named : s.0 ≡ name ++ (b ++ 61 ∷ (a ++ (qt.0 ++ rest))) = nt.0 ∙ ap (λ (t : List ℕ). n.0.0 ++ t) middle ∙ ap (λ (t : List ℕ). t ++ (b ++ 61 ∷ (a ++ (qt.0 ++ rest)))) name_is in
-    let whole : bytes ≡ st.0 ++ (name ++ (b ++ 61 ∷ (a ++ (qt.0 ++ rest)))) = st.1 ∙ ap (λ (t : List ℕ). st.0 ++ t) named in
-    (st.0 ++ (name ++ (b ++ 61 ∷ (a ++ qt.0))), whole ∙ regroup st.0 name b a qt.0 rest, record {
-      space = st.0;
-      before_sign = b;
-      after_sign = a;
-      quoted = qt.0;
-      parts = refl;
-      is_space = st.2;
-      is_name = subst IsName name_is nt.1;
-      white_before = front_in White n.0.1;
-      white_after = front_in White g.0;
-      is_quoted = subst (IsQuoted qt.0) value_is qt.2;
-    })
+    let whole : bytes ≡ st.0 ++ (name ++ (b ++ 61 ∷ (a ++ (qt.0 ++ rest)))) = st.1 ∙ ap (λ (t : List ℕ). st.0 ++ t) named in (
+      st.0 ++ (name ++ (b ++ 61 ∷ (a ++ qt.0))),
+      whole ∙ regroup st.0 name b a qt.0 rest,
+      record {
+        space = st.0;
+        before_sign = b;
+        after_sign = a;
+        quoted = qt.0;
+        parts = refl;
+        is_space = st.2;
+        is_name = subst IsName name_is nt.1;
+        white_before = front_in White n.0.1;
+        white_after = front_in White g.0;
+        is_quoted = subst (IsQuoted qt.0) value_is qt.2;
+      },
+    )

@@ -1,5 +1,5 @@
 -- The elements that the search finds are those of the document.
-use Rattle.std.proofs.Common.{◌≡◌, ℕ, zero, suc, ◌+◌, ◌-◌, ◌<◌, ◌≤◌, Bool, true, false, cond, eqb, ◌&&◌, List, [], ◌∷◌, ◌++◌, length, Option, Some, None, refl, sym, ap, subst, ◌∙◌, ◌⊎◌, inl, inr, append_assoc, arith, codes}
+use Rattle.std.proofs.Common.{◌≡◌, ℕ, zero, suc, ◌+◌, ◌-◌, Bool, true, false, cond, eqb, List, [], ◌∷◌, ◌++◌, length, Option, Some, None, refl, sym, ap, subst, ◌∙◌, ◌⊎◌, inl, inr, append_assoc, arith, codes}
 use Rattle.std.proofs.Math.Numerals.{add-one}
 use Rattle.std.proofs.lemmas.Bool.{ne_eqb, and_left}
 use Rattle.std.proofs.lemmas.List.{length-append}
@@ -9,8 +9,8 @@ use Rattle.xtbml_subset.specs.Classes.{is_in, starts_name, InClass}
 use Rattle.xtbml_subset.specs.Pieces.{Tag, Piece, byte, comment, declaration, start, whole, finish, IsPiece, IsName}
 use Rattle.xtbml_subset.specs.Reading.{◌>>=◌, front, after, byte_at}
 use Rattle.xtbml_subset.specs.Nesting.{Spell, IsMark}
-use Rattle.xtbml_subset.specs.Elements.{Found, Step, on, found, closed, is_wanted, is_hit, left, step_of, elements_at, depth_in, children_at, value_of, text_at}
-use Rattle.xtbml_subset.specs.Documents.{Content, nothing, letter, remark, element, IsElement, IsContent, AreMisc, IsMisc, IsOpening, Node, IsDocument, with_named, named_in, with_letter, text_of, node_row}
+use Rattle.xtbml_subset.specs.Elements.{Found, on, found, closed, is_wanted, is_hit, step_of, elements_at, children_at, value_of, text_at}
+use Rattle.xtbml_subset.specs.Documents.{Content, nothing, letter, remark, element, IsElement, IsContent, AreMisc, IsOpening, Node, IsDocument, with_named, named_in, with_letter, text_of, node_row}
 use Rattle.xtbml_subset.specs.Rows.{row_of}
 use Rattle.xtbml_subset.proofs.LexAgain.{at_white}
 use Rattle.xtbml_subset.proofs.PieceAgain.{not_start, piece_again}
@@ -77,10 +77,10 @@ deep (suc levels) (element place tag inner more) at bytes rest depth wanted is =
     let over : E (text ++ behind) ≡ E behind = elim is.3.1 [
       | inl w ↦ pass (whole tag) text behind (suc depth) (suc depth) wanted w.0 (whole_deep depth wanted tag)
       | inr w ↦
-        ap (λ (s : List ℕ). E (s ++ behind)) w.3 ∙ ap E (three w.0 w.1 w.2 behind)
-        ∙ pass (start tag) w.0 (w.1 ++ (w.2 ++ behind)) (suc depth) (suc (suc depth)) wanted w.4 (start_deep depth wanted tag)
-        ∙ deep levels inner (at + length w.0) w.1 (w.2 ++ behind) (suc depth) wanted w.5
-        ∙ pass (finish tag.name) w.2 behind (suc (suc depth)) (suc depth) wanted w.6 refl
+          ap (λ (s : List ℕ). E (s ++ behind)) w.3 ∙ ap E (three w.0 w.1 w.2 behind)
+          ∙ pass (start tag) w.0 (w.1 ++ (w.2 ++ behind)) (suc depth) (suc (suc depth)) wanted w.4 (start_deep depth wanted tag)
+          ∙ deep levels inner (at + length w.0) w.1 (w.2 ++ behind) (suc depth) wanted w.5
+          ∙ pass (finish tag.name) w.2 behind (suc (suc depth)) (suc depth) wanted w.6 refl
     ] in
     ap (λ (s : List ℕ). E (s ++ rest)) is.2 ∙ ap E (append_assoc text is.1 rest) ∙ over
     ∙ deep (suc levels) more (at + length text) is.1 rest depth wanted is.4
@@ -118,27 +118,35 @@ element_hit levels total at tag inner name text behind nodes lies same others =
     let node = node_of at tag inner in
     elim lies.is_element.1 [
       | inl w ↦
-        let f : Found = record { from = text ++ behind; tag = tag; is_open = false; rest = behind } in
-        let split : E (text ++ behind) ≡ f ∷ E behind = elements_by (text ++ behind) (whole tag) behind 0 (Some name) (found tag false) (piece_again (whole tag) text behind w.0) (whole_hit name tag same) in
-        let match : Matches total f node = record { at_is = place_less total at (text ++ behind) lies.place_is; tag_is = refl; content = inl (refl, w.1) } in
-        subst (λ (fs : List Found). AllMatch total fs (node ∷ nodes)) (sym split) (match, others)
+          let f : Found = record { from = text ++ behind; tag = tag; is_open = false; rest = behind } in
+          let split : E (text ++ behind) ≡ f ∷ E behind = elements_by (text ++ behind) (whole tag) behind 0 (Some name) (found tag false) (piece_again (whole tag) text behind w.0) (whole_hit name tag same) in
+          let match : Matches total f node = record { at_is = place_less total at (text ++ behind) lies.place_is; tag_is = refl; content = inl (refl, w.1) } in
+          subst (λ (fs : List Found). AllMatch total fs (node ∷ nodes)) (sym split) (match, others)
       | inr w ↦
-        let rest = w.1 ++ (w.2 ++ behind) in
-        let whole_is : text ++ behind ≡ w.0 ++ rest = ap (λ (s : List ℕ). s ++ behind) w.3 ∙ three w.0 w.1 w.2 behind in
-        let f : Found = record { from = w.0 ++ rest; tag = tag; is_open = true; rest = rest } in
-        let split : E (w.0 ++ rest) ≡ f ∷ elements_at 1 (Some name) rest = elements_by (w.0 ++ rest) (start tag) rest 0 (Some name) (found tag true) (piece_again (start tag) w.0 rest w.4) (start_hit name tag same) in
-        let over : elements_at 1 (Some name) rest ≡ E behind = deep levels inner (at + length w.0) w.1 (w.2 ++ behind) 0 (Some name) w.5 ∙ pass (finish tag.name) w.2 behind 1 0 (Some name) w.6 refl in
-        let placed : at + length (w.0 ++ rest) ≡ total = ap (λ (s : List ℕ). at + length s) (sym whole_is) ∙ lies.place_is in
-        let inner_place : (at + length w.0) + length rest ≡ total = omega (arith, length-append w.0 rest) in
-        let match : Matches total f node = record {
-          at_is = place_less total at (w.0 ++ rest) placed;
-          tag_is = refl;
-          content = inr (record {
-            levels = levels; inside = w.1; closing = w.2; more = behind; place = at + length w.0;
-            opens = refl; rest_is = refl; is_content = w.5; is_end = w.6; place_is = inner_place;
-          });
-        } in
-        subst (λ (fs : List Found). AllMatch total fs (node ∷ nodes)) (sym (ap E whole_is ∙ split ∙ ap (λ (fs : List Found). f ∷ fs) over)) (match, others)
+          let rest = w.1 ++ (w.2 ++ behind) in
+          let whole_is : text ++ behind ≡ w.0 ++ rest = ap (λ (s : List ℕ). s ++ behind) w.3 ∙ three w.0 w.1 w.2 behind in
+          let f : Found = record { from = w.0 ++ rest; tag = tag; is_open = true; rest = rest } in
+          let split : E (w.0 ++ rest) ≡ f ∷ elements_at 1 (Some name) rest = elements_by (w.0 ++ rest) (start tag) rest 0 (Some name) (found tag true) (piece_again (start tag) w.0 rest w.4) (start_hit name tag same) in
+          let over : elements_at 1 (Some name) rest ≡ E behind = deep levels inner (at + length w.0) w.1 (w.2 ++ behind) 0 (Some name) w.5 ∙ pass (finish tag.name) w.2 behind 1 0 (Some name) w.6 refl in
+          let placed : at + length (w.0 ++ rest) ≡ total = ap (λ (s : List ℕ). at + length s) (sym whole_is) ∙ lies.place_is in
+          let inner_place : (at + length w.0) + length rest ≡ total = omega (arith, length-append w.0 rest) in
+          let match : Matches total f node = record {
+            at_is = place_less total at (w.0 ++ rest) placed;
+            tag_is = refl;
+            content = inr (record {
+              levels = levels;
+              inside = w.1;
+              closing = w.2;
+              more = behind;
+              place = at + length w.0;
+              opens = refl;
+              rest_is = refl;
+              is_content = w.5;
+              is_end = w.6;
+              place_is = inner_place;
+            });
+          } in
+          subst (λ (fs : List Found). AllMatch total fs (node ∷ nodes)) (sym (ap E whole_is ∙ split ∙ ap (λ (fs : List Found). f ∷ fs) over)) (match, others)
     ]
 
 element_miss : (levels total at : ℕ) (tag : Tag) (inner : Content) (name text behind : List ℕ) (nodes : List Node) → Lies levels total at tag inner text behind
@@ -148,10 +156,10 @@ element_miss levels total at tag inner name text behind nodes lies other others 
     let over : E (text ++ behind) ≡ E behind = elim lies.is_element.1 [
       | inl w ↦ pass (whole tag) text behind 0 0 (Some name) w.0 (whole_miss name tag other)
       | inr w ↦
-        ap (λ (s : List ℕ). E (s ++ behind)) w.3 ∙ ap E (three w.0 w.1 w.2 behind)
-        ∙ pass (start tag) w.0 (w.1 ++ (w.2 ++ behind)) 0 1 (Some name) w.4 (start_miss name tag other)
-        ∙ deep levels inner (at + length w.0) w.1 (w.2 ++ behind) 0 (Some name) w.5
-        ∙ pass (finish tag.name) w.2 behind 1 0 (Some name) w.6 refl
+          ap (λ (s : List ℕ). E (s ++ behind)) w.3 ∙ ap E (three w.0 w.1 w.2 behind)
+          ∙ pass (start tag) w.0 (w.1 ++ (w.2 ++ behind)) 0 1 (Some name) w.4 (start_miss name tag other)
+          ∙ deep levels inner (at + length w.0) w.1 (w.2 ++ behind) 0 (Some name) w.5
+          ∙ pass (finish tag.name) w.2 behind 1 0 (Some name) w.6 refl
     ] in
     subst (λ (fs : List Found). AllMatch total fs nodes) (sym over) others
 
@@ -162,13 +170,13 @@ level levels nothing total at bytes rest name is placed none =
     subst (λ (fs : List Found). AllMatch total fs []) (sym over) tt
 level levels (letter b more) total at bytes rest name is placed none =
     let over : elements_at 0 (Some name) (bytes ++ rest) ≡ elements_at 0 (Some name) (is.0 ++ rest) =
-      ap (λ (s : List ℕ). elements_at 0 (Some name) (s ++ rest)) is.1 ∙ pass (byte b) (b ∷ []) (is.0 ++ rest) 0 0 (Some name) (refl, is.2) refl in
+    ap (λ (s : List ℕ). elements_at 0 (Some name) (s ++ rest)) is.1 ∙ pass (byte b) (b ∷ []) (is.0 ++ rest) 0 0 (Some name) (refl, is.2) refl in
     let counted : length (bytes ++ rest) ≡ suc (length (is.0 ++ rest)) = ap (λ (s : List ℕ). length (s ++ rest)) is.1 in
     subst (λ (fs : List Found). AllMatch total fs (named_in name more)) (sym over) (level levels more total (at + 1) is.0 rest name is.3 (omega arith) none)
 level levels (remark more) total at bytes rest name is placed none =
     let whole_is : bytes ++ rest ≡ is.0 ++ (is.1 ++ rest) = ap (λ (s : List ℕ). s ++ rest) is.2 ∙ append_assoc is.0 is.1 rest in
     let over : elements_at 0 (Some name) (bytes ++ rest) ≡ elements_at 0 (Some name) (is.1 ++ rest) =
-      ap (elements_at 0 (Some name)) whole_is ∙ pass comment is.0 (is.1 ++ rest) 0 0 (Some name) is.3 refl in
+    ap (elements_at 0 (Some name)) whole_is ∙ pass comment is.0 (is.1 ++ rest) 0 0 (Some name) is.3 refl in
     let counted : length (bytes ++ rest) ≡ length is.0 + length (is.1 ++ rest) = ap (λ (s : List ℕ). length s) whole_is ∙ length-append is.0 (is.1 ++ rest) in
     subst (λ (fs : List Found). AllMatch total fs (named_in name more)) (sym over) (level levels more total (at + length is.0) is.1 rest name is.4 (omega arith) none)
 level zero (element place tag inner more) total at bytes rest name is placed none = absurd is
@@ -200,16 +208,16 @@ pub children_match : (total : ℕ) (f : Found) (node : Node) (name : List ℕ) �
 children_match total f node name m =
     elim m.content [
       | inl h ↦
-        let shut = h.0 in
-        let none : children_at name f ≡ [] = rw shut refl in
-        let leaf : named_in name node.inner ≡ [] = ap (named_in name) h.1 in
-        subst (λ (ns : List Node). AllMatch total (children_at name f) ns) (sym leaf) (subst (λ (fs : List Found). AllMatch total fs []) (sym none) tt)
+          let shut = h.0 in
+          let none : children_at name f ≡ [] = rw shut refl in
+          let leaf : named_in name node.inner ≡ [] = ap (named_in name) h.1 in
+          subst (λ (ns : List Node). AllMatch total (children_at name f) ns) (sym leaf) (subst (λ (fs : List Found). AllMatch total fs []) (sym none) tt)
       | inr h ↦
-        let opens = h.opens in
-        let inside : children_at name f ≡ elements_at 0 (Some name) (h.inside ++ (h.closing ++ h.more)) = (rw opens refl) ∙ ap (elements_at 0 (Some name)) h.rest_is in
-        let placed : h.place + length (h.inside ++ (h.closing ++ h.more)) ≡ total = ap (λ (s : List ℕ). h.place + length s) (sym h.rest_is) ∙ h.place_is in
-        let all = level h.levels node.inner total h.place h.inside (h.closing ++ h.more) name h.is_content placed (end_of_level node.tag.name name h.closing h.more h.is_end) in
-        subst (λ (fs : List Found). AllMatch total fs (named_in name node.inner)) (sym inside) all
+          let opens = h.opens in
+          let inside : children_at name f ≡ elements_at 0 (Some name) (h.inside ++ (h.closing ++ h.more)) = (rw opens refl) ∙ ap (elements_at 0 (Some name)) h.rest_is in
+          let placed : h.place + length (h.inside ++ (h.closing ++ h.more)) ≡ total = ap (λ (s : List ℕ). h.place + length s) (sym h.rest_is) ∙ h.place_is in
+          let all = level h.levels node.inner total h.place h.inside (h.closing ++ h.more) name h.is_content placed (end_of_level node.tag.name name h.closing h.more h.is_end) in
+          subst (λ (fs : List Found). AllMatch total fs (named_in name node.inner)) (sym inside) all
     ]
 
 -- text up to an end tag
@@ -250,8 +258,8 @@ text_is (suc levels) (element place tag inner rest) at bytes closing more name i
     elim is.3.1 [
       | inl w ↦ tag_text_none is.0 (w.0.attributes ++ (w.0.space ++ 47 ∷ 62 ∷ [])) (is.1 ++ (closing ++ more)) tag.name w.0.parts w.0.is_name
       | inr w ↦
-        ap (λ (s : List ℕ). text_before (s ++ (is.1 ++ (closing ++ more)))) w.3 ∙ ap text_before (append_assoc w.0 (w.1 ++ w.2) (is.1 ++ (closing ++ more)))
-        ∙ tag_text_none w.0 (w.4.attributes ++ (w.4.space ++ 62 ∷ [])) ((w.1 ++ w.2) ++ (is.1 ++ (closing ++ more))) tag.name w.4.parts w.4.is_name
+          ap (λ (s : List ℕ). text_before (s ++ (is.1 ++ (closing ++ more)))) w.3 ∙ ap text_before (append_assoc w.0 (w.1 ++ w.2) (is.1 ++ (closing ++ more)))
+          ∙ tag_text_none w.0 (w.4.attributes ++ (w.4.space ++ 62 ∷ [])) ((w.1 ++ w.2) ++ (is.1 ++ (closing ++ more))) tag.name w.4.parts w.4.is_name
     ]
 
 text_match : (total : ℕ) (f : Found) (node : Node) → Matches total f node → text_at f ≡ text_of node.inner
@@ -260,9 +268,9 @@ text_match total f node m =
     elim m.content [
       | inl h ↦ let shut = h.0 in (rw shut refl) ∙ ap text_of (sym h.1)
       | inr h ↦
-        let opens = h.opens in
-        let inside : cond f.is_open (text_before f.rest) (Some []) ≡ text_before f.rest = rw opens refl in
-        inside ∙ ap text_before h.rest_is ∙ text_is h.levels node.inner h.place h.inside h.closing h.more node.tag.name h.is_content h.is_end
+          let opens = h.opens in
+          let inside : cond f.is_open (text_before f.rest) (Some []) ≡ text_before f.rest = rw opens refl in
+          inside ∙ ap text_before h.rest_is ∙ text_is h.levels node.inner h.place h.inside h.closing h.more node.tag.name h.is_content h.is_end
     ]
 
 pub row_match : (total : ℕ) (f : Found) (node : Node) → Matches total f node → row_of total f ≡ node_row node
@@ -322,24 +330,36 @@ root_here : (total at : ℕ) (root : Node) (text behind : List ℕ) → IsElemen
 root_here total at root text behind is placed =
     elim is.1 [
       | inl w ↦
-        let f : Found = record { from = text ++ behind; tag = root.tag; is_open = false; rest = behind } in
-        let split : Top (text ++ behind) ≡ f ∷ Top behind = elements_by (text ++ behind) (whole root.tag) behind 0 None (found root.tag false) (piece_again (whole root.tag) text behind w.0) refl in
-        (f, Top behind, split, record { at_is = place_less total at (text ++ behind) placed ∙ sym is.0; tag_is = refl; content = inl (refl, w.1) })
+          let f : Found = record { from = text ++ behind; tag = root.tag; is_open = false; rest = behind } in
+          let split : Top (text ++ behind) ≡ f ∷ Top behind = elements_by (text ++ behind) (whole root.tag) behind 0 None (found root.tag false) (piece_again (whole root.tag) text behind w.0) refl in
+          (f, Top behind, split, record { at_is = place_less total at (text ++ behind) placed ∙ sym is.0; tag_is = refl; content = inl (refl, w.1) })
       | inr w ↦
-        let rest = w.1 ++ (w.2 ++ behind) in
-        let whole_is : text ++ behind ≡ w.0 ++ rest = ap (λ (s : List ℕ). s ++ behind) w.3 ∙ three w.0 w.1 w.2 behind in
-        let f : Found = record { from = w.0 ++ rest; tag = root.tag; is_open = true; rest = rest } in
-        let split : Top (w.0 ++ rest) ≡ f ∷ elements_at 1 None rest = elements_by (w.0 ++ rest) (start root.tag) rest 0 None (found root.tag true) (piece_again (start root.tag) w.0 rest w.4) refl in
-        let here : at + length (w.0 ++ rest) ≡ total = ap (λ (s : List ℕ). at + length s) (sym whole_is) ∙ placed in
-        let inner_place : (at + length w.0) + length rest ≡ total = omega (arith, length-append w.0 rest) in
-        (f, elements_at 1 None rest, ap Top whole_is ∙ split, record {
-          at_is = place_less total at (w.0 ++ rest) here ∙ sym is.0;
-          tag_is = refl;
-          content = inr (record {
-            levels = 63; inside = w.1; closing = w.2; more = behind; place = at + length w.0;
-            opens = refl; rest_is = refl; is_content = w.5; is_end = w.6; place_is = inner_place;
-          });
-        })
+          let rest = w.1 ++ (w.2 ++ behind) in
+          let whole_is : text ++ behind ≡ w.0 ++ rest = ap (λ (s : List ℕ). s ++ behind) w.3 ∙ three w.0 w.1 w.2 behind in
+          let f : Found = record { from = w.0 ++ rest; tag = root.tag; is_open = true; rest = rest } in
+          let split : Top (w.0 ++ rest) ≡ f ∷ elements_at 1 None rest = elements_by (w.0 ++ rest) (start root.tag) rest 0 None (found root.tag true) (piece_again (start root.tag) w.0 rest w.4) refl in
+          let here : at + length (w.0 ++ rest) ≡ total = ap (λ (s : List ℕ). at + length s) (sym whole_is) ∙ placed in
+          let inner_place : (at + length w.0) + length rest ≡ total = omega (arith, length-append w.0 rest) in (
+            f,
+            elements_at 1 None rest,
+            ap Top whole_is ∙ split,
+            record {
+              at_is = place_less total at (w.0 ++ rest) here ∙ sym is.0;
+              tag_is = refl;
+              content = inr (record {
+                levels = 63;
+                inside = w.1;
+                closing = w.2;
+                more = behind;
+                place = at + length w.0;
+                opens = refl;
+                rest_is = refl;
+                is_content = w.5;
+                is_end = w.6;
+                place_is = inner_place;
+              });
+            },
+          )
     ]
 
 pub finds_root : (bytes : List ℕ) (root : Node) → IsDocument bytes root → FindsRoot bytes root
@@ -350,6 +370,6 @@ finds_root bytes root d =
     let placed : at + length (d.text ++ d.behind) ≡ length bytes = omega (arith, length-append d.opening inside, length-append d.before (d.text ++ d.behind)) in
     let h = root_here (length bytes) at root d.text d.behind d.is_root placed in
     let over : Top bytes ≡ Top (d.text ++ d.behind) =
-      ap Top d.parts ∙ top_mark d.mark (d.opening ++ inside) d.is_mark ∙ top_opening d.opening inside d.is_opening
-      ∙ top_misc d.misc_before.0 d.before (d.text ++ d.behind) d.misc_before.1 d.misc_before.2 in
+    ap Top d.parts ∙ top_mark d.mark (d.opening ++ inside) d.is_mark ∙ top_opening d.opening inside d.is_opening
+    ∙ top_misc d.misc_before.0 d.before (d.text ++ d.behind) d.misc_before.1 d.misc_before.2 in
     record { found = h.0; others = h.1; first = over ∙ h.2; matches = h.3 }

@@ -1,10 +1,10 @@
 -- What is a piece by the grammar is read as this piece, whatever follows it.
-use Rattle.std.proofs.Common.{◌≡◌, ◌≢◌, ℕ, zero, suc, ◌+◌, ◌<◌, ◌≤◌, Bool, true, false, cond, eqb, List, [], ◌∷◌, ◌++◌, length, Option, Some, None, refl, sym, ap, subst, ◌∙◌, ◌⊎◌, inl, inr, append_assoc, arith}
+use Rattle.std.proofs.Common.{◌≡◌, ◌≢◌, ℕ, ◌≤◌, Bool, true, false, cond, eqb, List, [], ◌∷◌, ◌++◌, length, Option, Some, None, refl, sym, ap, subst, ◌∙◌, inl, inr, append_assoc, arith}
 use Rattle.std.proofs.lemmas.Bool.{eqb-true, true≢false, cases_Bool, not-true}
 use Rattle.xtbml_subset.specs.declared.class.Class.TheVariants.{White, Name, Declared, Text}
 use Rattle.xtbml_subset.specs.Classes.{is_in, starts_name, InClass}
-use Rattle.xtbml_subset.specs.Pieces.{Attribute, Tag, Piece, byte, comment, declaration, start, whole, finish, IsSpace, IsName, AreAttributes, IsTag, IsEndTag, IsComment, EndsByDashes, IsDeclaration, IsPiece}
-use Rattle.xtbml_subset.specs.Reading.{◌>>=◌, after, byte_at, spaces_at, name_at, attribute_at, attributes_at, with_attribute, first_of, dashes_at, comment_end_at, comment_at, declaration_at, end_tag_at, tag_at, marked_at, piece_at}
+use Rattle.xtbml_subset.specs.Pieces.{Attribute, Tag, Piece, byte, comment, declaration, start, whole, finish, IsSpace, IsName, AreAttributes, EndsByDashes, IsPiece}
+use Rattle.xtbml_subset.specs.Reading.{after, spaces_at, attribute_at, attributes_at, with_attribute, first_of, dashes_at, comment_end_at, comment_at, declaration_at, end_tag_at, tag_at, marked_at, piece_at}
 use Rattle.xtbml_subset.proofs.AttributeRuns.{attributes_step, attributes_stop}
 use Rattle.xtbml_subset.proofs.PieceReading.{dashes_take}
 use Rattle.xtbml_subset.proofs.LexAgain.{Stops, after_again, stops_white, name_again, attribute_again, attribute_stops, no_attribute}
@@ -75,9 +75,9 @@ no_dashes_ahead (a ∷ b ∷ c ∷ text) rest long never =
     let both : P (dashes_at (a ∷ b ∷ c ∷ (text ++ rest))) = elim (dashes_at (a ∷ b ∷ c ∷ (text ++ rest))) as P [
       | None ↦ λ e. e
       | Some x ↦ λ e.
-        let same = heads a b c 45 45 62 (text ++ rest) x (dashes_take (a ∷ b ∷ c ∷ (text ++ rest)) x e) in
-        let is : a ∷ b ∷ c ∷ text ≡ 45 ∷ 45 ∷ 62 ∷ text = (let first = same.0 in let second = same.1 in let third = same.2 in cc) in
-        absurd (never text is)
+          let same = heads a b c 45 45 62 (text ++ rest) x (dashes_take (a ∷ b ∷ c ∷ (text ++ rest)) x e) in
+          let is : a ∷ b ∷ c ∷ text ≡ 45 ∷ 45 ∷ 62 ∷ text = (let first = same.0 in let second = same.1 in let third = same.2 in cc) in
+          absurd (never text is)
     ] in
     both refl
 

@@ -1,11 +1,11 @@
 -- A piece that is read is a piece of the grammar, and something stands before what is left.
-use Rattle.std.proofs.Common.{◌≡◌, ◌≢◌, ℕ, zero, suc, ◌+◌, ◌<◌, ◌≤◌, Bool, true, false, cond, eqb, List, [], ◌∷◌, ◌++◌, length, Option, Some, None, refl, sym, ap, subst, ◌∙◌, ◌⊎◌, inl, inr, append_assoc, arith}
-use Rattle.std.proofs.lemmas.Bool.{eqb-true, eqb-false}
-use Rattle.xtbml_subset.specs.declared.class.Class.TheVariants.{White, Name, Declared, Text}
-use Rattle.xtbml_subset.specs.Classes.{is_in, InClass}
-use Rattle.xtbml_subset.specs.Pieces.{Attribute, Tag, Piece, byte, comment, declaration, start, whole, finish, IsSpace, IsName, AreAttributes, IsTag, IsEndTag, IsComment, EndsByDashes, IsDeclaration, IsPiece}
-use Rattle.xtbml_subset.specs.Reading.{◌>>=◌, front, after, byte_at, spaces_at, name_at, attribute_at, attributes_from, attributes_at, with_attribute, first_of, dashes_at, comment_end_at, comment_at, declaration_at, end_tag_at, start_at, whole_at, tag_end_at, tag_at, marked_at, piece_at}
-use Rattle.xtbml_subset.proofs.Options.{bind_some, first_of_some, chosen, some_is, pair_is, some_pair}
+use Rattle.std.proofs.Common.{◌≡◌, ◌≢◌, ℕ, zero, suc, ◌<◌, ◌≤◌, true, cond, eqb, List, [], ◌∷◌, ◌++◌, length, Option, Some, None, refl, sym, ap, subst, ◌∙◌, inl, inr, append_assoc, arith}
+use Rattle.std.proofs.lemmas.Bool.{eqb-true}
+use Rattle.xtbml_subset.specs.declared.class.Class.TheVariants.{White, Declared, Text}
+use Rattle.xtbml_subset.specs.Classes.{is_in}
+use Rattle.xtbml_subset.specs.Pieces.{Attribute, Tag, Piece, byte, comment, declaration, start, whole, finish, IsName, AreAttributes, IsTag, IsEndTag, EndsByDashes, IsDeclaration, IsPiece}
+use Rattle.xtbml_subset.specs.Reading.{◌>>=◌, front, after, byte_at, spaces_at, name_at, attribute_at, attributes_from, attributes_at, with_attribute, dashes_at, comment_end_at, comment_at, declaration_at, end_tag_at, start_at, whole_at, tag_end_at, tag_at, marked_at, piece_at}
+use Rattle.xtbml_subset.proofs.Options.{bind_some, first_of_some, chosen, pair_is, some_pair}
 use Rattle.xtbml_subset.proofs.Runs.{front-after, front_in}
 use Rattle.xtbml_subset.proofs.Lexing.{byte_takes, spaces_takes, name_takes, attribute_takes}
 use Rattle.xtbml_subset.proofs.Behind.{IsBehind, behind_shorter}
@@ -36,10 +36,10 @@ comment_end_takes (b ∷ bytes) rest e =
     elim (first_of_some (dashes_at (b ∷ bytes)) (comment_end_at bytes) rest e) [
       | inl h ↦ (45 ∷ 45 ∷ 62 ∷ [], dashes_take (b ∷ bytes) rest h, inl refl)
       | inr h ↦
-        let t = comment_end_takes bytes rest h.1 in
-        let whole_is : b ∷ bytes ≡ (b ∷ t.0) ++ rest = ap (λ (s : List ℕ). b ∷ s) t.1 in
-        let none : dashes_at ((b ∷ t.0) ++ rest) ≡ None = ap dashes_at (sym whole_is) ∙ h.0 in
-        (b ∷ t.0, whole_is, inr (no_dashes (b ∷ t.0) rest none, t.2))
+          let t = comment_end_takes bytes rest h.1 in
+          let whole_is : b ∷ bytes ≡ (b ∷ t.0) ++ rest = ap (λ (s : List ℕ). b ∷ s) t.1 in
+          let none : dashes_at ((b ∷ t.0) ++ rest) ≡ None = ap dashes_at (sym whole_is) ∙ h.0 in
+          (b ∷ t.0, whole_is, inr (no_dashes (b ∷ t.0) rest none, t.2))
     ]
 
 comment_takes : (bytes : List ℕ) (piece : Piece) (rest : List ℕ) → comment_at bytes ≡ Some (piece, rest) → TakesPiece (60 ∷ 33 ∷ bytes) piece rest
@@ -127,9 +127,9 @@ attributes_take_upto (suc n) bytes le =
     let both : P (attribute_at bytes) = elim (attribute_at bytes) as P [
       | None ↦ λ e. subst (TakesAttributes bytes) (sym (attributes_stop bytes e)) (record { text = []; parts = refl; are_attributes = refl })
       | Some x ↦ λ e.
-        let shorter : length x.1 < length bytes = behind_shorter bytes x.1 (attribute_behind bytes x.0 x.1 e) in
-        let more = more_attributes bytes x.0 x.1 (attributes_at x.1) e (attributes_take_upto n x.1 (omega arith)) in
-        subst (TakesAttributes bytes) (sym (attributes_step bytes x.0 x.1 e)) more
+          let shorter : length x.1 < length bytes = behind_shorter bytes x.1 (attribute_behind bytes x.0 x.1 e) in
+          let more = more_attributes bytes x.0 x.1 (attributes_at x.1) e (attributes_take_upto n x.1 (omega arith)) in
+          subst (TakesAttributes bytes) (sym (attributes_step bytes x.0 x.1 e)) more
     ] in
     both refl
 
@@ -171,16 +171,16 @@ tag_takes bytes piece rest e =
     let end = after White read.1 in
     elim (first_of_some (start_at tag end) (whole_at tag end) (piece, rest) n.2) [
       | inl h ↦
-        let b = bind_some (byte_at 62 end) (λ more. some_pair (start tag) more) (piece, rest) h in
-        let p = pair_is (start tag) piece b.0 rest b.2 in
-        let end_is : end ≡ (62 ∷ []) ++ rest = byte_takes 62 end b.0 b.1 ∙ ap (λ (t : List ℕ). 62 ∷ t) p.1 in
-        tag_parts bytes n.0.0 n.0.1 read (62 ∷ []) rest piece nt.0 nt.1 taken end_is (λ text is. subst (λ (q : Piece). IsPiece q text) p.0 is)
+          let b = bind_some (byte_at 62 end) (λ more. some_pair (start tag) more) (piece, rest) h in
+          let p = pair_is (start tag) piece b.0 rest b.2 in
+          let end_is : end ≡ (62 ∷ []) ++ rest = byte_takes 62 end b.0 b.1 ∙ ap (λ (t : List ℕ). 62 ∷ t) p.1 in
+          tag_parts bytes n.0.0 n.0.1 read (62 ∷ []) rest piece nt.0 nt.1 taken end_is (λ text is. subst (λ (q : Piece). IsPiece q text) p.0 is)
       | inr h ↦
-        let b = bind_some (byte_at 47 end >>= λ more. byte_at 62 more) (λ more. some_pair (whole tag) more) (piece, rest) h.1 in
-        let a = bind_some (byte_at 47 end) (λ more. byte_at 62 more) b.0 b.1 in
-        let p = pair_is (whole tag) piece b.0 rest b.2 in
-        let end_is : end ≡ (47 ∷ 62 ∷ []) ++ rest = byte_takes 47 end a.0 a.1 ∙ ap (λ (t : List ℕ). 47 ∷ t) (byte_takes 62 a.0 b.0 a.2) ∙ ap (λ (t : List ℕ). 47 ∷ 62 ∷ t) p.1 in
-        tag_parts bytes n.0.0 n.0.1 read (47 ∷ 62 ∷ []) rest piece nt.0 nt.1 taken end_is (λ text is. subst (λ (q : Piece). IsPiece q text) p.0 is)
+          let b = bind_some (byte_at 47 end >>= λ more. byte_at 62 more) (λ more. some_pair (whole tag) more) (piece, rest) h.1 in
+          let a = bind_some (byte_at 47 end) (λ more. byte_at 62 more) b.0 b.1 in
+          let p = pair_is (whole tag) piece b.0 rest b.2 in
+          let end_is : end ≡ (47 ∷ 62 ∷ []) ++ rest = byte_takes 47 end a.0 a.1 ∙ ap (λ (t : List ℕ). 47 ∷ t) (byte_takes 62 a.0 b.0 a.2) ∙ ap (λ (t : List ℕ). 47 ∷ 62 ∷ t) p.1 in
+          tag_parts bytes n.0.0 n.0.1 read (47 ∷ 62 ∷ []) rest piece nt.0 nt.1 taken end_is (λ text is. subst (λ (q : Piece). IsPiece q text) p.0 is)
     ]
 
 -- ---- all pieces
@@ -192,14 +192,14 @@ marked_takes (b ∷ bytes) piece rest e =
     elim (chosen (eqb b 33) (comment_at bytes) (cond (eqb b 63) (declaration_at bytes) (cond (eqb b 47) (end_tag_at bytes) (tag_at (b ∷ bytes)))) (Some (piece, rest)) e) [
       | inl h ↦ let same : b ≡ 33 = eqb-true b 33 h.0 in rw same (comment_takes bytes piece rest h.1)
       | inr h ↦
-        elim (chosen (eqb b 63) (declaration_at bytes) (cond (eqb b 47) (end_tag_at bytes) (tag_at (b ∷ bytes))) (Some (piece, rest)) h.1) [
-          | inl k ↦ let same : b ≡ 63 = eqb-true b 63 k.0 in rw same (declaration_takes bytes piece rest k.1)
-          | inr k ↦
-            elim (chosen (eqb b 47) (end_tag_at bytes) (tag_at (b ∷ bytes)) (Some (piece, rest)) k.1) [
-              | inl m ↦ let same : b ≡ 47 = eqb-true b 47 m.0 in rw same (end_tag_takes bytes piece rest m.1)
-              | inr m ↦ tag_takes (b ∷ bytes) piece rest m.1
-            ]
-        ]
+          elim (chosen (eqb b 63) (declaration_at bytes) (cond (eqb b 47) (end_tag_at bytes) (tag_at (b ∷ bytes))) (Some (piece, rest)) h.1) [
+            | inl k ↦ let same : b ≡ 63 = eqb-true b 63 k.0 in rw same (declaration_takes bytes piece rest k.1)
+            | inr k ↦
+                elim (chosen (eqb b 47) (end_tag_at bytes) (tag_at (b ∷ bytes)) (Some (piece, rest)) k.1) [
+                  | inl m ↦ let same : b ≡ 47 = eqb-true b 47 m.0 in rw same (end_tag_takes bytes piece rest m.1)
+                  | inr m ↦ tag_takes (b ∷ bytes) piece rest m.1
+                ]
+          ]
     ]
 
 pub piece_takes : (bytes : List ℕ) (piece : Piece) (rest : List ℕ) → piece_at bytes ≡ Some (piece, rest) → TakesPiece bytes piece rest
@@ -209,10 +209,10 @@ piece_takes (b ∷ bytes) piece rest e =
     elim (chosen (eqb b 60) (marked_at bytes) (Some (byte b, bytes)) (Some (piece, rest)) e) [
       | inl h ↦ let same : b ≡ 60 = eqb-true b 60 h.0 in rw same (marked_takes bytes piece rest h.1)
       | inr h ↦
-        let p = pair_is (byte b) piece bytes rest h.1 in
-        let is_text : is_in Text b ≡ true = rw h.0 refl in
-        let is : IsPiece (byte b) (b ∷ []) = (refl, is_text) in
-        record { text = b ∷ []; parts = ap (λ (t : List ℕ). b ∷ t) p.1; is_piece = subst (λ (q : Piece). IsPiece q (b ∷ [])) p.0 is }
+          let p = pair_is (byte b) piece bytes rest h.1 in
+          let is_text : is_in Text b ≡ true = rw h.0 refl in
+          let is : IsPiece (byte b) (b ∷ []) = (refl, is_text) in
+          record { text = b ∷ []; parts = ap (λ (t : List ℕ). b ∷ t) p.1; is_piece = subst (λ (q : Piece). IsPiece q (b ∷ [])) p.0 is }
     ]
 
 begins : (text more rest : List ℕ) (first : ℕ) → text ≡ first ∷ more → IsBehind (text ++ rest) rest

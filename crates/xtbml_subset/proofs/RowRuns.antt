@@ -1,13 +1,13 @@
 -- Rows read one after the other.
-use Rattle.std.proofs.Common.{◌≡◌, ℕ, ◌+◌, List, [], ◌∷◌, ◌++◌, map, Option, None, Some, Result, Ok, Err, refl, sym, ap, subst, ◌∙◌, append_assoc, codes}
-use Rattle.std.specs.Option.{option_map, MatchOption}
+use Rattle.std.proofs.Common.{◌≡◌, ℕ, ◌+◌, List, [], ◌∷◌, ◌++◌, map, Option, None, Some, Result, Ok, Err, refl, sym, ap, subst, append_assoc, codes}
+use Rattle.std.specs.Option.{MatchOption}
 use Rattle.std.proofs.lemmas.List.{append-nil}
 use Rattle.xtbml_subset.specs.declared.found.Element.{Element}
 use Rattle.xtbml_subset.specs.declared.fault.TableFault.{TableFault}
 use Rattle.xtbml_subset.specs.declared.fault.TableFault.TheVariants.{Bad, NoMemory}
 use Rattle.xtbml_subset.specs.Elements.{Found, siblings_at}
-use Rattle.xtbml_subset.specs.Checks.{Row, IsRow, AreRows, Continues, with_rate}
-use Rattle.xtbml_subset.specs.Rows.{row_of, rows_at, Unless}
+use Rattle.xtbml_subset.specs.Checks.{Row, IsRow, AreRows, with_rate}
+use Rattle.xtbml_subset.specs.Rows.{row_of, Unless}
 use Rattle.xtbml_subset.specs.Views.{found_of}
 
 -- rates that were read, before those to come

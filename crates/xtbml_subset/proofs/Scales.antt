@@ -1,5 +1,5 @@
 -- Which factors leave the rates as they are.
-use Rattle.std.proofs.Common.{◌≡◌, ℕ, Bool, true, false, eqb, ◌||◌, List, [], ◌∷◌, ◌++◌, length, Option, Some, None, refl, sym, ap, subst, ◌∙◌, ◌⊎◌, inl, inr}
+use Rattle.std.proofs.Common.{◌≡◌, ℕ, Bool, true, false, eqb, ◌||◌, List, [], ◌++◌, Some, refl, sym, ap, subst, ◌∙◌, ◌⊎◌, inl, inr}
 use Rattle.std.specs.Prelude.{MatchBool}
 use Rattle.std.proofs.lemmas.Bool.{eqb-true, eq-eqb, or_cases, or_left, or_right, true≢false}
 use Rattle.std.proofs.lemmas.List.{append-nil}
@@ -29,11 +29,11 @@ by_unit : (rate : ℕ) (P : Type 0) → (rate ≡ 0 → P) → (rate ≡ 1000000
 by_unit rate P zero one back =
     let M : Bool → Type 0 = λ t. (eqb rate 0 || eqb rate 1000000000) ≡ t → MatchBool t P (P → ⊥) in
     let both : M (eqb rate 0 || eqb rate 1000000000) = elim (eqb rate 0 || eqb rate 1000000000) as M [
-      | true ↦ λ e. elim (or_cases (eqb rate 0) (eqb rate 1000000000) e) [ | inl h ↦ zero (eqb-true rate 0 h) | inr h ↦ one (eqb-true rate 1000000000 h) ]
+      | true ↦ λ e. elim (or_cases (eqb rate 0) (eqb rate 1000000000) e) [ inl h ↦ zero (eqb-true rate 0 h) | inr h ↦ one (eqb-true rate 1000000000 h) ]
       | false ↦ λ e p. elim (back p) [
-          | inl h ↦ true≢false (sym (or_left (eqb rate 0) (eqb rate 1000000000) (eq-eqb rate 0 h)) ∙ e)
-          | inr h ↦ true≢false (sym (or_right (eqb rate 0) (eqb rate 1000000000) (eq-eqb rate 1000000000 h)) ∙ e)
-        ]
+        | inl h ↦ true≢false (sym (or_left (eqb rate 0) (eqb rate 1000000000) (eq-eqb rate 0 h)) ∙ e)
+        | inr h ↦ true≢false (sym (or_right (eqb rate 0) (eqb rate 1000000000) (eq-eqb rate 1000000000 h)) ∙ e)
+      ]
     ] in
     both refl
 
@@ -41,12 +41,12 @@ pub unscaled_by : (text : List ℕ) (rate : ℕ) → IsRate (trimmed text) rate 
     → MatchBool (eqb rate 0 || eqb rate 1000000000) (IsUnscaled (Some text)) (IsUnscaled (Some text) → ⊥)
 unscaled_by text rate is filled =
     by_unit rate (IsUnscaled (Some text))
-      (λ e. inr (inl (subst (IsRate (trimmed text)) e is)))
-      (λ e. inr (inr (subst (IsRate (trimmed text)) e is)))
-      (λ u. elim u [
-        | inl white ↦ absurd (filled white)
-        | inr r ↦ elim r [ | inl zero ↦ inl (one_rate (trimmed text) rate 0 is zero) | inr one ↦ inr (one_rate (trimmed text) rate 1000000000 is one) ]
-      ])
+    (λ e. inr (inl (subst (IsRate (trimmed text)) e is)))
+    (λ e. inr (inr (subst (IsRate (trimmed text)) e is)))
+    (λ u. elim u [
+      | inl white ↦ absurd (filled white)
+      | inr r ↦ elim r [ inl zero ↦ inl (one_rate (trimmed text) rate 0 is zero) | inr one ↦ inr (one_rate (trimmed text) rate 1000000000 is one) ]
+    ])
 
 pub scaled_by_none : (text : List ℕ) → ((rate : ℕ) → IsRate (trimmed text) rate → ⊥) → (InClass White text → ⊥) → IsUnscaled (Some text) → ⊥
 scaled_by_none text none filled (inl white) = filled white

@@ -1,11 +1,11 @@
 -- The search for elements, one piece on and at its end.
-use Rattle.std.proofs.Common.{true, false, inl, inr, ◌≡◌, ℕ, zero, suc, ◌+◌, ◌-◌, ◌<◌, ◌≤◌, List, [], ◌∷◌, ◌++◌, length, Option, Some, None, refl, sym, ap, subst, ◌∙◌, arith}
+use Rattle.std.proofs.Common.{true, false, inl, inr, ◌≡◌, ℕ, zero, suc, ◌+◌, ◌≤◌, List, [], ◌∷◌, ◌++◌, length, Option, Some, None, refl, sym, subst, arith}
 use Rattle.std.specs.Option.{option_map_or}
 use Rattle.xtbml_subset.specs.Pieces.{Piece, byte, comment, declaration, start, whole, finish}
 use Rattle.xtbml_subset.specs.Reading.{piece_at}
-use Rattle.xtbml_subset.specs.Elements.{Found, is_hit, Step, on, found, closed, step_of, depth_after, found_by, elements_from, elements_at}
+use Rattle.xtbml_subset.specs.Elements.{Found, is_hit, Step, on, found, step_of, depth_after, found_by, elements_from, elements_at}
 use Rattle.xtbml_subset.proofs.Options.{chosen}
-use Rattle.xtbml_subset.proofs.Behind.{IsBehind, behind_count}
+use Rattle.xtbml_subset.proofs.Behind.{behind_count}
 use Rattle.xtbml_subset.proofs.PieceReading.{piece_behind}
 
 abbrev pub elements_then : Option ℕ → Option (List ℕ) → List ℕ → List Found
@@ -34,7 +34,7 @@ pub elements_step : (bytes : List ℕ) (piece : Piece) (rest : List ℕ) (depth 
 elements_step bytes piece rest depth wanted e =
     let b = piece_behind bytes piece rest e in
     let P : List ℕ → Type 0 = λ s. piece_at s ≡ Some (piece, rest)
-      → elements_at depth wanted s ≡ found_by s rest (step_of depth wanted piece) ++ elements_then (depth_after (step_of depth wanted piece)) wanted rest in
+    → elements_at depth wanted s ≡ found_by s rest (step_of depth wanted piece) ++ elements_then (depth_after (step_of depth wanted piece)) wanted rest in
     subst P (sym b.parts) (step_at b.first b.front rest depth wanted piece) e
 
 -- the same where the step is known

@@ -1,16 +1,15 @@
 -- How far the walk goes is how far the bytes nest.
-use Rattle.std.proofs.Common.{◌≡◌, ℕ, zero, suc, ◌+◌, ◌-◌, ◌<◌, ◌≤◌, Bool, true, false, cond, eqb, List, [], ◌∷◌, ◌++◌, length, take, drop, Option, Some, None, refl, sym, ap, subst, ◌∙◌, ◌⊎◌, inl, inr, append_assoc, arith}
-use Rattle.std.proofs.lemmas.Bool.{eqb-true, cases_Bool}
+use Rattle.std.proofs.Common.{◌≡◌, ℕ, zero, suc, ◌+◌, ◌-◌, ◌<◌, ◌≤◌, List, [], ◌∷◌, ◌++◌, length, take, drop, Option, Some, None, refl, sym, ap, subst, ◌∙◌, inl, inr, append_assoc, arith}
 use Rattle.std.proofs.lemmas.List.{length-append, take-append-drop, take_at, length-take, append-nil}
 use Rattle.std.specs.Option.{unwrap_or}
 use Rattle.xtbml_subset.specs.declared.state.Phase.{Phase}
 use Rattle.xtbml_subset.specs.declared.state.Phase.TheVariants.{Opening, Prolog, Epilog}
 use Rattle.xtbml_subset.specs.declared.class.Class.TheVariants.{White}
 use Rattle.xtbml_subset.specs.Classes.{is_in}
-use Rattle.xtbml_subset.specs.Pieces.{Tag, Piece, byte, comment, declaration, start, whole, finish, IsPiece}
+use Rattle.xtbml_subset.specs.Pieces.{Piece, byte, comment, declaration, start, whole, finish, IsPiece}
 use Rattle.xtbml_subset.specs.Reading.{◌>>=◌, byte_at, piece_at}
-use Rattle.xtbml_subset.specs.Nesting.{State, outside, after_piece, Spell, Nests, IsMark, IsNested}
-use Rattle.xtbml_subset.specs.Walk.{walk_at, after_mark, is_ended, fault_place, fault_at}
+use Rattle.xtbml_subset.specs.Nesting.{State, outside, after_piece, Spell, Nests, IsMark}
+use Rattle.xtbml_subset.specs.Walk.{walk_at, after_mark, fault_place, fault_at}
 use Rattle.xtbml_subset.specs.Documents.{Node, IsDocument}
 use Rattle.xtbml_subset.specs.Answers.{IsLongestNested}
 use Rattle.xtbml_subset.proofs.Options.{bind_some, chosen, some_is}
@@ -67,9 +66,9 @@ walked_upto (suc n) bytes state le =
     let both : P (piece_at bytes) = elim (piece_at bytes) as P [
       | None ↦ λ e. subst (Walked state bytes) (sym (walk_end bytes state e)) (walked_none state bytes)
       | Some x ↦ λ e.
-        let shorter : length x.1 < length bytes = behind_shorter bytes x.1 (piece_behind bytes x.0 x.1 e) in
-        let low : length x.1 ≤ n = omega arith in
-        walked_piece n bytes state x e low (λ next. walked_upto n x.1 next low)
+          let shorter : length x.1 < length bytes = behind_shorter bytes x.1 (piece_behind bytes x.0 x.1 e) in
+          let low : length x.1 ≤ n = omega arith in
+          walked_piece n bytes state x e low (λ next. walked_upto n x.1 next low)
     ] in
     both refl
 
@@ -94,9 +93,11 @@ marked_by : (bytes : List ℕ) (o : Option (List ℕ)) → (byte_at 239 bytes >>
 marked_by bytes None e = ([], tt, refl)
 marked_by bytes (Some rest) e =
     let b = bind_some (byte_at 239 bytes >>= λ more. byte_at 187 more) (λ more. byte_at 191 more) rest e in
-    let a = bind_some (byte_at 239 bytes) (λ more. byte_at 187 more) b.0 b.1 in
-    (239 ∷ 187 ∷ 191 ∷ [], refl,
-      byte_takes 239 bytes a.0 a.1 ∙ ap (λ (s : List ℕ). 239 ∷ s) (byte_takes 187 a.0 b.0 a.2) ∙ ap (λ (s : List ℕ). 239 ∷ 187 ∷ s) (byte_takes 191 b.0 rest b.2))
+    let a = bind_some (byte_at 239 bytes) (λ more. byte_at 187 more) b.0 b.1 in (
+      239 ∷ 187 ∷ 191 ∷ [],
+      refl,
+      byte_takes 239 bytes a.0 a.1 ∙ ap (λ (s : List ℕ). 239 ∷ s) (byte_takes 187 a.0 b.0 a.2) ∙ ap (λ (s : List ℕ). 239 ∷ 187 ∷ s) (byte_takes 191 b.0 rest b.2),
+    )
 
 pub splits_mark : (bytes : List ℕ) → SplitsMark bytes
 splits_mark bytes =
@@ -166,7 +167,7 @@ not_shorter bytes [] text more (piece ∷ pieces) end parts is_mark spelled nest
     let clear : NoMark bytes = subst NoMark (sym first_is) (piece_no_mark piece spelled.0 (spelled.1 ++ more) nests.0 spelled.3 nests.1) in
     let rest : after_mark bytes ≡ text ++ more = no_mark_after bytes clear ∙ parts in
     let same : walk_at (outside Opening) (after_mark bytes) ≡ walk_at end more
-      = ap (walk_at (outside Opening)) rest ∙ nests_walk (piece ∷ pieces) text more (outside Opening) end spelled nests in
+    = ap (walk_at (outside Opening)) rest ∙ nests_walk (piece ∷ pieces) text more (outside Opening) end spelled nests in
     subst (λ (e : State × List ℕ). length e.1 ≤ length more) (sym same) (walk_short more end)
 
 place_is : (total at : ℕ) (phase : Phase) (names : List (List ℕ)) (rest : List ℕ) → fault_place total (record { phase = phase; names = names }, rest) ≡ Some at → at ≡ total - length rest
@@ -193,9 +194,9 @@ longest_nested bytes at e =
       end = end.0;
       nested = record { mark = m.mark; rest = w.text; pieces = w.pieces; parts = front_is; is_mark = m.is_mark; spelled = w.spelled; nests = w.nests };
       longest = λ n other le nested.
-        let more = drop n bytes in
-        let all : bytes ≡ nested.mark ++ (nested.rest ++ more) = sym (take-append-drop n bytes) ∙ ap (λ (s : List ℕ). s ++ more) nested.parts ∙ append_assoc nested.mark nested.rest more in
-        let low : length end.1 ≤ length more = not_shorter bytes nested.mark nested.rest more nested.pieces other all nested.is_mark nested.spelled nested.nests in
-        let count : length bytes ≡ length (take n bytes) + length more = ap (λ (s : List ℕ). length s) (sym (take-append-drop n bytes)) ∙ length-append (take n bytes) more in
-        omega (arith, length-take n bytes);
+          let more = drop n bytes in
+          let all : bytes ≡ nested.mark ++ (nested.rest ++ more) = sym (take-append-drop n bytes) ∙ ap (λ (s : List ℕ). s ++ more) nested.parts ∙ append_assoc nested.mark nested.rest more in
+          let low : length end.1 ≤ length more = not_shorter bytes nested.mark nested.rest more nested.pieces other all nested.is_mark nested.spelled nested.nests in
+          let count : length bytes ≡ length (take n bytes) + length more = ap (λ (s : List ℕ). length s) (sym (take-append-drop n bytes)) ∙ length-append (take n bytes) more in
+          omega (arith, length-take n bytes);
     }

@@ -1,14 +1,14 @@
 -- The stack of names of the elements that are open.
-use Rattle.std.proofs.Common.{cond, ltb, Option, Some, None, Bool, true, false, subst, ◌≡◌, ℕ, zero, suc, ◌+◌, ◌<◌, ◌≤◌, ◌≢◌, List, [], ◌∷◌, length, get_or, map, refl, sym, ap, ◌∙◌, arith}
+use Rattle.std.proofs.Common.{ltb, Option, Some, None, Bool, true, false, ◌≡◌, ℕ, zero, suc, ◌+◌, ◌<◌, ◌≤◌, ◌≢◌, List, [], ◌∷◌, length, get_or, map, refl, ap, ◌∙◌, arith}
 use Rattle.std.proofs.Math.ListN.{set}
 use Rattle.std.proofs.Math.Numerals.{add-one}
-use Rattle.std.proofs.lemmas.Bool.{lt-ltb, le-ltb, ltb-true, ltb-false}
+use Rattle.std.proofs.lemmas.Bool.{ltb-true, ltb-false}
 use Rattle.std.proofs.lemmas.List.{get_or-set_same, get_or-set_other, map-set, length-map}
 use Rattle.std.specs.Borrow.{Bor}
 use Rattle.std.specs.Prelude.{MatchBool}
 use Rattle.xtbml_subset.specs.declared.state.Phase.{Phase}
 use Rattle.xtbml_subset.specs.Pieces.{Tag, start, whole}
-use Rattle.xtbml_subset.specs.Nesting.{State, after_names, after_inside}
+use Rattle.xtbml_subset.specs.Nesting.{State, after_names}
 use Rattle.xtbml_subset.specs.Walk.{names_of}
 
 names_of-set : (depth : ℕ) (names : List (List ℕ)) (i : ℕ) (name : List ℕ) → depth ≤ i → names_of depth (set names i name) ≡ names_of depth names
@@ -54,8 +54,8 @@ whole_in phase zero names tag lt = absurd (omega arith)
 whole_in phase (suc depth) names tag lt =
     let len : length (names_of (suc depth) names) ≡ suc depth = length-names_of (suc depth) names in
     by_test (ltb (suc depth) 64) (whole_after phase (suc depth) names tag ≡ Some (record { phase = phase; names = names_of (suc depth) names })) (whole_after phase (suc depth) names tag ≡ None)
-      (λ e. let t : ltb (length (names_of (suc depth) names)) 64 ≡ true = ap (λ n. ltb n 64) len ∙ e in rw t refl)
-      (λ e. let t : ltb (length (names_of (suc depth) names)) 64 ≡ false = ap (λ n. ltb n 64) len ∙ e in rw t refl)
+    (λ e. let t : ltb (length (names_of (suc depth) names)) 64 ≡ true = ap (λ n. ltb n 64) len ∙ e in rw t refl)
+    (λ e. let t : ltb (length (names_of (suc depth) names)) 64 ≡ false = ap (λ n. ltb n 64) len ∙ e in rw t refl)
 
 pub start_in : (phase : Phase) (depth : ℕ) (names : List (List ℕ)) (tag : Tag) → 0 < depth
     → MatchBool (ltb depth 64) (start_after phase depth names tag ≡ Some (record { phase = phase; names = tag.name ∷ names_of depth names })) (start_after phase depth names tag ≡ None)
@@ -63,5 +63,5 @@ start_in phase zero names tag lt = absurd (omega arith)
 start_in phase (suc depth) names tag lt =
     let len : length (names_of (suc depth) names) ≡ suc depth = length-names_of (suc depth) names in
     by_test (ltb (suc depth) 64) (start_after phase (suc depth) names tag ≡ Some (record { phase = phase; names = tag.name ∷ names_of (suc depth) names })) (start_after phase (suc depth) names tag ≡ None)
-      (λ e. let t : ltb (length (names_of (suc depth) names)) 64 ≡ true = ap (λ n. ltb n 64) len ∙ e in rw t refl)
-      (λ e. let t : ltb (length (names_of (suc depth) names)) 64 ≡ false = ap (λ n. ltb n 64) len ∙ e in rw t refl)
+    (λ e. let t : ltb (length (names_of (suc depth) names)) 64 ≡ true = ap (λ n. ltb n 64) len ∙ e in rw t refl)
+    (λ e. let t : ltb (length (names_of (suc depth) names)) 64 ≡ false = ap (λ n. ltb n 64) len ∙ e in rw t refl)

@@ -1,16 +1,15 @@
 -- Rows that are read make the rates of a table.
-use Rattle.std.proofs.Common.{◌≡◌, ℕ, zero, suc, ◌+◌, ◌<◌, ◌≤◌, Bool, true, false, cond, eqb, leb, List, [], ◌∷◌, length, get_or, map, Option, Some, None, Result, Ok, Err, refl, sym, ap, subst, ◌∙◌, ◌⊎◌, inl, inr, arith}
+use Rattle.std.proofs.Common.{◌≡◌, ℕ, zero, suc, ◌+◌, ◌<◌, ◌≤◌, Bool, true, false, cond, leb, List, [], ◌∷◌, length, get_or, Option, Some, None, Result, Ok, Err, refl, sym, ap, subst, ◌∙◌, ◌⊎◌, inl, inr, arith}
 use Rattle.std.specs.Prelude.{MatchBool}
 use Rattle.std.specs.Option.{unwrap_or}
 use Rattle.std.proofs.lemmas.Bool.{eqb-true, leb-true}
-use Rattle.decimal_text.specs.Rate.{IsRate}
 use Rattle.rate_table.specs.Rates.{Rates, ONE, AreRates}
-use Rattle.rate_table.specs.Faults.{IsFirstFault, IsFirstAbove}
+use Rattle.rate_table.specs.Faults.{IsFirstFault}
 use Rattle.rate_table.specs.declared.fault.RatesFault.{RatesFault}
 use Rattle.rate_table.specs.declared.fault.RatesFault.TheVariants.{Empty, PastAge130, RateAboveOne}
 use Rattle.xtbml_subset.specs.declared.fault.TableFault.{TableFault}
 use Rattle.xtbml_subset.specs.Reading.{◌>>=◌}
-use Rattle.xtbml_subset.specs.Checks.{◌>=>◌, Row, short_number, age_of, is_due, Reads, rated, IsAged, IsRow, with_rate, Continues, AreRows, first_age}
+use Rattle.xtbml_subset.specs.Checks.{Row, short_number, age_of, is_due, Reads, rated, IsAged, IsRow, with_rate, Continues, AreRows, first_age}
 use Rattle.xtbml_subset.proofs.Options.{bind_some, chosen, some_is}
 
 abbrev ok_row : ℕ × ℕ → Result (ℕ × ℕ) TableFault
@@ -48,8 +47,8 @@ aged_ok due row None age rate e is = absurd cc
 aged_ok due row (Some found) age rate e is =
     elim (at_test (is_due due found) _ _ is) [
       | inl h ↦
-        let r = rated_ok row found age rate h.1.0 h.1.1 h.1.2 in
-        record { age_is = e ∙ ap (λ n. Some n) r.0; due_is = subst (λ n. is_due due n ≡ true) r.0 h.0; rate_is = r.1 }
+          let r = rated_ok row found age rate h.1.0 h.1.1 h.1.2 in
+          record { age_is = e ∙ ap (λ n. Some n) r.0; due_is = subst (λ n. is_due due n ≡ true) r.0 h.0; rate_is = r.1 }
       | inr h ↦ absurd (let no_row = h.1 in cc)
     ]
 

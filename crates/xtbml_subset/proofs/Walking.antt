@@ -1,11 +1,10 @@
 -- The walk over the pieces of the bytes, one piece on and at its end.
-use Rattle.std.proofs.Common.{◌≡◌, ℕ, zero, suc, ◌+◌, ◌-◌, ◌<◌, ◌≤◌, List, [], ◌∷◌, ◌++◌, length, Option, Some, None, refl, sym, ap, subst, ◌∙◌, arith}
-use Rattle.std.specs.Option.{option_map_or}
+use Rattle.std.proofs.Common.{◌≡◌, ℕ, ◌-◌, List, [], ◌∷◌, ◌++◌, length, Some, None, refl, ap, subst, ◌∙◌}
 use Rattle.xtbml_subset.specs.Pieces.{Piece}
 use Rattle.xtbml_subset.specs.Reading.{piece_at}
 use Rattle.xtbml_subset.specs.Nesting.{State, after_piece}
 use Rattle.xtbml_subset.specs.Walk.{walk_from, walk_at, fault_place}
-use Rattle.xtbml_subset.proofs.Behind.{IsBehind, behind_count}
+use Rattle.xtbml_subset.proofs.Behind.{behind_count}
 use Rattle.xtbml_subset.proofs.PieceReading.{piece_behind}
 
 pub walk_skip : (front rest : List ℕ) (state : State) → walk_from (length front) state (front ++ rest) ≡ walk_at state rest

@@ -30,7 +30,7 @@ IsNoDocument bytes = (root : Node) → IsDocument bytes root → ⊥
 abbrev pub IsDue : List ℕ → Result Rates TableFault → Type 0
 IsDue bytes answer =
     IsJudged bytes answer
-  ⊎ (IsNoDocument bytes × ((at : ℕ) × IsLongestNested bytes at × (answer ≡ Err (Bad at NotDocument))))
+    ⊎ (IsNoDocument bytes × ((at : ℕ) × IsLongestNested bytes at × (answer ≡ Err (Bad at NotDocument))))
 
 -- a call answers this, or that there is no memory
 abbrev pub Gives : Result Rates TableFault → Result Rates TableFault → Type 0

@@ -1,5 +1,5 @@
 -- The checks of a table, in order, over the elements of a document.
-use Rattle.std.specs.Prelude.{◌≡◌, ℕ, ◌+◌, ◌-◌, ◌*◌, Bool, true, false, if◌then◌else◌, ◌==◌, nat_le, List, [], ◌∷◌, map, Option, None, Some, Result, Ok, Err, codes, MatchBool, ◌⊎◌}
+use Rattle.std.specs.Prelude.{◌≡◌, ℕ, ◌+◌, ◌-◌, ◌*◌, Bool, true, if◌then◌else◌, ◌==◌, nat_le, List, [], ◌∷◌, map, Option, None, Some, Result, Ok, Err, codes, MatchBool, ◌⊎◌}
 use Rattle.std.specs.Option.{unwrap_or}
 use Rattle.std.specs.Str.{bytes_eq}
 use Rattle.decimal_text.specs.Rate.{IsRate}
@@ -99,8 +99,8 @@ abbrev pub IsAged : Option ℕ → Row → Option ℕ → Result (ℕ × ℕ) Ta
 IsAged due row None read = read ≡ Err (Bad row.at BadAge)
 IsAged due row (Some age) read =
     MatchBool (is_due due age)
-      ((rate : Option ℕ) × Reads row.text rate × (read ≡ rated row.at age rate))
-      (read ≡ Err (Bad row.at AgeGap))
+    ((rate : Option ℕ) × Reads row.text rate × (read ≡ rated row.at age rate))
+    (read ≡ Err (Bad row.at AgeGap))
 
 -- a row is read as an age and its rate, or refused: for its age, for a gap before it, or for its rate
 abbrev pub IsRow : Option ℕ → Row → Result (ℕ × ℕ) TableFault → Type 0

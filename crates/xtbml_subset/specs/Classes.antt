@@ -1,5 +1,5 @@
 -- The bytes of which the parts of a document are made.
-use Rattle.std.specs.Prelude.{◌≡◌, ℕ, Bool, true, false, ◌&&◌, ◌||◌, not, ◌==◌, nat_le, List, [], ◌∷◌}
+use Rattle.std.specs.Prelude.{◌≡◌, ℕ, Bool, true, ◌&&◌, ◌||◌, not, ◌==◌, nat_le, List, [], ◌∷◌}
 use Rattle.xtbml_subset.specs.declared.class.Class.{Class}
 use Rattle.xtbml_subset.specs.declared.class.Class.TheVariants.{White, Name, DoubleQuoted, SingleQuoted, Declared, Text}
 

@@ -1,5 +1,5 @@
 -- The grammar of a document.
-use Rattle.std.specs.Prelude.{◌≡◌, ℕ, zero, suc, ◌+◌, ◌≤◌, ◌⊎◌, Bool, true, List, [], ◌∷◌, ◌++◌, length, take, cond, if◌then◌else◌, map, Option, None, Some, codes}
+use Rattle.std.specs.Prelude.{◌≡◌, ℕ, zero, suc, ◌+◌, ◌⊎◌, true, List, [], ◌∷◌, ◌++◌, length, if◌then◌else◌, Option, None, Some, codes}
 use Rattle.std.specs.Str.{bytes_eq}
 use Rattle.xtbml_subset.specs.declared.class.Class.TheVariants.{White, Text}
 use Rattle.xtbml_subset.specs.Classes.{is_in, InClass}
@@ -20,9 +20,9 @@ pub data Content : Type 0 where
 abbrev pub IsElement : (Inside : ℕ → List ℕ → Type 0) → ℕ → ℕ → Tag → Content → List ℕ → Type 0
 IsElement Inside at place tag inner text =
     (place ≡ at)
-  × ((IsPiece (whole tag) text × (inner ≡ nothing))
+    × ((IsPiece (whole tag) text × (inner ≡ nothing))
     ⊎ ((opening : List ℕ) × (inside : List ℕ) × (closing : List ℕ) × (text ≡ opening ++ (inside ++ closing))
-      × IsPiece (start tag) opening × Inside (at + length opening) inside × IsPiece (finish tag.name) closing))
+    × IsPiece (start tag) opening × Inside (at + length opening) inside × IsPiece (finish tag.name) closing))
 
 -- the bytes at a place are this content, in which elements lie at most so many levels deep
 abbrev pub IsContent : ℕ → Content → ℕ → List ℕ → Type 0
@@ -33,8 +33,8 @@ IsContent levels (remark more) at bytes =
 IsContent zero (element place tag inner more) at bytes = ⊥
 IsContent (suc levels) (element place tag inner more) at bytes =
     (text : List ℕ) × (rest : List ℕ) × (bytes ≡ text ++ rest)
-  × IsElement (λ start inside. IsContent levels inner start inside) at place tag inner text
-  × IsContent (suc levels) more (at + length text) rest
+    × IsElement (λ start inside. IsContent levels inner start inside) at place tag inner text
+    × IsContent (suc levels) more (at + length text) rest
 
 -- white space and comments
 abbrev pub AreMisc : List Piece → Type 0

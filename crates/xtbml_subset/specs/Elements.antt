@@ -1,5 +1,5 @@
 -- The elements that a reader finds, in order.
-use Rattle.std.specs.Prelude.{◌≡◌, ℕ, zero, suc, ◌+◌, ◌-◌, Bool, true, false, cond, if◌then◌else◌, ◌==◌, ◌&&◌, List, [], ◌∷◌, ◌++◌, length, reverse, Option, None, Some}
+use Rattle.std.specs.Prelude.{ℕ, zero, suc, ◌+◌, ◌-◌, Bool, true, false, if◌then◌else◌, ◌==◌, ◌&&◌, List, [], ◌∷◌, ◌++◌, length, reverse, Option, None, Some}
 use Rattle.std.specs.Option.{option_map_or}
 use Rattle.std.specs.Str.{bytes_eq}
 use Rattle.xtbml_subset.specs.declared.class.Class.TheVariants.{White, Text}
@@ -58,10 +58,10 @@ elements_from k depth wanted [] = []
 elements_from (suc k) depth wanted (b ∷ bytes) = elements_from k depth wanted bytes
 elements_from zero depth wanted (b ∷ bytes) =
     option_map_or
-      (λ x. found_by (b ∷ bytes) x.1 (step_of depth wanted x.0)
-          ++ option_map_or (λ next. elements_from (length bytes - length x.1) next wanted bytes) (depth_after (step_of depth wanted x.0)) [])
-      (piece_at (b ∷ bytes))
-      []
+    (λ x. found_by (b ∷ bytes) x.1 (step_of depth wanted x.0)
+    ++ option_map_or (λ next. elements_from (length bytes - length x.1) next wanted bytes) (depth_after (step_of depth wanted x.0)) [])
+    (piece_at (b ∷ bytes))
+    []
 
 abbrev pub elements_at : ℕ → Option (List ℕ) → List ℕ → List Found
 elements_at depth wanted bytes = elements_from 0 depth wanted bytes

@@ -1,6 +1,5 @@
 -- The pieces of a document, and the texts that are one.
 use Rattle.std.specs.Prelude.{◌≡◌, ◌≢◌, ℕ, true, ◌⊎◌, List, [], ◌∷◌, ◌++◌}
-use Rattle.xtbml_subset.specs.declared.class.Class.{Class}
 use Rattle.xtbml_subset.specs.declared.class.Class.TheVariants.{White, Name, DoubleQuoted, SingleQuoted, Declared, Text}
 use Rattle.xtbml_subset.specs.Classes.{is_in, starts_name, InClass}
 

@@ -1,7 +1,7 @@
 -- What a reader finds at the front of the bytes, and the bytes after it.
-use Rattle.std.specs.Prelude.{ℕ, zero, suc, ◌-◌, Bool, cond, if◌then◌else◌, ◌==◌, List, [], ◌∷◌, length, Option, None, Some}
+use Rattle.std.specs.Prelude.{ℕ, zero, suc, ◌-◌, if◌then◌else◌, ◌==◌, List, [], ◌∷◌, length, Option, None, Some}
 use Rattle.xtbml_subset.specs.declared.class.Class.{Class}
-use Rattle.xtbml_subset.specs.declared.class.Class.TheVariants.{White, Name, DoubleQuoted, SingleQuoted, Declared, Text}
+use Rattle.xtbml_subset.specs.declared.class.Class.TheVariants.{White, Name, DoubleQuoted, SingleQuoted, Declared}
 use Rattle.xtbml_subset.specs.Classes.{is_in, starts_name}
 use Rattle.xtbml_subset.specs.Pieces.{Attribute, Tag, Piece, byte, comment, declaration, start, whole, finish}
 use Rattle.std.specs.Option.{option_map_or}

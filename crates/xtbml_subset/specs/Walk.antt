@@ -1,11 +1,9 @@
 -- How far the pieces at the front of the bytes nest.
-use Rattle.std.specs.Prelude.{◌≡◌, ℕ, zero, suc, ◌+◌, ◌-◌, Bool, true, false, if◌then◌else◌, List, [], ◌∷◌, length, Option, None, Some, map, slice_index_or}
+use Rattle.std.specs.Prelude.{ℕ, zero, suc, ◌-◌, Bool, true, false, if◌then◌else◌, List, [], ◌∷◌, length, Option, None, Some, map, slice_index_or}
 use Rattle.std.specs.Option.{option_map_or, unwrap_or}
-use Rattle.std.specs.Borrow.{Bor}
 use Rattle.xtbml_subset.specs.declared.state.Phase.{Phase}
 use Rattle.xtbml_subset.specs.declared.state.Phase.TheVariants.{Opening, Prolog, Epilog}
 use Rattle.xtbml_subset.specs.declared.state.Nesting.{Nesting}
-use Rattle.xtbml_subset.specs.Pieces.{Piece}
 use Rattle.xtbml_subset.specs.Reading.{◌>>=◌, byte_at, piece_at}
 use Rattle.xtbml_subset.specs.Nesting.{State, outside, after_piece}
 
@@ -23,9 +21,9 @@ walk_from k state [] = (state, [])
 walk_from (suc k) state (b ∷ bytes) = walk_from k state bytes
 walk_from zero state (b ∷ bytes) =
     option_map_or
-      (λ x. option_map_or (λ next. walk_from (length bytes - length x.1) next bytes) (after_piece state x.0) (state, b ∷ bytes))
-      (piece_at (b ∷ bytes))
-      (state, b ∷ bytes)
+    (λ x. option_map_or (λ next. walk_from (length bytes - length x.1) next bytes) (after_piece state x.0) (state, b ∷ bytes))
+    (piece_at (b ∷ bytes))
+    (state, b ∷ bytes)
 
 abbrev pub walk_at : State → List ℕ → State × List ℕ
 walk_at state bytes = walk_from 0 state bytes

@@ -16,7 +16,11 @@ impl<'a> Element<'a> {
             (children_at name.now (found_of self.now) ≡ [])
             (λ e. children_at name.now (found_of self.now) ≡ found_of e ∷ siblings_at name.now (found_of e)) }
     {
-        if self.is_open { next_element(self.rest, 0, Some(name)) } else { None }
+        if self.is_open {
+            next_element(self.rest, 0, Some(name))
+        } else {
+            None
+        }
     }
 
     /// The next element of this name behind this one, with the same parent.

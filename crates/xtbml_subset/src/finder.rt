@@ -40,12 +40,24 @@ fn look<'a>(token: Token<'a>, depth: usize, wanted: Option<&[u8]>) -> Seen<'a>
     match token {
         Token::Byte(_) | Token::Comment | Token::Declaration => Seen::On(depth),
         Token::Start(tag) => {
-            if is_hit(&tag, depth, wanted) { Seen::Wanted(tag, true) } else { Seen::On(depth + 1) }
+            if is_hit(&tag, depth, wanted) {
+                Seen::Wanted(tag, true)
+            } else {
+                Seen::On(depth + 1)
+            }
         }
         Token::Whole(tag) => {
-            if is_hit(&tag, depth, wanted) { Seen::Wanted(tag, false) } else { Seen::On(depth) }
+            if is_hit(&tag, depth, wanted) {
+                Seen::Wanted(tag, false)
+            } else {
+                Seen::On(depth)
+            }
         }
-        Token::End(_) => if depth == 0 { Seen::Closed } else { Seen::On(depth - 1) },
+        Token::End(_) => if depth == 0 {
+            Seen::Closed
+        } else {
+            Seen::On(depth - 1)
+        },
     }
 }
 
@@ -57,7 +69,7 @@ pub fn next_element<'a>(bytes: &'a [u8], depth: usize, wanted: Option<&[u8]>) ->
     ensures elements { MatchOption result
         (elements_at depth (option_copied wanted.entry) bytes.now ≡ [])
         (λ e. elements_at depth (option_copied wanted.entry) bytes.now
-            ≡ found_of e ∷ elements_at (depth_in e.is_open) (option_copied wanted.entry) e.rest.now) }
+        ≡ found_of e ∷ elements_at (depth_in e.is_open) (option_copied wanted.entry) e.rest.now) }
 {
     let mut rest = bytes;
     let mut below = depth;
@@ -65,7 +77,12 @@ pub fn next_element<'a>(bytes: &'a [u8], depth: usize, wanted: Option<&[u8]>) ->
         match look(token, below, wanted) {
             Seen::On(depth) => below = depth,
             Seen::Wanted(tag, is_open) => {
-                return Some(Element { from: rest, tag, is_open, rest: after });
+                return Some(Element {
+                    from: rest,
+                    tag,
+                    is_open,
+                    rest: after,
+                });
             }
             Seen::Closed => return None,
         }

@@ -12,9 +12,10 @@ mod reader;
 mod row;
 mod state;
 mod table;
+#[cfg(test)]
+mod tests;
 mod text;
 mod token;
-
 
 pub use fault::{TableFault, TableKind};
 pub use reader::read_table;

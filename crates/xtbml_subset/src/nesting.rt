@@ -14,7 +14,11 @@ impl<'a> Nesting<'a> {
     fn new(bytes: &'a [u8]) -> Nesting<'a>
         ensures { state_of result ≡ outside Phase.Opening }
     {
-        Nesting { phase: Phase::Opening, names: [bytes; DEEPEST], depth: 0 }
+        Nesting {
+            phase: Phase::Opening,
+            names: [bytes; DEEPEST],
+            depth: 0,
+        }
     }
 
     /// Opens an element in another one, where there is room.
@@ -189,7 +193,11 @@ fn place_at_end(bytes: &[u8], rest: &[u8], nesting: &Nesting) -> Option<usize>
     ensures fault { result ≡ fault_place (length bytes.now) (state_of nesting.now, rest.now) }
 {
     match rest {
-        [] => if nesting.is_ended() { None } else { Some(bytes.len()) },
+        [] => if nesting.is_ended() {
+            None
+        } else {
+            Some(bytes.len())
+        },
         [_, ..] => Some(bytes.len() - rest.len()),
     }
 }

@@ -26,7 +26,10 @@ pub fn read_table(alloc: Global, bytes: &[u8]) -> Result<RateTable, TableFault>
     ensures due { (answer : Result Rates TableFault) → IsDue bytes.now answer → Gives result answer }
 {
     if let Some(at) = place_of_fault(bytes) {
-        return Err(TableFault::Bad { at: at as u32, kind: TableKind::NotDocument });
+        return Err(TableFault::Bad {
+            at: at as u32,
+            kind: TableKind::NotDocument,
+        });
     }
     let Some(root) = next_element(bytes, 0, None) else {
         unreachable!()

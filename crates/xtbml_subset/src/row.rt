@@ -15,7 +15,11 @@ fn add_digit(number: u16, byte: u8) -> Option<u16>
     ensures digit { result ≡ digit_then number byte }
     ensures small { IfSome result (λ n. n < 10 * number + 10) }
 {
-    if 48 <= byte && byte <= 57 { Some(number * 10 + u16::from(byte - 48)) } else { None }
+    if 48 <= byte && byte <= 57 {
+        Some(number * 10 + u16::from(byte - 48))
+    } else {
+        None
+    }
 }
 
 /// The whole number that one to three digits spell.
@@ -71,14 +75,23 @@ pub fn read_row(row: &Element<'_>, due: Option<u8>, total: u32) -> Result<(u8, u
 {
     let at = row.place(total);
     let Some(age) = age_of(row.attribute(b"t")) else {
-        return Err(TableFault::Bad { at, kind: TableKind::BadAge });
+        return Err(TableFault::Bad {
+            at,
+            kind: TableKind::BadAge,
+        });
     };
     if !is_due(due, age) {
-        return Err(TableFault::Bad { at, kind: TableKind::AgeGap });
+        return Err(TableFault::Bad {
+            at,
+            kind: TableKind::AgeGap,
+        });
     }
     match rate_in(row.text()) {
         Some(rate) => Ok((age, rate)),
-        None => Err(TableFault::Bad { at, kind: TableKind::BadRate }),
+        None => Err(TableFault::Bad {
+            at,
+            kind: TableKind::BadRate,
+        }),
     }
 }
 

@@ -20,7 +20,10 @@ fn within<'a>(parent: &Element<'a>, name: &[u8], total: u32) -> Result<Element<'
 {
     match parent.first_child(name) {
         Some(child) => Ok(child),
-        None => Err(TableFault::Bad { at: parent.place(total), kind: TableKind::NoTable }),
+        None => Err(TableFault::Bad {
+            at: parent.place(total),
+            kind: TableKind::NoTable,
+        }),
     }
 }
 
@@ -30,7 +33,10 @@ fn path<'a>(root: &Element<'a>, total: u32) -> Result<(Element<'a>, Element<'a>)
     ensures { found_pair result ≡ path (found_asks total) (found_of root.now) }
 {
     if root.tag.name != b"XTbML".as_slice() {
-        return Err(TableFault::Bad { at: root.place(total), kind: TableKind::NoTable });
+        return Err(TableFault::Bad {
+            at: root.place(total),
+            kind: TableKind::NoTable,
+        });
     }
     let table = within(root, b"Table", total)?;
     let values = within(&table, b"Values", total)?;
@@ -47,11 +53,17 @@ fn check_axis(axis: &Element<'_>, total: u32) -> Result<(), TableFault>
         (λ fault. rates_of (found_asks total) (found_of axis.now) ≡ Err fault) }
 {
     if let Some(inner) = axis.first_child(b"Axis") {
-        return Err(TableFault::Bad { at: inner.place(total), kind: TableKind::Select });
+        return Err(TableFault::Bad {
+            at: inner.place(total),
+            kind: TableKind::Select,
+        });
     }
     match axis.first_child(b"Y") {
         Some(_) => Ok(()),
-        None => Err(TableFault::Bad { at: axis.place(total), kind: TableKind::NoTable }),
+        None => Err(TableFault::Bad {
+            at: axis.place(total),
+            kind: TableKind::NoTable,
+        }),
     }
 }
 
@@ -92,7 +104,10 @@ fn check_scale(table: &Element<'_>, total: u32) -> Result<(), TableFault>
     if is_unscaled(factor.text()) {
         Ok(())
     } else {
-        Err(TableFault::Bad { at: factor.place(total), kind: TableKind::Scaled })
+        Err(TableFault::Bad {
+            at: factor.place(total),
+            kind: TableKind::Scaled,
+        })
     }
 }
 

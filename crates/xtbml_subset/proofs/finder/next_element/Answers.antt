@@ -1,4 +1,4 @@
-use Rattle.std.proofs.Common.{◌≡◌, ◌+◌, ◌^◌, ◌<◌, ◌≤◌, length, sym, ◌∙◌, arith, rules}
+use Rattle.std.proofs.Common.{◌+◌, ◌^◌, ◌<◌, ◌≤◌, length, sym, ◌∙◌, arith, rules}
 use Rattle.std.specs.Option.{option_copied}
 use Rattle.xtbml_subset.specs.Tokens.{piece_of, tag_of}
 use Rattle.xtbml_subset.specs.Elements.{Step, on, found, closed}
@@ -10,7 +10,7 @@ use Rattle.xtbml_subset.proofs.finder.next_element.Goals as goal
 pub look-requires : goal.look-requires
 look-requires c =
     let shorter : length c.in-Some.after.now < length c.loop-token.rest.now
-      = behind_shorter c.loop-token.rest.now c.in-Some.after.now (piece_behind c.loop-token.rest.now (piece_of c.in-Some.token) c.in-Some.after.now (sym c.in-Some.ensures)) in
+    = behind_shorter c.loop-token.rest.now c.in-Some.after.now (piece_behind c.loop-token.rest.now (piece_of c.in-Some.token) c.in-Some.after.now (sym c.in-Some.ensures)) in
     let bound : length c.args.bytes.now < 2 ^ 63 = search rules in
     let low : c.loop-token.below + length c.loop-token.rest.now ≤ 1 + length c.args.bytes.now = c.loop-token.invariant.low in
     omega arith

@@ -1,5 +1,5 @@
-use Rattle.std.proofs.Common.{◌≡◌, ℕ, List, [], ◌∷◌, length, None, Some, Ok, Err, sym, inl}
-use Rattle.xtbml_subset.specs.Elements.{Found, elements_at, depth_in}
+use Rattle.std.proofs.Common.{length, None, Ok, Err, inl}
+use Rattle.xtbml_subset.specs.Elements.{elements_at, depth_in}
 use Rattle.xtbml_subset.specs.Checks.{parts_of, IsTable}
 use Rattle.xtbml_subset.specs.Rows.{found_asks}
 use Rattle.xtbml_subset.specs.Views.{found_of}
@@ -25,7 +25,7 @@ returns-clause-table c =
     let root = found_of c.in-Some-next_element.root in
     let others = elements_at (depth_in root.is_open) None root.rest in
     if_ok c.table_of.result (λ table. IsTable (parts_of (found_asks (length bytes)) root) (Ok table)) (Spells bytes)
-      (λ table is. judged_by bytes root others (Ok table) c.in_default.ensures.fault c.in-Some-next_element.ensures.elements is) c.table_of.ensures.read
+    (λ table is. judged_by bytes root others (Ok table) c.in_default.ensures.fault c.in-Some-next_element.ensures.elements is) c.table_of.ensures.read
 
 pub returns-clause-fault : goal.returns-clause-fault
 returns-clause-fault c =
@@ -33,7 +33,7 @@ returns-clause-fault c =
     let root = found_of c.in-Some-next_element.root in
     let others = elements_at (depth_in root.is_open) None root.rest in
     if_fault c.table_of.result (λ fault. IsTable (parts_of (found_asks (length bytes)) root) (Err fault)) (λ fault. IsDue bytes (Err fault))
-      (λ fault is. inl (judged_by bytes root others (Err fault) c.in_default.ensures.fault c.in-Some-next_element.ensures.elements is)) c.table_of.ensures.fault
+    (λ fault is. inl (judged_by bytes root others (Err fault) c.in_default.ensures.fault c.in-Some-next_element.ensures.elements is)) c.table_of.ensures.fault
 
 pub returns-clause-due : goal.returns-clause-due
 returns-clause-due c =
@@ -41,8 +41,8 @@ returns-clause-due c =
     let root = found_of c.in-Some-next_element.root in
     let others = elements_at (depth_in root.is_open) None root.rest in
     λ answer due.
-      gives c.table_of.result answer (parts_of (found_asks (length bytes)) root) c.table_of.ensures.read c.table_of.ensures.fault
-        (due_by bytes root others answer c.in_default.ensures.fault c.in-Some-next_element.ensures.elements due)
+    gives c.table_of.result answer (parts_of (found_asks (length bytes)) root) c.table_of.ensures.read c.table_of.ensures.fault
+    (due_by bytes root others answer c.in_default.ensures.fault c.in-Some-next_element.ensures.elements due)
 
 pub returns-clause-read : goal.returns-clause-read
 returns-clause-read c =
@@ -50,5 +50,5 @@ returns-clause-read c =
     let root = found_of c.in-Some-next_element.root in
     let others = elements_at (depth_in root.is_open) None root.rest in
     λ table spelled.
-      gives c.table_of.result (Ok table) (parts_of (found_asks (length bytes)) root) c.table_of.ensures.read c.table_of.ensures.fault
-        (due_by bytes root others (Ok table) c.in_default.ensures.fault c.in-Some-next_element.ensures.elements (inl spelled))
+    gives c.table_of.result (Ok table) (parts_of (found_asks (length bytes)) root) c.table_of.ensures.read c.table_of.ensures.fault
+    (due_by bytes root others (Ok table) c.in_default.ensures.fault c.in-Some-next_element.ensures.elements (inl spelled))

@@ -1,4 +1,4 @@
-use Rattle.std.proofs.Common.{◌≡◌, sym, subst}
+use Rattle.std.proofs.Common.{sym, subst}
 use Rattle.decimal_text.specs.Rate.{IsRate}
 use Rattle.xtbml_subset.proofs.row.rate_in.Goals as goal
 

@@ -1,4 +1,4 @@
-use Rattle.std.proofs.Common.{◌≡◌, ℕ, ◌+◌, ◌++◌, ◌∷◌, [], map, None, Some, Err, sym, subst, codes}
+use Rattle.std.proofs.Common.{◌+◌, map, None, Some, Err, sym, subst, codes}
 use Rattle.std.proofs.lemmas.Result.{err_from_is_err_and}
 use Rattle.xtbml_subset.specs.Elements.{siblings_at}
 use Rattle.xtbml_subset.specs.Checks.{AreRows}

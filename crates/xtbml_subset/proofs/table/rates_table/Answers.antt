@@ -1,4 +1,4 @@
-use Rattle.std.proofs.Common.{◌≡◌, ◌≤◌, ℕ, length, sym, subst, map, arith, codes}
+use Rattle.std.proofs.Common.{◌≤◌, ℕ, length, sym, subst, arith, codes}
 use Rattle.std.proofs.lemmas.List.{length-map}
 use Rattle.rate_table.specs.Rates.{AreRates}
 use Rattle.xtbml_subset.specs.Elements.{Found, children_at}
@@ -16,5 +16,5 @@ unreachable-requires c =
     let some : 1 ≤ length rows = omega (arith, length-map (children_at (codes "Y") axis) (λ (e : Found). row_of total e), c.requires) in
     let are = rows_make_rates rows rates some c.in_ok-rates.ensures.read in
     let given : AreRates (record { first_age = c.first_age.result; rates = rates }) =
-      subst (λ (age : ℕ). AreRates (record { first_age = age; rates = rates })) (sym (c.first_age.ensures total)) are in
+    subst (λ (age : ℕ). AreRates (record { first_age = age; rates = rates })) (sym (c.first_age.ensures total)) are in
     no_fault (record { first_age = c.first_age.result; rates = rates }) c.in-Err.field-0 given c.in-Err.ensures.table

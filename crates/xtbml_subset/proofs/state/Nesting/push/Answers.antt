@@ -1,5 +1,4 @@
-use Rattle.std.proofs.Common.{◌≡◌, ap, arith}
-use Rattle.xtbml_subset.specs.Nesting.{State}
+use Rattle.std.proofs.Common.{ap, arith}
 use Rattle.xtbml_subset.proofs.Stack.{names_pushed}
 use Rattle.xtbml_subset.proofs.state.Nesting.push.Goals as goal
 
