@@ -1,7 +1,7 @@
 -- Attributes read one after the other.
 use Rattle.std.proofs.Common.{cond, ◌≡◌, ℕ, List, [], ◌∷◌, ◌++◌, length, Some, None, refl, ap, ◌∙◌}
 use Rattle.std.specs.Str.{bytes_eq}
-use Rattle.xtbml_subset.specs.Elements.{value_of}
+use Rattle.xtbml_subset.specs.Texts.{value_of}
 use Rattle.xtbml_subset.specs.Pieces.{Attribute, IsSpace}
 use Rattle.xtbml_subset.specs.Reading.{attribute_at, attributes_from, attributes_at, with_attribute}
 use Rattle.xtbml_subset.proofs.Behind.{IsBehind, behind_count}

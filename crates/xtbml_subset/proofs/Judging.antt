@@ -7,9 +7,9 @@ use Rattle.rate_table.specs.Rates.{Rates}
 use Rattle.xtbml_subset.specs.declared.fault.TableKind.TheVariants.{NoTable, Select}
 use Rattle.xtbml_subset.specs.declared.fault.TableFault.{TableFault}
 use Rattle.xtbml_subset.specs.declared.fault.TableFault.TheVariants.{Bad}
-use Rattle.xtbml_subset.specs.Reading.{◌>>=◌}
+use Rattle.xtbml_subset.specs.Texts.{◌>>=◌, trimmed}
 use Rattle.xtbml_subset.specs.Pieces.{Tag}
-use Rattle.xtbml_subset.specs.Elements.{Found, trimmed, children_at}
+use Rattle.xtbml_subset.specs.Elements.{Found, children_at}
 use Rattle.xtbml_subset.specs.Rows.{row_of, found_asks}
 use Rattle.xtbml_subset.specs.Documents.{Node, named_in, node_row, node_asks}
 use Rattle.xtbml_subset.specs.Checks.{Row, first, ◌>=>◌, or_fault, within, rooted, path, rates_in, rates_of, factor_of, age_of, is_due, Reads, rated, IsAged, with_rate, Continues, AreRows, IsScale, Parts, option_row, parts_of, first_age, IsScaledTable, IsTable}

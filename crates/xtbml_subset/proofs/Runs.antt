@@ -2,8 +2,7 @@
 use Rattle.std.proofs.Common.{◌≡◌, ℕ, ◌+◌, ◌<◌, ◌≤◌, Bool, true, false, cond, List, [], ◌∷◌, ◌++◌, length, get_or, take, drop, refl, sym, ap, append_assoc}
 use Rattle.std.proofs.lemmas.List.{drop_more, take_more, drop_all, append-nil}
 use Rattle.xtbml_subset.specs.declared.class.Class.{Class}
-use Rattle.xtbml_subset.specs.Classes.{is_in, InClass}
-use Rattle.xtbml_subset.specs.Reading.{front, after}
+use Rattle.xtbml_subset.specs.Classes.{is_in, InClass, front, after}
 
 pub front_more : (class : Class) (bytes : List ℕ) (i : ℕ) → i < length bytes → is_in class (get_or bytes i 0) ≡ true
     → take i bytes ++ front class (drop i bytes) ≡ take (i + 1) bytes ++ front class (drop (i + 1) bytes)

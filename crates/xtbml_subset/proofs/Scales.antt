@@ -6,9 +6,8 @@ use Rattle.std.proofs.lemmas.List.{append-nil}
 use Rattle.decimal_text.specs.Rate.{IsRate}
 use Rattle.decimal_text.proofs.CallerLemmas.{one_rate}
 use Rattle.xtbml_subset.specs.declared.class.Class.TheVariants.{White}
-use Rattle.xtbml_subset.specs.Classes.{InClass}
-use Rattle.xtbml_subset.specs.Reading.{front, after}
-use Rattle.xtbml_subset.specs.Elements.{trimmed}
+use Rattle.xtbml_subset.specs.Classes.{InClass, front, after}
+use Rattle.xtbml_subset.specs.Texts.{trimmed}
 use Rattle.xtbml_subset.specs.Checks.{IsUnscaled}
 use Rattle.xtbml_subset.proofs.Runs.{front-after, front_in}
 use Rattle.xtbml_subset.proofs.LexAgain.{after_again}

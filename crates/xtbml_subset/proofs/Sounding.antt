@@ -7,7 +7,8 @@ use Rattle.xtbml_subset.specs.declared.state.Phase.TheVariants.{Opening, Prolog,
 use Rattle.xtbml_subset.specs.declared.class.Class.TheVariants.{White}
 use Rattle.xtbml_subset.specs.Classes.{is_in}
 use Rattle.xtbml_subset.specs.Pieces.{Piece, byte, comment, declaration, start, whole, finish, IsPiece}
-use Rattle.xtbml_subset.specs.Reading.{◌>>=◌, byte_at, piece_at}
+use Rattle.xtbml_subset.specs.Reading.{byte_at, piece_at}
+use Rattle.xtbml_subset.specs.Texts.{◌>>=◌}
 use Rattle.xtbml_subset.specs.Nesting.{State, outside, after_piece, Spell, Nests, IsMark}
 use Rattle.xtbml_subset.specs.Walk.{walk_at, after_mark, fault_place, fault_at}
 use Rattle.xtbml_subset.specs.Documents.{Node, IsDocument}

@@ -8,7 +8,7 @@ use Rattle.rate_table.specs.Faults.{IsFirstFault}
 use Rattle.rate_table.specs.declared.fault.RatesFault.{RatesFault}
 use Rattle.rate_table.specs.declared.fault.RatesFault.TheVariants.{Empty, PastAge130, RateAboveOne}
 use Rattle.xtbml_subset.specs.declared.fault.TableFault.{TableFault}
-use Rattle.xtbml_subset.specs.Reading.{◌>>=◌}
+use Rattle.xtbml_subset.specs.Texts.{◌>>=◌}
 use Rattle.xtbml_subset.specs.Checks.{Row, short_number, age_of, is_due, Reads, rated, IsAged, IsRow, with_rate, Continues, AreRows, first_age}
 use Rattle.xtbml_subset.proofs.Options.{bind_some, chosen, some_is}
 

@@ -9,8 +9,7 @@ use Rattle.xtbml_subset.specs.declared.fault.TableKind.TheVariants.{NoTable, Sel
 use Rattle.xtbml_subset.specs.declared.fault.TableFault.{TableFault}
 use Rattle.xtbml_subset.specs.declared.fault.TableFault.TheVariants.{Bad}
 use Rattle.xtbml_subset.specs.Classes.{InClass, is_between}
-use Rattle.xtbml_subset.specs.Reading.{◌>>=◌}
-use Rattle.xtbml_subset.specs.Elements.{trimmed}
+use Rattle.xtbml_subset.specs.Texts.{◌>>=◌, trimmed}
 
 -- what a rate or a factor is read from: the place of its `<`, the first attribute `t`, and the content where it is text alone
 pub record Row : Type 0 where

@@ -1,16 +1,16 @@
 -- The bytes of which the parts of a document are made.
-use Rattle.std.specs.Prelude.{◌≡◌, ℕ, Bool, true, ◌&&◌, ◌||◌, not, ◌==◌, nat_le, List, [], ◌∷◌}
+use Rattle.std.specs.Prelude.{◌≡◌, ℕ, Bool, true, ◌&&◌, ◌||◌, not, ◌==◌, nat_le, if◌then◌else◌, List, [], ◌∷◌}
 use Rattle.xtbml_subset.specs.declared.class.Class.{Class}
 use Rattle.xtbml_subset.specs.declared.class.Class.TheVariants.{White, Name, DoubleQuoted, SingleQuoted, Declared, Text}
 
 abbrev pub is_between : ℕ → ℕ → ℕ → Bool
 is_between low high b = nat_le low b && nat_le b high
 
--- an ASCII letter, `_`, or a byte from 80 on
+-- an ASCII letter, `_`, or a byte from hexadecimal 80 on
 abbrev pub starts_name : ℕ → Bool
 starts_name b = is_between 65 90 b || is_between 97 122 b || b == 95 || nat_le 128 b
 
--- White: 09, 0A, 0D, 20. Name: what a name begins with, digits, `-`, `.`, `:`. A quoted value has no quote
+-- White: tab, line feed, carriage return, blank. Name: what a name begins with, digits, `-`, `.`, `:`. A quoted value has no quote
 -- of its own kind and no `<`, a declaration no `?`, text no `<`.
 abbrev pub is_in : Class → ℕ → Bool
 is_in White b = b == 9 || b == 10 || b == 13 || b == 32
@@ -24,3 +24,12 @@ is_in Text b = not (b == 60)
 abbrev pub InClass : Class → List ℕ → Type 0
 InClass class [] = Unit {0}
 InClass class (b ∷ bytes) = (is_in class b ≡ true) × InClass class bytes
+
+-- the bytes of a class at the front, and the bytes after these
+abbrev pub front : Class → List ℕ → List ℕ
+front class [] = []
+front class (b ∷ bytes) = if is_in class b then b ∷ front class bytes else []
+
+abbrev pub after : Class → List ℕ → List ℕ
+after class [] = []
+after class (b ∷ bytes) = if is_in class b then after class bytes else b ∷ bytes

@@ -5,7 +5,7 @@ use Rattle.xtbml_subset.specs.declared.class.Class.TheVariants.{White, Text}
 use Rattle.xtbml_subset.specs.Classes.{is_in, InClass}
 use Rattle.xtbml_subset.specs.Pieces.{Tag, Piece, byte, comment, declaration, start, whole, finish, IsPiece}
 use Rattle.xtbml_subset.specs.Nesting.{IsMark, Spell}
-use Rattle.xtbml_subset.specs.Elements.{value_of}
+use Rattle.xtbml_subset.specs.Texts.{value_of}
 use Rattle.xtbml_subset.specs.Checks.{Row, Asks}
 
 -- Content is nothing, or begins with a byte of text, a comment or an element, and goes on. An element has the

@@ -1,10 +1,12 @@
 -- The elements that a reader finds, in order.
-use Rattle.std.specs.Prelude.{ℕ, zero, suc, ◌+◌, ◌-◌, Bool, true, false, if◌then◌else◌, ◌==◌, ◌&&◌, List, [], ◌∷◌, ◌++◌, length, reverse, Option, None, Some}
+use Rattle.std.specs.Prelude.{ℕ, zero, suc, ◌+◌, ◌-◌, Bool, true, false, if◌then◌else◌, ◌==◌, ◌&&◌, List, [], ◌∷◌, ◌++◌, length, Option, None, Some}
 use Rattle.std.specs.Option.{option_map_or}
 use Rattle.std.specs.Str.{bytes_eq}
-use Rattle.xtbml_subset.specs.declared.class.Class.TheVariants.{White, Text}
-use Rattle.xtbml_subset.specs.Pieces.{Attribute, Tag, Piece, byte, comment, declaration, start, whole, finish}
-use Rattle.xtbml_subset.specs.Reading.{◌>>=◌, front, after, byte_at, piece_at}
+use Rattle.xtbml_subset.specs.declared.class.Class.TheVariants.{Text}
+use Rattle.xtbml_subset.specs.Pieces.{Tag, Piece, byte, comment, declaration, start, whole, finish}
+use Rattle.xtbml_subset.specs.Reading.{byte_at, piece_at}
+use Rattle.xtbml_subset.specs.Texts.{◌>>=◌}
+use Rattle.xtbml_subset.specs.Classes.{front, after}
 
 -- An element: the bytes from its `<` on, its tag, whether content and an end tag follow, and the bytes behind the tag.
 pub record Found : Type 0 where
@@ -74,21 +76,9 @@ siblings_at name element = elements_at (depth_in element.is_open) (Some name) el
 abbrev pub children_at : List ℕ → Found → List Found
 children_at name element = if element.is_open then elements_at 0 (Some name) element.rest else []
 
--- the value of the first attribute of a name
-abbrev pub value_of : List ℕ → List Attribute → Option (List ℕ)
-value_of name [] = None
-value_of name (attribute ∷ attributes) = if bytes_eq attribute.0 name then Some attribute.1 else value_of name attributes
-
 -- the content where it is text alone
 unfoldable pub text_at : Found → Option (List ℕ)
 text_at element =
     if element.is_open
     then (byte_at 60 (after Text element.rest) >>= (λ rest. byte_at 47 rest) >>= λ rest. Some (front Text element.rest))
     else Some []
-
--- without white space at both ends
-abbrev pub without_end : List ℕ → List ℕ
-without_end bytes = reverse (after White (reverse bytes))
-
-unfoldable pub trimmed : List ℕ → List ℕ
-trimmed bytes = without_end (after White bytes)

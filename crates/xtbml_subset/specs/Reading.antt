@@ -2,23 +2,10 @@
 use Rattle.std.specs.Prelude.{ℕ, zero, suc, ◌-◌, if◌then◌else◌, ◌==◌, List, [], ◌∷◌, length, Option, None, Some}
 use Rattle.xtbml_subset.specs.declared.class.Class.{Class}
 use Rattle.xtbml_subset.specs.declared.class.Class.TheVariants.{White, Name, DoubleQuoted, SingleQuoted, Declared}
-use Rattle.xtbml_subset.specs.Classes.{is_in, starts_name}
+use Rattle.xtbml_subset.specs.Classes.{is_in, starts_name, front, after}
+use Rattle.xtbml_subset.specs.Texts.{◌>>=◌}
 use Rattle.xtbml_subset.specs.Pieces.{Attribute, Tag, Piece, byte, comment, declaration, start, whole, finish}
 use Rattle.std.specs.Option.{option_map_or}
-
-infixl 10 ◌>>=◌
-abbrev pub ◌>>=◌ : {A B : Type 0} → Option A → (A → Option B) → Option B
-None >>= f = None
-(Some x) >>= f = f x
-
--- the bytes of a class at the front, and the bytes after these
-abbrev pub front : Class → List ℕ → List ℕ
-front class [] = []
-front class (b ∷ bytes) = if is_in class b then b ∷ front class bytes else []
-
-abbrev pub after : Class → List ℕ → List ℕ
-after class [] = []
-after class (b ∷ bytes) = if is_in class b then after class bytes else b ∷ bytes
 
 abbrev pub byte_at : ℕ → List ℕ → Option (List ℕ)
 byte_at b [] = None

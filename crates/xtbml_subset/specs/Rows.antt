@@ -2,7 +2,8 @@
 use Rattle.std.specs.Prelude.{ℕ, ◌-◌, List, length, map, codes}
 use Rattle.xtbml_subset.specs.declared.fault.TableFault.{TableFault}
 use Rattle.xtbml_subset.specs.declared.fault.TableFault.TheVariants.{Bad, NoMemory}
-use Rattle.xtbml_subset.specs.Elements.{Found, children_at, value_of, text_at}
+use Rattle.xtbml_subset.specs.Elements.{Found, children_at, text_at}
+use Rattle.xtbml_subset.specs.Texts.{value_of}
 use Rattle.xtbml_subset.specs.Checks.{Row, Asks}
 
 abbrev pub row_of : ℕ → Found → Row

@@ -1,6 +1,6 @@
 ghost use Rattle.std.specs.Prelude.{◌≡◌};
 ghost use Rattle.std.specs.Option.{option_map, option_copied};
-ghost use Rattle.xtbml_subset.specs.Elements.{value_of};
+ghost use Rattle.xtbml_subset.specs.Texts.{value_of};
 ghost use Rattle.xtbml_subset.specs.Reading.{closed_at, quoted_at, attribute_at, attributes_at};
 
 use crate::class::Class;

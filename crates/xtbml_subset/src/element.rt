@@ -1,6 +1,7 @@
 ghost use Rattle.std.specs.Prelude.{◌≡◌, ◌≤◌, [], ◌∷◌, length, MatchOption, IfSome, ◌-◌, ◌<◌, ◌^◌};
 ghost use Rattle.std.specs.Option.{option_copied};
-ghost use Rattle.xtbml_subset.specs.Elements.{children_at, siblings_at, value_of, text_at};
+ghost use Rattle.xtbml_subset.specs.Elements.{children_at, siblings_at, text_at};
+ghost use Rattle.xtbml_subset.specs.Texts.{value_of};
 ghost use Rattle.xtbml_subset.specs.Views.{found_of};
 
 use crate::attribute::attribute_value;

@@ -1,7 +1,8 @@
 ghost use Rattle.std.specs.Prelude.{◌≡◌, ◌≤◌, ◌+◌, length};
 ghost use Rattle.std.specs.Option.{option_map, option_copied};
-ghost use Rattle.xtbml_subset.specs.Elements.{without_end, trimmed};
-ghost use Rattle.xtbml_subset.specs.Reading.{front, after, byte_at, spaces_at, name_at};
+ghost use Rattle.xtbml_subset.specs.Texts.{without_end, trimmed};
+ghost use Rattle.xtbml_subset.specs.Reading.{byte_at, spaces_at, name_at};
+ghost use Rattle.xtbml_subset.specs.Classes.{front, after};
 
 use crate::class::{Class, is_in, starts_name};
 
@@ -74,7 +75,7 @@ fn without_end(bytes: &[u8]) -> &[u8]
 }
 
 /// The bytes without white space at both ends.
-#[tactic(auto, unfolding(crate::specs::Elements::trimmed))]
+#[tactic(auto, unfolding(crate::specs::Texts::trimmed))]
 pub fn trim(bytes: &[u8]) -> &[u8]
     ensures kept { result.now ≡ trimmed bytes.now }
     ensures shorter { length result.now ≤ length bytes.now }

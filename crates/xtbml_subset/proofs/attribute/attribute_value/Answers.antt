@@ -3,7 +3,7 @@ use Rattle.std.proofs.lemmas.Bool.{cond-true, cond-false}
 use Rattle.std.specs.Str.{bytes_eq}
 use Rattle.xtbml_subset.specs.Pieces.{Attribute}
 use Rattle.xtbml_subset.specs.Reading.{attributes_at}
-use Rattle.xtbml_subset.specs.Elements.{value_of}
+use Rattle.xtbml_subset.specs.Texts.{value_of}
 use Rattle.xtbml_subset.proofs.Behind.{behind_shorter}
 use Rattle.xtbml_subset.proofs.AttributeRuns.{attribute_behind, value_step, value_stop}
 use Rattle.xtbml_subset.proofs.attribute.attribute_value.Goals as goal

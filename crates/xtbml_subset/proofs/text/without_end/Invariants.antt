@@ -1,5 +1,5 @@
 use Rattle.std.proofs.Common.{◌≡◌, ◌≤◌, length}
-use Rattle.xtbml_subset.specs.Elements.{without_end}
+use Rattle.xtbml_subset.specs.Texts.{without_end}
 use Rattle.xtbml_subset.proofs.text.without_end.Given as goal
 
 abbrev pub invariant-loop-rest : goal.invariant-loop-rest
