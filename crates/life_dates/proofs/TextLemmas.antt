@@ -119,3 +119,10 @@ read_exact r date text year month small h e day range t =
     let number : day_number date ≡ day = ap day_number same ∙ t.is_number in
     let is : IsDate date = rw same t.is_date in
     some_is r (day_number date) h (is, rw number range) ∙ ap Some number
+
+-- a date of the range is the date of its day
+pub date_of-day_number : (date : Date) → IsDate date → IsTermDay (day_number date) → date_of (day_number date) ≡ date
+unfolding plain
+date_of-day_number date h range =
+    let same = plain_is (plain date h) (day_number date) range (days_from_civil-day_number date h) in
+    sym (same_date date (date_of (day_number date)) (omega (arith, signed_arith, same.0)) same.1 same.2)

@@ -1,8 +1,16 @@
 // Laws of the definitions, for callers.
-ghost use Rattle.std.specs.Prelude.{◌≡◌, ℕ, ◌<◌, ◌≤◌, List, ℤ, ◌<ℤ◌};
-ghost use Rattle.life_dates.specs.Calendar.{IsDay, IsTermDay};
-ghost use Rattle.life_dates.specs.Anniversary.{anniversary_of};
+ghost use Rattle.std.specs.Prelude.{◌≡◌, ℕ, ◌<◌, ◌≤◌, ◌↔◌, List, ℤ, ◌<ℤ◌, ◌≤ℤ◌};
+ghost use Rattle.life_dates.specs.Calendar.{Date, IsDate, IsDay, IsTermDay, date_of, day_number};
+ghost use Rattle.life_dates.specs.Anniversary.{anniversary_of, IsCompleted};
 ghost use Rattle.life_dates.specs.DayText.{day_text, IsDayText};
+
+/// Each day from 1900 to 2399 has one date of the calendar.
+pub fn days_have_dates()
+    ensures date { (day : ℤ) → IsTermDay day
+        → IsDate (date_of day) × (day_number (date_of day) ≡ day) }
+    ensures only { (date : Date) → IsDate date → IsTermDay (day_number date)
+        → date_of (day_number date) ≡ date }
+{}
 
 /// Anniversary 0 is the issue day itself, later ones come later, and the 134th is no later than the
 /// end of the year 2399.
@@ -12,6 +20,12 @@ pub fn anniversaries_ascend()
         → anniversary_of issued t <ℤ anniversary_of issued u }
     ensures last { (issued : ℤ) (t : ℕ) → IsDay issued → t ≤ 134
         → IsTermDay (anniversary_of issued t) }
+{}
+
+/// The anniversaries up to the 131st that have come by a day are those up to the completed years.
+pub fn completed_years_have_come()
+    ensures { (issued on : ℤ) (t u : ℕ) → IsDay issued → IsCompleted issued on t → u ≤ 131
+        → ((anniversary_of issued u ≤ℤ on) ↔ (u ≤ t)) }
 {}
 
 /// What is printed of a day is a text of that day, and the day has no other.

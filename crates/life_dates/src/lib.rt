@@ -5,9 +5,11 @@
 
 mod calendar;
 mod laws;
+#[cfg(test)]
+mod tests;
 mod text;
 mod years;
 
-pub use laws::{anniversaries_ascend, texts_are_exact};
+pub use laws::{anniversaries_ascend, completed_years_have_come, days_have_dates, texts_are_exact};
 pub use text::{parse_day, print_day};
 pub use years::{anniversary, completed};

@@ -1,61 +1,45 @@
 // The devices in memory fail where they are told to, and the real ones write, read and find real files.
 use crate::*;
-use std::alloc::Global;
 use std::collections::BTreeMap;
 use std::fs;
 use std::fs::File;
-use std::process::Abort;
 use std::test::Fail;
 
-// What `read_all` gives: the bytes, or the fault.
-fn check_read<A: Abort>(
-    rt: &A,
-    alloc: Global,
-    failing: &[u64],
-    limit: u32,
-    want: Result<&[u8], ReadAllFault>,
-) -> Result<(), Fail> {
-    let bytes = b"three words here".to_vec(alloc)?;
-    let mut source = BytesSource::new(bytes, failing.to_vec(alloc)?);
-    match (read_all(alloc, &mut source, limit), want) {
-        (Ok(got), Ok(wanted)) => assert!(rt; got.as_slice() == wanted, "the bytes"),
-        (Err(got), Err(wanted)) => assert!(rt; got == wanted, "the fault"),
-        _ => assert!(rt; false, "one of them is a fault"),
-    }
-    Ok(())
-}
+const TEXT: &[u8] = b"three words here";
 
 #[test]
 fn devices_in_memory(rt: HostRuntime) -> Result<(), Fail> {
     let alloc = rt.alloc();
-    check_read(&rt, alloc, &[], 16, Ok(b"three words here".as_slice()))?;
-    check_read(&rt, alloc, &[3], 16, Ok(b"three words here".as_slice()))?;
-    check_read(&rt, alloc, &[1], 16, Err(ReadAllFault::ReadFault))?;
-    check_read(&rt, alloc, &[2], 16, Err(ReadAllFault::ReadFault))?;
-    check_read(&rt, alloc, &[2], 15, Err(ReadAllFault::TooLong))?;
-
-    let mut sink = BytesSink::new(alloc, [2].to_vec(alloc)?);
-    assert!(rt; write_all(&mut sink, b"one ").is_ok());
-    assert!(rt; write_all(&mut sink, b"two ").is_err());
-    assert!(rt; write_all(&mut sink, b"three").is_ok());
+    let cases = [
+        (0, 16, None),
+        (3, 16, None),
+        (1, 16, Some(ReadAllFault::ReadFault)),
+        (2, 16, Some(ReadAllFault::ReadFault)),
+        (2, 15, Some(ReadAllFault::TooLong)),
+    ];
+    for (failing, limit, fault) in cases {
+        let mut source = BytesSource::new(TEXT.to_vec(alloc)?, vec![in alloc; failing]?);
+        let right = match read_all(alloc, &mut source, limit) {
+            Ok(bytes) => fault.is_none() && bytes.as_slice() == TEXT,
+            Err(e) => fault == Some(e),
+        };
+        assert!(rt; right, "call {failing} fails");
+    }
+    let mut sink = BytesSink::new(alloc, vec![in alloc; 2]?);
+    let first = write_all(&mut sink, b"one ");
+    let second = write_all(&mut sink, b"two ");
+    let third = write_all(&mut sink, b"three");
+    assert!(rt; (first, second, third) == (Ok(()), Err(WriteFault), Ok(())));
     assert!(rt; sink.bytes() == b"one three".as_slice());
-    assert!(rt; sink.faults() == 1);
-
-    let mut files = BTreeMap::new(alloc);
-    let _ = files.insert(String::from_str(alloc, "q.xml")?, b"<Y/>".to_vec(alloc)?)?;
-    let mut shelf = MapShelf::new(files, [3].to_vec(alloc)?);
-    assert!(rt; shelf.fetch(alloc, "q.xml")?.as_slice() == b"<Y/>".as_slice());
-    assert!(rt; shelf.fetch(alloc, "g.xml").err() == Some(FetchFault::Absent));
-    assert!(rt; shelf.fetch(alloc, "q.xml").err() == Some(FetchFault::Failed));
-    assert!(rt; shelf.faults() == 1);
     Ok(())
 }
 
 // A disk that a thread can take.
-fn write_and_sync<D: Disk + Send>(disk: &mut D, at: u64, bytes: &[u8]) -> bool
+fn write_and_sync<D: Disk + Send>(disk: &mut D, at: u64, bytes: &[u8]) -> Result<(), Failed>
     requires { D.honest disk.old → ⊥ }
 {
-    disk.write_at(at, bytes).is_ok() && disk.sync().is_ok()
+    disk.write_at(at, bytes)?;
+    disk.sync()
 }
 
 #[test]
@@ -67,46 +51,50 @@ fn a_real_file_is_a_disk(rt: HostRuntime) -> Result<(), Fail> {
         fs::metadata(&rt, name).is_err(),
         "nothing before the first call"
     );
-    assert!(rt; disk.len() == Ok(0));
-    assert!(rt; write_and_sync(&mut disk, 0, b"a first line"));
-    assert!(rt; write_and_sync(&mut disk, 2, b"FIRST"));
-    drop(disk);
+    let empty = disk.len();
+    let first = write_and_sync(&mut disk, 0, b"a first line");
+    let second = write_and_sync(&mut disk, 2, b"FIRST");
+    assert!(rt; (empty, first, second) == (Ok(0), Ok(()), Ok(())));
     let mut again = FileDisk::at(rt.clone()?, name);
-    assert!(rt; again.len() == Ok(12));
     let mut part = [0; 7];
-    assert!(rt; again.read(1, &mut part).is_ok());
-    assert!(rt; part == *b" FIRST ");
-    assert!(rt; again.read(6, &mut part).is_err(), "past the end");
-    assert!(rt; again.faults() == 1);
+    let length = again.len();
+    let inside = again.read(1, &mut part);
+    let beyond = again.read(6, &mut [0; 7]);
+    assert!(rt; (length, inside, beyond) == (Ok(12), Ok(()), Err(Failed)));
+    assert!(rt; (part, again.faults()) == (*b" FIRST ", 1));
     fs::remove_file(&rt, name)?;
     Ok(())
 }
 
 #[test]
-fn real_streams_and_folder(rt: HostRuntime) -> Result<(), Fail> {
+fn real_streams_and_shelves(rt: HostRuntime) -> Result<(), Fail> {
     let alloc = rt.alloc();
     let name = "outside_io_stream.test";
     let mut sink = StdSink::new(File::create(&rt, name)?);
-    assert!(rt; write_all(&mut sink, b"two\nlines").is_ok());
+    let written = write_all(&mut sink, b"two\nlines");
     let mut closed = StdSink::new(File::open(&rt, name)?);
-    assert!(rt;
-        write_all(&mut closed, b"x").is_err(),
-        "not open for writing"
-    );
-    assert!(rt; closed.faults() == 1);
-    let mut source = StdSource::new(File::open(&rt, name)?);
-    let bytes = read_all(alloc, &mut source, 9);
-    assert!(rt; bytes.is_ok());
+    let refused = write_all(&mut closed, b"x");
+    assert!(rt; (written, refused, closed.faults()) == (Ok(()), Err(WriteFault), 1));
     let mut shelf = FolderShelf::new(rt.clone()?);
-    assert!(rt; shelf.fetch(alloc, name)?.as_slice() == b"two\nlines".as_slice());
+    let Ok(bytes) = shelf.fetch(alloc, name) else {
+        return Err(Fail::new("not found"));
+    };
+    assert!(rt; bytes.as_slice() == b"two\nlines".as_slice());
     File::create(&rt, name)?.set_len(4_194_305)?;
-    assert!(rt; shelf.fetch(alloc, name).err() == Some(FetchFault::TooLong));
+    let long = shelf.fetch(alloc, name).err();
     fs::remove_file(&rt, name)?;
-    assert!(rt; shelf.fetch(alloc, name).err() == Some(FetchFault::Absent));
+    let absent = shelf.fetch(alloc, name).err();
+    let folder = shelf.fetch(alloc, ".").err();
+    assert!(rt; (long, absent) == (Some(FetchFault::TooLong), Some(FetchFault::Absent)));
+    assert!(rt; (folder, shelf.faults()) == (Some(FetchFault::Failed), 1));
+    let mut files = BTreeMap::new(alloc);
+    let _ = files.insert(String::from_str(alloc, "q.xml")?, b"<Y/>".to_vec(alloc)?)?;
+    let mut shelf = MapShelf::new(files, vec![in alloc; 3]?);
+    let found = shelf.fetch(alloc, "q.xml").is_ok();
+    let absent = shelf.fetch(alloc, "g.xml").err();
+    let failed = shelf.fetch(alloc, "q.xml").err();
     assert!(rt;
-        shelf.fetch(alloc, ".").err() == Some(FetchFault::Failed),
-        "a folder"
+        (found, absent, failed) == (true, Some(FetchFault::Absent), Some(FetchFault::Failed))
     );
-    assert!(rt; shelf.faults() == 1);
     Ok(())
 }

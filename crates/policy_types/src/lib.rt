@@ -7,6 +7,8 @@ mod entry;
 mod policy;
 mod refusal;
 mod script;
+#[cfg(test)]
+mod tests;
 mod watcher;
 
 pub use command::{

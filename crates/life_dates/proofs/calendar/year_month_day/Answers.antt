@@ -12,4 +12,4 @@ returns-clause-bound c =
     let same : to_z w32 (of_z w32 c.args.day) ≡ c.args.day = to_z-of_z c.ranges.day in
     let year : c.civil_date-date.result.year ≡ pos (date_of c.args.day).year = c.civil_date-date.ensures.year ∙ ap (λ d. pos (date_of d).year) same in
     let long = days_in_month_bounds c.civil_date-date.result.year c.civil_date-date.result.month in
-    (omega (arith, ints, years.0, years.1), c.civil_date-date.result.month_in.1, omega (arith, long.0, c.civil_date-date.result.day_in.1))
+    (omega (arith, ints, years.0, years.1), omega (arith, ints, c.civil_date-date.result.month_in.1), omega (arith, ints, long.0, c.civil_date-date.result.day_in.1))

@@ -1,0 +1,56 @@
+-- How a clerk's line is written: the fields of its row
+use Rattle.std.specs.Prelude.{ℕ, List, [], ◌∷◌, codes, decimal}
+use Rattle.policy_types.specs.declared.command.Command.{Command}
+use Rattle.policy_types.specs.declared.command.Command.TheVariants.{Issue, Premium, Alter, Lapse, Reinstate, Claim, Settle, Mature}
+use Rattle.policy_types.specs.declared.command.Plan.{Plan}
+use Rattle.policy_types.specs.declared.command.Plan.TheVariants.{Term, Whole, Endowment, Limited}
+use Rattle.policy_types.specs.declared.entry.At.{At}
+use Rattle.policy_types.specs.declared.entry.At.TheVariants.{Now, Position}
+use Rattle.policy_types.specs.declared.script.Line.{Line}
+use Rattle.policy_types.specs.declared.script.Line.TheVariants.{Post, Value, Trim}
+use Rattle.life_dates.specs.DayText.{day_text}
+use Rattle.money_core.specs.CentsText.{cents_text}
+
+-- a line, and the number of the clerk whose line it is
+pub record ClerkLine : Type 0 where
+  pub clerk : ℕ
+  pub line : Line
+
+-- a line of clerk 1
+abbrev pub by_first : Line → ClerkLine
+by_first line = record { clerk = 1; line = line }
+
+-- a plan's name
+abbrev pub plan_word : Plan → List ℕ
+plan_word Term = codes "term"
+plan_word Whole = codes "whole"
+plan_word Endowment = codes "endowment"
+plan_word Limited = codes "limited"
+
+-- the kind, the policy's number, the day, and what else the command holds: whole numbers without leading zeros,
+-- days as YYYY-MM-DD, amounts with a point and two digits
+abbrev pub command_fields : Command → List (List ℕ)
+command_fields (Issue id day plan age years amount premium) =
+    codes "issue" ∷ decimal id ∷ day_text day ∷ plan_word plan ∷ decimal age ∷ decimal years ∷ cents_text amount ∷ cents_text premium ∷ []
+command_fields (Premium id day amount) = codes "premium" ∷ decimal id ∷ day_text day ∷ cents_text amount ∷ []
+command_fields (Alter id day amount premium) = codes "alter" ∷ decimal id ∷ day_text day ∷ cents_text amount ∷ cents_text premium ∷ []
+command_fields (Lapse id day) = codes "lapse" ∷ decimal id ∷ day_text day ∷ []
+command_fields (Reinstate id day amount) = codes "reinstate" ∷ decimal id ∷ day_text day ∷ cents_text amount ∷ []
+command_fields (Claim id day) = codes "claim" ∷ decimal id ∷ day_text day ∷ []
+command_fields (Settle id day amount) = codes "settle" ∷ decimal id ∷ day_text day ∷ cents_text amount ∷ []
+command_fields (Mature id day) = codes "mature" ∷ decimal id ∷ day_text day ∷ []
+
+-- the position of a valuation
+abbrev pub at_text : At → List ℕ
+at_text Now = codes "now"
+at_text (Position n) = decimal n
+
+-- the fields of a line behind the clerk's number
+abbrev pub line_fields : Line → List (List ℕ)
+line_fields (Post command) = command_fields command
+line_fields (Value on at workers) = codes "value" ∷ day_text on ∷ at_text at ∷ decimal workers ∷ []
+line_fields Trim = codes "trim" ∷ []
+
+-- the fields of a row: the clerk's number before those of the line
+abbrev pub row_fields : ClerkLine → List (List ℕ)
+row_fields entry = decimal entry.clerk ∷ line_fields entry.line

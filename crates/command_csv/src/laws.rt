@@ -1,0 +1,22 @@
+// Laws of the definitions, for callers.
+ghost use Rattle.std.specs.Prelude.{◌≡◌, ℕ, List};
+ghost use Rattle.std.specs.List.{All};
+ghost use Rattle.policy_types.specs.declared.script.Lane.{Lane};
+ghost use Rattle.policy_types.specs.declared.script.Line.{Line};
+ghost use Rattle.command_csv.specs.Reads.{IsIssueLine, IsFirstFault, Reads, lane_of};
+
+/// Where a script has a first fault, no lanes are read from it, and it has no other first fault.
+pub fn faults_are_exact()
+    ensures unread { (bytes : List ℕ) (row field : ℕ) (lanes : List Lane) → IsFirstFault bytes row field → Reads bytes lanes → ⊥ }
+    ensures one { (bytes : List ℕ) (row other field place : ℕ) → IsFirstFault bytes row field → IsFirstFault bytes other place → (row ≡ other) × (field ≡ place) }
+{}
+
+/// A script is read in one way.
+pub fn readings_are_one()
+    ensures { (bytes : List ℕ) (lanes others : List Lane) → Reads bytes lanes → Reads bytes others → lanes ≡ others }
+{}
+
+/// What is read is no lane, or the one lane of clerk 1, and each of its lines is a valid issue.
+pub fn one_clerk()
+    ensures { (bytes : List ℕ) (lanes : List Lane) → Reads bytes lanes → (lines : List Line) × (lanes ≡ lane_of 1 lines) × All IsIssueLine lines }
+{}

@@ -1,0 +1,16 @@
+//! The reader of clerks' scripts: the rows of a script, and the lines that they spell.
+#![tactic(auto)]
+
+mod fault;
+mod fields;
+mod laws;
+mod pieces;
+mod reader;
+mod row;
+
+pub use fault::ScriptFault;
+pub use laws::{faults_are_exact, one_clerk, readings_are_one};
+pub use reader::read_script;
+
+#[cfg(test)]
+mod tests;

@@ -1,0 +1,4 @@
+pub mod Narrow
+pub mod Renewal
+pub mod Enclosed
+pub mod Tables

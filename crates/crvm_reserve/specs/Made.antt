@@ -1,0 +1,50 @@
+use Rattle.std.specs.Prelude.{◌≡◌, ℕ, ◌+◌, ◌*◌, ◌<◌, ◌≤◌}
+use Rattle.rate_table.specs.Rates.{Rates, ONE, rate_at}
+use Rattle.rate_table.specs.declared.shape.Shape.{Shape}
+use Rattle.present_value.specs.Fractions.{Fraction, Between}
+use Rattle.present_value.specs.Sums.{Cover}
+use Rattle.present_value.specs.Rounding.{UNIT}
+use Rattle.present_value.specs.Values.{CanValue, AreColumns}
+use Rattle.present_value.specs.declared.pair.Columns.{Columns}
+use Rattle.crvm_reserve.specs.Rounded.{beta_lo, beta_hi}
+use Rattle.crvm_reserve.specs.declared.premium.Premium.{Premium}
+
+-- a shape has a modified net premium: it can be valued, has a premium after the first, and the rate of death
+-- in the first year is at most one half
+pub record CanReserve (table : Rates) (shape : Shape) (bp : ℕ) : Type 0 where
+  pub value : CanValue table shape bp
+  pub renewed : 2 ≤ shape.h
+  pub first : rate_at table shape.age ≤ 500000000
+
+-- the same of a cover, and of the cover of its cap
+pub record IsReserved (c cap : Cover) : Type 0 where
+  pub renewed : 2 ≤ c.h
+  pub covered : c.h ≤ c.n
+  pub years : c.n ≤ 131
+  pub rates : (k : ℕ) → k < c.n → c.rates k ≤ ONE
+  pub first : c.rates 0 ≤ 500000000
+  pub cap_paid : 1 ≤ cap.h
+  pub cap_covered : cap.h ≤ cap.n
+  pub cap_years : cap.n ≤ 131
+  pub cap_rates : (k : ℕ) → k < cap.n → cap.rates k ≤ ONE
+
+-- the premium is that of a cover and its cap, rounded
+abbrev pub premium_of : Cover → Cover → Premium
+premium_of c cap = record { lo = beta_lo c cap; hi = beta_hi c cap }
+
+-- columns and premium were made for one cover and its cap
+pub record AreMadeFor (c cap : Cover) (columns : Columns) (premium : Premium) : Type 0 where
+  pub reserved : IsReserved c cap
+  pub columns_are : AreColumns c columns
+  pub premium_is : premium ≡ premium_of c cap
+
+pub record AreMade (columns : Columns) (premium : Premium) : Type 0 where
+  pub cover : Cover
+  pub cap : Cover
+  pub made : AreMadeFor cover cap columns premium
+
+-- each bound lies within 100,000 units of the value that the two enclose
+pub record AreClose (lo hi : ℕ) (value : Fraction) : Type 0 where
+  pub between : Between lo hi UNIT value
+  pub low : UNIT * value.num ≤ (lo + 100000) * value.den
+  pub high : hi * value.den ≤ UNIT * value.num + 100000 * value.den

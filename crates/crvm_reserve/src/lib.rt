@@ -1,0 +1,13 @@
+//! The modified net premium of the Commissioners Reserve Valuation Method, and the reserve that rests on
+//! it, as proved lower and upper bounds.
+#![tactic(auto)]
+
+mod basis;
+mod bounds;
+mod premium;
+#[cfg(test)]
+mod tests;
+
+pub use basis::basis_premium;
+pub use bounds::reserve_bounds;
+pub use premium::Premium;

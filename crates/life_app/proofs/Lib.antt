@@ -1,0 +1,6 @@
+pub mod BookSteps
+pub mod AnswerSteps
+pub mod TextSteps
+pub mod MergeSteps
+pub mod RunSteps
+pub mod ProgramSteps

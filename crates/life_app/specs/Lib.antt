@@ -1,0 +1,5 @@
+pub mod Books
+pub mod Outcome
+pub mod Status
+pub mod Transcript
+pub mod Words

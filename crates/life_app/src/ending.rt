@@ -1,0 +1,36 @@
+ghost use Rattle.std.specs.Prelude.{◌≡◌};
+
+/// How a run of the program ends.
+#[derive(Clone, Copy, PartialEq, Eq, Debug)]
+pub enum Ending {
+    /// All was read to the end, and every line is answered.
+    Done,
+    /// The words aren't of a command.
+    Usage,
+    /// The script is too long, or a row of it is no line.
+    BadScript,
+    /// The input failed.
+    ReadFault,
+    /// The output failed.
+    WriteFault,
+    /// Memory was refused.
+    NoMemory,
+}
+
+impl Ending {
+    ghost use Rattle.life_app.specs.Status.{status_of};
+
+    /// The program's exit status.
+    pub fn status(self) -> u8
+        ensures { result ≡ status_of self }
+    {
+        match self {
+            Ending::Done => 0,
+            Ending::Usage => 2,
+            Ending::BadScript => 3,
+            Ending::ReadFault => 6,
+            Ending::WriteFault => 7,
+            Ending::NoMemory => 9,
+        }
+    }
+}

@@ -1,0 +1,54 @@
+//! The program `life`: the real devices, handed to the top call.
+#![tactic(auto)]
+
+use life_app::{Ended, life};
+use outside_io::{FileDisk, FolderShelf, OpenGate, StdSink, StdSource, write_all};
+use std::alloc::AllocError;
+use std::env;
+use std::io::ErrorKind;
+use std::process::ExitCode;
+use std::rt::Env;
+
+/// The file in which the policies are kept, in the folder in which the program runs.
+const JOURNAL: &str = "journal.life";
+
+/// Ends with the status of the top call; with 9 where not even the devices find memory.
+fn main(rt: HostRuntime) -> ExitCode {
+    let alloc = rt.alloc();
+    let mut input = StdSource::new(rt.stdin());
+    let mut output = StdSink::new(rt.stdout());
+    let found: Result<Vec<String>, AllocError> = words_of(&rt);
+    let Ok(words) = found else {
+        let _ = write_all(&mut output, b"nomemory\n");
+        return ExitCode::from(9);
+    };
+    let mut shelf = FolderShelf::new(rt);
+    let disk = FileDisk::at(rt, JOURNAL);
+    let Ended { status, disk } = life(
+        alloc,
+        &words,
+        &mut input,
+        &mut output,
+        &mut shelf,
+        disk,
+        Vec::new(alloc),
+        &OpenGate,
+    );
+    drop(disk);
+    ExitCode::from(status)
+}
+
+// The words behind the program's name. Words that are no text are no words, which no command has.
+fn words_of<R: Env + AllocGlobal>(rt: &R) -> Result<Vec<String>, AllocError> {
+    let mut words = Vec::new(rt.alloc());
+    match env::args(rt) {
+        Ok(all) => {
+            for word in all.skip(1) {
+                words.push(word)?;
+            }
+        }
+        Err(error) if error.kind() == ErrorKind::OutOfMemory => return Err(AllocError),
+        Err(_) => {}
+    }
+    Ok(words)
+}

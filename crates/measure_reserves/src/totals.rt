@@ -1,0 +1,58 @@
+ghost use Rattle.std.specs.Prelude.{◌≤◌};
+
+use crate::workload::Drawn;
+use crvm_reserve::{basis_premium, reserve_bounds};
+use life_dates::completed;
+use plan_benefits::shape;
+use present_value::columns;
+use rate_table::RateTable;
+
+/// 2020-12-31, in days since 1970-01-01.
+const ON: i32 = 18_627;
+
+const BASIS_POINTS: u16 = 400;
+
+/// The sums of the bounds of the policies valued so far, in cents.
+#[derive(Drop)]
+pub struct Totals {
+    pub policies: u64,
+    pub unvalued: u64,
+    pub lower: u64,
+    pub upper: u64,
+}
+
+impl Totals {
+    pub fn new() -> Totals {
+        Totals {
+            policies: 0,
+            unvalued: 0,
+            lower: 0,
+            upper: 0,
+        }
+    }
+
+    pub fn add(&mut self, policy: &Drawn, table: &RateTable) {
+        let (lower, upper) = match bounds(policy, table) {
+            Some(pair) => pair,
+            None => {
+                self.unvalued = self.unvalued.saturating_add(1);
+                (0, 0)
+            }
+        };
+        self.policies = self.policies.saturating_add(1);
+        self.lower = self.lower.saturating_add(lower);
+        self.upper = self.upper.saturating_add(upper);
+    }
+}
+
+fn bounds(policy: &Drawn, table: &RateTable) -> Option<(u64, u64)> {
+    let policy = *policy;
+    let shape = shape(policy.plan, policy.age, policy.years, table).ok()?;
+    if shape.h < 2 {
+        return None;
+    }
+    let columns = columns(table, &shape, BASIS_POINTS);
+    let premium = basis_premium(table, &shape, BASIS_POINTS, &columns);
+    let t = completed(policy.issued, ON).min(shape.n);
+    Some(reserve_bounds(&columns, &premium, policy.amount, t))
+}

@@ -1,0 +1,29 @@
+-- What a disk in memory shows.
+use Rattle.std.specs.Prelude.{◌≡◌, ℕ, List, Result, IsErr}
+use Rattle.outside_io.specs.declared.fault_plan.FaultPlan.{FaultPlan}
+use Rattle.outside_io.specs.Plans.{plan_calls, plan_failing, number_after, FailsNext}
+use Rattle.memory_disk.specs.First.{first_bytes}
+use Rattle.memory_disk.specs.declared.disk_call.DiskCall.{DiskCall}
+use Rattle.memory_disk.specs.declared.in_memory.MemoryDisk.{MemoryDisk}
+
+-- the bytes that it had at first
+abbrev pub disk_first : MemoryDisk → List ℕ
+disk_first disk = first_bytes disk.history.first disk.history.bytes
+
+-- the bytes that a read gives
+abbrev pub disk_bytes : MemoryDisk → List ℕ
+disk_bytes disk = disk.history.bytes.items
+
+-- its calls, in order, but for those for whose record there was no memory
+abbrev pub disk_calls : MemoryDisk → List DiskCall
+disk_calls disk = disk.history.calls.items
+
+-- the calls that are to fail, and those that were made
+abbrev pub disk_plan : MemoryDisk → FaultPlan
+disk_plan disk = disk.plan
+
+-- a call whose number was to fail failed, and one call more was made
+pub record FollowsPlan {T E : Type 0} (before now : FaultPlan) (result : Result T E) : Type 0 where
+  pub fails : FailsNext before → IsErr result
+  pub counted : plan_calls now ≡ number_after (plan_calls before)
+  pub stays : plan_failing now ≡ plan_failing before

@@ -1,0 +1,4 @@
+pub mod History
+pub mod First
+pub mod HistoryLaws
+pub mod Disk

@@ -1,0 +1,174 @@
+// The disk: a history, and the calls that are to fail.
+ghost use Rattle.std.specs.Prelude.{◌≡◌, ℕ, List, [], ◌∷◌, ◌++◌, ◌+◌, ◌≤◌, false, length, take, drop, IfOk, OnOk, ⊤};
+ghost use Rattle.outside_io.specs.Disks.{HasDiskCause, Looks, Writes, Syncs, Elapses};
+ghost use Rattle.outside_io.specs.Plans.{plan_faults, plan_failing, plan_calls};
+ghost use Rattle.memory_disk.specs.Disk.{disk_first, disk_bytes, disk_calls, disk_plan, FollowsPlan};
+ghost use Rattle.memory_disk.specs.History.{IsImage, WasImage, IsWriteOf, kept_after};
+ghost use Rattle.memory_disk.specs.HistoryLaws.{replayed_image, now_counts, only_now_left};
+ghost use Rattle.memory_disk.specs.declared.disk_call.DiskCall.TheVariants.{Len, Read, Sync};
+
+use crate::DiskCall;
+use crate::history::History;
+use crate::images::image_of;
+use outside_io::{Disk, Failed, FaultPlan};
+use std::alloc::{AllocError, Global};
+
+/// A disk in memory that follows the disk model. It keeps each call, and fails at the calls whose numbers, from 1,
+/// it is told. Want of memory for a call's record is a fault too, and such a call does nothing else.
+#[derive(Drop)]
+pub struct MemoryDisk {
+    alloc: Global,
+    history: History,
+    plan: FaultPlan,
+}
+
+impl MemoryDisk {
+    /// A disk with these bytes, all of them safe.
+    pub fn new(alloc: Global, bytes: Vec<u8>, failing: Vec<u64>) -> MemoryDisk
+        ensures first { disk_first result ≡ bytes.items }
+        ensures bytes { disk_bytes result ≡ bytes.items }
+        ensures calls { disk_calls result ≡ [] }
+        ensures failing { plan_failing (disk_plan result) ≡ failing.items }
+        ensures made { plan_calls (disk_plan result) ≡ 0 }
+        ensures faults { plan_faults (disk_plan result) ≡ 0 }
+        ensures honest { ⟦<MemoryDisk as Disk>⟧.honest result }
+    {
+        MemoryDisk {
+            alloc,
+            history: History::new(alloc, bytes),
+            plan: FaultPlan::new(failing),
+        }
+    }
+
+    /// What a read gives.
+    pub fn bytes(&self) -> &[u8]
+        ensures { result.now ≡ disk_bytes self.now }
+    {
+        &self.history.bytes
+    }
+
+    /// An image that a crash after so many of the calls might have left: that in which, of each write since the last
+    /// sync, the first `keep` bytes reached the disk. A write that begins past the image's end is lost.
+    pub fn image(&self, alloc: Global, moment: usize, keep: usize) -> Result<Vec<u8>, AllocError>
+        requires { moment ≤ length (disk_calls self.now) }
+        ensures kept { IfOk result (λ image. image.items ≡ kept_after (disk_first self.now) (disk_first self.now) keep (take moment (disk_calls self.now))) }
+        ensures possible { IfOk result (λ image. IsImage (disk_first self.now) (take moment (disk_calls self.now)) image.items) }
+    {
+        image_of(
+            alloc,
+            self.history.first(),
+            &self.history.calls[..moment],
+            keep,
+        )
+    }
+
+    /// All calls, in order.
+    pub fn calls(&self) -> &[DiskCall]
+        ensures { result.now ≡ disk_calls self.now }
+    {
+        &self.history.calls
+    }
+}
+
+impl Disk for MemoryDisk {
+    ghost count = { λ disk. plan_faults (disk_plan disk) };
+
+    ghost honest = { λ disk. ⊤ };
+
+    ghost reads = { λ disk. disk_bytes disk };
+
+    ghost may_leave = { λ disk image. IsImage (disk_first disk) (disk_calls disk) image };
+
+    ghost clock = { λ disk. length (disk_calls disk) };
+
+    ghost left_since = { λ disk moment image. WasImage (disk_first disk) (disk_calls disk) moment image };
+
+    ghost reads_as_image = { λ disk known. replayed_image (disk_first disk) (disk_bytes disk) (disk_calls disk) disk.history.replayed disk.history.within };
+
+    ghost counts_now = { λ disk moment image known passed left. now_counts (disk_first disk) (disk_calls disk) moment image passed left };
+
+    ghost only_now = { λ disk image known left. only_now_left (disk_first disk) (disk_calls disk) image left };
+
+    fn faults(&self) -> u64 {
+        self.plan.faults()
+    }
+
+    fn len(&mut self) -> Result<u64, Failed>
+        ensures cause { HasDiskCause (plan_faults (disk_plan self.old)) (plan_faults (disk_plan self.new)) result }
+        ensures length { IfOk result (λ n. n ≡ length (disk_bytes self.old)) }
+        ensures facts { Looks (disk_bytes self.old) (disk_bytes self.new)
+            (IsImage (disk_first self.old) (disk_calls self.old)) (IsImage (disk_first self.new) (disk_calls self.new)) }
+        ensures time { Elapses (length (disk_calls self.old)) (length (disk_calls self.new))
+            (WasImage (disk_first self.old) (disk_calls self.old)) (WasImage (disk_first self.new) (disk_calls self.new))
+            (IsImage (disk_first self.new) (disk_calls self.new)) }
+        ensures planned { FollowsPlan (disk_plan self.old) (disk_plan self.new) result }
+        ensures kept { OnOk result (disk_calls self.new ≡ disk_calls self.old ++ Len false ∷ []) }
+    {
+        let failed = self.plan.fails_next();
+        if !self.history.note(DiskCall::Len { failed }) || failed {
+            self.plan.add_fault();
+            return Err(Failed);
+        }
+        Ok(self.history.bytes.len() as u64)
+    }
+
+    fn read(&mut self, at: u64, buf: &mut [u8]) -> Result<(), Failed>
+        requires { at + length buf.old ≤ length (disk_bytes self.old) }
+        ensures cause { HasDiskCause (plan_faults (disk_plan self.old)) (plan_faults (disk_plan self.new)) result }
+        ensures bytes { OnOk result (buf.new ≡ take (length buf.old) (drop at (disk_bytes self.old))) }
+        ensures facts { Looks (disk_bytes self.old) (disk_bytes self.new)
+            (IsImage (disk_first self.old) (disk_calls self.old)) (IsImage (disk_first self.new) (disk_calls self.new)) }
+        ensures time { Elapses (length (disk_calls self.old)) (length (disk_calls self.new))
+            (WasImage (disk_first self.old) (disk_calls self.old)) (WasImage (disk_first self.new) (disk_calls self.new))
+            (IsImage (disk_first self.new) (disk_calls self.new)) }
+        ensures planned { FollowsPlan (disk_plan self.old) (disk_plan self.new) result }
+        ensures kept { OnOk result (disk_calls self.new ≡ disk_calls self.old ++ Read at (length buf.old) false ∷ []) }
+    {
+        let failed = self.plan.fails_next();
+        let many = buf.len();
+        if !self.history.note(DiskCall::Read { at, many, failed }) || failed {
+            self.plan.add_fault();
+            return Err(Failed);
+        }
+        let from = at as usize;
+        buf.copy_from_slice(&self.history.bytes[from..from + many]);
+        Ok(())
+    }
+
+    fn write_at(&mut self, at: u64, bytes: &[u8]) -> Result<(), Failed>
+        requires { at ≤ length (disk_bytes self.old) }
+        ensures cause { HasDiskCause (plan_faults (disk_plan self.old)) (plan_faults (disk_plan self.new)) result }
+        ensures facts { Writes at bytes.now result (disk_bytes self.old) (disk_bytes self.new)
+            (IsImage (disk_first self.old) (disk_calls self.old)) (IsImage (disk_first self.new) (disk_calls self.new)) }
+        ensures time { Elapses (length (disk_calls self.old)) (length (disk_calls self.new))
+            (WasImage (disk_first self.old) (disk_calls self.old)) (WasImage (disk_first self.new) (disk_calls self.new))
+            (IsImage (disk_first self.new) (disk_calls self.new)) }
+        ensures planned { FollowsPlan (disk_plan self.old) (disk_plan self.new) result }
+        ensures kept { OnOk result (IsWriteOf at bytes.now false (disk_calls self.old) (disk_calls self.new)) }
+    {
+        let failed = self.plan.fails_next();
+        if !self.history.write(self.alloc, at, bytes, failed) || failed {
+            self.plan.add_fault();
+            return Err(Failed);
+        }
+        Ok(())
+    }
+
+    fn sync(&mut self) -> Result<(), Failed>
+        ensures cause { HasDiskCause (plan_faults (disk_plan self.old)) (plan_faults (disk_plan self.new)) result }
+        ensures facts { Syncs result (disk_bytes self.old) (disk_bytes self.new)
+            (IsImage (disk_first self.old) (disk_calls self.old)) (IsImage (disk_first self.new) (disk_calls self.new)) }
+        ensures time { Elapses (length (disk_calls self.old)) (length (disk_calls self.new))
+            (WasImage (disk_first self.old) (disk_calls self.old)) (WasImage (disk_first self.new) (disk_calls self.new))
+            (IsImage (disk_first self.new) (disk_calls self.new)) }
+        ensures planned { FollowsPlan (disk_plan self.old) (disk_plan self.new) result }
+        ensures kept { OnOk result (disk_calls self.new ≡ disk_calls self.old ++ Sync false ∷ []) }
+    {
+        let failed = self.plan.fails_next();
+        if !self.history.note_sync(failed) || failed {
+            self.plan.add_fault();
+            return Err(Failed);
+        }
+        Ok(())
+    }
+}

@@ -1,0 +1,10 @@
+//! The benefits of a plan, as a shape by policy year.
+#![tactic(auto)]
+
+mod fault;
+mod shaping;
+#[cfg(test)]
+mod tests;
+
+pub use fault::NotValued;
+pub use shaping::shape;

@@ -1,0 +1,165 @@
+-- The histories of the office that are legal: every reply is the one due after the turns before it
+use Rattle.std.specs.Prelude.{◌≡◌, ℕ, ◌+◌, ◌-◌, ◌^◌, ◌<◌, ◌≤◌, min, Bool, true, not, ◌==◌, if◌then◌else◌, List, [], ◌∷◌, ◌++◌, length, take, drop, slice_get, Some, None, Option, Ok, Err, Result}
+use Rattle.std.specs.List.{AllByRecursion, filter_map, list_any, last_or, range_with_len}
+use Rattle.std.specs.Option.{unwrap_or}
+use Rattle.policy_types.specs.declared.command.Command.{Command}
+use Rattle.policy_types.specs.declared.policy.Policy.{Policy}
+use Rattle.policy_types.specs.declared.refusal.Refusal.{Refusal}
+use Rattle.policy_types.specs.declared.refusal.Refusal.TheVariants.{Full}
+use Rattle.policy_types.specs.declared.entry.Call.{Call}
+use Rattle.policy_types.specs.declared.entry.Call.TheVariants.{Post, Pin, PinAt, Read, Unpin, Trim}
+use Rattle.policy_types.specs.declared.entry.Reply.{Reply}
+use Rattle.policy_types.specs.declared.entry.Reply.TheVariants.{Accepted, Refused, Faulted, Pinned, PinRefused, Slice as Policies, Unpinned, Floor, Blank}
+use Rattle.policy_types.specs.declared.entry.PinRefusal.TheVariants.{Ahead, Trimmed, PinsFull}
+use Rattle.policy_types.specs.declared.entry.Entry.{Entry}
+use Rattle.policy_types.specs.Valid.{IsValid, id_of}
+use Rattle.policy_machine.specs.Rules.{next}
+use Rattle.policy_machine.specs.Book.{policy_of, book, IsAccepted}
+
+-- what an office was opened on: the commands of its journal, and the disk's count of faults then
+pub record Opening : Type 0 where
+  pub commands : List Command
+  pub faults : ℕ
+
+-- the command that a turn posted, where it was accepted
+abbrev pub accepted_by : Call → Reply → Option Command
+accepted_by (Post command) (Accepted position) = Some command
+accepted_by _ _ = None
+
+-- the accepted commands of a history, in order
+abbrev pub accepted_of : List Entry → List Command
+accepted_of history = filter_map (λ entry. accepted_by entry.call entry.reply) history
+
+-- all accepted commands after the turns before
+abbrev pub commands_after : Opening → List Entry → List Command
+commands_after opening before = opening.commands ++ accepted_of before
+
+-- the count of faults that a turn answered
+abbrev pub fault_of : Reply → Option ℕ
+fault_of (Faulted count) = Some count
+fault_of _ = None
+
+-- a count of faults is above an earlier one; at its type's end it stands still
+abbrev pub IsAbove : ℕ → ℕ → Type 0
+IsAbove earlier count = min (earlier + 1) (2 ^ 64 - 1) ≤ count
+
+-- a fault that no earlier turn answered, nor the opening met
+abbrev pub IsFreshFault : Opening → List Entry → ℕ → Type 0
+IsFreshFault opening before count =
+    IsAbove opening.faults count
+    × AllByRecursion (λ earlier. IsAbove earlier count) (filter_map (λ entry. fault_of entry.reply) before)
+
+-- a pin: its position and number of policies
+abbrev pub pin_of : Reply → Option (ℕ × ℕ)
+pin_of (Pinned position policies) = Some (position, policies)
+pin_of _ = None
+
+abbrev pub gives_up : ℕ → Call → Bool
+gives_up pin (Unpin n) = n == pin
+gives_up pin _ = not true
+
+-- the pin that the turn at this place took, where it did and no later turn gave it up
+abbrev pub live_pin : List Entry → ℕ → Option (ℕ × ℕ)
+live_pin before pin =
+    if list_any (λ entry. gives_up pin entry.call) (drop (pin + 1) before) then None
+    else live_in (slice_get before pin)
+  where
+    live_in : Option Entry → Option (ℕ × ℕ)
+    live_in None = None
+    live_in (Some entry) = pin_of entry.reply
+
+-- the positions of the live pins
+abbrev pub live_positions : List Entry → List ℕ
+live_positions before = filter_map (λ pin. position_in (live_pin before pin)) (range_with_len 0 (length before))
+  where
+    position_in : Option (ℕ × ℕ) → Option ℕ
+    position_in None = None
+    position_in (Some pin) = Some pin.0
+
+-- a pin's turn was this caller's
+abbrev pub IsOwnPin : List Entry → ℕ → ℕ → Type 0
+IsOwnPin before caller pin = (entry : Entry) × (slice_get before pin ≡ Some entry) × (entry.caller ≡ caller)
+
+-- the floor that a turn set
+abbrev pub floor_set : Reply → Option ℕ
+floor_set (Floor floor) = Some floor
+floor_set _ = None
+
+-- the floor is that of the last turn that set one, else 0
+abbrev pub floor_of : List Entry → ℕ
+floor_of before = unwrap_or (last_or None (filter_map (λ entry. floor_set entry.reply) before)) 0
+
+-- the least of the numbers, or another where there is none
+abbrev pub least_or : ℕ → List ℕ → ℕ
+least_or other [] = other
+least_or other (n ∷ []) = n
+least_or other (n ∷ m ∷ rest) = min n (least_or other (m ∷ rest))
+
+abbrev pub most_commands : ℕ
+most_commands = 4000000
+
+abbrev pub most_pins : ℕ
+most_pins = 16
+
+abbrev pub policies_per_read : ℕ
+policies_per_read = 256
+
+-- why a command can't be posted after these, if there is a reason: a rule's refusal, or a full journal
+abbrev pub refusal_due : List Command → Command → Option Refusal
+refusal_due commands command = refusal_in (next (policy_of commands (id_of command)) command)
+  where
+    refusal_in : Result Policy Refusal → Option Refusal
+    refusal_in (Err refusal) = Some refusal
+    refusal_in (Ok policy) = if length commands == most_commands then Some Full else None
+
+-- the reply is the one due to a caller's call after the turns before
+abbrev pub IsDue : Opening → List Entry → ℕ → Call → Reply → Type 0
+IsDue opening before caller (Post command) (Refused refusal) =
+    refusal_due (commands_after opening before) command ≡ Some refusal
+IsDue opening before caller (Post command) (Accepted position) =
+    (refusal_due (commands_after opening before) command ≡ None)
+    × (position ≡ length (commands_after opening before) + 1)
+IsDue opening before caller (Post command) (Faulted count) =
+    (refusal_due (commands_after opening before) command ≡ None) × IsFreshFault opening before count
+IsDue opening before caller (Post command) Blank = Unit {0}
+IsDue opening before caller Pin (PinRefused PinsFull) = most_pins ≤ length (live_positions before)
+IsDue opening before caller Pin (Pinned position policies) =
+    (length (live_positions before) < most_pins)
+    × (position ≡ length (commands_after opening before))
+    × (policies ≡ length (book (commands_after opening before)))
+IsDue opening before caller (PinAt p) (PinRefused (Ahead count)) =
+    (length (commands_after opening before) < p) × (count ≡ length (commands_after opening before))
+IsDue opening before caller (PinAt p) (PinRefused (Trimmed floor)) =
+    (p ≤ length (commands_after opening before)) × (p < floor_of before) × (floor ≡ floor_of before)
+IsDue opening before caller (PinAt p) (PinRefused PinsFull) =
+    (p ≤ length (commands_after opening before)) × (floor_of before ≤ p)
+    × (most_pins ≤ length (live_positions before))
+IsDue opening before caller (PinAt p) (Pinned position policies) =
+    (p ≤ length (commands_after opening before)) × (floor_of before ≤ p)
+    × (length (live_positions before) < most_pins) × (position ≡ p)
+    × (policies ≡ length (book (take p (commands_after opening before))))
+IsDue opening before caller (Read pin first) (Policies policies) =
+    (held : ℕ × ℕ) × (live_pin before pin ≡ Some held) × IsOwnPin before caller pin × (first ≤ held.1)
+    × (policies ≡ take policies_per_read (drop first (book (take held.0 (commands_after opening before)))))
+IsDue opening before caller (Unpin pin) Unpinned =
+    (held : ℕ × ℕ) × (live_pin before pin ≡ Some held) × IsOwnPin before caller pin
+IsDue opening before caller Trim (Floor floor) =
+    floor ≡ least_or (length (commands_after opening before)) (live_positions before)
+IsDue _ _ _ _ _ = ⊥
+
+-- each turn of rest has the reply due after the turns before it
+abbrev pub IsLegalAfter : Opening → List Entry → List Entry → Type 0
+IsLegalAfter opening before [] = Unit {0}
+IsLegalAfter opening before (entry ∷ rest) =
+    IsDue opening before entry.caller entry.call entry.reply × IsLegalAfter opening (before ++ entry ∷ []) rest
+
+-- what an office can be opened on
+pub record IsOpening (opening : Opening) : Type 0 where
+  pub accepted : IsAccepted opening.commands
+  pub valid : AllByRecursion IsValid opening.commands
+  pub few : length opening.commands ≤ most_commands
+
+-- a history of the office from its opening on
+pub record IsLegal (opening : Opening) (history : List Entry) : Type 0 where
+  pub opens : IsOpening opening
+  pub due : IsLegalAfter opening [] history

@@ -1,0 +1,5 @@
+pub mod Rules
+pub mod Book
+pub mod History
+pub mod Merge
+pub mod Worked

@@ -1,0 +1,14 @@
+//! Present values of benefits and premiums at each policy year, as proved lower and upper bounds.
+#![tactic(auto)]
+
+mod pair;
+mod quotient;
+mod reciprocal;
+#[cfg(test)]
+mod tests;
+mod valuation;
+mod year;
+
+pub use pair::{Columns, Pair};
+pub use quotient::{quotient_down, quotient_up};
+pub use valuation::columns;

@@ -1,0 +1,41 @@
+ghost use Rattle.std.specs.Prelude.{◌≡◌, ◌+◌, ◌*◌, ◌≤◌};
+ghost use Rattle.rate_table.specs.Rates.{ONE};
+ghost use Rattle.present_value.specs.Rounding.{UNIT, down, up, benefit_dividend, annuity_dividend};
+
+use crate::pair::Pair;
+use crate::reciprocal::Reciprocal;
+
+const UNITS_IN_ONE: u128 = 10_000_000_000_000_000;
+
+/// The benefits a year earlier: what a death in that year pays, and the value of a survivor's.
+///
+/// The rate is in units of 10^-9, and the year is 10^5 times what 10,000 has grown to after a year.
+pub fn benefits_before(rate: u32, year: &Reciprocal, later: Pair) -> Pair
+    requires rate { rate ≤ ONE }
+    requires lo { later.lo ≤ UNIT }
+    requires hi { later.hi ≤ UNIT }
+    ensures lo { result.lo ≡ down (benefit_dividend rate later.lo) (10000 * year.now.divisor) }
+    ensures hi { result.hi ≡ up (benefit_dividend rate later.hi) (10000 * year.now.divisor) }
+{
+    let death = rate as u128 * UNITS_IN_ONE;
+    let survival = 1_000_000_000 - rate as u128;
+    Pair {
+        lo: year.down(death + survival * later.lo as u128),
+        hi: year.up(death + survival * later.hi as u128),
+    }
+}
+
+/// The premiums a year earlier, of 1 each: one paid at once, and the value of a survivor's.
+pub fn premiums_before(rate: u32, year: &Reciprocal, later: Pair) -> Pair
+    requires rate { rate ≤ ONE }
+    requires lo { later.lo ≤ UNIT * 131 }
+    requires hi { later.hi ≤ UNIT * 131 }
+    ensures lo { result.lo ≡ UNIT + down (annuity_dividend rate later.lo) (10000 * year.now.divisor) }
+    ensures hi { result.hi ≡ UNIT + up (annuity_dividend rate later.hi) (10000 * year.now.divisor) }
+{
+    let survival = 1_000_000_000 - rate as u128;
+    Pair {
+        lo: UNITS_IN_ONE as u64 + year.down(survival * later.lo as u128),
+        hi: UNITS_IN_ONE as u64 + year.up(survival * later.hi as u128),
+    }
+}

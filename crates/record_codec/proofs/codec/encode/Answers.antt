@@ -1,0 +1,7 @@
+use Rattle.std.proofs.Common.{ap, ◌∙◌}
+use Rattle.record_codec.specs.Spelling.{body_of, spelling_of}
+use Rattle.record_codec.proofs.codec.encode.Goals as goal
+
+pub returns : goal.returns
+unfolding spelling_of
+returns c = c.body_with.ensures ∙ ap body_of c.fields_with.ensures

@@ -1,0 +1,41 @@
+-- The body of a journal's record: 64 bytes that spell one command.
+use Rattle.std.specs.Prelude.{◌≡◌, ◌++◌, List, [], ◌∷◌, ℕ, ◌<◌, ◌^◌, FitsSigned, replicate}
+use Rattle.std.specs.Int.{w32, w64, to_be_bytes, cast_unsigned}
+use Rattle.policy_types.specs.declared.command.Command.{Command}
+use Rattle.policy_types.specs.declared.command.Command.TheVariants.{Issue}
+use Rattle.policy_types.specs.Valid.{IsValid}
+use Rattle.record_codec.specs.declared.fields.Fields.{Fields}
+use Rattle.record_codec.specs.Fields.{fields_of}
+
+-- kind, plan, age and years, a byte each; then the id and the day in four bytes, the day in two's
+-- complement; then the amount and the premium in eight; each with its high byte first
+abbrev pub field_bytes : Fields → List ℕ
+field_bytes f =
+    (f.kind ∷ f.plan ∷ f.age ∷ f.years ∷ []) ++ to_be_bytes w32 f.id
+    ++ to_be_bytes w32 (cast_unsigned w32 f.day) ++ to_be_bytes w64 f.amount
+    ++ to_be_bytes w64 f.premium
+
+-- these 28 bytes and 36 zeros
+abbrev pub body_of : Fields → List ℕ
+body_of f = field_bytes f ++ replicate 36 0
+
+-- the numbers fit their bytes
+pub record AreInRange (f : Fields) : Type 0 where
+  pub id_in : f.id < 2 ^ 32
+  pub day_in : FitsSigned w32 f.day
+  pub amount_in : f.amount < 2 ^ 64
+  pub premium_in : f.premium < 2 ^ 64
+
+-- the body of a command
+unfoldable pub spelling_of : Command → List ℕ
+spelling_of command = body_of (fields_of command)
+
+-- the body spells the command, which is valid
+pub record IsSpelling (body : List ℕ) (command : Command) : Type 0 where
+  pub valid : IsValid command
+  pub spelled : body ≡ spelling_of command
+
+-- the command opens a policy
+abbrev pub IsIssuing : Command → Type 0
+IsIssuing (Issue id day plan age years amount premium) = Unit {0}
+IsIssuing _ = ⊥

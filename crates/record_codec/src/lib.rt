@@ -1,0 +1,14 @@
+//! The body of a journal's record: a command as 64 bytes, and back.
+//!
+//! Only commands that open a policy are recorded so far.
+#![tactic(auto)]
+
+mod body;
+mod codec;
+mod fields;
+mod laws;
+#[cfg(test)]
+mod tests;
+
+pub use codec::{decode, encode};
+pub use laws::spells_one_command;

@@ -1,0 +1,88 @@
+-- The answer of the reader is the one that is due.
+use Rattle.std.proofs.Common.{◌≡◌, ℕ, ◌≤◌, List, [], ◌∷◌, length, Some, None, Result, Ok, Err, refl, sym, ap, subst, ◌∙◌, inl, inr, arith}
+use Rattle.std.specs.Prelude.{IfOk, IfErr}
+use Rattle.rate_table.specs.Rates.{Rates}
+use Rattle.xtbml_subset.specs.declared.fault.TableKind.TheVariants.{NotDocument}
+use Rattle.xtbml_subset.specs.declared.fault.TableFault.{TableFault}
+use Rattle.xtbml_subset.specs.declared.fault.TableFault.TheVariants.{Bad, NoMemory}
+use Rattle.xtbml_subset.specs.Walk.{fault_at}
+use Rattle.xtbml_subset.specs.Elements.{Found, elements_at}
+use Rattle.xtbml_subset.specs.Checks.{Parts, parts_of, IsTable}
+use Rattle.xtbml_subset.specs.Rows.{found_asks, Unless}
+use Rattle.xtbml_subset.specs.Documents.{Node, IsDocument, node_asks}
+use Rattle.xtbml_subset.specs.Answers.{IsLongestNested, IsJudged, IsNoDocument, IsDue, Gives}
+use Rattle.xtbml_subset.proofs.Accepting.{document_accepted}
+use Rattle.xtbml_subset.proofs.Sounding.{whole_document, longest_nested}
+use Rattle.xtbml_subset.proofs.Matching.{Matches, finds_root}
+use Rattle.xtbml_subset.proofs.Judging.{parts_same, table_one}
+
+-- ---- no document
+
+pub not_accepted : (bytes : List ℕ) (at : ℕ) → Some at ≡ fault_at bytes → IsNoDocument bytes
+not_accepted bytes at e root d = absurd (let none : Some at ≡ None = e ∙ document_accepted bytes root d in cc)
+
+pub fault_due : (bytes : List ℕ) (at : ℕ) → Some at ≡ fault_at bytes → IsDue bytes (Err (Bad at NotDocument))
+fault_due bytes at e = inr (not_accepted bytes at e, (at, longest_nested bytes at (sym e), refl))
+
+one_longest : (bytes : List ℕ) (m n : ℕ) → IsLongestNested bytes m → IsLongestNested bytes n → m ≡ n
+one_longest bytes m n a b =
+    let up : m ≤ n = b.longest m a.end a.within a.nested in
+    let down : n ≤ m = a.longest n b.end b.within b.nested in
+    omega arith
+
+pub fault_only : (bytes : List ℕ) (at : ℕ) (answer : Result Rates TableFault) → Some at ≡ fault_at bytes → IsDue bytes answer → answer ≡ Err (Bad at NotDocument)
+fault_only bytes at answer e (inl judged) = absurd (not_accepted bytes at e judged.0 judged.1)
+fault_only bytes at answer e (inr h) =
+    let same : h.1.0 ≡ at = one_longest bytes h.1.0 at h.1.1 (longest_nested bytes at (sym e)) in
+    h.1.2 ∙ ap (λ (n : ℕ). Err (Bad n NotDocument)) same
+
+-- ---- a document
+
+heads_are : (f g : Found) (fs gs : List Found) → f ∷ fs ≡ g ∷ gs → f ≡ g
+heads_are f g fs gs e = cc
+
+pub same_parts : (bytes : List ℕ) (f : Found) (others : List Found) (root : Node) → elements_at 0 None bytes ≡ f ∷ others → IsDocument bytes root
+    → parts_of (found_asks (length bytes)) f ≡ parts_of node_asks root
+same_parts bytes f others root e d =
+    let r = finds_root bytes root d in
+    let same : r.found ≡ f = heads_are r.found f r.others others (sym r.first ∙ e) in
+    parts_same (length bytes) f root (subst (λ (x : Found). Matches (length bytes) x root) same r.matches)
+
+pub some_root : (bytes : List ℕ) → None ≡ fault_at bytes → elements_at 0 None bytes ≡ [] → ⊥
+some_root bytes e none =
+    let d = whole_document bytes (sym e) in
+    let r = finds_root bytes d.0 d.1 in
+    let both : r.found ∷ r.others ≡ [] = sym r.first ∙ none in
+    absurd cc
+
+pub judged_by : (bytes : List ℕ) (f : Found) (others : List Found) (answer : Result Rates TableFault) → None ≡ fault_at bytes → elements_at 0 None bytes ≡ f ∷ others
+    → IsTable (parts_of (found_asks (length bytes)) f) answer → IsJudged bytes answer
+judged_by bytes f others answer e first is =
+    let d = whole_document bytes (sym e) in
+    (d.0, d.1, subst (λ (parts : Result Parts TableFault). IsTable parts answer) (same_parts bytes f others d.0 first d.1) is)
+
+pub due_by : (bytes : List ℕ) (f : Found) (others : List Found) (answer : Result Rates TableFault) → None ≡ fault_at bytes → elements_at 0 None bytes ≡ f ∷ others
+    → IsDue bytes answer → IsTable (parts_of (found_asks (length bytes)) f) answer
+due_by bytes f others answer e first (inl judged) = subst (λ (parts : Result Parts TableFault). IsTable parts answer) (sym (same_parts bytes f others judged.0 first judged.1)) judged.2
+due_by bytes f others answer e first (inr h) = let d = whole_document bytes (sym e) in absurd (h.0 d.0 d.1)
+
+-- ---- results
+
+pub if_ok : (result : Result Rates TableFault) (P Q : Rates → Type 0) → ((table : Rates) → P table → Q table) → IfOk result P → IfOk result Q
+if_ok (Ok table) P Q goes h = goes table h
+if_ok (Err fault) P Q goes h = tt
+
+unless_goes : (fault : TableFault) (P Q : Type 0) → (P → Q) → Unless fault P → Unless fault Q
+unless_goes (Bad at kind) P Q goes h = goes h
+unless_goes NoMemory P Q goes h = tt
+
+pub if_fault : (result : Result Rates TableFault) (P Q : TableFault → Type 0) → ((fault : TableFault) → P fault → Q fault)
+    → IfErr result (λ fault. Unless fault (P fault)) → IfErr result (λ fault. Unless fault (Q fault))
+if_fault (Ok table) P Q goes h = tt
+if_fault (Err fault) P Q goes h = unless_goes fault (P fault) (Q fault) (goes fault) h
+
+pub gives : (result answer : Result Rates TableFault) (parts : Result Parts TableFault) → IfOk result (λ table. IsTable parts (Ok table))
+    → IfErr result (λ fault. Unless fault (IsTable parts (Err fault))) → IsTable parts answer → Gives result answer
+gives (Ok table) answer parts read fault is = table_one parts answer (Ok table) is read
+gives (Err (Bad at kind)) answer parts read fault is = table_one parts answer (Err (Bad at kind)) is fault
+gives (Err NoMemory) answer parts read fault is = tt

@@ -1,0 +1,206 @@
+-- The checks find the same of the elements that are found as of the document, and one answer.
+use Rattle.std.proofs.Common.{◌≡◌, ℕ, ◌+◌, Bool, true, false, cond, List, [], ◌∷◌, map, Option, Some, None, Result, Ok, Err, refl, sym, ap, subst, ◌∙◌, codes}
+use Rattle.std.specs.Prelude.{MatchBool}
+use Rattle.std.specs.Str.{bytes_eq}
+use Rattle.decimal_text.proofs.CallerLemmas.{one_rate}
+use Rattle.rate_table.specs.Rates.{Rates}
+use Rattle.xtbml_subset.specs.declared.fault.TableKind.TheVariants.{NoTable, Select}
+use Rattle.xtbml_subset.specs.declared.fault.TableFault.{TableFault}
+use Rattle.xtbml_subset.specs.declared.fault.TableFault.TheVariants.{Bad}
+use Rattle.xtbml_subset.specs.Texts.{◌>>=◌, trimmed}
+use Rattle.xtbml_subset.specs.Pieces.{Tag}
+use Rattle.xtbml_subset.specs.Elements.{Found, children_at}
+use Rattle.xtbml_subset.specs.Rows.{row_of, found_asks}
+use Rattle.xtbml_subset.specs.Documents.{Node, named_in, node_row, node_asks}
+use Rattle.xtbml_subset.specs.Checks.{Row, first, ◌>=>◌, or_fault, within, rooted, path, rates_in, rates_of, factor_of, age_of, is_due, Reads, rated, IsAged, with_rate, Continues, AreRows, IsScale, Parts, option_row, parts_of, first_age, IsScaledTable, IsTable}
+use Rattle.xtbml_subset.proofs.Matching.{Matches, AllMatch, children_match, row_match}
+
+-- ---- what is found is what the document has
+
+-- both are values that are tied, or one fault
+abbrev SameBy : {A B : Type 0} → (A → B → Type 0) → Result A TableFault → Result B TableFault → Type 0
+SameBy R (Ok a) (Ok b) = R a b
+SameBy R (Err e) (Err f) = e ≡ f
+SameBy R (Ok a) (Err f) = ⊥
+SameBy R (Err e) (Ok b) = ⊥
+
+then_same : {A B C D : Type 0} (R : A → B → Type 0) (S : C → D → Type 0) (r : Result A TableFault) (s : Result B TableFault)
+    (k : A → Result C TableFault) (l : B → Result D TableFault) → SameBy R r s → ((a : A) (b : B) → R a b → SameBy S (k a) (l b)) → SameBy S (r >=> k) (s >=> l)
+then_same R S (Ok a) (Ok b) k l same more = more a b same
+then_same R S (Err e) (Err f) k l same more = same
+then_same R S (Ok a) (Err f) k l same more = absurd same
+then_same R S (Err e) (Ok b) k l same more = absurd same
+
+equal_by : {A : Type 0} (r s : Result A TableFault) → SameBy (λ a b. a ≡ b) r s → r ≡ s
+equal_by (Ok a) (Ok b) same = cc
+equal_by (Err e) (Err f) same = cc
+equal_by (Ok a) (Err f) same = absurd same
+equal_by (Err e) (Ok b) same = absurd same
+
+abbrev Tied : ℕ → Found → Node → Type 0
+Tied total f node = Matches total f node
+
+first_same : (total : ℕ) (fs : List Found) (ns : List Node) (e f : TableFault) → AllMatch total fs ns → e ≡ f → SameBy (Tied total) (or_fault e (first fs)) (or_fault f (first ns))
+first_same total [] [] e f all same = same
+first_same total [] (n ∷ ns) e f all same = absurd all
+first_same total (x ∷ fs) [] e f all same = absurd all
+first_same total (x ∷ fs) (n ∷ ns) e f all same = all.0
+
+place_same : (total : ℕ) (f : Found) (node : Node) → Matches total f node → (row_of total f).at ≡ (node_row node).at
+place_same total f node m = m.at_is
+
+within_same : (total : ℕ) (name : List ℕ) (f : Found) (node : Node) → Matches total f node → SameBy (Tied total) (within (found_asks total) name f) (within node_asks name node)
+unfolding within
+within_same total name f node m =
+    first_same total (children_at name f) (named_in name node.inner) (Bad (row_of total f).at NoTable) (Bad (node_row node).at NoTable) (children_match total f node name m)
+    (ap (λ (n : ℕ). Bad n NoTable) m.at_is)
+
+rooted_same : (total : ℕ) (f : Found) (node : Node) → Matches total f node → SameBy (Tied total) (rooted (found_asks total) f) (rooted node_asks node)
+rooted_same total f node m =
+    let P : Bool → Type 0 = λ t. bytes_eq node.tag.name (codes "XTbML") ≡ t
+    → SameBy (Tied total) (cond (bytes_eq f.tag.name (codes "XTbML")) (Ok f) (Err (Bad (row_of total f).at NoTable))) (cond t (Ok node) (Err (Bad (node_row node).at NoTable))) in
+    let names : bytes_eq f.tag.name (codes "XTbML") ≡ bytes_eq node.tag.name (codes "XTbML") = ap (λ (tag : Tag). bytes_eq tag.name (codes "XTbML")) m.tag_is in
+    let faults : Bad (row_of total f).at NoTable ≡ Bad (node_row node).at NoTable = ap (λ (n : ℕ). Bad n NoTable) m.at_is in
+    let both : P (bytes_eq node.tag.name (codes "XTbML")) = elim (bytes_eq node.tag.name (codes "XTbML")) as P [
+      | true ↦ λ e.
+          let t = names ∙ e in
+          subst (λ (b : Bool). SameBy (Tied total) (cond b (Ok f) (Err (Bad (row_of total f).at NoTable))) (Ok node)) (sym t) m
+      | false ↦ λ e.
+          let t = names ∙ e in
+          subst (λ (b : Bool). SameBy (Tied total) (cond b (Ok f) (Err (Bad (row_of total f).at NoTable))) (Err (Bad (node_row node).at NoTable))) (sym t) faults
+    ] in
+    both refl
+
+abbrev TiedPairs : ℕ → Found × Found → Node × Node → Type 0
+TiedPairs total fs ns = Matches total fs.0 ns.0 × Matches total fs.1 ns.1
+
+path_same : (total : ℕ) (f : Found) (node : Node) → Matches total f node → SameBy (TiedPairs total) (path (found_asks total) f) (path node_asks node)
+unfolding path
+path_same total f node m =
+    then_same (Tied total) (TiedPairs total)
+    (rooted (found_asks total) f >=> λ top. within (found_asks total) (codes "Table") top)
+    (rooted node_asks node >=> λ top. within node_asks (codes "Table") top)
+    (λ table. within (found_asks total) (codes "Values") table >=> (λ values. within (found_asks total) (codes "Axis") values) >=> λ axis. Ok (table, axis))
+    (λ table. within node_asks (codes "Values") table >=> (λ values. within node_asks (codes "Axis") values) >=> λ axis. Ok (table, axis))
+    (then_same (Tied total) (Tied total) (rooted (found_asks total) f) (rooted node_asks node) (λ top. within (found_asks total) (codes "Table") top) (λ top. within node_asks (codes "Table") top)
+    (rooted_same total f node m) (λ a b t. within_same total (codes "Table") a b t))
+    (λ table node_table tied.
+    then_same (Tied total) (TiedPairs total)
+    (within (found_asks total) (codes "Values") table >=> λ values. within (found_asks total) (codes "Axis") values)
+    (within node_asks (codes "Values") node_table >=> λ values. within node_asks (codes "Axis") values)
+    (λ axis. Ok (table, axis))
+    (λ axis. Ok (node_table, axis))
+    (then_same (Tied total) (Tied total) (within (found_asks total) (codes "Values") table) (within node_asks (codes "Values") node_table)
+    (λ values. within (found_asks total) (codes "Axis") values) (λ values. within node_asks (codes "Axis") values)
+    (within_same total (codes "Values") table node_table tied) (λ a b t. within_same total (codes "Axis") a b t))
+    (λ a b t. (tied, t)))
+
+rates_in_same : (total : ℕ) (f : Found) (node : Node) (inner ys : List Found) (node_inner node_ys : List Node) → Matches total f node → AllMatch total inner node_inner → AllMatch total ys node_ys
+    → SameBy (AllMatch total) (rates_in (found_asks total) f inner ys) (rates_in node_asks node node_inner node_ys)
+rates_in_same total f node [] [] [] [] m all_inner all = ap (λ (n : ℕ). Bad n NoTable) m.at_is
+rates_in_same total f node [] (y ∷ ys) [] (n ∷ ns) m all_inner all = all
+rates_in_same total f node [] [] [] (n ∷ ns) m all_inner all = absurd all
+rates_in_same total f node [] (y ∷ ys) [] [] m all_inner all = absurd all
+rates_in_same total f node (x ∷ inner) ys (n ∷ ns) node_ys m all_inner all = ap (λ (k : ℕ). Bad k Select) all_inner.0.at_is
+rates_in_same total f node [] ys (n ∷ ns) node_ys m all_inner all = absurd all_inner
+rates_in_same total f node (x ∷ inner) ys [] node_ys m all_inner all = absurd all_inner
+
+rates_same : (total : ℕ) (f : Found) (node : Node) → Matches total f node → SameBy (AllMatch total) (rates_of (found_asks total) f) (rates_of node_asks node)
+unfolding rates_of
+rates_same total f node m =
+    rates_in_same total f node (children_at (codes "Axis") f) (children_at (codes "Y") f) (named_in (codes "Axis") node.inner) (named_in (codes "Y") node.inner) m
+    (children_match total f node (codes "Axis") m) (children_match total f node (codes "Y") m)
+
+first_row : (total : ℕ) (fs : List Found) (ns : List Node) → AllMatch total fs ns → option_row (found_asks total) (first fs) ≡ option_row node_asks (first ns)
+first_row total [] [] all = refl
+first_row total [] (n ∷ ns) all = absurd all
+first_row total (f ∷ fs) [] all = absurd all
+first_row total (f ∷ fs) (n ∷ ns) all = ap (λ (row : Row). Some row) (row_match total f n all.0)
+
+factor_in : (total : ℕ) (fs : List Found) (ns : List Node) → AllMatch total fs ns
+    → option_row (found_asks total) (first fs >>= λ about. first (children_at (codes "ScalingFactor") about)) ≡ option_row node_asks (first ns >>= λ about. first (named_in (codes "ScalingFactor") about.inner))
+factor_in total [] [] all = refl
+factor_in total [] (n ∷ ns) all = absurd all
+factor_in total (f ∷ fs) [] all = absurd all
+factor_in total (f ∷ fs) (n ∷ ns) all = first_row total (children_at (codes "ScalingFactor") f) (named_in (codes "ScalingFactor") n.inner) (children_match total f n (codes "ScalingFactor") all.0)
+
+factor_same : (total : ℕ) (f : Found) (node : Node) → Matches total f node
+    → option_row (found_asks total) (factor_of (found_asks total) f) ≡ option_row node_asks (factor_of node_asks node)
+unfolding factor_of
+factor_same total f node m = factor_in total (children_at (codes "MetaData") f) (named_in (codes "MetaData") node.inner) (children_match total f node (codes "MetaData") m)
+
+rows_same : (total : ℕ) (fs : List Found) (ns : List Node) → AllMatch total fs ns → map (λ f. row_of total f) fs ≡ map (λ n. node_row n) ns
+rows_same total [] [] all = refl
+rows_same total [] (n ∷ ns) all = absurd all
+rows_same total (f ∷ fs) [] all = absurd all
+rows_same total (f ∷ fs) (n ∷ ns) all =
+    let one = row_match total f n all.0 in
+    let others = rows_same total fs ns all.1 in
+    cc
+
+pub parts_same : (total : ℕ) (f : Found) (node : Node) → Matches total f node → parts_of (found_asks total) f ≡ parts_of node_asks node
+parts_same total f node m =
+    equal_by (parts_of (found_asks total) f) (parts_of node_asks node)
+    (then_same (TiedPairs total) (λ a b. a ≡ b) (path (found_asks total) f) (path node_asks node)
+    (λ found. rates_of (found_asks total) found.1 >=> λ rates. Ok (record { factor = option_row (found_asks total) (factor_of (found_asks total) found.0); rows = map (λ x. row_of total x) rates }))
+    (λ found. rates_of node_asks found.1 >=> λ rates. Ok (record { factor = option_row node_asks (factor_of node_asks found.0); rows = map (λ x. node_row x) rates }))
+    (path_same total f node m)
+    (λ fs ns tied.
+    then_same (AllMatch total) (λ a b. a ≡ b) (rates_of (found_asks total) fs.1) (rates_of node_asks ns.1)
+    (λ rates. Ok (record { factor = option_row (found_asks total) (factor_of (found_asks total) fs.0); rows = map (λ x. row_of total x) rates }))
+    (λ rates. Ok (record { factor = option_row node_asks (factor_of node_asks ns.0); rows = map (λ x. node_row x) rates }))
+    (rates_same total fs.1 ns.1 tied.1)
+    (λ a b all.
+    let factors = factor_same total fs.0 ns.0 tied.0 in
+    let rows = rows_same total a b all in
+    cc)))
+
+-- ---- one answer
+
+reads_one : (text : Option (List ℕ)) (o p : Option ℕ) → Reads text o → Reads text p → o ≡ p
+reads_one None o p a b = a ∙ sym b
+reads_one (Some text) None None a b = refl
+reads_one (Some text) None (Some q) a b = absurd (a q b)
+reads_one (Some text) (Some r) None a b = absurd (b r a)
+reads_one (Some text) (Some r) (Some q) a b = ap (λ (n : ℕ). Some n) (one_rate (trimmed text) r q a b)
+
+by_bool : (t : Bool) (P Q R S : Type 0) (X : Type 0) → MatchBool t P Q → MatchBool t R S → (P → R → X) → (Q → S → X) → X
+by_bool true P Q R S X a b holds other = holds a b
+by_bool false P Q R S X a b holds other = other a b
+
+aged_one : (due : Option ℕ) (row : Row) (age : Option ℕ) (a b : Result (ℕ × ℕ) TableFault) → IsAged due row age a → IsAged due row age b → a ≡ b
+aged_one due row None a b h k = h ∙ sym k
+aged_one due row (Some age) a b h k =
+    by_bool (is_due due age) _ _ _ _ (a ≡ b) h k
+    (λ x y. x.2 ∙ ap (λ (o : Option ℕ). rated row.at age o) (reads_one row.text x.0 y.0 x.1 y.1) ∙ sym y.2)
+    (λ x y. x ∙ sym y)
+
+goes_one : (rows : List Row) (one : Result (ℕ × ℕ) TableFault) (a b : Result (List ℕ) TableFault)
+    → ((due : Option ℕ) (x y : Result (List ℕ) TableFault) → AreRows due rows x → AreRows due rows y → x ≡ y)
+    → Continues (λ next rest. AreRows next rows rest) one a → Continues (λ next rest. AreRows next rows rest) one b → a ≡ b
+goes_one rows (Err fault) a b others h k = h ∙ sym k
+goes_one rows (Ok one) a b others h k = h.2 ∙ ap (with_rate one.1) (others (Some (one.0 + 1)) h.0 k.0 h.1 k.1) ∙ sym k.2
+
+rows_one : (rows : List Row) (due : Option ℕ) (a b : Result (List ℕ) TableFault) → AreRows due rows a → AreRows due rows b → a ≡ b
+rows_one [] due a b h k = h ∙ sym k
+rows_one (row ∷ rows) due a b h k =
+    let same : h.0 ≡ k.0 = aged_one due row (age_of row.label) h.0 k.0 h.1 k.1 in
+    goes_one rows h.0 a b (λ next x y p q. rows_one rows next x y p q) h.2 (subst (λ (one : Result (ℕ × ℕ) TableFault). Continues (λ next rest. AreRows next rows rest) one b) (sym same) k.2)
+
+scale_one : (factor : Option Row) (a b : Result (Unit {0}) TableFault) → IsScale factor a → IsScale factor b → a ≡ b
+scale_one None a b h k = h ∙ sym k
+scale_one (Some row) (Ok x) (Ok y) h k = refl
+scale_one (Some row) (Ok x) (Err f) h k = absurd (k.0 h)
+scale_one (Some row) (Err e) (Ok y) h k = absurd (h.0 k)
+scale_one (Some row) (Err e) (Err f) h k = let same : e ≡ f = h.1 ∙ sym k.1 in ap (λ (x : TableFault). Err x) same
+
+scaled_one : (rows : List Row) (scale : Result (Unit {0}) TableFault) (a b : Result Rates TableFault) → IsScaledTable rows scale a → IsScaledTable rows scale b → a ≡ b
+scaled_one rows (Err fault) a b h k = h ∙ sym k
+scaled_one rows (Ok none) a b h k =
+    h.2 ∙ ap (λ (read : Result (List ℕ) TableFault). read >=> λ rates. Ok (record { first_age = first_age rows; rates = rates })) (rows_one rows None h.0 k.0 h.1 k.1) ∙ sym k.2
+
+pub table_one : (parts : Result Parts TableFault) (a b : Result Rates TableFault) → IsTable parts a → IsTable parts b → a ≡ b
+table_one (Err fault) a b h k = h ∙ sym k
+table_one (Ok parts) a b h k =
+    let same : h.0 ≡ k.0 = scale_one parts.factor h.0 k.0 h.1 k.1 in
+    scaled_one parts.rows h.0 a b h.2 (subst (λ (scale : Result (Unit {0}) TableFault). IsScaledTable parts.rows scale b) (sym same) k.2)

@@ -1,0 +1,9 @@
+use Rattle.std.proofs.Common.{◌≡◌, length}
+use Rattle.xtbml_subset.specs.Reading.{attributes_at}
+use Rattle.xtbml_subset.proofs.attribute.after_attributes.Given as goal
+
+abbrev pub invariant-loop-next : goal.invariant-loop-next
+invariant-loop-next l = (attributes_at l.rest).1 ≡ (attributes_at l.bytes).1
+
+abbrev pub decreases-loop-next : goal.decreases-loop-next
+decreases-loop-next l = length l.rest

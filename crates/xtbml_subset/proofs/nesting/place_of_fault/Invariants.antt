@@ -1,0 +1,14 @@
+use Rattle.std.proofs.Common.{◌≡◌, ◌≤◌, length}
+use Rattle.xtbml_subset.specs.declared.state.Phase.TheVariants.{Opening}
+use Rattle.xtbml_subset.specs.Nesting.{outside}
+use Rattle.xtbml_subset.specs.Walk.{state_of, walk_at, after_mark}
+use Rattle.xtbml_subset.proofs.nesting.place_of_fault.Given as goal
+
+abbrev pub invariant-loop-token : goal.invariant-loop-token
+invariant-loop-token l = record {
+  same_end : walk_at (state_of l.nesting) l.rest ≡ walk_at (outside Opening) (after_mark l.bytes);
+  within : length l.rest ≤ length l.bytes;
+}
+
+abbrev pub decreases-loop-token : goal.decreases-loop-token
+decreases-loop-token l = length l.rest

@@ -1,0 +1,39 @@
+-- The answer that is due for a file.
+use Rattle.std.specs.Prelude.{◌≡◌, ℕ, ◌≤◌, ◌⊎◌, List, length, take, Result, Ok, Err}
+use Rattle.rate_table.specs.Rates.{Rates}
+use Rattle.xtbml_subset.specs.declared.fault.TableKind.TheVariants.{NotDocument}
+use Rattle.xtbml_subset.specs.declared.fault.TableFault.{TableFault}
+use Rattle.xtbml_subset.specs.declared.fault.TableFault.TheVariants.{Bad, NoMemory}
+use Rattle.xtbml_subset.specs.Nesting.{State, IsNested}
+use Rattle.xtbml_subset.specs.Documents.{Node, IsDocument, node_asks}
+use Rattle.xtbml_subset.specs.Checks.{parts_of, IsTable}
+
+-- the longest front of the bytes that is a sequence of pieces that nests has this length
+pub record IsLongestNested (bytes : List ℕ) (at : ℕ) : Type 0 where
+  pub within : at ≤ length bytes
+  pub end : State
+  pub nested : IsNested (take at bytes) end
+  pub longest : (n : ℕ) (other : State) → n ≤ length bytes → IsNested (take n bytes) other → n ≤ at
+
+-- The bytes are a document, and by the checks this is the answer.
+abbrev pub IsJudged : List ℕ → Result Rates TableFault → Type 0
+IsJudged bytes answer = (root : Node) × IsDocument bytes root × IsTable (parts_of node_asks root) answer
+
+-- the file spells the table
+abbrev pub Spells : List ℕ → Rates → Type 0
+Spells bytes table = IsJudged bytes (Ok table)
+
+abbrev pub IsNoDocument : List ℕ → Type 0
+IsNoDocument bytes = (root : Node) → IsDocument bytes root → ⊥
+
+-- The answer is that of the checks, or that the file is no document.
+abbrev pub IsDue : List ℕ → Result Rates TableFault → Type 0
+IsDue bytes answer =
+    IsJudged bytes answer
+    ⊎ (IsNoDocument bytes × ((at : ℕ) × IsLongestNested bytes at × (answer ≡ Err (Bad at NotDocument))))
+
+-- a call answers this, or that there is no memory
+abbrev pub Gives : Result Rates TableFault → Result Rates TableFault → Type 0
+Gives (Ok table) answer = answer ≡ Ok table
+Gives (Err (Bad at kind)) answer = answer ≡ Err (Bad at kind)
+Gives (Err NoMemory) answer = Unit {0}

@@ -1,0 +1,15 @@
+-- What a table file says: bytes, pieces and their nesting, documents, the checks of a table, and the answer.
+pub mod Classes
+pub mod Pieces
+pub mod Nesting
+pub mod Texts
+pub mod Documents
+pub mod Checks
+pub mod Answers
+-- What the reader finds on its way.
+pub mod Reading
+pub mod Tokens
+pub mod Walk
+pub mod Elements
+pub mod Views
+pub mod Rows

@@ -1,0 +1,28 @@
+use Rattle.std.specs.Prelude.{ℕ, suc, length, Option, None, Some, Result, Ok, Err}
+use Rattle.xtbml_subset.specs.declared.fault.TableFault.{TableFault}
+use Rattle.xtbml_subset.specs.declared.found.Element.{Element}
+use Rattle.xtbml_subset.specs.declared.finder.Seen.{Seen}
+use Rattle.xtbml_subset.specs.declared.finder.Seen.TheVariants as seen
+use Rattle.xtbml_subset.specs.Tokens.{tag_of}
+use Rattle.xtbml_subset.specs.Elements.{Found, Step, on, found, closed}
+
+abbrev pub found_of : Element → Found
+found_of element = record { from = element.from.now; tag = tag_of element.tag; is_open = element.is_open; rest = element.rest.now }
+
+abbrev pub step_seen : Seen → Step
+step_seen (seen.On depth) = on depth
+step_seen (seen.Wanted tag is_open) = found (tag_of tag) is_open
+step_seen seen.Closed = closed
+
+abbrev pub found_result : Result Element TableFault → Result Found TableFault
+found_result (Ok element) = Ok (found_of element)
+found_result (Err fault) = Err fault
+
+abbrev pub found_pair : Result (Element × Element) TableFault → Result (Found × Found) TableFault
+found_pair (Ok pair) = Ok (found_of pair.0, found_of pair.1)
+found_pair (Err fault) = Err fault
+
+-- how far the elements behind may go on
+abbrev pub bytes_left : Option Element → ℕ
+bytes_left None = 0
+bytes_left (Some element) = suc (length element.rest.now)

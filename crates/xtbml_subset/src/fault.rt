@@ -1,0 +1,40 @@
+ghost use Rattle.std.specs.Prelude.{◌≡◌};
+ghost use Rattle.xtbml_subset.specs.declared.fault.TableFault.TheVariants.{NoMemory};
+
+use std::alloc::AllocFailed;
+
+/// What is wrong with a table file, in the order in which it is looked for.
+#[derive(Clone, Copy, PartialEq, Eq, Debug)]
+pub enum TableKind {
+    /// The file isn't a document.
+    NotDocument,
+    /// The root isn't `XTbML`, or the path to the rates breaks off.
+    NoTable,
+    /// The rates depend on the duration too.
+    Select,
+    /// The rates are to be multiplied by a factor other than 1.
+    Scaled,
+    /// An age is absent, or isn't a whole number from 0 to 130.
+    BadAge,
+    /// An age isn't one more than the age before.
+    AgeGap,
+    /// A rate isn't a number from 0 to 1 of at most nine places.
+    BadRate,
+}
+
+/// Why a file is no table.
+#[derive(Clone, Copy, PartialEq, Eq, Debug)]
+pub enum TableFault {
+    /// The fault, and the place in bytes from the start of the file.
+    Bad { at: u32, kind: TableKind },
+    /// There is no memory for the rates.
+    NoMemory,
+}
+
+impl From<AllocFailed<u32>> for TableFault {
+    ghost from_gives = { λ _ fault. fault ≡ NoMemory };
+
+    fn from(_refused: AllocFailed<u32>) -> TableFault {
+        TableFault::NoMemory
+    }
+}

@@ -1,0 +1,21 @@
+//! The reader of a mortality table file: this product's profile of the Society of Actuaries' XTbML.
+#![tactic(auto)]
+
+mod attribute;
+mod class;
+mod element;
+mod fault;
+mod finder;
+mod found;
+mod nesting;
+mod reader;
+mod row;
+mod state;
+mod table;
+#[cfg(test)]
+mod tests;
+mod text;
+mod token;
+
+pub use fault::{TableFault, TableKind};
+pub use reader::read_table;

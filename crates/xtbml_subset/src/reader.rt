@@ -1,0 +1,38 @@
+ghost use Rattle.std.specs.Prelude.{◌≡◌, ℕ, ◌≤◌, length, IfOk, IfErr, Ok, Err, Result};
+ghost use Rattle.rate_table.specs.Rates.{Rates};
+ghost use Rattle.xtbml_subset.specs.Answers.{Spells, IsDue, Gives};
+ghost use Rattle.xtbml_subset.specs.Rows.{Unless};
+
+use crate::fault::{TableFault, TableKind};
+use crate::finder::next_element;
+use crate::nesting::place_of_fault;
+use crate::table::table_of;
+use rate_table::RateTable;
+use std::alloc::Global;
+
+/// The table that a file spells: the rates, in units of 10^-9, for the ages of its `Y`.
+///
+/// A fault says what is wrong and the place, in bytes from the start of the file. Memory is taken for
+/// the rates alone.
+pub fn read_table(alloc: Global, bytes: &[u8]) -> Result<RateTable, TableFault>
+    requires { length bytes.now ≤ 4194304 }
+    // What is read is spelled so.
+    ensures table { IfOk result (λ table. Spells bytes.now table) }
+    // What is spelled so is read, unless memory runs out.
+    ensures read { (table : Rates) → Spells bytes.now table → Gives result (Ok table) }
+    // A fault is the one that is due.
+    ensures fault { IfErr result (λ fault. Unless fault (IsDue bytes.now (Err fault))) }
+    // Whatever answer is due is given, unless memory runs out.
+    ensures due { (answer : Result Rates TableFault) → IsDue bytes.now answer → Gives result answer }
+{
+    if let Some(at) = place_of_fault(bytes) {
+        return Err(TableFault::Bad {
+            at: at as u32,
+            kind: TableKind::NotDocument,
+        });
+    }
+    let Some(root) = next_element(bytes, 0, None) else {
+        unreachable!()
+    };
+    table_of(alloc, &root, bytes.len() as u32)
+}

@@ -1,0 +1,126 @@
+ghost use Rattle.std.specs.Prelude.{◌≡◌, ℕ, ◌≤◌, ◌<◌, ◌+◌, ◌*◌, ◌^◌, length, IfSome, IfOk, IfErr, MatchBool};
+ghost use Rattle.std.specs.Option.{option_copied, ForSome};
+ghost use Rattle.xtbml_subset.specs.Checks.{digit_then, short_number, age_of, is_due, Reads, IsRow, AreRows, first_age};
+ghost use Rattle.xtbml_subset.specs.Rows.{row_of, rows_at, Unless};
+ghost use Rattle.xtbml_subset.specs.Views.{found_of};
+
+use crate::fault::{TableFault, TableKind};
+use crate::found::Element;
+use crate::text::trim;
+use decimal_text::read_rate;
+use std::alloc::Global;
+
+fn add_digit(number: u16, byte: u8) -> Option<u16>
+    requires { number < 1000 }
+    ensures digit { result ≡ digit_then number byte }
+    ensures small { IfSome result (λ n. n < 10 * number + 10) }
+{
+    if 48 <= byte && byte <= 57 {
+        Some(number * 10 + u16::from(byte - 48))
+    } else {
+        None
+    }
+}
+
+/// The whole number that one to three digits spell.
+fn short_number(text: &[u8]) -> Option<u16>
+    ensures { result ≡ short_number text.now }
+{
+    match text {
+        [] => None,
+        [a] => add_digit(0, *a),
+        [a, b] => add_digit(add_digit(0, *a)?, *b),
+        [a, b, c] => add_digit(add_digit(add_digit(0, *a)?, *b)?, *c),
+        [_, _, _, _, ..] => None,
+    }
+}
+
+/// The age that a label spells.
+#[tactic(auto, unfolding(crate::specs::Checks::age_of))]
+pub fn age_of(label: Option<&[u8]>) -> Option<u8>
+    ensures age { result ≡ age_of (option_copied label.entry) }
+    ensures bound { IfSome result (λ age. age ≤ 130) }
+{
+    let age = short_number(label?)?;
+    if age <= 130 { Some(age as u8) } else { None }
+}
+
+/// The rate that is written in a content, in units of 10^-9.
+pub fn rate_in(text: Option<&[u8]>) -> Option<u32>
+    requires { ForSome text (λ t. length t.now ≤ 4194304) }
+    ensures { Reads (option_copied text.entry) result }
+{
+    let Some(text) = text else {
+        return None;
+    };
+    match read_rate(trim(text)) {
+        Ok(rate) => Some(rate),
+        Err(_) => None,
+    }
+}
+
+fn is_due(due: Option<u8>, age: u8) -> bool
+    ensures { result ≡ is_due due age }
+{
+    match due {
+        None => true,
+        Some(due) => age == due,
+    }
+}
+
+/// The age and the rate of a row, where the age that is due is none at the first row.
+pub fn read_row(row: &Element<'_>, due: Option<u8>, total: u32) -> Result<(u8, u32), TableFault>
+    ensures row { IsRow due (row_of total (found_of row.now)) result }
+    ensures age { IfOk result (λ read. read.0 ≤ 130) }
+{
+    let at = row.place(total);
+    let Some(age) = age_of(row.attribute(b"t")) else {
+        return Err(TableFault::Bad {
+            at,
+            kind: TableKind::BadAge,
+        });
+    };
+    if !is_due(due, age) {
+        return Err(TableFault::Bad {
+            at,
+            kind: TableKind::AgeGap,
+        });
+    }
+    match rate_in(row.text()) {
+        Some(rate) => Ok((age, rate)),
+        None => Err(TableFault::Bad {
+            at,
+            kind: TableKind::BadRate,
+        }),
+    }
+}
+
+/// The rates of the `Y` in an axis, in order.
+pub fn read_rows(alloc: Global, axis: &Element<'_>, total: u32) -> Result<Vec<u32>, TableFault>
+    ensures read { IfOk result (λ rates. AreRows None (rows_at total (found_of axis.now)) (Ok rates.items)) }
+    ensures fault { IfErr result (λ fault. Unless fault (AreRows None (rows_at total (found_of axis.now)) (Err fault))) }
+{
+    let mut rates = Vec::new(alloc);
+    let mut due: Option<u8> = None;
+    let mut next = axis.first_child(b"Y");
+    while let Some(row) = next {
+        let (age, rate) = read_row(&row, due, total)?;
+        rates.push(rate)?;
+        due = Some(age + 1);
+        next = row.next_sibling(b"Y");
+    }
+    Ok(rates)
+}
+
+/// The age of the first `Y` in an axis.
+pub fn first_age(axis: &Element<'_>) -> u8
+    ensures { (total : ℕ) → result ≡ first_age (rows_at total (found_of axis.now)) }
+{
+    match axis.first_child(b"Y") {
+        Some(row) => match age_of(row.attribute(b"t")) {
+            Some(age) => age,
+            None => 0,
+        },
+        None => 0,
+    }
+}
