@@ -55,8 +55,7 @@ def run(name, times):
 
 
 inputs = {"basis.csv": right_basis(), "rows.csv": long_basis(), "quoted.csv": quoted_basis()}
-if os.environ.get("TABLES", "1") == "1":
-    inputs["tables.xml"] = document()
+inputs["tables.xml"] = document()
 with tempfile.TemporaryDirectory() as folder:
     os.chdir(folder)
     for name, text in inputs.items():

@@ -1,7 +1,8 @@
-//! Reads basis files and prints what they hold, so that the reader can be timed.
+//! Reads table files and basis files and prints what they hold, so that the readers can be timed.
 //!
-//! The words are how often each file is read, and the files. For each file there is a line
-//! `basis,FILE,ROWS`, or in place of the number what is wrong with the file.
+//! The words are how often each file is read, and the files. One whose name ends in `.xml` is a table file,
+//! any other a basis file. For each there is a line, `table,FILE,FIRST_AGE,LAST_AGE` or `basis,FILE,ROWS`, or
+//! in place of the numbers what is wrong with the file.
 #![tactic(auto)]
 
 mod reads;
@@ -19,12 +20,17 @@ fn main(rt: HostRuntime) -> io::Result<()> {
     for name in words {
         let bytes = fs::read(&rt, name.as_str())?;
         if bytes.len() > LONGEST_FILE {
-            println!(rt; "basis,{},toolong", name.as_str())?;
-            continue;
-        }
-        match reads::basis_rows(rt.alloc(), bytes.as_slice(), times) {
-            Ok(rows) => println!(rt; "basis,{},{rows}", name.as_str())?,
-            Err(fault) => println!(rt; "basis,{},{fault:?}", name.as_str())?,
+            println!(rt; "toolong,{}", name.as_str())?;
+        } else if name.as_str().ends_with(".xml") {
+            match reads::table_ages(rt.alloc(), bytes.as_slice(), times) {
+                Ok((first, last)) => println!(rt; "table,{},{first},{last}", name.as_str())?,
+                Err(fault) => println!(rt; "table,{},{fault:?}", name.as_str())?,
+            }
+        } else {
+            match reads::basis_rows(rt.alloc(), bytes.as_slice(), times) {
+                Ok(rows) => println!(rt; "basis,{},{rows}", name.as_str())?,
+                Err(fault) => println!(rt; "basis,{},{fault:?}", name.as_str())?,
+            }
         }
     }
     Ok(())
