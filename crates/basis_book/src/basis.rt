@@ -24,7 +24,8 @@ impl Model for Basis {
 
     ghost view = { λ basis. map (dated (get_by_text basis.tables)) basis.rows };
 
-    ghost invariant = { λ basis. AreBounded basis.rows × All (λ row. IsSome (get_by_text basis.tables row.table)) basis.rows };
+    ghost invariant = { λ basis. AreBounded basis.rows
+        × All (λ row. IsSome (get_by_text basis.tables row.table)) basis.rows };
 }
 
 impl Basis {
@@ -49,7 +50,8 @@ impl Basis {
     /// a day of issue.
     pub fn pick(&self, issued: i32) -> Option<(u16, &RateTable, u16)>
         ensures picked { MatchOption result (All (λ entry. issued <ℤ entry.from_day) self.now)
-            (λ p. (entry : Dated) × IsPicked self.now issued p.0 entry × (p.1.now ≡ entry.table) × (p.2 ≡ entry.bp)) }
+            (λ p. (entry : Dated) × IsPicked self.now issued p.0 entry
+            × (p.1.now ≡ entry.table) × (p.2 ≡ entry.bp)) }
         ensures bounded { IfSome result (λ p. (p.0 < 1000) × (p.2 ≤ 2000)) }
     {
         let rows = self.rows.as_slice();

@@ -25,7 +25,8 @@ pub fn read_basis(alloc: Global, bytes: &[u8]) -> Result<BasisRows, BasisFault>
     ensures bounded { IfOk result AreBounded }
     ensures faults { IfErr result (IsFileFault bytes.now) }
     // Whatever answer is due is given, unless memory is refused.
-    ensures due { (answer : Result (List BasisRow) AFault) → IsDue bytes.now answer → Gives result answer }
+    ensures due { (answer : Result (List BasisRow) AFault)
+        → IsDue bytes.now answer → Gives result answer }
 {
     read_rows(alloc, bytes)
 }
@@ -56,7 +57,8 @@ fn three_fields(row: &ByteRecord) -> Option<Fields<'_>>
 
 /// Reads all rows: nothing but memory can be refused to a reader of bytes in memory.
 fn judge_rows(alloc: Global, bytes: &[u8]) -> Result<Reading, NoMemory>
-    ensures { IfOk result (λ reading. (rows : List (List (List ℕ))) × HasRows bytes.now rows × Judged rows reading) }
+    ensures { IfOk result (λ reading.
+        (rows : List (List (List ℕ))) × HasRows bytes.now rows × Judged rows reading) }
 {
     let reader = ReaderBuilder::new()
         .has_headers(false)

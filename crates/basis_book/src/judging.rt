@@ -21,7 +21,8 @@ const MOST_ROWS: u32 = 1_000;
 
 /// The basis row that three fields spell.
 fn row_of(alloc: Global, fields: &Fields) -> Result<Option<BasisRow>, NoMemory>
-    ensures { IfOk result (λ found. MatchOption found ((row : ARow) → IsRow (list_of fields.now) row → ⊥) (IsRow (list_of fields.now))) }
+    ensures { IfOk result (λ found.
+        MatchOption found ((row : ARow) → IsRow (list_of fields.now) row → ⊥) (IsRow (list_of fields.now))) }
 {
     let Some(from_day) = parse_day(fields.day) else {
         return Ok(None);
@@ -57,9 +58,11 @@ fn judge(
     number: u32,
     fields: Option<Fields>,
 ) -> Result<(), BasisFault>
-    ensures { (rows : List (List (List ℕ))) (row : List (List ℕ)) → AreThree row fields.entry → AreRows rows found.old.items
+    ensures { (rows : List (List (List ℕ))) (row : List (List ℕ))
+        → AreThree row fields.entry → AreRows rows found.old.items
         → number ≡ length rows + 1 → number ≤ 1000
-        → MatchResult result (λ _. AreRows (rows ++ row ∷ []) found.new.items) (IsFault (rows ++ row ∷ [])) }
+        → MatchResult result (λ _. AreRows (rows ++ row ∷ []) found.new.items)
+        (IsFault (rows ++ row ∷ [])) }
 {
     let Some(fields) = fields else {
         return Err(BasisFault::BadBasisRow(number));
@@ -92,7 +95,8 @@ impl Reading {
 
     /// Takes the next row.
     pub fn add(&mut self, alloc: Global, fields: Option<Fields>) -> Result<(), NoMemory>
-        ensures { (rows : List (List (List ℕ))) (row : List (List ℕ)) → AreThree row fields.entry → Judged rows self.old
+        ensures { (rows : List (List (List ℕ))) (row : List (List ℕ))
+            → AreThree row fields.entry → Judged rows self.old
             → OnOk result (Judged (rows ++ row ∷ []) self.new) }
     {
         if self.count > MOST_ROWS {
@@ -118,7 +122,9 @@ impl Reading {
     /// The rows, or their fault.
     pub fn finish(self) -> Result<BasisRows, BasisFault>
         ensures { (rows : List (List (List ℕ))) → Judged rows self
-            → MatchResult result (λ found. (length rows ≤ 1000) × AreRows rows found × AreBounded found) (IsFault rows) }
+            → MatchResult result
+            (λ found. (length rows ≤ 1000) × AreRows rows found × AreBounded found)
+            (IsFault rows) }
     {
         if self.count > MOST_ROWS {
             return Err(BasisFault::TooManyRows);
