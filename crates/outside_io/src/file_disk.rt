@@ -21,8 +21,10 @@ pub struct FileDisk<R: Files<File = File>> {
 }
 
 impl<R: Files<File = File>> FileDisk<R> {
-    /// Touches nothing.
-    pub fn at(files: R, name: &'static str) -> FileDisk<R> {
+    /// Touches nothing. It had no fault so far.
+    pub fn at(files: R, name: &'static str) -> FileDisk<R>
+        ensures { result.faults ≡ 0 }
+    {
         FileDisk {
             files,
             name,

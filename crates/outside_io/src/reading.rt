@@ -2,7 +2,7 @@
 ghost use Rattle.std.specs.Prelude.{◌≡◌, ℕ, ◌+◌, ◌<◌, ◌≤◌, Option, List, length, vec_len, IfOk, OnOk, IfSome, IsErrOf};
 ghost use Rattle.std.specs.Io.KnownBytes.{ReadConsumes, IsAtEnd};
 ghost use Rattle.outside_io.specs.Faults.{Rose, HasCause};
-ghost use Rattle.outside_io.specs.Streams.{StillTells};
+ghost use Rattle.outside_io.specs.Streams.{StillTells, LosesFront};
 ghost use Rattle.outside_io.specs.declared.failures.ReadAllFault.TheVariants.{ReadFault, TooLong};
 
 use crate::{Failed, ReadAllFault, Steps};
@@ -47,6 +47,7 @@ pub fn read_all<S: Source>(
     ensures fault { IsErrOf result ReadAllFault.ReadFault → Rose (S.count source.old) (S.count source.new) }
     ensures later { S.count source.old ≤ S.count source.new }
     ensures tells { StillTells (S.left source.old) (S.left source.new) }
+    ensures rest { LosesFront (S.left source.old) (S.left source.new) }
 {
     read_all_from::<S, Brand>(alloc, source, limit, Blank::new(1))
 }
@@ -68,6 +69,7 @@ fn read_all_from<S: Source, L: Ledger>(
     ensures fault { IsErrOf result ReadAllFault.ReadFault → Rose (S.count source.old) (S.count source.new) }
     ensures later { S.count source.old ≤ S.count source.new }
     ensures tells { StillTells (S.left source.old) (S.left source.new) }
+    ensures rest { LosesFront (S.left source.old) (S.left source.new) }
 {
     let mut steps: Steps<L> = Steps::open(blank);
     read_all_counted(alloc, source, limit, &mut steps)
@@ -88,6 +90,7 @@ pub fn read_all_counted<S: Source, L: Ledger>(
     ensures fault { IsErrOf result ReadAllFault.ReadFault → Rose (S.count source.old) (S.count source.new) }
     ensures later { S.count source.old ≤ S.count source.new }
     ensures tells { StillTells (S.left source.old) (S.left source.new) }
+    ensures rest { LosesFront (S.left source.old) (S.left source.new) }
     ensures turns { steps.new ≤ steps.old + (limit + 1) }
 {
     let room = limit as usize;
