@@ -25,8 +25,8 @@ pub trait Source {
     fn faults(&self) -> u64
         ensures { result ≡ count self.now };
 
-    /// Puts bytes into the front of the buffer and answers how many. None into a buffer that isn't empty
-    /// is the end.
+    /// Puts bytes into the front of the buffer and answers how many. None into a buffer that isn't
+    /// empty is the end.
     fn read(&mut self, buf: &mut [u8]) -> Result<usize, Failed>
         ensures cause { HasCause (count self.old) (count self.new) result }
         ensures bound { IfOk result (λ n. n ≤ length buf.new) }
@@ -43,7 +43,8 @@ pub fn read_all<S: Source>(
     ensures whole { IfOk result (λ bytes. IfSome (S.left source.old) (λ told. bytes.items ≡ told)) }
     ensures end { OnOk result (IsAtEnd (S.left source.new)) }
     ensures within { IfOk result (λ bytes. vec_len bytes ≤ limit) }
-    ensures too_long { IsErrOf result ReadAllFault.TooLong → IfSome (S.left source.old) (λ told. limit < length told) }
+    ensures too_long { IsErrOf result ReadAllFault.TooLong
+        → IfSome (S.left source.old) (λ told. limit < length told) }
     ensures fault { IsErrOf result ReadAllFault.ReadFault → Rose (S.count source.old) (S.count source.new) }
     ensures later { S.count source.old ≤ S.count source.new }
     ensures tells { StillTells (S.left source.old) (S.left source.new) }
@@ -65,7 +66,8 @@ fn read_all_from<S: Source, L: Ledger>(
     ensures whole { IfOk result (λ bytes. IfSome (S.left source.old) (λ told. bytes.items ≡ told)) }
     ensures end { OnOk result (IsAtEnd (S.left source.new)) }
     ensures within { IfOk result (λ bytes. vec_len bytes ≤ limit) }
-    ensures too_long { IsErrOf result ReadAllFault.TooLong → IfSome (S.left source.old) (λ told. limit < length told) }
+    ensures too_long { IsErrOf result ReadAllFault.TooLong
+        → IfSome (S.left source.old) (λ told. limit < length told) }
     ensures fault { IsErrOf result ReadAllFault.ReadFault → Rose (S.count source.old) (S.count source.new) }
     ensures later { S.count source.old ≤ S.count source.new }
     ensures tells { StillTells (S.left source.old) (S.left source.new) }
@@ -75,8 +77,8 @@ fn read_all_from<S: Source, L: Ledger>(
     read_all_counted(alloc, source, limit, &mut steps)
 }
 
-/// Does what `read_all` does and counts its turns, one for each read. There are at most `limit + 1`, whatever
-/// the source gives.
+/// Does what `read_all` does and counts its turns, one for each read. There are at most `limit +
+/// 1`, whatever the source gives.
 pub fn read_all_counted<S: Source, L: Ledger>(
     alloc: Global,
     source: &mut S,
@@ -86,7 +88,8 @@ pub fn read_all_counted<S: Source, L: Ledger>(
     ensures whole { IfOk result (λ bytes. IfSome (S.left source.old) (λ told. bytes.items ≡ told)) }
     ensures end { OnOk result (IsAtEnd (S.left source.new)) }
     ensures within { IfOk result (λ bytes. vec_len bytes ≤ limit) }
-    ensures too_long { IsErrOf result ReadAllFault.TooLong → IfSome (S.left source.old) (λ told. limit < length told) }
+    ensures too_long { IsErrOf result ReadAllFault.TooLong
+        → IfSome (S.left source.old) (λ told. limit < length told) }
     ensures fault { IsErrOf result ReadAllFault.ReadFault → Rose (S.count source.old) (S.count source.new) }
     ensures later { S.count source.old ≤ S.count source.new }
     ensures tells { StillTells (S.left source.old) (S.left source.new) }
