@@ -1,5 +1,5 @@
--- What a list of calls makes of a disk that had these bytes at first, all of them safe: what is read, and the images
--- that a crash may leave.
+-- What a list of calls makes of a disk that had these bytes at first, all of them safe: what is
+-- read, and the images that a crash may leave.
 use Rattle.std.specs.declared.alloc.Global.{Global}
 use Rattle.std.specs.Prelude.{⊤, Vec, ◌≡◌, ℕ, ◌+◌, ◌/◌, ◌≤◌, Bool, true, false, List, [], ◌∷◌, ◌++◌, length, take, drop, nat_le, if◌then◌else◌, ◌&&◌}
 use Rattle.outside_io.specs.Disks.{Torn}
@@ -18,15 +18,22 @@ reaching true bytes = take ((length bytes + 1) / 2) bytes
 -- what a read gives after these calls
 abbrev pub bytes_after : List ℕ → List DiskCall → List ℕ
 bytes_after bytes [] = bytes
-bytes_after bytes (Write at data_ failed ∷ calls) = bytes_after (put bytes at (reaching failed data_.items)) calls
+bytes_after bytes (Write at written failed ∷ calls) =
+    bytes_after (put bytes at (reaching failed written.items)) calls
 bytes_after bytes (call ∷ calls) = bytes_after bytes calls
 
--- the images that a crash may leave after these calls, from what a read gave and the images before them
+-- the images after a write of so many bytes
+abbrev pub torn_images : (List ℕ → Type 0) → ℕ → ℕ → List ℕ → Type 0
+torn_images images at many later = (earlier : List ℕ) × images earlier × Torn at many earlier later
+
+-- the images that a crash may leave after these calls, from what a read gave and the images before
 abbrev pub images_after : List ℕ → (List ℕ → Type 0) → List DiskCall → List ℕ → Type 0
 images_after bytes images [] image = images image
-images_after bytes images (Write at data_ failed ∷ calls) image =
-    images_after (put bytes at (reaching failed data_.items)) (λ later. (earlier : List ℕ) × images earlier × Torn at (length data_.items) earlier later) calls image
-images_after bytes images (Sync false ∷ calls) image = images_after bytes (λ later. later ≡ bytes) calls image
+images_after bytes images (Write at written failed ∷ calls) image =
+    images_after (put bytes at (reaching failed written.items))
+    (torn_images images at (length written.items)) calls image
+images_after bytes images (Sync false ∷ calls) image =
+    images_after bytes (λ later. later ≡ bytes) calls image
 images_after bytes images (call ∷ calls) image = images_after bytes images calls image
 
 -- an image that a crash may leave after these calls
@@ -35,17 +42,19 @@ IsImage first calls image = images_after first (λ earlier. earlier ≡ first) c
 
 -- an image that a crash might have left at some moment since that number of calls
 abbrev pub WasImage : List ℕ → List DiskCall → ℕ → List ℕ → Type 0
-WasImage first calls moment image = (k : ℕ) × (moment ≤ k) × (k ≤ length calls) × IsImage first (take k calls) image
+WasImage first calls moment image =
+    (k : ℕ) × (moment ≤ k) × (k ≤ length calls) × IsImage first (take k calls) image
 
 -- each write begins within the bytes that were there or at their end
 abbrev pub all_within : List ℕ → List DiskCall → Bool
 all_within bytes [] = true
-all_within bytes (Write at data_ failed ∷ calls) = nat_le at (length bytes) && all_within (put bytes at (reaching failed data_.items)) calls
+all_within bytes (Write at written failed ∷ calls) =
+    nat_le at (length bytes) && all_within (put bytes at (reaching failed written.items)) calls
 all_within bytes (call ∷ calls) = all_within bytes calls
 
 -- a call that writes nothing
 abbrev pub WritesNothing : DiskCall → Type 0
-WritesNothing (Write at data_ failed) = ⊥
+WritesNothing (Write at written failed) = ⊥
 WritesNothing call = ⊤
 
 -- the calls grew by a write of these bytes
@@ -58,11 +67,12 @@ pub record IsWriteOf (at : ℕ) (bytes : List ℕ) (failed : Bool) (before now :
 abbrev pub put_within : List ℕ → ℕ → List ℕ → List ℕ
 put_within old at bytes = if nat_le at (length old) then put old at bytes else old
 
--- The image of these calls in which, of each write since the last sync, the first so many bytes reached the disk. A
--- write that begins past the image's end is lost.
+-- The image of these calls in which, of each write since the last sync, the first so many bytes
+-- reached the disk. A write that begins past the image's end is lost.
 abbrev pub kept_after : List ℕ → List ℕ → ℕ → List DiskCall → List ℕ
 kept_after bytes image keep [] = image
-kept_after bytes image keep (Write at data_ failed ∷ calls) =
-    kept_after (put bytes at (reaching failed data_.items)) (put_within image at (take keep data_.items)) keep calls
+kept_after bytes image keep (Write at written failed ∷ calls) =
+    kept_after (put bytes at (reaching failed written.items))
+    (put_within image at (take keep written.items)) keep calls
 kept_after bytes image keep (Sync false ∷ calls) = kept_after bytes bytes keep calls
 kept_after bytes image keep (call ∷ calls) = kept_after bytes image keep calls

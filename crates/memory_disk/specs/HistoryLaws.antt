@@ -9,19 +9,30 @@ use Rattle.memory_disk.specs.History.{put, reaching, bytes_after, images_after, 
 use Rattle.memory_disk.specs.declared.disk_call.DiskCall.{DiskCall}
 use Rattle.memory_disk.specs.declared.disk_call.DiskCall.TheVariants.{Len, Read, Write, Sync}
 
-pub length-put : (old : List ℕ) (at : ℕ) (part : List ℕ) → at ≤ length old → length (put old at part) ≡ max (length old) (at + length part)
+pub length-put : (old : List ℕ) (at : ℕ) (part : List ℕ) → at ≤ length old
+    → length (put old at part) ≡ max (length old) (at + length part)
 length-put old at part within =
-    omega (arith, length-append (take at old ++ part) (drop (at + length part) old), length-append (take at old) part, length-take-le at old within, length-drop (at + length part) old)
+    omega (
+      arith,
+      length-append (take at old ++ part) (drop (at + length part) old),
+      length-append
+          (take at old) part,
+      length-take-le at old within,
+      length-drop (at + length part) old,
+    )
 
 -- A part of a write, put where it belongs, is what a crash may leave of it.
-pub torn_put : (old : List ℕ) (at many : ℕ) (part : List ℕ) → at ≤ length old → length part ≤ many → Torn at many old (put old at part)
+pub torn_put : (old : List ℕ) (at many : ℕ) (part : List ℕ) → at ≤ length old → length part ≤ many
+    → Torn at many old (put old at part)
 torn_put old at many part within short =
     let rest = drop (at + length part) old in
     let room : ℕ = many - length part in
     let front : length (take at old) ≡ at = length-take-le at old within in
-    let place : at + many ≡ length (take at old ++ part) + room = omega (arith, length-append (take at old) part) in
+    let place : at + many ≡ length (take at old ++ part) + room = omega
+    (arith, length-append (take at old) part) in
     record {
-      before = ap (take at) (append_assoc (take at old) part rest) ∙ take_at (take at old) (part ++ rest) at front;
+      before = ap (take at) (append_assoc (take at old) part rest) ∙ take_at (take at old)
+          (part ++ rest) at front;
       after =
           ap (λ n. drop n (take at old ++ part ++ rest)) place
           ∙ drop-append-add (take at old ++ part) rest room
@@ -32,9 +43,11 @@ torn_put old at many part within short =
     }
 
 pub torn_same : (old : List ℕ) (at many : ℕ) → Torn at many old old
-torn_same old at many = record { before = refl; after = refl; no_shorter = omega arith; no_longer = omega arith }
+torn_same old at many = record
+    { before = refl; after = refl; no_shorter = omega arith; no_longer = omega arith }
 
-pub length-reaching : (failed : Bool) (bytes : List ℕ) → length (reaching failed bytes) ≤ length bytes
+pub length-reaching : (failed : Bool) (bytes : List ℕ)
+    → length (reaching failed bytes) ≤ length bytes
 length-reaching false bytes = omega arith
 length-reaching true bytes = omega (arith, length-take ((length bytes + 1) / 2) bytes)
 
@@ -43,30 +56,45 @@ both_of true b both = (refl, both)
 both_of false b both = cc
 
 -- What is read is an image after the calls if it was one before them.
-pub bytes_as_image : (calls : List DiskCall) (bytes : List ℕ) (images : List ℕ → Type 0) → images bytes → all_within bytes calls ≡ true
+pub bytes_as_image : (calls : List DiskCall) (bytes : List ℕ) (images : List ℕ → Type 0)
+    → images bytes → all_within bytes calls ≡ true
     → images_after bytes images calls (bytes_after bytes calls)
 bytes_as_image [] bytes images known within = known
-bytes_as_image (Len failed ∷ calls) bytes images known within = bytes_as_image calls bytes images known within
-bytes_as_image (Read at many failed ∷ calls) bytes images known within = bytes_as_image calls bytes images known within
+bytes_as_image
+    (Len failed ∷ calls) bytes images known within = bytes_as_image calls bytes images known within
+bytes_as_image (Read at many failed ∷ calls) bytes images known within = bytes_as_image calls bytes
+    images known within
 bytes_as_image (Write at written failed ∷ calls) bytes images known within =
-    let parts = both_of (nat_le at (length bytes)) (all_within (put bytes at (reaching failed written.items)) calls) within in
-    bytes_as_image calls (put bytes at (reaching failed written.items)) (λ later. (earlier : List ℕ) × images earlier × Torn at (length written.items) earlier later)
-    (bytes, known, torn_put bytes at (length written.items) (reaching failed written.items) (leb-true at (length bytes) parts.0) (length-reaching failed written.items))
+    let parts = both_of (nat_le at (length bytes))
+    (all_within (put bytes at (reaching failed written.items)) calls) within in
+    bytes_as_image calls (put bytes at (reaching failed written.items)) (λ later. (earlier : List ℕ)
+    × images earlier × Torn at (length written.items) earlier later) (
+      bytes,
+      known,
+      torn_put bytes at (length written.items) (reaching failed written.items)
+          (leb-true at (length bytes) parts.0) (length-reaching failed written.items),
+    )
     parts.1
-bytes_as_image (Sync false ∷ calls) bytes images known within = bytes_as_image calls bytes (λ later. later ≡ bytes) refl within
-bytes_as_image (Sync true ∷ calls) bytes images known within = bytes_as_image calls bytes images known within
+bytes_as_image (Sync false ∷ calls) bytes images known within = bytes_as_image calls bytes
+    (λ later. later ≡ bytes) refl within
+bytes_as_image
+    (Sync true ∷ calls) bytes images known within = bytes_as_image calls bytes images known within
 
 -- Each moment counts among those since an earlier one.
-pub now_counts : (first : List ℕ) (calls : List DiskCall) (moment : ℕ) (image : List ℕ) → moment ≤ length calls → IsImage first calls image → WasImage first calls moment image
+pub now_counts : (first : List ℕ) (calls : List DiskCall) (moment : ℕ) (image : List ℕ)
+    → moment ≤ length calls → IsImage first calls image → WasImage first calls moment image
 now_counts first calls moment image passed left =
     (length calls, passed, omega arith, rw (take-length calls) left)
 
 -- Since the last moment there is no other.
-pub only_now_left : (first : List ℕ) (calls : List DiskCall) (image : List ℕ) → WasImage first calls (length calls) image → IsImage first calls image
+pub only_now_left : (first : List ℕ) (calls : List DiskCall) (image : List ℕ)
+    → WasImage first calls (length calls) image → IsImage first calls image
 only_now_left first calls image was =
     let last : was.0 ≡ length calls = omega (arith, was.1, was.2) in
     rw (last, take-length calls) at was.3
 
 -- What is read after all calls is an image.
-pub replayed_image : (first bytes : List ℕ) (calls : List DiskCall) → bytes ≡ bytes_after first calls → all_within first calls ≡ true → IsImage first calls bytes
-replayed_image first bytes calls replayed within = rw replayed (bytes_as_image calls first (λ earlier. earlier ≡ first) refl within)
+pub replayed_image : (first bytes : List ℕ) (calls : List DiskCall)
+    → bytes ≡ bytes_after first calls → all_within first calls ≡ true → IsImage first calls bytes
+replayed_image first bytes calls replayed within = rw replayed
+    (bytes_as_image calls first (λ earlier. earlier ≡ first) refl within)

@@ -13,8 +13,9 @@ use crate::images::image_of;
 use outside_io::{Disk, Failed, FaultPlan};
 use std::alloc::{AllocError, Global};
 
-/// A disk in memory that follows the disk model. It keeps each call, and fails at the calls whose numbers, from 1,
-/// it is told. Want of memory for a call's record is a fault too, and such a call does nothing else.
+/// A disk in memory that follows the disk model. It keeps each call, and fails at the calls whose
+/// numbers, from 1, it is told. Want of memory for a call's record is a fault too, and such a call
+/// does nothing else.
 #[derive(Drop)]
 pub struct MemoryDisk {
     alloc: Global,
@@ -47,12 +48,15 @@ impl MemoryDisk {
         &self.history.bytes
     }
 
-    /// An image that a crash after so many of the calls might have left: that in which, of each write since the last
-    /// sync, the first `keep` bytes reached the disk. A write that begins past the image's end is lost.
+    /// An image that a crash after so many of the calls might have left: that in which, of each
+    /// write since the last sync, the first `keep` bytes reached the disk. A write that begins past
+    /// the image's end is lost.
     pub fn image(&self, alloc: Global, moment: usize, keep: usize) -> Result<Vec<u8>, AllocError>
         requires { moment ≤ length (disk_calls self.now) }
-        ensures kept { IfOk result (λ image. image.items ≡ kept_after (disk_first self.now) (disk_first self.now) keep (take moment (disk_calls self.now))) }
-        ensures possible { IfOk result (λ image. IsImage (disk_first self.now) (take moment (disk_calls self.now)) image.items) }
+        ensures kept { IfOk result (λ image. image.items ≡ kept_after (disk_first self.now)
+            (disk_first self.now) keep (take moment (disk_calls self.now))) }
+        ensures possible { IfOk result (λ image. IsImage (disk_first self.now)
+            (take moment (disk_calls self.now)) image.items) }
     {
         image_of(
             alloc,
@@ -83,9 +87,11 @@ impl Disk for MemoryDisk {
 
     ghost left_since = { λ disk moment image. WasImage (disk_first disk) (disk_calls disk) moment image };
 
-    ghost reads_as_image = { λ disk known. replayed_image (disk_first disk) (disk_bytes disk) (disk_calls disk) disk.history.replayed disk.history.within };
+    ghost reads_as_image = { λ disk known. replayed_image (disk_first disk) (disk_bytes disk)
+        (disk_calls disk) disk.history.replayed disk.history.within };
 
-    ghost counts_now = { λ disk moment image known passed left. now_counts (disk_first disk) (disk_calls disk) moment image passed left };
+    ghost counts_now = { λ disk moment image known passed left. now_counts (disk_first disk)
+        (disk_calls disk) moment image passed left };
 
     ghost only_now = { λ disk image known left. only_now_left (disk_first disk) (disk_calls disk) image left };
 
@@ -94,12 +100,15 @@ impl Disk for MemoryDisk {
     }
 
     fn len(&mut self) -> Result<u64, Failed>
-        ensures cause { HasDiskCause (plan_faults (disk_plan self.old)) (plan_faults (disk_plan self.new)) result }
+        ensures cause { HasDiskCause (plan_faults (disk_plan self.old))
+            (plan_faults (disk_plan self.new)) result }
         ensures length { IfOk result (λ n. n ≡ length (disk_bytes self.old)) }
         ensures facts { Looks (disk_bytes self.old) (disk_bytes self.new)
-            (IsImage (disk_first self.old) (disk_calls self.old)) (IsImage (disk_first self.new) (disk_calls self.new)) }
+            (IsImage (disk_first self.old) (disk_calls self.old))
+            (IsImage (disk_first self.new) (disk_calls self.new)) }
         ensures time { Elapses (length (disk_calls self.old)) (length (disk_calls self.new))
-            (WasImage (disk_first self.old) (disk_calls self.old)) (WasImage (disk_first self.new) (disk_calls self.new))
+            (WasImage (disk_first self.old) (disk_calls self.old))
+            (WasImage (disk_first self.new) (disk_calls self.new))
             (IsImage (disk_first self.new) (disk_calls self.new)) }
         ensures planned { FollowsPlan (disk_plan self.old) (disk_plan self.new) result }
         ensures kept { OnOk result (disk_calls self.new ≡ disk_calls self.old ++ Len false ∷ []) }
@@ -114,15 +123,19 @@ impl Disk for MemoryDisk {
 
     fn read(&mut self, at: u64, buf: &mut [u8]) -> Result<(), Failed>
         requires { at + length buf.old ≤ length (disk_bytes self.old) }
-        ensures cause { HasDiskCause (plan_faults (disk_plan self.old)) (plan_faults (disk_plan self.new)) result }
+        ensures cause { HasDiskCause (plan_faults (disk_plan self.old))
+            (plan_faults (disk_plan self.new)) result }
         ensures bytes { OnOk result (buf.new ≡ take (length buf.old) (drop at (disk_bytes self.old))) }
         ensures facts { Looks (disk_bytes self.old) (disk_bytes self.new)
-            (IsImage (disk_first self.old) (disk_calls self.old)) (IsImage (disk_first self.new) (disk_calls self.new)) }
+            (IsImage (disk_first self.old) (disk_calls self.old))
+            (IsImage (disk_first self.new) (disk_calls self.new)) }
         ensures time { Elapses (length (disk_calls self.old)) (length (disk_calls self.new))
-            (WasImage (disk_first self.old) (disk_calls self.old)) (WasImage (disk_first self.new) (disk_calls self.new))
+            (WasImage (disk_first self.old) (disk_calls self.old))
+            (WasImage (disk_first self.new) (disk_calls self.new))
             (IsImage (disk_first self.new) (disk_calls self.new)) }
         ensures planned { FollowsPlan (disk_plan self.old) (disk_plan self.new) result }
-        ensures kept { OnOk result (disk_calls self.new ≡ disk_calls self.old ++ Read at (length buf.old) false ∷ []) }
+        ensures kept { OnOk result
+            (disk_calls self.new ≡ disk_calls self.old ++ Read at (length buf.old) false ∷ []) }
     {
         let failed = self.plan.fails_next();
         let many = buf.len();
@@ -137,14 +150,18 @@ impl Disk for MemoryDisk {
 
     fn write_at(&mut self, at: u64, bytes: &[u8]) -> Result<(), Failed>
         requires { at ≤ length (disk_bytes self.old) }
-        ensures cause { HasDiskCause (plan_faults (disk_plan self.old)) (plan_faults (disk_plan self.new)) result }
+        ensures cause { HasDiskCause (plan_faults (disk_plan self.old))
+            (plan_faults (disk_plan self.new)) result }
         ensures facts { Writes at bytes.now result (disk_bytes self.old) (disk_bytes self.new)
-            (IsImage (disk_first self.old) (disk_calls self.old)) (IsImage (disk_first self.new) (disk_calls self.new)) }
+            (IsImage (disk_first self.old) (disk_calls self.old))
+            (IsImage (disk_first self.new) (disk_calls self.new)) }
         ensures time { Elapses (length (disk_calls self.old)) (length (disk_calls self.new))
-            (WasImage (disk_first self.old) (disk_calls self.old)) (WasImage (disk_first self.new) (disk_calls self.new))
+            (WasImage (disk_first self.old) (disk_calls self.old))
+            (WasImage (disk_first self.new) (disk_calls self.new))
             (IsImage (disk_first self.new) (disk_calls self.new)) }
         ensures planned { FollowsPlan (disk_plan self.old) (disk_plan self.new) result }
-        ensures kept { OnOk result (IsWriteOf at bytes.now false (disk_calls self.old) (disk_calls self.new)) }
+        ensures kept { OnOk result
+            (IsWriteOf at bytes.now false (disk_calls self.old) (disk_calls self.new)) }
     {
         let failed = self.plan.fails_next();
         if !self.history.write(self.alloc, at, bytes, failed) || failed {
@@ -155,11 +172,14 @@ impl Disk for MemoryDisk {
     }
 
     fn sync(&mut self) -> Result<(), Failed>
-        ensures cause { HasDiskCause (plan_faults (disk_plan self.old)) (plan_faults (disk_plan self.new)) result }
+        ensures cause { HasDiskCause (plan_faults (disk_plan self.old))
+            (plan_faults (disk_plan self.new)) result }
         ensures facts { Syncs result (disk_bytes self.old) (disk_bytes self.new)
-            (IsImage (disk_first self.old) (disk_calls self.old)) (IsImage (disk_first self.new) (disk_calls self.new)) }
+            (IsImage (disk_first self.old) (disk_calls self.old))
+            (IsImage (disk_first self.new) (disk_calls self.new)) }
         ensures time { Elapses (length (disk_calls self.old)) (length (disk_calls self.new))
-            (WasImage (disk_first self.old) (disk_calls self.old)) (WasImage (disk_first self.new) (disk_calls self.new))
+            (WasImage (disk_first self.old) (disk_calls self.old))
+            (WasImage (disk_first self.new) (disk_calls self.new))
             (IsImage (disk_first self.new) (disk_calls self.new)) }
         ensures planned { FollowsPlan (disk_plan self.old) (disk_plan self.new) result }
         ensures kept { OnOk result (disk_calls self.new ≡ disk_calls self.old ++ Sync false ∷ []) }

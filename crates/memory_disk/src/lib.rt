@@ -1,4 +1,5 @@
-//! An honest disk in memory, which keeps every call and answers for what a crash at each moment might have left.
+//! An honest disk in memory, which keeps every call and answers for what a crash at each moment
+//! might have left.
 #![tactic(auto)]
 
 mod disk_call;

@@ -3,6 +3,11 @@ use crate::*;
 use outside_io::{Disk, Failed};
 use std::test::Fail;
 
+// A disk that a thread can take.
+fn ask_length<D: Disk + Send>(disk: &mut D) -> Result<u64, Failed> {
+    disk.len()
+}
+
 #[test]
 fn images_of_each_moment(rt: HostRuntime) -> Result<(), Fail> {
     let alloc = rt.alloc();
@@ -35,5 +40,6 @@ fn images_of_each_moment(rt: HostRuntime) -> Result<(), Fail> {
         let image = disk.image(alloc, moment, keep)?;
         assert!(rt; image.as_slice() == want, "after {moment} calls");
     }
+    assert!(rt; ask_length(&mut disk) == Ok(10));
     Ok(())
 }

@@ -1,6 +1,6 @@
 -- A front of the bytes was written, and then a front of the rest.
 use Rattle.std.proofs.Common.{◌≡◌, ℕ, ◌+◌, ◌-◌, ◌<◌, Option, None, Some, List, [], ◌++◌, length, length-drop, take, drop, min, append_assoc, arith, ap, ◌∙◌, sym}
-use Rattle.std.specs.Io.KnownBytes.{Appends}
+use Rattle.std.specs.Io.KnownBytes.{Appends, Consumes}
 use Rattle.std.proofs.lemmas.List.{take-append-drop, drop-drop, drop_all, take_rest}
 use Rattle.std.proofs.Math.Seq.{take-add}
 
@@ -31,3 +31,10 @@ read_front bytes held copied at n same many front =
     let many' = rw (take_rest held at, same) at many in
     let front' = rw (take_rest held at, same) at front in
     (front_and_rest bytes copied at n front', λ none some. none_left bytes at n (length copied) many' none some)
+
+-- A front was read, and then a front of the rest.
+pub consumes_more : (before mid after : Option (List ℕ)) (front more : List ℕ) → Consumes before mid front → Consumes mid after more → Consumes before after (front ++ more)
+consumes_more None mid after front more first then = tt
+consumes_more (Some xs) None after front more first then = absurd first
+consumes_more (Some xs) (Some ys) None front more first then = absurd then
+consumes_more (Some xs) (Some ys) (Some zs) front more first then = first ∙ ap (λ w. front ++ w) then ∙ sym (append_assoc front more zs)

@@ -1,4 +1,5 @@
--- What a device's count of faults says of a call. The count never falls; at the last value of its type it stands still.
+-- What a device's count of faults says of a call. The count never falls; at the last value of its
+-- type it stands still.
 use Rattle.std.specs.Prelude.{ℕ, ◌+◌, ◌-◌, ◌^◌, ◌≤◌, min, Result, OnErr}
 
 -- the count rose between two moments, or stands at its last value

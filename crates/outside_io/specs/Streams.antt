@@ -1,6 +1,6 @@
 -- What the calls of a source and a sink do to the bytes that they tell of.
 use Rattle.std.specs.Prelude.{◌≡◌, ℕ, ◌<◌, Option, List, length, take, is_some}
-use Rattle.std.specs.Io.KnownBytes.{Appends}
+use Rattle.std.specs.Io.KnownBytes.{Appends, Consumes}
 
 -- a device tells its bytes now exactly if it told them before
 abbrev pub StillTells : Option (List ℕ) → Option (List ℕ) → Type 0
@@ -11,3 +11,7 @@ pub record AppendsPart (before now : Option (List ℕ)) (bytes : List ℕ) : Typ
   pub taken : ℕ
   pub not_all : taken < length bytes
   pub written : Appends before now (take taken bytes)
+
+-- a front of the bytes that were left was read
+abbrev pub LosesFront : Option (List ℕ) → Option (List ℕ) → Type 0
+LosesFront before now = (front : List ℕ) × Consumes before now front

@@ -47,9 +47,11 @@ impl Source for BytesSource {
     }
 
     fn read(&mut self, buf: &mut [u8]) -> Result<usize, Failed>
-        ensures cause { HasCause (plan_faults (source_plan self.old)) (plan_faults (source_plan self.new)) result }
+        ensures cause { HasCause (plan_faults (source_plan self.old))
+            (plan_faults (source_plan self.new)) result }
         ensures bound { IfOk result (λ n. n ≤ length buf.new) }
-        ensures bytes { ReadConsumes (Some (source_left self.old)) (Some (source_left self.new)) result buf.new }
+        ensures bytes { ReadConsumes (Some (source_left self.old))
+            (Some (source_left self.new)) result buf.new }
         ensures tells { StillTells (Some (source_left self.old)) (Some (source_left self.new)) }
         ensures failed { OnErr result (FailsNext (source_plan self.old)) }
         ensures fails { FailsNext (source_plan self.old) → IsErr result }

@@ -9,8 +9,8 @@ ghost use Rattle.outside_io.specs.Memory.{sink_bytes, sink_plan};
 use crate::{Failed, FaultPlan, Sink};
 use std::alloc::Global;
 
-/// Keeps what is written, whole pieces at a time, and fails at the calls whose numbers, from 1, it is told.
-/// Want of memory for the bytes is a fault too.
+/// Keeps what is written, whole pieces at a time, and fails at the calls whose numbers, from 1, it
+/// is told. Want of memory for the bytes is a fault too.
 #[derive(Drop)]
 pub struct BytesSink {
     bytes: Vec<u8>,
@@ -48,10 +48,12 @@ impl Sink for BytesSink {
     }
 
     fn write(&mut self, bytes: &[u8]) -> Result<usize, Failed>
-        ensures cause { HasCause (plan_faults (sink_plan self.old)) (plan_faults (sink_plan self.new)) result }
+        ensures cause { HasCause (plan_faults (sink_plan self.old))
+            (plan_faults (sink_plan self.new)) result }
         ensures bound { IfOk result (λ n. n ≤ length bytes.now) }
         ensures some { 0 < length bytes.now → IfOk result (λ n. 0 < n) }
-        ensures bytes { WriteAppends (Some (sink_bytes self.old)) (Some (sink_bytes self.new)) result bytes.now }
+        ensures bytes { WriteAppends (Some (sink_bytes self.old))
+            (Some (sink_bytes self.new)) result bytes.now }
         ensures tells { StillTells (Some (sink_bytes self.old)) (Some (sink_bytes self.new)) }
         ensures whole { IfOk result (λ n. n ≡ length bytes.now) }
         ensures fails { FailsNext (sink_plan self.old) → IsErr result }

@@ -6,7 +6,8 @@ ghost use Rattle.outside_io.specs.Disks.{HasDiskCause};
 use crate::Failed;
 use std::io;
 
-// The same result, and one more fault where it is a failure. The count stands still at its type's end.
+// The same result, and one more fault where it is a failure. The count stands still at its type's
+// end.
 pub(crate) fn counted<T>(done: io::Result<T>, faults: &mut u64) -> Result<T, Failed>
     ensures value { result_ok result ≡ result_ok done }
     ensures cause { HasDiskCause faults.old faults.new result }

@@ -6,10 +6,10 @@ use crate::Failed;
 
 /// A file of bytes. Its count of faults never falls, and a call that succeeds leaves it.
 ///
-/// A disk is honest where it follows the disk model: between two syncs each range that was written, and the part
-/// past the old end, may hold any bytes after a crash, and the length may lie anywhere between the old and the new;
-/// bytes outside stay. A write that fails counts as a write of its range. After a sync that succeeds a crash leaves
-/// what a read gives.
+/// A disk is honest where it follows the disk model: between two syncs each range that was written,
+/// and the part past the old end, may hold any bytes after a crash, and the length may lie anywhere
+/// between the old and the new; bytes outside stay. A write that fails counts as a write of its
+/// range. After a sync that succeeds a crash leaves what a read gives.
 pub trait Disk {
     /// How many faults it has had.
     ghost count: { Self → ℕ };
@@ -38,39 +38,50 @@ pub trait Disk {
         ensures cause { HasDiskCause (count self.old) (count self.new) result }
         ensures honesty { (honest self.old) ↔ (honest self.new) }
         ensures length { honest self.old → IfOk result (λ n. n ≡ length (reads self.old)) }
-        ensures facts { honest self.old → Looks (reads self.old) (reads self.new) (may_leave self.old) (may_leave self.new) }
-        ensures time { honest self.old → Elapses (clock self.old) (clock self.new) (left_since self.old) (left_since self.new) (may_leave self.new) };
+        ensures facts { honest self.old
+            → Looks (reads self.old) (reads self.new) (may_leave self.old) (may_leave self.new) }
+        ensures time { honest self.old → Elapses (clock self.old) (clock self.new)
+            (left_since self.old) (left_since self.new) (may_leave self.new) };
 
     /// Fills the buffer with the bytes from a place on.
     fn read(&mut self, at: u64, buf: &mut [u8]) -> Result<(), Failed>
         requires { honest self.old → at + length buf.old ≤ length (reads self.old) }
         ensures cause { HasDiskCause (count self.old) (count self.new) result }
         ensures honesty { (honest self.old) ↔ (honest self.new) }
-        ensures bytes { honest self.old → OnOk result (buf.new ≡ take (length buf.old) (drop at (reads self.old))) }
-        ensures facts { honest self.old → Looks (reads self.old) (reads self.new) (may_leave self.old) (may_leave self.new) }
-        ensures time { honest self.old → Elapses (clock self.old) (clock self.new) (left_since self.old) (left_since self.new) (may_leave self.new) };
+        ensures bytes { honest self.old
+            → OnOk result (buf.new ≡ take (length buf.old) (drop at (reads self.old))) }
+        ensures facts { honest self.old
+            → Looks (reads self.old) (reads self.new) (may_leave self.old) (may_leave self.new) }
+        ensures time { honest self.old → Elapses (clock self.old) (clock self.new)
+            (left_since self.old) (left_since self.new) (may_leave self.new) };
 
     /// Writes over what is there, and past the end.
     fn write_at(&mut self, at: u64, bytes: &[u8]) -> Result<(), Failed>
         requires { honest self.old → at ≤ length (reads self.old) }
         ensures cause { HasDiskCause (count self.old) (count self.new) result }
         ensures honesty { (honest self.old) ↔ (honest self.new) }
-        ensures facts { honest self.old → Writes at bytes.now result (reads self.old) (reads self.new) (may_leave self.old) (may_leave self.new) }
-        ensures time { honest self.old → Elapses (clock self.old) (clock self.new) (left_since self.old) (left_since self.new) (may_leave self.new) };
+        ensures facts { honest self.old → Writes at bytes.now result (reads self.old)
+            (reads self.new) (may_leave self.old) (may_leave self.new) }
+        ensures time { honest self.old → Elapses (clock self.old) (clock self.new)
+            (left_since self.old) (left_since self.new) (may_leave self.new) };
 
     /// Makes safe what was written.
     fn sync(&mut self) -> Result<(), Failed>
         ensures cause { HasDiskCause (count self.old) (count self.new) result }
         ensures honesty { (honest self.old) ↔ (honest self.new) }
-        ensures facts { honest self.old → Syncs result (reads self.old) (reads self.new) (may_leave self.old) (may_leave self.new) }
-        ensures time { honest self.old → Elapses (clock self.old) (clock self.new) (left_since self.old) (left_since self.new) (may_leave self.new) };
+        ensures facts { honest self.old → Syncs result (reads self.old) (reads self.new)
+            (may_leave self.old) (may_leave self.new) }
+        ensures time { honest self.old → Elapses (clock self.old) (clock self.new)
+            (left_since self.old) (left_since self.new) (may_leave self.new) };
 
     /// What is read is one of the images.
     ghost reads_as_image: { (disk : Self) → honest disk → may_leave disk (reads disk) };
 
     /// This moment is one of those since an earlier one.
-    ghost counts_now: { (disk : Self) (moment : ℕ) (image : List ℕ) → honest disk → moment ≤ clock disk → may_leave disk image → left_since disk moment image };
+    ghost counts_now: { (disk : Self) (moment : ℕ) (image : List ℕ) → honest disk
+        → moment ≤ clock disk → may_leave disk image → left_since disk moment image };
 
     /// Since this moment there is no other.
-    ghost only_now: { (disk : Self) (image : List ℕ) → honest disk → left_since disk (clock disk) image → may_leave disk image };
+    ghost only_now: { (disk : Self) (image : List ℕ) → honest disk
+        → left_since disk (clock disk) image → may_leave disk image };
 }

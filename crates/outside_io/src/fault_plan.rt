@@ -2,8 +2,8 @@
 ghost use Rattle.std.specs.Prelude.{◌≡◌, ◌≤◌, ◌↔◌, IsTrue};
 ghost use Rattle.outside_io.specs.Plans.{FailsNext, number_after, plan_faults, plan_calls, plan_failing};
 
-/// Which calls of a device in memory are to fail, by their numbers from 1, and how many calls and faults it had.
-/// Both counts stand still at their type's end.
+/// Which calls of a device in memory are to fail, by their numbers from 1, and how many calls and
+/// faults it had. Both counts stand still at their type's end.
 #[derive(Drop)]
 pub struct FaultPlan {
     failing: Vec<u64>,

@@ -10,8 +10,8 @@ use std::io::ErrorKind;
 use std::os::unix::fs::FileExt;
 use std::rt::Files;
 
-/// The file with a name in the folder in which the program runs. It is opened, or made, at the first call; nothing
-/// of it is cut off.
+/// The file with a name in the folder in which the program runs. It is opened, or made, at the
+/// first call; nothing of it is cut off.
 #[derive(Drop)]
 pub struct FileDisk<R: Files<File = File>> {
     files: R,
@@ -21,8 +21,10 @@ pub struct FileDisk<R: Files<File = File>> {
 }
 
 impl<R: Files<File = File>> FileDisk<R> {
-    /// Touches nothing.
-    pub fn at(files: R, name: &'static str) -> FileDisk<R> {
+    /// Touches nothing. It had no fault so far.
+    pub fn at(files: R, name: &'static str) -> FileDisk<R>
+        ensures { result.faults ≡ 0 }
+    {
         FileDisk {
             files,
             name,

@@ -17,7 +17,10 @@ pub struct FolderShelf<R: Files> {
 }
 
 impl<R: Files> FolderShelf<R> {
-    pub fn new(files: R) -> FolderShelf<R> {
+    /// It had no fault so far.
+    pub fn new(files: R) -> FolderShelf<R>
+        ensures { result.faults ≡ 0 }
+    {
         FolderShelf { files, faults: 0 }
     }
 

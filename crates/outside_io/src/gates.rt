@@ -3,7 +3,8 @@ use std::sync::Wait;
 
 /// Is called before each step of a lane, and may wait there. It changes nothing of the office.
 pub trait Gate {
-    /// `lane` is the lane's number; `step` is 0 before a line of the lane, and k after the k-th batch of a valuation.
+    /// `lane` is the lane's number; `step` is 0 before a line of the lane, and k after the k-th
+    /// batch of a valuation.
     fn at<R: Wait>(&self, rt: &R, lane: u8, step: u32);
 }
 

@@ -1,4 +1,5 @@
-//! The devices of the program: streams, files and disks as traits with a count of faults, in memory and real.
+//! The devices of the program: streams, files and disks as traits with a count of faults, in memory
+//! and real.
 #![tactic(auto)]
 
 mod bytes_in;

@@ -43,8 +43,10 @@ impl Shelf for MapShelf {
         ensures found { IfOk result (λ bytes. shelf_at self.old name.now ≡ Some bytes.items) }
         ensures within { IfOk result (λ bytes. vec_len bytes ≤ SHELF_LIMIT) }
         ensures absent { IsErrOf result FetchFault.Absent → shelf_at self.old name.now ≡ None }
-        ensures too_long { IsErrOf result FetchFault.TooLong → IsSomeAnd (shelf_at self.old name.now) (λ bytes. SHELF_LIMIT < length bytes) }
-        ensures failed { IsErrOf result FetchFault.Failed → Rose (plan_faults (shelf_plan self.old)) (plan_faults (shelf_plan self.new)) }
+        ensures too_long { IsErrOf result FetchFault.TooLong
+            → IsSomeAnd (shelf_at self.old name.now) (λ bytes. SHELF_LIMIT < length bytes) }
+        ensures failed { IsErrOf result FetchFault.Failed
+            → Rose (plan_faults (shelf_plan self.old)) (plan_faults (shelf_plan self.new)) }
         ensures later { plan_faults (shelf_plan self.old) ≤ plan_faults (shelf_plan self.new) }
         ensures stays { shelf_at self.new ≡ shelf_at self.old }
         ensures fails { IsErrOf result FetchFault.Failed ↔ FailsNext (shelf_plan self.old) }
@@ -68,7 +70,8 @@ fn take_copy(
     ensures found { IfOk result (λ bytes. map_at files.now name.now ≡ Some bytes.items) }
     ensures within { IfOk result (λ bytes. vec_len bytes ≤ SHELF_LIMIT) }
     ensures absent { IsErrOf result FetchFault.Absent → map_at files.now name.now ≡ None }
-    ensures too_long { IsErrOf result FetchFault.TooLong → IsSomeAnd (map_at files.now name.now) (λ bytes. SHELF_LIMIT < length bytes) }
+    ensures too_long { IsErrOf result FetchFault.TooLong
+        → IsSomeAnd (map_at files.now name.now) (λ bytes. SHELF_LIMIT < length bytes) }
     ensures no_fault { IsErrOf result FetchFault.Failed → ⊥ }
 {
     match files.get(name) {

@@ -2,7 +2,7 @@
 ghost use Rattle.std.specs.Prelude.{◌≡◌, ℕ, ◌+◌, ◌<◌, ◌≤◌, Option, List, length, vec_len, IfOk, OnOk, IfSome, IsErrOf};
 ghost use Rattle.std.specs.Io.KnownBytes.{ReadConsumes, IsAtEnd};
 ghost use Rattle.outside_io.specs.Faults.{Rose, HasCause};
-ghost use Rattle.outside_io.specs.Streams.{StillTells};
+ghost use Rattle.outside_io.specs.Streams.{StillTells, LosesFront};
 ghost use Rattle.outside_io.specs.declared.failures.ReadAllFault.TheVariants.{ReadFault, TooLong};
 
 use crate::{Failed, ReadAllFault, Steps};
@@ -25,8 +25,8 @@ pub trait Source {
     fn faults(&self) -> u64
         ensures { result ≡ count self.now };
 
-    /// Puts bytes into the front of the buffer and answers how many. None into a buffer that isn't empty
-    /// is the end.
+    /// Puts bytes into the front of the buffer and answers how many. None into a buffer that isn't
+    /// empty is the end.
     fn read(&mut self, buf: &mut [u8]) -> Result<usize, Failed>
         ensures cause { HasCause (count self.old) (count self.new) result }
         ensures bound { IfOk result (λ n. n ≤ length buf.new) }
@@ -43,10 +43,12 @@ pub fn read_all<S: Source>(
     ensures whole { IfOk result (λ bytes. IfSome (S.left source.old) (λ told. bytes.items ≡ told)) }
     ensures end { OnOk result (IsAtEnd (S.left source.new)) }
     ensures within { IfOk result (λ bytes. vec_len bytes ≤ limit) }
-    ensures too_long { IsErrOf result ReadAllFault.TooLong → IfSome (S.left source.old) (λ told. limit < length told) }
+    ensures too_long { IsErrOf result ReadAllFault.TooLong
+        → IfSome (S.left source.old) (λ told. limit < length told) }
     ensures fault { IsErrOf result ReadAllFault.ReadFault → Rose (S.count source.old) (S.count source.new) }
     ensures later { S.count source.old ≤ S.count source.new }
     ensures tells { StillTells (S.left source.old) (S.left source.new) }
+    ensures rest { LosesFront (S.left source.old) (S.left source.new) }
 {
     read_all_from::<S, Brand>(alloc, source, limit, Blank::new(1))
 }
@@ -64,17 +66,19 @@ fn read_all_from<S: Source, L: Ledger>(
     ensures whole { IfOk result (λ bytes. IfSome (S.left source.old) (λ told. bytes.items ≡ told)) }
     ensures end { OnOk result (IsAtEnd (S.left source.new)) }
     ensures within { IfOk result (λ bytes. vec_len bytes ≤ limit) }
-    ensures too_long { IsErrOf result ReadAllFault.TooLong → IfSome (S.left source.old) (λ told. limit < length told) }
+    ensures too_long { IsErrOf result ReadAllFault.TooLong
+        → IfSome (S.left source.old) (λ told. limit < length told) }
     ensures fault { IsErrOf result ReadAllFault.ReadFault → Rose (S.count source.old) (S.count source.new) }
     ensures later { S.count source.old ≤ S.count source.new }
     ensures tells { StillTells (S.left source.old) (S.left source.new) }
+    ensures rest { LosesFront (S.left source.old) (S.left source.new) }
 {
     let mut steps: Steps<L> = Steps::open(blank);
     read_all_counted(alloc, source, limit, &mut steps)
 }
 
-/// Does what `read_all` does and counts its turns, one for each read. There are at most `limit + 1`, whatever
-/// the source gives.
+/// Does what `read_all` does and counts its turns, one for each read. There are at most `limit +
+/// 1`, whatever the source gives.
 pub fn read_all_counted<S: Source, L: Ledger>(
     alloc: Global,
     source: &mut S,
@@ -84,10 +88,12 @@ pub fn read_all_counted<S: Source, L: Ledger>(
     ensures whole { IfOk result (λ bytes. IfSome (S.left source.old) (λ told. bytes.items ≡ told)) }
     ensures end { OnOk result (IsAtEnd (S.left source.new)) }
     ensures within { IfOk result (λ bytes. vec_len bytes ≤ limit) }
-    ensures too_long { IsErrOf result ReadAllFault.TooLong → IfSome (S.left source.old) (λ told. limit < length told) }
+    ensures too_long { IsErrOf result ReadAllFault.TooLong
+        → IfSome (S.left source.old) (λ told. limit < length told) }
     ensures fault { IsErrOf result ReadAllFault.ReadFault → Rose (S.count source.old) (S.count source.new) }
     ensures later { S.count source.old ≤ S.count source.new }
     ensures tells { StillTells (S.left source.old) (S.left source.new) }
+    ensures rest { LosesFront (S.left source.old) (S.left source.new) }
     ensures turns { steps.new ≤ steps.old + (limit + 1) }
 {
     let room = limit as usize;

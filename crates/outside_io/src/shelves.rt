@@ -22,10 +22,13 @@ pub trait Shelf {
 
     /// The bytes of the file with this name, of which there may be at most 4 MiB.
     fn fetch(&mut self, alloc: Global, name: &str) -> Result<Vec<u8>, FetchFault>
-        ensures found { IfSome (files self.old) (λ at. IfOk result (λ bytes. at name.now ≡ Some bytes.items)) }
+        ensures found { IfSome (files self.old)
+            (λ at. IfOk result (λ bytes. at name.now ≡ Some bytes.items)) }
         ensures within { IfOk result (λ bytes. vec_len bytes ≤ SHELF_LIMIT) }
-        ensures absent { IsErrOf result FetchFault.Absent → IfSome (files self.old) (λ at. at name.now ≡ None) }
-        ensures too_long { IsErrOf result FetchFault.TooLong → IfSome (files self.old) (λ at. IsSomeAnd (at name.now) (λ bytes. SHELF_LIMIT < length bytes)) }
+        ensures absent { IsErrOf result FetchFault.Absent
+            → IfSome (files self.old) (λ at. at name.now ≡ None) }
+        ensures too_long { IsErrOf result FetchFault.TooLong → IfSome (files self.old)
+            (λ at. IsSomeAnd (at name.now) (λ bytes. SHELF_LIMIT < length bytes)) }
         ensures failed { IsErrOf result FetchFault.Failed → Rose (count self.old) (count self.new) }
         ensures later { count self.old ≤ count self.new }
         ensures stays { files self.new ≡ files self.old };

@@ -1,4 +1,5 @@
-// The devices in memory fail where they are told to, and the real ones write, read and find real files.
+// The devices in memory fail where they are told to, and the real ones write, read and find real
+// files.
 use crate::*;
 use std::collections::BTreeMap;
 use std::fs;

@@ -18,7 +18,8 @@ pub trait Sink {
     fn faults(&self) -> u64
         ensures { result ≡ count self.now };
 
-    /// Takes a front of the bytes and answers how many. To take nothing of a piece that isn't empty is a fault.
+    /// Takes a front of the bytes and answers how many. To take nothing of a piece that isn't empty
+    /// is a fault.
     fn write(&mut self, bytes: &[u8]) -> Result<usize, Failed>
         ensures cause { HasCause (count self.old) (count self.new) result }
         ensures bound { IfOk result (λ n. n ≤ length bytes.now) }
