@@ -1,7 +1,7 @@
 -- How a run ends, by what its parts did
 use Rattle.std.proofs.Common.{◌≡◌, ℕ, ◌≤◌, ◌<◌, List, [], ◌∷◌, length, take, refl, sym, ◌∙◌, subst, inl, inr, Option, Some, None, append-nil}
 use Rattle.std.specs.Prelude.{IfSome}
-use Rattle.std.specs.List.{AllByRecursion, All, flat_map}
+use Rattle.std.specs.List.{AllByRecursion, flat_map}
 use Rattle.std.specs.Io.KnownBytes.{Appends, IsAtEnd}
 use Rattle.std.proofs.lemmas.List.Elements.{recursion_from_All}
 use Rattle.outside_io.specs.Faults.{Rose}
@@ -17,16 +17,12 @@ use Rattle.life_app.specs.declared.ending.Ending.{Ending}
 use Rattle.life_app.specs.declared.ending.Ending.TheVariants.{Done, Usage, BadScript, ReadFault as InputFault, WriteFault, NoMemory}
 use Rattle.life_app.specs.declared.intake.Unread.{Unread}
 use Rattle.life_app.specs.declared.intake.Unread.TheVariants.{TooLong, BadRow, ReadFault, NoMemory as OutOfMemory}
-use Rattle.life_app.specs.Books.{HaveAnswered, opened_on, turns_made}
+use Rattle.life_app.specs.Books.{AreLanes, HaveAnswered, opened_on, turns_made}
 use Rattle.life_app.specs.Outcome.{AnyReply, EndsRun, EndsScript, EndsUnread, IsAnswered, IsRefused, IsRunOf, Stream, most_script_bytes}
 use Rattle.life_app.proofs.MergeSteps.{all_answered, callers_of, is_legal, is_merge, text_of_turns}
 use Rattle.life_app.proofs.TextSteps.{text_of}
 
--- the lanes of a script that was read are clerk 1's lines, all valid issues
-pub record AreLanes (lanes : List Lane) (lines : List Line) : Type 0 where
-  pub one : lanes ≡ lane_of 1 lines
-  pub issues : All IsIssueLine lines
-
+-- the lanes of a script that was read, and the lines that are shown of them
 pub are_lanes : (lanes : List Lane) (shown : List Line) → (bytes : List ℕ) × Reads bytes lanes
     → ((lines : List Line) → lanes ≡ lane_of 1 lines → shown ≡ lines) → AreLanes lanes shown
 are_lanes lanes shown read same =

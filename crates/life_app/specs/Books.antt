@@ -1,6 +1,6 @@
 -- The policies that the program keeps during a run, and the turns that its answers make
 use Rattle.std.specs.Prelude.{◌≡◌, ℕ, ◌+◌, ◌==◌, List, [], ◌∷◌, ◌++◌, length, Some, None}
-use Rattle.std.specs.List.{find}
+use Rattle.std.specs.List.{All, find}
 use Rattle.policy_types.specs.declared.command.Command.{Command}
 use Rattle.policy_types.specs.declared.policy.Policy.{Policy}
 use Rattle.policy_types.specs.declared.refusal.Refusal.TheVariants.{Taken, Full}
@@ -10,8 +10,10 @@ use Rattle.policy_types.specs.declared.entry.Reply.TheVariants.{Accepted, Refuse
 use Rattle.policy_types.specs.declared.entry.Entry.{Entry}
 use Rattle.policy_types.specs.declared.script.Line.{Line}
 use Rattle.policy_types.specs.declared.script.Line.TheVariants.{Post as PostLine}
+use Rattle.policy_types.specs.declared.script.Lane.{Lane}
 use Rattle.policy_machine.specs.Book.{policy_of, IsAccepted}
 use Rattle.policy_machine.specs.History.{Opening, IsLegalAfter, accepted_of, refusal_due}
+use Rattle.command_csv.specs.Reads.{IsIssueLine, lane_of}
 use Rattle.life_app.specs.declared.book.Answer.{Answer}
 use Rattle.life_app.specs.declared.book.Answer.TheVariants.{Accepted as AcceptedAt, Taken as IsTaken, Full as IsFull}
 
@@ -48,6 +50,11 @@ turn_of caller _ answer = record { caller = caller; call = TrimCall; reply = Bla
 abbrev pub turns_made : ℕ → List Line → List Answer → List Entry
 turns_made caller (line ∷ lines) (answer ∷ answers) = turn_of caller line answer ∷ turns_made caller lines answers
 turns_made caller _ _ = []
+
+-- the lanes of a script are clerk 1's lines, all of them valid issues
+pub record AreLanes (lanes : List Lane) (lines : List Line) : Type 0 where
+  pub one : lanes ≡ lane_of 1 lines
+  pub issues : All IsIssueLine lines
 
 -- an office with no commands, on a disk with this count of faults
 abbrev pub opened_on : ℕ → Opening

@@ -42,17 +42,27 @@ pub fn life<S: Source, K: Sink, H: Shelf, D: Disk + Send, G: Gate + Sync>(
     // 2 exactly where the words aren't of a command; then the input is left alone.
     ensures usage { (result.status ≡ 2) ↔ (AreRunWords words.now → ⊥) }
     ensures command { (result.status ≡ 2 → ⊥) ↔ AreRunWords words.now }
-    ensures usage_line { result.status ≡ 2 → (input.new ≡ input.old) × WroteLine (between K.count K.written output.old output.new) (codes "usage") }
+    ensures usage_line { result.status ≡ 2 → (input.new ≡ input.old)
+        × WroteLine (between K.count K.written output.old output.new) (codes "usage") }
 
     // Else the status tells how the run ended.
-    ensures done { result.status ≡ 0 → EndsRun (between S.count S.left input.old input.new) (between K.count K.written output.old output.new) (opened_on (D.count disk)) Done }
-    ensures bad_script { result.status ≡ 3 → EndsRun (between S.count S.left input.old input.new) (between K.count K.written output.old output.new) (opened_on (D.count disk)) BadScript }
-    ensures read_fault { result.status ≡ 6 → EndsRun (between S.count S.left input.old input.new) (between K.count K.written output.old output.new) (opened_on (D.count disk)) ReadFault }
-    ensures write_fault { result.status ≡ 7 → EndsRun (between S.count S.left input.old input.new) (between K.count K.written output.old output.new) (opened_on (D.count disk)) WriteFault }
-    ensures no_memory { result.status ≡ 9 → EndsRun (between S.count S.left input.old input.new) (between K.count K.written output.old output.new) (opened_on (D.count disk)) NoMemory }
+    ensures done { result.status ≡ 0 → EndsRun (between S.count S.left input.old input.new)
+        (between K.count K.written output.old output.new) (opened_on (D.count disk)) Done }
+    ensures bad_script { result.status ≡ 3 → EndsRun (between S.count S.left input.old input.new)
+        (between K.count K.written output.old output.new) (opened_on (D.count disk)) BadScript }
+    ensures read_fault { result.status ≡ 6 → EndsRun (between S.count S.left input.old input.new)
+        (between K.count K.written output.old output.new) (opened_on (D.count disk)) ReadFault }
+    ensures write_fault { result.status ≡ 7 → EndsRun (between S.count S.left input.old input.new)
+        (between K.count K.written output.old output.new) (opened_on (D.count disk)) WriteFault }
+    ensures no_memory { result.status ≡ 9 → EndsRun (between S.count S.left input.old input.new)
+        (between K.count K.written output.old output.new) (opened_on (D.count disk)) NoMemory }
 
     // A script that can be read, from an input and to an output that don't fail, is run to its end, but for want of memory.
-    ensures complete { (bytes : List ℕ) (lanes : List ALane) → AreRunWords words.now → S.left input.old ≡ Some bytes → length bytes ≤ 16777216 → Reads bytes lanes → (Rose (S.count input.old) (S.count input.new) → ⊥) → (Rose (K.count output.old) (K.count output.new) → ⊥) → (result.status ≡ 0) ⊎ (result.status ≡ 9) }
+    ensures complete { (bytes : List ℕ) (lanes : List ALane) → AreRunWords words.now
+        → S.left input.old ≡ Some bytes → length bytes ≤ 16777216 → Reads bytes lanes
+        → (Rose (S.count input.old) (S.count input.new) → ⊥)
+        → (Rose (K.count output.old) (K.count output.new) → ⊥)
+        → (result.status ≡ 0) ⊎ (result.status ≡ 9) }
 {
     let _ = shelf;
     let _ = gate;
@@ -70,7 +80,8 @@ fn obey<S: Source, K: Sink>(
     input: &mut S,
     output: &mut K,
 ) -> Ending
-    ensures { (faults : ℕ) → Obeys words.now (between S.count S.left input.old input.new) (between K.count K.written output.old output.new) (input.new ≡ input.old) faults result }
+    ensures { (faults : ℕ) → Obeys words.now (between S.count S.left input.old input.new)
+        (between K.count K.written output.old output.new) (input.new ≡ input.old) faults result }
 {
     if are_run_words(words) {
         return run(alloc, input, output);

@@ -2,7 +2,7 @@
 ghost use Rattle.std.specs.Prelude.{◌≡◌, ◌≤◌, ℕ, List, [], IfOk, vec_capacity};
 ghost use Rattle.policy_types.specs.declared.script.Line.{Line as ALine};
 ghost use Rattle.command_csv.specs.Reads.{Reads, lane_of};
-ghost use Rattle.life_app.specs.Books.{opened_on};
+ghost use Rattle.life_app.specs.Books.{AreLanes, opened_on};
 ghost use Rattle.life_app.specs.Outcome.{EndsRun, EndsScript, between};
 
 use crate::answers::answer_lines;
@@ -19,7 +19,8 @@ use std::alloc::{AllocError, Global};
 pub fn run<S: Source, K: Sink>(alloc: Global, input: &mut S, output: &mut K) -> Ending
     ensures input_later { S.count input.old ≤ S.count input.new }
     ensures output_later { K.count output.old ≤ K.count output.new }
-    ensures ends { (faults : ℕ) → EndsRun (between S.count S.left input.old input.new) (between K.count K.written output.old output.new) (opened_on faults) result }
+    ensures ends { (faults : ℕ) → EndsRun (between S.count S.left input.old input.new)
+        (between K.count K.written output.old output.new) (opened_on faults) result }
 {
     match read_lanes(alloc, input) {
         Ok(script) => run_script(alloc, &script, output),
@@ -30,9 +31,10 @@ pub fn run<S: Source, K: Sink>(alloc: Global, input: &mut S, output: &mut K) -> 
 fn run_script<K: Sink>(alloc: Global, script: &Script, output: &mut K) -> Ending
     requires read { (bytes : List ℕ) × Reads bytes script.now }
     ensures later { K.count output.old ≤ K.count output.new }
-    ensures ends { (faults : ℕ) → EndsScript script.now (between K.count K.written output.old output.new) (opened_on faults) result }
+    ensures ends { (faults : ℕ) → EndsScript script.now
+        (between K.count K.written output.old output.new) (opened_on faults) result }
 {
-    let lines = lines_of(script.as_slice());
+    let lines = lines_of(script);
     let Ok((mut policies, mut answers)) = room_for(alloc, lines.len()) else {
         say(output, b"nomemory\n");
         return Ending::NoMemory;
@@ -48,7 +50,14 @@ fn run_script<K: Sink>(alloc: Global, script: &Script, output: &mut K) -> Ending
 }
 
 // The lines of the only lane, if there is one.
-fn lines_of(lanes: &[Lane]) -> &[Line]
+fn lines_of(script: &Script) -> &[Line]
+    requires { (bytes : List ℕ) × Reads bytes script.now }
+    ensures { AreLanes script.now result.now }
+{
+    first_lines(script.as_slice())
+}
+
+fn first_lines(lanes: &[Lane]) -> &[Line]
     ensures { (lines : List ALine) → lanes.now ≡ lane_of 1 lines → result.now ≡ lines }
 {
     match lanes.first() {
