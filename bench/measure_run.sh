@@ -1,16 +1,16 @@
 #!/bin/sh
 # Times `life run` over scripts of issue lines and prints seconds, and peak memory beside the script's size.
-# usage: sh bench/measure_run.sh   (needs python3; sqlite3 is timed beside it where it is installed)
+# usage: sh bench/measure_run.sh   (needs python3 and GNU time; sqlite3 is timed beside it where it is installed)
 root=$(cd "$(dirname "$0")/.." && pwd) || exit 2
-"$root/life" --version </dev/null >/dev/null
+"$root/life" usage </dev/null >/dev/null
 exec python3 - "$root/crates/life_cli/out/life_cli" <<'PY'
-import os, resource, shutil, subprocess, sys, tempfile, time
+import os, shutil, subprocess, sys, tempfile, time
 
 program = sys.argv[1]
 folder = tempfile.mkdtemp()
+path = os.path.join(folder, "script.csv")
 
-def script(size):
-    path = os.path.join(folder, "script.csv")
+def make_script(size):
     with open(path, "w") as out:
         written = number = 0
         while written < size:
@@ -18,29 +18,30 @@ def script(size):
             line = "1,issue,%d,2020-01-01,endowment,30,20,1000.00,40.00\n" % (number * 37 % 4294967291 + 1)
             out.write(line)
             written += len(line)
-    return path, number
+    return number
 
-def run(path):
-    start = time.perf_counter()
-    child = subprocess.Popen([program, "run"], stdin=open(path), stdout=subprocess.DEVNULL, cwd=folder)
-    _, status, used = os.wait4(child.pid, 0)
-    return time.perf_counter() - start, used.ru_maxrss * 1024, os.waitstatus_to_exitcode(status)
-
-def least(f, times):
-    return min(f() for _ in range(times))
-
-for name, size in [("one line", 1), ("0.5 MiB", 1 << 19), ("1 MiB", 1 << 20)]:
-    path, lines = script(size)
-    seconds, memory, status = min(run(path) for _ in range(20 if size == 1 else 3))
-    bytes_ = os.path.getsize(path)
-    print("%-9s %7d lines %10.4f s %8.2f MiB peak, %6.1f times the script, status %d"
-          % (name, lines, seconds, memory / 2**20, memory / bytes_, status))
-
-if shutil.which("sqlite3"):
-    def once():
+def seconds(words, times):
+    best = None
+    for _ in range(times):
         start = time.perf_counter()
-        subprocess.run(["sqlite3", ":memory:", "select 1"], stdout=subprocess.DEVNULL)
-        return time.perf_counter() - start
-    print("sqlite3 :memory: 'select 1'  %10.4f s" % least(once, 20))
+        subprocess.run(words, stdin=open(path), stdout=subprocess.DEVNULL, cwd=folder, check=True)
+        took = time.perf_counter() - start
+        best = took if best is None else min(best, took)
+    return best
+
+def peak_bytes():
+    ran = subprocess.run(["/usr/bin/time", "-f", "%M", program, "run"], stdin=open(path), stdout=subprocess.DEVNULL,
+                         stderr=subprocess.PIPE, cwd=folder, check=True)
+    return int(ran.stderr.split()[-1]) * 1024
+
+for name, size, times in [("one line", 1, 200), ("0.5 MiB", 1 << 19, 5), ("1 MiB", 1 << 20, 5)]:
+    lines = make_script(size)
+    size = os.path.getsize(path)
+    peak = peak_bytes()
+    print("%-9s %6d lines  %8.4f s  %6.2f MiB peak, %.1f times the script"
+          % (name, lines, seconds([program, "run"], times), peak / 2**20, peak / size))
+if shutil.which("sqlite3"):
+    make_script(1)
+    print("sqlite3 :memory: 'select 1'  %8.4f s" % seconds(["sqlite3", ":memory:", "select 1"], 200))
 shutil.rmtree(folder)
 PY
