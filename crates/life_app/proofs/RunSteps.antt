@@ -1,12 +1,11 @@
 -- How a run ends, by what its parts did
-use Rattle.std.proofs.Common.{◌≡◌, ℕ, ◌≤◌, ◌<◌, List, [], ◌∷◌, length, take, refl, sym, ◌∙◌, subst, inl, inr, Option, Some, None, append-nil}
+use Rattle.std.proofs.Common.{◌≡◌, ℕ, ◌≤◌, ◌<◌, List, [], length, refl, sym, ◌∙◌, subst, inl, inr, Option, Some, None, append-nil}
 use Rattle.std.specs.Prelude.{IfSome}
-use Rattle.std.specs.List.{AllByRecursion, flat_map}
+use Rattle.std.specs.List.{flat_map}
 use Rattle.std.specs.Io.KnownBytes.{Appends, IsAtEnd}
 use Rattle.std.proofs.lemmas.List.Elements.{recursion_from_All}
 use Rattle.outside_io.specs.Faults.{Rose}
 use Rattle.policy_types.specs.declared.policy.Policy.{Policy}
-use Rattle.policy_types.specs.declared.entry.Entry.{Entry}
 use Rattle.policy_types.specs.declared.script.Line.{Line}
 use Rattle.policy_types.specs.declared.script.Lane.{Lane}
 use Rattle.policy_machine.specs.History.{Opening}
@@ -18,7 +17,7 @@ use Rattle.life_app.specs.declared.ending.Ending.TheVariants.{Done, Usage, BadSc
 use Rattle.life_app.specs.declared.intake.Unread.{Unread}
 use Rattle.life_app.specs.declared.intake.Unread.TheVariants.{TooLong, BadRow, ReadFault, NoMemory as OutOfMemory}
 use Rattle.life_app.specs.Books.{AreLanes, HaveAnswered, opened_on, turns_made}
-use Rattle.life_app.specs.Outcome.{AnyReply, EndsRun, EndsScript, EndsUnread, IsAnswered, IsRefused, IsRunOf, Stream, most_script_bytes}
+use Rattle.life_app.specs.Outcome.{EndsRun, EndsScript, EndsUnread, IsRefused, IsRunOf, Stream, most_script_bytes}
 use Rattle.life_app.proofs.MergeSteps.{all_answered, callers_of, is_legal, is_merge, text_of_turns}
 use Rattle.life_app.proofs.TextSteps.{text_of}
 
@@ -30,18 +29,14 @@ are_lanes lanes shown read same =
     let shown_is : shown ≡ one.0 = same one.0 one.1 in
     record { one = rw shown_is one.1; issues = rw shown_is one.2 }
 
-any_reply : (history : List Entry) → AllByRecursion (λ (entry : Entry). AnyReply entry.reply) history
-any_reply [] = tt
-any_reply (entry ∷ history) = (tt, any_reply history)
-
 -- the answers make a run, of which this was written
 pub run_of : (lanes : List Lane) (lines : List Line) (answers : List Answer) (policies : List Policy) (faults : ℕ)
     (Wrote : List ℕ → Type 0) (text : List ℕ) → AreLanes lanes lines → length answers ≡ length lines
     → HaveAnswered 1 faults lines answers policies → text ≡ flat_map (text_of 1) (turns_made 1 lines answers)
-    → Wrote text → IsRunOf lanes (opened_on faults) Wrote IsAnswered
+    → Wrote text → IsRunOf lanes (opened_on faults) Wrote
 run_of lanes lines answers policies faults Wrote text are each answered is_text wrote =
     let issues = recursion_from_All IsIssueLine lines are.issues in
-    subst (λ (ls : List Lane). IsRunOf ls (opened_on faults) Wrote IsAnswered) (sym are.one)
+    subst (λ (ls : List Lane). IsRunOf ls (opened_on faults) Wrote) (sym are.one)
     (record {
       callers = callers_of lines;
       dry = [];
@@ -52,22 +47,10 @@ run_of lanes lines answers policies faults Wrote text are each answered is_text 
       replied = all_answered 1 lines answers issues;
     })
 
-pub with_any_reply : (lanes : List Lane) (opening : Opening) (Wrote : List ℕ → Type 0)
-    → IsRunOf lanes opening Wrote IsAnswered → IsRunOf lanes opening Wrote AnyReply
-with_any_reply lanes opening Wrote run = record {
-  callers = run.callers;
-  dry = run.dry;
-  history = run.history;
-  merge = run.merge;
-  legal = run.legal;
-  wrote = run.wrote;
-  replied = any_reply run.history;
-}
-
--- where nothing was written, a front of any text was
-pub nothing_written : (told : Option (List ℕ)) (bytes : List ℕ) → Appends told told (take 0 bytes)
-nothing_written None bytes = tt
-nothing_written (Some xs) bytes = sym (append-nil xs)
+-- an output that isn't touched had nothing written to it
+pub nothing_written : (told : Option (List ℕ)) → Appends told told []
+nothing_written None = tt
+nothing_written (Some xs) = sym (append-nil xs)
 
 told_lanes : (told : Option (List ℕ)) (bytes : List ℕ) (lanes : List Lane) → IfSome told (λ t. t ≡ bytes)
     → Reads bytes lanes → IfSome told (λ t. Reads t lanes)

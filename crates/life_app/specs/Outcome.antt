@@ -1,5 +1,5 @@
 -- How a run of the program ends: what was read, what was written, and the history that the text tells of
-use Rattle.std.specs.Prelude.{◌≡◌, ℕ, ◌<◌, ◌≤◌, ◌⊎◌, List, [], ◌∷◌, ◌++◌, take, length, codes, decimal, Option, IfSome, String}
+use Rattle.std.specs.Prelude.{◌≡◌, ℕ, ◌<◌, ◌≤◌, ◌⊎◌, List, [], ◌∷◌, ◌++◌, length, codes, decimal, Option, IfSome, String}
 use Rattle.std.specs.Global.{Global}
 use Rattle.std.specs.List.{AllByRecursion}
 use Rattle.std.specs.Io.KnownBytes.{Appends, IsAtEnd}
@@ -41,9 +41,9 @@ WroteAll output bytes = Appends output.before output.after bytes
 abbrev pub WrotePart : Stream → List ℕ → Type 0
 WrotePart output bytes = Rose output.faults_before output.faults_after × AppendsPart output.before output.after bytes
 
--- a front of them was, or all
-abbrev pub WroteFront : Stream → List ℕ → Type 0
-WroteFront output bytes = (n : ℕ) × Appends output.before output.after (take n bytes)
+-- nothing of them was, since memory was refused
+abbrev pub WroteNothing : Stream → List ℕ → Type 0
+WroteNothing output bytes = Appends output.before output.after []
 
 -- the bytes were written, or the output failed
 abbrev pub WroteOrFailed : Stream → List ℕ → Type 0
@@ -59,21 +59,22 @@ IsAnswered (Faulted count) = ⊥
 IsAnswered Blank = ⊥
 IsAnswered _ = Unit {0}
 
--- the lanes' lines are answered once, in order, by a legal history, and the text is the history's
-pub record IsRunOf (lanes : List Lane) (opening : Opening) (Wrote : List ℕ → Type 0) (Replied : Reply → Type 0) : Type 0 where
+-- the lanes' lines are answered once, in order, by a legal history, each is accepted or refused, and the text is the
+-- history's
+pub record IsRunOf (lanes : List Lane) (opening : Opening) (Wrote : List ℕ → Type 0) : Type 0 where
   pub callers : List ℕ
   pub dry : List ℕ
   pub history : List Entry
   pub merge : IsMerge history lanes callers dry
   pub legal : IsLegal opening history
   pub wrote : Wrote (transcript_text lanes callers history)
-  pub replied : AllByRecursion (λ (entry : Entry). Replied entry.reply) history
+  pub replied : AllByRecursion (λ (entry : Entry). IsAnswered entry.reply) history
 
 -- and the lanes are those that the script says
-pub record IsRun (script : Option (List ℕ)) (opening : Opening) (Wrote : List ℕ → Type 0) (Replied : Reply → Type 0) : Type 0 where
+pub record IsRun (script : Option (List ℕ)) (opening : Opening) (Wrote : List ℕ → Type 0) : Type 0 where
   pub lanes : List Lane
   pub read : IfSome script (λ bytes. Reads bytes lanes)
-  pub run : IsRunOf lanes opening Wrote Replied
+  pub run : IsRunOf lanes opening Wrote
 
 abbrev pub most_script_bytes : ℕ
 most_script_bytes = 16777216
@@ -98,30 +99,27 @@ EndsUnread ReadFault output InputFault = WroteLine output (codes "readfault")
 EndsUnread OutOfMemory output NoMemory = WroteLine output (codes "nomemory")
 EndsUnread _ _ _ = ⊥
 
-abbrev pub AnyReply : Reply → Type 0
-AnyReply reply = Unit {0}
-
 -- what each ending of a run says
 abbrev pub EndsRun : Stream → Stream → Opening → Ending → Type 0
-EndsRun input output opening Done = IsAtEnd input.after × IsRun input.before opening (WroteAll output) IsAnswered
+EndsRun input output opening Done = IsAtEnd input.after × IsRun input.before opening (WroteAll output)
 EndsRun input output opening Usage = ⊥
 EndsRun input output opening BadScript = IfSome input.before (λ bytes. IsRefused bytes output)
 EndsRun input output opening InputFault =
     Rose input.faults_before input.faults_after × WroteLine output (codes "readfault")
 EndsRun input output opening WriteFault =
     IsAtEnd input.after × Rose output.faults_before output.faults_after
-    × IsRun input.before opening (AppendsPart output.before output.after) AnyReply
+    × IsRun input.before opening (AppendsPart output.before output.after)
 EndsRun input output opening NoMemory =
-    WroteLine output (codes "nomemory") ⊎ IsRun input.before opening (WroteFront output) AnyReply
+    WroteLine output (codes "nomemory") ⊎ IsRun input.before opening (WroteNothing output)
 
 -- how a run ends that read its script
 abbrev pub EndsScript : List Lane → Stream → Opening → Ending → Type 0
-EndsScript lanes output opening Done = IsRunOf lanes opening (WroteAll output) IsAnswered
+EndsScript lanes output opening Done = IsRunOf lanes opening (WroteAll output)
 EndsScript lanes output opening WriteFault =
     Rose output.faults_before output.faults_after
-    × IsRunOf lanes opening (AppendsPart output.before output.after) AnyReply
+    × IsRunOf lanes opening (AppendsPart output.before output.after)
 EndsScript lanes output opening NoMemory =
-    WroteLine output (codes "nomemory") ⊎ IsRunOf lanes opening (WroteFront output) AnyReply
+    WroteLine output (codes "nomemory") ⊎ IsRunOf lanes opening (WroteNothing output)
 EndsScript lanes output opening _ = ⊥
 
 -- what the program did with its words: it ran the script, or the words are of no command, and then the input stays
