@@ -10,6 +10,7 @@ ghost use Rattle.posting_journal.specs.Unopened.{HasUnopenedCause, ShowsWhy};
 use crate::creation::create;
 use crate::faults::Unopened;
 use crate::judging::{FileKind, judge};
+use crate::putting::make_safe;
 use crate::scanning::count_records;
 use outside_io::{Disk, Failed};
 
@@ -24,7 +25,7 @@ pub(crate) fn open<D: Disk>(disk: &mut D) -> Result<u32, Unopened>
     ensures opens { D.honest disk.old → OpensOn D.Disk disk.old disk.new }
     ensures synced { D.honest disk.old → IfOk result (λ n. HasSynced D.Disk disk.old disk.new) }
 {
-    disk.sync()?;
+    make_safe(disk)?;
     open_safe(disk)
 }
 

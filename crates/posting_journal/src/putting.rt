@@ -1,7 +1,7 @@
 // A write that is made safe before anything else is done.
 ghost use Rattle.std.specs.Prelude.{◌≡◌, ◌+◌, ◌↔◌, ◌≤◌, length, OnOk};
-ghost use Rattle.outside_io.specs.Disks.{HasDiskCause};
-ghost use Rattle.posting_journal.specs.Runs.{PutsOn};
+ghost use Rattle.outside_io.specs.Disks.{HasDiskCause, Syncs};
+ghost use Rattle.posting_journal.specs.Runs.{Passes, PutsOn};
 
 use outside_io::{Disk, Failed};
 
@@ -15,5 +15,15 @@ pub(crate) fn put<D: Disk>(disk: &mut D, at: u64, bytes: &[u8]) -> Result<(), Fa
     ensures facts { D.honest disk.old → PutsOn D.Disk disk.old disk.new at bytes.now result }
 {
     disk.write_at(at, bytes)?;
+    make_safe(disk)
+}
+
+// After it a crash leaves what is read.
+pub(crate) fn make_safe<D: Disk>(disk: &mut D) -> Result<(), Failed>
+    ensures cause { HasDiskCause (D.count disk.old) (D.count disk.new) result }
+    ensures honesty { (D.honest disk.old) ↔ (D.honest disk.new) }
+    ensures facts { D.honest disk.old → Syncs result (D.reads disk.old) (D.reads disk.new) (D.may_leave disk.old) (D.may_leave disk.new) }
+    ensures time { D.honest disk.old → Passes D.Disk disk.old disk.new (D.may_leave disk.new) }
+{
     disk.sync()
 }
