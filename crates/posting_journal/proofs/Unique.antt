@@ -1,9 +1,12 @@
 -- A file is one thing.
-use Rattle.std.proofs.Common.{◌≡◌, inl, inr, ⊎_elim, ℕ, ◌<◌, ◌≤◌, List, [], length, sym, ◌∙◌, arith}
+use Rattle.std.proofs.Common.{◌≡◌, ◌⊎◌, inl, inr, ⊎_elim, ℕ, ◌<◌, ◌≤◌, List, [], length, refl, sym, ◌∙◌, ap, arith}
 use Rattle.std.proofs.lemmas.List.{ext_get_or}
 use Rattle.std.proofs.lemmas.Bool.{cases_lt}
 use Rattle.posting_journal.specs.Files.{IsJournal}
 use Rattle.posting_journal.specs.Creation.{IsUnfinished, Opens, IsForeign, IsBadAt}
+use Rattle.posting_journal.specs.Openings.{IsRefusal, IsShown, IsFault}
+use Rattle.posting_journal.specs.declared.faults.JournalCause.{JournalCause}
+use Rattle.posting_journal.specs.declared.faults.JournalCause.TheVariants.{DiskFault, NotAJournal, BadRecord}
 
 -- the end of one list is no record of another
 not_longer : (bytes : List ℕ) (xs ys : List (List ℕ)) → IsJournal bytes xs → IsJournal bytes ys → length ys ≤ length xs
@@ -49,3 +52,16 @@ one_place bytes n m one other =
     let first : n ≤ m = elim (cases_lt m n) [ inl less ↦ absurd (one.before m less other.here) | inr at_most ↦ at_most ] in
     let second : m ≤ n = elim (cases_lt n m) [ inl less ↦ absurd (other.before n less one.here) | inr at_most ↦ at_most ] in
     omega arith
+
+pub refusal_never : (bytes : List ℕ) (cause : JournalCause) (xs : List (List ℕ)) → IsRefusal bytes cause → ¬ Opens bytes xs
+refusal_never bytes (DiskFault count) xs refusal = absurd refusal
+refusal_never bytes NotAJournal xs refusal = foreign_never bytes xs refusal
+refusal_never bytes (BadRecord n) xs refusal = bad_never bytes n xs refusal
+
+pub due_cause : (bytes : List ℕ) (given cause : JournalCause) → IsRefusal bytes cause → IsShown bytes given → (given ≡ cause) ⊎ IsFault given
+due_cause bytes (DiskFault count) cause refusal shown = inr tt
+due_cause bytes given (DiskFault count) refusal shown = absurd refusal
+due_cause bytes NotAJournal NotAJournal refusal shown = inl refl
+due_cause bytes NotAJournal (BadRecord n) refusal shown = absurd (one_cause bytes n shown refusal)
+due_cause bytes (BadRecord n) NotAJournal refusal shown = absurd (one_cause bytes n refusal shown)
+due_cause bytes (BadRecord n) (BadRecord m) refusal shown = inl (ap (λ k. BadRecord k) (one_place bytes n m shown refusal))

@@ -22,6 +22,15 @@ IsShown bytes (DiskFault count) = Unit {0}
 IsShown bytes NotAJournal = IsForeign bytes
 IsShown bytes (BadRecord n) = IsBadAt bytes n
 
+-- the cause for which a file with these bytes is refused
+abbrev pub IsRefusal : List ℕ → JournalCause → Type 0
+IsRefusal bytes (DiskFault count) = ⊥
+IsRefusal bytes cause = IsShown bytes cause
+
+abbrev pub IsFault : JournalCause → Type 0
+IsFault (DiskFault count) = Unit {0}
+IsFault cause = ⊥
+
 -- The journal is that of the bodies to which the file opened, and each image is what is read.
 pub record HasOpened {D : Type 0} {g : Ghosts D} (old : D) (journal : Journal D g) : Type 0 where
   pub bodies : List (List ℕ)

@@ -1,7 +1,11 @@
 // A journal is started on a disk.
-ghost use Rattle.std.specs.Prelude.{◌≡◌, ◌↔◌, IsTrue, IfOk, IfErr, MatchResult};
+ghost use Rattle.std.specs.Prelude.{◌≡◌, ◌↔◌, ◌⊎◌, ℕ, List, IsTrue, IfOk, IfErr, IsErrAnd, MatchResult};
 ghost use Rattle.posting_journal.specs.Opening.{OpensOn};
-ghost use Rattle.posting_journal.specs.Openings.{HasRisen, IsShown, HasOpened};
+ghost use Rattle.posting_journal.specs.Openings.{HasRisen, IsShown, IsRefusal, IsFault, HasOpened};
+ghost use Rattle.posting_journal.specs.Unopened.{ShowsWhy};
+ghost use Rattle.posting_journal.specs.declared.faults.JournalCause.{JournalCause};
+ghost use Rattle.posting_journal.specs.declared.faults.Unopened.TheVariants.{Unread};
+ghost use Rattle.outside_io.specs.Faults.{Rose};
 
 use crate::faults::Unopened;
 use crate::opening::open;
@@ -18,6 +22,8 @@ impl<D: Disk> Journal<D> {
         ensures honesty { MatchResult result (λ journal. (D.honest disk) ↔ (D.honest journal.disk)) (λ fault. (D.honest disk) ↔ (D.honest fault.disk)) }
         ensures opened { D.honest disk → IfOk result (λ journal. HasOpened disk journal) }
         ensures refused { D.honest disk → IfErr result (λ fault. IsShown (D.reads disk) fault.cause) }
+        ensures due { (cause : JournalCause) → D.honest disk → IsRefusal (D.reads disk) cause
+            → IsErrAnd result (λ fault. (fault.cause ≡ cause) ⊎ IsFault fault.cause) }
         ensures opens { D.honest disk → MatchResult result (λ journal. OpensOn D.Disk disk journal.disk) (λ fault. OpensOn D.Disk disk fault.disk) }
     {
         let mut disk = disk;
@@ -28,13 +34,21 @@ impl<D: Disk> Journal<D> {
                 clean: true,
             }),
             Err(unopened) => {
-                let cause = match unopened {
-                    Unopened::Unread => JournalCause::DiskFault(disk.faults()),
-                    Unopened::NotAJournal => JournalCause::NotAJournal,
-                    Unopened::BadRecord(n) => JournalCause::BadRecord(n),
-                };
+                let cause = cause_of(unopened, disk.faults());
                 Err(JournalFault { cause, disk })
             }
         }
+    }
+}
+
+// The same cause, with the count of the disk's faults.
+fn cause_of(unopened: Unopened, count: u64) -> JournalCause
+    ensures risen { (before : ℕ) → (unopened ≡ Unread → Rose before count) → HasRisen before count result }
+    ensures shown { (bytes : List ℕ) → ShowsWhy bytes unopened → IsShown bytes result }
+{
+    match unopened {
+        Unopened::Unread => JournalCause::DiskFault(count),
+        Unopened::NotAJournal => JournalCause::NotAJournal,
+        Unopened::BadRecord(n) => JournalCause::BadRecord(n),
     }
 }
