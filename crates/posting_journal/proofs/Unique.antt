@@ -4,7 +4,7 @@ use Rattle.std.proofs.lemmas.List.{ext_get_or}
 use Rattle.std.proofs.lemmas.Bool.{cases_lt}
 use Rattle.posting_journal.specs.Files.{IsJournal}
 use Rattle.posting_journal.specs.Creation.{IsUnfinished, Opens, IsForeign, IsBadAt}
-use Rattle.posting_journal.specs.Openings.{IsRefusal, IsShown, IsFault}
+use Rattle.posting_journal.specs.Starting.{IsRefusal, IsShown, IsFault}
 use Rattle.posting_journal.specs.declared.faults.JournalCause.{JournalCause}
 use Rattle.posting_journal.specs.declared.faults.JournalCause.TheVariants.{DiskFault, NotAJournal, BadRecord}
 

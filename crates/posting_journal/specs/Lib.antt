@@ -1,9 +1,9 @@
-pub mod Creation
-pub mod Files
-pub mod Kinds
 pub mod Layout
-pub mod Opening
-pub mod Openings
+pub mod Files
+pub mod Creation
 pub mod Runs
 pub mod States
+pub mod Opening
+pub mod Starting
+pub mod Kinds
 pub mod Unopened

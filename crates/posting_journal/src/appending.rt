@@ -27,18 +27,6 @@ impl<D: Disk> Journal<D> {
         self.clean
     }
 
-    /// The disk.
-    pub fn release(self) -> D
-        ensures { result ≡ self.disk }
-    {
-        let Journal {
-            disk,
-            count: _,
-            clean: _,
-        } = self;
-        disk
-    }
-
     /// The body of record `n`, as the disk reads it.
     pub fn body(&mut self, n: u32) -> Result<[u8; 64], DiskFault>
         requires { n < self.old.count }
@@ -86,6 +74,47 @@ impl<D: Disk> Journal<D> {
         self.told(acknowledged)
     }
 
+    /// Makes a journal clean after a fault: the record of that fault is none, from then on. At a fault it stays as
+    /// it was.
+    pub fn repair(&mut self) -> Result<(), DiskFault>
+        requires { self.old.clean ≡ false }
+        ensures count { self.new.count ≡ self.old.count }
+        ensures clean { self.new.clean ≡ is_ok result }
+        ensures later { D.count self.old.disk ≤ D.count self.new.disk }
+        ensures quiet { OnOk result (D.count self.new.disk ≡ D.count self.old.disk) }
+        ensures fault { IfErr result (λ fault. (fault.count ≡ D.count self.new.disk) × Rose (D.count self.old.disk) (D.count self.new.disk)) }
+        ensures honesty { (D.honest self.old.disk) ↔ (D.honest self.new.disk) }
+        ensures repaired { (bodies : List (List ℕ)) (faulted : List ℕ) → D.honest self.old.disk → StandsFor self.old bodies faulted
+            → OnOk result (StandsFor self.new bodies [] × IsSafe D.Disk self.new.disk) }
+        ensures faulted { (bodies : List (List ℕ)) (faulted : List ℕ) → D.honest self.old.disk → StandsFor self.old bodies faulted
+            → OnErr result (StandsFor self.new bodies faulted) }
+        // A crash at any moment of the call leaves the bodies, or those and the one of the fault.
+        ensures moments { (bodies : List (List ℕ)) (faulted : List ℕ) → D.honest self.old.disk → StandsFor self.old bodies faulted
+            → Leaves D.Disk self.old.disk self.new.disk (IsBeforeOrAfter bodies faulted) }
+    {
+        match put(&mut self.disk, gate_place(self.count), &[CLOSED]) {
+            Ok(()) => {
+                self.clean = true;
+                Ok(())
+            }
+            Err(Failed) => Err(DiskFault {
+                count: self.disk.faults(),
+            }),
+        }
+    }
+
+    /// Gives the disk back.
+    pub fn release(self) -> D
+        ensures { result ≡ self.disk }
+    {
+        let Journal {
+            disk,
+            count: _,
+            clean: _,
+        } = self;
+        disk
+    }
+
     // Writes a body and a closed gate behind the gate that ends the records.
     fn stage(&mut self, body: &[u8; 64]) -> Result<(), Failed>
         requires room { self.old.count < 4000000 }
@@ -122,35 +151,6 @@ impl<D: Disk> Journal<D> {
                 Ok(())
             }
             Err(failed) => Err(failed),
-        }
-    }
-
-    /// Makes a journal clean after a fault: the record of that fault is none, from then on. At a fault it stays as
-    /// it was.
-    pub fn repair(&mut self) -> Result<(), DiskFault>
-        requires { self.old.clean ≡ false }
-        ensures count { self.new.count ≡ self.old.count }
-        ensures clean { self.new.clean ≡ is_ok result }
-        ensures later { D.count self.old.disk ≤ D.count self.new.disk }
-        ensures quiet { OnOk result (D.count self.new.disk ≡ D.count self.old.disk) }
-        ensures fault { IfErr result (λ fault. (fault.count ≡ D.count self.new.disk) × Rose (D.count self.old.disk) (D.count self.new.disk)) }
-        ensures honesty { (D.honest self.old.disk) ↔ (D.honest self.new.disk) }
-        ensures repaired { (bodies : List (List ℕ)) (faulted : List ℕ) → D.honest self.old.disk → StandsFor self.old bodies faulted
-            → OnOk result (StandsFor self.new bodies [] × IsSafe D.Disk self.new.disk) }
-        ensures faulted { (bodies : List (List ℕ)) (faulted : List ℕ) → D.honest self.old.disk → StandsFor self.old bodies faulted
-            → OnErr result (StandsFor self.new bodies faulted) }
-        // A crash at any moment of the call leaves the bodies, or those and the one of the fault.
-        ensures moments { (bodies : List (List ℕ)) (faulted : List ℕ) → D.honest self.old.disk → StandsFor self.old bodies faulted
-            → Leaves D.Disk self.old.disk self.new.disk (IsBeforeOrAfter bodies faulted) }
-    {
-        match put(&mut self.disk, gate_place(self.count), &[CLOSED]) {
-            Ok(()) => {
-                self.clean = true;
-                Ok(())
-            }
-            Err(Failed) => Err(DiskFault {
-                count: self.disk.faults(),
-            }),
         }
     }
 

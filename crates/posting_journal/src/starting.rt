@@ -1,7 +1,7 @@
 // A journal is started on a disk.
 ghost use Rattle.std.specs.Prelude.{◌≡◌, ◌↔◌, ◌⊎◌, ℕ, List, IsTrue, IfOk, IfErr, IsErrAnd, MatchResult};
 ghost use Rattle.posting_journal.specs.Opening.{OpensOn};
-ghost use Rattle.posting_journal.specs.Openings.{HasRisen, IsShown, IsRefusal, IsFault, HasOpened};
+ghost use Rattle.posting_journal.specs.Starting.{HasRisen, IsShown, IsRefusal, IsFault, HasOpened};
 ghost use Rattle.posting_journal.specs.Unopened.{ShowsWhy};
 ghost use Rattle.posting_journal.specs.declared.faults.JournalCause.{JournalCause};
 ghost use Rattle.posting_journal.specs.declared.faults.Unopened.TheVariants.{Unread};
