@@ -1,0 +1,6 @@
+pub mod Bytes
+pub mod Moments
+pub mod Opened
+pub mod Staging
+pub mod Unique
+pub mod Written

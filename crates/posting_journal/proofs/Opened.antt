@@ -1,0 +1,129 @@
+-- What was counted or refused is what the file shows.
+use Rattle.std.proofs.Common.{◌≡◌, inl, inr, ⊎_elim, ℕ, zero, suc, ◌<◌, ◌≤◌, min, List, [], ◌∷◌, ◌++◌, length, take, drop, get_or, refl, sym, ◌∙◌, ap, subst, arith, Result, Ok, Err, IfOk, IfErr}
+use Rattle.std.proofs.lemmas.List.{get_or_append_left, get_or_push, length_push, length-take, take_min, take_at}
+use Rattle.std.proofs.lemmas.Bool.{cases_eq}
+use Rattle.outside_io.specs.Disks.{Syncs}
+use Rattle.outside_io.specs.declared.disks.Disk.{Ghosts}
+use Rattle.posting_journal.specs.Layout.{gate_of, body_of}
+use Rattle.posting_journal.specs.Files.{IsMade, IsClosed, IsJournal}
+use Rattle.posting_journal.specs.Creation.{IsUnfinished}
+use Rattle.posting_journal.specs.Unopened.{EndsAt, IsBadFrom, ShowsWhy}
+use Rattle.posting_journal.specs.Opening.{IsOpening, OpenedTo, OpensOn, HasSynced}
+use Rattle.posting_journal.specs.Runs.{LooksOn, IsSafe, Passes}
+use Rattle.posting_journal.specs.declared.faults.Unopened.{Unopened}
+use Rattle.posting_journal.specs.declared.faults.Unopened.TheVariants.{Unread, NotAJournal, BadRecord}
+use Rattle.posting_journal.proofs.Moments.{leaves, wider, goes_on, looked, looks_on}
+
+-- a fact of an answer from two others
+pub ok_from : {T E : Type 0} (result : Result T E) (P Q R : T → Type 0) → IfOk result P → IfOk result Q → ((x : T) → P x → Q x → R x) → IfOk result R
+ok_from (Ok x) P Q R p q both = both x p q
+ok_from (Err e) P Q R p q both = tt
+
+pub ok_always : {T E : Type 0} (result : Result T E) (P : Type 0) → P → IfOk result (λ x. P)
+ok_always (Ok x) P p = p
+ok_always (Err e) P p = tt
+
+pub err_from : {T E : Type 0} (result : Result T E) (P Q : E → Type 0) → IfErr result P → ((e : E) → P e → Q e) → IfErr result Q
+err_from (Ok x) P Q p more = tt
+err_from (Err e) P Q p more = more e p
+
+-- the first bytes that were read into a buffer
+pub read_front : (bytes zeros front : List ℕ) (size many : ℕ) → length zeros ≡ 18 → many ≡ min size 18 → size ≡ length bytes → front ≡ take (length (take many zeros)) bytes → take 18 bytes ≡ take many (front ++ drop many zeros)
+read_front bytes zeros front size many room is told read =
+    let asked : length (take many zeros) ≡ many = omega (arith, length-take many zeros) in
+    let filled : front ≡ take many bytes = subst (λ n. front ≡ take n bytes) asked read in
+    let long : length front ≡ many = omega (arith, ap (λ (l : List ℕ). length l) filled, length-take many bytes) in
+    let least : min 18 (length bytes) ≡ many = omega arith in
+    sym (take_min 18 bytes) ∙ ap (λ n. take n bytes) least ∙ sym filled ∙ sym (take_at front (drop many zeros) many long)
+
+-- the bodies of the first records
+bodies_to : ℕ → List ℕ → List (List ℕ)
+bodies_to zero bytes = []
+bodies_to (suc n) bytes = bodies_to n bytes ++ take 64 (drop (body_of n) bytes) ∷ []
+
+length-bodies_to : (n : ℕ) (bytes : List ℕ) → length (bodies_to n bytes) ≡ n
+unfolding bodies_to
+length-bodies_to zero bytes = refl
+length-bodies_to (suc n) bytes = omega (arith, length_push (bodies_to n bytes) (take 64 (drop (body_of n) bytes)), length-bodies_to n bytes)
+
+get_or-bodies_to : (n : ℕ) (bytes : List ℕ) (k : ℕ) → k < n → get_or (bodies_to n bytes) k [] ≡ take 64 (drop (body_of k) bytes)
+unfolding bodies_to
+get_or-bodies_to zero bytes k lt = absurd (omega arith)
+get_or-bodies_to (suc n) bytes k lt = elim (cases_eq k n) [
+  | inl last ↦ get_or_push (bodies_to n bytes) (take 64 (drop (body_of n) bytes)) [] k (length-bodies_to n bytes ∙ sym last) ∙ ap (λ m. take 64 (drop (body_of m) bytes)) (sym last)
+  | inr other ↦ get_or_append_left (bodies_to n bytes) (take 64 (drop (body_of n) bytes) ∷ []) [] k (omega (arith, lt, other, length-bodies_to n bytes)) ∙ get_or-bodies_to n bytes k (omega (arith, lt, other))
+]
+
+pub record Counted (bytes : List ℕ) (n : ℕ) : Type 0 where
+  pub bodies : List (List ℕ)
+  pub size : length bodies ≡ n
+  pub journal : IsJournal bytes bodies
+
+pub counted : (bytes : List ℕ) (n : ℕ) → IsMade bytes → n ≤ 4000000 → EndsAt bytes n → Counted bytes n
+counted bytes n made few ends =
+    let size = length-bodies_to n bytes in
+    record {
+      bodies = bodies_to n bytes;
+      size = size;
+      journal = record {
+        made = made;
+        records = λ k lt. let within : k < n = omega (arith, lt, size) in record { opened = ends.gates k within; whole = sym (get_or-bodies_to n bytes k within) };
+        end = subst (λ m. IsClosed bytes m) (sym size) ends.end;
+        few = omega (arith, size, few);
+      };
+    }
+
+pub bad_shown : (bytes : List ℕ) (cause : Unopened) → IsMade bytes → 18 ≤ length bytes → ¬ IsUnfinished bytes → IsBadFrom bytes cause → ShowsWhy bytes cause
+bad_shown bytes Unread made long finished bad = tt
+bad_shown bytes NotAJournal made long finished bad = absurd bad
+bad_shown bytes (BadRecord n) made long finished bad = record {
+  finished = finished;
+  long = long;
+  made = made;
+  gates = λ k le. elim (cases_eq k n) [
+    | inl last ↦ subst (λ m. get_or bytes (gate_of m) 0 ≡ 1) (sym last) bad.1
+    | inr other ↦ (bad.0).gates k (omega (arith, le, other))
+  ];
+  before = (bad.0).stand;
+  here = bad.2;
+}
+
+module _ {D : Type 0} (g : Ghosts D) (old new : D) where
+  pub safe_stays : LooksOn g old new → IsSafe g old → IsSafe g new
+  safe_stays looks safe image left = safe image (looks.facts.images image left) ∙ sym looks.facts.reads
+
+  -- a journal that was counted
+  pub made_opened : (n : ℕ) → LooksOn g old new → IsSafe g old → IsMade (g.reads old) → n ≤ 4000000 → EndsAt (g.reads old) n → OpenedTo g old new n
+  made_opened n looks safe made few ends =
+      let c = counted (g.reads old) n made few ends in
+      record {
+        bodies = c.bodies;
+        opened = inl c.journal;
+        holds = subst (λ b. IsJournal b c.bodies) (sym looks.facts.reads) c.journal;
+        counted = sym c.size;
+        safe = safe_stays looks safe;
+      }
+
+-- An opening is a sync, and then the opening of what is safe.
+module _ {D T E : Type 0} (g : Ghosts D) (old mid new : D) (synced : Result T E) where
+  module _ (facts : Syncs synced (g.reads old) (g.reads mid) (g.may_leave old) (g.may_leave mid)) (time : Passes g old mid (g.may_leave mid)) (then : Passes g mid new (IsOpening (g.reads mid))) where
+    same : (image : List ℕ) → IsOpening (g.reads mid) image → IsOpening (g.reads old) image
+    same image = subst (λ b. IsOpening b image) facts.reads
+
+    pub opens_at_once : ((image : List ℕ) → g.left_since old (g.clock old) image → g.may_leave old image) → (¬ IsUnfinished (g.reads mid) → LooksOn g mid new) → OpensOn g old new
+    opens_at_once only_now looks = record {
+      at_once = λ safe. leaves g old new (IsOpening (g.reads old)) (λ image left. inl (safe image (only_now image left)))
+          (goes_on g old mid new (IsOpening (g.reads old))
+          (wider g old mid (g.may_leave mid) (IsOpening (g.reads old)) time (λ image left. inl (safe image (facts.images image left))))
+          (wider g mid new (IsOpening (g.reads mid)) (IsOpening (g.reads old)) then same));
+      unwritten = λ finished. looks_on g old mid new (looked g old mid (record { reads = facts.reads; images = facts.images }) time)
+          (looks (λ unfinished. finished (subst (λ b. IsUnfinished b) facts.reads unfinished)));
+    }
+
+    pub opens_synced : ((image : List ℕ) → g.left_since mid (g.clock mid) image → g.may_leave mid image) → IsSafe g mid → HasSynced g old new
+    opens_synced only_now safe = record {
+      synced = g.clock mid;
+      later = time.later;
+      passed = then.later;
+      since = λ image left. same image (⊎_elim (λ past. inl (safe image (only_now image past))) (λ now. now) (then.nothing_else (g.clock mid) image (omega arith) left));
+    }

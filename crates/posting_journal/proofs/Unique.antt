@@ -1,0 +1,67 @@
+-- A file is one thing.
+use Rattle.std.proofs.Common.{◌≡◌, ◌⊎◌, inl, inr, ⊎_elim, ℕ, ◌<◌, ◌≤◌, List, [], length, refl, sym, ◌∙◌, ap, arith}
+use Rattle.std.proofs.lemmas.List.{ext_get_or}
+use Rattle.std.proofs.lemmas.Bool.{cases_lt}
+use Rattle.posting_journal.specs.Files.{IsJournal}
+use Rattle.posting_journal.specs.Creation.{IsUnfinished, Opens, IsForeign, IsBadAt}
+use Rattle.posting_journal.specs.Starting.{IsRefusal, IsShown, IsFault}
+use Rattle.posting_journal.specs.declared.faults.JournalCause.{JournalCause}
+use Rattle.posting_journal.specs.declared.faults.JournalCause.TheVariants.{DiskFault, NotAJournal, BadRecord}
+
+-- the end of one list is no record of another
+not_longer : (bytes : List ℕ) (xs ys : List (List ℕ)) → IsJournal bytes xs → IsJournal bytes ys → length ys ≤ length xs
+not_longer bytes xs ys one other = elim (cases_lt (length xs) (length ys)) [
+  | inl longer ↦ absurd (one.end.closed (other.records (length xs) longer).opened)
+  | inr at_most ↦ at_most
+]
+
+pub one_journal : (bytes : List ℕ) (xs ys : List (List ℕ)) → IsJournal bytes xs → IsJournal bytes ys → xs ≡ ys
+one_journal bytes xs ys one other =
+    let size : length xs ≡ length ys = omega (arith, not_longer bytes xs ys one other, not_longer bytes ys xs other one) in
+    ext_get_or [] xs ys size (λ k lt. let within : k < length ys = omega arith in sym (one.records k lt).whole ∙ (other.records k within).whole)
+
+pub journal_finished : (bytes : List ℕ) (xs : List (List ℕ)) → IsJournal bytes xs → ¬ IsUnfinished bytes
+journal_finished bytes xs journal (inl short) = omega (arith, short, journal.end.there)
+journal_finished bytes xs journal (inr (inl begun)) = let clash : 0 ≡ 1 = sym begun.unfinished ∙ journal.made.finished in omega (arith, clash)
+journal_finished bytes xs journal (inr (inr nearly)) = nearly.not_made journal.made.finished
+
+pub opens_once : (bytes : List ℕ) (xs ys : List (List ℕ)) → Opens bytes xs → Opens bytes ys → xs ≡ ys
+opens_once bytes xs ys (inl one) (inl other) = one_journal bytes xs ys one other
+opens_once bytes xs ys (inl one) (inr other) = absurd (journal_finished bytes xs one other.1)
+opens_once bytes xs ys (inr one) (inl other) = absurd (journal_finished bytes ys other one.1)
+opens_once bytes xs ys (inr one) (inr other) = one.0 ∙ sym other.0
+
+pub foreign_never : (bytes : List ℕ) (xs : List (List ℕ)) → IsForeign bytes → ¬ Opens bytes xs
+foreign_never bytes xs foreign (inr creation) = foreign.finished creation.1
+foreign_never bytes xs foreign (inl journal) =
+    ⊎_elim (λ short. omega (arith, short, journal.end.there)) (λ rest. ⊎_elim (λ closed. closed journal.made.finished) (λ other. other journal.made.header) rest) foreign.other
+
+pub bad_never : (bytes : List ℕ) (n : ℕ) (xs : List (List ℕ)) → IsBadAt bytes n → ¬ Opens bytes xs
+bad_never bytes n xs bad (inr creation) = bad.finished creation.1
+bad_never bytes n xs bad (inl journal) = elim (cases_lt n (length xs)) [
+  | inr past ↦ journal.end.closed (bad.gates (length xs) past)
+  | inl within ↦ ⊎_elim (λ cut. omega (arith, cut, journal.end.there, within)) (λ full. omega (arith, full, within, journal.few)) bad.here
+]
+
+pub one_cause : (bytes : List ℕ) (n : ℕ) → IsForeign bytes → ¬ IsBadAt bytes n
+one_cause bytes n foreign bad =
+    ⊎_elim (λ short. omega (arith, short, bad.long)) (λ rest. ⊎_elim (λ closed. closed bad.made.finished) (λ other. other bad.made.header) rest) foreign.other
+
+pub one_place : (bytes : List ℕ) (n m : ℕ) → IsBadAt bytes n → IsBadAt bytes m → n ≡ m
+one_place bytes n m one other =
+    let first : n ≤ m = elim (cases_lt m n) [ inl less ↦ absurd (one.before m less other.here) | inr at_most ↦ at_most ] in
+    let second : m ≤ n = elim (cases_lt n m) [ inl less ↦ absurd (other.before n less one.here) | inr at_most ↦ at_most ] in
+    omega arith
+
+pub refusal_never : (bytes : List ℕ) (cause : JournalCause) (xs : List (List ℕ)) → IsRefusal bytes cause → ¬ Opens bytes xs
+refusal_never bytes (DiskFault count) xs refusal = absurd refusal
+refusal_never bytes NotAJournal xs refusal = foreign_never bytes xs refusal
+refusal_never bytes (BadRecord n) xs refusal = bad_never bytes n xs refusal
+
+pub due_cause : (bytes : List ℕ) (given cause : JournalCause) → IsRefusal bytes cause → IsShown bytes given → (given ≡ cause) ⊎ IsFault given
+due_cause bytes (DiskFault count) cause refusal shown = inr tt
+due_cause bytes given (DiskFault count) refusal shown = absurd refusal
+due_cause bytes NotAJournal NotAJournal refusal shown = inl refl
+due_cause bytes NotAJournal (BadRecord n) refusal shown = absurd (one_cause bytes n shown refusal)
+due_cause bytes (BadRecord n) NotAJournal refusal shown = absurd (one_cause bytes n refusal shown)
+due_cause bytes (BadRecord n) (BadRecord m) refusal shown = inl (ap (λ k. BadRecord k) (one_place bytes n m shown refusal))

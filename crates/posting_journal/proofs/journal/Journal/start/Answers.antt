@@ -1,0 +1,16 @@
+-- A file that is to be refused doesn't open, and is refused for no other cause.
+use Rattle.posting_journal.proofs.Unique.{refusal_never, due_cause}
+use Rattle.posting_journal.proofs.journal.Journal.start.Goals as goal
+
+pub returns-in-Ok-clause-due : goal.returns-in-Ok-clause-due
+returns-in-Ok-clause-due g c = λ cause honest refusal.
+    let opened = c.in-Ok.ensures.opened honest in
+    refusal_never (g.D.Disk.reads c.args.disk) cause opened.bodies refusal opened.opened
+
+pub returns-in-Err-clause-due : goal.returns-in-Err-clause-due
+returns-in-Err-clause-due g c = λ cause honest refusal.
+    let bytes = g.D.Disk.reads c.args.disk in
+    due_cause bytes c.cause_of-cause.result cause refusal (c.cause_of-cause.ensures.shown bytes (c.in-Err.ensures.refused honest))
+
+pub returns-in-Err-clause-refused : goal.returns-in-Err-clause-refused
+returns-in-Err-clause-refused g c = λ honest. c.cause_of-cause.ensures.shown (g.D.Disk.reads c.args.disk) (c.in-Err.ensures.refused honest)

@@ -1,0 +1,56 @@
+-- What a file can be when it is opened: a creation that didn't end, a journal, or neither.
+use Rattle.std.specs.Prelude.{◌≡◌, ◌≢◌, ◌⊎◌, ℕ, ◌+◌, ◌<◌, ◌≤◌, List, [], length, take, drop, slice_index}
+use Rattle.posting_journal.specs.Layout.{header, gate_of}
+use Rattle.posting_journal.specs.Files.{IsMade, IsJournal}
+
+-- Byte 0 says that the creation goes on, and nothing stands behind the first gate.
+pub record IsBegun (bytes : List ℕ) : Type 0 where
+  pub some : 0 < length bytes
+  pub short : length bytes ≤ 18
+  pub unfinished : slice_index bytes 0 ≡ 0
+
+-- All but byte 0 is that of an empty journal.
+pub record IsReady (bytes : List ℕ) : Type 0 where
+  pub long : length bytes ≡ 18
+  pub header : take 16 (drop 1 bytes) ≡ header
+  pub closed : slice_index bytes 17 ≢ 1
+
+-- It is, and byte 0 is being written.
+pub record IsNearlyMade (bytes : List ℕ) : Type 0 where
+  pub ready : IsReady bytes
+  pub not_begun : slice_index bytes 0 ≢ 0
+  pub not_made : slice_index bytes 0 ≢ 1
+
+-- an unfinished creation
+abbrev pub IsUnfinished : List ℕ → Type 0
+IsUnfinished bytes = (length bytes ≤ 1) ⊎ IsBegun bytes ⊎ IsNearlyMade bytes
+
+-- the file opens to these bodies
+abbrev pub Opens : List ℕ → List (List ℕ) → Type 0
+Opens bytes bodies = IsJournal bytes bodies ⊎ ((bodies ≡ []) × IsUnfinished bytes)
+
+-- it is no journal: it is too short, or its creation didn't end, or it has another header
+pub record IsForeign (bytes : List ℕ) : Type 0 where
+  pub finished : ¬ IsUnfinished bytes
+  pub other : (length bytes < 18) ⊎ (slice_index bytes 0 ≢ 1) ⊎ (take 16 (drop 1 bytes) ≢ header)
+
+-- an open record that can't stand: its body or the gate behind it lies past the end, or it is one too many
+abbrev pub CannotStand : List ℕ → ℕ → Type 0
+CannotStand bytes n = (length bytes ≤ gate_of (n + 1)) ⊎ (n ≡ 4000000)
+
+-- the gates up to that of record n are open, and n is the first that can't stand
+pub record IsBadAt (bytes : List ℕ) (n : ℕ) : Type 0 where
+  pub finished : ¬ IsUnfinished bytes
+  pub long : 18 ≤ length bytes
+  pub made : IsMade bytes
+  pub gates : (k : ℕ) → k ≤ n → slice_index bytes (gate_of k) ≡ 1
+  pub before : (k : ℕ) → k < n → ¬ CannotStand bytes k
+  pub here : CannotStand bytes n
+
+-- a creation of which byte 0 has yet to say that it goes on
+abbrev pub IsToBegin : List ℕ → Type 0
+IsToBegin bytes = (length bytes ≤ 1) ⊎ IsNearlyMade bytes
+
+-- the file opens to no bodies
+abbrev pub IsEmpty : List ℕ → Type 0
+IsEmpty bytes = Opens bytes []

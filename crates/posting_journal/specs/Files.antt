@@ -1,0 +1,42 @@
+-- The journal of a list of bodies, as a whole file. What stands behind the first gate that is closed has no meaning.
+use Rattle.std.specs.Prelude.{◌≡◌, ◌≢◌, ◌⊎◌, ℕ, ◌+◌, ◌<◌, ◌≤◌, List, [], ◌∷◌, ◌++◌, length, take, drop, slice_index, slice_index_or}
+use Rattle.posting_journal.specs.Layout.{header, gate_of, body_of}
+
+-- its creation has ended, and it has the header
+pub record IsMade (bytes : List ℕ) : Type 0 where
+  pub finished : slice_index bytes 0 ≡ 1
+  pub header : take 16 (drop 1 bytes) ≡ header
+
+-- record n is open and has this body
+pub record IsRecord (bytes : List ℕ) (n : ℕ) (body : List ℕ) : Type 0 where
+  pub opened : slice_index bytes (gate_of n) ≡ 1
+  pub whole : take 64 (drop (body_of n) bytes) ≡ body
+
+-- each record has its body, in order
+abbrev pub HasRecords : List ℕ → List (List ℕ) → Type 0
+HasRecords bytes bodies = (n : ℕ) → n < length bodies → IsRecord bytes n (slice_index_or bodies n [])
+
+-- the gate of a record is there, and closed
+pub record IsClosed (bytes : List ℕ) (n : ℕ) : Type 0 where
+  pub there : gate_of n < length bytes
+  pub closed : slice_index bytes (gate_of n) ≢ 1
+
+-- The file is the journal of these bodies: its records are just these, and a closed gate ends them.
+pub record IsJournal (bytes : List ℕ) (bodies : List (List ℕ)) : Type 0 where
+  pub made : IsMade bytes
+  pub records : HasRecords bytes bodies
+  pub end : IsClosed bytes (length bodies)
+  pub few : length bodies ≤ 4000000
+
+-- It is that of these bodies, or of these and one more, by whether the gate of this one is open: the body stands whole
+-- behind that gate, and a closed gate behind the body.
+pub record IsStaged (bytes : List ℕ) (bodies : List (List ℕ)) (body : List ℕ) : Type 0 where
+  pub made : IsMade bytes
+  pub records : HasRecords bytes bodies
+  pub whole : take 64 (drop (body_of (length bodies)) bytes) ≡ body
+  pub end : IsClosed bytes (length bodies + 1)
+  pub fewer : length bodies < 4000000
+
+-- without the new body or with it
+abbrev pub IsBeforeOrAfter : List (List ℕ) → List ℕ → List ℕ → Type 0
+IsBeforeOrAfter bodies body bytes = IsJournal bytes bodies ⊎ IsJournal bytes (bodies ++ body ∷ [])

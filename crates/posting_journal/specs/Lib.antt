@@ -1,0 +1,9 @@
+pub mod Layout
+pub mod Files
+pub mod Creation
+pub mod Runs
+pub mod States
+pub mod Opening
+pub mod Starting
+pub mod Kinds
+pub mod Unopened

@@ -1,0 +1,42 @@
+-- What is known while the records of a file are counted, and where it isn't opened.
+use Rattle.std.specs.Prelude.{◌≡◌, ℕ, ◌<◌, ◌≤◌, List, slice_index, Result, IsErrOf, OnOk}
+use Rattle.outside_io.specs.Faults.{Rose}
+use Rattle.posting_journal.specs.Layout.{gate_of}
+use Rattle.posting_journal.specs.Files.{IsClosed}
+use Rattle.posting_journal.specs.Creation.{CannotStand, IsForeign, IsBadAt}
+use Rattle.posting_journal.specs.declared.faults.Unopened.{Unopened}
+use Rattle.posting_journal.specs.declared.faults.Unopened.TheVariants.{Unread, NotAJournal, BadRecord}
+
+-- unread only where the count rose, and an Ok leaves it
+pub record HasUnopenedCause {T : Type 0} (before now : ℕ) (result : Result T Unopened) : Type 0 where
+  pub later : before ≤ now
+  pub unread : IsErrOf result Unread → Rose before now
+  pub succeeded : OnOk result (now ≡ before)
+
+-- the gates before that of record n are open, and their records stand
+pub record AreOpen (bytes : List ℕ) (n : ℕ) : Type 0 where
+  pub gates : (k : ℕ) → k < n → slice_index bytes (gate_of k) ≡ 1
+  pub stand : (k : ℕ) → k < n → ¬ CannotStand bytes k
+
+-- just n records stand before a closed gate
+pub record EndsAt (bytes : List ℕ) (n : ℕ) : Type 0 where
+  pub gates : (k : ℕ) → k < n → slice_index bytes (gate_of k) ≡ 1
+  pub end : IsClosed bytes n
+
+-- record n has an open gate and can't stand
+abbrev pub CantStand : List ℕ → ℕ → Unopened → Type 0
+CantStand bytes n Unread = Unit {0}
+CantStand bytes n NotAJournal = ⊥
+CantStand bytes n (BadRecord m) = (m ≡ n) × (slice_index bytes (gate_of n) ≡ 1) × CannotStand bytes n
+
+-- the records before it stand
+abbrev pub IsBadFrom : List ℕ → Unopened → Type 0
+IsBadFrom bytes Unread = Unit {0}
+IsBadFrom bytes NotAJournal = ⊥
+IsBadFrom bytes (BadRecord n) = AreOpen bytes n × (slice_index bytes (gate_of n) ≡ 1) × CannotStand bytes n
+
+-- what the bytes show of a file that wasn't opened
+abbrev pub ShowsWhy : List ℕ → Unopened → Type 0
+ShowsWhy bytes Unread = Unit {0}
+ShowsWhy bytes NotAJournal = IsForeign bytes
+ShowsWhy bytes (BadRecord n) = IsBadAt bytes n

@@ -1,0 +1,15 @@
+// The journal.
+ghost use Rattle.std.specs.Prelude.{◌<◌, ◌≤◌, length};
+ghost use Rattle.posting_journal.specs.Layout.{gate_of};
+
+use outside_io::Disk;
+
+/// A journal on its disk. It is clean but from a fault in the write of a gate to the next repair.
+#[derive(Drop)]
+pub struct Journal<D: Disk> {
+    pub(crate) disk: D,
+    pub(crate) count: u32,
+    pub(crate) clean: bool,
+    ghost few: { count ≤ 4000000 },
+    ghost within: { D.honest disk → gate_of count < length (D.reads disk) },
+}

@@ -1,0 +1,21 @@
+//! An append-only journal of bodies of 64 bytes on a disk. A body that was acknowledged outlives every crash.
+#![tactic(auto)]
+
+mod appending;
+mod creation;
+mod faults;
+mod journal;
+mod judging;
+mod laws;
+mod layout;
+mod opening;
+mod putting;
+mod scanning;
+mod starting;
+
+pub use faults::{DiskFault, JournalCause, JournalFault};
+pub use journal::Journal;
+pub use laws::{one_list_of_bodies, refused_files_open_to_none};
+
+#[cfg(test)]
+mod tests;

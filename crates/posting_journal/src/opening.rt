@@ -1,0 +1,67 @@
+// The opening of a file.
+ghost use Rattle.std.specs.Prelude.{◌≡◌, ◌↔◌, ◌≤◌, min, length, take, IfOk, IfErr};
+ghost use Rattle.outside_io.specs.Disks.{HasDiskCause};
+ghost use Rattle.posting_journal.specs.Creation.{IsUnfinished};
+ghost use Rattle.posting_journal.specs.Kinds.{IsOfKind, IsLongIfMade};
+ghost use Rattle.posting_journal.specs.Opening.{IsOpening, OpensOn, HasSynced, OpenedTo};
+ghost use Rattle.posting_journal.specs.Runs.{IsSafe, LooksOn, Passes};
+ghost use Rattle.posting_journal.specs.Unopened.{HasUnopenedCause, ShowsWhy};
+
+use crate::creation::create;
+use crate::faults::Unopened;
+use crate::judging::{FileKind, judge};
+use crate::putting::make_safe;
+use crate::scanning::count_records;
+use outside_io::{Disk, Failed};
+
+// Opens the journal and answers how many records it has. What a crash left is made safe first, so that it is all
+// that a later crash leaves.
+pub(crate) fn open<D: Disk>(disk: &mut D) -> Result<u32, Unopened>
+    ensures cause { HasUnopenedCause (D.count disk.old) (D.count disk.new) result }
+    ensures honesty { (D.honest disk.old) ↔ (D.honest disk.new) }
+    ensures few { IfOk result (λ n. n ≤ 4000000) }
+    ensures opened { D.honest disk.old → IfOk result (λ n. OpenedTo D.Disk disk.old disk.new n) }
+    ensures refused { D.honest disk.old → IfErr result (λ cause. ShowsWhy (D.reads disk.old) cause) }
+    ensures opens { D.honest disk.old → OpensOn D.Disk disk.old disk.new }
+    ensures synced { D.honest disk.old → IfOk result (λ n. HasSynced D.Disk disk.old disk.new) }
+{
+    make_safe(disk)?;
+    open_safe(disk)
+}
+
+// Opens what is safe.
+fn open_safe<D: Disk>(disk: &mut D) -> Result<u32, Unopened>
+    requires safe { D.honest disk.old → IsSafe D.Disk disk.old }
+    ensures cause { HasUnopenedCause (D.count disk.old) (D.count disk.new) result }
+    ensures honesty { (D.honest disk.old) ↔ (D.honest disk.new) }
+    ensures few { IfOk result (λ n. n ≤ 4000000) }
+    ensures opened { D.honest disk.old → IfOk result (λ n. OpenedTo D.Disk disk.old disk.new n) }
+    ensures refused { D.honest disk.old → IfErr result (λ cause. ShowsWhy (D.reads disk.old) cause) }
+    ensures moments { D.honest disk.old → Passes D.Disk disk.old disk.new (IsOpening (D.reads disk.old)) }
+    ensures unwritten { D.honest disk.old → ¬ IsUnfinished (D.reads disk.old) → LooksOn D.Disk disk.old disk.new }
+{
+    let size = disk.len()?;
+    match kind_of(disk, size)? {
+        FileKind::Unfinished { begun } => {
+            create(disk, begun)?;
+            Ok(0)
+        }
+        FileKind::Foreign => Err(Unopened::NotAJournal),
+        FileKind::Made => count_records(disk, size),
+    }
+}
+
+// Reads the first bytes.
+fn kind_of<D: Disk>(disk: &mut D, size: u64) -> Result<FileKind, Failed>
+    requires { D.honest disk.old → size ≡ length (D.reads disk.old) }
+    ensures cause { HasDiskCause (D.count disk.old) (D.count disk.new) result }
+    ensures honesty { (D.honest disk.old) ↔ (D.honest disk.new) }
+    ensures long { IfOk result (λ kind. IsLongIfMade size kind) }
+    ensures kind { D.honest disk.old → IfOk result (λ kind. IsOfKind (D.reads disk.old) kind) }
+    ensures unwritten { D.honest disk.old → LooksOn D.Disk disk.old disk.new }
+{
+    let mut front = [0; 18];
+    let many = size.min(18) as usize;
+    disk.read(0, &mut front[..many])?;
+    Ok(judge(&front[..many], size))
+}

@@ -1,0 +1,29 @@
+// A write that is made safe before anything else is done.
+ghost use Rattle.std.specs.Prelude.{◌≡◌, ◌+◌, ◌↔◌, ◌≤◌, length, OnOk};
+ghost use Rattle.outside_io.specs.Disks.{HasDiskCause, Syncs};
+ghost use Rattle.posting_journal.specs.Runs.{Passes, PutsOn};
+
+use outside_io::{Disk, Failed};
+
+// Writes and syncs.
+pub(crate) fn put<D: Disk>(disk: &mut D, at: u64, bytes: &[u8]) -> Result<(), Failed>
+    requires { D.honest disk.old → at ≤ length (D.reads disk.old) }
+    ensures cause { HasDiskCause (D.count disk.old) (D.count disk.new) result }
+    ensures honesty { (D.honest disk.old) ↔ (D.honest disk.new) }
+    ensures longer { D.honest disk.old → length (D.reads disk.old) ≤ length (D.reads disk.new) }
+    ensures filled { D.honest disk.old → OnOk result (at + length bytes.now ≤ length (D.reads disk.new)) }
+    ensures facts { D.honest disk.old → PutsOn D.Disk disk.old disk.new at bytes.now result }
+{
+    disk.write_at(at, bytes)?;
+    make_safe(disk)
+}
+
+// After it a crash leaves what is read.
+pub(crate) fn make_safe<D: Disk>(disk: &mut D) -> Result<(), Failed>
+    ensures cause { HasDiskCause (D.count disk.old) (D.count disk.new) result }
+    ensures honesty { (D.honest disk.old) ↔ (D.honest disk.new) }
+    ensures facts { D.honest disk.old → Syncs result (D.reads disk.old) (D.reads disk.new) (D.may_leave disk.old) (D.may_leave disk.new) }
+    ensures time { D.honest disk.old → Passes D.Disk disk.old disk.new (D.may_leave disk.new) }
+{
+    disk.sync()
+}
