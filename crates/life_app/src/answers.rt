@@ -15,7 +15,8 @@ pub fn answer_lines(lines: &[Line], policies: &mut Vec<Policy>, answers: &mut Ve
     requires room { length lines.now ≤ vec_capacity policies.old }
     requires answers_room { length lines.now ≤ vec_capacity answers.old }
     ensures all { length answers.new.items ≡ length lines.now }
-    ensures answered { (caller faults : ℕ) → HaveAnswered caller faults lines.now answers.new.items policies.new.items }
+    ensures answered { (caller faults : ℕ)
+        → HaveAnswered caller faults lines.now answers.new.items policies.new.items }
 {
     for line in lines {
         answer_line(line, policies, answers);
@@ -34,7 +35,10 @@ fn answer_line(line: &Line, policies: &mut Vec<Policy>, answers: &mut Vec<Answer
     ensures one_item { length answers.new.items ≡ length answers.old.items + 1 }
     ensures room { vec_capacity policies.new ≡ vec_capacity policies.old }
     ensures answers_room { vec_capacity answers.new ≡ vec_capacity answers.old }
-    ensures answered { (lines : List ALine) (caller faults : ℕ) → slice_get lines (length answers.old.items) ≡ Some line.now → HaveAnswered caller faults lines answers.old.items policies.old.items → HaveAnswered caller faults lines answers.new.items policies.new.items }
+    ensures answered { (lines : List ALine) (caller faults : ℕ)
+        → slice_get lines (length answers.old.items) ≡ Some line.now
+        → HaveAnswered caller faults lines answers.old.items policies.old.items
+        → HaveAnswered caller faults lines answers.new.items policies.new.items }
 {
     let Line::Post(command) = line else {
         unreachable!()

@@ -29,7 +29,8 @@ pub fn post(policies: &mut Vec<Policy>, command: &Command) -> Answer
     requires issue { IsSome (issue_id command.now) }
     requires room { vec_len policies.old < vec_capacity policies.old }
     requires few { vec_len policies.old ≤ 4000000 }
-    ensures posts { (commands : List ACommand) → Keeps policies.old.items commands → Posts commands command.now result policies.new.items }
+    ensures posts { (commands : List ACommand) → Keeps policies.old.items commands
+        → Posts commands command.now result policies.new.items }
     ensures few { vec_len policies.new ≤ 4000000 }
     ensures more { vec_len policies.new ≤ vec_len policies.old + 1 }
     ensures capacity { vec_capacity policies.new ≡ vec_capacity policies.old }

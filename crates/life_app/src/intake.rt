@@ -25,10 +25,12 @@ pub enum Unread {
 
 /// The script on the input, which is read to its end.
 pub fn read_lanes<S: Source>(alloc: Global, input: &mut S) -> Result<Script, Unread>
-    ensures ok { IfOk result (λ lanes. (bytes : List ℕ) × Reads bytes lanes × IfSome (S.left input.old) (λ told. told ≡ bytes)) }
+    ensures ok { IfOk result (λ lanes. (bytes : List ℕ) × Reads bytes lanes
+        × IfSome (S.left input.old) (λ told. told ≡ bytes)) }
     ensures end { OnOk result (IsAtEnd (S.left input.new)) }
     ensures too_long { IsErrOf result Unread.TooLong → IfSome (S.left input.old) (λ told. 16777216 < length told) }
-    ensures bad_row { (row field : ℕ) → result ≡ Err (BadRow row field) → IfSome (S.left input.old) (λ told. (length told ≤ 16777216) × IsFirstFault told row field) }
+    ensures bad_row { (row field : ℕ) → result ≡ Err (BadRow row field)
+        → IfSome (S.left input.old) (λ told. (length told ≤ 16777216) × IsFirstFault told row field) }
     ensures fault { IsErrOf result Unread.ReadFault → Rose (S.count input.old) (S.count input.new) }
     ensures later { S.count input.old ≤ S.count input.new }
 {

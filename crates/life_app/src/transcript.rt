@@ -20,7 +20,9 @@ pub fn transcript(
 ) -> Result<String, AllocError>
     requires issues { All IsIssueLine lines.now }
     requires each { length answers.now ≡ length lines.now }
-    ensures { IfOk result (λ text. (caller : ℕ) → string_bytes text ≡ flat_map (λ (entry : AnEntry). turn_text clerk entry.call entry.reply) (turns_made caller lines.now answers.now)) }
+    ensures { IfOk result (λ text. (caller : ℕ) → string_bytes text
+        ≡ flat_map (λ (entry : AnEntry). turn_text clerk entry.call entry.reply)
+        (turns_made caller lines.now answers.now)) }
 {
     let mut text = String::new(alloc);
     for i in 0..lines.len() {
@@ -32,7 +34,8 @@ pub fn transcript(
 // Adds the line of one answer.
 fn write_line(text: &mut String, clerk: u8, line: &Line, answer: Answer) -> Result<(), AllocError>
     requires issue { IsIssueLine line.now }
-    ensures { OnOk result ((caller : ℕ) → string_bytes text.new ≡ string_bytes text.old ++ turn_text clerk (turn_of caller line.now answer).call (turn_of caller line.now answer).reply) }
+    ensures { OnOk result ((caller : ℕ) → let turn = turn_of caller line.now answer in
+        string_bytes text.new ≡ string_bytes text.old ++ turn_text clerk turn.call turn.reply) }
 {
     let Line::Post(command) = line else {
         unreachable!()
@@ -41,7 +44,8 @@ fn write_line(text: &mut String, clerk: u8, line: &Line, answer: Answer) -> Resu
 }
 
 fn write_answer(text: &mut String, clerk: u8, id: u32, answer: Answer) -> Result<(), AllocError>
-    ensures { OnOk result (string_bytes text.new ≡ string_bytes text.old ++ line_text clerk (codes "issue") id (reply_of answer)) }
+    ensures { OnOk result (string_bytes text.new
+        ≡ string_bytes text.old ++ line_text clerk (codes "issue") id (reply_of answer)) }
 {
     match answer {
         Answer::Accepted(position) => write!(text, "{clerk},issue,{id},accepted,{position}\n"),
