@@ -5,6 +5,16 @@ use Rattle.posting_journal.specs.Files.{IsJournal, IsStaged, IsBeforeOrAfter}
 use Rattle.posting_journal.specs.Runs.{IsSafe, Leaves}
 use Rattle.posting_journal.specs.declared.journal.Journal.{Journal}
 
+-- what a caller sees of a journal: how many records there are, whether one can be appended without a repair, and its disk
+abbrev pub count_of : {D : Type 0} {g : Ghosts D} → Journal D g → ℕ
+count_of journal = journal.count
+
+abbrev pub is_clean : {D : Type 0} {g : Ghosts D} → Journal D g → Bool
+is_clean journal = journal.clean
+
+abbrev pub disk_of : {D : Type 0} {g : Ghosts D} → Journal D g → D
+disk_of journal = journal.disk
+
 -- A clean journal's file is that of the bodies; where a fault left it unclean, one body more may stand in it.
 abbrev pub IsKept : Bool → List (List ℕ) → List ℕ → List ℕ → Type 0
 IsKept true bodies faulted bytes = IsJournal bytes bodies

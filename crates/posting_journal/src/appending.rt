@@ -5,7 +5,7 @@ ghost use Rattle.outside_io.specs.Faults.{Rose};
 ghost use Rattle.posting_journal.specs.Files.{IsJournal, IsStaged, IsBeforeOrAfter};
 ghost use Rattle.posting_journal.specs.Layout.{gate_of, body_of};
 ghost use Rattle.posting_journal.specs.Runs.{IsSafe, Leaves, LooksOn};
-ghost use Rattle.posting_journal.specs.States.{StandsFor, StagesOn, AcknowledgesOn};
+ghost use Rattle.posting_journal.specs.States.{AcknowledgesOn, StagesOn, StandsFor, count_of, disk_of, is_clean};
 
 use crate::layout::{CLOSED, OPEN};
 use crate::putting::put;
@@ -15,32 +15,32 @@ use outside_io::{Disk, Failed};
 impl<D: Disk> Journal<D> {
     /// How many records there are.
     pub fn count(&self) -> u32
-        ensures { result ≡ self.now.count }
+        ensures { result ≡ count_of self.now }
     {
         self.count
     }
 
     /// Whether a record can be appended without a repair.
     pub fn is_clean(&self) -> bool
-        ensures { result ≡ self.now.clean }
+        ensures { result ≡ is_clean self.now }
     {
         self.clean
     }
 
     /// The body of record `n`, as the disk reads it.
     pub fn body(&mut self, n: u32) -> Result<[u8; 64], DiskFault>
-        requires { n < self.old.count }
-        ensures count { self.new.count ≡ self.old.count }
-        ensures clean { self.new.clean ≡ self.old.clean }
-        ensures later { D.count self.old.disk ≤ D.count self.new.disk }
-        ensures quiet { OnOk result (D.count self.new.disk ≡ D.count self.old.disk) }
-        ensures fault { IfErr result (λ fault. (fault.count ≡ D.count self.new.disk) × Rose (D.count self.old.disk) (D.count self.new.disk)) }
-        ensures honesty { (D.honest self.old.disk) ↔ (D.honest self.new.disk) }
-        ensures unwritten { D.honest self.old.disk → LooksOn D.Disk self.old.disk self.new.disk }
-        ensures read { D.honest self.old.disk → IfOk result (λ body. body ≡ take 64 (drop (body_of n) (D.reads self.old.disk))) }
-        ensures nth { (bodies : List (List ℕ)) (faulted : List ℕ) → D.honest self.old.disk → StandsFor self.old bodies faulted
+        requires { n < count_of self.old }
+        ensures count { count_of self.new ≡ count_of self.old }
+        ensures clean { is_clean self.new ≡ is_clean self.old }
+        ensures later { D.count (disk_of self.old) ≤ D.count (disk_of self.new) }
+        ensures quiet { OnOk result (D.count (disk_of self.new) ≡ D.count (disk_of self.old)) }
+        ensures fault { IfErr result (λ fault. (fault.count ≡ D.count (disk_of self.new)) × Rose (D.count (disk_of self.old)) (D.count (disk_of self.new))) }
+        ensures honesty { (D.honest (disk_of self.old)) ↔ (D.honest (disk_of self.new)) }
+        ensures unwritten { D.honest (disk_of self.old) → LooksOn D.Disk (disk_of self.old) (disk_of self.new) }
+        ensures read { D.honest (disk_of self.old) → IfOk result (λ body. body ≡ take 64 (drop (body_of n) (D.reads (disk_of self.old)))) }
+        ensures nth { (bodies : List (List ℕ)) (faulted : List ℕ) → D.honest (disk_of self.old) → StandsFor self.old bodies faulted
             → IfOk result (λ body. body ≡ slice_index_or bodies n []) }
-        ensures stands { (bodies : List (List ℕ)) (faulted : List ℕ) → D.honest self.old.disk → StandsFor self.old bodies faulted
+        ensures stands { (bodies : List (List ℕ)) (faulted : List ℕ) → D.honest (disk_of self.old) → StandsFor self.old bodies faulted
             → StandsFor self.new bodies faulted }
     {
         let mut body = [0; 64];
@@ -52,21 +52,21 @@ impl<D: Disk> Journal<D> {
     /// Adds a record. At `Ok` it is acknowledged: each crash leaves it from then on. At a fault the count stays, and
     /// where the journal isn't clean any more the record may be there or not after a crash, until it is repaired.
     pub fn append(&mut self, body: &[u8; 64]) -> Result<(), DiskFault>
-        requires room { self.old.count < 4000000 }
-        requires clean { IsTrue self.old.clean }
-        ensures count { self.new.count ≡ (if is_ok result then self.old.count + 1 else self.old.count) }
-        ensures clean { OnOk result (IsTrue self.new.clean) }
-        ensures later { D.count self.old.disk ≤ D.count self.new.disk }
-        ensures quiet { OnOk result (D.count self.new.disk ≡ D.count self.old.disk) }
-        ensures fault { IfErr result (λ fault. (fault.count ≡ D.count self.new.disk) × Rose (D.count self.old.disk) (D.count self.new.disk)) }
-        ensures honesty { (D.honest self.old.disk) ↔ (D.honest self.new.disk) }
-        ensures acknowledged { (bodies : List (List ℕ)) (faulted : List ℕ) → D.honest self.old.disk → StandsFor self.old bodies faulted
-            → OnOk result (StandsFor self.new (bodies ++ body.now ∷ []) [] × IsSafe D.Disk self.new.disk) }
-        ensures faulted { (bodies : List (List ℕ)) (faulted : List ℕ) → D.honest self.old.disk → StandsFor self.old bodies faulted
+        requires room { count_of self.old < 4000000 }
+        requires clean { IsTrue (is_clean self.old) }
+        ensures count { count_of self.new ≡ (if is_ok result then (count_of self.old) + 1 else (count_of self.old)) }
+        ensures clean { OnOk result (IsTrue (is_clean self.new)) }
+        ensures later { D.count (disk_of self.old) ≤ D.count (disk_of self.new) }
+        ensures quiet { OnOk result (D.count (disk_of self.new) ≡ D.count (disk_of self.old)) }
+        ensures fault { IfErr result (λ fault. (fault.count ≡ D.count (disk_of self.new)) × Rose (D.count (disk_of self.old)) (D.count (disk_of self.new))) }
+        ensures honesty { (D.honest (disk_of self.old)) ↔ (D.honest (disk_of self.new)) }
+        ensures acknowledged { (bodies : List (List ℕ)) (faulted : List ℕ) → D.honest (disk_of self.old) → StandsFor self.old bodies faulted
+            → OnOk result (StandsFor self.new (bodies ++ body.now ∷ []) [] × IsSafe D.Disk (disk_of self.new)) }
+        ensures faulted { (bodies : List (List ℕ)) (faulted : List ℕ) → D.honest (disk_of self.old) → StandsFor self.old bodies faulted
             → OnErr result (StandsFor self.new bodies body.now) }
         // A crash at any moment of the call leaves the bodies from before it, or those and the new one.
-        ensures moments { (bodies : List (List ℕ)) (faulted : List ℕ) → D.honest self.old.disk → StandsFor self.old bodies faulted
-            → Leaves D.Disk self.old.disk self.new.disk (IsBeforeOrAfter bodies body.now) }
+        ensures moments { (bodies : List (List ℕ)) (faulted : List ℕ) → D.honest (disk_of self.old) → StandsFor self.old bodies faulted
+            → Leaves D.Disk (disk_of self.old) (disk_of self.new) (IsBeforeOrAfter bodies body.now) }
     {
         let staged = self.stage(body);
         self.told(staged)?;
@@ -77,20 +77,20 @@ impl<D: Disk> Journal<D> {
     /// Makes a journal clean after a fault: the record of that fault is none, from then on. At a fault it stays as
     /// it was.
     pub fn repair(&mut self) -> Result<(), DiskFault>
-        requires { self.old.clean ≡ false }
-        ensures count { self.new.count ≡ self.old.count }
-        ensures clean { self.new.clean ≡ is_ok result }
-        ensures later { D.count self.old.disk ≤ D.count self.new.disk }
-        ensures quiet { OnOk result (D.count self.new.disk ≡ D.count self.old.disk) }
-        ensures fault { IfErr result (λ fault. (fault.count ≡ D.count self.new.disk) × Rose (D.count self.old.disk) (D.count self.new.disk)) }
-        ensures honesty { (D.honest self.old.disk) ↔ (D.honest self.new.disk) }
-        ensures repaired { (bodies : List (List ℕ)) (faulted : List ℕ) → D.honest self.old.disk → StandsFor self.old bodies faulted
-            → OnOk result (StandsFor self.new bodies [] × IsSafe D.Disk self.new.disk) }
-        ensures faulted { (bodies : List (List ℕ)) (faulted : List ℕ) → D.honest self.old.disk → StandsFor self.old bodies faulted
+        requires { is_clean self.old ≡ false }
+        ensures count { count_of self.new ≡ count_of self.old }
+        ensures clean { is_clean self.new ≡ is_ok result }
+        ensures later { D.count (disk_of self.old) ≤ D.count (disk_of self.new) }
+        ensures quiet { OnOk result (D.count (disk_of self.new) ≡ D.count (disk_of self.old)) }
+        ensures fault { IfErr result (λ fault. (fault.count ≡ D.count (disk_of self.new)) × Rose (D.count (disk_of self.old)) (D.count (disk_of self.new))) }
+        ensures honesty { (D.honest (disk_of self.old)) ↔ (D.honest (disk_of self.new)) }
+        ensures repaired { (bodies : List (List ℕ)) (faulted : List ℕ) → D.honest (disk_of self.old) → StandsFor self.old bodies faulted
+            → OnOk result (StandsFor self.new bodies [] × IsSafe D.Disk (disk_of self.new)) }
+        ensures faulted { (bodies : List (List ℕ)) (faulted : List ℕ) → D.honest (disk_of self.old) → StandsFor self.old bodies faulted
             → OnErr result (StandsFor self.new bodies faulted) }
         // A crash at any moment of the call leaves the bodies, or those and the one of the fault.
-        ensures moments { (bodies : List (List ℕ)) (faulted : List ℕ) → D.honest self.old.disk → StandsFor self.old bodies faulted
-            → Leaves D.Disk self.old.disk self.new.disk (IsBeforeOrAfter bodies faulted) }
+        ensures moments { (bodies : List (List ℕ)) (faulted : List ℕ) → D.honest (disk_of self.old) → StandsFor self.old bodies faulted
+            → Leaves D.Disk (disk_of self.old) (disk_of self.new) (IsBeforeOrAfter bodies faulted) }
     {
         match put(&mut self.disk, gate_place(self.count), &[CLOSED]) {
             Ok(()) => {
@@ -105,7 +105,7 @@ impl<D: Disk> Journal<D> {
 
     /// Gives the disk back.
     pub fn release(self) -> D
-        ensures { result ≡ self.disk }
+        ensures { result ≡ disk_of self }
     {
         let Journal {
             disk,
@@ -117,14 +117,14 @@ impl<D: Disk> Journal<D> {
 
     // Writes a body and a closed gate behind the gate that ends the records.
     fn stage(&mut self, body: &[u8; 64]) -> Result<(), Failed>
-        requires room { self.old.count < 4000000 }
-        requires clean { IsTrue self.old.clean }
-        ensures count { self.new.count ≡ self.old.count }
-        ensures clean { IsTrue self.new.clean }
-        ensures cause { HasDiskCause (D.count self.old.disk) (D.count self.new.disk) result }
-        ensures honesty { (D.honest self.old.disk) ↔ (D.honest self.new.disk) }
-        ensures next { D.honest self.old.disk → OnOk result (gate_of (self.new.count + 1) < length (D.reads self.new.disk)) }
-        ensures stages { (bodies : List (List ℕ)) (faulted : List ℕ) → D.honest self.old.disk → StandsFor self.old bodies faulted
+        requires room { count_of self.old < 4000000 }
+        requires clean { IsTrue (is_clean self.old) }
+        ensures count { count_of self.new ≡ count_of self.old }
+        ensures clean { IsTrue (is_clean self.new) }
+        ensures cause { HasDiskCause (D.count (disk_of self.old)) (D.count (disk_of self.new)) result }
+        ensures honesty { (D.honest (disk_of self.old)) ↔ (D.honest (disk_of self.new)) }
+        ensures next { D.honest (disk_of self.old) → OnOk result (gate_of ((count_of self.new) + 1) < length (D.reads (disk_of self.new))) }
+        ensures stages { (bodies : List (List ℕ)) (faulted : List ℕ) → D.honest (disk_of self.old) → StandsFor self.old bodies faulted
             → StagesOn self.old self.new bodies body.now result }
     {
         let record = staged_record(body);
@@ -133,14 +133,14 @@ impl<D: Disk> Journal<D> {
 
     // Opens the gate before a staged body.
     fn acknowledge(&mut self) -> Result<(), Failed>
-        requires room { self.old.count < 4000000 }
-        requires next { D.honest self.old.disk → gate_of (self.old.count + 1) < length (D.reads self.old.disk) }
-        ensures count { self.new.count ≡ (if is_ok result then self.old.count + 1 else self.old.count) }
-        ensures clean { self.new.clean ≡ is_ok result }
-        ensures cause { HasDiskCause (D.count self.old.disk) (D.count self.new.disk) result }
-        ensures honesty { (D.honest self.old.disk) ↔ (D.honest self.new.disk) }
-        ensures acknowledges { (bodies : List (List ℕ)) (body : List ℕ) → D.honest self.old.disk → self.old.count ≡ length bodies
-            → IsStaged (D.reads self.old.disk) bodies body → IsSafe D.Disk self.old.disk
+        requires room { count_of self.old < 4000000 }
+        requires next { D.honest (disk_of self.old) → gate_of ((count_of self.old) + 1) < length (D.reads (disk_of self.old)) }
+        ensures count { count_of self.new ≡ (if is_ok result then (count_of self.old) + 1 else (count_of self.old)) }
+        ensures clean { is_clean self.new ≡ is_ok result }
+        ensures cause { HasDiskCause (D.count (disk_of self.old)) (D.count (disk_of self.new)) result }
+        ensures honesty { (D.honest (disk_of self.old)) ↔ (D.honest (disk_of self.new)) }
+        ensures acknowledges { (bodies : List (List ℕ)) (body : List ℕ) → D.honest (disk_of self.old) → (count_of self.old) ≡ length bodies
+            → IsStaged (D.reads (disk_of self.old)) bodies body → IsSafe D.Disk (disk_of self.old)
             → AcknowledgesOn self.old self.new bodies body result }
     {
         self.clean = false;
@@ -156,7 +156,7 @@ impl<D: Disk> Journal<D> {
 
     // A fault of the disk, with the count of its faults.
     fn told(&self, done: Result<(), Failed>) -> Result<(), DiskFault>
-        ensures { MatchResult done (λ u. result ≡ Ok u) (λ f. result ≡ Err (record { count = D.count self.now.disk })) }
+        ensures { MatchResult done (λ u. result ≡ Ok u) (λ f. result ≡ Err (record { count = D.count (disk_of self.now) })) }
     {
         match done {
             Ok(()) => Ok(()),

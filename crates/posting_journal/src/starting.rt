@@ -1,5 +1,6 @@
 // A journal is started on a disk.
 ghost use Rattle.std.specs.Prelude.{◌≡◌, ◌↔◌, ◌⊎◌, ℕ, List, IsTrue, IfOk, IfErr, IsErrAnd, MatchResult};
+ghost use Rattle.posting_journal.specs.States.{disk_of, is_clean};
 ghost use Rattle.posting_journal.specs.Opening.{OpensOn};
 ghost use Rattle.posting_journal.specs.Starting.{HasRisen, IsShown, IsRefusal, IsFault, HasOpened};
 ghost use Rattle.posting_journal.specs.Unopened.{ShowsWhy};
@@ -17,14 +18,14 @@ impl<D: Disk> Journal<D> {
     /// written. A disk that fails is given back with its count, which rose in this call.
     pub fn start(disk: D) -> Result<Journal<D>, JournalFault<D>>
         ensures fault { IfErr result (λ fault. HasRisen (D.count disk) (D.count fault.disk) fault.cause) }
-        ensures quiet { IfOk result (λ journal. D.count journal.disk ≡ D.count disk) }
-        ensures clean { IfOk result (λ journal. IsTrue journal.clean) }
-        ensures honesty { MatchResult result (λ journal. (D.honest disk) ↔ (D.honest journal.disk)) (λ fault. (D.honest disk) ↔ (D.honest fault.disk)) }
+        ensures quiet { IfOk result (λ journal. D.count (disk_of journal) ≡ D.count disk) }
+        ensures clean { IfOk result (λ journal. IsTrue (is_clean journal)) }
+        ensures honesty { MatchResult result (λ journal. (D.honest disk) ↔ (D.honest (disk_of journal))) (λ fault. (D.honest disk) ↔ (D.honest fault.disk)) }
         ensures opened { D.honest disk → IfOk result (λ journal. HasOpened disk journal) }
         ensures refused { D.honest disk → IfErr result (λ fault. IsShown (D.reads disk) fault.cause) }
         ensures due { (cause : JournalCause) → D.honest disk → IsRefusal (D.reads disk) cause
             → IsErrAnd result (λ fault. (fault.cause ≡ cause) ⊎ IsFault fault.cause) }
-        ensures opens { D.honest disk → MatchResult result (λ journal. OpensOn D.Disk disk journal.disk) (λ fault. OpensOn D.Disk disk fault.disk) }
+        ensures opens { D.honest disk → MatchResult result (λ journal. OpensOn D.Disk disk (disk_of journal)) (λ fault. OpensOn D.Disk disk fault.disk) }
     {
         let mut disk = disk;
         match open(&mut disk) {
