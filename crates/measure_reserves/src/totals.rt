@@ -1,4 +1,4 @@
-ghost use Rattle.std.specs.Prelude.{◌≤◌};
+ghost use Rattle.std.specs.Prelude.{◌≡◌, ◌≤◌, ◌+◌, ◌-◌, ◌^◌, min};
 
 use crate::workload::Drawn;
 use crvm_reserve::{basis_premium, reserve_bounds};
@@ -22,7 +22,10 @@ pub struct Totals {
 }
 
 impl Totals {
-    pub fn new() -> Totals {
+    pub fn new() -> Totals
+        ensures policies { (result.policies ≡ 0) × (result.unvalued ≡ 0) }
+        ensures sums { (result.lower ≡ 0) × (result.upper ≡ 0) }
+    {
         Totals {
             policies: 0,
             unvalued: 0,
@@ -31,7 +34,13 @@ impl Totals {
         }
     }
 
-    pub fn add(&mut self, policy: &Drawn, table: &RateTable) {
+    /// Values a policy and adds its bounds, or counts it as one that has no value. Sums stand still at their
+    /// type's end.
+    pub fn add(&mut self, policy: &Drawn, table: &RateTable)
+        ensures one_more { self.new.policies ≡ min (self.old.policies + 1) (2 ^ 64 - 1) }
+        ensures lower { self.old.lower ≤ self.new.lower }
+        ensures upper { self.old.upper ≤ self.new.upper }
+    {
         let (lower, upper) = match bounds(policy, table) {
             Some(pair) => pair,
             None => {

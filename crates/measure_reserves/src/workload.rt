@@ -1,4 +1,4 @@
-ghost use Rattle.std.specs.Prelude.{◌<◌, ◌≤◌, ◌^◌, pos, ◌≤ℤ◌};
+ghost use Rattle.std.specs.Prelude.{◌≡◌, ◌<◌, ◌≤◌, ◌^◌, pos, ◌≤ℤ◌};
 
 use policy_types::Plan;
 
@@ -28,6 +28,7 @@ pub struct Workload {
 impl Workload {
     pub fn new(seed: u32) -> Workload
         requires { seed < 2 ^ 31 }
+        ensures { result.state ≡ seed }
     {
         Workload { state: seed as u64 }
     }
@@ -41,7 +42,10 @@ impl Workload {
     }
 
     /// The next policy: plan, age, years, amount and day of issue, in this order.
-    pub fn next_policy(&mut self) -> Drawn {
+    pub fn next_policy(&mut self) -> Drawn
+        ensures age { (20 ≤ result.age) × (result.age ≤ 79) }
+        ensures amount { 100000 ≤ result.amount }
+    {
         let plan = match self.draw(4) {
             0 => Plan::Term,
             1 => Plan::Whole,
