@@ -129,15 +129,9 @@ fn opened<'a, R: Files<File = File>>(
     }
 }
 
+// The file is safe only once its folder is. A run that made the file may have ended before that, so every run sees to
+// it.
 fn open_or_make<R: Files<File = File>>(files: &R, name: &str) -> io::Result<File> {
-    match OpenOptions::new().read(true).write(true).open(files, name) {
-        Err(e) if e.kind() == ErrorKind::NotFound => make(files, name),
-        found => found,
-    }
-}
-
-// A new file is safe only once its folder is.
-fn make<R: Files<File = File>>(files: &R, name: &str) -> io::Result<File> {
     let file = OpenOptions::new()
         .read(true)
         .write(true)

@@ -56,6 +56,7 @@ fn a_real_file_is_a_disk(rt: HostRuntime) -> Result<(), Fail> {
     let first = write_and_sync(&mut disk, 0, b"a first line");
     let second = write_and_sync(&mut disk, 2, b"FIRST");
     assert!(rt; (empty, first, second) == (Ok(0), Ok(()), Ok(())));
+    drop(disk);
     let mut again = FileDisk::at(rt.clone()?, name);
     let mut part = [0; 7];
     let length = again.len();
