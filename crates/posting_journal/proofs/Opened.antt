@@ -1,5 +1,5 @@
 -- What was counted or refused is what the file shows.
-use Rattle.std.proofs.Common.{◌≡◌, inl, inr, ⊎_elim, ℕ, zero, suc, ◌<◌, ◌≤◌, min, List, [], ◌∷◌, ◌++◌, length, take, drop, get_or, refl, sym, ◌∙◌, ap, subst, arith, Result, Ok, Err, IfOk, IfErr}
+use Rattle.std.proofs.Common.{◌≡◌, ◌⊎◌, inl, inr, ⊎_elim, ℕ, zero, suc, ◌<◌, ◌≤◌, min, List, [], ◌∷◌, ◌++◌, length, take, drop, get_or, refl, sym, ◌∙◌, ap, subst, arith, Result, Ok, Err, IfOk, IfErr}
 use Rattle.std.proofs.lemmas.List.{get_or_append_left, get_or_push, length_push, length-take, take_min, take_at}
 use Rattle.std.proofs.lemmas.Bool.{cases_eq}
 use Rattle.outside_io.specs.Disks.{Syncs}
@@ -110,20 +110,20 @@ module _ {D T E : Type 0} (g : Ghosts D) (old mid new : D) (synced : Result T E)
     same : (image : List ℕ) → IsOpening (g.reads mid) image → IsOpening (g.reads old) image
     same image = subst (λ b. IsOpening b image) facts.reads
 
-    pub opens_at_once : ((image : List ℕ) → g.left_since old (g.clock old) image → g.may_leave old image) → (¬ IsUnfinished (g.reads mid) → LooksOn g mid new) → OpensOn g old new
-    opens_at_once only_now looks = record {
-      at_once = λ safe. leaves g old new (IsOpening (g.reads old)) (λ image left. inl (safe image (only_now image left)))
-          (goes_on g old mid new (IsOpening (g.reads old))
-          (wider g old mid (g.may_leave mid) (IsOpening (g.reads old)) time (λ image left. inl (safe image (facts.images image left))))
-          (wider g mid new (IsOpening (g.reads mid)) (IsOpening (g.reads old)) then same));
+    pub opens_ever : ((image : List ℕ) → g.left_since old (g.clock old) image → g.may_leave old image) → (¬ IsUnfinished (g.reads mid) → LooksOn g mid new) → OpensOn g old new
+    opens_ever only_now looks = record {
+      ever =
+          let P = λ (image : List ℕ). g.may_leave old image ⊎ IsOpening (g.reads old) image in
+          leaves g old new P (λ image left. inl (only_now image left))
+          (goes_on g old mid new P (wider g old mid (g.may_leave mid) P time (λ image left. inl (facts.images image left)))
+          (wider g mid new (IsOpening (g.reads mid)) P then (λ image opening. inr (same image opening))));
       unwritten = λ finished. looks_on g old mid new (looked g old mid (record { reads = facts.reads; images = facts.images }) time)
           (looks (λ unfinished. finished (subst (λ b. IsUnfinished b) facts.reads unfinished)));
     }
 
     pub opens_synced : ((image : List ℕ) → g.left_since mid (g.clock mid) image → g.may_leave mid image) → IsSafe g mid → HasSynced g old new
     opens_synced only_now safe = record {
-      synced = g.clock mid;
-      later = time.later;
-      passed = then.later;
+      synced = mid;
+      at_sync = record { reads = facts.reads; safe = safe; later = time.later; passed = then.later };
       since = λ image left. same image (⊎_elim (λ past. inl (safe image (only_now image past))) (λ now. now) (then.nothing_else (g.clock mid) image (omega arith) left));
     }

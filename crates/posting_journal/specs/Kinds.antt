@@ -6,7 +6,8 @@ use Rattle.posting_journal.specs.declared.judging.FileKind.{FileKind}
 use Rattle.posting_journal.specs.declared.judging.FileKind.TheVariants.{Unfinished, Foreign, Made}
 
 abbrev pub IsOfKind : List ℕ → FileKind → Type 0
-IsOfKind bytes (Unfinished begun) = IsUnfinished bytes × (IsTrue begun → IsBegun bytes) × (begun ≡ false → IsToBegin bytes)
+IsOfKind bytes (Unfinished begun) =
+    IsUnfinished bytes × (IsTrue begun → IsBegun bytes) × (begun ≡ false → IsToBegin bytes)
 IsOfKind bytes Foreign = IsForeign bytes
 IsOfKind bytes Made = IsMade bytes × (18 ≤ length bytes) × (¬ IsUnfinished bytes)
 

@@ -9,18 +9,25 @@ use Rattle.posting_journal.specs.Runs.{IsSafe, Leaves, LooksOn}
 abbrev pub IsOpening : List ℕ → List ℕ → Type 0
 IsOpening before image = (image ≡ before) ⊎ (IsUnfinished before × Opens image [])
 
--- An honest disk from the call on: a crash leaves the file as it was, or a creation. This is so since the call where
--- a crash then left what was read, and else since the end of its first sync, at the moment `synced`.
+-- An honest disk from the call on: a crash leaves what it might have left at the call, or the file as it was, or a
+-- creation.
 pub record OpensOn {D : Type 0} (g : Ghosts D) (old new : D) : Type 0 where
-  pub at_once : IsSafe g old → Leaves g old new (IsOpening (g.reads old))
+  pub ever : Leaves g old new (λ image. g.may_leave old image ⊎ IsOpening (g.reads old) image)
   -- no file but an unfinished creation is written to
   pub unwritten : ¬ IsUnfinished (g.reads old) → LooksOn g old new
 
+-- The disk as it was at the end of its first sync: it read as before the call, and a crash then left just what was read.
+pub record IsSynced {D : Type 0} (g : Ghosts D) (old synced new : D) : Type 0 where
+  pub reads : g.reads synced ≡ g.reads old
+  pub safe : IsSafe g synced
+  pub later : g.clock old ≤ g.clock synced
+  pub passed : g.clock synced ≤ g.clock new
+
+-- From the end of its first sync on a crash leaves the file as it was, or a creation.
 pub record HasSynced {D : Type 0} (g : Ghosts D) (old new : D) : Type 0 where
-  pub synced : ℕ
-  pub later : g.clock old ≤ synced
-  pub passed : synced ≤ g.clock new
-  pub since : (image : List ℕ) → g.left_since new synced image → IsOpening (g.reads old) image
+  pub synced : D
+  pub at_sync : IsSynced g old synced new
+  pub since : (image : List ℕ) → g.left_since new (g.clock synced) image → IsOpening (g.reads old) image
 
 -- The file is the journal of so many bodies, those to which it opened, and each image is what is read.
 pub record OpenedTo {D : Type 0} (g : Ghosts D) (old new : D) (count : ℕ) : Type 0 where

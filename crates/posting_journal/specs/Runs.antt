@@ -17,7 +17,8 @@ abbrev pub TornOf : {D : Type 0} → Ghosts D → D → ℕ → ℕ → List ℕ
 TornOf g old at many image = (earlier : List ℕ) × g.may_leave old earlier × Torn at many earlier image
 
 -- a write that was made safe, or failed
-pub record PutsOn {D T E : Type 0} (g : Ghosts D) (old new : D) (at : ℕ) (bytes : List ℕ) (result : Result T E) : Type 0 where
+pub record PutsOn {D T E : Type 0} (g : Ghosts D) (old new : D) (at : ℕ) (bytes : List ℕ)
+    (result : Result T E) : Type 0 where
   pub facts : Writes at bytes result (g.reads old) (g.reads new) (g.may_leave old) (g.may_leave new)
   pub durable : OnOk result (Only (g.reads new) (g.may_leave new))
   pub time : Passes g old new (TornOf g old at (length bytes))

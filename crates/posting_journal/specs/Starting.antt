@@ -11,10 +11,10 @@ use Rattle.posting_journal.specs.declared.faults.JournalCause.{JournalCause}
 use Rattle.posting_journal.specs.declared.faults.JournalCause.TheVariants.{DiskFault, NotAJournal, BadRecord}
 use Rattle.posting_journal.specs.declared.journal.Journal.{Journal}
 
--- A fault of the disk has its count, which rose.
-abbrev pub HasRisen : ℕ → ℕ → JournalCause → Type 0
-HasRisen before now (DiskFault count) = (count ≡ now) × Rose before now
-HasRisen before now cause = Unit {0}
+-- A fault of the disk has its count, which rose. Any other cause leaves the count.
+abbrev pub TellsCause : ℕ → ℕ → JournalCause → Type 0
+TellsCause before now (DiskFault count) = (count ≡ now) × Rose before now
+TellsCause before now cause = now ≡ before
 
 -- what the bytes show of a refused file
 abbrev pub IsShown : List ℕ → JournalCause → Type 0

@@ -21,19 +21,22 @@ IsKept true bodies faulted bytes = IsJournal bytes bodies
 IsKept false bodies faulted bytes = IsStaged bytes bodies faulted
 
 -- The journal is that of these bodies, on an honest disk: in what is read and in each image that a crash may leave.
-pub record StandsFor {D : Type 0} {g : Ghosts D} (journal : Journal D g) (bodies : List (List ℕ)) (faulted : List ℕ) : Type 0 where
+pub record StandsFor {D : Type 0} {g : Ghosts D} (journal : Journal D g) (bodies : List (List ℕ))
+    (faulted : List ℕ) : Type 0 where
   pub count : journal.count ≡ length bodies
   pub reads : IsKept journal.clean bodies faulted (g.reads journal.disk)
   pub images : (image : List ℕ) → g.may_leave journal.disk image → IsKept journal.clean bodies faulted image
 
 -- A clean journal with these bodies, whose next body was written behind its last gate, and made safe or failed.
-pub record StagesOn {D T E : Type 0} {g : Ghosts D} (old new : Journal D g) (bodies : List (List ℕ)) (body : List ℕ) (result : Result T E) : Type 0 where
+pub record StagesOn {D T E : Type 0} {g : Ghosts D} (old new : Journal D g) (bodies : List (List ℕ)) (body : List ℕ)
+    (result : Result T E) : Type 0 where
   pub stands : StandsFor new bodies body
   pub staged : OnOk result (IsStaged (g.reads new.disk) bodies body × IsSafe g new.disk)
   pub moments : Leaves g old.disk new.disk (λ image. IsJournal image bodies)
 
 -- A journal whose staged body was acknowledged, or may be there.
-pub record AcknowledgesOn {D T E : Type 0} {g : Ghosts D} (old new : Journal D g) (bodies : List (List ℕ)) (body : List ℕ) (result : Result T E) : Type 0 where
+pub record AcknowledgesOn {D T E : Type 0} {g : Ghosts D} (old new : Journal D g) (bodies : List (List ℕ))
+    (body : List ℕ) (result : Result T E) : Type 0 where
   pub done : OnOk result (StandsFor new (bodies ++ body ∷ []) [] × IsSafe g new.disk)
   pub failed : OnErr result (StandsFor new bodies body)
   pub moments : Leaves g old.disk new.disk (IsBeforeOrAfter bodies body)

@@ -1,5 +1,5 @@
 -- What is known while the records of a file are counted, and where it isn't opened.
-use Rattle.std.specs.Prelude.{◌≡◌, ℕ, ◌<◌, ◌≤◌, List, slice_index, Result, IsErrOf, OnOk}
+use Rattle.std.specs.Prelude.{◌≡◌, ℕ, ◌<◌, ◌≤◌, List, slice_index, Result, IfErr, OnOk}
 use Rattle.outside_io.specs.Faults.{Rose}
 use Rattle.posting_journal.specs.Layout.{gate_of}
 use Rattle.posting_journal.specs.Files.{IsClosed}
@@ -7,10 +7,14 @@ use Rattle.posting_journal.specs.Creation.{CannotStand, IsForeign, IsBadAt}
 use Rattle.posting_journal.specs.declared.faults.Unopened.{Unopened}
 use Rattle.posting_journal.specs.declared.faults.Unopened.TheVariants.{Unread, NotAJournal, BadRecord}
 
--- unread only where the count rose, and an Ok leaves it
+-- an unread file is one where the count rose; any other cause leaves the count
+abbrev pub TellsCount : ℕ → ℕ → Unopened → Type 0
+TellsCount before now Unread = Rose before now
+TellsCount before now cause = now ≡ before
+
 pub record HasUnopenedCause {T : Type 0} (before now : ℕ) (result : Result T Unopened) : Type 0 where
   pub later : before ≤ now
-  pub unread : IsErrOf result Unread → Rose before now
+  pub failed : IfErr result (TellsCount before now)
   pub succeeded : OnOk result (now ≡ before)
 
 -- the gates before that of record n are open, and their records stand

@@ -34,13 +34,17 @@ impl<D: Disk> Journal<D> {
         ensures clean { is_clean self.new ≡ is_clean self.old }
         ensures later { D.count (disk_of self.old) ≤ D.count (disk_of self.new) }
         ensures quiet { OnOk result (D.count (disk_of self.new) ≡ D.count (disk_of self.old)) }
-        ensures fault { IfErr result (λ fault. (fault.count ≡ D.count (disk_of self.new)) × Rose (D.count (disk_of self.old)) (D.count (disk_of self.new))) }
+        ensures fault { IfErr result (λ fault. (fault.count ≡ D.count (disk_of self.new))
+            × Rose (D.count (disk_of self.old)) (D.count (disk_of self.new))) }
         ensures honesty { (D.honest (disk_of self.old)) ↔ (D.honest (disk_of self.new)) }
         ensures unwritten { D.honest (disk_of self.old) → LooksOn D.Disk (disk_of self.old) (disk_of self.new) }
-        ensures read { D.honest (disk_of self.old) → IfOk result (λ body. body ≡ take 64 (drop (body_of n) (D.reads (disk_of self.old)))) }
-        ensures nth { (bodies : List (List ℕ)) (faulted : List ℕ) → D.honest (disk_of self.old) → StandsFor self.old bodies faulted
+        ensures read { D.honest (disk_of self.old)
+            → IfOk result (λ body. body ≡ take 64 (drop (body_of n) (D.reads (disk_of self.old)))) }
+        ensures nth { (bodies : List (List ℕ)) (faulted : List ℕ) → D.honest (disk_of self.old)
+            → StandsFor self.old bodies faulted
             → IfOk result (λ body. body ≡ slice_index_or bodies n []) }
-        ensures stands { (bodies : List (List ℕ)) (faulted : List ℕ) → D.honest (disk_of self.old) → StandsFor self.old bodies faulted
+        ensures stands { (bodies : List (List ℕ)) (faulted : List ℕ) → D.honest (disk_of self.old)
+            → StandsFor self.old bodies faulted
             → StandsFor self.new bodies faulted }
     {
         let mut body = [0; 64];
@@ -58,14 +62,18 @@ impl<D: Disk> Journal<D> {
         ensures clean { OnOk result (IsTrue (is_clean self.new)) }
         ensures later { D.count (disk_of self.old) ≤ D.count (disk_of self.new) }
         ensures quiet { OnOk result (D.count (disk_of self.new) ≡ D.count (disk_of self.old)) }
-        ensures fault { IfErr result (λ fault. (fault.count ≡ D.count (disk_of self.new)) × Rose (D.count (disk_of self.old)) (D.count (disk_of self.new))) }
+        ensures fault { IfErr result (λ fault. (fault.count ≡ D.count (disk_of self.new))
+            × Rose (D.count (disk_of self.old)) (D.count (disk_of self.new))) }
         ensures honesty { (D.honest (disk_of self.old)) ↔ (D.honest (disk_of self.new)) }
-        ensures acknowledged { (bodies : List (List ℕ)) (faulted : List ℕ) → D.honest (disk_of self.old) → StandsFor self.old bodies faulted
+        ensures acknowledged { (bodies : List (List ℕ)) (faulted : List ℕ) → D.honest (disk_of self.old)
+            → StandsFor self.old bodies faulted
             → OnOk result (StandsFor self.new (bodies ++ body.now ∷ []) [] × IsSafe D.Disk (disk_of self.new)) }
-        ensures faulted { (bodies : List (List ℕ)) (faulted : List ℕ) → D.honest (disk_of self.old) → StandsFor self.old bodies faulted
+        ensures faulted { (bodies : List (List ℕ)) (faulted : List ℕ) → D.honest (disk_of self.old)
+            → StandsFor self.old bodies faulted
             → OnErr result (StandsFor self.new bodies body.now) }
         // A crash at any moment of the call leaves the bodies from before it, or those and the new one.
-        ensures moments { (bodies : List (List ℕ)) (faulted : List ℕ) → D.honest (disk_of self.old) → StandsFor self.old bodies faulted
+        ensures moments { (bodies : List (List ℕ)) (faulted : List ℕ) → D.honest (disk_of self.old)
+            → StandsFor self.old bodies faulted
             → Leaves D.Disk (disk_of self.old) (disk_of self.new) (IsBeforeOrAfter bodies body.now) }
     {
         let staged = self.stage(body);
@@ -82,14 +90,18 @@ impl<D: Disk> Journal<D> {
         ensures clean { is_clean self.new ≡ is_ok result }
         ensures later { D.count (disk_of self.old) ≤ D.count (disk_of self.new) }
         ensures quiet { OnOk result (D.count (disk_of self.new) ≡ D.count (disk_of self.old)) }
-        ensures fault { IfErr result (λ fault. (fault.count ≡ D.count (disk_of self.new)) × Rose (D.count (disk_of self.old)) (D.count (disk_of self.new))) }
+        ensures fault { IfErr result (λ fault. (fault.count ≡ D.count (disk_of self.new))
+            × Rose (D.count (disk_of self.old)) (D.count (disk_of self.new))) }
         ensures honesty { (D.honest (disk_of self.old)) ↔ (D.honest (disk_of self.new)) }
-        ensures repaired { (bodies : List (List ℕ)) (faulted : List ℕ) → D.honest (disk_of self.old) → StandsFor self.old bodies faulted
+        ensures repaired { (bodies : List (List ℕ)) (faulted : List ℕ) → D.honest (disk_of self.old)
+            → StandsFor self.old bodies faulted
             → OnOk result (StandsFor self.new bodies [] × IsSafe D.Disk (disk_of self.new)) }
-        ensures faulted { (bodies : List (List ℕ)) (faulted : List ℕ) → D.honest (disk_of self.old) → StandsFor self.old bodies faulted
+        ensures faulted { (bodies : List (List ℕ)) (faulted : List ℕ) → D.honest (disk_of self.old)
+            → StandsFor self.old bodies faulted
             → OnErr result (StandsFor self.new bodies faulted) }
         // A crash at any moment of the call leaves the bodies, or those and the one of the fault.
-        ensures moments { (bodies : List (List ℕ)) (faulted : List ℕ) → D.honest (disk_of self.old) → StandsFor self.old bodies faulted
+        ensures moments { (bodies : List (List ℕ)) (faulted : List ℕ) → D.honest (disk_of self.old)
+            → StandsFor self.old bodies faulted
             → Leaves D.Disk (disk_of self.old) (disk_of self.new) (IsBeforeOrAfter bodies faulted) }
     {
         match put(&mut self.disk, gate_place(self.count), &[CLOSED]) {
@@ -123,8 +135,10 @@ impl<D: Disk> Journal<D> {
         ensures clean { IsTrue (is_clean self.new) }
         ensures cause { HasDiskCause (D.count (disk_of self.old)) (D.count (disk_of self.new)) result }
         ensures honesty { (D.honest (disk_of self.old)) ↔ (D.honest (disk_of self.new)) }
-        ensures next { D.honest (disk_of self.old) → OnOk result (gate_of ((count_of self.new) + 1) < length (D.reads (disk_of self.new))) }
-        ensures stages { (bodies : List (List ℕ)) (faulted : List ℕ) → D.honest (disk_of self.old) → StandsFor self.old bodies faulted
+        ensures next { D.honest (disk_of self.old)
+            → OnOk result (gate_of ((count_of self.new) + 1) < length (D.reads (disk_of self.new))) }
+        ensures stages { (bodies : List (List ℕ)) (faulted : List ℕ) → D.honest (disk_of self.old)
+            → StandsFor self.old bodies faulted
             → StagesOn self.old self.new bodies body.now result }
     {
         let record = staged_record(body);
@@ -134,12 +148,14 @@ impl<D: Disk> Journal<D> {
     // Opens the gate before a staged body.
     fn acknowledge(&mut self) -> Result<(), Failed>
         requires room { count_of self.old < 4000000 }
-        requires next { D.honest (disk_of self.old) → gate_of ((count_of self.old) + 1) < length (D.reads (disk_of self.old)) }
+        requires next { D.honest (disk_of self.old)
+            → gate_of ((count_of self.old) + 1) < length (D.reads (disk_of self.old)) }
         ensures count { count_of self.new ≡ (if is_ok result then (count_of self.old) + 1 else (count_of self.old)) }
         ensures clean { is_clean self.new ≡ is_ok result }
         ensures cause { HasDiskCause (D.count (disk_of self.old)) (D.count (disk_of self.new)) result }
         ensures honesty { (D.honest (disk_of self.old)) ↔ (D.honest (disk_of self.new)) }
-        ensures acknowledges { (bodies : List (List ℕ)) (body : List ℕ) → D.honest (disk_of self.old) → (count_of self.old) ≡ length bodies
+        ensures acknowledges { (bodies : List (List ℕ)) (body : List ℕ) → D.honest (disk_of self.old)
+            → (count_of self.old) ≡ length bodies
             → IsStaged (D.reads (disk_of self.old)) bodies body → IsSafe D.Disk (disk_of self.old)
             → AcknowledgesOn self.old self.new bodies body result }
     {
@@ -156,7 +172,8 @@ impl<D: Disk> Journal<D> {
 
     // A fault of the disk, with the count of its faults.
     fn told(&self, done: Result<(), Failed>) -> Result<(), DiskFault>
-        ensures { MatchResult done (λ u. result ≡ Ok u) (λ f. result ≡ Err (record { count = D.count (disk_of self.now) })) }
+        ensures { MatchResult done (λ u. result ≡ Ok u)
+            (λ f. result ≡ Err (record { count = D.count (disk_of self.now) })) }
     {
         match done {
             Ok(()) => Ok(()),

@@ -4,7 +4,8 @@ ghost use Rattle.posting_journal.specs.Creation.{IsForeign, IsBadAt, Opens};
 
 /// A file opens to one list of bodies at most.
 pub fn one_list_of_bodies()
-    ensures { (bytes : List ℕ) (bodies others : List (List ℕ)) → Opens bytes bodies → Opens bytes others → bodies ≡ others }
+    ensures { (bytes : List ℕ) (bodies others : List (List ℕ)) → Opens bytes bodies → Opens bytes others
+        → bodies ≡ others }
 {}
 
 /// A file that is refused opens to no list of bodies, and is refused for one cause.

@@ -22,7 +22,8 @@ pub(crate) fn put<D: Disk>(disk: &mut D, at: u64, bytes: &[u8]) -> Result<(), Fa
 pub(crate) fn make_safe<D: Disk>(disk: &mut D) -> Result<(), Failed>
     ensures cause { HasDiskCause (D.count disk.old) (D.count disk.new) result }
     ensures honesty { (D.honest disk.old) ↔ (D.honest disk.new) }
-    ensures facts { D.honest disk.old → Syncs result (D.reads disk.old) (D.reads disk.new) (D.may_leave disk.old) (D.may_leave disk.new) }
+    ensures facts { D.honest disk.old
+        → Syncs result (D.reads disk.old) (D.reads disk.new) (D.may_leave disk.old) (D.may_leave disk.new) }
     ensures time { D.honest disk.old → Passes D.Disk disk.old disk.new (D.may_leave disk.new) }
 {
     disk.sync()

@@ -35,7 +35,8 @@ fn has_record<D: Disk>(disk: &mut D, size: u64, n: u32) -> Result<bool, Unopened
     ensures cause { HasUnopenedCause (D.count disk.old) (D.count disk.new) result }
     ensures honesty { (D.honest disk.old) ↔ (D.honest disk.new) }
     ensures stands { IfOk result (λ stands. IsTrue stands → (n < 4000000) × (gate_of (n + 1) < size)) }
-    ensures gate { D.honest disk.old → IfOk result (λ stands. IsTrue stands ↔ (slice_index (D.reads disk.old) (gate_of n) ≡ 1)) }
+    ensures gate { D.honest disk.old
+        → IfOk result (λ stands. IsTrue stands ↔ (slice_index (D.reads disk.old) (gate_of n) ≡ 1)) }
     ensures bad { D.honest disk.old → IfErr result (λ cause. CantStand (D.reads disk.old) n cause) }
     ensures unwritten { D.honest disk.old → LooksOn D.Disk disk.old disk.new }
 {

@@ -2,8 +2,8 @@
 ghost use Rattle.std.specs.Prelude.{◌≡◌, ◌↔◌, ◌⊎◌, ℕ, List, IsTrue, IfOk, IfErr, IsErrAnd, MatchResult};
 ghost use Rattle.posting_journal.specs.States.{disk_of, is_clean};
 ghost use Rattle.posting_journal.specs.Opening.{OpensOn};
-ghost use Rattle.posting_journal.specs.Starting.{HasRisen, IsShown, IsRefusal, IsFault, HasOpened};
-ghost use Rattle.posting_journal.specs.Unopened.{ShowsWhy};
+ghost use Rattle.posting_journal.specs.Starting.{TellsCause, IsShown, IsRefusal, IsFault, HasOpened};
+ghost use Rattle.posting_journal.specs.Unopened.{ShowsWhy, TellsCount};
 ghost use Rattle.posting_journal.specs.declared.faults.JournalCause.{JournalCause};
 ghost use Rattle.posting_journal.specs.declared.faults.Unopened.TheVariants.{Unread};
 ghost use Rattle.outside_io.specs.Faults.{Rose};
@@ -17,15 +17,18 @@ impl<D: Disk> Journal<D> {
     /// Opens the journal of the disk, or makes an empty one of an unfinished creation. Over any other file nothing is
     /// written. A disk that fails is given back with its count, which rose in this call.
     pub fn start(disk: D) -> Result<Journal<D>, JournalFault<D>>
-        ensures fault { IfErr result (λ fault. HasRisen (D.count disk) (D.count fault.disk) fault.cause) }
+        ensures told { IfErr result (λ fault. TellsCause (D.count disk) (D.count fault.disk) fault.cause) }
         ensures quiet { IfOk result (λ journal. D.count (disk_of journal) ≡ D.count disk) }
         ensures clean { IfOk result (λ journal. IsTrue (is_clean journal)) }
-        ensures honesty { MatchResult result (λ journal. (D.honest disk) ↔ (D.honest (disk_of journal))) (λ fault. (D.honest disk) ↔ (D.honest fault.disk)) }
+        ensures honesty { MatchResult result (λ journal. (D.honest disk) ↔ (D.honest (disk_of journal)))
+            (λ fault. (D.honest disk) ↔ (D.honest fault.disk)) }
         ensures opened { D.honest disk → IfOk result (λ journal. HasOpened disk journal) }
         ensures refused { D.honest disk → IfErr result (λ fault. IsShown (D.reads disk) fault.cause) }
         ensures due { (cause : JournalCause) → D.honest disk → IsRefusal (D.reads disk) cause
             → IsErrAnd result (λ fault. (fault.cause ≡ cause) ⊎ IsFault fault.cause) }
-        ensures opens { D.honest disk → MatchResult result (λ journal. OpensOn D.Disk disk (disk_of journal)) (λ fault. OpensOn D.Disk disk fault.disk) }
+        ensures opens { D.honest disk
+            → MatchResult result (λ journal. OpensOn D.Disk disk (disk_of journal))
+            (λ fault. OpensOn D.Disk disk fault.disk) }
     {
         let mut disk = disk;
         match open(&mut disk) {
@@ -44,7 +47,7 @@ impl<D: Disk> Journal<D> {
 
 // The same cause, with the count of the disk's faults.
 fn cause_of(unopened: Unopened, count: u64) -> JournalCause
-    ensures risen { (before : ℕ) → (unopened ≡ Unread → Rose before count) → HasRisen before count result }
+    ensures told { (before : ℕ) → TellsCount before count unopened → TellsCause before count result }
     ensures shown { (bytes : List ℕ) → ShowsWhy bytes unopened → IsShown bytes result }
 {
     match unopened {

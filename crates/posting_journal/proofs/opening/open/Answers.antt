@@ -1,6 +1,6 @@
 -- The sync makes safe what the opening stands on.
 use Rattle.posting_journal.specs.Opening.{HasSynced}
-use Rattle.posting_journal.proofs.Opened.{ok_always, opens_at_once, opens_synced}
+use Rattle.posting_journal.proofs.Opened.{ok_always, opens_ever, opens_synced}
 use Rattle.posting_journal.proofs.opening.open.Goals as goal
 
 pub returns-clause-opens : goal.returns-clause-opens
@@ -8,7 +8,7 @@ returns-clause-opens g c = λ honest.
     let old = c.args.disk.now in
     let mid = c.make_safe.new.disk in
     let honest_mid = c.make_safe.ensures.honesty.0 honest in
-    opens_at_once g.D.Disk old mid c.open_safe.new.disk c.make_safe.result (c.make_safe.ensures.facts honest) (c.make_safe.ensures.time honest) (c.open_safe.ensures.moments honest_mid)
+    opens_ever g.D.Disk old mid c.open_safe.new.disk c.make_safe.result (c.make_safe.ensures.facts honest) (c.make_safe.ensures.time honest) (c.open_safe.ensures.moments honest_mid)
     (λ image left. g.met.D.Disk.only_now old image honest left) (c.open_safe.ensures.unwritten honest_mid)
 
 pub returns-clause-synced : goal.returns-clause-synced

@@ -14,3 +14,7 @@ returns-in-Err-clause-due g c = λ cause honest refusal.
 
 pub returns-in-Err-clause-refused : goal.returns-in-Err-clause-refused
 returns-in-Err-clause-refused g c = λ honest. c.cause_of-cause.ensures.shown (g.D.Disk.reads c.args.disk) (c.in-Err.ensures.refused honest)
+
+pub returns-in-Err-clause-told : goal.returns-in-Err-clause-told
+returns-in-Err-clause-told g c =
+    rw c.faults.ensures at c.cause_of-cause.ensures.told (g.D.Disk.count c.args.disk) c.in-Err.ensures.cause.failed
