@@ -1,40 +1,133 @@
 #!/bin/sh
-# The program as a user runs it, through the launcher: a good script, a bad one, an empty one, wrong words, output
-# into a closed pipe and into a full device.
+# The program as a user runs it, through the launcher. Each case has a folder of its own, or goes on in that of the
+# case before, and says what it must print, its status, and what must stand in journal.life afterwards.
 root=$(cd "$(dirname "$0")/../.." && pwd) || exit 2
 work=$(mktemp -d) || exit 2
 trap 'rm -rf "$work"' EXIT
-cd "$work" || exit 2
 failed=0
 
-# what the run printed and its status, beside what they must be
+complain() {
+    echo "program: $name: $1" >&2
+    failed=1
+}
+
+# a case in a new folder
+begin() {
+    name=$1
+    mkdir "$work/$name" && cd "$work/$name" || exit 2
+}
+
+# a case that goes on in the folder of the one before
+go_on() {
+    name=$1
+}
+
+# the status of a run and what it printed, beside what they must be
 judge() {
-    name=$1 wanted_status=$2 wanted=$3 status=$4
-    if [ "$status" != "$wanted_status" ] || ! cmp -s "$wanted" out; then
-        echo "program: $name: status $status, wanted $wanted_status; printed:" >&2
+    if [ "$1" != "$2" ] || ! cmp -s "$3" out; then
+        complain "status $1, wanted $2; printed:"
         cat out >&2
-        failed=1
     fi
 }
 
-"$root/life" run <"$root/examples/first-issues.csv" >out
-judge "good script" 0 "$root/examples/first-issues.transcript" $?
+leaves() {
+    cmp -s "$1" journal.life || complain "journal.life isn't as it must be"
+}
+
+leaves_none() {
+    [ ! -e journal.life ] || complain "a journal was made"
+}
+
+first=$root/examples/first-issues
+second=$root/examples/second-day
+nothing=$work/nothing
+empty=$work/empty
+front=$work/front
+one_day=$work/one-day
+: >"$nothing"
+# a journal without records, and the front of one with policy 7001, by hand from docs/FORMATS.md
+printf '\001LIFEJRNL\000\001\000\100\000\000\000\000\000' >"$empty"
+{
+    head -c 17 "$empty"
+    printf '\001\001\003\000\003\000\000\033\131\000\000\107\126'
+    printf '\000\000\000\000\000\001\206\240\000\000\000\000\000\000\234\100'
+    head -c 36 /dev/zero
+} >"$front"
+
+begin "good script"
+"$root/life" run <"$first.csv" >out
+judge $? 0 "$first.transcript"
+head -c 82 journal.life | cmp -s - "$front" || complain "the first record isn't that of policy 7001"
+[ "$(wc -c <journal.life)" -eq $((18 + 4 * 65)) ] || complain "there aren't four records"
+cp journal.life "$one_day"
+
+go_on "second day"
+"$root/life" run <"$second.csv" >out
+judge $? 0 "$second.transcript"
+[ "$(wc -c <journal.life)" -eq $((18 + 5 * 65)) ] || complain "there aren't five records"
+
+begin "empty script"
+"$root/life" run </dev/null >out
+judge $? 0 "$nothing"
+leaves "$empty"
+
+begin "unfinished creation"
+head -c 10 /dev/zero >journal.life
+"$root/life" run </dev/null >out
+judge $? 0 "$nothing"
+leaves "$empty"
+
+begin "foreign file"
+printf 'AAAAAAAAAAAAAAAAAA' >foreign
+cp foreign journal.life
+echo "badjournal,notajournal" >wanted
+"$root/life" run <"$first.csv" >out
+judge $? 5 wanted
+leaves foreign
+
+begin "bad record"
+{
+    head -c 18 "$one_day"
+    printf '\011'
+    tail -c +20 "$one_day"
+} >bad
+cp bad journal.life
+echo "badjournal,badrecord,0" >wanted
+"$root/life" run <"$second.csv" >out
+judge $? 5 wanted
+leaves bad
+
+begin "journal.life is a folder"
+mkdir journal.life
+echo "diskfault" >wanted
+"$root/life" run <"$first.csv" >out
+judge $? 8 wanted
+
+begin "bad day"
 echo "badscript,2,4" >wanted
 "$root/life" run <"$root/examples/bad-day.csv" >out
-judge "bad day" 3 wanted $?
-: >wanted
-"$root/life" run </dev/null >out
-judge "empty script" 0 wanted $?
+judge $? 3 wanted
+leaves_none
+
+begin "wrong words"
 echo "usage" >wanted
-"$root/life" --help </dev/null >out
-judge "wrong words" 2 wanted $?
-: >wanted
+"$root/life" --help <"$first.csv" >out
+judge $? 2 wanted
+leaves_none
+
+# the output fails after the postings, which stand
+begin "full device"
 : >out
-"$root/life" run <"$root/examples/first-issues.csv" >/dev/full
-judge "full device" 7 wanted $?
+"$root/life" run <"$first.csv" >/dev/full
+judge $? 7 "$nothing"
+leaves "$one_day"
+
+begin "closed pipe"
+: >out
 # the pipe's reader has ended long before the program writes
-{ sleep 2; "$root/life" run <"$root/examples/first-issues.csv"; echo $? >status; } | :
-judge "closed pipe" 7 wanted "$(cat status)"
-[ -e journal.life ] && { echo "program: a journal was made" >&2; failed=1; }
+{ sleep 2; "$root/life" run <"$first.csv"; echo $? >status; } | :
+judge "$(cat status)" 7 "$nothing"
+leaves "$one_day"
+
 [ "$failed" = 0 ] && echo "program: the program runs as a user runs it"
 exit "$failed"

@@ -1,81 +1,42 @@
 -- The exit status tells how the program ended
 use Rattle.std.proofs.Common.{◌≡◌, ℕ, ◌==◌, ◌≤◌, ◌⊎◌, ◌↔◌, List, length, refl, ap, sym, ◌∙◌, subst, inl, inr, Option, Some, String, Global, arith, if◌then◌else◌, codes}
 use Rattle.std.specs.Prelude.{IfSome}
+use Rattle.outside_io.specs.declared.disks.Disk.{Ghosts}
 use Rattle.outside_io.specs.Faults.{Rose}
+use Rattle.policy_types.specs.declared.command.Command.{Command}
+use Rattle.policy_types.specs.declared.entry.Entry.{Entry}
 use Rattle.policy_types.specs.declared.script.Lane.{Lane}
 use Rattle.command_csv.specs.Reads.{Reads}
 use Rattle.command_csv.proofs.Faults.{fault_excludes}
 use Rattle.life_app.specs.declared.ending.Ending.{Ending}
-use Rattle.life_app.specs.declared.ending.Ending.TheVariants.{Done, Usage, BadScript, ReadFault as InputFault, WriteFault, NoMemory}
-use Rattle.life_app.specs.Books.{opened_on}
-use Rattle.life_app.specs.Outcome.{EndsRun, IsRefused, Obeys, Stream, WroteLine}
+use Rattle.life_app.specs.declared.ending.Ending.TheVariants.{Done, Usage, BadScript, BadJournal, ReadFault as InputFault, WriteFault, DiskFault, NoMemory}
+use Rattle.life_app.specs.declared.opening.Cause.{Cause}
+use Rattle.life_app.specs.declared.opening.Cause.TheVariants.{DiskFault as FaultyDisk, NotAJournal, BadRecord, NoMemory as NoRoom}
+use Rattle.life_app.specs.Journals.{IsOfTheFile, Opens, OpensToNone}
+use Rattle.life_app.specs.Outcome.{EndsRun, SaysWhy, IsRefused, IsRefusedJournal, IsRun, Obeys}
+use Rattle.life_app.specs.Writing.{Stream, WroteLine}
 use Rattle.life_app.specs.Status.{status_of}
 use Rattle.life_app.specs.Words.{AreRunWords}
+use Rattle.life_app.proofs.JournalLaws.{shown_opens_to_none}
 
 abbrev ending_of : ℕ → Ending
 ending_of n =
-    if n == 0 then Done else if n == 2 then Usage else if n == 3 then BadScript
-    else if n == 6 then InputFault else if n == 7 then WriteFault else NoMemory
+    if n == 0 then Done else if n == 2 then Usage else if n == 3 then BadScript else if n == 5 then BadJournal
+    else if n == 6 then InputFault else if n == 7 then WriteFault else if n == 8 then DiskFault else NoMemory
 
 ending_of-status_of : (ending : Ending) → ending_of (status_of ending) ≡ ending
 ending_of-status_of Done = refl
 ending_of-status_of Usage = refl
 ending_of-status_of BadScript = refl
+ending_of-status_of BadJournal = refl
 ending_of-status_of InputFault = refl
 ending_of-status_of WriteFault = refl
+ending_of-status_of DiskFault = refl
 ending_of-status_of NoMemory = refl
 
 same_ending : (ending other : Ending) → status_of ending ≡ status_of other → ending ≡ other
 same_ending ending other same =
     sym (ending_of-status_of ending) ∙ ap ending_of same ∙ ending_of-status_of other
-
--- a status but that of a faulty command line tells how a run ended
-pub ends_with : (words : List (String Global)) (input output : Stream) (InputStays : Type 0) (faults : ℕ) (ending : Ending)
-    → Obeys words input output InputStays faults ending → (other : Ending) → (other ≡ Usage → ⊥)
-    → status_of ending ≡ status_of other → EndsRun input output (opened_on faults) other
-ends_with words input output InputStays faults ending obeys other not_usage same =
-    let is_other = same_ending ending other same in
-    elim obeys [
-      | inl ran ↦ subst (λ (e : Ending). EndsRun input output (opened_on faults) e) is_other ran.1
-      | inr refused ↦ absurd (not_usage (sym is_other ∙ refused.1))
-    ]
-
-no_run_is_usage : (words : List (String Global)) (input output : Stream) (InputStays : Type 0) (faults : ℕ) (ending : Ending)
-    → Obeys words input output InputStays faults ending → status_of ending ≡ 2 → AreRunWords words → ⊥
-no_run_is_usage words input output InputStays faults ending obeys status run =
-    elim obeys [
-      | inl ran ↦ subst (λ (e : Ending). EndsRun input output (opened_on faults) e) (same_ending ending Usage status) ran.1
-      | inr refused ↦ refused.0 run
-    ]
-
-pub usage_exactly : (words : List (String Global)) (input output : Stream) (InputStays : Type 0) (faults : ℕ) (ending : Ending)
-    → Obeys words input output InputStays faults ending → (status_of ending ≡ 2) ↔ (AreRunWords words → ⊥)
-usage_exactly words input output InputStays faults ending obeys = (
-  no_run_is_usage words input output InputStays faults ending obeys,
-  λ (not_run : AreRunWords words → ⊥). elim obeys [
-    | inl ran ↦ absurd (not_run ran.0)
-    | inr refused ↦ ap status_of refused.1
-  ],
-)
-
-pub command_exactly : (words : List (String Global)) (input output : Stream) (InputStays : Type 0) (faults : ℕ) (ending : Ending)
-    → Obeys words input output InputStays faults ending → (status_of ending ≡ 2 → ⊥) ↔ AreRunWords words
-command_exactly words input output InputStays faults ending obeys = (
-  λ (other : status_of ending ≡ 2 → ⊥). elim obeys [
-    | inl ran ↦ ran.0
-    | inr refused ↦ absurd (other (ap status_of refused.1))
-  ],
-  λ (run : AreRunWords words) (status : status_of ending ≡ 2).
-      no_run_is_usage words input output InputStays faults ending obeys status run,
-)
-
-pub usage_line : (words : List (String Global)) (input output : Stream) (InputStays : Type 0) (faults : ℕ) (ending : Ending)
-    → Obeys words input output InputStays faults ending → status_of ending ≡ 2 → InputStays × WroteLine output (codes "usage")
-usage_line words input output InputStays faults ending obeys status =
-    elim obeys [
-      | inl ran ↦ absurd (subst (λ (e : Ending). EndsRun input output (opened_on faults) e) (same_ending ending Usage status) ran.1)
-      | inr refused ↦ (refused.2, refused.3)
-    ]
 
 -- no script is refused that can be read
 not_refused : (bytes : List ℕ) (lanes : List Lane) (output : Stream) → length bytes ≤ 16777216 → Reads bytes lanes
@@ -85,26 +46,143 @@ not_refused bytes lanes output short reads refused = elim refused [
   | inr fault ↦ fault_excludes bytes fault.0 fault.1.0 lanes fault.1.2 reads
 ]
 
-ran_to_end : (input output : Stream) (faults : ℕ) (ending : Ending) (bytes : List ℕ) (lanes : List Lane)
-    → EndsRun input output (opened_on faults) ending → input.before ≡ Some bytes → length bytes ≤ 16777216 → Reads bytes lanes
-    → (Rose input.faults_before input.faults_after → ⊥) → (Rose output.faults_before output.faults_after → ⊥)
-    → (status_of ending ≡ 0) ⊎ (status_of ending ≡ 9)
-ran_to_end input output faults Done bytes lanes ends told short reads input_held output_held = inl refl
-ran_to_end input output faults NoMemory bytes lanes ends told short reads input_held output_held = inr refl
-ran_to_end input output faults Usage bytes lanes ends told short reads input_held output_held = absurd ends
-ran_to_end input output faults InputFault bytes lanes ends told short reads input_held output_held = absurd (input_held ends.0)
-ran_to_end input output faults WriteFault bytes lanes ends told short reads input_held output_held = absurd (output_held ends.1)
-ran_to_end input output faults BadScript bytes lanes ends told short reads input_held output_held =
-    absurd (not_refused bytes lanes output short reads
-    (subst (λ (t : Option (List ℕ)). IfSome t (λ b. IsRefused b output)) told ends))
+-- a file is refused as a journal for what its bytes are
+of_the_file : (cause : Cause) (output : Stream) → SaysWhy cause output → IsOfTheFile cause
+of_the_file NotAJournal output said = tt
+of_the_file (BadRecord n) output said = tt
+of_the_file FaultyDisk output said = said
+of_the_file NoRoom output said = said
 
-pub complete : (words : List (String Global)) (input output : Stream) (InputStays : Type 0) (faults : ℕ) (ending : Ending)
-    → Obeys words input output InputStays faults ending → (bytes : List ℕ) (lanes : List Lane) → AreRunWords words
-    → input.before ≡ Some bytes → length bytes ≤ 16777216 → Reads bytes lanes
-    → (Rose input.faults_before input.faults_after → ⊥) → (Rose output.faults_before output.faults_after → ⊥)
-    → (status_of ending ≡ 0) ⊎ (status_of ending ≡ 9)
-complete words input output InputStays faults ending obeys bytes lanes run told short reads input_held output_held =
-    elim obeys [
-      | inl ran ↦ ran_to_end input output faults ending bytes lanes ran.1 told short reads input_held output_held
-      | inr refused ↦ absurd (refused.0 run)
+module _ {D : Type 0} (g : Ghosts D) (old new : D) where
+  -- and then it opens to no commands
+  opens_to_none : (output : Stream) → IsRefusedJournal g old new output → g.honest old → OpensToNone (g.reads old)
+  opens_to_none output refused honest =
+      shown_opens_to_none (g.reads old) refused.cause (of_the_file refused.cause output refused.line) (refused.shown honest)
+
+  -- no run goes on over a file that opens to none
+  ran_nowhere : {A : Type 0} (script : Option (List ℕ)) (Wrote : List ℕ → Type 0) (Replies : List Entry → Type 0)
+      → IsRun g old new script Wrote Replies → g.honest old → OpensToNone (g.reads old) → A
+  ran_nowhere script Wrote Replies ran honest none = absurd (none ran.run.commands (ran.run.opened honest))
+
+  reads_as_before : (input output : Stream) (ending : Ending) → EndsRun g old new input output ending
+      → g.honest old → OpensToNone (g.reads old) → g.reads new ≡ g.reads old
+  reads_as_before input output Done ends honest none = ran_nowhere _ _ _ ends.1 honest none
+  reads_as_before input output Usage ends honest none = absurd ends
+  reads_as_before input output BadScript ends honest none = ap g.reads ends.0
+  reads_as_before input output BadJournal ends honest none = ends.1.alone.reads honest none
+  reads_as_before input output InputFault ends honest none = ap g.reads ends.0
+  reads_as_before input output WriteFault ends honest none = ran_nowhere _ _ _ ends.2 honest none
+  reads_as_before input output DiskFault ends honest none = elim ends.2 [
+    | inl said ↦ said.1.reads honest none
+    | inr ran ↦ ran_nowhere _ _ _ ran honest none
+  ]
+  reads_as_before input output NoMemory ends honest none = elim ends [
+    | inl said ↦ elim said.1 [ inl same ↦ ap g.reads same | inr alone ↦ alone.0.reads honest none ]
+    | inr ran ↦ ran_nowhere _ _ _ ran honest none
+  ]
+
+  module _ (words : List (String Global)) (input output : Stream) (InputStays : Type 0) (ending : Ending)
+      (obeys : Obeys g old new words input output InputStays ending) where
+    -- a status but that of a faulty command line tells how a run ended
+    pub ends_with : (other : Ending) → (other ≡ Usage → ⊥) → status_of ending ≡ status_of other → EndsRun g old new input output other
+    ends_with other not_usage same =
+        let is_other = same_ending ending other same in
+        elim obeys [
+          | inl ran ↦ subst (λ (e : Ending). EndsRun g old new input output e) is_other ran.1
+          | inr refused ↦ absurd (not_usage (sym is_other ∙ refused.1))
+        ]
+
+    no_run_is_usage : status_of ending ≡ 2 → AreRunWords words → ⊥
+    no_run_is_usage status run =
+        elim obeys [
+          | inl ran ↦ subst (λ (e : Ending). EndsRun g old new input output e) (same_ending ending Usage status) ran.1
+          | inr refused ↦ refused.0 run
+        ]
+
+    pub usage_exactly : (status_of ending ≡ 2) ↔ (AreRunWords words → ⊥)
+    usage_exactly = (
+      no_run_is_usage,
+      λ (not_run : AreRunWords words → ⊥). elim obeys [
+        | inl ran ↦ absurd (not_run ran.0)
+        | inr refused ↦ ap status_of refused.1
+      ],
+    )
+
+    pub command_exactly : (status_of ending ≡ 2 → ⊥) ↔ AreRunWords words
+    command_exactly = (
+      λ (other : status_of ending ≡ 2 → ⊥). elim obeys [
+        | inl ran ↦ ran.0
+        | inr refused ↦ absurd (other (ap status_of refused.1))
+      ],
+      λ (run : AreRunWords words) (status : status_of ending ≡ 2). no_run_is_usage status run,
+    )
+
+    pub usage_line : status_of ending ≡ 2 → (new ≡ old) × InputStays × WroteLine output (codes "usage")
+    usage_line status =
+        elim obeys [
+          | inl ran ↦ absurd (subst (λ (e : Ending). EndsRun g old new input output e) (same_ending ending Usage status) ran.1)
+          | inr refused ↦ (refused.2, refused.3, refused.4)
+        ]
+
+    pub unopened : g.honest old → OpensToNone (g.reads old) → g.reads new ≡ g.reads old
+    unopened honest none = elim obeys [
+      | inl ran ↦ reads_as_before input output ending ran.1 honest none
+      | inr refused ↦ ap g.reads refused.2
     ]
+
+  -- the endings of a run whose script can be read
+  ran_to_end : (input output : Stream) (ending : Ending) (bytes : List ℕ) (lanes : List Lane) (commands : List Command)
+      → EndsRun g old new input output ending → input.before ≡ Some bytes → length bytes ≤ 16777216 → Reads bytes lanes
+      → g.honest old → Opens (g.reads old) commands → (Rose input.faults_before input.faults_after → ⊥)
+      → (Rose output.faults_before output.faults_after → ⊥) → (Rose (g.count old) (g.count new) → ⊥)
+      → (status_of ending ≡ 0) ⊎ (status_of ending ≡ 9)
+  ran_to_end input output Done bytes lanes commands ends told short reads honest opens input_held output_held disk_held = inl refl
+  ran_to_end input output NoMemory bytes lanes commands ends told short reads honest opens input_held output_held disk_held = inr refl
+  ran_to_end input output Usage bytes lanes commands ends told short reads honest opens input_held output_held disk_held = absurd ends
+  ran_to_end input output InputFault bytes lanes commands ends told short reads honest opens input_held output_held disk_held =
+      absurd (input_held ends.1)
+  ran_to_end input output WriteFault bytes lanes commands ends told short reads honest opens input_held output_held disk_held =
+      absurd (output_held ends.1)
+  ran_to_end input output DiskFault bytes lanes commands ends told short reads honest opens input_held output_held disk_held =
+      absurd (disk_held ends.1)
+  ran_to_end input output BadJournal bytes lanes commands ends told short reads honest opens input_held output_held disk_held =
+      absurd (opens_to_none output ends.1 honest commands opens)
+  ran_to_end input output BadScript bytes lanes commands ends told short reads honest opens input_held output_held disk_held =
+      absurd (not_refused bytes lanes output short reads (subst (λ (t : Option (List ℕ)). IfSome t (λ b. IsRefused b output)) told ends.1))
+
+  refused_at_opening : (input output : Stream) (ending : Ending) (bytes : List ℕ) (lanes : List Lane)
+      → EndsRun g old new input output ending → input.before ≡ Some bytes → length bytes ≤ 16777216 → Reads bytes lanes
+      → g.honest old → OpensToNone (g.reads old) → (Rose input.faults_before input.faults_after → ⊥)
+      → (Rose (g.count old) (g.count new) → ⊥) → (status_of ending ≡ 5) ⊎ (status_of ending ≡ 9)
+  refused_at_opening input output BadJournal bytes lanes ends told short reads honest none input_held disk_held = inl refl
+  refused_at_opening input output NoMemory bytes lanes ends told short reads honest none input_held disk_held = inr refl
+  refused_at_opening input output Usage bytes lanes ends told short reads honest none input_held disk_held = absurd ends
+  refused_at_opening input output InputFault bytes lanes ends told short reads honest none input_held disk_held = absurd (input_held ends.1)
+  refused_at_opening input output DiskFault bytes lanes ends told short reads honest none input_held disk_held = absurd (disk_held ends.1)
+  refused_at_opening input output Done bytes lanes ends told short reads honest none input_held disk_held = ran_nowhere _ _ _ ends.1 honest none
+  refused_at_opening input output WriteFault bytes lanes ends told short reads honest none input_held disk_held = ran_nowhere _ _ _ ends.2 honest none
+  refused_at_opening input output BadScript bytes lanes ends told short reads honest none input_held disk_held =
+      absurd (not_refused bytes lanes output short reads (subst (λ (t : Option (List ℕ)). IfSome t (λ b. IsRefused b output)) told ends.1))
+
+  module _ (words : List (String Global)) (input output : Stream) (InputStays : Type 0) (ending : Ending)
+      (obeys : Obeys g old new words input output InputStays ending) where
+    pub complete : (bytes : List ℕ) (lanes : List Lane) (commands : List Command) → AreRunWords words
+        → input.before ≡ Some bytes → length bytes ≤ 16777216 → Reads bytes lanes
+        → g.honest old → Opens (g.reads old) commands → (Rose input.faults_before input.faults_after → ⊥)
+        → (Rose output.faults_before output.faults_after → ⊥) → (Rose (g.count old) (g.count new) → ⊥)
+        → (status_of ending ≡ 0) ⊎ (status_of ending ≡ 9)
+    complete bytes lanes commands run told short reads honest opens input_held output_held disk_held =
+        elim obeys [
+          | inl ran ↦ ran_to_end input output ending bytes lanes commands ran.1 told short reads honest opens input_held output_held disk_held
+          | inr refused ↦ absurd (refused.0 run)
+        ]
+
+    pub refused_exactly : (bytes : List ℕ) (lanes : List Lane) → AreRunWords words
+        → input.before ≡ Some bytes → length bytes ≤ 16777216 → Reads bytes lanes
+        → g.honest old → OpensToNone (g.reads old) → (Rose input.faults_before input.faults_after → ⊥)
+        → (Rose (g.count old) (g.count new) → ⊥) → (status_of ending ≡ 5) ⊎ (status_of ending ≡ 9)
+    refused_exactly bytes lanes run told short reads honest none input_held disk_held =
+        elim obeys [
+          | inl ran ↦ refused_at_opening input output ending bytes lanes ran.1 told short reads honest none input_held disk_held
+          | inr refused ↦ absurd (refused.0 run)
+        ]

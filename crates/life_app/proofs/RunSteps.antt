@@ -1,25 +1,57 @@
 -- How a run ends, by what its parts did
-use Rattle.std.proofs.Common.{◌≡◌, ℕ, ◌≤◌, ◌<◌, List, [], length, refl, sym, ◌∙◌, subst, inl, inr, Option, Some, None, append-nil}
-use Rattle.std.specs.Prelude.{IfSome}
-use Rattle.std.specs.List.{flat_map}
+use Rattle.std.proofs.Common.{◌≡◌, ℕ, ◌≤◌, ◌<◌, Bool, true, false, List, [], ◌∷◌, ◌++◌, length, refl, sym, subst, inl, inr, Option, Some, None, append-nil}
+use Rattle.std.specs.Prelude.{IfSome, if◌then◌else◌}
+use Rattle.std.specs.List.{list_any}
 use Rattle.std.specs.Io.KnownBytes.{Appends, IsAtEnd}
 use Rattle.std.proofs.lemmas.List.Elements.{recursion_from_All}
 use Rattle.outside_io.specs.Faults.{Rose}
-use Rattle.policy_types.specs.declared.policy.Policy.{Policy}
+use Rattle.outside_io.specs.declared.disks.Disk.{Ghosts}
 use Rattle.policy_types.specs.declared.script.Line.{Line}
 use Rattle.policy_types.specs.declared.script.Lane.{Lane}
-use Rattle.policy_machine.specs.History.{Opening}
+use Rattle.policy_types.specs.declared.entry.Entry.{Entry}
+use Rattle.policy_machine.specs.History.{Opening, commands_after}
+use Rattle.posting_journal.specs.Files.{IsJournal}
+use Rattle.posting_journal.specs.States.{IsKept, disk_of, is_clean}
+use Rattle.posting_journal.proofs.Written.{staged_either}
+use Rattle.outside_io.specs.Streams.{AppendsPart}
 use Rattle.command_csv.specs.Reads.{IsIssueLine, IsFirstFault, Reads, lane_of}
 use Rattle.command_csv.proofs.Faults.{one_lane}
-use Rattle.life_app.specs.declared.book.Answer.{Answer}
+use Rattle.life_app.specs.declared.office.Answer.{Answer}
 use Rattle.life_app.specs.declared.ending.Ending.{Ending}
-use Rattle.life_app.specs.declared.ending.Ending.TheVariants.{Done, Usage, BadScript, ReadFault as InputFault, WriteFault, NoMemory}
+use Rattle.life_app.specs.declared.ending.Ending.TheVariants.{Done, Usage, BadScript, BadJournal, ReadFault as InputFault, WriteFault, DiskFault, NoMemory}
 use Rattle.life_app.specs.declared.intake.Unread.{Unread}
 use Rattle.life_app.specs.declared.intake.Unread.TheVariants.{TooLong, BadRow, ReadFault, NoMemory as OutOfMemory}
-use Rattle.life_app.specs.Books.{AreLanes, HaveAnswered, opened_on, turns_made}
-use Rattle.life_app.specs.Outcome.{EndsRun, EndsScript, EndsUnread, IsRefused, IsRunOf, Stream, most_script_bytes}
-use Rattle.life_app.proofs.MergeSteps.{all_answered, callers_of, is_legal, is_merge, text_of_turns}
-use Rattle.life_app.proofs.TextSteps.{text_of}
+use Rattle.life_app.specs.declared.office.Office.{Office}
+use Rattle.life_app.specs.Books.{AreLanes, GoesOn, StandsAfter, is_faulted, turns_made}
+use Rattle.life_app.specs.Images.{HoldsNow, HoldsOnce, IsLeftBy}
+use Rattle.life_app.specs.Journals.{bodies_of}
+use Rattle.life_app.specs.declared.opening.Cause.{Cause}
+use Rattle.life_app.specs.declared.opening.Cause.TheVariants.{DiskFault as FaultyDisk, NotAJournal, BadRecord, NoMemory as NoRoom}
+use Rattle.life_app.specs.Opening.{HasNotOpened, HasOpened, opened_on}
+use Rattle.life_app.specs.Outcome.{AreTried, AreAnswered, EndsRun, HaveAFault, IsRefused, IsRunOf, most_script_bytes}
+use Rattle.life_app.specs.Parts.{AnswersAll, EndsLines, EndsScript, EndsUnopened, EndsUnread, lines_text}
+use Rattle.life_app.specs.Writing.{Stream, WroteAll, WroteNothing}
+use Rattle.life_app.proofs.MergeSteps.{all_answered, all_tried, callers_of, has_a_fault, is_merge, text_of_turns}
+use Rattle.life_app.proofs.HistorySteps.{rose_in}
+use Rattle.life_app.proofs.OpeningSteps.{synced_before}
+use Rattle.life_app.proofs.OfficeSteps.{journal_of, journal_of_more}
+
+-- an output that isn't touched had nothing written to it
+pub nothing_written : (told : Option (List ℕ)) → Appends told told []
+nothing_written None = tt
+nothing_written (Some xs) = sym (append-nil xs)
+
+as_answered : (lines : List Line) (answers : List Answer) (output : Stream) (faulted : Bool) → list_any is_faulted answers ≡ faulted
+    → WroteAll output (lines_text lines answers) → EndsLines lines answers output (if faulted then DiskFault else Done)
+as_answered lines answers output true is wrote = (is, wrote)
+as_answered lines answers output false is wrote = (is, wrote)
+
+-- a text that is written whole ends a run by its answers
+pub ends_as_answered : (lines : List Line) (answers : List Answer) (output : Stream) (ending : Ending)
+    → ending ≡ (if list_any is_faulted answers then DiskFault else Done)
+    → WroteAll output (lines_text lines answers) → EndsLines lines answers output ending
+ends_as_answered lines answers output ending is wrote =
+    subst (EndsLines lines answers output) (sym is) (as_answered lines answers output (list_any is_faulted answers) refl wrote)
 
 -- the lanes of a script that was read, and the lines that are shown of them
 pub are_lanes : (lanes : List Lane) (shown : List Line) → (bytes : List ℕ) × Reads bytes lanes
@@ -29,49 +61,107 @@ are_lanes lanes shown read same =
     let shown_is : shown ≡ one.0 = same one.0 one.1 in
     record { one = rw shown_is one.1; issues = rw shown_is one.2 }
 
--- the answers make a run, of which this was written
-pub run_of : (lanes : List Lane) (lines : List Line) (answers : List Answer) (policies : List Policy) (faults : ℕ)
-    (Wrote : List ℕ → Type 0) (text : List ℕ) → AreLanes lanes lines → length answers ≡ length lines
-    → HaveAnswered 1 faults lines answers policies → text ≡ flat_map (text_of 1) (turns_made 1 lines answers)
-    → Wrote text → IsRunOf lanes (opened_on faults) Wrote
-run_of lanes lines answers policies faults Wrote text are each answered is_text wrote =
-    let issues = recursion_from_All IsIssueLine lines are.issues in
-    subst (λ (ls : List Lane). IsRunOf ls (opened_on faults) Wrote) (sym are.one)
-    (record {
-      callers = callers_of lines;
-      dry = [];
-      history = turns_made 1 lines answers;
-      merge = is_merge lines answers issues each;
-      legal = is_legal faults lines answers policies answered;
-      wrote = subst Wrote (is_text ∙ sym (text_of_turns lines answers)) wrote;
-      replied = all_answered 1 lines answers issues;
-    })
+module _ {D : Type 0} {g : Ghosts D} where
+  -- what a crash now leaves, of a journal that holds the commands of a history
+  holds_now : (office : Office D g) (opening : Opening) (history : List Entry) → StandsAfter office opening history
+      → g.honest (disk_of office.journal) → (image : List ℕ) → g.may_leave (disk_of office.journal) image → HoldsNow opening history image
+  holds_now office opening history stands honest image left =
+      let holds = stands.journal honest in
+      by (is_clean office.journal) refl (holds.stands.images image left)
+    where
+      by : (clean : Bool) → is_clean office.journal ≡ clean
+          → IsKept clean (bodies_of (commands_after opening history)) (stands.journal honest).last image → HoldsNow opening history image
+      by true is kept = inl (journal_of image (commands_after opening history) stands.keeps.recordable stands.keeps.accepted kept)
+      by false is kept =
+          let commands = commands_after opening history in
+          let pending = (stands.journal honest).pending is in
+          elim (staged_either (bodies_of commands) (stands.journal honest).last image kept) [
+            | inl old ↦ inl (journal_of image commands stands.keeps.recordable stands.keeps.accepted old)
+            | inr more ↦ inr (
+              pending.0,
+              pending.1,
+              journal_of_more image commands pending.0 stands.keeps.recordable pending.3 pending.4
+                  (subst (λ body. IsJournal image (bodies_of commands ++ body ∷ [])) pending.2 more),
+            )
+          ]
 
--- an output that isn't touched had nothing written to it
-pub nothing_written : (told : Option (List ℕ)) → Appends told told []
-nothing_written None = tt
-nothing_written (Some xs) = sym (append-nil xs)
+  -- the disk that a run leaves
+  pub is_left_by : (old disk : D) (office last : Office D g) (opening : Opening) (history : List Entry) (opened : HasOpened old office)
+      → opening ≡ opened_on opened.commands (g.count old) → GoesOn office last opening [] history → disk ≡ disk_of last.journal
+      → IsLeftBy g old disk opening history
+  is_left_by old disk office last opening history opened is went left =
+      let begun = λ (image : List ℕ) (held : HoldsOnce (opened_on opened.commands (g.count old)) [] image).
+      went.longer image (subst (λ o. HoldsOnce o [] image) (sym is) held) in
+      let since = λ (moment : ℕ) (image : List ℕ) (honest : g.honest old).
+      went.since moment image (opened.honesty.0 honest) in
+      subst (λ d. IsLeftBy g old d opening history) (sym left)
+      (record {
+        honesty = (λ honest. went.honesty.0 (opened.honesty.0 honest), λ honest. opened.honesty.1 (went.honesty.1 honest));
+        faults = went.stands.faults;
+        now = λ honest. holds_now last opening history went.stands (went.honesty.0 (opened.honesty.0 honest));
+        since = λ honest image left. elim (since (g.clock old) image honest (opened.later honest) left) [
+          | inl earlier ↦ elim (opened.since honest image earlier) [ inl before ↦ inl before | inr held ↦ inr (begun image held) ]
+          | inr held ↦ inr held
+        ];
+        synced = λ honest.
+            let mid = opened.synced honest in (
+              mid.0,
+              synced_before g old mid.0 (disk_of office.journal) (disk_of last.journal) mid.1 (went.later (opened.honesty.0 honest)),
+              λ image left. elim (since (g.clock mid.0) image honest mid.1.passed left) [
+                | inl earlier ↦ begun image (mid.2 image earlier)
+                | inr held ↦ held
+              ],
+            );
+      })
 
-told_lanes : (told : Option (List ℕ)) (bytes : List ℕ) (lanes : List Lane) → IfSome told (λ t. t ≡ bytes)
-    → Reads bytes lanes → IfSome told (λ t. Reads t lanes)
-told_lanes None bytes lanes same read = tt
-told_lanes (Some t) bytes lanes same read = subst (λ (b : List ℕ). Reads b lanes) (sym same) read
+  -- the answers make a run, of which this was written
+  run_of : (old disk : D) (office : Office D g) (lanes : List Lane) (lines : List Line) (output : Stream) (ending : Ending)
+      (Wrote : List ℕ → Type 0) (Replies : List Entry → Type 0) (opened : HasOpened old office) → AreLanes lanes lines
+      → (ran : AnswersAll office disk (opened_on opened.commands (g.count old)) lines output ending)
+      → Wrote (lines_text lines ran.answers) → Replies (turns_made 1 lines ran.answers) → IsRunOf g old disk lanes Wrote Replies
+  run_of old disk office lanes lines output ending Wrote Replies opened are ran wrote replies =
+      let issues = recursion_from_All IsIssueLine lines are.issues in
+      subst (λ (ls : List Lane). IsRunOf g old disk ls Wrote Replies) (sym are.one)
+      (record {
+        commands = opened.commands;
+        callers = callers_of lines;
+        dry = [];
+        history = turns_made 1 lines ran.answers;
+        opened = opened.opened;
+        merge = is_merge lines ran.answers issues ran.each;
+        legal = ran.went.stands.legal;
+        wrote = subst Wrote (sym (text_of_turns lines ran.answers)) wrote;
+        replies = replies;
+        disk = is_left_by old disk office ran.last (opened_on opened.commands (g.count old)) (turns_made 1 lines ran.answers) opened refl ran.went ran.left;
+      })
 
--- a run that read its script ends as its script's run does
-pub ends_script : (input output : Stream) (opening : Opening) (lanes : List Lane) (bytes : List ℕ) (ending : Ending)
-    → Reads bytes lanes → IfSome input.before (λ t. t ≡ bytes) → IsAtEnd input.after
-    → EndsScript lanes output opening ending → EndsRun input output opening ending
-ends_script input output opening lanes bytes Done read same end ends =
-    (end, record { lanes = lanes; read = told_lanes input.before bytes lanes same read; run = ends })
-ends_script input output opening lanes bytes WriteFault read same end ends =
-    (end, ends.0, record { lanes = lanes; read = told_lanes input.before bytes lanes same read; run = ends.1 })
-ends_script input output opening lanes bytes NoMemory read same end ends = elim ends [
-  | inl said ↦ inl said
-  | inr run ↦ inr (record { lanes = lanes; read = told_lanes input.before bytes lanes same read; run = run })
-]
-ends_script input output opening lanes bytes Usage read same end ends = absurd ends
-ends_script input output opening lanes bytes BadScript read same end ends = absurd ends
-ends_script input output opening lanes bytes InputFault read same end ends = absurd ends
+  -- so a run whose lines were answered ends as its script's run does
+  pub ends_run : (old disk : D) (office : Office D g) (lanes : List Lane) (lines : List Line) (output : Stream) (ending : Ending)
+      (opened : HasOpened old office) → AreLanes lanes lines
+      → AnswersAll office disk (opened_on opened.commands (g.count old)) lines output ending → EndsScript g old disk lanes output ending
+  ends_run old disk office lanes lines output Done opened are ran =
+      run_of old disk office lanes lines output Done (WroteAll output) AreAnswered opened are ran ran.ends.1
+      (all_answered 1 lines ran.answers (recursion_from_All IsIssueLine lines are.issues) ran.ends.0)
+  ends_run old disk office lanes lines output WriteFault opened are ran = (
+    ran.ends.0,
+    run_of old disk office lanes lines output WriteFault (AppendsPart output.before output.after) AreTried opened are ran ran.ends.1
+        (all_tried 1 lines ran.answers (recursion_from_All IsIssueLine lines are.issues)),
+  )
+  ends_run old disk office lanes lines output DiskFault opened are ran =
+      let issues = recursion_from_All IsIssueLine lines are.issues in
+      let fault = has_a_fault 1 lines ran.answers issues ran.each ran.ends.0 in
+      let run = run_of old disk office lanes lines output DiskFault (WroteAll output) HaveAFault opened are ran ran.ends.1
+      (all_tried 1 lines ran.answers issues, fault) in
+      let rose = rose_in (opened_on opened.commands (g.count old)) (turns_made 1 lines ran.answers) fault.0 (g.count (disk_of ran.last.journal))
+      ran.went.stands.legal.due ran.went.stands.met fault.1 in
+      (rw ran.left rose, inr run)
+  ends_run old disk office lanes lines output NoMemory opened are ran =
+      inr (run_of old disk office lanes lines output NoMemory (WroteNothing output) AreTried opened are ran ran.ends
+      (all_tried 1 lines ran.answers (recursion_from_All IsIssueLine lines are.issues)))
+  ends_run old disk office lanes lines output Usage opened are ran = absurd ran.ends
+  ends_run old disk office lanes lines output BadScript opened are ran = absurd ran.ends
+  ends_run old disk office lanes lines output BadJournal opened are ran = absurd ran.ends
+  ends_run old disk office lanes lines output InputFault opened are ran = absurd ran.ends
 
 refused_long : (told : Option (List ℕ)) (output : Stream) → IfSome told (λ t. most_script_bytes < length t)
     → EndsUnread TooLong output BadScript → IfSome told (λ t. IsRefused t output)
@@ -91,11 +181,48 @@ pub record IsUnread (input : Stream) (unread : Unread) : Type 0 where
       → IfSome input.before (λ t. (length t ≤ most_script_bytes) × IsFirstFault t row field)
   pub fault : unread ≡ ReadFault → Rose input.faults_before input.faults_after
 
-pub ends_unread : (input output : Stream) (opening : Opening) (unread : Unread) (ending : Ending)
-    → IsUnread input unread → EndsUnread unread output ending → EndsRun input output opening ending
-ends_unread input output opening TooLong BadScript is said = refused_long input.before output (is.too_long refl) said
-ends_unread input output opening (BadRow row field) BadScript is said = refused_row input.before output row field (is.bad_row row field refl) said
-ends_unread input output opening (BadRow row field) NoMemory is said = inl said
-ends_unread input output opening ReadFault InputFault is said = (is.fault refl, said)
-ends_unread input output opening OutOfMemory NoMemory is said = inl said
-ends_unread input output opening _ _ is said = absurd said
+told_lanes : (told : Option (List ℕ)) (bytes : List ℕ) (lanes : List Lane) → IfSome told (λ t. t ≡ bytes)
+    → Reads bytes lanes → IfSome told (λ t. Reads t lanes)
+told_lanes None bytes lanes same read = tt
+told_lanes (Some t) bytes lanes same read = subst (λ (b : List ℕ). Reads b lanes) (sym same) read
+
+-- what is known of a disk on which no office was opened gives the ending
+pub ends_unopened : {D : Type 0} (g : Ghosts D) (old new : D) (lanes : List Lane) (output : Stream) (cause : Cause) (ending : Ending)
+    → HasNotOpened g old new cause → EndsUnopened cause output ending → EndsScript g old new lanes output ending
+ends_unopened g old new lanes output FaultyDisk DiskFault not said = (not.told, inl (said, not.alone))
+ends_unopened g old new lanes output NotAJournal BadJournal not said = record { cause = NotAJournal; line = said; shown = not.shown; quiet = not.told; alone = not.alone }
+ends_unopened g old new lanes output (BadRecord n) BadJournal not said = record { cause = BadRecord n; line = said; shown = not.shown; quiet = not.told; alone = not.alone }
+ends_unopened g old new lanes output (BadRecord n) NoMemory not said = inl (said, inr (not.alone, not.told))
+ends_unopened g old new lanes output NoRoom NoMemory not said = inl (said, inr (not.alone, not.told))
+ends_unopened g old new lanes output _ _ not said = absurd said
+
+-- a run that read its script ends as its script's run does
+pub ends_script : {D : Type 0} (g : Ghosts D) (old new : D) (input output : Stream) (lanes : List Lane) (bytes : List ℕ) (ending : Ending)
+    → Reads bytes lanes → IfSome input.before (λ t. t ≡ bytes) → IsAtEnd input.after
+    → EndsScript g old new lanes output ending → EndsRun g old new input output ending
+ends_script g old new input output lanes bytes Done read same end ends =
+    (end, record { lanes = lanes; read = told_lanes input.before bytes lanes same read; run = ends })
+ends_script g old new input output lanes bytes BadJournal read same end ends = (end, ends)
+ends_script g old new input output lanes bytes WriteFault read same end ends =
+    (end, ends.0, record { lanes = lanes; read = told_lanes input.before bytes lanes same read; run = ends.1 })
+ends_script g old new input output lanes bytes DiskFault read same end ends = elim ends.1 [
+  | inl said ↦ (end, ends.0, inl said)
+  | inr run ↦ (end, ends.0, inr (record { lanes = lanes; read = told_lanes input.before bytes lanes same read; run = run }))
+]
+ends_script g old new input output lanes bytes NoMemory read same end ends = elim ends [
+  | inl said ↦ inl said
+  | inr run ↦ inr (record { lanes = lanes; read = told_lanes input.before bytes lanes same read; run = run })
+]
+ends_script g old new input output lanes bytes Usage read same end ends = absurd ends
+ends_script g old new input output lanes bytes BadScript read same end ends = absurd ends
+ends_script g old new input output lanes bytes InputFault read same end ends = absurd ends
+
+-- one that read none leaves the disk
+pub ends_unread : {D : Type 0} (g : Ghosts D) (disk : D) (input output : Stream) (unread : Unread) (ending : Ending)
+    → IsUnread input unread → EndsUnread unread output ending → EndsRun g disk disk input output ending
+ends_unread g disk input output TooLong BadScript is said = (refl, refused_long input.before output (is.too_long refl) said)
+ends_unread g disk input output (BadRow row field) BadScript is said = (refl, refused_row input.before output row field (is.bad_row row field refl) said)
+ends_unread g disk input output (BadRow row field) NoMemory is said = inl (said, inl refl)
+ends_unread g disk input output ReadFault InputFault is said = (refl, is.fault refl, said)
+ends_unread g disk input output OutOfMemory NoMemory is said = inl (said, inl refl)
+ends_unread g disk input output _ _ is said = absurd said

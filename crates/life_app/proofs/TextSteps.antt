@@ -10,7 +10,7 @@ use Rattle.policy_types.specs.declared.script.Line.{Line}
 use Rattle.policy_types.specs.declared.script.Line.TheVariants.{Post as PostLine}
 use Rattle.policy_types.specs.Valid.{id_of}
 use Rattle.command_csv.specs.Reads.{IsIssueLine}
-use Rattle.life_app.specs.declared.book.Answer.{Answer}
+use Rattle.life_app.specs.declared.office.Answer.{Answer}
 use Rattle.life_app.specs.Books.{reply_of, turn_of, turns_made}
 use Rattle.life_app.specs.Transcript.{kind_word, line_text, turn_text}
 use Rattle.life_app.proofs.AnswerSteps.{turns_made-push}

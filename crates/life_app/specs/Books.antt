@@ -1,45 +1,45 @@
--- The policies that the program keeps during a run, and the turns that its answers make
-use Rattle.std.specs.Prelude.{◌≡◌, ℕ, ◌+◌, ◌==◌, List, [], ◌∷◌, ◌++◌, length, Some, None}
-use Rattle.std.specs.List.{All, find}
+-- The policies that an office keeps, and the turns that its answers make
+use Rattle.std.specs.Prelude.{◌≡◌, ◌⊎◌, ◌↔◌, ℕ, ◌≤◌, Bool, true, false, List, [], ◌∷◌, ◌++◌, length, nat_eq}
+use Rattle.std.specs.List.{All, AllByRecursion, filter_map}
+use Rattle.indexmap.specs.IndexMap.{IndexMap, get, index_map_len}
+use Rattle.outside_io.specs.declared.disks.Disk.{Ghosts}
 use Rattle.policy_types.specs.declared.command.Command.{Command}
 use Rattle.policy_types.specs.declared.policy.Policy.{Policy}
 use Rattle.policy_types.specs.declared.refusal.Refusal.TheVariants.{Taken, Full}
 use Rattle.policy_types.specs.declared.entry.Call.TheVariants.{Post, Trim as TrimCall}
 use Rattle.policy_types.specs.declared.entry.Reply.{Reply}
-use Rattle.policy_types.specs.declared.entry.Reply.TheVariants.{Accepted, Refused, Blank}
+use Rattle.policy_types.specs.declared.entry.Reply.TheVariants.{Accepted, Refused, Faulted, Blank}
 use Rattle.policy_types.specs.declared.entry.Entry.{Entry}
 use Rattle.policy_types.specs.declared.script.Line.{Line}
 use Rattle.policy_types.specs.declared.script.Line.TheVariants.{Post as PostLine}
 use Rattle.policy_types.specs.declared.script.Lane.{Lane}
 use Rattle.policy_machine.specs.Book.{policy_of, IsAccepted}
-use Rattle.policy_machine.specs.History.{Opening, IsLegalAfter, accepted_of, refusal_due}
+use Rattle.policy_machine.specs.History.{Opening, IsLegal, commands_after, fault_of}
 use Rattle.command_csv.specs.Reads.{IsIssueLine, lane_of}
-use Rattle.life_app.specs.declared.book.Answer.{Answer}
-use Rattle.life_app.specs.declared.book.Answer.TheVariants.{Accepted as AcceptedAt, Taken as IsTaken, Full as IsFull}
+use Rattle.record_codec.specs.Spelling.{spelling_of}
+use Rattle.posting_journal.specs.States.{StandsFor, count_of, disk_of, is_clean}
+use Rattle.life_app.specs.declared.office.Answer.{Answer}
+use Rattle.life_app.specs.declared.office.Answer.TheVariants.{Accepted as AcceptedAt, Taken as IsTaken, Full as IsFull, Faulted as FaultedAt}
+use Rattle.life_app.specs.declared.office.Office.{Office}
+use Rattle.life_app.specs.Images.{HoldsOnce, IsPending, faults_after}
+use Rattle.life_app.specs.Journals.{IsRecordable, bodies_of}
 
 -- the policies are those of the accepted commands, one for each
-pub record Keeps (policies : List Policy) (commands : List Command) : Type 0 where
+pub record Keeps {S : Type 0} (policies : IndexMap ℕ Policy S) (commands : List Command) : Type 0 where
+  pub recordable : AllByRecursion IsRecordable commands
   pub accepted : IsAccepted commands
-  pub each : length policies ≡ length commands
-  pub found : (id : ℕ) → find (λ (policy : Policy). policy.id == id) policies ≡ policy_of commands id
+  pub each : index_map_len policies ≡ length commands
+  pub found : (id : ℕ) → get nat_eq policies id ≡ policy_of commands id
 
 abbrev pub reply_of : Answer → Reply
 reply_of (AcceptedAt position) = Accepted position
 reply_of IsTaken = Refused Taken
 reply_of IsFull = Refused Full
+reply_of (FaultedAt count) = Faulted count
 
--- the answer is the one due after these commands, and these are the commands after it
-abbrev pub Answers : List Command → Command → Answer → List Command → Type 0
-Answers commands command (AcceptedAt position) after =
-    (refusal_due commands command ≡ None) × (position ≡ length commands + 1) × (after ≡ commands ++ command ∷ [])
-Answers commands command IsTaken after = (refusal_due commands command ≡ Some Taken) × (after ≡ commands)
-Answers commands command IsFull after = (refusal_due commands command ≡ Some Full) × (after ≡ commands)
-
--- a posting took the policies from one list to another
-pub record Posts (commands : List Command) (command : Command) (answer : Answer) (after : List Policy) : Type 0 where
-  pub commands_after : List Command
-  pub answers : Answers commands command answer commands_after
-  pub keeps : Keeps after commands_after
+abbrev pub is_faulted : Answer → Bool
+is_faulted (FaultedAt count) = true
+is_faulted _ = false
 
 -- the turn of a line: a line that posts nothing stands for a turn that isn't made
 abbrev pub turn_of : ℕ → Line → Answer → Entry
@@ -56,11 +56,36 @@ pub record AreLanes (lanes : List Lane) (lines : List Line) : Type 0 where
   pub one : lanes ≡ lane_of 1 lines
   pub issues : All IsIssueLine lines
 
--- an office with no commands, on a disk with this count of faults
-abbrev pub opened_on : ℕ → Opening
-opened_on faults = record { commands = []; faults = faults }
+-- The journal holds these commands. Where a fault left it unclean, the command of that fault may stand behind them.
+pub record JournalHolds {D : Type 0} {g : Ghosts D} (office : Office D g) (opening : Opening)
+    (history : List Entry) : Type 0 where
+  pub last : List ℕ
+  pub stands : StandsFor office.journal (bodies_of (commands_after opening history)) last
+  pub pending : is_clean office.journal ≡ false → (command : Command) × IsPending history command
+      × (last ≡ spelling_of command) × IsRecordable command
+      × IsAccepted (commands_after opening history ++ command ∷ [])
 
--- the turns of the lines that were answered are legal, and the policies are those that they leave
-pub record HaveAnswered (caller faults : ℕ) (lines : List Line) (answers : List Answer) (policies : List Policy) : Type 0 where
-  pub legal : IsLegalAfter (opened_on faults) [] (turns_made caller lines answers)
-  pub keeps : Keeps policies (accepted_of (turns_made caller lines answers))
+-- the office is that of a history since its opening
+pub record StandsAfter {D : Type 0} {g : Ghosts D} (office : Office D g) (opening : Opening)
+    (history : List Entry) : Type 0 where
+  pub legal : IsLegal opening history
+  pub keeps : Keeps office.policies (commands_after opening history)
+  pub counted : count_of office.journal ≡ length (commands_after opening history)
+  -- no fault was answered with a number above the disk's count
+  pub opened : opening.faults ≤ g.count (disk_of office.journal)
+  pub met : AllByRecursion (λ n. n ≤ g.count (disk_of office.journal))
+      (filter_map (λ (entry : Entry). fault_of entry.reply) history)
+  pub faults : g.count (disk_of office.journal) ≡ faults_after opening history
+  pub journal : g.honest (disk_of office.journal) → JournalHolds office opening history
+
+-- An office went from one history to a longer one. A crash since an earlier moment leaves what it might have left before
+-- the first of the new turns, or an image of the longer history.
+pub record GoesOn {D : Type 0} {g : Ghosts D} (old new : Office D g) (opening : Opening)
+    (before after : List Entry) : Type 0 where
+  pub stands : StandsAfter new opening after
+  pub honesty : (g.honest (disk_of old.journal)) ↔ (g.honest (disk_of new.journal))
+  pub later : g.honest (disk_of old.journal) → g.clock (disk_of old.journal) ≤ g.clock (disk_of new.journal)
+  pub longer : (image : List ℕ) → HoldsOnce opening before image → HoldsOnce opening after image
+  pub since : (moment : ℕ) (image : List ℕ) → g.honest (disk_of old.journal) → moment ≤ g.clock (disk_of old.journal)
+      → g.left_since (disk_of new.journal) moment image
+      → g.left_since (disk_of old.journal) moment image ⊎ HoldsOnce opening after image

@@ -1,5 +1,12 @@
-pub mod Books
-pub mod Outcome
-pub mod Status
-pub mod Transcript
 pub mod Words
+pub mod Status
+pub mod Journals
+pub mod Images
+pub mod Records
+pub mod Books
+pub mod Opening
+pub mod Replays
+pub mod Transcript
+pub mod Writing
+pub mod Outcome
+pub mod Parts

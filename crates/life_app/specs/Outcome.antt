@@ -1,80 +1,71 @@
--- How a run of the program ends: what was read, what was written, and the history that the text tells of
-use Rattle.std.specs.Prelude.{◌≡◌, ℕ, ◌<◌, ◌≤◌, ◌⊎◌, List, [], ◌∷◌, ◌++◌, length, codes, decimal, Option, IfSome, String}
+-- How a run of the program ends: what was read, what was written, the history that the text tells of, and the disk
+use Rattle.std.specs.Prelude.{◌≡◌, ℕ, ◌<◌, ◌≤◌, ◌⊎◌, List, ◌∷◌, ◌++◌, length, codes, decimal, Option, IfSome, String}
 use Rattle.std.specs.Global.{Global}
 use Rattle.std.specs.List.{AllByRecursion}
-use Rattle.std.specs.Io.KnownBytes.{Appends, IsAtEnd}
+use Rattle.std.specs.Io.KnownBytes.{IsAtEnd}
 use Rattle.outside_io.specs.Faults.{Rose}
 use Rattle.outside_io.specs.Streams.{AppendsPart}
+use Rattle.outside_io.specs.declared.disks.Disk.{Ghosts}
+use Rattle.policy_types.specs.declared.command.Command.{Command}
 use Rattle.policy_types.specs.declared.entry.Entry.{Entry}
 use Rattle.policy_types.specs.declared.entry.Reply.{Reply}
 use Rattle.policy_types.specs.declared.entry.Reply.TheVariants.{Faulted, Blank}
 use Rattle.policy_types.specs.declared.script.Lane.{Lane}
-use Rattle.policy_machine.specs.History.{Opening, IsLegal}
+use Rattle.policy_machine.specs.History.{IsLegal}
 use Rattle.policy_machine.specs.Merge.{IsMerge}
 use Rattle.command_csv.specs.Reads.{Reads, IsFirstFault}
-use Rattle.life_app.specs.Books.{opened_on}
+use Rattle.life_app.specs.Images.{HasFaulted, IsLeftAlone, IsLeftBy}
+use Rattle.life_app.specs.Journals.{IsShown, Opens}
+use Rattle.life_app.specs.Opening.{opened_on}
 use Rattle.life_app.specs.Transcript.{transcript_text}
 use Rattle.life_app.specs.Words.{AreRunWords}
 use Rattle.life_app.specs.declared.ending.Ending.{Ending}
-use Rattle.life_app.specs.declared.ending.Ending.TheVariants.{Done, Usage, BadScript, ReadFault as InputFault, WriteFault, NoMemory}
-use Rattle.life_app.specs.declared.intake.Unread.{Unread}
-use Rattle.life_app.specs.declared.intake.Unread.TheVariants.{TooLong, BadRow, ReadFault, NoMemory as OutOfMemory}
+use Rattle.life_app.specs.declared.ending.Ending.TheVariants.{Done, Usage, BadScript, BadJournal, ReadFault as InputFault, WriteFault, DiskFault, NoMemory}
+use Rattle.life_app.specs.declared.opening.Cause.{Cause}
+use Rattle.life_app.specs.declared.opening.Cause.TheVariants.{NotAJournal, BadRecord}
+use Rattle.life_app.specs.Writing.{Stream, WroteAll, WroteNothing, WroteLine}
 
--- an input or an output at two moments: its count of faults, and where it tells them the bytes that are left in it
--- or that were written to it
-pub record Stream : Type 0 where
-  pub faults_before : ℕ
-  pub faults_after : ℕ
-  pub before : Option (List ℕ)
-  pub after : Option (List ℕ)
-
--- a device between two moments, by its count of faults and what it tells
-abbrev pub between : {Device : Type 0} → (Device → ℕ) → (Device → Option (List ℕ)) → Device → Device → Stream
-between faults tells old new =
-    record { faults_before = faults old; faults_after = faults new; before = tells old; after = tells new }
-
--- all these bytes were written
-abbrev pub WroteAll : Stream → List ℕ → Type 0
-WroteAll output bytes = Appends output.before output.after bytes
-
--- a front of them was, and not all, since the output failed
-abbrev pub WrotePart : Stream → List ℕ → Type 0
-WrotePart output bytes = Rose output.faults_before output.faults_after × AppendsPart output.before output.after bytes
-
--- nothing of them was, since memory was refused
-abbrev pub WroteNothing : Stream → List ℕ → Type 0
-WroteNothing output bytes = Appends output.before output.after []
-
--- the bytes were written, or the output failed
-abbrev pub WroteOrFailed : Stream → List ℕ → Type 0
-WroteOrFailed output bytes = WroteAll output bytes ⊎ WrotePart output bytes
-
--- the one line that was to be written; where that failed, a front of it
-abbrev pub WroteLine : Stream → List ℕ → Type 0
-WroteLine output line = WroteOrFailed output (line ++ 10 ∷ [])
+-- a posting was tried: it was accepted or refused, or the disk failed in it
+abbrev pub IsTried : Reply → Type 0
+IsTried Blank = ⊥
+IsTried _ = Unit {0}
 
 -- a posting was answered: it was accepted or refused
 abbrev pub IsAnswered : Reply → Type 0
 IsAnswered (Faulted count) = ⊥
-IsAnswered Blank = ⊥
-IsAnswered _ = Unit {0}
+IsAnswered reply = IsTried reply
 
--- the lanes' lines are answered once, in order, by a legal history, each is accepted or refused, and the text is the
--- history's
-pub record IsRunOf (lanes : List Lane) (opening : Opening) (Wrote : List ℕ → Type 0) : Type 0 where
+abbrev pub AreTried : List Entry → Type 0
+AreTried history = AllByRecursion (λ (entry : Entry). IsTried entry.reply) history
+
+abbrev pub AreAnswered : List Entry → Type 0
+AreAnswered history = AllByRecursion (λ (entry : Entry). IsAnswered entry.reply) history
+
+-- every posting was tried, and in some the disk failed
+abbrev pub HaveAFault : List Entry → Type 0
+HaveAFault history = AreTried history × ((command : Command) × HasFaulted history command)
+
+-- The office was opened on the commands of the disk's file. The lanes' lines are answered once, in order, by a legal
+-- history from there, the text is the history's, and the disk holds what it accepted.
+pub record IsRunOf {D : Type 0} (g : Ghosts D) (old new : D) (lanes : List Lane)
+    (Wrote : List ℕ → Type 0) (Replies : List Entry → Type 0) : Type 0 where
+  pub commands : List Command
   pub callers : List ℕ
   pub dry : List ℕ
   pub history : List Entry
+  pub opened : g.honest old → Opens (g.reads old) commands
   pub merge : IsMerge history lanes callers dry
-  pub legal : IsLegal opening history
+  pub legal : IsLegal (opened_on commands (g.count old)) history
   pub wrote : Wrote (transcript_text lanes callers history)
-  pub replied : AllByRecursion (λ (entry : Entry). IsAnswered entry.reply) history
+  pub replies : Replies history
+  pub disk : IsLeftBy g old new (opened_on commands (g.count old)) history
 
 -- and the lanes are those that the script says
-pub record IsRun (script : Option (List ℕ)) (opening : Opening) (Wrote : List ℕ → Type 0) : Type 0 where
+pub record IsRun {D : Type 0} (g : Ghosts D) (old new : D) (script : Option (List ℕ))
+    (Wrote : List ℕ → Type 0) (Replies : List Entry → Type 0) : Type 0 where
   pub lanes : List Lane
   pub read : IfSome script (λ bytes. Reads bytes lanes)
-  pub run : IsRunOf lanes opening Wrote
+  pub run : IsRunOf g old new lanes Wrote Replies
 
 abbrev pub most_script_bytes : ℕ
 most_script_bytes = 16777216
@@ -83,6 +74,10 @@ most_script_bytes = 16777216
 abbrev pub bad_row_text : ℕ → ℕ → List ℕ
 bad_row_text row field = codes "badscript," ++ (decimal row ++ (44 ∷ decimal field))
 
+-- the text of the first record that can't stand
+abbrev pub bad_record_text : ℕ → List ℕ
+bad_record_text n = codes "badjournal,badrecord," ++ decimal n
+
 -- the script is longer than it may be, or its first row that is no line, and that row's first bad field, are named
 abbrev pub IsRefused : List ℕ → Stream → Type 0
 IsRefused bytes output =
@@ -90,40 +85,45 @@ IsRefused bytes output =
     ⊎ ((row : ℕ) × ((field : ℕ) × (length bytes ≤ most_script_bytes) × IsFirstFault bytes row field
     × WroteLine output (bad_row_text row field)))
 
--- how a run ends that read no script
-abbrev pub EndsUnread : Unread → Stream → Ending → Type 0
-EndsUnread TooLong output BadScript = WroteLine output (codes "badscript,toolong")
-EndsUnread (BadRow row field) output BadScript = WroteLine output (bad_row_text row field)
-EndsUnread (BadRow row field) output NoMemory = WroteLine output (codes "nomemory")
-EndsUnread ReadFault output InputFault = WroteLine output (codes "readfault")
-EndsUnread OutOfMemory output NoMemory = WroteLine output (codes "nomemory")
-EndsUnread _ _ _ = ⊥
+-- the line of a file's refusal
+abbrev pub SaysWhy : Cause → Stream → Type 0
+SaysWhy NotAJournal output = WroteLine output (codes "badjournal,notajournal")
+SaysWhy (BadRecord n) output = WroteLine output (bad_record_text n)
+SaysWhy _ _ = ⊥
+
+-- The file is refused for what its bytes show, with the line of the cause.
+pub record IsRefusedJournal {D : Type 0} (g : Ghosts D) (old new : D) (output : Stream) : Type 0 where
+  pub cause : Cause
+  pub line : SaysWhy cause output
+  pub shown : g.honest old → IsShown (g.reads old) cause
+  pub quiet : g.count new ≡ g.count old
+  pub alone : IsLeftAlone g old new
+
+-- no office ran for want of memory: the disk is the one from before, or one on which the opening didn't fail
+abbrev pub IsUnused : {D : Type 0} → Ghosts D → D → D → Type 0
+IsUnused g old new = (new ≡ old) ⊎ (IsLeftAlone g old new × (g.count new ≡ g.count old))
 
 -- what each ending of a run says
-abbrev pub EndsRun : Stream → Stream → Opening → Ending → Type 0
-EndsRun input output opening Done = IsAtEnd input.after × IsRun input.before opening (WroteAll output)
-EndsRun input output opening Usage = ⊥
-EndsRun input output opening BadScript = IfSome input.before (λ bytes. IsRefused bytes output)
-EndsRun input output opening InputFault =
-    Rose input.faults_before input.faults_after × WroteLine output (codes "readfault")
-EndsRun input output opening WriteFault =
+abbrev pub EndsRun : {D : Type 0} → Ghosts D → D → D → Stream → Stream → Ending → Type 0
+EndsRun g old new input output Done = IsAtEnd input.after × IsRun g old new input.before (WroteAll output) AreAnswered
+EndsRun g old new input output Usage = ⊥
+EndsRun g old new input output BadScript = (new ≡ old) × IfSome input.before (λ bytes. IsRefused bytes output)
+EndsRun g old new input output BadJournal = IsAtEnd input.after × IsRefusedJournal g old new output
+EndsRun g old new input output InputFault =
+    (new ≡ old) × Rose input.faults_before input.faults_after × WroteLine output (codes "readfault")
+EndsRun g old new input output WriteFault =
     IsAtEnd input.after × Rose output.faults_before output.faults_after
-    × IsRun input.before opening (AppendsPart output.before output.after)
-EndsRun input output opening NoMemory =
-    WroteLine output (codes "nomemory") ⊎ IsRun input.before opening (WroteNothing output)
+    × IsRun g old new input.before (AppendsPart output.before output.after) AreTried
+EndsRun g old new input output DiskFault =
+    IsAtEnd input.after × Rose (g.count old) (g.count new)
+    × ((WroteLine output (codes "diskfault") × IsLeftAlone g old new)
+    ⊎ IsRun g old new input.before (WroteAll output) HaveAFault)
+EndsRun g old new input output NoMemory =
+    (WroteLine output (codes "nomemory") × IsUnused g old new)
+    ⊎ IsRun g old new input.before (WroteNothing output) AreTried
 
--- how a run ends that read its script
-abbrev pub EndsScript : List Lane → Stream → Opening → Ending → Type 0
-EndsScript lanes output opening Done = IsRunOf lanes opening (WroteAll output)
-EndsScript lanes output opening WriteFault =
-    Rose output.faults_before output.faults_after
-    × IsRunOf lanes opening (AppendsPart output.before output.after)
-EndsScript lanes output opening NoMemory =
-    WroteLine output (codes "nomemory") ⊎ IsRunOf lanes opening (WroteNothing output)
-EndsScript lanes output opening _ = ⊥
-
--- what the program did with its words: it ran the script, or the words are of no command, and then the input stays
-abbrev pub Obeys : List (String Global) → Stream → Stream → Type 0 → ℕ → Ending → Type 0
-Obeys words input output InputStays faults ending =
-    (AreRunWords words × EndsRun input output (opened_on faults) ending)
-    ⊎ ((AreRunWords words → ⊥) × (ending ≡ Usage) × InputStays × WroteLine output (codes "usage"))
+-- what the program did with its words: it ran the script, or the words are of no command, and then nothing else is touched
+abbrev pub Obeys : {D : Type 0} → Ghosts D → D → D → List (String Global) → Stream → Stream → Type 0 → Ending → Type 0
+Obeys g old new words input output InputStays ending =
+    (AreRunWords words × EndsRun g old new input output ending)
+    ⊎ ((AreRunWords words → ⊥) × (ending ≡ Usage) × (new ≡ old) × InputStays × WroteLine output (codes "usage"))

@@ -63,7 +63,8 @@ reply_text _ = []
 
 -- a line: the clerk, what was asked, the policy and what became of it; 44 is the comma, 10 the line feed
 abbrev pub line_text : ℕ → List ℕ → ℕ → Reply → List ℕ
-line_text clerk kind id reply = decimal clerk ++ (44 ∷ (kind ++ (44 ∷ (decimal id ++ (44 ∷ (reply_text reply ++ 10 ∷ []))))))
+line_text clerk kind id reply =
+    decimal clerk ++ (44 ∷ (kind ++ (44 ∷ (decimal id ++ (44 ∷ (reply_text reply ++ 10 ∷ []))))))
 
 -- the line of a clerk's posting
 abbrev pub posting_text : ℕ → Command → Reply → List ℕ

@@ -9,10 +9,14 @@ pub enum Ending {
     Usage,
     /// The script is too long, or a row of it is no line.
     BadScript,
+    /// The disk's file is no journal.
+    BadJournal,
     /// The input failed.
     ReadFault,
     /// The output failed.
     WriteFault,
+    /// The disk failed, at the opening or in a posting.
+    DiskFault,
     /// Memory was refused.
     NoMemory,
 }
@@ -28,8 +32,10 @@ impl Ending {
             Ending::Done => 0,
             Ending::Usage => 2,
             Ending::BadScript => 3,
+            Ending::BadJournal => 5,
             Ending::ReadFault => 6,
             Ending::WriteFault => 7,
+            Ending::DiskFault => 8,
             Ending::NoMemory => 9,
         }
     }

@@ -1,10 +1,13 @@
 // Endings that write one line.
 ghost use Rattle.std.specs.Prelude.{◌≤◌};
-ghost use Rattle.life_app.specs.Outcome.{EndsUnread, WroteOrFailed, between};
+ghost use Rattle.life_app.specs.Parts.{EndsUnopened, EndsUnread};
+ghost use Rattle.life_app.specs.Writing.{WroteOrFailed, between};
+ghost use Rattle.life_app.specs.declared.opening.Cause.TheVariants.{BadRecord};
 ghost use Rattle.life_app.specs.declared.intake.Unread.TheVariants.{BadRow};
 
 use crate::ending::Ending;
 use crate::intake::Unread;
+use crate::opening::Cause;
 use outside_io::{Sink, write_all};
 use std::alloc::Global;
 
@@ -46,6 +49,44 @@ fn refuse_row<K: Sink>(alloc: Global, row: u32, field: u32, output: &mut K) -> E
         Ok(line) => {
             say(output, line.as_bytes());
             Ending::BadScript
+        }
+        Err(_) => {
+            say(output, b"nomemory\n");
+            Ending::NoMemory
+        }
+    }
+}
+
+/// Says why no office was opened.
+pub fn refuse_journal<K: Sink>(alloc: Global, cause: Cause, output: &mut K) -> Ending
+    ensures later { K.count output.old ≤ K.count output.new }
+    ensures ends { EndsUnopened cause (between K.count K.written output.old output.new) result }
+{
+    match cause {
+        Cause::DiskFault => {
+            say(output, b"diskfault\n");
+            Ending::DiskFault
+        }
+        Cause::NotAJournal => {
+            say(output, b"badjournal,notajournal\n");
+            Ending::BadJournal
+        }
+        Cause::BadRecord(n) => refuse_record(alloc, n, output),
+        Cause::NoMemory => {
+            say(output, b"nomemory\n");
+            Ending::NoMemory
+        }
+    }
+}
+
+fn refuse_record<K: Sink>(alloc: Global, n: u32, output: &mut K) -> Ending
+    ensures later { K.count output.old ≤ K.count output.new }
+    ensures ends { EndsUnopened (BadRecord n) (between K.count K.written output.old output.new) result }
+{
+    match format!(in alloc; "badjournal,badrecord,{n}\n") {
+        Ok(line) => {
+            say(output, line.as_bytes());
+            Ending::BadJournal
         }
         Err(_) => {
             say(output, b"nomemory\n");

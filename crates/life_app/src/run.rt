@@ -1,52 +1,141 @@
-// A run of a script: its lines are answered, then the transcript is written.
-ghost use Rattle.std.specs.Prelude.{◌≡◌, ◌≤◌, ℕ, List, [], IfOk, vec_capacity};
+// A run of a script: the office is opened, the script's lines are answered, then the transcript is written.
+ghost use Rattle.std.specs.Prelude.{◌≡◌, ◌≤◌, ℕ, List, [], All, if◌then◌else◌, length, vec_capacity};
+ghost use Rattle.std.specs.List.{list_any};
+ghost use Rattle.indexmap.specs.IndexMap.{spare};
 ghost use Rattle.policy_types.specs.declared.script.Line.{Line as ALine};
-ghost use Rattle.command_csv.specs.Reads.{Reads, lane_of};
-ghost use Rattle.life_app.specs.Books.{AreLanes, opened_on};
-ghost use Rattle.life_app.specs.Outcome.{EndsRun, EndsScript, between};
+ghost use Rattle.policy_machine.specs.History.{Opening};
+ghost use Rattle.command_csv.specs.Reads.{IsIssueLine, Reads, lane_of};
+ghost use Rattle.life_app.specs.Books.{AreLanes, StandsAfter, is_faulted};
+ghost use Rattle.life_app.specs.Outcome.{EndsRun};
+ghost use Rattle.life_app.specs.Parts.{AnswersAll, EndsLines, EndsScript};
+ghost use Rattle.life_app.specs.Writing.{between};
+ghost use Rattle.life_app.specs.declared.ending.Ending.TheVariants.{DiskFault, Done};
 
 use crate::answers::answer_lines;
-use crate::book::Answer;
 use crate::ending::Ending;
 use crate::intake::read_lanes;
-use crate::refusing::{refuse, say};
+use crate::office::{Answer, Office};
+use crate::opening::open;
+use crate::refusing::{refuse, refuse_journal, say};
 use crate::transcript::transcript;
-use outside_io::{Sink, Source, write_all};
-use policy_types::{Lane, Line, Policy, Script};
-use std::alloc::{AllocError, Global};
+use outside_io::{Disk, Sink, Source, write_all};
+use policy_types::{Lane, Line, Script};
+use std::alloc::Global;
 
-/// Reads a script, answers its lines, and writes the transcript.
-pub fn run<S: Source, K: Sink>(alloc: Global, input: &mut S, output: &mut K) -> Ending
-    ensures input_later { S.count input.old ≤ S.count input.new }
-    ensures output_later { K.count output.old ≤ K.count output.new }
-    ensures ends { (faults : ℕ) → EndsRun (between S.count S.left input.old input.new)
-        (between K.count K.written output.old output.new) (opened_on faults) result }
+/// What a run leaves: how it ended, and the disk.
+#[derive(Drop)]
+pub struct Finished<D> {
+    pub ending: Ending,
+    pub disk: D,
+}
+
+/// Reads a script, opens the office on the disk, answers the script's lines, and writes the transcript.
+pub fn run<S: Source, K: Sink, D: Disk>(
+    alloc: Global,
+    input: &mut S,
+    output: &mut K,
+    disk: D,
+) -> Finished<D>
+    ensures ends { EndsRun D.Disk disk result.disk (between S.count S.left input.old input.new)
+        (between K.count K.written output.old output.new) result.ending }
 {
     match read_lanes(alloc, input) {
-        Ok(script) => run_script(alloc, &script, output),
-        Err(unread) => refuse(alloc, unread, output),
+        Ok(script) => run_script(alloc, &script, output, disk),
+        Err(unread) => Finished {
+            ending: refuse(alloc, unread, output),
+            disk,
+        },
     }
 }
 
-fn run_script<K: Sink>(alloc: Global, script: &Script, output: &mut K) -> Ending
+fn run_script<K: Sink, D: Disk>(
+    alloc: Global,
+    script: &Script,
+    output: &mut K,
+    disk: D,
+) -> Finished<D>
     requires read { (bytes : List ℕ) × Reads bytes script.now }
-    ensures later { K.count output.old ≤ K.count output.new }
-    ensures ends { (faults : ℕ) → EndsScript script.now
-        (between K.count K.written output.old output.new) (opened_on faults) result }
+    ensures ends { EndsScript D.Disk disk result.disk script.now
+        (between K.count K.written output.old output.new) result.ending }
 {
     let lines = lines_of(script);
-    let Ok((mut policies, mut answers)) = room_for(alloc, lines.len()) else {
+    let Ok(answers) = Vec::with_capacity(alloc, lines.len()) else {
         say(output, b"nomemory\n");
-        return Ending::NoMemory;
+        return Finished {
+            ending: Ending::NoMemory,
+            disk,
+        };
     };
-    answer_lines(lines, &mut policies, &mut answers);
-    let Ok(text) = transcript(alloc, 1, lines, &answers) else {
+    match open(alloc, disk, lines.len()) {
+        Ok(office) => run_lines(alloc, lines, office, answers, output),
+        Err(unopened) => Finished {
+            ending: refuse_journal(alloc, unopened.cause, output),
+            disk: unopened.disk,
+        },
+    }
+}
+
+// Answers the lines, then writes the transcript.
+fn run_lines<K: Sink, D: Disk>(
+    alloc: Global,
+    lines: &[Line],
+    office: Office<D>,
+    answers: Vec<Answer>,
+    output: &mut K,
+) -> Finished<D>
+    requires issues { All IsIssueLine lines.now }
+    requires unanswered { answers.items ≡ [] }
+    requires room { length lines.now ≤ spare office.policies }
+    requires answers_room { length lines.now ≤ vec_capacity answers }
+    ensures later { K.count output.old ≤ K.count output.new }
+    ensures all { (opening : Opening) → StandsAfter office opening [] → AnswersAll office result.disk opening lines.now
+        (between K.count K.written output.old output.new) result.ending }
+{
+    let mut office = office;
+    let mut answers = answers;
+    answer_lines(lines, &mut office, &mut answers);
+    let ending = write_transcript(alloc, lines, &answers, output);
+    Finished {
+        ending,
+        disk: office.close(),
+    }
+}
+
+fn write_transcript<K: Sink>(
+    alloc: Global,
+    lines: &[Line],
+    answers: &[Answer],
+    output: &mut K,
+) -> Ending
+    requires issues { All IsIssueLine lines.now }
+    requires each { length answers.now ≡ length lines.now }
+    ensures later { K.count output.old ≤ K.count output.new }
+    ensures ends { EndsLines lines.now answers.now (between K.count K.written output.old output.new) result }
+{
+    let Ok(text) = transcript(alloc, 1, lines, answers) else {
         return Ending::NoMemory;
     };
     match write_all(output, text.as_bytes()) {
-        Ok(()) => Ending::Done,
+        Ok(()) => ending_of(answers),
         Err(_) => Ending::WriteFault,
     }
+}
+
+// The ending of a run whose transcript is written.
+fn ending_of(answers: &[Answer]) -> Ending
+    ensures { result ≡ (if list_any is_faulted answers.now then DiskFault else Done) }
+{
+    if any_faulted(answers) {
+        Ending::DiskFault
+    } else {
+        Ending::Done
+    }
+}
+
+fn any_faulted(answers: &[Answer]) -> bool
+    ensures { result ≡ list_any is_faulted answers.now }
+{
+    answers.iter().any(|answer| answer.is_faulted())
 }
 
 // The lines of the only lane, if there is one.
@@ -64,16 +153,4 @@ fn first_lines(lanes: &[Lane]) -> &[Line]
         Some(lane) => lane.lines.as_slice(),
         None => &[],
     }
-}
-
-// Room for a policy and an answer for each of so many lines.
-fn room_for(alloc: Global, lines: usize) -> Result<(Vec<Policy>, Vec<Answer>), AllocError>
-    ensures none { IfOk result (λ rooms. rooms.0.items ≡ []) }
-    ensures unanswered { IfOk result (λ rooms. rooms.1.items ≡ []) }
-    ensures policies { IfOk result (λ rooms. lines ≤ vec_capacity rooms.0) }
-    ensures answers { IfOk result (λ rooms. lines ≤ vec_capacity rooms.1) }
-{
-    let policies = Vec::with_capacity(alloc, lines)?;
-    let answers = Vec::with_capacity(alloc, lines)?;
-    Ok((policies, answers))
 }

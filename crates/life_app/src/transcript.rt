@@ -6,7 +6,7 @@ ghost use Rattle.command_csv.specs.Reads.{IsIssueLine};
 ghost use Rattle.life_app.specs.Transcript.{line_text, turn_text};
 ghost use Rattle.life_app.specs.Books.{reply_of, turn_of, turns_made};
 
-use crate::book::Answer;
+use crate::office::Answer;
 use policy_types::Line;
 use std::alloc::{AllocError, Global};
 use std::fmt::Write;
@@ -51,5 +51,6 @@ fn write_answer(text: &mut String, clerk: u8, id: u32, answer: Answer) -> Result
         Answer::Accepted(position) => write!(text, "{clerk},issue,{id},accepted,{position}\n"),
         Answer::Taken => write!(text, "{clerk},issue,{id},refused,taken\n"),
         Answer::Full => write!(text, "{clerk},issue,{id},refused,full,4000000\n"),
+        Answer::Faulted(_) => write!(text, "{clerk},issue,{id},fault\n"),
     }
 }

@@ -1,40 +1,18 @@
-use Rattle.std.proofs.Common.{ℕ, ◌∙◌, refl, inr, ap, List}
-use Rattle.std.specs.List.{flat_map}
-use Rattle.life_app.specs.declared.book.Answer.{Answer}
-use Rattle.life_app.specs.Books.{turns_made}
-use Rattle.life_app.proofs.RunSteps.{nothing_written, run_of}
-use Rattle.life_app.proofs.TextSteps.{text_of}
+use Rattle.life_app.specs.Opening.{opened_on}
+use Rattle.life_app.proofs.RunSteps.{ends_run, ends_unopened}
 use Rattle.life_app.proofs.run.run_script.Goals as goal
 
-pub answer_lines-requires-clause-issues : goal.answer_lines-requires-clause-issues
-answer_lines-requires-clause-issues g c = c.lines_of-lines.ensures.issues
+pub returns-in-Ok-open : goal.returns-in-Ok-open
+returns-in-Ok-open g c =
+    let opened = c.in-Ok-open.ensures.opened in
+    record {
+      ends = ends_run c.args.disk c.run_lines.result.disk c.in-Ok-open.office c.args.script.now c.lines_of-lines.result.now _ c.run_lines.result.ending
+          opened c.lines_of-lines.ensures
+          (c.run_lines.ensures.all (opened_on opened.commands (g.D.Disk.count c.args.disk)) opened.stands);
+    }
 
-pub transcript-requires-clause-issues : goal.transcript-requires-clause-issues
-transcript-requires-clause-issues g c = c.lines_of-lines.ensures.issues
-
-pub returns-in_default-transcript-clause-ends : goal.returns-in_default-transcript-clause-ends
-returns-in_default-transcript-clause-ends g c = λ (faults : ℕ).
-    let text = flat_map (text_of 1) (turns_made 1 c.lines_of-lines.result.now c.answer_lines.new.answers.items) in
-    inr (run_of c.args.script.now c.lines_of-lines.result.now c.answer_lines.new.answers.items
-    c.answer_lines.new.policies.items faults _ text c.lines_of-lines.ensures c.answer_lines.ensures.all
-    (c.answer_lines.ensures.answered 1 faults) refl (nothing_written (g.K.Sink.written c.args.output.now)))
-
-pub returns-in-Ok-write_all-clause-ends : goal.returns-in-Ok-write_all-clause-ends
-returns-in-Ok-write_all-clause-ends g c = λ (faults : ℕ).
-    run_of c.args.script.now c.lines_of-lines.result.now c.answer_lines.new.answers.items
-    c.answer_lines.new.policies.items faults _ c.as_bytes.result.now c.lines_of-lines.ensures c.answer_lines.ensures.all
-    (c.answer_lines.ensures.answered 1 faults)
-    (c.as_bytes.ensures.value ∙ c.in-Ok-transcript.ensures 1
-    ∙ ap (λ (given : List Answer). flat_map (text_of 1) (turns_made 1 c.lines_of-lines.result.now given)) c.deref.ensures.value)
-    c.in-Ok-write_all.ensures.whole
-
-pub returns-clause-ends : goal.returns-clause-ends
-returns-clause-ends g c = λ (faults : ℕ). (
-  c.in-Err.ensures.cause.failed,
-  run_of c.args.script.now c.lines_of-lines.result.now c.answer_lines.new.answers.items
-      c.answer_lines.new.policies.items faults _ c.as_bytes.result.now c.lines_of-lines.ensures c.answer_lines.ensures.all
-      (c.answer_lines.ensures.answered 1 faults)
-      (c.as_bytes.ensures.value ∙ c.in-Ok-transcript.ensures 1
-      ∙ ap (λ (given : List Answer). flat_map (text_of 1) (turns_made 1 c.lines_of-lines.result.now given)) c.deref.ensures.value)
-      c.in-Err.ensures.part,
-)
+pub returns-in-Err : goal.returns-in-Err
+returns-in-Err g c = record {
+  ends = ends_unopened g.D.Disk c.args.disk c.in-Err.unopened.disk c.args.script.now _ c.in-Err.unopened.cause c.refuse_journal.result
+      c.in-Err.ensures.refused c.refuse_journal.ensures.ends;
+}

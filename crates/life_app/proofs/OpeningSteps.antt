@@ -1,0 +1,181 @@
+-- What is known of the disk and its images once a journal was started, or couldn't be
+use Rattle.std.proofs.Common.{◌≡◌, ◌⊎◌, ◌↔◌, inl, inr, ⊎_elim, ℕ, ◌≤◌, List, [], ◌∷◌, refl, ◌∙◌, sym, subst, append-nil, arith, IsTrue}
+use Rattle.std.specs.List.{AllByRecursion}
+use Rattle.outside_io.specs.declared.disks.Disk.{Ghosts}
+use Rattle.outside_io.specs.Faults.{Rose}
+use Rattle.policy_types.specs.declared.command.Command.{Command}
+use Rattle.policy_machine.specs.Book.{IsAccepted}
+use Rattle.posting_journal.specs.Creation.{IsUnfinished, Opens as OpensToBodies}
+use Rattle.posting_journal.specs.Opening.{IsSynced, IsOpening, OpensOn}
+use Rattle.posting_journal.specs.Runs.{LooksOn}
+use Rattle.posting_journal.specs.Starting.{TellsCause, HasOpened as JournalOpened, IsShown as JournalShown}
+use Rattle.posting_journal.specs.States.{disk_of, is_clean}
+use Rattle.posting_journal.specs.declared.faults.JournalCause.{JournalCause}
+use Rattle.posting_journal.specs.declared.faults.JournalCause.TheVariants.{DiskFault as FaultyDisk, NotAJournal as IsNoJournal, BadRecord as IsBadRecord}
+use Rattle.posting_journal.specs.declared.journal.Journal.{Journal}
+use Rattle.life_app.specs.declared.opening.Cause.TheVariants.{NotAJournal, BadRecord}
+use Rattle.life_app.specs.Journals.{IsRecordable, bodies_of, Opens, OpensToNone, IsShown}
+use Rattle.life_app.specs.Images.{HoldsOnce, IsLeftAlone, OpensAlike}
+use Rattle.life_app.specs.Opening.{HasNotOpened, TellsFault, opened_on, as_cause}
+use Rattle.life_app.specs.Replays.{IsLookedAt}
+use Rattle.life_app.proofs.JournalLaws.{opens_to_one, shown_opens_to_none}
+
+no_bodies : (commands : List Command) → bodies_of commands ≡ [] → commands ≡ []
+no_bodies [] none = refl
+no_bodies (command ∷ commands) none = cc
+
+-- the file opens to the commands of which it has the bodies
+pub opens_commands : (bytes : List ℕ) (commands : List Command) → AllByRecursion IsRecordable commands
+    → IsAccepted commands → OpensToBodies bytes (bodies_of commands) → Opens bytes commands
+opens_commands bytes commands recordable accepted (inl journal) =
+    inl (record { records = journal; recordable = recordable; accepted = accepted })
+opens_commands bytes commands recordable accepted (inr creation) =
+    inr (no_bodies commands creation.0, creation.1)
+
+-- while a file is opened it opens to the same commands
+pub opening_keeps : (before image : List ℕ) (commands : List Command) → Opens before commands
+    → IsOpening before image → Opens image commands
+opening_keeps before image commands opens (inl same) = subst (λ b. Opens b commands) (sym same) opens
+opening_keeps before image commands opens (inr creation) =
+    let none : commands ≡ [] = opens_to_one before commands [] opens (inr (refl, creation.0)) in
+    subst (Opens image) (sym none) (opens_commands image [] tt tt creation.1)
+
+pub holds_once : (image : List ℕ) (commands : List Command) (faults : ℕ) → Opens image commands
+    → HoldsOnce (opened_on commands faults) [] image
+holds_once image commands faults opens = record {
+  held = [];
+  rest = [];
+  more = [];
+  front = refl;
+  one = tt;
+  opens = simp append-nil opens;
+}
+
+finished : (bytes : List ℕ) → OpensToNone bytes → ¬ IsUnfinished bytes
+finished bytes none unfinished = none [] (inr (refl, unfinished))
+
+-- what a disk's law says: this moment is one of those since an earlier one
+abbrev pub CountsNow : {D : Type 0} → Ghosts D → Type 0
+CountsNow {D = D} g = (disk : D) (moment : ℕ) (image : List ℕ) → g.honest disk → moment ≤ g.clock disk
+    → g.may_leave disk image → g.left_since disk moment image
+
+-- a journal that was started on a disk
+pub record IsStarted {D : Type 0} {g : Ghosts D} (old : D) (journal : Journal D g) : Type 0 where
+  pub quiet : g.count (disk_of journal) ≡ g.count old
+  pub clean : IsTrue (is_clean journal)
+  pub honesty : (g.honest old → g.honest (disk_of journal)) × (g.honest (disk_of journal) → g.honest old)
+  pub opened : g.honest old → JournalOpened old journal
+  pub opens : g.honest old → OpensOn g old (disk_of journal)
+
+-- what a disk's law says: what is read is an image
+abbrev pub ReadsImage : {D : Type 0} → Ghosts D → Type 0
+ReadsImage {D = D} g = (disk : D) → g.honest disk → g.may_leave disk (g.reads disk)
+
+-- an image of an opening is one of the disk before it, or opens alike
+opens_alike : {D : Type 0} (g : Ghosts D) → ReadsImage g → (old : D) → g.honest old → (image : List ℕ)
+    → g.may_leave old image ⊎ IsOpening (g.reads old) image → g.may_leave old image ⊎ OpensAlike (g.reads old) image
+opens_alike g reads_image old honest image (inl before) = inl before
+opens_alike g reads_image old honest image (inr (inl same)) =
+    inl (subst (g.may_leave old) (sym same) (reads_image old honest))
+opens_alike g reads_image old honest image (inr (inr creation)) =
+    inr ([], inr (refl, creation.0), opens_commands image [] tt tt creation.1)
+
+module _ {D : Type 0} (g : Ghosts D) (old : D) where
+  faulted : (new : D) (cause : JournalCause) → TellsCause (g.count old) (g.count new) cause
+      → TellsFault (g.count old) (g.count new) (as_cause cause)
+  faulted new (FaultyDisk count) told = told.1
+  faulted new IsNoJournal told = told
+  faulted new (IsBadRecord n) told = told
+
+  shown : (cause : JournalCause) → JournalShown (g.reads old) cause → IsShown (g.reads old) (as_cause cause)
+  shown (FaultyDisk count) shows = tt
+  shown IsNoJournal shows = shows
+  shown (IsBadRecord n) shows = inl shows
+
+  -- a file that the disk let be read opens to none
+  refused : (new : D) (cause : JournalCause) → TellsCause (g.count old) (g.count new) cause
+      → (Rose (g.count old) (g.count new) → ⊥) → JournalShown (g.reads old) cause → OpensToNone (g.reads old)
+  refused new (FaultyDisk count) told quiet shows = absurd (quiet told.1)
+  refused new IsNoJournal told quiet shows = shown_opens_to_none (g.reads old) NotAJournal tt shows
+  refused new (IsBadRecord n) told quiet shows = shown_opens_to_none (g.reads old) (BadRecord n) tt (inl shows)
+
+  -- a disk on which no journal was started
+  pub not_started : ReadsImage g → (new : D) (cause : JournalCause) → TellsCause (g.count old) (g.count new) cause
+      → (g.honest old) ↔ (g.honest new)
+      → (g.honest old → JournalShown (g.reads old) cause) → (g.honest old → OpensOn g old new)
+      → HasNotOpened g old new (as_cause cause)
+  not_started reads_image new cause told honesty shows opening = record {
+    told = faulted new cause told;
+    shown = λ (honest : g.honest old). shown cause (shows honest);
+    alone = record {
+      honesty = honesty;
+      reads = λ (honest : g.honest old) (none : OpensToNone (g.reads old)).
+          ((opening honest).unwritten (finished (g.reads old) none)).facts.reads;
+      since = λ (honest : g.honest old) (image : List ℕ) (left : g.left_since new (g.clock old) image).
+          opens_alike g reads_image old honest image ((opening honest).ever.each image left);
+      synced = λ (commands : List Command) (honest : g.honest old) (opens : Opens (g.reads old) commands)
+          (quiet : Rose (g.count old) (g.count new) → ⊥).
+          absurd (refused new cause told quiet (shows honest) commands opens);
+    };
+  }
+
+-- what might have been left since a moment, on a disk that was only looked at since
+looked_since : {D : Type 0} (g : Ghosts D) → CountsNow g → (mid new : D) → g.honest mid → LooksOn g mid new
+    → (moment : ℕ) → moment ≤ g.clock mid
+    → (image : List ℕ) → g.left_since new moment image → g.left_since mid moment image
+looked_since g counts_now mid new honest looks moment passed image left =
+    ⊎_elim (λ before. before) (λ now. counts_now mid moment image honest passed now)
+    (looks.time.nothing_else moment image passed left)
+
+-- the end of a sync stays in the past
+pub synced_before : {D : Type 0} (g : Ghosts D) (old synced mid new : D) → IsSynced g old synced mid → g.clock mid ≤ g.clock new
+    → IsSynced g old synced new
+synced_before g old synced mid new at_sync later = record {
+  reads = at_sync.reads;
+  safe = at_sync.safe;
+  later = at_sync.later;
+  passed = omega (arith, at_sync.passed, later);
+}
+
+module _ {D : Type 0} (g : Ghosts D) (old : D) (journal : Journal D g) (started : IsStarted old journal)
+    (counts_now : CountsNow g) where
+  pub started_later : g.honest old → g.clock old ≤ g.clock (disk_of journal)
+  started_later honest = let m = (started.opened honest).moments in omega (arith, m.at_sync.later, m.at_sync.passed)
+
+  -- each image since the opening began
+  pub looked_ever : (new : D) → g.honest old → IsLookedAt g (disk_of journal) new
+      → (image : List ℕ) → g.left_since new (g.clock old) image → g.may_leave old image ⊎ IsOpening (g.reads old) image
+  looked_ever new honest looked image left =
+      let here = started.honesty.0 honest in
+      (started.opens honest).ever.each image
+      (looked_since g counts_now (disk_of journal) new here (looked.looks here) (g.clock old) (started_later honest) image left)
+
+  -- and each since the end of its first sync
+  pub looked_since_sync : (new : D) (commands : List Command) → g.honest old → IsLookedAt g (disk_of journal) new
+      → Opens (g.reads old) commands → (mid : D) × IsSynced g old mid new
+      × ((image : List ℕ) → g.left_since new (g.clock mid) image → Opens image commands)
+  looked_since_sync new commands honest looked opens =
+      let here = started.honesty.0 honest in
+      let looks = looked.looks here in
+      let m = (started.opened honest).moments in (
+        m.synced,
+        synced_before g old m.synced (disk_of journal) new m.at_sync looks.time.later,
+        λ (image : List ℕ) (left : g.left_since new (g.clock m.synced) image).
+            opening_keeps (g.reads old) image commands opens (m.since image
+            (looked_since g counts_now (disk_of journal) new here looks (g.clock m.synced) m.at_sync.passed image left)),
+      )
+
+  pub looked_alone : ReadsImage g → (new : D) → IsLookedAt g (disk_of journal) new → IsLeftAlone g old new
+  looked_alone reads_image new looked = record {
+    honesty = (
+      λ honest. looked.honesty.0 (started.honesty.0 honest),
+      λ honest. started.honesty.1 (looked.honesty.1 honest),
+    );
+    reads = λ (honest : g.honest old) (none : OpensToNone (g.reads old)).
+        (looked.looks (started.honesty.0 honest)).facts.reads
+        ∙ ((started.opens honest).unwritten (finished (g.reads old) none)).facts.reads;
+    since = λ (honest : g.honest old) (image : List ℕ) (left : g.left_since new (g.clock old) image).
+        opens_alike g reads_image old honest image (looked_ever new honest looked image left);
+    synced = λ (commands : List Command) (honest : g.honest old) (opens : Opens (g.reads old) commands)
+        (quiet : Rose (g.count old) (g.count new) → ⊥). looked_since_sync new commands honest looked opens;
+  }
