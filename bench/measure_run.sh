@@ -1,5 +1,6 @@
 #!/bin/sh
-# Times `life run` over scripts of issue lines and prints seconds, and peak memory beside the script's size.
+# Times `life run` over scripts of issue lines, each time on no journal, and prints seconds, and peak memory beside the
+# script's size.
 # usage: sh bench/measure_run.sh   (needs python3 and GNU time; sqlite3 is timed beside it where it is installed)
 root=$(cd "$(dirname "$0")/.." && pwd) || exit 2
 "$root/life" usage </dev/null >/dev/null
@@ -20,9 +21,15 @@ def make_script(size):
             written += len(line)
     return number
 
+def forget():
+    journal = os.path.join(folder, "journal.life")
+    if os.path.exists(journal):
+        os.remove(journal)
+
 def seconds(words, times):
     best = None
     for _ in range(times):
+        forget()
         start = time.perf_counter()
         subprocess.run(words, stdin=open(path), stdout=subprocess.DEVNULL, cwd=folder, check=True)
         took = time.perf_counter() - start
@@ -30,6 +37,7 @@ def seconds(words, times):
     return best
 
 def peak_bytes():
+    forget()
     ran = subprocess.run(["/usr/bin/time", "-f", "%M", program, "run"], stdin=open(path), stdout=subprocess.DEVNULL,
                          stderr=subprocess.PIPE, cwd=folder, check=True)
     return int(ran.stderr.split()[-1]) * 1024

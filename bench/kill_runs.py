@@ -1,0 +1,288 @@
+#!/usr/bin/env python3
+"""Kills `life run` with SIGKILL at random moments of runs over a real file, and judges each time that the program
+reopens to exactly the records whose gates stood open in the file that the killed run left.
+
+usage: python3 bench/kill_runs.py [KILLS] [--folder FOLDER] [--seed SEED]     (python3 and its standard library)
+
+A third of the kills falls on fresh folders, in or near the creation of the journal; the rest on a journal that earlier
+kills left. The seed fixes what is drawn, not where a kill falls. The files lie in a temporary folder made in FOLDER,
+by default in the parent of the current folder; it is removed where all is well and kept where a round fails.
+A run that ends before its kill is judged like the others and counted as no kill.
+"""
+import argparse
+import os
+import random
+import shutil
+import signal
+import subprocess
+import sys
+import tempfile
+import time
+
+ROOT = os.path.dirname(os.path.dirname(os.path.abspath(__file__)))
+PROGRAM = os.path.join(ROOT, "crates", "life_cli", "out", "life_cli")
+JOURNAL = "journal.life"
+HEADER = b"LIFEJRNL" + bytes([0, 1, 0, 64, 0, 0, 0, 0])
+MOST_RECORDS = 20000
+LONG_SCRIPT, SHORT_SCRIPT = 3000, 300
+
+
+class Wrong(Exception):
+    """What a round found wrong."""
+
+
+def need(holds, text):
+    if not holds:
+        raise Wrong(text)
+
+
+def read_bytes(path):
+    """The bytes of a file, or None where there is none."""
+    if not os.path.exists(path):
+        return None
+    with open(path, "rb") as file:
+        return file.read()
+
+
+# The file.
+
+def gate_of(n):
+    return 17 + 65 * n
+
+
+def body(policy):
+    """The record that the program has to write for a line of `lines_of`."""
+    return (bytes([1, 3, 0, 3]) + policy.to_bytes(4, "big") + (18262).to_bytes(4, "big")
+            + (100000).to_bytes(8, "big") + (40000).to_bytes(8, "big") + bytes(36))
+
+
+def front_of(policies):
+    """The file up to the end of the last of these records."""
+    return b"\1" + HEADER + b"".join(b"\1" + body(policy) for policy in policies)
+
+
+def is_unfinished(image):
+    """Whether the file is a creation that didn't end."""
+    if len(image) <= 1:
+        return True
+    if image[0] == 0:
+        return len(image) <= 18
+    return image[0] != 1 and len(image) == 18 and image[1:17] == HEADER and image[17] != 1
+
+
+def open_gates(image):
+    """How many gates stand open from that of record 0 on."""
+    n = 0
+    while gate_of(n) < len(image) and image[gate_of(n)] == 1:
+        n += 1
+    return n
+
+
+# The runs.
+
+class Office:
+    """A folder with a journal, and the ids of its open records."""
+
+    def __init__(self, folder, start=None):
+        shutil.rmtree(folder, ignore_errors=True)
+        os.mkdir(folder)
+        self.folder = folder
+        self.kept = []
+        if start is not None:
+            with open(self.path(JOURNAL), "wb") as file:
+                file.write(start)
+
+    def path(self, name):
+        return os.path.join(self.folder, name)
+
+    def image(self):
+        return read_bytes(self.path(JOURNAL))
+
+    def start(self, policies, name):
+        """Starts the program on a line for each id."""
+        with open(self.path(name + ".csv"), "w") as script:
+            script.writelines("1,issue,%d,2020-01-01,endowment,0,3,1000.00,400.00\n" % policy for policy in policies)
+        with open(self.path(name + ".csv")) as script, open(self.path(name + ".out"), "wb") as out:
+            return subprocess.Popen([PROGRAM, "run"], stdin=script, stdout=out, cwd=self.folder)
+
+
+class Ids:
+    """Ids that were never given out before, in no order."""
+
+    def __init__(self):
+        self.given = 0
+
+    def take(self, many):
+        first, self.given = self.given, self.given + many
+        return [k * 1000000007 % 4294967291 + 1 for k in range(first, self.given)]
+
+
+def wait(seconds):
+    """More exact than a sleep where it is short."""
+    end = time.perf_counter() + seconds
+    if seconds > 0.01:
+        time.sleep(seconds - 0.005)
+    while time.perf_counter() < end:
+        pass
+
+
+def kill_run(office, asked, delay, on_file):
+    """Kills a run after a delay from its start, or from when its file is there. False where the run had ended."""
+    run = office.start(asked, "killed")
+    while on_file and run.poll() is None and not os.path.exists(office.path(JOURNAL)):
+        pass
+    wait(delay)
+    run.send_signal(signal.SIGKILL)
+    status = run.wait()
+    need(status in (0, -signal.SIGKILL), "the run to be killed ended with status %d" % status)
+    return status != 0
+
+
+# What the killed run left.
+
+def judge_left(office, asked):
+    """What kind of file it is, and how many records are open."""
+    image = office.image()
+    kept = office.kept
+    printed = read_bytes(office.path("killed.out"))
+    if image is None or is_unfinished(image):
+        need(not kept, "a journal of %d records is none any more" % len(kept))
+        need(not printed, "the run had answered and left no journal")
+        return ("no file" if image is None else "creation"), 0
+    need(image[0] == 1 and image[1:17] == HEADER, "the file is neither a journal nor an unfinished creation")
+    count = open_gates(image)
+    need(gate_of(count) < len(image), "the file ends at an open record, %d" % count)
+    need(count >= len(kept), "%d records are open, and %d were before" % (count, len(kept)))
+    need(count <= len(kept) + len(asked), "%d records are open, more than were asked for" % count)
+    need(not printed or count == len(kept) + len(asked), "the run had answered and left %d records" % count)
+    office.kept = kept + asked[:count - len(kept)]
+    need(image.startswith(front_of(office.kept)), "the open records aren't those of the scripts in order")
+    staged = image[gate_of(count) + 1:]
+    ahead = asked[count - len(kept):][:1]
+    need(len(staged) <= 65, "%d bytes stand behind the closed gate" % len(staged))
+    need(not staged or ahead, "a body is staged that wasn't asked for")
+    need(not staged or (body(ahead[0]) + b"\0").startswith(staged), "the staged body isn't that of the next line")
+    return {0: "nothing staged", 65: "whole"}.get(len(staged), "torn"), count
+
+
+def reopen(office, count, new, drawn):
+    """Runs the program on what was left, and judges its answers and the file after."""
+    with open(office.path("left.life"), "wb") as file:
+        file.write(office.image() or b"")
+    taken = [drawn, office.kept[-1]] if office.kept else []
+    status = office.start(taken + [new], "reopened").wait()
+    wanted = "".join("1,issue,%d,refused,taken\n" % policy for policy in taken)
+    wanted += "1,issue,%d,accepted,%d\n" % (new, count + 1)
+    answered = read_bytes(office.path("reopened.out")).decode("latin-1")
+    need(status == 0, "status %d on reopening, with %r" % (status, answered))
+    need(answered == wanted, "the answers on reopening are %r, wanted %r" % (answered, wanted))
+    office.kept = office.kept + [new]
+    image = office.image()
+    need(image.startswith(front_of(office.kept)), "the records after reopening aren't those before and the new one")
+    need(open_gates(image) == count + 1, "%d records are open after reopening" % open_gates(image))
+    need(gate_of(count + 1) < len(image), "the last record after reopening has no gate behind it")
+
+
+class Trial:
+    """All rounds: the journal that grows, and what was counted."""
+
+    def __init__(self, folder):
+        self.folder = folder
+        self.ids = Ids()
+        self.standing = None
+        self.unfinished = []
+        self.counts = []
+        self.kinds = {"no file": 0, "creation": 0, "nothing staged": 0, "whole": 0, "torn": 0}
+        self.late = 0
+        self.span = self.seconds_of_a_run()
+
+    def seconds_of_a_run(self):
+        """About how long two thirds of a long script take here."""
+        office = Office(os.path.join(self.folder, "timed"))
+        start = time.perf_counter()
+        office.start(self.ids.take(LONG_SCRIPT * 2 // 3), "timed").wait()
+        return time.perf_counter() - start
+
+    def fresh(self, draw):
+        """A fresh folder, or one with the creation that an earlier kill left unfinished."""
+        start = draw.choice(self.unfinished) if self.unfinished and draw.random() < 0.25 else None
+        office = Office(os.path.join(self.folder, "fresh"), start)
+        on_file = start is None and draw.random() < 0.5
+        return office, self.ids.take(SHORT_SCRIPT), draw.uniform(0, 0.0015 if on_file else 0.003), on_file
+
+    def grown(self, draw):
+        """The journal that earlier kills left; a quarter of the kills falls near the start of the run."""
+        if self.standing is None or len(self.standing.kept) > MOST_RECORDS:
+            self.standing = Office(os.path.join(self.folder, "standing"))
+        near = self.span / 20 if draw.random() < 0.25 else self.span
+        return self.standing, self.ids.take(LONG_SCRIPT), draw.uniform(0, near), False
+
+    def round(self, draw):
+        office, asked, delay, on_file = self.fresh(draw) if draw.random() < 1 / 3 else self.grown(draw)
+        before, had_file = len(office.kept), office.image() is not None
+        killed = kill_run(office, asked, delay, on_file)
+        need(office.image() is not None or not had_file, "the file is gone")
+        kind, count = judge_left(office, asked)
+        need(killed or count == before + len(asked), "a run that ended left %d records" % count)
+        if kind == "creation":
+            self.unfinished.append(office.image())
+        # The id of a body that was staged is as free as one that was never asked for.
+        free = asked[count - before] if kind in ("whole", "torn") and draw.random() < 0.5 else self.ids.take(1)[0]
+        reopen(office, count, free, draw.choice(office.kept or [0]))
+        if not killed:
+            self.late += 1
+            self.span *= 0.9
+            return
+        self.kinds[kind] += 1
+        self.counts.append(count)
+
+    def report(self, seed):
+        kinds = self.kinds
+        staged = kinds["whole"] + kinds["torn"]
+        print("%d kills, seed %d: %d before there was a file, %d in a creation, %d with a body staged behind a closed "
+              "gate (%d whole, %d torn), %d with none; %d to %d records; %d runs ended before their kill"
+              % (len(self.counts), seed, kinds["no file"], kinds["creation"], staged, kinds["whole"], kinds["torn"],
+                 kinds["nothing staged"], min(self.counts), max(self.counts), self.late))
+        print("all reopened")
+
+
+def run_rounds(trial, kills, seed):
+    """Answers whether all rounds were right."""
+    number = 0
+    while len(trial.counts) < kills:
+        number += 1
+        try:
+            trial.round(random.Random("%d/%d" % (seed, number)))
+            need(trial.late <= 100 + 3 * kills, "most runs end before their kill")
+        except Wrong as wrong:
+            print("kill_runs: round %d of seed %d: %s; the files are kept in %s"
+                  % (number, seed, wrong, trial.folder), file=sys.stderr)
+            return False
+    return True
+
+
+def main():
+    words = argparse.ArgumentParser(description="Kills `life run` and judges that it reopens to the open records.")
+    words.add_argument("kills", type=int, nargs="?", default=100)
+    words.add_argument("--folder", default=os.pardir, help="where the temporary folder is made")
+    words.add_argument("--seed", type=int, default=None)
+    given = words.parse_args()
+    if given.kills < 1:
+        words.error("there must be a kill")
+    seed = random.SystemRandom().randrange(10 ** 6) if given.seed is None else given.seed
+    # Without words the launcher builds the program where it isn't current, and the program then ends with status 2.
+    launched = subprocess.run(["sh", os.path.join(ROOT, "life")], stdin=subprocess.DEVNULL, stdout=subprocess.DEVNULL)
+    if launched.returncode != 2:
+        print("kill_runs: there is no program", file=sys.stderr)
+        return 2
+    folder = tempfile.mkdtemp(prefix="kill_runs.", dir=given.folder)
+    trial = Trial(os.path.abspath(folder))
+    if not run_rounds(trial, given.kills, seed):
+        return 1
+    trial.report(seed)
+    shutil.rmtree(folder)
+    return 0
+
+
+if __name__ == "__main__":
+    sys.exit(main())
