@@ -2,7 +2,6 @@
 use Rattle.std.proofs.Common.{◌≡◌, ◌⊎◌, ◌↔◌, inl, inr, ⊎_elim, ℕ, ◌≤◌, List, [], ◌∷◌, refl, ◌∙◌, sym, subst, append-nil, arith, IsTrue}
 use Rattle.std.specs.List.{AllByRecursion}
 use Rattle.outside_io.specs.declared.disks.Disk.{Ghosts}
-use Rattle.outside_io.specs.Faults.{Rose}
 use Rattle.policy_types.specs.declared.command.Command.{Command}
 use Rattle.policy_machine.specs.Book.{IsAccepted}
 use Rattle.posting_journal.specs.Creation.{IsUnfinished, Opens as OpensToBodies}
@@ -13,12 +12,11 @@ use Rattle.posting_journal.specs.States.{disk_of, is_clean}
 use Rattle.posting_journal.specs.declared.faults.JournalCause.{JournalCause}
 use Rattle.posting_journal.specs.declared.faults.JournalCause.TheVariants.{DiskFault as FaultyDisk, NotAJournal as IsNoJournal, BadRecord as IsBadRecord}
 use Rattle.posting_journal.specs.declared.journal.Journal.{Journal}
-use Rattle.life_app.specs.declared.opening.Cause.TheVariants.{NotAJournal, BadRecord}
 use Rattle.life_app.specs.Journals.{IsRecordable, bodies_of, Opens, OpensToNone, IsShown}
 use Rattle.life_app.specs.Images.{HoldsOnce, IsLeftAlone, OpensAlike}
 use Rattle.life_app.specs.Opening.{HasNotOpened, TellsFault, opened_on, as_cause}
 use Rattle.life_app.specs.Replays.{IsLookedAt}
-use Rattle.life_app.proofs.JournalLaws.{opens_to_one, shown_opens_to_none}
+use Rattle.life_app.proofs.JournalLaws.{opens_to_one}
 
 no_bodies : (commands : List Command) → bodies_of commands ≡ [] → commands ≡ []
 no_bodies [] none = refl
@@ -92,13 +90,6 @@ module _ {D : Type 0} (g : Ghosts D) (old : D) where
   shown IsNoJournal shows = shows
   shown (IsBadRecord n) shows = inl shows
 
-  -- a file that the disk let be read opens to none
-  refused : (new : D) (cause : JournalCause) → TellsCause (g.count old) (g.count new) cause
-      → (Rose (g.count old) (g.count new) → ⊥) → JournalShown (g.reads old) cause → OpensToNone (g.reads old)
-  refused new (FaultyDisk count) told quiet shows = absurd (quiet told.1)
-  refused new IsNoJournal told quiet shows = shown_opens_to_none (g.reads old) NotAJournal tt shows
-  refused new (IsBadRecord n) told quiet shows = shown_opens_to_none (g.reads old) (BadRecord n) tt (inl shows)
-
   -- a disk on which no journal was started
   pub not_started : ReadsImage g → (new : D) (cause : JournalCause) → TellsCause (g.count old) (g.count new) cause
       → (g.honest old) ↔ (g.honest new)
@@ -113,9 +104,16 @@ module _ {D : Type 0} (g : Ghosts D) (old : D) where
           ((opening honest).unwritten (finished (g.reads old) none)).facts.reads;
       since = λ (honest : g.honest old) (image : List ℕ) (left : g.left_since new (g.clock old) image).
           opens_alike g reads_image old honest image ((opening honest).ever.each image left);
-      synced = λ (commands : List Command) (honest : g.honest old) (opens : Opens (g.reads old) commands)
-          (quiet : Rose (g.count old) (g.count new) → ⊥).
-          absurd (refused new cause told quiet (shows honest) commands opens);
+      synced = λ (commands : List Command) (honest : g.honest old) (opens : Opens (g.reads old) commands).
+          elim (opening honest).synced [
+            | inl looks ↦ inl looks
+            | inr at ↦ inr (
+              at.synced,
+              at.at_sync,
+              λ (image : List ℕ) (left : g.left_since new (g.clock at.synced) image).
+                  opening_keeps (g.reads old) image commands opens (at.since image left),
+            )
+          ];
     };
   }
 
@@ -176,6 +174,6 @@ module _ {D : Type 0} (g : Ghosts D) (old : D) (journal : Journal D g) (started 
         ∙ ((started.opens honest).unwritten (finished (g.reads old) none)).facts.reads;
     since = λ (honest : g.honest old) (image : List ℕ) (left : g.left_since new (g.clock old) image).
         opens_alike g reads_image old honest image (looked_ever new honest looked image left);
-    synced = λ (commands : List Command) (honest : g.honest old) (opens : Opens (g.reads old) commands)
-        (quiet : Rose (g.count old) (g.count new) → ⊥). looked_since_sync new commands honest looked opens;
+    synced = λ (commands : List Command) (honest : g.honest old) (opens : Opens (g.reads old) commands).
+        inr (looked_since_sync new commands honest looked opens);
   }

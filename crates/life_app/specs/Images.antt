@@ -3,13 +3,13 @@ use Rattle.std.specs.Prelude.{◌≡◌, ◌⊎◌, ◌↔◌, ℕ, List, [], �
 use Rattle.std.specs.List.{filter_map, last_or}
 use Rattle.std.specs.Option.{unwrap_or}
 use Rattle.outside_io.specs.declared.disks.Disk.{Ghosts}
-use Rattle.outside_io.specs.Faults.{Rose}
 use Rattle.policy_types.specs.declared.command.Command.{Command}
 use Rattle.policy_types.specs.declared.entry.Call.TheVariants.{Post}
 use Rattle.policy_types.specs.declared.entry.Reply.TheVariants.{Faulted}
 use Rattle.policy_types.specs.declared.entry.Entry.{Entry}
 use Rattle.policy_machine.specs.History.{Opening, accepted_of, commands_after, fault_of}
 use Rattle.posting_journal.specs.Opening.{IsSynced}
+use Rattle.posting_journal.specs.Runs.{LooksOn}
 use Rattle.life_app.specs.Journals.{JournalBytes, Opens, OpensToNone}
 
 -- a posting of the command met a fault of the disk, and after it came these turns
@@ -82,14 +82,13 @@ abbrev pub OpensAlike : List ℕ → List ℕ → Type 0
 OpensAlike bytes image = (commands : List Command) × Opens bytes commands × Opens image commands
 
 -- A disk on which no office ran. Since the call a crash leaves what it might have left before, or what opens to the
--- commands to which the file opened; since the end of the first sync of an opening in which the disk didn't fail the
--- second alone. A file that opens to none reads as before.
+-- commands to which the file opened. Either nothing was written, or since the end of the opening's first sync a crash
+-- leaves the second alone. A file that opens to none reads as before.
 pub record IsLeftAlone {D : Type 0} (g : Ghosts D) (old new : D) : Type 0 where
   pub honesty : (g.honest old) ↔ (g.honest new)
   pub reads : g.honest old → OpensToNone (g.reads old) → g.reads new ≡ g.reads old
   pub since : g.honest old → (image : List ℕ) → g.left_since new (g.clock old) image
       → g.may_leave old image ⊎ OpensAlike (g.reads old) image
   pub synced : (commands : List Command) → g.honest old → Opens (g.reads old) commands
-      → (Rose (g.count old) (g.count new) → ⊥)
-      → (mid : D) × IsSynced g old mid new
-      × ((image : List ℕ) → g.left_since new (g.clock mid) image → Opens image commands)
+      → LooksOn g old new ⊎ ((mid : D) × IsSynced g old mid new
+      × ((image : List ℕ) → g.left_since new (g.clock mid) image → Opens image commands))

@@ -110,13 +110,14 @@ module _ {D T E : Type 0} (g : Ghosts D) (old mid new : D) (synced : Result T E)
     same : (image : List ℕ) → IsOpening (g.reads mid) image → IsOpening (g.reads old) image
     same image = subst (λ b. IsOpening b image) facts.reads
 
-    pub opens_ever : ((image : List ℕ) → g.left_since old (g.clock old) image → g.may_leave old image) → (¬ IsUnfinished (g.reads mid) → LooksOn g mid new) → OpensOn g old new
-    opens_ever only_now looks = record {
+    pub opens_ever : ((image : List ℕ) → g.left_since old (g.clock old) image → g.may_leave old image) → (¬ IsUnfinished (g.reads mid) → LooksOn g mid new) → HasSynced g old new → OpensOn g old new
+    opens_ever only_now looks at_sync = record {
       ever =
           let P = λ (image : List ℕ). g.may_leave old image ⊎ IsOpening (g.reads old) image in
           leaves g old new P (λ image left. inl (only_now image left))
           (goes_on g old mid new P (wider g old mid (g.may_leave mid) P time (λ image left. inl (facts.images image left)))
           (wider g mid new (IsOpening (g.reads mid)) P then (λ image opening. inr (same image opening))));
+      synced = inr at_sync;
       unwritten = λ finished. looks_on g old mid new (looked g old mid (record { reads = facts.reads; images = facts.images }) time)
           (looks (λ unfinished. finished (subst (λ b. IsUnfinished b) facts.reads unfinished)));
     }
@@ -126,4 +127,18 @@ module _ {D T E : Type 0} (g : Ghosts D) (old mid new : D) (synced : Result T E)
       synced = mid;
       at_sync = record { reads = facts.reads; safe = safe; later = time.later; passed = then.later };
       since = λ image left. same image (⊎_elim (λ past. inl (safe image (only_now image past))) (λ now. now) (then.nothing_else (g.clock mid) image (omega arith) left));
+    }
+
+-- An opening whose sync failed wrote nothing.
+pub opens_unsynced : {D T E : Type 0} (g : Ghosts D) (old new : D) (result : Result T E)
+    → Syncs result (g.reads old) (g.reads new) (g.may_leave old) (g.may_leave new) → Passes g old new (g.may_leave new)
+    → ((image : List ℕ) → g.left_since old (g.clock old) image → g.may_leave old image) → OpensOn g old new
+opens_unsynced g old new result facts time only_now =
+    let looks = looked g old new (record { reads = facts.reads; images = facts.images }) time in
+    let P = λ (image : List ℕ). g.may_leave old image ⊎ IsOpening (g.reads old) image in
+    record {
+      ever = leaves g old new P (λ image left. inl (only_now image left))
+          (wider g old new (g.may_leave new) P time (λ image left. inl (facts.images image left)));
+      synced = inl looks;
+      unwritten = λ finished. looks;
     }
