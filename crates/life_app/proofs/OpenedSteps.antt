@@ -16,7 +16,7 @@ use Rattle.life_app.specs.Books.{JournalHolds, StandsAfter}
 use Rattle.life_app.specs.Opening.{HasOpened, HasNotOpened, TellsFault, opened_on}
 use Rattle.life_app.specs.Replays.{IsLookedAt, HasStopped, IsStoppedAt, IsOfficeOf, HasNoOffice}
 use Rattle.life_app.proofs.ReplaySteps.{all_replayed, stopped_shown}
-use Rattle.life_app.proofs.OpeningSteps.{CountsNow, IsStarted, ReadsImage, opening_keeps, holds_once, looked_alone, looked_ever, looked_since_sync, opens_commands, started_later}
+use Rattle.life_app.proofs.OpeningSteps.{CountsNow, IsStarted, ReadsImage, opening_keeps, holds_once, looked_alone, looked_ever, synced_images, opens_commands, started_later}
 
 all_valid : (commands : List Command) → AllByRecursion IsRecordable commands → AllByRecursion IsValid commands
 all_valid [] recordable = tt
@@ -130,11 +130,11 @@ module _ {D : Type 0} (g : Ghosts D) (old : D) (journal : Journal D g) (started 
                     (opening_keeps (g.reads old) image commands (opens_replayed honest) opening))
               ];
           synced = λ (honest : g.honest old).
-              let opens = opens_replayed honest in
-              let since = looked_since_sync g old journal started counts_now new commands honest looked opens in (
-                since.0,
-                since.1,
-                λ (image : List ℕ) (left : g.left_since new (g.clock since.0) image).
-                    holds_once image commands (g.count old) (since.2 image left),
+              let at = synced_images g old journal started counts_now new honest looked in (
+                at.0,
+                at.1,
+                λ (image : List ℕ) (left : g.left_since new (g.clock at.0) image).
+                    holds_once image commands (g.count old)
+                    (opening_keeps (g.reads old) image commands (opens_replayed honest) (at.2 image left)),
               );
         }

@@ -69,7 +69,12 @@ pub record IsStarted {D : Type 0} {g : Ghosts D} (old : D) (journal : Journal D 
 abbrev pub ReadsImage : {D : Type 0} → Ghosts D → Type 0
 ReadsImage {D = D} g = (disk : D) → g.honest disk → g.may_leave disk (g.reads disk)
 
--- an image of an opening is one of the disk before it, or opens alike
+-- an image of an opening is the file as it was, or opens alike
+was_or_alike : (before image : List ℕ) → IsOpening before image → (image ≡ before) ⊎ OpensAlike before image
+was_or_alike before image (inl same) = inl same
+was_or_alike before image (inr creation) = inr ([], inr (refl, creation.0), opens_commands image [] tt tt creation.1)
+
+-- or is one of the disk before it
 opens_alike : {D : Type 0} (g : Ghosts D) → ReadsImage g → (old : D) → g.honest old → (image : List ℕ)
     → g.may_leave old image ⊎ IsOpening (g.reads old) image → g.may_leave old image ⊎ OpensAlike (g.reads old) image
 opens_alike g reads_image old honest image (inl before) = inl before
@@ -104,16 +109,15 @@ module _ {D : Type 0} (g : Ghosts D) (old : D) where
           ((opening honest).unwritten (finished (g.reads old) none)).facts.reads;
       since = λ (honest : g.honest old) (image : List ℕ) (left : g.left_since new (g.clock old) image).
           opens_alike g reads_image old honest image ((opening honest).ever.each image left);
-      synced = λ (commands : List Command) (honest : g.honest old) (opens : Opens (g.reads old) commands).
-          elim (opening honest).synced [
-            | inl looks ↦ inl looks
-            | inr at ↦ inr (
-              at.synced,
-              at.at_sync,
-              λ (image : List ℕ) (left : g.left_since new (g.clock at.synced) image).
-                  opening_keeps (g.reads old) image commands opens (at.since image left),
-            )
-          ];
+      synced = λ (honest : g.honest old). elim (opening honest).synced [
+        | inl looks ↦ inl looks
+        | inr at ↦ inr (
+          at.synced,
+          at.at_sync,
+          λ (image : List ℕ) (left : g.left_since new (g.clock at.synced) image).
+              was_or_alike (g.reads old) image (at.since image left),
+        )
+      ];
     };
   }
 
@@ -149,18 +153,16 @@ module _ {D : Type 0} (g : Ghosts D) (old : D) (journal : Journal D g) (started 
       (looked_since g counts_now (disk_of journal) new here (looked.looks here) (g.clock old) (started_later honest) image left)
 
   -- and each since the end of its first sync
-  pub looked_since_sync : (new : D) (commands : List Command) → g.honest old → IsLookedAt g (disk_of journal) new
-      → Opens (g.reads old) commands → (mid : D) × IsSynced g old mid new
-      × ((image : List ℕ) → g.left_since new (g.clock mid) image → Opens image commands)
-  looked_since_sync new commands honest looked opens =
+  pub synced_images : (new : D) → g.honest old → IsLookedAt g (disk_of journal) new → (mid : D) × IsSynced g old mid new
+      × ((image : List ℕ) → g.left_since new (g.clock mid) image → IsOpening (g.reads old) image)
+  synced_images new honest looked =
       let here = started.honesty.0 honest in
       let looks = looked.looks here in
       let m = (started.opened honest).moments in (
         m.synced,
         synced_before g old m.synced (disk_of journal) new m.at_sync looks.time.later,
-        λ (image : List ℕ) (left : g.left_since new (g.clock m.synced) image).
-            opening_keeps (g.reads old) image commands opens (m.since image
-            (looked_since g counts_now (disk_of journal) new here looks (g.clock m.synced) m.at_sync.passed image left)),
+        λ (image : List ℕ) (left : g.left_since new (g.clock m.synced) image). m.since image
+            (looked_since g counts_now (disk_of journal) new here looks (g.clock m.synced) m.at_sync.passed image left),
       )
 
   pub looked_alone : ReadsImage g → (new : D) → IsLookedAt g (disk_of journal) new → IsLeftAlone g old new
@@ -174,6 +176,12 @@ module _ {D : Type 0} (g : Ghosts D) (old : D) (journal : Journal D g) (started 
         ∙ ((started.opens honest).unwritten (finished (g.reads old) none)).facts.reads;
     since = λ (honest : g.honest old) (image : List ℕ) (left : g.left_since new (g.clock old) image).
         opens_alike g reads_image old honest image (looked_ever new honest looked image left);
-    synced = λ (commands : List Command) (honest : g.honest old) (opens : Opens (g.reads old) commands).
-        inr (looked_since_sync new commands honest looked opens);
+    synced = λ (honest : g.honest old).
+        let at = synced_images new honest looked in
+        inr (
+          at.0,
+          at.1,
+          λ (image : List ℕ) (left : g.left_since new (g.clock at.0) image).
+              was_or_alike (g.reads old) image (at.2 image left),
+        );
   }

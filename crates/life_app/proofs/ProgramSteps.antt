@@ -13,7 +13,7 @@ use Rattle.life_app.specs.declared.ending.Ending.TheVariants.{Done, Usage, BadSc
 use Rattle.life_app.specs.declared.opening.Cause.{Cause}
 use Rattle.life_app.specs.declared.opening.Cause.TheVariants.{DiskFault as FaultyDisk, NotAJournal, BadRecord, NoMemory as NoRoom}
 use Rattle.life_app.specs.Journals.{IsOfTheFile, Opens, OpensToNone}
-use Rattle.life_app.specs.Outcome.{EndsRun, SaysWhy, IsRefused, IsRefusedJournal, IsRun, Obeys}
+use Rattle.life_app.specs.Outcome.{EndsRun, SaysWhy, IsReadAs, IsReadable, IsRefused, IsRefusedJournal, IsRun, IsUnreadable, Obeys}
 use Rattle.life_app.specs.Writing.{Stream, WroteLine}
 use Rattle.life_app.specs.Status.{status_of}
 use Rattle.life_app.specs.Words.{AreRunWords}
@@ -46,6 +46,15 @@ not_refused bytes lanes output short reads refused = elim refused [
   | inr fault ↦ fault_excludes bytes fault.0 fault.1.0 lanes fault.1.2 reads
 ]
 
+-- and none is read that can't be
+never_readable : {A : Type 0} (told : Option (List ℕ)) (bytes : List ℕ) → IsReadable told → told ≡ Some bytes → IsUnreadable bytes → A
+never_readable told bytes readable is unreadable =
+    let read = subst (λ (t : Option (List ℕ)). IsReadAs t readable.0) is readable.1 in
+    elim unreadable [
+      | inl long ↦ absurd (omega (arith, long, read.0))
+      | inr fault ↦ absurd (fault_excludes bytes fault.0 fault.1.0 readable.0 fault.1.1 read.1)
+    ]
+
 -- a file is refused as a journal for what its bytes are
 of_the_file : (cause : Cause) (output : Stream) → SaysWhy cause output → IsOfTheFile cause
 of_the_file NotAJournal output said = tt
@@ -69,15 +78,15 @@ module _ {D : Type 0} (g : Ghosts D) (old new : D) where
   reads_as_before input output Done ends honest none = ran_nowhere _ _ _ ends.1 honest none
   reads_as_before input output Usage ends honest none = absurd ends
   reads_as_before input output BadScript ends honest none = ap g.reads ends.0
-  reads_as_before input output BadJournal ends honest none = ends.1.alone.reads honest none
+  reads_as_before input output BadJournal ends honest none = ends.2.alone.reads honest none
   reads_as_before input output InputFault ends honest none = ap g.reads ends.0
   reads_as_before input output WriteFault ends honest none = ran_nowhere _ _ _ ends.2 honest none
   reads_as_before input output DiskFault ends honest none = elim ends.2 [
-    | inl said ↦ said.1.reads honest none
+    | inl said ↦ said.2.reads honest none
     | inr ran ↦ ran_nowhere _ _ _ ran honest none
   ]
   reads_as_before input output NoMemory ends honest none = elim ends [
-    | inl said ↦ elim said.1 [ inl same ↦ ap g.reads same | inr alone ↦ alone.0.reads honest none ]
+    | inl said ↦ elim said.1 [ inl same ↦ ap g.reads same | inr unused ↦ unused.1.reads honest none ]
     | inr ran ↦ ran_nowhere _ _ _ ran honest none
   ]
 
@@ -146,7 +155,7 @@ module _ {D : Type 0} (g : Ghosts D) (old new : D) where
   ran_to_end input output DiskFault bytes lanes commands ends told short reads honest opens input_held output_held disk_held =
       absurd (disk_held ends.1)
   ran_to_end input output BadJournal bytes lanes commands ends told short reads honest opens input_held output_held disk_held =
-      absurd (opens_to_none output ends.1 honest commands opens)
+      absurd (opens_to_none output ends.2 honest commands opens)
   ran_to_end input output BadScript bytes lanes commands ends told short reads honest opens input_held output_held disk_held =
       absurd (not_refused bytes lanes output short reads (subst (λ (t : Option (List ℕ)). IfSome t (λ b. IsRefused b output)) told ends.1))
 
@@ -184,5 +193,33 @@ module _ {D : Type 0} (g : Ghosts D) (old new : D) where
     refused_exactly bytes lanes run told short reads honest none input_held disk_held =
         elim obeys [
           | inl ran ↦ refused_at_opening input output ending bytes lanes ran.1 told short reads honest none input_held disk_held
+          | inr refused ↦ absurd (refused.0 run)
+        ]
+
+  -- the endings of a run whose script can't be read
+  unread : (input output : Stream) (ending : Ending) (bytes : List ℕ) → EndsRun g old new input output ending
+      → input.before ≡ Some bytes → IsUnreadable bytes → (Rose input.faults_before input.faults_after → ⊥)
+      → (status_of ending ≡ 3) ⊎ (status_of ending ≡ 9)
+  unread input output BadScript bytes ends told unreadable held = inl refl
+  unread input output NoMemory bytes ends told unreadable held = inr refl
+  unread input output Usage bytes ends told unreadable held = absurd ends
+  unread input output InputFault bytes ends told unreadable held = absurd (held ends.1)
+  unread input output Done bytes ends told unreadable held =
+      never_readable input.before bytes (ends.1.lanes, ends.1.read) told unreadable
+  unread input output BadJournal bytes ends told unreadable held = never_readable input.before bytes ends.1 told unreadable
+  unread input output WriteFault bytes ends told unreadable held =
+      never_readable input.before bytes (ends.2.lanes, ends.2.read) told unreadable
+  unread input output DiskFault bytes ends told unreadable held = elim ends.2 [
+    | inl said ↦ never_readable input.before bytes said.0 told unreadable
+    | inr ran ↦ never_readable input.before bytes (ran.lanes, ran.read) told unreadable
+  ]
+
+  module _ (words : List (String Global)) (input output : Stream) (InputStays : Type 0) (ending : Ending)
+      (obeys : Obeys g old new words input output InputStays ending) where
+    pub script_refused : (bytes : List ℕ) → AreRunWords words → input.before ≡ Some bytes → IsUnreadable bytes
+        → (Rose input.faults_before input.faults_after → ⊥) → (status_of ending ≡ 3) ⊎ (status_of ending ≡ 9)
+    script_refused bytes run told unreadable held =
+        elim obeys [
+          | inl ran ↦ unread input output ending bytes ran.1 told unreadable held
           | inr refused ↦ absurd (refused.0 run)
         ]

@@ -28,7 +28,7 @@ use Rattle.life_app.specs.Journals.{bodies_of}
 use Rattle.life_app.specs.declared.opening.Cause.{Cause}
 use Rattle.life_app.specs.declared.opening.Cause.TheVariants.{DiskFault as FaultyDisk, NotAJournal, BadRecord, NoMemory as NoRoom}
 use Rattle.life_app.specs.Opening.{HasNotOpened, HasOpened, opened_on}
-use Rattle.life_app.specs.Outcome.{AreTried, AreAnswered, EndsRun, HaveAFault, IsRefused, IsRunOf, most_script_bytes}
+use Rattle.life_app.specs.Outcome.{AreTried, AreAnswered, EndsRun, HaveAFault, IsRefused, IsRunOf, most_script_bytes, IsReadAs}
 use Rattle.life_app.specs.Parts.{AnswersAll, EndsLines, EndsScript, EndsUnopened, EndsUnread, lines_text}
 use Rattle.life_app.specs.Writing.{Stream, WroteAll, WroteNothing}
 use Rattle.life_app.proofs.MergeSteps.{all_answered, all_tried, callers_of, has_a_fault, is_merge, text_of_turns}
@@ -182,9 +182,10 @@ pub record IsUnread (input : Stream) (unread : Unread) : Type 0 where
   pub fault : unread ≡ ReadFault → Rose input.faults_before input.faults_after
 
 told_lanes : (told : Option (List ℕ)) (bytes : List ℕ) (lanes : List Lane) → IfSome told (λ t. t ≡ bytes)
-    → Reads bytes lanes → IfSome told (λ t. Reads t lanes)
-told_lanes None bytes lanes same read = tt
-told_lanes (Some t) bytes lanes same read = subst (λ (b : List ℕ). Reads b lanes) (sym same) read
+    → Reads bytes lanes → length bytes ≤ most_script_bytes → IsReadAs told lanes
+told_lanes None bytes lanes same read short = tt
+told_lanes (Some t) bytes lanes same read short =
+    subst (λ (b : List ℕ). (length b ≤ most_script_bytes) × Reads b lanes) (sym same) (short, read)
 
 -- what is known of a disk on which no office was opened gives the ending
 pub ends_unopened : {D : Type 0} (g : Ghosts D) (old new : D) (lanes : List Lane) (output : Stream) (cause : Cause) (ending : Ending)
@@ -198,24 +199,30 @@ ends_unopened g old new lanes output _ _ not said = absurd said
 
 -- a run that read its script ends as its script's run does
 pub ends_script : {D : Type 0} (g : Ghosts D) (old new : D) (input output : Stream) (lanes : List Lane) (bytes : List ℕ) (ending : Ending)
-    → Reads bytes lanes → IfSome input.before (λ t. t ≡ bytes) → IsAtEnd input.after
+    → Reads bytes lanes → length bytes ≤ most_script_bytes → IfSome input.before (λ t. t ≡ bytes) → IsAtEnd input.after
     → EndsScript g old new lanes output ending → EndsRun g old new input output ending
-ends_script g old new input output lanes bytes Done read same end ends =
-    (end, record { lanes = lanes; read = told_lanes input.before bytes lanes same read; run = ends })
-ends_script g old new input output lanes bytes BadJournal read same end ends = (end, ends)
-ends_script g old new input output lanes bytes WriteFault read same end ends =
-    (end, ends.0, record { lanes = lanes; read = told_lanes input.before bytes lanes same read; run = ends.1 })
-ends_script g old new input output lanes bytes DiskFault read same end ends = elim ends.1 [
-  | inl said ↦ (end, ends.0, inl said)
-  | inr run ↦ (end, ends.0, inr (record { lanes = lanes; read = told_lanes input.before bytes lanes same read; run = run }))
-]
-ends_script g old new input output lanes bytes NoMemory read same end ends = elim ends [
-  | inl said ↦ inl said
-  | inr run ↦ inr (record { lanes = lanes; read = told_lanes input.before bytes lanes same read; run = run })
-]
-ends_script g old new input output lanes bytes Usage read same end ends = absurd ends
-ends_script g old new input output lanes bytes BadScript read same end ends = absurd ends
-ends_script g old new input output lanes bytes InputFault read same end ends = absurd ends
+ends_script g old new input output lanes bytes ending read short same end ends =
+    by ending (told_lanes input.before bytes lanes same read short) ends
+  where
+    by : (ending : Ending) → IsReadAs input.before lanes → EndsScript g old new lanes output ending
+        → EndsRun g old new input output ending
+    by Done told ends = (end, record { lanes = lanes; read = told; run = ends })
+    by BadJournal told ends = (end, (lanes, told), ends)
+    by WriteFault told ends = (end, ends.0, record { lanes = lanes; read = told; run = ends.1 })
+    by DiskFault told ends = elim ends.1 [
+      | inl said ↦ (end, ends.0, inl ((lanes, told), said.0, said.1))
+      | inr run ↦ (end, ends.0, inr (record { lanes = lanes; read = told; run = run }))
+    ]
+    by NoMemory told ends = elim ends [
+      | inl said ↦ elim said.1 [
+        | inl untouched ↦ inl (said.0, inl untouched)
+        | inr alone ↦ inl (said.0, inr ((lanes, told), alone.0, alone.1))
+      ]
+      | inr run ↦ inr (record { lanes = lanes; read = told; run = run })
+    ]
+    by Usage told ends = absurd ends
+    by BadScript told ends = absurd ends
+    by InputFault told ends = absurd ends
 
 -- one that read none leaves the disk
 pub ends_unread : {D : Type 0} (g : Ghosts D) (disk : D) (input output : Stream) (unread : Unread) (ending : Ending)

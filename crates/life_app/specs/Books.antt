@@ -78,8 +78,8 @@ pub record StandsAfter {D : Type 0} {g : Ghosts D} (office : Office D g) (openin
   pub faults : g.count (disk_of office.journal) ≡ faults_after opening history
   pub journal : g.honest (disk_of office.journal) → JournalHolds office opening history
 
--- An office went from one history to a longer one. A crash since an earlier moment leaves what it might have left before
--- the first of the new turns, or an image of the longer history.
+-- An office went from one history to a longer one. A crash since an earlier moment leaves what it might have left
+-- before the first of the new turns, or an image of the longer history.
 pub record GoesOn {D : Type 0} {g : Ghosts D} (old new : Office D g) (opening : Opening)
     (before after : List Entry) : Type 0 where
   pub stands : StandsAfter new opening after

@@ -68,7 +68,7 @@ faults_after opening history =
     unwrap_or (last_or None (filter_map (λ (entry : Entry). fault_of entry.reply) history)) opening.faults
 
 -- The disk on which an office was opened, and what became of it in the history. Since the opening began a crash leaves
--- what it might have left before, or an image of the history; since the end of the opening's first sync the second alone.
+-- what it might have left before, or an image of the history; since the end of a sync the second alone.
 pub record IsLeftBy {D : Type 0} (g : Ghosts D) (old new : D) (opening : Opening) (history : List Entry) : Type 0 where
   pub honesty : (g.honest old) ↔ (g.honest new)
   pub faults : g.count new ≡ faults_after opening history
@@ -82,13 +82,13 @@ abbrev pub OpensAlike : List ℕ → List ℕ → Type 0
 OpensAlike bytes image = (commands : List Command) × Opens bytes commands × Opens image commands
 
 -- A disk on which no office ran. Since the call a crash leaves what it might have left before, or what opens to the
--- commands to which the file opened. Either nothing was written, or since the end of the opening's first sync a crash
--- leaves the second alone. A file that opens to none reads as before.
+-- commands to which the file opened. Either the disk was only looked at, or since the end of a sync a crash leaves what
+-- was read before the call, or what opens alike. A file that opens to no commands reads as before.
 pub record IsLeftAlone {D : Type 0} (g : Ghosts D) (old new : D) : Type 0 where
   pub honesty : (g.honest old) ↔ (g.honest new)
   pub reads : g.honest old → OpensToNone (g.reads old) → g.reads new ≡ g.reads old
   pub since : g.honest old → (image : List ℕ) → g.left_since new (g.clock old) image
       → g.may_leave old image ⊎ OpensAlike (g.reads old) image
-  pub synced : (commands : List Command) → g.honest old → Opens (g.reads old) commands
-      → LooksOn g old new ⊎ ((mid : D) × IsSynced g old mid new
-      × ((image : List ℕ) → g.left_since new (g.clock mid) image → Opens image commands))
+  pub synced : g.honest old → LooksOn g old new
+      ⊎ ((mid : D) × IsSynced g old mid new × ((image : List ℕ) → g.left_since new (g.clock mid) image
+      → (image ≡ g.reads old) ⊎ OpensAlike (g.reads old) image))

@@ -39,6 +39,10 @@ pub record CanFollow (commands : List Command) (command : Command) : Type 0 wher
   pub recordable : IsRecordable command
   pub accepted : IsOk (next (policy_of commands (id_of command)) command)
 
+-- the body spells no command that can follow these
+abbrev pub IsUnspelled : List ℕ → List Command → Type 0
+IsUnspelled body commands = (command : Command) → body ≡ spelling_of command → CanFollow commands command → ⊥
+
 -- The records before record n are those of commands, one accepted after the other, and its own body spells none that
 -- can follow them.
 pub record IsUnfollowed (bytes : List ℕ) (n : ℕ) : Type 0 where
@@ -49,7 +53,7 @@ pub record IsUnfollowed (bytes : List ℕ) (n : ℕ) : Type 0 where
   pub records : IsJournal bytes (bodies_of commands ++ body ∷ rest)
   pub recordable : AllByRecursion IsRecordable commands
   pub accepted : IsAccepted commands
-  pub none : (command : Command) → body ≡ spelling_of command → CanFollow commands command → ⊥
+  pub none : IsUnspelled body commands
 
 -- the file was refused for what its bytes are
 abbrev pub IsOfTheFile : Cause → Type 0

@@ -20,7 +20,7 @@ abbrev pub opened_on : List Command → ℕ → Opening
 opened_on commands faults = record { commands = commands; faults = faults }
 
 -- The office is that of the commands to which the disk's file opened. Since the opening began a crash leaves what it
--- might have left before, or what opens to them; since the end of the opening's first sync the second alone.
+-- might have left before, or what opens to them; since the end of a sync the second alone.
 pub record HasOpened {D : Type 0} {g : Ghosts D} (old : D) (office : Office D g) : Type 0 where
   pub commands : List Command
   pub opened : g.honest old → Opens (g.reads old) commands

@@ -60,15 +60,26 @@ pub record IsRunOf {D : Type 0} (g : Ghosts D) (old new : D) (lanes : List Lane)
   pub replies : Replies history
   pub disk : IsLeftBy g old new (opened_on commands (g.count old)) history
 
+abbrev pub most_script_bytes : ℕ
+most_script_bytes = 16777216
+
+-- the script isn't too long, and says these lanes
+abbrev pub IsReadAs : Option (List ℕ) → List Lane → Type 0
+IsReadAs script lanes = IfSome script (λ bytes. (length bytes ≤ most_script_bytes) × Reads bytes lanes)
+
+abbrev pub IsReadable : Option (List ℕ) → Type 0
+IsReadable script = (lanes : List Lane) × IsReadAs script lanes
+
+-- it is too long, or has a row that is no line
+abbrev pub IsUnreadable : List ℕ → Type 0
+IsUnreadable bytes = (most_script_bytes < length bytes) ⊎ ((row : ℕ) × ((field : ℕ) × IsFirstFault bytes row field))
+
 -- and the lanes are those that the script says
 pub record IsRun {D : Type 0} (g : Ghosts D) (old new : D) (script : Option (List ℕ))
     (Wrote : List ℕ → Type 0) (Replies : List Entry → Type 0) : Type 0 where
   pub lanes : List Lane
-  pub read : IfSome script (λ bytes. Reads bytes lanes)
+  pub read : IsReadAs script lanes
   pub run : IsRunOf g old new lanes Wrote Replies
-
-abbrev pub most_script_bytes : ℕ
-most_script_bytes = 16777216
 
 -- the text of the first row that is no line, and of its first bad field
 abbrev pub bad_row_text : ℕ → ℕ → List ℕ
@@ -99,16 +110,18 @@ pub record IsRefusedJournal {D : Type 0} (g : Ghosts D) (old new : D) (output : 
   pub quiet : g.count new ≡ g.count old
   pub alone : IsLeftAlone g old new
 
--- no office ran for want of memory: the disk is the one from before, or one on which the opening didn't fail
-abbrev pub IsUnused : {D : Type 0} → Ghosts D → D → D → Type 0
-IsUnused g old new = (new ≡ old) ⊎ (IsLeftAlone g old new × (g.count new ≡ g.count old))
+-- no office ran for want of memory: the disk is the one from before, or the script was read and the disk didn't fail
+abbrev pub IsUnused : {D : Type 0} → Ghosts D → D → D → Option (List ℕ) → Type 0
+IsUnused g old new script =
+    (new ≡ old) ⊎ (IsReadable script × IsLeftAlone g old new × (g.count new ≡ g.count old))
 
 -- what each ending of a run says
 abbrev pub EndsRun : {D : Type 0} → Ghosts D → D → D → Stream → Stream → Ending → Type 0
 EndsRun g old new input output Done = IsAtEnd input.after × IsRun g old new input.before (WroteAll output) AreAnswered
 EndsRun g old new input output Usage = ⊥
 EndsRun g old new input output BadScript = (new ≡ old) × IfSome input.before (λ bytes. IsRefused bytes output)
-EndsRun g old new input output BadJournal = IsAtEnd input.after × IsRefusedJournal g old new output
+EndsRun g old new input output BadJournal =
+    IsAtEnd input.after × IsReadable input.before × IsRefusedJournal g old new output
 EndsRun g old new input output InputFault =
     (new ≡ old) × Rose input.faults_before input.faults_after × WroteLine output (codes "readfault")
 EndsRun g old new input output WriteFault =
@@ -116,13 +129,14 @@ EndsRun g old new input output WriteFault =
     × IsRun g old new input.before (AppendsPart output.before output.after) AreTried
 EndsRun g old new input output DiskFault =
     IsAtEnd input.after × Rose (g.count old) (g.count new)
-    × ((WroteLine output (codes "diskfault") × IsLeftAlone g old new)
+    × ((IsReadable input.before × WroteLine output (codes "diskfault") × IsLeftAlone g old new)
     ⊎ IsRun g old new input.before (WroteAll output) HaveAFault)
 EndsRun g old new input output NoMemory =
-    (WroteLine output (codes "nomemory") × IsUnused g old new)
+    (WroteLine output (codes "nomemory") × IsUnused g old new input.before)
     ⊎ IsRun g old new input.before (WroteNothing output) AreTried
 
--- what the program did with its words: it ran the script, or the words are of no command, and then nothing else is touched
+-- what the program did with its words: it ran the script, or the words are of no command, and then nothing else is
+-- touched
 abbrev pub Obeys : {D : Type 0} → Ghosts D → D → D → List (String Global) → Stream → Stream → Type 0 → Ending → Type 0
 Obeys g old new words input output InputStays ending =
     (AreRunWords words × EndsRun g old new input output ending)

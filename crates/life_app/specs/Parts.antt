@@ -21,7 +21,7 @@ use Rattle.life_app.specs.declared.opening.Cause.TheVariants.{DiskFault as Fault
 use Rattle.life_app.specs.declared.intake.Unread.{Unread}
 use Rattle.life_app.specs.declared.intake.Unread.TheVariants.{TooLong, BadRow, ReadFault, NoMemory as OutOfMemory}
 use Rattle.life_app.specs.Writing.{Stream, WroteAll, WroteNothing, WroteLine}
-use Rattle.life_app.specs.Outcome.{IsUnused, AreAnswered, HaveAFault, AreTried, IsRunOf, bad_row_text, bad_record_text, IsRefusedJournal}
+use Rattle.life_app.specs.Outcome.{AreAnswered, HaveAFault, AreTried, IsRunOf, bad_row_text, bad_record_text, IsRefusedJournal}
 
 -- the text of a clerk's answered lines
 abbrev pub lines_text : List Line → List Answer → List ℕ
@@ -78,6 +78,6 @@ EndsScript g old new lanes output DiskFault =
     × ((WroteLine output (codes "diskfault") × IsLeftAlone g old new)
     ⊎ IsRunOf g old new lanes (WroteAll output) HaveAFault)
 EndsScript g old new lanes output NoMemory =
-    (WroteLine output (codes "nomemory") × IsUnused g old new)
+    (WroteLine output (codes "nomemory") × ((new ≡ old) ⊎ (IsLeftAlone g old new × (g.count new ≡ g.count old))))
     ⊎ IsRunOf g old new lanes (WroteNothing output) AreTried
 EndsScript g old new lanes output _ = ⊥

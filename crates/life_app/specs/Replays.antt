@@ -1,5 +1,5 @@
 -- What deciding a journal's records anew tells, while an office is opened
-use Rattle.std.specs.Prelude.{◌≡◌, ℕ, ◌<◌, ◌≤◌, List, [], ◌∷◌, ◌++◌, length, take, slice_index_or}
+use Rattle.std.specs.Prelude.{◌≡◌, ◌↔◌, ℕ, ◌<◌, ◌≤◌, List, [], ◌∷◌, ◌++◌, length, take, slice_index_or}
 use Rattle.std.specs.List.{AllByRecursion}
 use Rattle.indexmap.specs.IndexMap.{IndexMap}
 use Rattle.outside_io.specs.declared.disks.Disk.{Ghosts}
@@ -14,12 +14,12 @@ use Rattle.posting_journal.specs.declared.journal.Journal.{Journal}
 use Rattle.life_app.specs.declared.opening.Cause.{Cause}
 use Rattle.life_app.specs.declared.opening.Cause.TheVariants.{DiskFault, NotAJournal, BadRecord, NoMemory}
 use Rattle.life_app.specs.declared.office.Office.{Office}
-use Rattle.life_app.specs.Journals.{IsRecordable, CanFollow, bodies_of}
+use Rattle.life_app.specs.Journals.{IsRecordable, IsUnspelled, bodies_of}
 use Rattle.life_app.specs.Books.{Keeps}
 
 -- a disk was only looked at
 pub record IsLookedAt {D : Type 0} (g : Ghosts D) (old new : D) : Type 0 where
-  pub honesty : (g.honest old → g.honest new) × (g.honest new → g.honest old)
+  pub honesty : (g.honest old) ↔ (g.honest new)
   pub looks : g.honest old → LooksOn g old new
 
 -- so was that of a journal, which stays what it was
@@ -43,15 +43,12 @@ pub record IsReplayed {D S : Type 0} {g : Ghosts D} (old new : Journal D g) (pol
   pub quiet : g.count (disk_of new) ≡ g.count (disk_of old)
   pub spelled : BodiesHave old (λ bodies. slice_index_or bodies n [] ≡ spelling_of command)
 
--- the body spells no command that can follow these
-abbrev pub IsUnspelled : List ℕ → List Command → Type 0
-IsUnspelled body commands = (command : Command) → body ≡ spelling_of command → CanFollow commands command → ⊥
-
 -- record n isn't: the disk failed, or its body spells no command that can follow these
 abbrev pub IsStuck : {D : Type 0} {g : Ghosts D} → Journal D g → Journal D g → ℕ → List Command → Cause → Type 0
 IsStuck {g = g} old new n commands DiskFault = Rose (g.count (disk_of old)) (g.count (disk_of new))
 IsStuck {g = g} old new n commands (BadRecord m) =
-    (m ≡ n) × (g.count (disk_of new) ≡ g.count (disk_of old)) × BodiesHave old (λ bodies. IsUnspelled (slice_index_or bodies n []) commands)
+    (m ≡ n) × (g.count (disk_of new) ≡ g.count (disk_of old))
+    × BodiesHave old (λ bodies. IsUnspelled (slice_index_or bodies n []) commands)
 IsStuck old new n commands _ = ⊥
 
 -- the first n records are those of commands, whose policies are kept

@@ -3,7 +3,7 @@ ghost use Rattle.std.specs.Prelude.{◌≡◌, ◌<◌, ◌≤◌, ℕ, List, Er
 ghost use Rattle.std.specs.Io.KnownBytes.{IsAtEnd};
 ghost use Rattle.outside_io.specs.Faults.{Rose};
 ghost use Rattle.command_csv.specs.Reads.{IsFirstFault, Reads};
-ghost use Rattle.life_app.specs.declared.intake.Unread.TheVariants.{BadRow, ReadFault, TooLong};
+ghost use Rattle.life_app.specs.declared.intake.Unread.TheVariants.{BadRow};
 
 use command_csv::{ScriptFault, read_script};
 use outside_io::{ReadAllFault, Source, read_all};
@@ -11,7 +11,7 @@ use policy_types::Script;
 use std::alloc::Global;
 
 /// The most bytes of a script.
-pub const MOST_SCRIPT_BYTES: u32 = 16_777_216;
+const MOST_SCRIPT_BYTES: u32 = 16_777_216;
 
 /// Why there is no script.
 #[derive(Clone, Copy, PartialEq, Eq, Debug)]
@@ -25,7 +25,7 @@ pub enum Unread {
 
 /// The script on the input, which is read to its end.
 pub fn read_lanes<S: Source>(alloc: Global, input: &mut S) -> Result<Script, Unread>
-    ensures ok { IfOk result (λ lanes. (bytes : List ℕ) × Reads bytes lanes
+    ensures ok { IfOk result (λ lanes. (bytes : List ℕ) × Reads bytes lanes × (length bytes ≤ 16777216)
         × IfSome (S.left input.old) (λ told. told ≡ bytes)) }
     ensures end { OnOk result (IsAtEnd (S.left input.new)) }
     ensures too_long { IsErrOf result Unread.TooLong → IfSome (S.left input.old) (λ told. 16777216 < length told) }

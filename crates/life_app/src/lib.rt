@@ -3,7 +3,7 @@
 
 mod answers;
 #[cfg(test)]
-mod crash_tests;
+mod disk_tests;
 mod ending;
 mod intake;
 mod laws;
@@ -21,4 +21,5 @@ mod words;
 
 pub use ending::Ending;
 pub use laws::{one_cause_of_refusal, one_list_of_commands, refused_files_open_to_none};
+pub use opening::Cause;
 pub use program::{Ended, life};

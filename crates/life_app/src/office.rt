@@ -1,5 +1,5 @@
 // The office: the policies of the accepted commands, and the journal that keeps these commands.
-ghost use Rattle.std.specs.Prelude.{◌≡◌, ◌<◌, ◌≤◌, ◌+◌, ◌++◌, [], ◌∷◌, List, ℕ, IsSome};
+ghost use Rattle.std.specs.Prelude.{◌≡◌, ◌<◌, ◌≤◌, ◌+◌, ◌++◌, [], ◌∷◌, List, ℕ};
 ghost use Rattle.indexmap.specs.IndexMap.{spare};
 ghost use Rattle.policy_types.specs.Valid.{IsValid};
 ghost use Rattle.policy_types.specs.declared.entry.Call.TheVariants.{Post};
@@ -18,7 +18,7 @@ use posting_journal::Journal;
 use record_codec::encode;
 
 /// The most commands that may be accepted.
-pub const MOST_COMMANDS: u32 = 4_000_000;
+const MOST_COMMANDS: u32 = 4_000_000;
 
 /// What a posting is answered.
 #[derive(Clone, Copy, PartialEq, Eq, Debug)]

@@ -5,7 +5,7 @@ ghost use Rattle.policy_types.specs.declared.command.Command.{Command as AComman
 ghost use Rattle.policy_types.specs.declared.script.Lane.{Lane as ALane};
 ghost use Rattle.command_csv.specs.Reads.{Reads};
 ghost use Rattle.life_app.specs.Journals.{Opens, OpensToNone};
-ghost use Rattle.life_app.specs.Outcome.{EndsRun, Obeys};
+ghost use Rattle.life_app.specs.Outcome.{EndsRun, IsUnreadable, Obeys};
 ghost use Rattle.life_app.specs.Writing.{WroteLine, between};
 ghost use Rattle.life_app.specs.Status.{IsStatus};
 ghost use Rattle.life_app.specs.Words.{AreRunWords};
@@ -66,6 +66,10 @@ pub fn life<S: Source, K: Sink, H: Shelf, D: Disk + Send, G: Gate + Sync>(
         (between K.count K.written output.old output.new) DiskFault }
     ensures no_memory { result.status ≡ 9 → EndsRun D.Disk disk result.disk (between S.count S.left input.old input.new)
         (between K.count K.written output.old output.new) NoMemory }
+
+    // A script that is too long, or has a row that is no line, is refused with 3, but for want of memory.
+    ensures unreadable { (bytes : List ℕ) → AreRunWords words.now → S.left input.old ≡ Some bytes → IsUnreadable bytes
+        → (Rose (S.count input.old) (S.count input.new) → ⊥) → (result.status ≡ 3) ⊎ (result.status ≡ 9) }
 
     // A file that opens to no commands reads as before, however the run ends.
     ensures unopened { D.honest disk → OpensToNone (D.reads disk) → D.reads result.disk ≡ D.reads disk }

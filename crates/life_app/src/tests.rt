@@ -16,6 +16,10 @@ const HEAD: [u8; 16] = [
     0x4c, 0x49, 0x46, 0x45, 0x4a, 0x52, 0x4e, 0x4c, 0x00, 0x01, 0x00, 0x40, 0x00, 0x00, 0x00, 0x00,
 ];
 
+const FLIPPED_HEAD: [u8; 16] = [
+    0x4c, 0x49, 0x46, 0x45, 0x4a, 0x52, 0x4e, 0x4d, 0x00, 0x01, 0x00, 0x40, 0x00, 0x00, 0x00, 0x00,
+];
+
 const ZEROS: [u8; 36] = [0; 36];
 // Kind, plan, age and years; the id 7001; the day 18262; 100,000 cents; 40,000 cents.
 const FIELDS: [u8; 28] = [
@@ -259,11 +263,33 @@ fn files_are_opened_or_refused(rt: HostRuntime) -> Result<(), AllocError> {
             ..run_of(&[POLICY], 0, "1,issue,7001,accepted,1\n", ONE_RECORD)
         },
         refused(&[&[65; 18]], "badjournal,notajournal\n"),
+        Case {
+            script: &[],
+            ..refused(&[&[65; 18]], "badjournal,notajournal\n")
+        },
+        // A flipped bit of the header, and of byte 0 of a file that is too long for a creation.
+        refused(&[&[1], &FLIPPED_HEAD, &[0]], "badjournal,notajournal\n"),
+        refused(
+            &[&[3], &HEAD, &[1], &FIELDS, &ZEROS, &[0]],
+            "badjournal,notajournal\n",
+        ),
+        // A creation that had all but its byte 0.
+        Case {
+            file: &[&[2], &HEAD, &[7]],
+            ..run_of(&[], 0, "", NO_RECORD)
+        },
         // The kind 9, the id 0, a byte behind the fields, the same policy twice.
         refused(
             &[&[1], &HEAD, &[1], &NO_KIND, &ZEROS, &[0]],
             "badjournal,badrecord,0\n",
         ),
+        Case {
+            script: &[],
+            ..refused(
+                &[&[1], &HEAD, &[1], &NO_KIND, &ZEROS, &[0]],
+                "badjournal,badrecord,0\n",
+            )
+        },
         refused(
             &[&[1], &HEAD, &[1], &NAMELESS, &ZEROS, &[0]],
             "badjournal,badrecord,0\n",

@@ -9,21 +9,21 @@ use Rattle.posting_journal.specs.Runs.{IsSafe, Leaves, LooksOn}
 abbrev pub IsOpening : List ℕ → List ℕ → Type 0
 IsOpening before image = (image ≡ before) ⊎ (IsUnfinished before × Opens image [])
 
--- The disk as it was at the end of its first sync: it read as before the call, and a crash then left just what was read.
+-- The disk as it was at the end of a sync: it read as before the call, and a crash then left just what was read.
 pub record IsSynced {D : Type 0} (g : Ghosts D) (old synced new : D) : Type 0 where
   pub reads : g.reads synced ≡ g.reads old
   pub safe : IsSafe g synced
   pub later : g.clock old ≤ g.clock synced
   pub passed : g.clock synced ≤ g.clock new
 
--- From the end of its first sync on a crash leaves the file as it was, or a creation.
+-- From the end of a sync on a crash leaves the file as it was, or a creation.
 pub record HasSynced {D : Type 0} (g : Ghosts D) (old new : D) : Type 0 where
   pub synced : D
   pub at_sync : IsSynced g old synced new
   pub since : (image : List ℕ) → g.left_since new (g.clock synced) image → IsOpening (g.reads old) image
 
 -- An honest disk from the call on: a crash leaves what it might have left at the call, or the file as it was, or a
--- creation. Where the first sync failed nothing was written.
+-- creation. Either it was only looked at, or a sync of it succeeded.
 pub record OpensOn {D : Type 0} (g : Ghosts D) (old new : D) : Type 0 where
   pub ever : Leaves g old new (λ image. g.may_leave old image ⊎ IsOpening (g.reads old) image)
   pub synced : LooksOn g old new ⊎ HasSynced g old new

@@ -5,7 +5,8 @@ use Rattle.posting_journal.specs.Files.{IsJournal, IsStaged, IsBeforeOrAfter}
 use Rattle.posting_journal.specs.Runs.{IsSafe, Leaves}
 use Rattle.posting_journal.specs.declared.journal.Journal.{Journal}
 
--- what a caller sees of a journal: how many records there are, whether one can be appended without a repair, and its disk
+-- what a caller sees of a journal: how many records there are, whether one can be appended without a repair, and its
+-- disk
 abbrev pub count_of : {D : Type 0} {g : Ghosts D} → Journal D g → ℕ
 count_of journal = journal.count
 

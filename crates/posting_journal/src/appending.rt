@@ -1,8 +1,8 @@
 // What is done with an open journal.
-ghost use Rattle.std.specs.Prelude.{◌≡◌, ◌↔◌, ℕ, ◌+◌, ◌<◌, ◌≤◌, ◌++◌, [], ◌∷◌, List, true, false, if◌then◌else◌, is_ok, IsTrue, IfOk, IfErr, OnOk, OnErr, MatchResult, Ok, Err, take, drop, length, slice_index_or};
+ghost use Rattle.std.specs.Prelude.{◌≡◌, ◌↔◌, ℕ, ◌+◌, ◌<◌, ◌≤◌, ◌++◌, [], ◌∷◌, List, false, if◌then◌else◌, is_ok, IsTrue, IfOk, IfErr, OnOk, OnErr, MatchResult, Ok, Err, take, drop, length, slice_index_or};
 ghost use Rattle.outside_io.specs.Disks.{HasDiskCause};
 ghost use Rattle.outside_io.specs.Faults.{Rose};
-ghost use Rattle.posting_journal.specs.Files.{IsJournal, IsStaged, IsBeforeOrAfter};
+ghost use Rattle.posting_journal.specs.Files.{IsStaged, IsBeforeOrAfter};
 ghost use Rattle.posting_journal.specs.Layout.{gate_of, body_of};
 ghost use Rattle.posting_journal.specs.Runs.{IsSafe, Leaves, LooksOn};
 ghost use Rattle.posting_journal.specs.States.{AcknowledgesOn, StagesOn, StandsFor, count_of, disk_of, is_clean};

@@ -1,7 +1,7 @@
 // The creation of an empty journal, in three steps. At each moment the file is an unfinished creation, or the journal.
-ghost use Rattle.std.specs.Prelude.{◌≡◌, ◌↔◌, ◌⊎◌, ◌≤◌, [], true, false, length, IsTrue, OnOk};
+ghost use Rattle.std.specs.Prelude.{◌≡◌, ◌↔◌, [], false, IsTrue, OnOk};
 ghost use Rattle.outside_io.specs.Disks.{HasDiskCause};
-ghost use Rattle.posting_journal.specs.Creation.{IsBegun, IsUnfinished, IsToBegin, IsReady, IsEmpty};
+ghost use Rattle.posting_journal.specs.Creation.{IsBegun, IsToBegin, IsReady, IsEmpty};
 ghost use Rattle.posting_journal.specs.Files.{IsJournal};
 ghost use Rattle.posting_journal.specs.Runs.{IsSafe, Passes};
 

@@ -1,5 +1,5 @@
 // The opening of a file.
-ghost use Rattle.std.specs.Prelude.{◌≡◌, ◌↔◌, ◌≤◌, min, length, take, IfOk, IfErr};
+ghost use Rattle.std.specs.Prelude.{◌≡◌, ◌↔◌, ◌≤◌, length, IfOk, IfErr};
 ghost use Rattle.outside_io.specs.Disks.{HasDiskCause};
 ghost use Rattle.posting_journal.specs.Creation.{IsUnfinished};
 ghost use Rattle.posting_journal.specs.Kinds.{IsOfKind, IsLongIfMade};

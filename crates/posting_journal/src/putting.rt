@@ -1,5 +1,5 @@
 // A write that is made safe before anything else is done.
-ghost use Rattle.std.specs.Prelude.{◌≡◌, ◌+◌, ◌↔◌, ◌≤◌, length, OnOk};
+ghost use Rattle.std.specs.Prelude.{◌+◌, ◌↔◌, ◌≤◌, length, OnOk};
 ghost use Rattle.outside_io.specs.Disks.{HasDiskCause, Syncs};
 ghost use Rattle.posting_journal.specs.Runs.{Passes, PutsOn};
 

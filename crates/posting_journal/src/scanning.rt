@@ -1,5 +1,5 @@
 // The records of a file that was made, gate by gate.
-ghost use Rattle.std.specs.Prelude.{◌≡◌, ◌↔◌, ℕ, ◌+◌, ◌<◌, ◌≤◌, length, IsTrue, IfOk, IfErr, slice_index};
+ghost use Rattle.std.specs.Prelude.{◌≡◌, ◌↔◌, ◌+◌, ◌<◌, ◌≤◌, length, IsTrue, IfOk, IfErr, slice_index};
 ghost use Rattle.posting_journal.specs.Layout.{gate_of};
 ghost use Rattle.posting_journal.specs.Runs.{LooksOn};
 ghost use Rattle.posting_journal.specs.Unopened.{HasUnopenedCause, CantStand, IsBadFrom, EndsAt};

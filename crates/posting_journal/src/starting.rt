@@ -5,8 +5,6 @@ ghost use Rattle.posting_journal.specs.Opening.{OpensOn};
 ghost use Rattle.posting_journal.specs.Starting.{TellsCause, IsShown, IsRefusal, IsFault, HasOpened};
 ghost use Rattle.posting_journal.specs.Unopened.{ShowsWhy, TellsCount};
 ghost use Rattle.posting_journal.specs.declared.faults.JournalCause.{JournalCause};
-ghost use Rattle.posting_journal.specs.declared.faults.Unopened.TheVariants.{Unread};
-ghost use Rattle.outside_io.specs.Faults.{Rose};
 
 use crate::faults::Unopened;
 use crate::opening::open;

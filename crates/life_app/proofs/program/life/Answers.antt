@@ -1,6 +1,6 @@
 use Rattle.std.proofs.Common.{◌≡◌, ◌∙◌, sym}
 use Rattle.life_app.specs.declared.ending.Ending.TheVariants.{Done, BadScript, BadJournal, ReadFault, WriteFault, DiskFault, NoMemory}
-use Rattle.life_app.proofs.ProgramSteps.{command_exactly, complete, ends_with, refused_exactly, unopened, usage_exactly, usage_line}
+use Rattle.life_app.proofs.ProgramSteps.{command_exactly, complete, ends_with, refused_exactly, script_refused, unopened, usage_exactly, usage_line}
 use Rattle.life_app.proofs.program.life.Goals as goal
 
 pub returns-clause-usage : goal.returns-clause-usage
@@ -55,3 +55,6 @@ pub returns-clause-no_memory : goal.returns-clause-no_memory
 returns-clause-no_memory g c = λ (is : c.status.result ≡ 9).
     ends_with g.D.Disk c.args.disk c.obey-finished.result.disk c.args.words.now _ _ _ c.obey-finished.result.ending c.obey-finished.ensures
     NoMemory (λ h. cc) (sym c.status.ensures ∙ is)
+
+pub returns-clause-unreadable : goal.returns-clause-unreadable
+returns-clause-unreadable g c = rw c.status.ensures (script_refused g.D.Disk c.args.disk c.obey-finished.result.disk c.args.words.now _ _ _ c.obey-finished.result.ending c.obey-finished.ensures)

@@ -6,7 +6,7 @@ use Rattle.life_app.proofs.run.run.Goals as goal
 pub returns-in-Ok : goal.returns-in-Ok
 returns-in-Ok g c =
     let read = c.in-Ok.ensures.ok in
-    record { ends = ends_script g.D.Disk _ _ _ _ _ read.0 c.run_script.result.ending read.1 read.2 c.in-Ok.ensures.end c.run_script.ensures.ends }
+    record { ends = ends_script g.D.Disk _ _ _ _ _ read.0 c.run_script.result.ending read.1 read.2 read.3 c.in-Ok.ensures.end c.run_script.ensures.ends }
 
 pub returns-in-Err : goal.returns-in-Err
 returns-in-Err g c = record {
