@@ -3,6 +3,10 @@
 root=$(cd "$(dirname "$0")/../.." && pwd) || exit 2
 work=$(mktemp -d) || exit 2
 # where a kill fails, the script says so and leaves its files
-python3 "$root/bench/kill_runs.py" 10 --folder "$work" --seed 1 >"$work/out" || { echo "kills: failed" >&2; exit 1; }
+python3 "$root/bench/kill_runs.py" 10 --folder "$work" --seed 1 >"$work/out" || {
+    cat "$work/out" >&2
+    echo "kills: failed" >&2
+    exit 1
+}
 rm -rf "$work"
 echo "kills: ten killed runs reopen to what was open"
