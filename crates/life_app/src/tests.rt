@@ -107,7 +107,7 @@ fn bytes_of(alloc: Global, file: File) -> Result<Vec<u8>, AllocError> {
 
 // What a run ended with and wrote, and its disk.
 #[derive(Drop)]
-pub struct Finished {
+pub(crate) struct Finished {
     pub status: u8,
     pub output: BytesSink,
     pub disk: MemoryDisk,
@@ -155,7 +155,11 @@ fn words_of(alloc: Global, words: &[&str]) -> Result<Vec<String>, AllocError> {
 }
 
 // Runs a script over a disk; the other devices don't fail.
-pub fn run_on(alloc: Global, script: &[&str], disk: MemoryDisk) -> Result<Finished, AllocError> {
+pub(crate) fn run_on(
+    alloc: Global,
+    script: &[&str],
+    disk: MemoryDisk,
+) -> Result<Finished, AllocError> {
     let words = words_of(alloc, &["run"])?;
     run_over(alloc, &words, script, &[], &[], disk)
 }
