@@ -16,7 +16,7 @@ use Rattle.life_app.specs.Books.{JournalHolds, StandsAfter}
 use Rattle.life_app.specs.Opening.{HasOpened, HasNotOpened, TellsFault, opened_on}
 use Rattle.life_app.specs.Replays.{IsLookedAt, HasStopped, IsStoppedAt, IsOfficeOf, HasNoOffice}
 use Rattle.life_app.proofs.ReplaySteps.{all_replayed, stopped_shown}
-use Rattle.life_app.proofs.OpeningSteps.{CountsNow, IsStarted, ReadsImage, opening_keeps, holds_once, looked_alone, looked_ever, synced_images, opens_commands, started_later}
+use Rattle.life_app.proofs.OpeningSteps.{CountsNow, IsStarted, ReadsImage, opening_keeps, looked_on, holds_once, looked_alone, looked_ever, synced_images, opens_commands, started_later}
 
 all_valid : (commands : List Command) → AllByRecursion IsRecordable commands → AllByRecursion IsValid commands
 all_valid [] recordable = tt
@@ -123,6 +123,7 @@ module _ {D : Type 0} (g : Ghosts D) (old : D) (journal : Journal D g) (started 
           later = λ (honest : g.honest old).
               let looks = looked.looks (started.honesty.0 honest) in
               omega (arith, started_later g old journal started counts_now honest, looks.time.later);
+          unwritten = λ (honest : g.honest old). looked_on g old journal started counts_now new honest looked;
           since = λ (honest : g.honest old) (image : List ℕ) (left : g.left_since new (g.clock old) image).
               elim (looked_ever g old journal started counts_now new honest looked image left) [
                 | inl before ↦ inl before

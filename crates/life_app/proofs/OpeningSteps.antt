@@ -12,6 +12,7 @@ use Rattle.posting_journal.specs.States.{disk_of, is_clean}
 use Rattle.posting_journal.specs.declared.faults.JournalCause.{JournalCause}
 use Rattle.posting_journal.specs.declared.faults.JournalCause.TheVariants.{DiskFault as FaultyDisk, NotAJournal as IsNoJournal, BadRecord as IsBadRecord}
 use Rattle.posting_journal.specs.declared.journal.Journal.{Journal}
+use Rattle.posting_journal.proofs.Moments.{looks_on}
 use Rattle.life_app.specs.Journals.{IsRecordable, bodies_of, Opens, OpensToNone, IsShown}
 use Rattle.life_app.specs.Images.{HoldsOnce, IsLeftAlone, OpensAlike}
 use Rattle.life_app.specs.Opening.{HasNotOpened, TellsFault, opened_on, as_cause}
@@ -49,7 +50,8 @@ holds_once image commands faults opens = record {
   opens = simp append-nil opens;
 }
 
-finished : (bytes : List ℕ) → OpensToNone bytes → ¬ IsUnfinished bytes
+-- a file that opens to no commands is no unfinished creation
+pub finished : (bytes : List ℕ) → OpensToNone bytes → ¬ IsUnfinished bytes
 finished bytes none unfinished = none [] (inr (refl, unfinished))
 
 -- what a disk's law says: this moment is one of those since an earlier one
@@ -105,8 +107,7 @@ module _ {D : Type 0} (g : Ghosts D) (old : D) where
     shown = λ (honest : g.honest old). shown cause (shows honest);
     alone = record {
       honesty = honesty;
-      reads = λ (honest : g.honest old) (none : OpensToNone (g.reads old)).
-          ((opening honest).unwritten (finished (g.reads old) none)).facts.reads;
+      unwritten = λ (honest : g.honest old). (opening honest).unwritten;
       since = λ (honest : g.honest old) (image : List ℕ) (left : g.left_since new (g.clock old) image).
           opens_alike g reads_image old honest image ((opening honest).ever.each image left);
       synced = λ (honest : g.honest old). elim (opening honest).synced [
@@ -144,6 +145,11 @@ module _ {D : Type 0} (g : Ghosts D) (old : D) (journal : Journal D g) (started 
   pub started_later : g.honest old → g.clock old ≤ g.clock (disk_of journal)
   started_later honest = let m = (started.opened honest).moments in omega (arith, m.at_sync.later, m.at_sync.passed)
 
+  -- no file but an unfinished creation is written to
+  pub looked_on : (new : D) → g.honest old → IsLookedAt g (disk_of journal) new → ¬ IsUnfinished (g.reads old) → LooksOn g old new
+  looked_on new honest looked finished =
+      looks_on g old (disk_of journal) new ((started.opens honest).unwritten finished) (looked.looks (started.honesty.0 honest))
+
   -- each image since the opening began
   pub looked_ever : (new : D) → g.honest old → IsLookedAt g (disk_of journal) new
       → (image : List ℕ) → g.left_since new (g.clock old) image → g.may_leave old image ⊎ IsOpening (g.reads old) image
@@ -171,9 +177,7 @@ module _ {D : Type 0} (g : Ghosts D) (old : D) (journal : Journal D g) (started 
       λ honest. looked.honesty.0 (started.honesty.0 honest),
       λ honest. started.honesty.1 (looked.honesty.1 honest),
     );
-    reads = λ (honest : g.honest old) (none : OpensToNone (g.reads old)).
-        (looked.looks (started.honesty.0 honest)).facts.reads
-        ∙ ((started.opens honest).unwritten (finished (g.reads old) none)).facts.reads;
+    unwritten = λ (honest : g.honest old). looked_on new honest looked;
     since = λ (honest : g.honest old) (image : List ℕ) (left : g.left_since new (g.clock old) image).
         opens_alike g reads_image old honest image (looked_ever new honest looked image left);
     synced = λ (honest : g.honest old).

@@ -18,6 +18,7 @@ use Rattle.life_app.specs.Writing.{Stream, WroteLine}
 use Rattle.life_app.specs.Status.{status_of}
 use Rattle.life_app.specs.Words.{AreRunWords}
 use Rattle.life_app.proofs.JournalLaws.{shown_opens_to_none}
+use Rattle.life_app.proofs.OpeningSteps.{finished}
 
 abbrev ending_of : ℕ → Ending
 ending_of n =
@@ -78,15 +79,15 @@ module _ {D : Type 0} (g : Ghosts D) (old new : D) where
   reads_as_before input output Done ends honest none = ran_nowhere _ _ _ ends.1 honest none
   reads_as_before input output Usage ends honest none = absurd ends
   reads_as_before input output BadScript ends honest none = ap g.reads ends.0
-  reads_as_before input output BadJournal ends honest none = ends.2.alone.reads honest none
+  reads_as_before input output BadJournal ends honest none = (ends.2.alone.unwritten honest (finished (g.reads old) none)).facts.reads
   reads_as_before input output InputFault ends honest none = ap g.reads ends.0
   reads_as_before input output WriteFault ends honest none = ran_nowhere _ _ _ ends.2 honest none
   reads_as_before input output DiskFault ends honest none = elim ends.2 [
-    | inl said ↦ said.2.reads honest none
+    | inl said ↦ (said.2.unwritten honest (finished (g.reads old) none)).facts.reads
     | inr ran ↦ ran_nowhere _ _ _ ran honest none
   ]
   reads_as_before input output NoMemory ends honest none = elim ends [
-    | inl said ↦ elim said.1 [ inl same ↦ ap g.reads same | inr unused ↦ unused.1.reads honest none ]
+    | inl said ↦ elim said.1 [ inl same ↦ ap g.reads same | inr unused ↦ (unused.1.unwritten honest (finished (g.reads old) none)).facts.reads ]
     | inr ran ↦ ran_nowhere _ _ _ ran honest none
   ]
 

@@ -37,6 +37,12 @@ reply_of IsTaken = Refused Taken
 reply_of IsFull = Refused Full
 reply_of (FaultedAt count) = Faulted count
 
+-- a posting was refused
+abbrev pub IsRefusal : Answer → Type 0
+IsRefusal IsTaken = Unit {0}
+IsRefusal IsFull = Unit {0}
+IsRefusal _ = ⊥
+
 abbrev pub is_faulted : Answer → Bool
 is_faulted (FaultedAt count) = true
 is_faulted _ = false

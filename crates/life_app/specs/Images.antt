@@ -8,9 +8,10 @@ use Rattle.policy_types.specs.declared.entry.Call.TheVariants.{Post}
 use Rattle.policy_types.specs.declared.entry.Reply.TheVariants.{Faulted}
 use Rattle.policy_types.specs.declared.entry.Entry.{Entry}
 use Rattle.policy_machine.specs.History.{Opening, accepted_of, commands_after, fault_of}
+use Rattle.posting_journal.specs.Creation.{IsUnfinished}
 use Rattle.posting_journal.specs.Opening.{IsSynced}
 use Rattle.posting_journal.specs.Runs.{LooksOn}
-use Rattle.life_app.specs.Journals.{JournalBytes, Opens, OpensToNone}
+use Rattle.life_app.specs.Journals.{JournalBytes, Opens}
 
 -- a posting of the command met a fault of the disk, and after it came these turns
 pub record HasFaultedBefore (history : List Entry) (command : Command) (after : List Entry) : Type 0 where
@@ -83,10 +84,10 @@ OpensAlike bytes image = (commands : List Command) × Opens bytes commands × Op
 
 -- A disk on which no office ran. Since the call a crash leaves what it might have left before, or what opens to the
 -- commands to which the file opened. Either the disk was only looked at, or since the end of a sync a crash leaves what
--- was read before the call, or what opens alike. A file that opens to no commands reads as before.
+-- was read before the call, or what opens alike. No file but an unfinished creation is written to.
 pub record IsLeftAlone {D : Type 0} (g : Ghosts D) (old new : D) : Type 0 where
   pub honesty : (g.honest old) ↔ (g.honest new)
-  pub reads : g.honest old → OpensToNone (g.reads old) → g.reads new ≡ g.reads old
+  pub unwritten : g.honest old → ¬ IsUnfinished (g.reads old) → LooksOn g old new
   pub since : g.honest old → (image : List ℕ) → g.left_since new (g.clock old) image
       → g.may_leave old image ⊎ OpensAlike (g.reads old) image
   pub synced : g.honest old → LooksOn g old new

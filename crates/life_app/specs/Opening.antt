@@ -4,7 +4,9 @@ use Rattle.outside_io.specs.declared.disks.Disk.{Ghosts}
 use Rattle.outside_io.specs.Faults.{Rose}
 use Rattle.policy_types.specs.declared.command.Command.{Command}
 use Rattle.policy_machine.specs.History.{Opening}
+use Rattle.posting_journal.specs.Creation.{IsUnfinished}
 use Rattle.posting_journal.specs.Opening.{IsSynced}
+use Rattle.posting_journal.specs.Runs.{LooksOn}
 use Rattle.posting_journal.specs.States.{disk_of}
 use Rattle.posting_journal.specs.declared.faults.JournalCause.{JournalCause}
 use Rattle.posting_journal.specs.declared.faults.JournalCause.TheVariants.{DiskFault as FaultyDisk, NotAJournal as IsNoJournal, BadRecord as IsBadRecord}
@@ -20,13 +22,15 @@ abbrev pub opened_on : List Command → ℕ → Opening
 opened_on commands faults = record { commands = commands; faults = faults }
 
 -- The office is that of the commands to which the disk's file opened. Since the opening began a crash leaves what it
--- might have left before, or what opens to them; since the end of a sync the second alone.
+-- might have left before, or what opens to them; since the end of a sync the second alone. No file but an unfinished
+-- creation is written to.
 pub record HasOpened {D : Type 0} {g : Ghosts D} (old : D) (office : Office D g) : Type 0 where
   pub commands : List Command
   pub opened : g.honest old → Opens (g.reads old) commands
   pub stands : StandsAfter office (opened_on commands (g.count old)) []
   pub honesty : (g.honest old) ↔ (g.honest (disk_of office.journal))
   pub later : g.honest old → g.clock old ≤ g.clock (disk_of office.journal)
+  pub unwritten : g.honest old → ¬ IsUnfinished (g.reads old) → LooksOn g old (disk_of office.journal)
   pub since : g.honest old → (image : List ℕ) → g.left_since (disk_of office.journal) (g.clock old) image
       → g.may_leave old image ⊎ HoldsOnce (opened_on commands (g.count old)) [] image
   pub synced : g.honest old → (mid : D) × IsSynced g old mid (disk_of office.journal)

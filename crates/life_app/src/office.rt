@@ -7,7 +7,7 @@ ghost use Rattle.policy_types.specs.declared.entry.Entry.{Entry};
 ghost use Rattle.policy_machine.specs.History.{Opening};
 ghost use Rattle.posting_journal.specs.States.{disk_of};
 ghost use Rattle.record_codec.specs.Spelling.{IsIssuing};
-ghost use Rattle.life_app.specs.Books.{GoesOn, StandsAfter, reply_of};
+ghost use Rattle.life_app.specs.Books.{GoesOn, IsRefusal, StandsAfter, reply_of};
 
 use crate::policies::{decided, keep};
 use crate::recording::record;
@@ -52,12 +52,14 @@ pub struct Office<D: Disk> {
 }
 
 impl<D: Disk> Office<D> {
-    /// Answers an issue. It is accepted only once its record outlives a crash. There is room for one more policy.
+    /// Answers an issue. It is accepted only once its record outlives a crash; a refusal touches nothing. There is room
+    /// for one more policy.
     pub fn post(&mut self, command: &Command) -> Answer
         requires valid { IsValid command.now }
         requires issue { IsIssuing command.now }
         requires room { 0 < spare self.old.policies }
         ensures room { spare self.old.policies ≤ spare self.new.policies + 1 }
+        ensures refused { IsRefusal result → self.new ≡ self.old }
         ensures posts { (opening : Opening) (history : List Entry) (caller : ℕ) → StandsAfter self.old opening history
             → GoesOn self.old self.new opening history
             (history ++ (record { caller = caller; call = Post command.now; reply = reply_of result }) ∷ []) }
