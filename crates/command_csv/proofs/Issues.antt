@@ -8,7 +8,7 @@ use Rattle.policy_types.specs.declared.command.Plan.{Plan}
 use Rattle.policy_types.specs.declared.command.Plan.TheVariants.{Term, Whole, Endowment, Limited}
 use Rattle.policy_types.specs.declared.script.Line.{Line}
 use Rattle.policy_types.specs.declared.script.Line.TheVariants.{Post}
-use Rattle.policy_types.specs.Valid.{IsId, IsDay, IsAmount, IsIssueAge, AreYears, IsIssue}
+use Rattle.policy_types.specs.Valid.{IsId, IsCommandDay, IsAmount, IsIssueAge, AreYears, IsIssue}
 use Rattle.life_dates.specs.DayText.{day_text}
 use Rattle.money_core.specs.CentsText.{cents_text}
 use Rattle.command_csv.specs.Left.{issue_fields}
@@ -68,7 +68,7 @@ are_years_at Whole age h = refl
 are_years_at Endowment age h = (lit≤ tt, omega arith)
 are_years_at Limited age h = (lit≤ tt, omega arith)
 
-valid_with : (id : ℕ) (day : ℤ) (plan : Plan) (age years amount : ℕ) → IsId id → IsDay day → IsIssueAge age → AreYears plan age years → IsAmount amount → IsIssue id day plan age years amount 1
+valid_with : (id : ℕ) (day : ℤ) (plan : Plan) (age years amount : ℕ) → IsId id → IsCommandDay day → IsIssueAge age → AreYears plan age years → IsAmount amount → IsIssue id day plan age years amount 1
 valid_with id day plan age years amount id_in day_in age_in years_in amount_in = record {
   id_in = id_in;
   day_in = day_in;
@@ -81,7 +81,7 @@ valid_with id day plan age years amount id_in day_in age_in years_in amount_in =
 one_cent : IsAmount 1
 one_cent = (lit≤ tt, lit≤ tt)
 
-some_day : IsDay (pos 0)
+some_day : IsCommandDay (pos 0)
 some_day = (omega (arith, ints), omega (arith, ints))
 
 first_issue : IsIssue 1 (pos 0) Term 0 2 1 1
@@ -114,7 +114,7 @@ bad_id left none = record {
 }
 
 pub bad_day : (left : List (List ℕ)) (id : ℕ) → IsId id
-    → ((day : ℤ) → IsDay day → take 1 left ≢ day_text day ∷ [])
+    → ((day : ℤ) → IsCommandDay day → take 1 left ≢ day_text day ∷ [])
     → IsFirstBadField (issue_fields (decimal id ∷ left)) 4
 bad_day left id id_in none = record {
   before = fits id (pos 0) Term 0 2 1 1 3 (issue_fields (decimal id ∷ left))
@@ -125,7 +125,7 @@ bad_day left id id_in none = record {
       none row.day row.valid.day_in cc;
 }
 
-pub bad_plan : (left : List (List ℕ)) (id : ℕ) (day : ℤ) → IsId id → IsDay day
+pub bad_plan : (left : List (List ℕ)) (id : ℕ) (day : ℤ) → IsId id → IsCommandDay day
     → ((plan : Plan) → take 1 left ≢ plan_word plan ∷ [])
     → IsFirstBadField (issue_fields (decimal id ∷ day_text day ∷ left)) 5
 bad_plan left id day id_in day_in none = record {
@@ -137,7 +137,7 @@ bad_plan left id day id_in day_in none = record {
       none row.plan cc;
 }
 
-pub bad_age : (left : List (List ℕ)) (id : ℕ) (day : ℤ) (plan : Plan) → IsId id → IsDay day
+pub bad_age : (left : List (List ℕ)) (id : ℕ) (day : ℤ) (plan : Plan) → IsId id → IsCommandDay day
     → ((age : ℕ) → IsIssueAge age → take 1 left ≢ decimal age ∷ [])
     → IsFirstBadField (issue_fields (decimal id ∷ day_text day ∷ plan_word plan ∷ left)) 6
 bad_age left id day plan id_in day_in none = record {
@@ -167,7 +167,7 @@ plan_word_injective Limited Whole e = absurd (omega (arith, ap length e))
 plan_word_injective Limited Endowment e = absurd (omega (arith, ap length e))
 plan_word_injective Limited Limited e = refl
 
-pub bad_years : (left : List (List ℕ)) (id : ℕ) (day : ℤ) (plan : Plan) (age : ℕ) → IsId id → IsDay day → IsIssueAge age
+pub bad_years : (left : List (List ℕ)) (id : ℕ) (day : ℤ) (plan : Plan) (age : ℕ) → IsId id → IsCommandDay day → IsIssueAge age
     → ((years : ℕ) → AreYears plan age years → take 1 left ≢ decimal years ∷ [])
     → IsFirstBadField (issue_fields (decimal id ∷ day_text day ∷ plan_word plan ∷ decimal age ∷ left)) 7
 bad_years left id day plan age id_in day_in age_in none = record {
@@ -186,7 +186,7 @@ bad_years left id day plan age id_in day_in age_in none = record {
       none row.years (subst Q same_age (subst P same_plan row.valid.years_in)) cc;
 }
 
-pub bad_amount : (left : List (List ℕ)) (id : ℕ) (day : ℤ) (plan : Plan) (age years : ℕ) → IsId id → IsDay day → IsIssueAge age → AreYears plan age years
+pub bad_amount : (left : List (List ℕ)) (id : ℕ) (day : ℤ) (plan : Plan) (age years : ℕ) → IsId id → IsCommandDay day → IsIssueAge age → AreYears plan age years
     → ((amount : ℕ) → IsAmount amount → take 1 left ≢ cents_text amount ∷ [])
     → IsFirstBadField (issue_fields (decimal id ∷ day_text day ∷ plan_word plan ∷ decimal age ∷ decimal years ∷ left)) 8
 bad_amount left id day plan age years id_in day_in age_in years_in none = record {
@@ -198,7 +198,7 @@ bad_amount left id day plan age years id_in day_in age_in years_in none = record
       none row.amount row.valid.amount_in cc;
 }
 
-pub bad_premium : (left : List (List ℕ)) (id : ℕ) (day : ℤ) (plan : Plan) (age years amount : ℕ) → IsId id → IsDay day → IsIssueAge age → AreYears plan age years → IsAmount amount
+pub bad_premium : (left : List (List ℕ)) (id : ℕ) (day : ℤ) (plan : Plan) (age years amount : ℕ) → IsId id → IsCommandDay day → IsIssueAge age → AreYears plan age years → IsAmount amount
     → ((premium : ℕ) → IsAmount premium → take 1 left ≢ cents_text premium ∷ [])
     → IsFirstBadField (issue_fields (decimal id ∷ day_text day ∷ plan_word plan ∷ decimal age ∷ decimal years ∷ cents_text amount ∷ left)) 9
 bad_premium left id day plan age years amount id_in day_in age_in years_in amount_in none = record {

@@ -1,7 +1,7 @@
 // The next field of a row, where it is what it has to be.
 ghost use Rattle.std.specs.Prelude.{◌≡◌, ◌≢◌, ℕ, ℤ, ◌≤◌, ◌∷◌, [], take, decimal, ◌↔◌, IsTrue, IfSome, IfNone};
 ghost use Rattle.std.specs.Bool.{OnFalse, OnTrue};
-ghost use Rattle.policy_types.specs.Valid.{IsId, IsDay, IsAmount, IsIssueAge, AreYears};
+ghost use Rattle.policy_types.specs.Valid.{IsId, IsCommandDay, IsAmount, IsIssueAge, AreYears};
 ghost use Rattle.policy_types.specs.declared.command.Plan.{Plan as APlan};
 ghost use Rattle.life_dates.specs.DayText.{day_text};
 ghost use Rattle.money_core.specs.CentsText.{cents_text};
@@ -36,8 +36,8 @@ impl Pieces<'_> {
 
     /// A day, in days since 1970-01-01.
     pub fn next_day(&mut self) -> Option<i32>
-        ensures some { IfSome result (λ day. IsDay day × (left_of self.old ≡ day_text day ∷ left_of self.new)) }
-        ensures none { IfNone result ((day : ℤ) → IsDay day → take 1 (left_of self.old) ≢ day_text day ∷ []) }
+        ensures some { IfSome result (λ day. IsCommandDay day × (left_of self.old ≡ day_text day ∷ left_of self.new)) }
+        ensures none { IfNone result ((day : ℤ) → IsCommandDay day → take 1 (left_of self.old) ≢ day_text day ∷ []) }
     {
         parse_day(self.next_piece()?)
     }

@@ -124,7 +124,7 @@ module _ {D : Type 0} {g : Ghosts D} where
       → next (policy_of (commands_after opening history) (id_of command)) command ≡ Ok policy
       → refusal_due (commands_after opening history) command ≡ None
       → count ≡ count_of office.journal → count_of new.journal ≡ count_of office.journal + 1
-      → g.count (disk_of new.journal) ≡ g.count (disk_of office.journal)
+      → g.faults (disk_of new.journal) ≡ g.faults (disk_of office.journal)
       → (g.honest (disk_of office.journal) → g.honest (disk_of new.journal)) × (g.honest (disk_of new.journal) → g.honest (disk_of office.journal))
       → Keeps new.policies (commands_after opening history ++ command ∷ []) → result ≡ Ok value
       → ((bodies : List (List ℕ)) (last : List ℕ) → g.honest (disk_of office.journal) → StandsFor office.journal bodies last
@@ -172,8 +172,8 @@ module _ {D : Type 0} {g : Ghosts D} where
       → StandsAfter office opening history → IsRecordable command
       → next (policy_of (commands_after opening history) (id_of command)) command ≡ Ok policy
       → refusal_due (commands_after opening history) command ≡ None
-      → count_of journal ≡ count_of office.journal → count ≡ g.count (disk_of journal)
-      → g.count (disk_of office.journal) ≤ g.count (disk_of journal) → Rose (g.count (disk_of office.journal)) (g.count (disk_of journal))
+      → count_of journal ≡ count_of office.journal → count ≡ g.faults (disk_of journal)
+      → g.faults (disk_of office.journal) ≤ g.faults (disk_of journal) → Rose (g.faults (disk_of office.journal)) (g.faults (disk_of journal))
       → (g.honest (disk_of office.journal) → g.honest (disk_of journal)) × (g.honest (disk_of journal) → g.honest (disk_of office.journal))
       → result ≡ Err error
       → ((bodies : List (List ℕ)) (last : List ℕ) → g.honest (disk_of office.journal) → StandsFor office.journal bodies last
@@ -187,13 +187,13 @@ module _ {D : Type 0} {g : Ghosts D} where
       record {
         stands = record {
           legal = legal-push opening history entry stands.legal
-              (due, is_fresh opening history (g.count (disk_of office.journal)) count stands.opened stands.met (rw told rose));
+              (due, is_fresh opening history (g.faults (disk_of office.journal)) count stands.opened stands.met (rw told rose));
           keeps = rw same stands.keeps;
           counted = counted ∙ stands.counted ∙ ap length (sym same);
           opened = omega (arith, later, stands.opened);
           met = rw (faults-more history caller command count)
-              (all-push (λ n. n ≤ g.count (disk_of journal)) (faults_met history) count
-              (all_up_to (g.count (disk_of office.journal)) (g.count (disk_of journal)) (faults_met history) later stands.met) (omega (arith, told)));
+              (all-push (λ n. n ≤ g.faults (disk_of journal)) (faults_met history) count
+              (all_up_to (g.faults (disk_of office.journal)) (g.faults (disk_of journal)) (faults_met history) later stands.met) (omega (arith, told)));
           faults = sym told ∙ sym (faults_after-more opening history caller command count);
           journal = λ honest.
               let holds = stands.journal (honesty.1 honest) in

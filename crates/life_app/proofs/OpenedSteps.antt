@@ -13,7 +13,8 @@ use Rattle.life_app.specs.declared.opening.Cause.TheVariants.{DiskFault, NotAJou
 use Rattle.life_app.specs.declared.office.Office.{Office}
 use Rattle.life_app.specs.Journals.{IsRecordable, bodies_of, Opens, IsShown}
 use Rattle.life_app.specs.Books.{JournalHolds, StandsAfter}
-use Rattle.life_app.specs.Opening.{HasOpened, HasNotOpened, TellsFault, opened_on}
+use Rattle.policy_machine.specs.History.{opened_on}
+use Rattle.life_app.specs.Opening.{HasOpened, HasNotOpened, TellsFault}
 use Rattle.life_app.specs.Replays.{IsLookedAt, HasStopped, IsStoppedAt, IsOfficeOf, HasNoOffice}
 use Rattle.life_app.proofs.ReplaySteps.{all_replayed, stopped_shown}
 use Rattle.life_app.proofs.OpeningSteps.{CountsNow, IsStarted, ReadsImage, opening_keeps, looked_on, holds_once, looked_alone, looked_ever, synced_images, opens_commands, started_later}
@@ -30,8 +31,8 @@ unfollowed bytes n bodies (inr creation) at =
     let within : n < 0 = subst (λ (bs : List (List ℕ)). n < length bs) creation.0 at.within in absurd (omega arith)
 
 module _ {D : Type 0} (g : Ghosts D) (old : D) (journal : Journal D g) (started : IsStarted old journal) where
-  faulted : (new : D) (cause : Cause) → HasStopped journal new cause → TellsFault (g.count old) (g.count new) cause
-  faulted new DiskFault stopped = subst (λ n. Rose n (g.count new)) started.quiet stopped
+  faulted : (new : D) (cause : Cause) → HasStopped journal new cause → TellsFault (g.faults old) (g.faults new) cause
+  faulted new DiskFault stopped = subst (λ n. Rose n (g.faults new)) started.quiet stopped
   faulted new NotAJournal stopped = absurd stopped
   faulted new (BadRecord n) stopped = stopped.0 ∙ started.quiet
   faulted new NoMemory stopped = stopped ∙ started.quiet
@@ -72,7 +73,7 @@ module _ {D : Type 0} (g : Ghosts D) (old : D) (journal : Journal D g) (started 
         let was : is_clean journal ≡ true = started.clean in
         let same : is_clean office.journal ≡ is_clean journal = made.stays.clean in cc
 
-    holds : g.honest old → JournalHolds office (opened_on made.replayed.commands (g.count old)) []
+    holds : g.honest old → JournalHolds office (opened_on made.replayed.commands (g.faults old)) []
     holds honest =
         let opened = started.opened honest in
         let stands : StandsFor office.journal opened.bodies [] =
@@ -84,10 +85,10 @@ module _ {D : Type 0} (g : Ghosts D) (old : D) (journal : Journal D g) (started 
           pending = λ (unclean : is_clean office.journal ≡ false). absurd (clean unclean);
         }
 
-    stands_after : StandsAfter office (opened_on made.replayed.commands (g.count old)) []
+    stands_after : StandsAfter office (opened_on made.replayed.commands (g.faults old)) []
     stands_after =
         let keeps = made.replayed.keeps in
-        let quiet : g.count (disk_of office.journal) ≡ g.count old = made.replayed.quiet ∙ started.quiet in
+        let quiet : g.faults (disk_of office.journal) ≡ g.faults old = made.replayed.quiet ∙ started.quiet in
         record {
           legal = record {
             opens = record {
@@ -127,7 +128,7 @@ module _ {D : Type 0} (g : Ghosts D) (old : D) (journal : Journal D g) (started 
           since = λ (honest : g.honest old) (image : List ℕ) (left : g.left_since new (g.clock old) image).
               elim (looked_ever g old journal started counts_now new honest looked image left) [
                 | inl before ↦ inl before
-                | inr opening ↦ inr (holds_once image commands (g.count old)
+                | inr opening ↦ inr (holds_once image commands (g.faults old)
                     (opening_keeps (g.reads old) image commands (opens_replayed honest) opening))
               ];
           synced = λ (honest : g.honest old).
@@ -135,7 +136,7 @@ module _ {D : Type 0} (g : Ghosts D) (old : D) (journal : Journal D g) (started 
                 at.0,
                 at.1,
                 λ (image : List ℕ) (left : g.left_since new (g.clock at.0) image).
-                    holds_once image commands (g.count old)
+                    holds_once image commands (g.faults old)
                     (opening_keeps (g.reads old) image commands (opens_replayed honest) (at.2 image left)),
               );
         }

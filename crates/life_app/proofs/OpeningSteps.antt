@@ -15,7 +15,8 @@ use Rattle.posting_journal.specs.declared.journal.Journal.{Journal}
 use Rattle.posting_journal.proofs.Moments.{looks_on}
 use Rattle.life_app.specs.Journals.{IsRecordable, bodies_of, Opens, OpensToNone, IsShown}
 use Rattle.life_app.specs.Images.{HoldsOnce, IsLeftAlone, OpensAlike}
-use Rattle.life_app.specs.Opening.{HasNotOpened, TellsFault, opened_on, as_cause}
+use Rattle.policy_machine.specs.History.{opened_on}
+use Rattle.life_app.specs.Opening.{HasNotOpened, TellsFault, as_cause}
 use Rattle.life_app.specs.Replays.{IsLookedAt}
 use Rattle.life_app.proofs.JournalLaws.{opens_to_one}
 
@@ -61,7 +62,7 @@ CountsNow {D = D} g = (disk : D) (moment : ℕ) (image : List ℕ) → g.honest 
 
 -- a journal that was started on a disk
 pub record IsStarted {D : Type 0} {g : Ghosts D} (old : D) (journal : Journal D g) : Type 0 where
-  pub quiet : g.count (disk_of journal) ≡ g.count old
+  pub quiet : g.faults (disk_of journal) ≡ g.faults old
   pub clean : IsTrue (is_clean journal)
   pub honesty : (g.honest old → g.honest (disk_of journal)) × (g.honest (disk_of journal) → g.honest old)
   pub opened : g.honest old → JournalOpened old journal
@@ -86,8 +87,8 @@ opens_alike g reads_image old honest image (inr (inr creation)) =
     inr ([], inr (refl, creation.0), opens_commands image [] tt tt creation.1)
 
 module _ {D : Type 0} (g : Ghosts D) (old : D) where
-  faulted : (new : D) (cause : JournalCause) → TellsCause (g.count old) (g.count new) cause
-      → TellsFault (g.count old) (g.count new) (as_cause cause)
+  faulted : (new : D) (cause : JournalCause) → TellsCause (g.faults old) (g.faults new) cause
+      → TellsFault (g.faults old) (g.faults new) (as_cause cause)
   faulted new (FaultyDisk count) told = told.1
   faulted new IsNoJournal told = told
   faulted new (IsBadRecord n) told = told
@@ -98,7 +99,7 @@ module _ {D : Type 0} (g : Ghosts D) (old : D) where
   shown (IsBadRecord n) shows = inl shows
 
   -- a disk on which no journal was started
-  pub not_started : ReadsImage g → (new : D) (cause : JournalCause) → TellsCause (g.count old) (g.count new) cause
+  pub not_started : ReadsImage g → (new : D) (cause : JournalCause) → TellsCause (g.faults old) (g.faults new) cause
       → (g.honest old) ↔ (g.honest new)
       → (g.honest old → JournalShown (g.reads old) cause) → (g.honest old → OpensOn g old new)
       → HasNotOpened g old new (as_cause cause)

@@ -144,7 +144,7 @@ module _ {D : Type 0} (g : Ghosts D) (old new : D) where
   ran_to_end : (input output : Stream) (ending : Ending) (bytes : List ℕ) (lanes : List Lane) (commands : List Command)
       → EndsRun g old new input output ending → input.before ≡ Some bytes → length bytes ≤ 16777216 → Reads bytes lanes
       → g.honest old → Opens (g.reads old) commands → (Rose input.faults_before input.faults_after → ⊥)
-      → (Rose output.faults_before output.faults_after → ⊥) → (Rose (g.count old) (g.count new) → ⊥)
+      → (Rose output.faults_before output.faults_after → ⊥) → (Rose (g.faults old) (g.faults new) → ⊥)
       → (status_of ending ≡ 0) ⊎ (status_of ending ≡ 9)
   ran_to_end input output Done bytes lanes commands ends told short reads honest opens input_held output_held disk_held = inl refl
   ran_to_end input output NoMemory bytes lanes commands ends told short reads honest opens input_held output_held disk_held = inr refl
@@ -163,7 +163,7 @@ module _ {D : Type 0} (g : Ghosts D) (old new : D) where
   refused_at_opening : (input output : Stream) (ending : Ending) (bytes : List ℕ) (lanes : List Lane)
       → EndsRun g old new input output ending → input.before ≡ Some bytes → length bytes ≤ 16777216 → Reads bytes lanes
       → g.honest old → OpensToNone (g.reads old) → (Rose input.faults_before input.faults_after → ⊥)
-      → (Rose (g.count old) (g.count new) → ⊥) → (status_of ending ≡ 5) ⊎ (status_of ending ≡ 9)
+      → (Rose (g.faults old) (g.faults new) → ⊥) → (status_of ending ≡ 5) ⊎ (status_of ending ≡ 9)
   refused_at_opening input output BadJournal bytes lanes ends told short reads honest none input_held disk_held = inl refl
   refused_at_opening input output NoMemory bytes lanes ends told short reads honest none input_held disk_held = inr refl
   refused_at_opening input output Usage bytes lanes ends told short reads honest none input_held disk_held = absurd ends
@@ -179,7 +179,7 @@ module _ {D : Type 0} (g : Ghosts D) (old new : D) where
     pub complete : (bytes : List ℕ) (lanes : List Lane) (commands : List Command) → AreRunWords words
         → input.before ≡ Some bytes → length bytes ≤ 16777216 → Reads bytes lanes
         → g.honest old → Opens (g.reads old) commands → (Rose input.faults_before input.faults_after → ⊥)
-        → (Rose output.faults_before output.faults_after → ⊥) → (Rose (g.count old) (g.count new) → ⊥)
+        → (Rose output.faults_before output.faults_after → ⊥) → (Rose (g.faults old) (g.faults new) → ⊥)
         → (status_of ending ≡ 0) ⊎ (status_of ending ≡ 9)
     complete bytes lanes commands run told short reads honest opens input_held output_held disk_held =
         elim obeys [
@@ -190,7 +190,7 @@ module _ {D : Type 0} (g : Ghosts D) (old new : D) where
     pub refused_exactly : (bytes : List ℕ) (lanes : List Lane) → AreRunWords words
         → input.before ≡ Some bytes → length bytes ≤ 16777216 → Reads bytes lanes
         → g.honest old → OpensToNone (g.reads old) → (Rose input.faults_before input.faults_after → ⊥)
-        → (Rose (g.count old) (g.count new) → ⊥) → (status_of ending ≡ 5) ⊎ (status_of ending ≡ 9)
+        → (Rose (g.faults old) (g.faults new) → ⊥) → (status_of ending ≡ 5) ⊎ (status_of ending ≡ 9)
     refused_exactly bytes lanes run told short reads honest none input_held disk_held =
         elim obeys [
           | inl ran ↦ refused_at_opening input output ending bytes lanes ran.1 told short reads honest none input_held disk_held

@@ -35,7 +35,7 @@ module _ {D S : Type 0} (g : Ghosts D) (start : Journal D g) where
       → n < count_of start → StaysAs start mid → (cause : Cause) → IsStuck mid new n replayed.commands cause
       → HasStopped start (disk_of new) cause
   stopped mid new policies n replayed within stays DiskFault stuck =
-      subst (λ m. Rose m (g.count (disk_of new))) replayed.quiet stuck
+      subst (λ m. Rose m (g.faults (disk_of new))) replayed.quiet stuck
   stopped mid new policies n replayed within stays (BadRecord m) stuck = (
     stuck.1 ∙ replayed.quiet,
     subst (λ k. BodiesHave start (IsStoppedAt k)) (sym stuck.0) (stopped_at mid policies n replayed within stays stuck.2),

@@ -9,7 +9,7 @@ use Rattle.outside_io.specs.declared.disks.Disk.{Ghosts}
 use Rattle.policy_types.specs.declared.script.Line.{Line}
 use Rattle.policy_types.specs.declared.script.Lane.{Lane}
 use Rattle.policy_types.specs.declared.entry.Entry.{Entry}
-use Rattle.policy_machine.specs.History.{Opening, commands_after}
+use Rattle.policy_machine.specs.History.{Opening, commands_after, opened_on}
 use Rattle.posting_journal.specs.Files.{IsJournal}
 use Rattle.posting_journal.specs.States.{IsKept, disk_of, is_clean}
 use Rattle.posting_journal.proofs.Written.{staged_either}
@@ -27,7 +27,7 @@ use Rattle.life_app.specs.Images.{HoldsNow, HoldsOnce, IsLeftBy}
 use Rattle.life_app.specs.Journals.{bodies_of}
 use Rattle.life_app.specs.declared.opening.Cause.{Cause}
 use Rattle.life_app.specs.declared.opening.Cause.TheVariants.{DiskFault as FaultyDisk, NotAJournal, BadRecord, NoMemory as NoRoom}
-use Rattle.life_app.specs.Opening.{HasNotOpened, HasOpened, opened_on}
+use Rattle.life_app.specs.Opening.{HasNotOpened, HasOpened}
 use Rattle.life_app.specs.Outcome.{AreTried, AreAnswered, EndsRun, HaveAFault, IsRefused, IsRunOf, most_script_bytes, IsReadAs}
 use Rattle.life_app.specs.Parts.{AnswersAll, EndsLines, EndsScript, EndsUnopened, EndsUnread, lines_text}
 use Rattle.life_app.specs.Writing.{Stream, WroteAll, WroteNothing}
@@ -87,10 +87,10 @@ module _ {D : Type 0} {g : Ghosts D} where
 
   -- the disk that a run leaves
   pub is_left_by : (old disk : D) (office last : Office D g) (opening : Opening) (history : List Entry) (opened : HasOpened old office)
-      → opening ≡ opened_on opened.commands (g.count old) → GoesOn office last opening [] history → disk ≡ disk_of last.journal
+      → opening ≡ opened_on opened.commands (g.faults old) → GoesOn office last opening [] history → disk ≡ disk_of last.journal
       → IsLeftBy g old disk opening history
   is_left_by old disk office last opening history opened is went left =
-      let begun = λ (image : List ℕ) (held : HoldsOnce (opened_on opened.commands (g.count old)) [] image).
+      let begun = λ (image : List ℕ) (held : HoldsOnce (opened_on opened.commands (g.faults old)) [] image).
       went.longer image (subst (λ o. HoldsOnce o [] image) (sym is) held) in
       let since = λ (moment : ℕ) (image : List ℕ) (honest : g.honest old).
       went.since moment image (opened.honesty.0 honest) in
@@ -117,7 +117,7 @@ module _ {D : Type 0} {g : Ghosts D} where
   -- the answers make a run, of which this was written
   run_of : (old disk : D) (office : Office D g) (lanes : List Lane) (lines : List Line) (output : Stream) (ending : Ending)
       (Wrote : List ℕ → Type 0) (Replies : List Entry → Type 0) (opened : HasOpened old office) → AreLanes lanes lines
-      → (ran : AnswersAll office disk (opened_on opened.commands (g.count old)) lines output ending)
+      → (ran : AnswersAll office disk (opened_on opened.commands (g.faults old)) lines output ending)
       → Wrote (lines_text lines ran.answers) → Replies (turns_made 1 lines ran.answers) → IsRunOf g old disk lanes Wrote Replies
   run_of old disk office lanes lines output ending Wrote Replies opened are ran wrote replies =
       let issues = recursion_from_All IsIssueLine lines are.issues in
@@ -132,13 +132,13 @@ module _ {D : Type 0} {g : Ghosts D} where
         legal = ran.went.stands.legal;
         wrote = subst Wrote (sym (text_of_turns lines ran.answers)) wrote;
         replies = replies;
-        disk = is_left_by old disk office ran.last (opened_on opened.commands (g.count old)) (turns_made 1 lines ran.answers) opened refl ran.went ran.left;
+        disk = is_left_by old disk office ran.last (opened_on opened.commands (g.faults old)) (turns_made 1 lines ran.answers) opened refl ran.went ran.left;
       })
 
   -- so a run whose lines were answered ends as its script's run does
   pub ends_run : (old disk : D) (office : Office D g) (lanes : List Lane) (lines : List Line) (output : Stream) (ending : Ending)
       (opened : HasOpened old office) → AreLanes lanes lines
-      → AnswersAll office disk (opened_on opened.commands (g.count old)) lines output ending → EndsScript g old disk lanes output ending
+      → AnswersAll office disk (opened_on opened.commands (g.faults old)) lines output ending → EndsScript g old disk lanes output ending
   ends_run old disk office lanes lines output Done opened are ran =
       run_of old disk office lanes lines output Done (WroteAll output) AreAnswered opened are ran ran.ends.1
       (all_answered 1 lines ran.answers (recursion_from_All IsIssueLine lines are.issues) ran.ends.0)
@@ -152,7 +152,7 @@ module _ {D : Type 0} {g : Ghosts D} where
       let fault = has_a_fault 1 lines ran.answers issues ran.each ran.ends.0 in
       let run = run_of old disk office lanes lines output DiskFault (WroteAll output) HaveAFault opened are ran ran.ends.1
       (all_tried 1 lines ran.answers issues, fault) in
-      let rose = rose_in (opened_on opened.commands (g.count old)) (turns_made 1 lines ran.answers) fault.0 (g.count (disk_of ran.last.journal))
+      let rose = rose_in (opened_on opened.commands (g.faults old)) (turns_made 1 lines ran.answers) fault.0 (g.faults (disk_of ran.last.journal))
       ran.went.stands.legal.due ran.went.stands.met fault.1 in
       (rw ran.left rose, inr run)
   ends_run old disk office lanes lines output NoMemory opened are ran =

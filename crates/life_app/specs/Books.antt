@@ -78,10 +78,10 @@ pub record StandsAfter {D : Type 0} {g : Ghosts D} (office : Office D g) (openin
   pub keeps : Keeps office.policies (commands_after opening history)
   pub counted : count_of office.journal ≡ length (commands_after opening history)
   -- no fault was answered with a number above the disk's count
-  pub opened : opening.faults ≤ g.count (disk_of office.journal)
-  pub met : AllByRecursion (λ n. n ≤ g.count (disk_of office.journal))
+  pub opened : opening.faults ≤ g.faults (disk_of office.journal)
+  pub met : AllByRecursion (λ n. n ≤ g.faults (disk_of office.journal))
       (filter_map (λ (entry : Entry). fault_of entry.reply) history)
-  pub faults : g.count (disk_of office.journal) ≡ faults_after opening history
+  pub faults : g.faults (disk_of office.journal) ≡ faults_after opening history
   pub journal : g.honest (disk_of office.journal) → JournalHolds office opening history
 
 -- An office went from one history to a longer one. A crash since an earlier moment leaves what it might have left

@@ -72,7 +72,7 @@ faults_after opening history =
 -- what it might have left before, or an image of the history; since the end of a sync the second alone.
 pub record IsLeftBy {D : Type 0} (g : Ghosts D) (old new : D) (opening : Opening) (history : List Entry) : Type 0 where
   pub honesty : (g.honest old) ↔ (g.honest new)
-  pub faults : g.count new ≡ faults_after opening history
+  pub faults : g.faults new ≡ faults_after opening history
   pub now : g.honest old → (image : List ℕ) → g.may_leave new image → HoldsNow opening history image
   pub since : g.honest old → (image : List ℕ) → g.left_since new (g.clock old) image
       → g.may_leave old image ⊎ HoldsOnce opening history image

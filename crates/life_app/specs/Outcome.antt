@@ -11,12 +11,11 @@ use Rattle.policy_types.specs.declared.entry.Entry.{Entry}
 use Rattle.policy_types.specs.declared.entry.Reply.{Reply}
 use Rattle.policy_types.specs.declared.entry.Reply.TheVariants.{Faulted, Blank}
 use Rattle.policy_types.specs.declared.script.Lane.{Lane}
-use Rattle.policy_machine.specs.History.{IsLegal}
+use Rattle.policy_machine.specs.History.{IsLegal, opened_on}
 use Rattle.policy_machine.specs.Merge.{IsMerge}
 use Rattle.command_csv.specs.Reads.{Reads, IsFirstFault}
 use Rattle.life_app.specs.Images.{HasFaulted, IsLeftAlone, IsLeftBy}
 use Rattle.life_app.specs.Journals.{IsShown, Opens}
-use Rattle.life_app.specs.Opening.{opened_on}
 use Rattle.life_app.specs.Transcript.{transcript_text}
 use Rattle.life_app.specs.Words.{AreRunWords}
 use Rattle.life_app.specs.declared.ending.Ending.{Ending}
@@ -55,10 +54,10 @@ pub record IsRunOf {D : Type 0} (g : Ghosts D) (old new : D) (lanes : List Lane)
   pub history : List Entry
   pub opened : g.honest old → Opens (g.reads old) commands
   pub merge : IsMerge history lanes callers dry
-  pub legal : IsLegal (opened_on commands (g.count old)) history
+  pub legal : IsLegal (opened_on commands (g.faults old)) history
   pub wrote : Wrote (transcript_text lanes callers history)
   pub replies : Replies history
-  pub disk : IsLeftBy g old new (opened_on commands (g.count old)) history
+  pub disk : IsLeftBy g old new (opened_on commands (g.faults old)) history
 
 abbrev pub most_script_bytes : ℕ
 most_script_bytes = 16777216
@@ -107,13 +106,13 @@ pub record IsRefusedJournal {D : Type 0} (g : Ghosts D) (old new : D) (output : 
   pub cause : Cause
   pub line : SaysWhy cause output
   pub shown : g.honest old → IsShown (g.reads old) cause
-  pub quiet : g.count new ≡ g.count old
+  pub quiet : g.faults new ≡ g.faults old
   pub alone : IsLeftAlone g old new
 
 -- no office ran for want of memory: the disk is the one from before, or the script was read and the disk didn't fail
 abbrev pub IsUnused : {D : Type 0} → Ghosts D → D → D → Option (List ℕ) → Type 0
 IsUnused g old new script =
-    (new ≡ old) ⊎ (IsReadable script × IsLeftAlone g old new × (g.count new ≡ g.count old))
+    (new ≡ old) ⊎ (IsReadable script × IsLeftAlone g old new × (g.faults new ≡ g.faults old))
 
 -- what each ending of a run says
 abbrev pub EndsRun : {D : Type 0} → Ghosts D → D → D → Stream → Stream → Ending → Type 0
@@ -128,7 +127,7 @@ EndsRun g old new input output WriteFault =
     IsAtEnd input.after × Rose output.faults_before output.faults_after
     × IsRun g old new input.before (AppendsPart output.before output.after) AreTried
 EndsRun g old new input output DiskFault =
-    IsAtEnd input.after × Rose (g.count old) (g.count new)
+    IsAtEnd input.after × Rose (g.faults old) (g.faults new)
     × ((IsReadable input.before × WroteLine output (codes "diskfault") × IsLeftAlone g old new)
     ⊎ IsRun g old new input.before (WroteAll output) HaveAFault)
 EndsRun g old new input output NoMemory =

@@ -74,10 +74,10 @@ EndsScript g old new lanes output WriteFault =
     Rose output.faults_before output.faults_after
     × IsRunOf g old new lanes (AppendsPart output.before output.after) AreTried
 EndsScript g old new lanes output DiskFault =
-    Rose (g.count old) (g.count new)
+    Rose (g.faults old) (g.faults new)
     × ((WroteLine output (codes "diskfault") × IsLeftAlone g old new)
     ⊎ IsRunOf g old new lanes (WroteAll output) HaveAFault)
 EndsScript g old new lanes output NoMemory =
-    (WroteLine output (codes "nomemory") × ((new ≡ old) ⊎ (IsLeftAlone g old new × (g.count new ≡ g.count old))))
+    (WroteLine output (codes "nomemory") × ((new ≡ old) ⊎ (IsLeftAlone g old new × (g.faults new ≡ g.faults old))))
     ⊎ IsRunOf g old new lanes (WroteNothing output) AreTried
 EndsScript g old new lanes output _ = ⊥

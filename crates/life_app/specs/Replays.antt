@@ -40,14 +40,14 @@ pub record IsReplayed {D S : Type 0} {g : Ghosts D} (old new : Journal D g) (pol
     (commands : List Command) : Type 0 where
   pub command : Command
   pub keeps : Keeps policies (commands ++ command ∷ [])
-  pub quiet : g.count (disk_of new) ≡ g.count (disk_of old)
+  pub quiet : g.faults (disk_of new) ≡ g.faults (disk_of old)
   pub spelled : BodiesHave old (λ bodies. slice_index_or bodies n [] ≡ spelling_of command)
 
 -- record n isn't: the disk failed, or its body spells no command that can follow these
 abbrev pub IsStuck : {D : Type 0} {g : Ghosts D} → Journal D g → Journal D g → ℕ → List Command → Cause → Type 0
-IsStuck {g = g} old new n commands DiskFault = Rose (g.count (disk_of old)) (g.count (disk_of new))
+IsStuck {g = g} old new n commands DiskFault = Rose (g.faults (disk_of old)) (g.faults (disk_of new))
 IsStuck {g = g} old new n commands (BadRecord m) =
-    (m ≡ n) × (g.count (disk_of new) ≡ g.count (disk_of old))
+    (m ≡ n) × (g.faults (disk_of new) ≡ g.faults (disk_of old))
     × BodiesHave old (λ bodies. IsUnspelled (slice_index_or bodies n []) commands)
 IsStuck old new n commands _ = ⊥
 
@@ -57,7 +57,7 @@ pub record AreReplayed {D S : Type 0} {g : Ghosts D} (old new : Journal D g) (po
   pub commands : List Command
   pub keeps : Keeps policies commands
   pub each : length commands ≡ n
-  pub quiet : g.count (disk_of new) ≡ g.count (disk_of old)
+  pub quiet : g.faults (disk_of new) ≡ g.faults (disk_of old)
   pub front : BodiesHave old (λ bodies. take n bodies ≡ bodies_of commands)
 
 -- the bodies before body n are those of commands, accepted one after the other, and it spells none that can follow them
@@ -72,10 +72,10 @@ pub record IsStoppedAt (n : ℕ) (bodies : List (List ℕ)) : Type 0 where
 
 -- why not every record was replayed
 abbrev pub HasStopped : {D : Type 0} {g : Ghosts D} → Journal D g → D → Cause → Type 0
-HasStopped {g = g} journal disk DiskFault = Rose (g.count (disk_of journal)) (g.count disk)
+HasStopped {g = g} journal disk DiskFault = Rose (g.faults (disk_of journal)) (g.faults disk)
 HasStopped {g = g} journal disk (BadRecord n) =
-    (g.count disk ≡ g.count (disk_of journal)) × BodiesHave journal (IsStoppedAt n)
-HasStopped {g = g} journal disk NoMemory = g.count disk ≡ g.count (disk_of journal)
+    (g.faults disk ≡ g.faults (disk_of journal)) × BodiesHave journal (IsStoppedAt n)
+HasStopped {g = g} journal disk NoMemory = g.faults disk ≡ g.faults (disk_of journal)
 HasStopped journal disk NotAJournal = ⊥
 
 -- the office of a journal's records

@@ -31,8 +31,8 @@ pub fn read_lanes<S: Source>(alloc: Global, input: &mut S) -> Result<Script, Unr
     ensures too_long { IsErrOf result Unread.TooLong → IfSome (S.left input.old) (λ told. 16777216 < length told) }
     ensures bad_row { (row field : ℕ) → result ≡ Err (BadRow row field)
         → IfSome (S.left input.old) (λ told. (length told ≤ 16777216) × IsFirstFault told row field) }
-    ensures fault { IsErrOf result Unread.ReadFault → Rose (S.count input.old) (S.count input.new) }
-    ensures later { S.count input.old ≤ S.count input.new }
+    ensures fault { IsErrOf result Unread.ReadFault → Rose (S.faults input.old) (S.faults input.new) }
+    ensures later { S.faults input.old ≤ S.faults input.new }
 {
     let bytes = match read_all(alloc, input, MOST_SCRIPT_BYTES) {
         Ok(bytes) => bytes,

@@ -44,32 +44,32 @@ pub fn life<S: Source, K: Sink, H: Shelf, D: Disk + Send, G: Gate + Sync>(
     ensures usage { (result.status ≡ 2) ↔ (AreRunWords words.now → ⊥) }
     ensures command { (result.status ≡ 2 → ⊥) ↔ AreRunWords words.now }
     ensures usage_line { result.status ≡ 2 → (result.disk ≡ disk) × (input.new ≡ input.old)
-        × WroteLine (between K.count K.written output.old output.new) (codes "usage") }
+        × WroteLine (between K.faults K.written output.old output.new) (codes "usage") }
 
     // Else the status tells how the run ended.
-    ensures done { result.status ≡ 0 → EndsRun D.Disk disk result.disk (between S.count S.left input.old input.new)
-        (between K.count K.written output.old output.new) Done }
+    ensures done { result.status ≡ 0 → EndsRun D.Disk disk result.disk (between S.faults S.left input.old input.new)
+        (between K.faults K.written output.old output.new) Done }
     ensures bad_script { result.status ≡ 3
-        → EndsRun D.Disk disk result.disk (between S.count S.left input.old input.new)
-        (between K.count K.written output.old output.new) BadScript }
+        → EndsRun D.Disk disk result.disk (between S.faults S.left input.old input.new)
+        (between K.faults K.written output.old output.new) BadScript }
     ensures bad_journal { result.status ≡ 5
-        → EndsRun D.Disk disk result.disk (between S.count S.left input.old input.new)
-        (between K.count K.written output.old output.new) BadJournal }
+        → EndsRun D.Disk disk result.disk (between S.faults S.left input.old input.new)
+        (between K.faults K.written output.old output.new) BadJournal }
     ensures read_fault { result.status ≡ 6
-        → EndsRun D.Disk disk result.disk (between S.count S.left input.old input.new)
-        (between K.count K.written output.old output.new) ReadFault }
+        → EndsRun D.Disk disk result.disk (between S.faults S.left input.old input.new)
+        (between K.faults K.written output.old output.new) ReadFault }
     ensures write_fault { result.status ≡ 7
-        → EndsRun D.Disk disk result.disk (between S.count S.left input.old input.new)
-        (between K.count K.written output.old output.new) WriteFault }
+        → EndsRun D.Disk disk result.disk (between S.faults S.left input.old input.new)
+        (between K.faults K.written output.old output.new) WriteFault }
     ensures disk_fault { result.status ≡ 8
-        → EndsRun D.Disk disk result.disk (between S.count S.left input.old input.new)
-        (between K.count K.written output.old output.new) DiskFault }
-    ensures no_memory { result.status ≡ 9 → EndsRun D.Disk disk result.disk (between S.count S.left input.old input.new)
-        (between K.count K.written output.old output.new) NoMemory }
+        → EndsRun D.Disk disk result.disk (between S.faults S.left input.old input.new)
+        (between K.faults K.written output.old output.new) DiskFault }
+    ensures no_memory { result.status ≡ 9 → EndsRun D.Disk disk result.disk (between S.faults S.left input.old input.new)
+        (between K.faults K.written output.old output.new) NoMemory }
 
     // A script that is too long, or has a row that is no line, is refused with 3, but for want of memory.
     ensures unreadable { (bytes : List ℕ) → AreRunWords words.now → S.left input.old ≡ Some bytes → IsUnreadable bytes
-        → (Rose (S.count input.old) (S.count input.new) → ⊥) → (result.status ≡ 3) ⊎ (result.status ≡ 9) }
+        → (Rose (S.faults input.old) (S.faults input.new) → ⊥) → (result.status ≡ 3) ⊎ (result.status ≡ 9) }
 
     // A file that opens to no commands reads as before, however the run ends.
     ensures unopened { D.honest disk → OpensToNone (D.reads disk) → D.reads result.disk ≡ D.reads disk }
@@ -79,15 +79,15 @@ pub fn life<S: Source, K: Sink, H: Shelf, D: Disk + Send, G: Gate + Sync>(
     ensures complete { (bytes : List ℕ) (lanes : List ALane) (commands : List ACommand) → AreRunWords words.now
         → S.left input.old ≡ Some bytes → length bytes ≤ 16777216 → Reads bytes lanes
         → D.honest disk → Opens (D.reads disk) commands
-        → (Rose (S.count input.old) (S.count input.new) → ⊥)
-        → (Rose (K.count output.old) (K.count output.new) → ⊥)
-        → (Rose (D.count disk) (D.count result.disk) → ⊥)
+        → (Rose (S.faults input.old) (S.faults input.new) → ⊥)
+        → (Rose (K.faults output.old) (K.faults output.new) → ⊥)
+        → (Rose (D.faults disk) (D.faults result.disk) → ⊥)
         → (result.status ≡ 0) ⊎ (result.status ≡ 9) }
     ensures refused { (bytes : List ℕ) (lanes : List ALane) → AreRunWords words.now
         → S.left input.old ≡ Some bytes → length bytes ≤ 16777216 → Reads bytes lanes
         → D.honest disk → OpensToNone (D.reads disk)
-        → (Rose (S.count input.old) (S.count input.new) → ⊥)
-        → (Rose (D.count disk) (D.count result.disk) → ⊥)
+        → (Rose (S.faults input.old) (S.faults input.new) → ⊥)
+        → (Rose (D.faults disk) (D.faults result.disk) → ⊥)
         → (result.status ≡ 5) ⊎ (result.status ≡ 9) }
 {
     let _ = shelf;
@@ -107,8 +107,8 @@ fn obey<S: Source, K: Sink, D: Disk>(
     output: &mut K,
     disk: D,
 ) -> Finished<D>
-    ensures { Obeys D.Disk disk result.disk words.now (between S.count S.left input.old input.new)
-        (between K.count K.written output.old output.new) (input.new ≡ input.old) result.ending }
+    ensures { Obeys D.Disk disk result.disk words.now (between S.faults S.left input.old input.new)
+        (between K.faults K.written output.old output.new) (input.new ≡ input.old) result.ending }
 {
     if are_run_words(words) {
         return run(alloc, input, output, disk);

@@ -12,10 +12,10 @@ pub fn record<D: Disk>(journal: &mut Journal<D>, body: &[u8; 64]) -> Result<(), 
     requires few { count_of journal.old < 4000000 }
     ensures count { count_of journal.new
         ≡ (if is_ok result then (count_of journal.old) + 1 else (count_of journal.old)) }
-    ensures later { D.count (disk_of journal.old) ≤ D.count (disk_of journal.new) }
-    ensures quiet { OnOk result (D.count (disk_of journal.new) ≡ D.count (disk_of journal.old)) }
-    ensures fault { IfErr result (λ fault. (fault.count ≡ D.count (disk_of journal.new))
-        × Rose (D.count (disk_of journal.old)) (D.count (disk_of journal.new))) }
+    ensures later { D.faults (disk_of journal.old) ≤ D.faults (disk_of journal.new) }
+    ensures quiet { OnOk result (D.faults (disk_of journal.new) ≡ D.faults (disk_of journal.old)) }
+    ensures fault { IfErr result (λ fault. (fault.count ≡ D.faults (disk_of journal.new))
+        × Rose (D.faults (disk_of journal.old)) (D.faults (disk_of journal.new))) }
     ensures honesty { (D.honest (disk_of journal.old)) ↔ (D.honest (disk_of journal.new)) }
     ensures records { (bodies : List (List ℕ)) (last : List ℕ) → D.honest (disk_of journal.old)
         → StandsFor journal.old bodies last

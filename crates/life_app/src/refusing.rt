@@ -13,16 +13,16 @@ use std::alloc::Global;
 
 /// Writes a line. Where the output fails, a front of it was written.
 pub fn say<K: Sink>(output: &mut K, line: &[u8])
-    ensures later { K.count output.old ≤ K.count output.new }
-    ensures wrote { WroteOrFailed (between K.count K.written output.old output.new) line.now }
+    ensures later { K.faults output.old ≤ K.faults output.new }
+    ensures wrote { WroteOrFailed (between K.faults K.written output.old output.new) line.now }
 {
     let _ = write_all(output, line);
 }
 
 /// Says why there is no script.
 pub fn refuse<K: Sink>(alloc: Global, unread: Unread, output: &mut K) -> Ending
-    ensures later { K.count output.old ≤ K.count output.new }
-    ensures ends { EndsUnread unread (between K.count K.written output.old output.new) result }
+    ensures later { K.faults output.old ≤ K.faults output.new }
+    ensures ends { EndsUnread unread (between K.faults K.written output.old output.new) result }
 {
     match unread {
         Unread::TooLong => {
@@ -42,8 +42,8 @@ pub fn refuse<K: Sink>(alloc: Global, unread: Unread, output: &mut K) -> Ending
 }
 
 fn refuse_row<K: Sink>(alloc: Global, row: u32, field: u32, output: &mut K) -> Ending
-    ensures later { K.count output.old ≤ K.count output.new }
-    ensures ends { EndsUnread (BadRow row field) (between K.count K.written output.old output.new) result }
+    ensures later { K.faults output.old ≤ K.faults output.new }
+    ensures ends { EndsUnread (BadRow row field) (between K.faults K.written output.old output.new) result }
 {
     match format!(in alloc; "badscript,{row},{field}\n") {
         Ok(line) => {
@@ -59,8 +59,8 @@ fn refuse_row<K: Sink>(alloc: Global, row: u32, field: u32, output: &mut K) -> E
 
 /// Says why no office was opened.
 pub fn refuse_journal<K: Sink>(alloc: Global, cause: Cause, output: &mut K) -> Ending
-    ensures later { K.count output.old ≤ K.count output.new }
-    ensures ends { EndsUnopened cause (between K.count K.written output.old output.new) result }
+    ensures later { K.faults output.old ≤ K.faults output.new }
+    ensures ends { EndsUnopened cause (between K.faults K.written output.old output.new) result }
 {
     match cause {
         Cause::DiskFault => {
@@ -80,8 +80,8 @@ pub fn refuse_journal<K: Sink>(alloc: Global, cause: Cause, output: &mut K) -> E
 }
 
 fn refuse_record<K: Sink>(alloc: Global, n: u32, output: &mut K) -> Ending
-    ensures later { K.count output.old ≤ K.count output.new }
-    ensures ends { EndsUnopened (BadRecord n) (between K.count K.written output.old output.new) result }
+    ensures later { K.faults output.old ≤ K.faults output.new }
+    ensures ends { EndsUnopened (BadRecord n) (between K.faults K.written output.old output.new) result }
 {
     match format!(in alloc; "badjournal,badrecord,{n}\n") {
         Ok(line) => {

@@ -36,8 +36,8 @@ pub fn run<S: Source, K: Sink, D: Disk>(
     output: &mut K,
     disk: D,
 ) -> Finished<D>
-    ensures ends { EndsRun D.Disk disk result.disk (between S.count S.left input.old input.new)
-        (between K.count K.written output.old output.new) result.ending }
+    ensures ends { EndsRun D.Disk disk result.disk (between S.faults S.left input.old input.new)
+        (between K.faults K.written output.old output.new) result.ending }
 {
     match read_lanes(alloc, input) {
         Ok(script) => run_script(alloc, &script, output, disk),
@@ -56,7 +56,7 @@ fn run_script<K: Sink, D: Disk>(
 ) -> Finished<D>
     requires read { (bytes : List ℕ) × Reads bytes script.now }
     ensures ends { EndsScript D.Disk disk result.disk script.now
-        (between K.count K.written output.old output.new) result.ending }
+        (between K.faults K.written output.old output.new) result.ending }
 {
     let lines = lines_of(script);
     let Ok(answers) = Vec::with_capacity(alloc, lines.len()) else {
@@ -87,9 +87,9 @@ fn run_lines<K: Sink, D: Disk>(
     requires unanswered { answers.items ≡ [] }
     requires room { length lines.now ≤ spare office.policies }
     requires answers_room { length lines.now ≤ vec_capacity answers }
-    ensures later { K.count output.old ≤ K.count output.new }
+    ensures later { K.faults output.old ≤ K.faults output.new }
     ensures all { (opening : Opening) → StandsAfter office opening [] → AnswersAll office result.disk opening lines.now
-        (between K.count K.written output.old output.new) result.ending }
+        (between K.faults K.written output.old output.new) result.ending }
 {
     let mut office = office;
     let mut answers = answers;
@@ -109,8 +109,8 @@ fn write_transcript<K: Sink>(
 ) -> Ending
     requires issues { All IsIssueLine lines.now }
     requires each { length answers.now ≡ length lines.now }
-    ensures later { K.count output.old ≤ K.count output.new }
-    ensures ends { EndsLines lines.now answers.now (between K.count K.written output.old output.new) result }
+    ensures later { K.faults output.old ≤ K.faults output.new }
+    ensures ends { EndsLines lines.now answers.now (between K.faults K.written output.old output.new) result }
 {
     let Ok(text) = transcript(alloc, 1, lines, answers) else {
         return Ending::NoMemory;

@@ -75,7 +75,7 @@ impl MemoryDisk {
 }
 
 impl Disk for MemoryDisk {
-    ghost count = { λ disk. plan_faults (disk_plan disk) };
+    ghost faults = { λ disk. plan_faults (disk_plan disk) };
 
     ghost honest = { λ disk. ⊤ };
 

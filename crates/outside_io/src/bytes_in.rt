@@ -38,7 +38,7 @@ impl Source for BytesSource {
     ghost use Rattle.outside_io.specs.Plans.{FailsNext, plan_faults, plan_failing, plan_calls, number_after};
     ghost use Rattle.outside_io.specs.Memory.{source_left, source_plan};
 
-    ghost count = { λ s. plan_faults (source_plan s) };
+    ghost faults = { λ s. plan_faults (source_plan s) };
 
     ghost left = { λ s. Some (source_left s) };
 

@@ -39,7 +39,7 @@ impl BytesSink {
 }
 
 impl Sink for BytesSink {
-    ghost count = { λ s. plan_faults (sink_plan s) };
+    ghost faults = { λ s. plan_faults (sink_plan s) };
 
     ghost written = { λ s. Some (sink_bytes s) };
 

@@ -12,7 +12,7 @@ use crate::Failed;
 /// range. After a sync that succeeds a crash leaves what a read gives.
 pub trait Disk {
     /// How many faults it has had.
-    ghost count: { Self → ℕ };
+    ghost faults: { Self → ℕ };
 
     /// It follows the disk model, and nobody else writes it.
     ghost honest: { Self → Type 0 };
@@ -31,11 +31,11 @@ pub trait Disk {
 
     /// How many faults it has had. The count stands still at its type's end.
     fn faults(&self) -> u64
-        ensures { result ≡ count self.now };
+        ensures { result ≡ faults self.now };
 
     /// How many bytes there are.
     fn len(&mut self) -> Result<u64, Failed>
-        ensures cause { HasDiskCause (count self.old) (count self.new) result }
+        ensures cause { HasDiskCause (faults self.old) (faults self.new) result }
         ensures honesty { (honest self.old) ↔ (honest self.new) }
         ensures length { honest self.old → IfOk result (λ n. n ≡ length (reads self.old)) }
         ensures facts { honest self.old
@@ -46,7 +46,7 @@ pub trait Disk {
     /// Fills the buffer with the bytes from a place on.
     fn read(&mut self, at: u64, buf: &mut [u8]) -> Result<(), Failed>
         requires { honest self.old → at + length buf.old ≤ length (reads self.old) }
-        ensures cause { HasDiskCause (count self.old) (count self.new) result }
+        ensures cause { HasDiskCause (faults self.old) (faults self.new) result }
         ensures honesty { (honest self.old) ↔ (honest self.new) }
         ensures bytes { honest self.old
             → OnOk result (buf.new ≡ take (length buf.old) (drop at (reads self.old))) }
@@ -58,7 +58,7 @@ pub trait Disk {
     /// Writes over what is there, and past the end.
     fn write_at(&mut self, at: u64, bytes: &[u8]) -> Result<(), Failed>
         requires { honest self.old → at ≤ length (reads self.old) }
-        ensures cause { HasDiskCause (count self.old) (count self.new) result }
+        ensures cause { HasDiskCause (faults self.old) (faults self.new) result }
         ensures honesty { (honest self.old) ↔ (honest self.new) }
         ensures facts { honest self.old → Writes at bytes.now result (reads self.old)
             (reads self.new) (may_leave self.old) (may_leave self.new) }
@@ -67,7 +67,7 @@ pub trait Disk {
 
     /// Makes safe what was written.
     fn sync(&mut self) -> Result<(), Failed>
-        ensures cause { HasDiskCause (count self.old) (count self.new) result }
+        ensures cause { HasDiskCause (faults self.old) (faults self.new) result }
         ensures honesty { (honest self.old) ↔ (honest self.new) }
         ensures facts { honest self.old → Syncs result (reads self.old) (reads self.new)
             (may_leave self.old) (may_leave self.new) }

@@ -35,7 +35,7 @@ impl<R: Files<File = File>> FileDisk<R> {
 }
 
 impl<R: Files<File = File>> Disk for FileDisk<R> {
-    ghost count = { λ disk. disk.faults };
+    ghost faults = { λ disk. disk.faults };
 
     ghost honest = { λ disk. ⊥ };
 

@@ -35,7 +35,7 @@ impl<R: Files> FolderShelf<R> {
 }
 
 impl<R: Files> Shelf for FolderShelf<R> {
-    ghost count = { λ s. s.faults };
+    ghost faults = { λ s. s.faults };
 
     ghost files = { λ s. None };
 

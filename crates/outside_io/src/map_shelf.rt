@@ -31,7 +31,7 @@ impl MapShelf {
 }
 
 impl Shelf for MapShelf {
-    ghost count = { λ s. plan_faults (shelf_plan s) };
+    ghost faults = { λ s. plan_faults (shelf_plan s) };
 
     ghost files = { λ s. Some (shelf_at s) };
 

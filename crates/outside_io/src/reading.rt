@@ -16,19 +16,19 @@ const PIECE: usize = 65_536;
 /// Gives bytes in pieces. Its count of faults never falls.
 pub trait Source {
     /// How many faults it has had.
-    ghost count: { Self → ℕ };
+    ghost faults: { Self → ℕ };
 
     /// The bytes that are left, where it tells them.
     ghost left: { Self → Option (List ℕ) };
 
     /// How many faults it has had. The count stands still at its type's end.
     fn faults(&self) -> u64
-        ensures { result ≡ count self.now };
+        ensures { result ≡ faults self.now };
 
     /// Puts bytes into the front of the buffer and answers how many. None into a buffer that isn't
     /// empty is the end.
     fn read(&mut self, buf: &mut [u8]) -> Result<usize, Failed>
-        ensures cause { HasCause (count self.old) (count self.new) result }
+        ensures cause { HasCause (faults self.old) (faults self.new) result }
         ensures bound { IfOk result (λ n. n ≤ length buf.new) }
         ensures bytes { ReadConsumes (left self.old) (left self.new) result buf.new }
         ensures tells { StillTells (left self.old) (left self.new) };
@@ -45,8 +45,8 @@ pub fn read_all<S: Source>(
     ensures within { IfOk result (λ bytes. vec_len bytes ≤ limit) }
     ensures too_long { IsErrOf result ReadAllFault.TooLong
         → IfSome (S.left source.old) (λ told. limit < length told) }
-    ensures fault { IsErrOf result ReadAllFault.ReadFault → Rose (S.count source.old) (S.count source.new) }
-    ensures later { S.count source.old ≤ S.count source.new }
+    ensures fault { IsErrOf result ReadAllFault.ReadFault → Rose (S.faults source.old) (S.faults source.new) }
+    ensures later { S.faults source.old ≤ S.faults source.new }
     ensures tells { StillTells (S.left source.old) (S.left source.new) }
     ensures rest { LosesFront (S.left source.old) (S.left source.new) }
 {
@@ -68,8 +68,8 @@ fn read_all_from<S: Source, L: Ledger>(
     ensures within { IfOk result (λ bytes. vec_len bytes ≤ limit) }
     ensures too_long { IsErrOf result ReadAllFault.TooLong
         → IfSome (S.left source.old) (λ told. limit < length told) }
-    ensures fault { IsErrOf result ReadAllFault.ReadFault → Rose (S.count source.old) (S.count source.new) }
-    ensures later { S.count source.old ≤ S.count source.new }
+    ensures fault { IsErrOf result ReadAllFault.ReadFault → Rose (S.faults source.old) (S.faults source.new) }
+    ensures later { S.faults source.old ≤ S.faults source.new }
     ensures tells { StillTells (S.left source.old) (S.left source.new) }
     ensures rest { LosesFront (S.left source.old) (S.left source.new) }
 {
@@ -90,8 +90,8 @@ pub fn read_all_counted<S: Source, L: Ledger>(
     ensures within { IfOk result (λ bytes. vec_len bytes ≤ limit) }
     ensures too_long { IsErrOf result ReadAllFault.TooLong
         → IfSome (S.left source.old) (λ told. limit < length told) }
-    ensures fault { IsErrOf result ReadAllFault.ReadFault → Rose (S.count source.old) (S.count source.new) }
-    ensures later { S.count source.old ≤ S.count source.new }
+    ensures fault { IsErrOf result ReadAllFault.ReadFault → Rose (S.faults source.old) (S.faults source.new) }
+    ensures later { S.faults source.old ≤ S.faults source.new }
     ensures tells { StillTells (S.left source.old) (S.left source.new) }
     ensures rest { LosesFront (S.left source.old) (S.left source.new) }
     ensures turns { steps.new ≤ steps.old + (limit + 1) }
@@ -119,9 +119,9 @@ fn turn<S: Source, L: Ledger>(
     piece: &mut [u8],
     steps: &mut Steps<L>,
 ) -> Result<usize, ReadAllFault>
-    ensures fault { IsErrOf result ReadAllFault.ReadFault → Rose (S.count source.old) (S.count source.new) }
+    ensures fault { IsErrOf result ReadAllFault.ReadFault → Rose (S.faults source.old) (S.faults source.new) }
     ensures only { IsErrOf result ReadAllFault.TooLong → ⊥ }
-    ensures later { S.count source.old ≤ S.count source.new }
+    ensures later { S.faults source.old ≤ S.faults source.new }
     ensures bound { IfOk result (λ n. n ≤ length piece.new) }
     ensures bytes { ReadConsumes (S.left source.old) (S.left source.new) result piece.new }
     ensures tells { StillTells (S.left source.old) (S.left source.new) }

@@ -23,7 +23,7 @@ impl<R: Read> StdSource<R> {
 }
 
 impl<R: Read> Source for StdSource<R> {
-    ghost count = { λ s. s.faults };
+    ghost faults = { λ s. s.faults };
 
     ghost left = { λ s. None };
 
@@ -54,7 +54,7 @@ impl<W: Write> StdSink<W> {
 }
 
 impl<W: Write> Sink for StdSink<W> {
-    ghost count = { λ s. s.faults };
+    ghost faults = { λ s. s.faults };
 
     ghost written = { λ s. None };
 

@@ -11,14 +11,14 @@ pub const SHELF_LIMIT: u32 = 4_194_304;
 /// Fetches files by name. Its count of faults never falls, and fetching changes no file.
 pub trait Shelf {
     /// How many faults it has had.
-    ghost count: { Self → ℕ };
+    ghost faults: { Self → ℕ };
 
     /// The bytes at each name, where it tells them.
     ghost files: { Self → Option (List ℕ → Option (List ℕ)) };
 
     /// How many faults it has had. The count stands still at its type's end.
     fn faults(&self) -> u64
-        ensures { result ≡ count self.now };
+        ensures { result ≡ faults self.now };
 
     /// The bytes of the file with this name, of which there may be at most 4 MiB.
     fn fetch(&mut self, alloc: Global, name: &str) -> Result<Vec<u8>, FetchFault>
@@ -29,7 +29,7 @@ pub trait Shelf {
             → IfSome (files self.old) (λ at. at name.now ≡ None) }
         ensures too_long { IsErrOf result FetchFault.TooLong → IfSome (files self.old)
             (λ at. IsSomeAnd (at name.now) (λ bytes. SHELF_LIMIT < length bytes)) }
-        ensures failed { IsErrOf result FetchFault.Failed → Rose (count self.old) (count self.new) }
-        ensures later { count self.old ≤ count self.new }
+        ensures failed { IsErrOf result FetchFault.Failed → Rose (faults self.old) (faults self.new) }
+        ensures later { faults self.old ≤ faults self.new }
         ensures stays { files self.new ≡ files self.old };
 }

@@ -9,19 +9,19 @@ use crate::{Failed, WriteFault};
 /// Takes bytes in pieces. Its count of faults never falls.
 pub trait Sink {
     /// How many faults it has had.
-    ghost count: { Self → ℕ };
+    ghost faults: { Self → ℕ };
 
     /// The bytes that were written to it, where it tells them.
     ghost written: { Self → Option (List ℕ) };
 
     /// How many faults it has had. The count stands still at its type's end.
     fn faults(&self) -> u64
-        ensures { result ≡ count self.now };
+        ensures { result ≡ faults self.now };
 
     /// Takes a front of the bytes and answers how many. To take nothing of a piece that isn't empty
     /// is a fault.
     fn write(&mut self, bytes: &[u8]) -> Result<usize, Failed>
-        ensures cause { HasCause (count self.old) (count self.new) result }
+        ensures cause { HasCause (faults self.old) (faults self.new) result }
         ensures bound { IfOk result (λ n. n ≤ length bytes.now) }
         ensures some { 0 < length bytes.now → IfOk result (λ n. 0 < n) }
         ensures bytes { WriteAppends (written self.old) (written self.new) result bytes.now }
@@ -30,7 +30,7 @@ pub trait Sink {
 
 /// Writes all the bytes. At a fault a front of them was written, and not all.
 pub fn write_all<K: Sink>(sink: &mut K, bytes: &[u8]) -> Result<(), WriteFault>
-    ensures cause { HasCause (K.count sink.old) (K.count sink.new) result }
+    ensures cause { HasCause (K.faults sink.old) (K.faults sink.new) result }
     ensures whole { OnOk result (Appends (K.written sink.old) (K.written sink.new) bytes.now) }
     ensures part { OnErr result (AppendsPart (K.written sink.old) (K.written sink.new) bytes.now) }
     ensures tells { StillTells (K.written sink.old) (K.written sink.new) }

@@ -12,6 +12,7 @@ use Rattle.policy_types.specs.declared.entry.Reply.{Reply}
 use Rattle.policy_types.specs.declared.entry.Reply.TheVariants.{Accepted, Refused, Faulted, Pinned, PinRefused, Slice as Policies, Unpinned, Floor, Blank}
 use Rattle.policy_types.specs.declared.entry.PinRefusal.TheVariants.{Ahead, Trimmed, PinsFull}
 use Rattle.policy_types.specs.declared.entry.Entry.{Entry}
+use Rattle.policy_types.specs.Limits.{most_commands}
 use Rattle.policy_types.specs.Valid.{IsValid, id_of}
 use Rattle.policy_machine.specs.Rules.{next}
 use Rattle.policy_machine.specs.Book.{policy_of, book, IsAccepted}
@@ -20,6 +21,9 @@ use Rattle.policy_machine.specs.Book.{policy_of, book, IsAccepted}
 pub record Opening : Type 0 where
   pub commands : List Command
   pub faults : ℕ
+
+abbrev pub opened_on : List Command → ℕ → Opening
+opened_on commands faults = record { commands = commands; faults = faults }
 
 -- the command that a turn posted, where it was accepted
 abbrev pub accepted_by : Call → Reply → Option Command
@@ -94,9 +98,6 @@ abbrev pub least_or : ℕ → List ℕ → ℕ
 least_or other [] = other
 least_or other (n ∷ []) = n
 least_or other (n ∷ m ∷ rest) = min n (least_or other (m ∷ rest))
-
-abbrev pub most_commands : ℕ
-most_commands = 4000000
 
 abbrev pub most_pins : ℕ
 most_pins = 16

@@ -10,7 +10,7 @@ use Rattle.policy_types.specs.declared.policy.Status.{Status}
 use Rattle.policy_types.specs.declared.policy.Status.TheVariants.{InForce, Lapsed, Claimed, Matured, Expired, Settled}
 use Rattle.policy_types.specs.declared.refusal.Refusal.{Refusal}
 use Rattle.policy_types.specs.declared.refusal.Refusal.TheVariants.{Taken, Unknown, BeforeLast, WrongStatus, TermOver, NothingDue, TooEarly, GraceOver, NotInArrears, TooLate, WrongAmount, NotAReduction, NotMatured, OverSettled}
-use Rattle.policy_types.specs.Valid.{IsIssue, IsDay}
+use Rattle.policy_types.specs.Valid.{IsIssue, IsCommandDay}
 use Rattle.life_dates.specs.Anniversary.{anniversary_of}
 
 -- the years of insurance of a plan, from the issue on
@@ -183,6 +183,6 @@ pub record IsSound (p : Policy) : Type 0 where
   pub issue_in : IsIssue p.id p.issued p.plan p.age p.years p.amount p.premium
   pub paid_in : p.paid ≤ payments_of p
   pub last_after : p.issued ≤ℤ p.last
-  pub last_in : IsDay p.last
+  pub last_in : IsCommandDay p.last
   pub outstanding_in : p.outstanding ≤ p.amount
   pub outstanding_when : (0 < p.outstanding) ↔ IsTrue (awaits_settlement p.status)

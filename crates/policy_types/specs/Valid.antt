@@ -32,8 +32,8 @@ abbrev pub IsId : ℕ → Type 0
 IsId id = (1 ≤ id) × (id ≤ 4294967295)
 
 -- from 1900-01-01 to 2199-12-31, in days since 1970-01-01
-abbrev pub IsDay : ℤ → Type 0
-IsDay day = (negsuc 25566 ≤ℤ day) × (day ≤ℤ pos 84005)
+abbrev pub IsCommandDay : ℤ → Type 0
+IsCommandDay day = (negsuc 25566 ≤ℤ day) × (day ≤ℤ pos 84005)
 
 -- an amount of insurance, a premium or a payment: from one cent to 100,000,000.00
 abbrev pub IsAmount : ℕ → Type 0
@@ -54,7 +54,7 @@ AreYears _ age years = (2 ≤ years) × (age + years ≤ 131)
 
 pub record IsIssue (id : ℕ) (day : ℤ) (plan : Plan) (age years amount premium : ℕ) : Type 0 where
   pub id_in : IsId id
-  pub day_in : IsDay day
+  pub day_in : IsCommandDay day
   pub age_in : IsIssueAge age
   pub years_in : AreYears plan age years
   pub amount_in : IsAmount amount
@@ -62,10 +62,10 @@ pub record IsIssue (id : ℕ) (day : ℤ) (plan : Plan) (age years amount premiu
 
 abbrev pub IsValid : Command → Type 0
 IsValid (Issue id day plan age years amount premium) = IsIssue id day plan age years amount premium
-IsValid (Premium id day amount) = IsId id × IsDay day × IsAmount amount
-IsValid (Alter id day amount premium) = IsId id × IsDay day × IsAmount amount × IsAmount premium
-IsValid (Lapse id day) = IsId id × IsDay day
-IsValid (Reinstate id day amount) = IsId id × IsDay day × IsReinstatement amount
-IsValid (Claim id day) = IsId id × IsDay day
-IsValid (Settle id day amount) = IsId id × IsDay day × IsAmount amount
-IsValid (Mature id day) = IsId id × IsDay day
+IsValid (Premium id day amount) = IsId id × IsCommandDay day × IsAmount amount
+IsValid (Alter id day amount premium) = IsId id × IsCommandDay day × IsAmount amount × IsAmount premium
+IsValid (Lapse id day) = IsId id × IsCommandDay day
+IsValid (Reinstate id day amount) = IsId id × IsCommandDay day × IsReinstatement amount
+IsValid (Claim id day) = IsId id × IsCommandDay day
+IsValid (Settle id day amount) = IsId id × IsCommandDay day × IsAmount amount
+IsValid (Mature id day) = IsId id × IsCommandDay day

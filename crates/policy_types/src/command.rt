@@ -1,5 +1,5 @@
 ghost use Rattle.std.specs.Prelude.{◌≡◌, ◌↔◌, ◌≤◌, IsTrue};
-ghost use Rattle.policy_types.specs.Valid.{IsId, IsDay, IsIssueAge, AreYears};
+ghost use Rattle.policy_types.specs.Valid.{IsId, IsCommandDay, IsIssueAge, AreYears};
 
 /// 1900-01-01, in days since 1970-01-01.
 pub const FIRST_DAY: i32 = -25567;
@@ -163,12 +163,13 @@ impl Command {
 }
 
 fn names_policy(id: u32, day: i32) -> bool
-    ensures { IsTrue result ↔ (IsId id × IsDay day) }
+    ensures { IsTrue result ↔ (IsId id × IsCommandDay day) }
 {
     id != 0 && FIRST_DAY <= day && day <= LAST_DAY
 }
 
-fn are_years(plan: Plan, age: u8, years: u8) -> bool
+/// Whether a plan may be issued at the age for the years: 0 for whole life, else at least 2 that end at 131 or before.
+pub fn are_years(plan: Plan, age: u8, years: u8) -> bool
     ensures { IsTrue result ↔ (IsIssueAge age × AreYears plan age years) }
 {
     let in_term = match plan {

@@ -13,7 +13,7 @@ mod watcher;
 
 pub use command::{
     Command, END_AGE, FIRST_DAY, LAST_DAY, LAST_ISSUE_AGE, MOST_CENTS, MOST_REINSTATEMENT_CENTS,
-    Plan,
+    Plan, are_years,
 };
 pub use entry::{At, Call, Entry, PinRefusal, Reply, Slice};
 pub use policy::{Policy, Status};

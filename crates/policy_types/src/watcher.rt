@@ -1,5 +1,6 @@
 ghost use Rattle.std.specs.Prelude.{◌≡◌, ℕ, ◌<◌, ◌≤◌, ◌+◌, ◌++◌, ◌∷◌, ◌↔◌, [], List, Bool, length, IsTrue, OnOk, OnErr};
 ghost use Rattle.policy_types.specs.declared.command.Command.{Command as ACommand};
+ghost use Rattle.policy_types.specs.Limits.{most_commands};
 ghost use Rattle.policy_types.specs.Valid.{IsValid};
 
 use crate::command::Command;
@@ -50,7 +51,7 @@ pub trait Watcher: Drop {
     fn note(&mut self, position: u32, command: &Command) -> Attention
         requires room { 1 ≤ spare self.old }
         requires valid { IsValid command.now }
-        requires few { length (noted self.old) < 4000000 }
+        requires few { length (noted self.old) < most_commands }
         ensures noted { noted self.new ≡ noted self.old ++ command.now ∷ [] }
         ensures done { (result ≡ Attention.Done) ↔ IsTrue (stops self.old (noted self.new)) }
         ensures stops { (h : List ACommand) → stops self.new h ≡ stops self.old h }

@@ -32,10 +32,10 @@ impl<D: Disk> Journal<D> {
         requires { n < count_of self.old }
         ensures count { count_of self.new ≡ count_of self.old }
         ensures clean { is_clean self.new ≡ is_clean self.old }
-        ensures later { D.count (disk_of self.old) ≤ D.count (disk_of self.new) }
-        ensures quiet { OnOk result (D.count (disk_of self.new) ≡ D.count (disk_of self.old)) }
-        ensures fault { IfErr result (λ fault. (fault.count ≡ D.count (disk_of self.new))
-            × Rose (D.count (disk_of self.old)) (D.count (disk_of self.new))) }
+        ensures later { D.faults (disk_of self.old) ≤ D.faults (disk_of self.new) }
+        ensures quiet { OnOk result (D.faults (disk_of self.new) ≡ D.faults (disk_of self.old)) }
+        ensures fault { IfErr result (λ fault. (fault.count ≡ D.faults (disk_of self.new))
+            × Rose (D.faults (disk_of self.old)) (D.faults (disk_of self.new))) }
         ensures honesty { (D.honest (disk_of self.old)) ↔ (D.honest (disk_of self.new)) }
         ensures unwritten { D.honest (disk_of self.old) → LooksOn D.Disk (disk_of self.old) (disk_of self.new) }
         ensures read { D.honest (disk_of self.old)
@@ -60,10 +60,10 @@ impl<D: Disk> Journal<D> {
         requires clean { IsTrue (is_clean self.old) }
         ensures count { count_of self.new ≡ (if is_ok result then (count_of self.old) + 1 else (count_of self.old)) }
         ensures clean { OnOk result (IsTrue (is_clean self.new)) }
-        ensures later { D.count (disk_of self.old) ≤ D.count (disk_of self.new) }
-        ensures quiet { OnOk result (D.count (disk_of self.new) ≡ D.count (disk_of self.old)) }
-        ensures fault { IfErr result (λ fault. (fault.count ≡ D.count (disk_of self.new))
-            × Rose (D.count (disk_of self.old)) (D.count (disk_of self.new))) }
+        ensures later { D.faults (disk_of self.old) ≤ D.faults (disk_of self.new) }
+        ensures quiet { OnOk result (D.faults (disk_of self.new) ≡ D.faults (disk_of self.old)) }
+        ensures fault { IfErr result (λ fault. (fault.count ≡ D.faults (disk_of self.new))
+            × Rose (D.faults (disk_of self.old)) (D.faults (disk_of self.new))) }
         ensures honesty { (D.honest (disk_of self.old)) ↔ (D.honest (disk_of self.new)) }
         ensures acknowledged { (bodies : List (List ℕ)) (faulted : List ℕ) → D.honest (disk_of self.old)
             → StandsFor self.old bodies faulted
@@ -88,10 +88,10 @@ impl<D: Disk> Journal<D> {
         requires { is_clean self.old ≡ false }
         ensures count { count_of self.new ≡ count_of self.old }
         ensures clean { is_clean self.new ≡ is_ok result }
-        ensures later { D.count (disk_of self.old) ≤ D.count (disk_of self.new) }
-        ensures quiet { OnOk result (D.count (disk_of self.new) ≡ D.count (disk_of self.old)) }
-        ensures fault { IfErr result (λ fault. (fault.count ≡ D.count (disk_of self.new))
-            × Rose (D.count (disk_of self.old)) (D.count (disk_of self.new))) }
+        ensures later { D.faults (disk_of self.old) ≤ D.faults (disk_of self.new) }
+        ensures quiet { OnOk result (D.faults (disk_of self.new) ≡ D.faults (disk_of self.old)) }
+        ensures fault { IfErr result (λ fault. (fault.count ≡ D.faults (disk_of self.new))
+            × Rose (D.faults (disk_of self.old)) (D.faults (disk_of self.new))) }
         ensures honesty { (D.honest (disk_of self.old)) ↔ (D.honest (disk_of self.new)) }
         ensures repaired { (bodies : List (List ℕ)) (faulted : List ℕ) → D.honest (disk_of self.old)
             → StandsFor self.old bodies faulted
@@ -133,7 +133,7 @@ impl<D: Disk> Journal<D> {
         requires clean { IsTrue (is_clean self.old) }
         ensures count { count_of self.new ≡ count_of self.old }
         ensures clean { IsTrue (is_clean self.new) }
-        ensures cause { HasDiskCause (D.count (disk_of self.old)) (D.count (disk_of self.new)) result }
+        ensures cause { HasDiskCause (D.faults (disk_of self.old)) (D.faults (disk_of self.new)) result }
         ensures honesty { (D.honest (disk_of self.old)) ↔ (D.honest (disk_of self.new)) }
         ensures next { D.honest (disk_of self.old)
             → OnOk result (gate_of ((count_of self.new) + 1) < length (D.reads (disk_of self.new))) }
@@ -152,7 +152,7 @@ impl<D: Disk> Journal<D> {
             → gate_of ((count_of self.old) + 1) < length (D.reads (disk_of self.old)) }
         ensures count { count_of self.new ≡ (if is_ok result then (count_of self.old) + 1 else (count_of self.old)) }
         ensures clean { is_clean self.new ≡ is_ok result }
-        ensures cause { HasDiskCause (D.count (disk_of self.old)) (D.count (disk_of self.new)) result }
+        ensures cause { HasDiskCause (D.faults (disk_of self.old)) (D.faults (disk_of self.new)) result }
         ensures honesty { (D.honest (disk_of self.old)) ↔ (D.honest (disk_of self.new)) }
         ensures acknowledges { (bodies : List (List ℕ)) (body : List ℕ) → D.honest (disk_of self.old)
             → (count_of self.old) ≡ length bodies
@@ -173,7 +173,7 @@ impl<D: Disk> Journal<D> {
     // A fault of the disk, with the count of its faults.
     fn told(&self, done: Result<(), Failed>) -> Result<(), DiskFault>
         ensures { MatchResult done (λ u. result ≡ Ok u)
-            (λ f. result ≡ Err (record { count = D.count (disk_of self.now) })) }
+            (λ f. result ≡ Err (record { count = D.faults (disk_of self.now) })) }
     {
         match done {
             Ok(()) => Ok(()),

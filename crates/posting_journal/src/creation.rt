@@ -15,7 +15,7 @@ pub(crate) fn create<D: Disk>(disk: &mut D, begun: bool) -> Result<(), Failed>
     requires begun { D.honest disk.old → IsTrue begun → IsBegun (D.reads disk.old) }
     requires other { D.honest disk.old → begun ≡ false → IsToBegin (D.reads disk.old) }
     requires safe { D.honest disk.old → IsSafe D.Disk disk.old }
-    ensures cause { HasDiskCause (D.count disk.old) (D.count disk.new) result }
+    ensures cause { HasDiskCause (D.faults disk.old) (D.faults disk.new) result }
     ensures honesty { (D.honest disk.old) ↔ (D.honest disk.new) }
     ensures made { D.honest disk.old → OnOk result (IsJournal (D.reads disk.new) [] × IsSafe D.Disk disk.new) }
     ensures moments { D.honest disk.old → Passes D.Disk disk.old disk.new IsEmpty }
@@ -31,7 +31,7 @@ pub(crate) fn create<D: Disk>(disk: &mut D, begun: bool) -> Result<(), Failed>
 fn begin<D: Disk>(disk: &mut D) -> Result<(), Failed>
     requires other { D.honest disk.old → IsToBegin (D.reads disk.old) }
     requires safe { D.honest disk.old → IsSafe D.Disk disk.old }
-    ensures cause { HasDiskCause (D.count disk.old) (D.count disk.new) result }
+    ensures cause { HasDiskCause (D.faults disk.old) (D.faults disk.new) result }
     ensures honesty { (D.honest disk.old) ↔ (D.honest disk.new) }
     ensures begun { D.honest disk.old → OnOk result (IsBegun (D.reads disk.new) × IsSafe D.Disk disk.new) }
     ensures moments { D.honest disk.old → Passes D.Disk disk.old disk.new IsEmpty }
@@ -43,7 +43,7 @@ fn begin<D: Disk>(disk: &mut D) -> Result<(), Failed>
 fn write_header<D: Disk>(disk: &mut D) -> Result<(), Failed>
     requires begun { D.honest disk.old → IsBegun (D.reads disk.old) }
     requires safe { D.honest disk.old → IsSafe D.Disk disk.old }
-    ensures cause { HasDiskCause (D.count disk.old) (D.count disk.new) result }
+    ensures cause { HasDiskCause (D.faults disk.old) (D.faults disk.new) result }
     ensures honesty { (D.honest disk.old) ↔ (D.honest disk.new) }
     ensures ready { D.honest disk.old → OnOk result (IsReady (D.reads disk.new) × IsSafe D.Disk disk.new) }
     ensures moments { D.honest disk.old → Passes D.Disk disk.old disk.new IsEmpty }
@@ -55,7 +55,7 @@ fn write_header<D: Disk>(disk: &mut D) -> Result<(), Failed>
 fn finish<D: Disk>(disk: &mut D) -> Result<(), Failed>
     requires ready { D.honest disk.old → IsReady (D.reads disk.old) }
     requires safe { D.honest disk.old → IsSafe D.Disk disk.old }
-    ensures cause { HasDiskCause (D.count disk.old) (D.count disk.new) result }
+    ensures cause { HasDiskCause (D.faults disk.old) (D.faults disk.new) result }
     ensures honesty { (D.honest disk.old) ↔ (D.honest disk.new) }
     ensures made { D.honest disk.old → OnOk result (IsJournal (D.reads disk.new) [] × IsSafe D.Disk disk.new) }
     ensures moments { D.honest disk.old → Passes D.Disk disk.old disk.new IsEmpty }

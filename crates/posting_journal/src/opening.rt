@@ -17,7 +17,7 @@ use outside_io::{Disk, Failed};
 // Opens the journal and answers how many records it has. What a crash left is made safe first, so that it is all
 // that a later crash leaves.
 pub(crate) fn open<D: Disk>(disk: &mut D) -> Result<u32, Unopened>
-    ensures cause { HasUnopenedCause (D.count disk.old) (D.count disk.new) result }
+    ensures cause { HasUnopenedCause (D.faults disk.old) (D.faults disk.new) result }
     ensures honesty { (D.honest disk.old) ↔ (D.honest disk.new) }
     ensures few { IfOk result (λ n. n ≤ 4000000) }
     ensures opened { D.honest disk.old → IfOk result (λ n. OpenedTo D.Disk disk.old disk.new n) }
@@ -32,7 +32,7 @@ pub(crate) fn open<D: Disk>(disk: &mut D) -> Result<u32, Unopened>
 // Opens what is safe.
 fn open_safe<D: Disk>(disk: &mut D) -> Result<u32, Unopened>
     requires safe { D.honest disk.old → IsSafe D.Disk disk.old }
-    ensures cause { HasUnopenedCause (D.count disk.old) (D.count disk.new) result }
+    ensures cause { HasUnopenedCause (D.faults disk.old) (D.faults disk.new) result }
     ensures honesty { (D.honest disk.old) ↔ (D.honest disk.new) }
     ensures few { IfOk result (λ n. n ≤ 4000000) }
     ensures opened { D.honest disk.old → IfOk result (λ n. OpenedTo D.Disk disk.old disk.new n) }
@@ -54,7 +54,7 @@ fn open_safe<D: Disk>(disk: &mut D) -> Result<u32, Unopened>
 // Reads the first bytes.
 fn kind_of<D: Disk>(disk: &mut D, size: u64) -> Result<FileKind, Failed>
     requires { D.honest disk.old → size ≡ length (D.reads disk.old) }
-    ensures cause { HasDiskCause (D.count disk.old) (D.count disk.new) result }
+    ensures cause { HasDiskCause (D.faults disk.old) (D.faults disk.new) result }
     ensures honesty { (D.honest disk.old) ↔ (D.honest disk.new) }
     ensures long { IfOk result (λ kind. IsLongIfMade size kind) }
     ensures kind { D.honest disk.old → IfOk result (λ kind. IsOfKind (D.reads disk.old) kind) }

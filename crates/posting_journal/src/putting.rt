@@ -8,7 +8,7 @@ use outside_io::{Disk, Failed};
 // Writes and syncs.
 pub(crate) fn put<D: Disk>(disk: &mut D, at: u64, bytes: &[u8]) -> Result<(), Failed>
     requires { D.honest disk.old → at ≤ length (D.reads disk.old) }
-    ensures cause { HasDiskCause (D.count disk.old) (D.count disk.new) result }
+    ensures cause { HasDiskCause (D.faults disk.old) (D.faults disk.new) result }
     ensures honesty { (D.honest disk.old) ↔ (D.honest disk.new) }
     ensures longer { D.honest disk.old → length (D.reads disk.old) ≤ length (D.reads disk.new) }
     ensures filled { D.honest disk.old → OnOk result (at + length bytes.now ≤ length (D.reads disk.new)) }
@@ -20,7 +20,7 @@ pub(crate) fn put<D: Disk>(disk: &mut D, at: u64, bytes: &[u8]) -> Result<(), Fa
 
 // After it a crash leaves what is read.
 pub(crate) fn make_safe<D: Disk>(disk: &mut D) -> Result<(), Failed>
-    ensures cause { HasDiskCause (D.count disk.old) (D.count disk.new) result }
+    ensures cause { HasDiskCause (D.faults disk.old) (D.faults disk.new) result }
     ensures honesty { (D.honest disk.old) ↔ (D.honest disk.new) }
     ensures facts { D.honest disk.old
         → Syncs result (D.reads disk.old) (D.reads disk.new) (D.may_leave disk.old) (D.may_leave disk.new) }

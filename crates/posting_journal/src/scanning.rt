@@ -13,7 +13,7 @@ use outside_io::Disk;
 pub(crate) fn count_records<D: Disk>(disk: &mut D, size: u64) -> Result<u32, Unopened>
     requires long { 18 ≤ size }
     requires told { D.honest disk.old → size ≡ length (D.reads disk.old) }
-    ensures cause { HasUnopenedCause (D.count disk.old) (D.count disk.new) result }
+    ensures cause { HasUnopenedCause (D.faults disk.old) (D.faults disk.new) result }
     ensures honesty { (D.honest disk.old) ↔ (D.honest disk.new) }
     ensures few { IfOk result (λ n. n ≤ 4000000) }
     ensures ends { D.honest disk.old → IfOk result (λ n. EndsAt (D.reads disk.old) n) }
@@ -32,7 +32,7 @@ fn has_record<D: Disk>(disk: &mut D, size: u64, n: u32) -> Result<bool, Unopened
     requires few { n ≤ 4000000 }
     requires within { gate_of n < size }
     requires told { D.honest disk.old → size ≡ length (D.reads disk.old) }
-    ensures cause { HasUnopenedCause (D.count disk.old) (D.count disk.new) result }
+    ensures cause { HasUnopenedCause (D.faults disk.old) (D.faults disk.new) result }
     ensures honesty { (D.honest disk.old) ↔ (D.honest disk.new) }
     ensures stands { IfOk result (λ stands. IsTrue stands → (n < 4000000) × (gate_of (n + 1) < size)) }
     ensures gate { D.honest disk.old

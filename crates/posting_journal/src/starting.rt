@@ -15,8 +15,8 @@ impl<D: Disk> Journal<D> {
     /// Opens the journal of the disk, or makes an empty one of an unfinished creation. Over any other file nothing is
     /// written. A disk that fails is given back with its count, which rose in this call.
     pub fn start(disk: D) -> Result<Journal<D>, JournalFault<D>>
-        ensures told { IfErr result (λ fault. TellsCause (D.count disk) (D.count fault.disk) fault.cause) }
-        ensures quiet { IfOk result (λ journal. D.count (disk_of journal) ≡ D.count disk) }
+        ensures told { IfErr result (λ fault. TellsCause (D.faults disk) (D.faults fault.disk) fault.cause) }
+        ensures quiet { IfOk result (λ journal. D.faults (disk_of journal) ≡ D.faults disk) }
         ensures clean { IfOk result (λ journal. IsTrue (is_clean journal)) }
         ensures honesty { MatchResult result (λ journal. (D.honest disk) ↔ (D.honest (disk_of journal)))
             (λ fault. (D.honest disk) ↔ (D.honest fault.disk)) }

@@ -1,4 +1,4 @@
-use Rattle.life_app.specs.Opening.{opened_on}
+use Rattle.policy_machine.specs.History.{opened_on}
 use Rattle.life_app.proofs.RunSteps.{ends_run, ends_unopened}
 use Rattle.life_app.proofs.run.run_script.Goals as goal
 
@@ -8,7 +8,7 @@ returns-in-Ok-open g c =
     record {
       ends = ends_run c.args.disk c.run_lines.result.disk c.in-Ok-open.office c.args.script.now c.lines_of-lines.result.now _ c.run_lines.result.ending
           opened c.lines_of-lines.ensures
-          (c.run_lines.ensures.all (opened_on opened.commands (g.D.Disk.count c.args.disk)) opened.stands);
+          (c.run_lines.ensures.all (opened_on opened.commands (g.D.Disk.faults c.args.disk)) opened.stands);
     }
 
 pub returns-in-Err : goal.returns-in-Err

@@ -7,7 +7,7 @@ use Rattle.outside_io.proofs.reading.read_all_counted.Given as goal
 abbrev pub invariant-loop-bytes : goal.invariant-loop-bytes
 invariant-loop-bytes g l = record {
   within : vec_len l.bytes ≤ l.room;
-  later : g.S.Source.count l.initial.source ≤ g.S.Source.count l.source;
+  later : g.S.Source.faults l.initial.source ≤ g.S.Source.faults l.source;
   came : Consumes (g.S.Source.left l.initial.source) (g.S.Source.left l.source) l.bytes.items;
   tells : StillTells (g.S.Source.left l.initial.source) (g.S.Source.left l.source);
   turns : l.steps ≤ l.initial.steps + vec_len l.bytes;

@@ -7,7 +7,7 @@ use Rattle.outside_io.proofs.writing.write_all.Given as goal
 abbrev pub invariant-loop-taken : goal.invariant-loop-taken
 invariant-loop-taken g l = record {
   within : l.taken ≤ length l.bytes;
-  later : g.K.Sink.count l.initial.sink ≤ g.K.Sink.count l.sink;
+  later : g.K.Sink.faults l.initial.sink ≤ g.K.Sink.faults l.sink;
   written : Appends (g.K.Sink.written l.initial.sink) (g.K.Sink.written l.sink) (take l.taken l.bytes);
   tells : StillTells (g.K.Sink.written l.initial.sink) (g.K.Sink.written l.sink);
 }

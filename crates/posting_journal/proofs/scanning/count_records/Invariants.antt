@@ -9,7 +9,7 @@ abbrev pub invariant-loop-n : goal.invariant-loop-n
 invariant-loop-n g l = record {
   few : l.n ≤ 4000000;
   within : gate_of l.n < l.size;
-  count : g.D.Disk.count l.disk ≡ g.D.Disk.count l.fn.disk;
+  count : g.D.Disk.faults l.disk ≡ g.D.Disk.faults l.fn.disk;
   honesty : (g.D.Disk.honest l.fn.disk) ↔ (g.D.Disk.honest l.disk);
   told : g.D.Disk.honest l.fn.disk → l.size ≡ length (g.D.Disk.reads l.fn.disk);
   looks : g.D.Disk.honest l.fn.disk → LooksOn g.D.Disk l.fn.disk l.disk;

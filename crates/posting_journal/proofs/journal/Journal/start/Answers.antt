@@ -17,4 +17,4 @@ returns-in-Err-clause-refused g c = λ honest. c.cause_of-cause.ensures.shown (g
 
 pub returns-in-Err-clause-told : goal.returns-in-Err-clause-told
 returns-in-Err-clause-told g c =
-    rw c.faults.ensures at c.cause_of-cause.ensures.told (g.D.Disk.count c.args.disk) c.in-Err.ensures.cause.failed
+    rw c.faults.ensures at c.cause_of-cause.ensures.told (g.D.Disk.faults c.args.disk) c.in-Err.ensures.cause.failed

@@ -1,0 +1,49 @@
+-- What an accepted command books on the four accounts, in cents. Every booking adds up to 0
+use Rattle.std.specs.Prelude.{ℕ, ℤ, pos, ◌-ℤ◌}
+use Rattle.policy_types.specs.declared.command.Command.{Command}
+use Rattle.policy_types.specs.declared.command.Command.TheVariants.{Issue, Premium, Alter, Lapse, Reinstate, Claim, Settle, Mature}
+use Rattle.policy_types.specs.declared.policy.Policy.{Policy}
+use Rattle.policy_types.specs.declared.policy.Status.{Status}
+use Rattle.policy_types.specs.declared.policy.Status.TheVariants.{Matured}
+
+-- what is booked on each account: cash, premiums earned, benefits incurred, benefits payable
+pub record Booking : Type 0 where
+  pub cash : ℤ
+  pub premiums : ℤ
+  pub incurred : ℤ
+  pub payable : ℤ
+
+-- the number of cents on the other side of an account
+abbrev pub against : ℕ → ℤ
+against cents = pos 0 -ℤ pos cents
+
+abbrev pub nothing_booked : Booking
+nothing_booked = record { cash = pos 0; premiums = pos 0; incurred = pos 0; payable = pos 0 }
+
+-- a payment of premiums
+abbrev pub premium_received : ℕ → Booking
+premium_received cents = record { cash = pos cents; premiums = against cents; incurred = pos 0; payable = pos 0 }
+
+-- a benefit falls due
+abbrev pub benefit_incurred : ℕ → Booking
+benefit_incurred cents = record { cash = pos 0; premiums = pos 0; incurred = pos cents; payable = against cents }
+
+-- a benefit is paid out, or a part of it
+abbrev pub benefit_paid : ℕ → Booking
+benefit_paid cents = record { cash = against cents; premiums = pos 0; incurred = pos 0; payable = pos cents }
+
+-- at the end of its term a policy has matured, and its amount falls due, or it has expired
+abbrev pub booked_at_term : Status → ℕ → Booking
+booked_at_term Matured amount = benefit_incurred amount
+booked_at_term _ amount = nothing_booked
+
+-- what a command books that made the policy what it is now
+abbrev pub booking_of : Command → Policy → Booking
+booking_of (Issue id day plan age years amount premium) after = nothing_booked
+booking_of (Premium id day amount) after = premium_received amount
+booking_of (Alter id day amount premium) after = nothing_booked
+booking_of (Lapse id day) after = nothing_booked
+booking_of (Reinstate id day amount) after = premium_received amount
+booking_of (Claim id day) after = benefit_incurred after.amount
+booking_of (Settle id day amount) after = benefit_paid amount
+booking_of (Mature id day) after = booked_at_term after.status after.amount
