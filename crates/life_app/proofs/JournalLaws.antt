@@ -12,7 +12,7 @@ use Rattle.policy_machine.specs.Book.{policy_of, IsAccepted, IsAcceptedAfter}
 use Rattle.record_codec.specs.Spelling.{spelling_of}
 use Rattle.record_codec.proofs.SpellingLemmas.{one_command}
 use Rattle.posting_journal.specs.Files.{IsJournal}
-use Rattle.posting_journal.specs.Creation.{IsForeign, IsBadAt, Opens as OpensToBodies}
+use Rattle.posting_journal.specs.Creation.{IsForeign, IsBadAt, OpensToBodies}
 use Rattle.posting_journal.proofs.Unique.{opens_once, one_journal, journal_finished, foreign_never, bad_never}
 use Rattle.posting_journal.proofs.Unique.{one_cause, one_place}
 use Rattle.life_app.specs.declared.opening.Cause.{Cause}

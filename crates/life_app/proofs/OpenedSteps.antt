@@ -5,7 +5,7 @@ use Rattle.outside_io.specs.declared.disks.Disk.{Ghosts}
 use Rattle.outside_io.specs.Faults.{Rose}
 use Rattle.policy_types.specs.declared.command.Command.{Command}
 use Rattle.policy_types.specs.Valid.{IsValid}
-use Rattle.posting_journal.specs.Creation.{Opens as OpensToBodies}
+use Rattle.posting_journal.specs.Creation.{OpensToBodies}
 use Rattle.posting_journal.specs.States.{StandsFor, disk_of, is_clean}
 use Rattle.posting_journal.specs.declared.journal.Journal.{Journal}
 use Rattle.life_app.specs.declared.opening.Cause.{Cause}

@@ -4,10 +4,10 @@ use Rattle.std.specs.List.{AllByRecursion}
 use Rattle.outside_io.specs.declared.disks.Disk.{Ghosts}
 use Rattle.policy_types.specs.declared.command.Command.{Command}
 use Rattle.policy_machine.specs.Book.{IsAccepted}
-use Rattle.posting_journal.specs.Creation.{IsUnfinished, Opens as OpensToBodies}
-use Rattle.posting_journal.specs.Opening.{IsSynced, IsOpening, OpensOn}
+use Rattle.posting_journal.specs.Creation.{IsUnfinished, OpensToBodies}
+use Rattle.posting_journal.specs.Opening.{IsSynced, IsOpenedOn, OpensOn}
 use Rattle.posting_journal.specs.Runs.{LooksOn}
-use Rattle.posting_journal.specs.Starting.{TellsCause, HasOpened as JournalOpened, IsShown as JournalShown}
+use Rattle.posting_journal.specs.Starting.{TellsCause, HasStarted, ShowsCause}
 use Rattle.posting_journal.specs.States.{disk_of, is_clean}
 use Rattle.posting_journal.specs.declared.faults.JournalCause.{JournalCause}
 use Rattle.posting_journal.specs.declared.faults.JournalCause.TheVariants.{DiskFault as FaultyDisk, NotAJournal as IsNoJournal, BadRecord as IsBadRecord}
@@ -34,7 +34,7 @@ opens_commands bytes commands recordable accepted (inr creation) =
 
 -- while a file is opened it opens to the same commands
 pub opening_keeps : (before image : List ℕ) (commands : List Command) → Opens before commands
-    → IsOpening before image → Opens image commands
+    → IsOpenedOn before image → Opens image commands
 opening_keeps before image commands opens (inl same) = subst (λ b. Opens b commands) (sym same) opens
 opening_keeps before image commands opens (inr creation) =
     let none : commands ≡ [] = opens_to_one before commands [] opens (inr (refl, creation.0)) in
@@ -65,7 +65,7 @@ pub record IsStarted {D : Type 0} {g : Ghosts D} (old : D) (journal : Journal D 
   pub quiet : g.faults (disk_of journal) ≡ g.faults old
   pub clean : IsTrue (is_clean journal)
   pub honesty : (g.honest old → g.honest (disk_of journal)) × (g.honest (disk_of journal) → g.honest old)
-  pub opened : g.honest old → JournalOpened old journal
+  pub opened : g.honest old → HasStarted old journal
   pub opens : g.honest old → OpensOn g old (disk_of journal)
 
 -- what a disk's law says: what is read is an image
@@ -73,13 +73,13 @@ abbrev pub ReadsImage : {D : Type 0} → Ghosts D → Type 0
 ReadsImage {D = D} g = (disk : D) → g.honest disk → g.may_leave disk (g.reads disk)
 
 -- an image of an opening is the file as it was, or opens alike
-was_or_alike : (before image : List ℕ) → IsOpening before image → (image ≡ before) ⊎ OpensAlike before image
+was_or_alike : (before image : List ℕ) → IsOpenedOn before image → (image ≡ before) ⊎ OpensAlike before image
 was_or_alike before image (inl same) = inl same
 was_or_alike before image (inr creation) = inr ([], inr (refl, creation.0), opens_commands image [] tt tt creation.1)
 
 -- or is one of the disk before it
 opens_alike : {D : Type 0} (g : Ghosts D) → ReadsImage g → (old : D) → g.honest old → (image : List ℕ)
-    → g.may_leave old image ⊎ IsOpening (g.reads old) image → g.may_leave old image ⊎ OpensAlike (g.reads old) image
+    → g.may_leave old image ⊎ IsOpenedOn (g.reads old) image → g.may_leave old image ⊎ OpensAlike (g.reads old) image
 opens_alike g reads_image old honest image (inl before) = inl before
 opens_alike g reads_image old honest image (inr (inl same)) =
     inl (subst (g.may_leave old) (sym same) (reads_image old honest))
@@ -93,7 +93,7 @@ module _ {D : Type 0} (g : Ghosts D) (old : D) where
   faulted new IsNoJournal told = told
   faulted new (IsBadRecord n) told = told
 
-  shown : (cause : JournalCause) → JournalShown (g.reads old) cause → IsShown (g.reads old) (as_cause cause)
+  shown : (cause : JournalCause) → ShowsCause (g.reads old) cause → IsShown (g.reads old) (as_cause cause)
   shown (FaultyDisk count) shows = tt
   shown IsNoJournal shows = shows
   shown (IsBadRecord n) shows = inl shows
@@ -101,7 +101,7 @@ module _ {D : Type 0} (g : Ghosts D) (old : D) where
   -- a disk on which no journal was started
   pub not_started : ReadsImage g → (new : D) (cause : JournalCause) → TellsCause (g.faults old) (g.faults new) cause
       → (g.honest old) ↔ (g.honest new)
-      → (g.honest old → JournalShown (g.reads old) cause) → (g.honest old → OpensOn g old new)
+      → (g.honest old → ShowsCause (g.reads old) cause) → (g.honest old → OpensOn g old new)
       → HasNotOpened g old new (as_cause cause)
   not_started reads_image new cause told honesty shows opening = record {
     told = faulted new cause told;
@@ -153,7 +153,7 @@ module _ {D : Type 0} (g : Ghosts D) (old : D) (journal : Journal D g) (started 
 
   -- each image since the opening began
   pub looked_ever : (new : D) → g.honest old → IsLookedAt g (disk_of journal) new
-      → (image : List ℕ) → g.left_since new (g.clock old) image → g.may_leave old image ⊎ IsOpening (g.reads old) image
+      → (image : List ℕ) → g.left_since new (g.clock old) image → g.may_leave old image ⊎ IsOpenedOn (g.reads old) image
   looked_ever new honest looked image left =
       let here = started.honesty.0 honest in
       (started.opens honest).ever.each image
@@ -161,7 +161,7 @@ module _ {D : Type 0} (g : Ghosts D) (old : D) (journal : Journal D g) (started 
 
   -- and each since the end of its first sync
   pub synced_images : (new : D) → g.honest old → IsLookedAt g (disk_of journal) new → (mid : D) × IsSynced g old mid new
-      × ((image : List ℕ) → g.left_since new (g.clock mid) image → IsOpening (g.reads old) image)
+      × ((image : List ℕ) → g.left_since new (g.clock mid) image → IsOpenedOn (g.reads old) image)
   synced_images new honest looked =
       let here = started.honesty.0 honest in
       let looks = looked.looks here in

@@ -4,11 +4,11 @@ use Rattle.std.proofs.lemmas.List.{get_or_append_left, get_or_push, length_push,
 use Rattle.std.proofs.lemmas.Bool.{cases_eq}
 use Rattle.outside_io.specs.Disks.{Syncs}
 use Rattle.outside_io.specs.declared.disks.Disk.{Ghosts}
-use Rattle.posting_journal.specs.Layout.{gate_of, body_of}
+use Rattle.posting_journal.specs.Layout.{gate_place, body_place}
 use Rattle.posting_journal.specs.Files.{IsMade, IsClosed, IsJournal}
 use Rattle.posting_journal.specs.Creation.{IsUnfinished}
 use Rattle.posting_journal.specs.Unopened.{EndsAt, IsBadFrom, ShowsWhy}
-use Rattle.posting_journal.specs.Opening.{IsOpening, OpenedTo, OpensOn, HasSynced}
+use Rattle.posting_journal.specs.Opening.{IsOpenedOn, OpenedTo, OpensOn, HasSynced}
 use Rattle.posting_journal.specs.Runs.{LooksOn, IsSafe, Passes}
 use Rattle.posting_journal.specs.declared.faults.Unopened.{Unopened}
 use Rattle.posting_journal.specs.declared.faults.Unopened.TheVariants.{Unread, NotAJournal, BadRecord}
@@ -39,19 +39,19 @@ read_front bytes zeros front size many room is told read =
 -- the bodies of the first records
 bodies_to : ℕ → List ℕ → List (List ℕ)
 bodies_to zero bytes = []
-bodies_to (suc n) bytes = bodies_to n bytes ++ take 64 (drop (body_of n) bytes) ∷ []
+bodies_to (suc n) bytes = bodies_to n bytes ++ take 64 (drop (body_place n) bytes) ∷ []
 
 length-bodies_to : (n : ℕ) (bytes : List ℕ) → length (bodies_to n bytes) ≡ n
 unfolding bodies_to
 length-bodies_to zero bytes = refl
-length-bodies_to (suc n) bytes = omega (arith, length_push (bodies_to n bytes) (take 64 (drop (body_of n) bytes)), length-bodies_to n bytes)
+length-bodies_to (suc n) bytes = omega (arith, length_push (bodies_to n bytes) (take 64 (drop (body_place n) bytes)), length-bodies_to n bytes)
 
-get_or-bodies_to : (n : ℕ) (bytes : List ℕ) (k : ℕ) → k < n → get_or (bodies_to n bytes) k [] ≡ take 64 (drop (body_of k) bytes)
+get_or-bodies_to : (n : ℕ) (bytes : List ℕ) (k : ℕ) → k < n → get_or (bodies_to n bytes) k [] ≡ take 64 (drop (body_place k) bytes)
 unfolding bodies_to
 get_or-bodies_to zero bytes k lt = absurd (omega arith)
 get_or-bodies_to (suc n) bytes k lt = elim (cases_eq k n) [
-  | inl last ↦ get_or_push (bodies_to n bytes) (take 64 (drop (body_of n) bytes)) [] k (length-bodies_to n bytes ∙ sym last) ∙ ap (λ m. take 64 (drop (body_of m) bytes)) (sym last)
-  | inr other ↦ get_or_append_left (bodies_to n bytes) (take 64 (drop (body_of n) bytes) ∷ []) [] k (omega (arith, lt, other, length-bodies_to n bytes)) ∙ get_or-bodies_to n bytes k (omega (arith, lt, other))
+  | inl last ↦ get_or_push (bodies_to n bytes) (take 64 (drop (body_place n) bytes)) [] k (length-bodies_to n bytes ∙ sym last) ∙ ap (λ m. take 64 (drop (body_place m) bytes)) (sym last)
+  | inr other ↦ get_or_append_left (bodies_to n bytes) (take 64 (drop (body_place n) bytes) ∷ []) [] k (omega (arith, lt, other, length-bodies_to n bytes)) ∙ get_or-bodies_to n bytes k (omega (arith, lt, other))
 ]
 
 pub record Counted (bytes : List ℕ) (n : ℕ) : Type 0 where
@@ -81,7 +81,7 @@ bad_shown bytes (BadRecord n) made long finished bad = record {
   long = long;
   made = made;
   gates = λ k le. elim (cases_eq k n) [
-    | inl last ↦ subst (λ m. get_or bytes (gate_of m) 0 ≡ 1) (sym last) bad.1
+    | inl last ↦ subst (λ m. get_or bytes (gate_place m) 0 ≡ 1) (sym last) bad.1
     | inr other ↦ (bad.0).gates k (omega (arith, le, other))
   ];
   before = (bad.0).stand;
@@ -106,17 +106,17 @@ module _ {D : Type 0} (g : Ghosts D) (old new : D) where
 
 -- An opening is a sync, and then the opening of what is safe.
 module _ {D T E : Type 0} (g : Ghosts D) (old mid new : D) (synced : Result T E) where
-  module _ (facts : Syncs synced (g.reads old) (g.reads mid) (g.may_leave old) (g.may_leave mid)) (time : Passes g old mid (g.may_leave mid)) (then : Passes g mid new (IsOpening (g.reads mid))) where
-    same : (image : List ℕ) → IsOpening (g.reads mid) image → IsOpening (g.reads old) image
-    same image = subst (λ b. IsOpening b image) facts.reads
+  module _ (facts : Syncs synced (g.reads old) (g.reads mid) (g.may_leave old) (g.may_leave mid)) (time : Passes g old mid (g.may_leave mid)) (then : Passes g mid new (IsOpenedOn (g.reads mid))) where
+    same : (image : List ℕ) → IsOpenedOn (g.reads mid) image → IsOpenedOn (g.reads old) image
+    same image = subst (λ b. IsOpenedOn b image) facts.reads
 
     pub opens_ever : ((image : List ℕ) → g.left_since old (g.clock old) image → g.may_leave old image) → (¬ IsUnfinished (g.reads mid) → LooksOn g mid new) → HasSynced g old new → OpensOn g old new
     opens_ever only_now looks at_sync = record {
       ever =
-          let P = λ (image : List ℕ). g.may_leave old image ⊎ IsOpening (g.reads old) image in
+          let P = λ (image : List ℕ). g.may_leave old image ⊎ IsOpenedOn (g.reads old) image in
           leaves g old new P (λ image left. inl (only_now image left))
           (goes_on g old mid new P (wider g old mid (g.may_leave mid) P time (λ image left. inl (facts.images image left)))
-          (wider g mid new (IsOpening (g.reads mid)) P then (λ image opening. inr (same image opening))));
+          (wider g mid new (IsOpenedOn (g.reads mid)) P then (λ image opening. inr (same image opening))));
       synced = inr at_sync;
       unwritten = λ finished. looks_on g old mid new (looked g old mid (record { reads = facts.reads; images = facts.images }) time)
           (looks (λ unfinished. finished (subst (λ b. IsUnfinished b) facts.reads unfinished)));
@@ -135,7 +135,7 @@ pub opens_unsynced : {D T E : Type 0} (g : Ghosts D) (old new : D) (result : Res
     → ((image : List ℕ) → g.left_since old (g.clock old) image → g.may_leave old image) → OpensOn g old new
 opens_unsynced g old new result facts time only_now =
     let looks = looked g old new (record { reads = facts.reads; images = facts.images }) time in
-    let P = λ (image : List ℕ). g.may_leave old image ⊎ IsOpening (g.reads old) image in
+    let P = λ (image : List ℕ). g.may_leave old image ⊎ IsOpenedOn (g.reads old) image in
     record {
       ever = leaves g old new P (λ image left. inl (only_now image left))
           (wider g old new (g.may_leave new) P time (λ image left. inl (facts.images image left)));

@@ -2,7 +2,7 @@
 use Rattle.std.proofs.Common.{◌≡◌, ℕ, ◌<◌, ◌≤◌, List, [], ◌∷◌, ◌++◌, length, sym, subst, arith, length-append, Bool, true, false, IsTrue, Result, Ok, Err, OnOk, OnErr, MatchResult}
 use Rattle.outside_io.specs.Disks.{Torn}
 use Rattle.outside_io.specs.declared.disks.Disk.{Ghosts}
-use Rattle.posting_journal.specs.Layout.{gate_of, body_of}
+use Rattle.posting_journal.specs.Layout.{gate_place, body_place}
 use Rattle.posting_journal.specs.Files.{IsJournal, IsStaged}
 use Rattle.posting_journal.specs.Runs.{PutsOn, IsSafe, Leaves, TornOf}
 use Rattle.posting_journal.specs.States.{IsKept}
@@ -22,24 +22,24 @@ pub record Staging {D T E : Type 0} (g : Ghosts D) (old new : D) (bodies : List 
   pub moments : Leaves g old new (λ image. IsJournal image bodies)
 
 staged_done : {D T E : Type 0} (g : Ghosts D) (old new : D) (bodies : List (List ℕ)) (body : List ℕ) (result : Result T E) → length bodies < 4000000 → length body ≡ 64 → IsJournal (g.reads old) bodies
-    → PutsOn g old new (body_of (length bodies)) (body ++ 0 ∷ []) result → OnOk result (IsStaged (g.reads new) bodies body × IsSafe g new)
+    → PutsOn g old new (body_place (length bodies)) (body ++ 0 ∷ []) result → OnOk result (IsStaged (g.reads new) bodies body × IsSafe g new)
 staged_done g old new bodies body (Ok x) fewer size journal puts = (written_stage bodies body (g.reads old) (g.reads new) fewer size journal puts.facts.written, puts.durable)
 staged_done g old new bodies body (Err e) fewer size journal puts = tt
 
 pub staging : {D T E : Type 0} (g : Ghosts D) (old new : D) (bodies : List (List ℕ)) (body : List ℕ) (result : Result T E) → length bodies < 4000000 → length body ≡ 64 → IsJournal (g.reads old) bodies
     → ((image : List ℕ) → g.may_leave old image → IsJournal image bodies) → ((image : List ℕ) → g.left_since old (g.clock old) image → g.may_leave old image)
-    → PutsOn g old new (body_of (length bodies)) (body ++ 0 ∷ []) result → Staging g old new bodies body result
+    → PutsOn g old new (body_place (length bodies)) (body ++ 0 ∷ []) result → Staging g old new bodies body result
 staging g old new bodies body result fewer size journal images only_now puts =
     let long : length (body ++ 0 ∷ []) ≡ 65 = omega (arith, length-append body (0 ∷ []), size) in
-    let within : body_of (length bodies) ≤ length (g.reads old) = omega (arith, journal.end.there) in
-    let keeps : (before after : List ℕ) → IsJournal before bodies → Torn (body_of (length bodies)) (length (body ++ 0 ∷ [])) before after → IsJournal after bodies =
-    λ before after was torn. torn_stage bodies before after was (subst (λ many. Torn (body_of (length bodies)) many before after) long torn) in
+    let within : body_place (length bodies) ≤ length (g.reads old) = omega (arith, journal.end.there) in
+    let keeps : (before after : List ℕ) → IsJournal before bodies → Torn (body_place (length bodies)) (length (body ++ 0 ∷ [])) before after → IsJournal after bodies =
+    λ before after was torn. torn_stage bodies before after was (subst (λ many. Torn (body_place (length bodies)) many before after) long torn) in
     record {
-      reads = keeps (g.reads old) (g.reads new) journal (put_torn g old new (body_of (length bodies)) (body ++ 0 ∷ []) result within puts);
+      reads = keeps (g.reads old) (g.reads new) journal (put_torn g old new (body_place (length bodies)) (body ++ 0 ∷ []) result within puts);
       images = λ image left. let from = puts.facts.images image left in keeps from.0 image (images from.0 from.1) from.2;
       staged = staged_done g old new bodies body result fewer size journal puts;
       moments = leaves g old new (λ image. IsJournal image bodies) (λ image left. images image (only_now image left))
-          (wider g old new (TornOf g old (body_of (length bodies)) (length (body ++ 0 ∷ []))) (λ image. IsJournal image bodies) puts.time
+          (wider g old new (TornOf g old (body_place (length bodies)) (length (body ++ 0 ∷ []))) (λ image. IsJournal image bodies) puts.time
           (λ image from. keeps from.0 image (images from.0 from.1) from.2));
     }
 
@@ -51,14 +51,14 @@ pub record Gating {D : Type 0} (g : Ghosts D) (old new : D) (bodies : List (List
 
 pub gating : {D T E : Type 0} (g : Ghosts D) (old new : D) (bodies : List (List ℕ)) (body : List ℕ) (byte : ℕ) (result : Result T E) → IsStaged (g.reads old) bodies body
     → ((image : List ℕ) → g.may_leave old image → IsStaged image bodies body) → ((image : List ℕ) → g.left_since old (g.clock old) image → g.may_leave old image)
-    → PutsOn g old new (gate_of (length bodies)) (byte ∷ []) result → Gating g old new bodies body
+    → PutsOn g old new (gate_place (length bodies)) (byte ∷ []) result → Gating g old new bodies body
 gating g old new bodies body byte result staged images only_now puts =
-    let within : gate_of (length bodies) ≤ length (g.reads old) = omega (arith, staged.end.there) in
+    let within : gate_place (length bodies) ≤ length (g.reads old) = omega (arith, staged.end.there) in
     record {
-      reads = torn_gate bodies body (g.reads old) (g.reads new) staged (put_torn g old new (gate_of (length bodies)) (byte ∷ []) result within puts);
+      reads = torn_gate bodies body (g.reads old) (g.reads new) staged (put_torn g old new (gate_place (length bodies)) (byte ∷ []) result within puts);
       images = λ image left. let from = puts.facts.images image left in torn_gate bodies body from.0 image (images from.0 from.1) from.2;
       moments = leaves g old new (λ image. IsStaged image bodies body) (λ image left. images image (only_now image left))
-          (wider g old new (TornOf g old (gate_of (length bodies)) 1) (λ image. IsStaged image bodies body) puts.time
+          (wider g old new (TornOf g old (gate_place (length bodies)) 1) (λ image. IsStaged image bodies body) puts.time
           (λ image from. torn_gate bodies body from.0 image (images from.0 from.1) from.2));
     }
 

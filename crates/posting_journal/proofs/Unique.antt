@@ -3,8 +3,8 @@ use Rattle.std.proofs.Common.{◌≡◌, ◌⊎◌, inl, inr, ⊎_elim, ℕ, ◌
 use Rattle.std.proofs.lemmas.List.{ext_get_or}
 use Rattle.std.proofs.lemmas.Bool.{cases_lt}
 use Rattle.posting_journal.specs.Files.{IsJournal}
-use Rattle.posting_journal.specs.Creation.{IsUnfinished, Opens, IsForeign, IsBadAt}
-use Rattle.posting_journal.specs.Starting.{IsRefusal, IsShown, IsFault}
+use Rattle.posting_journal.specs.Creation.{IsUnfinished, OpensToBodies, IsForeign, IsBadAt}
+use Rattle.posting_journal.specs.Starting.{IsRefusedFor, ShowsCause, IsFault}
 use Rattle.posting_journal.specs.declared.faults.JournalCause.{JournalCause}
 use Rattle.posting_journal.specs.declared.faults.JournalCause.TheVariants.{DiskFault, NotAJournal, BadRecord}
 
@@ -25,18 +25,18 @@ journal_finished bytes xs journal (inl short) = omega (arith, short, journal.end
 journal_finished bytes xs journal (inr (inl begun)) = let clash : 0 ≡ 1 = sym begun.unfinished ∙ journal.made.finished in omega (arith, clash)
 journal_finished bytes xs journal (inr (inr nearly)) = nearly.not_made journal.made.finished
 
-pub opens_once : (bytes : List ℕ) (xs ys : List (List ℕ)) → Opens bytes xs → Opens bytes ys → xs ≡ ys
+pub opens_once : (bytes : List ℕ) (xs ys : List (List ℕ)) → OpensToBodies bytes xs → OpensToBodies bytes ys → xs ≡ ys
 opens_once bytes xs ys (inl one) (inl other) = one_journal bytes xs ys one other
 opens_once bytes xs ys (inl one) (inr other) = absurd (journal_finished bytes xs one other.1)
 opens_once bytes xs ys (inr one) (inl other) = absurd (journal_finished bytes ys other one.1)
 opens_once bytes xs ys (inr one) (inr other) = one.0 ∙ sym other.0
 
-pub foreign_never : (bytes : List ℕ) (xs : List (List ℕ)) → IsForeign bytes → ¬ Opens bytes xs
+pub foreign_never : (bytes : List ℕ) (xs : List (List ℕ)) → IsForeign bytes → ¬ OpensToBodies bytes xs
 foreign_never bytes xs foreign (inr creation) = foreign.finished creation.1
 foreign_never bytes xs foreign (inl journal) =
     ⊎_elim (λ short. omega (arith, short, journal.end.there)) (λ rest. ⊎_elim (λ closed. closed journal.made.finished) (λ other. other journal.made.header) rest) foreign.other
 
-pub bad_never : (bytes : List ℕ) (n : ℕ) (xs : List (List ℕ)) → IsBadAt bytes n → ¬ Opens bytes xs
+pub bad_never : (bytes : List ℕ) (n : ℕ) (xs : List (List ℕ)) → IsBadAt bytes n → ¬ OpensToBodies bytes xs
 bad_never bytes n xs bad (inr creation) = bad.finished creation.1
 bad_never bytes n xs bad (inl journal) = elim (cases_lt n (length xs)) [
   | inr past ↦ journal.end.closed (bad.gates (length xs) past)
@@ -53,12 +53,12 @@ one_place bytes n m one other =
     let second : m ≤ n = elim (cases_lt n m) [ inl less ↦ absurd (other.before n less one.here) | inr at_most ↦ at_most ] in
     omega arith
 
-pub refusal_never : (bytes : List ℕ) (cause : JournalCause) (xs : List (List ℕ)) → IsRefusal bytes cause → ¬ Opens bytes xs
+pub refusal_never : (bytes : List ℕ) (cause : JournalCause) (xs : List (List ℕ)) → IsRefusedFor bytes cause → ¬ OpensToBodies bytes xs
 refusal_never bytes (DiskFault count) xs refusal = absurd refusal
 refusal_never bytes NotAJournal xs refusal = foreign_never bytes xs refusal
 refusal_never bytes (BadRecord n) xs refusal = bad_never bytes n xs refusal
 
-pub due_cause : (bytes : List ℕ) (given cause : JournalCause) → IsRefusal bytes cause → IsShown bytes given → (given ≡ cause) ⊎ IsFault given
+pub due_cause : (bytes : List ℕ) (given cause : JournalCause) → IsRefusedFor bytes cause → ShowsCause bytes given → (given ≡ cause) ⊎ IsFault given
 due_cause bytes (DiskFault count) cause refusal shown = inr tt
 due_cause bytes given (DiskFault count) refusal shown = absurd refusal
 due_cause bytes NotAJournal NotAJournal refusal shown = inl refl

@@ -1,6 +1,6 @@
 -- What a file can be when it is opened: a creation that didn't end, a journal, or neither.
 use Rattle.std.specs.Prelude.{◌≡◌, ◌≢◌, ◌⊎◌, ℕ, ◌+◌, ◌<◌, ◌≤◌, List, [], length, take, drop, slice_index}
-use Rattle.posting_journal.specs.Layout.{header, gate_of}
+use Rattle.posting_journal.specs.Layout.{header, gate_place}
 use Rattle.posting_journal.specs.Files.{IsMade, IsJournal}
 
 -- Byte 0 says that the creation goes on, and nothing stands behind the first gate.
@@ -26,8 +26,8 @@ abbrev pub IsUnfinished : List ℕ → Type 0
 IsUnfinished bytes = (length bytes ≤ 1) ⊎ IsBegun bytes ⊎ IsNearlyMade bytes
 
 -- the file opens to these bodies
-abbrev pub Opens : List ℕ → List (List ℕ) → Type 0
-Opens bytes bodies = IsJournal bytes bodies ⊎ ((bodies ≡ []) × IsUnfinished bytes)
+abbrev pub OpensToBodies : List ℕ → List (List ℕ) → Type 0
+OpensToBodies bytes bodies = IsJournal bytes bodies ⊎ ((bodies ≡ []) × IsUnfinished bytes)
 
 -- it is no journal: it is too short, or its creation didn't end, or it has another header
 pub record IsForeign (bytes : List ℕ) : Type 0 where
@@ -36,14 +36,14 @@ pub record IsForeign (bytes : List ℕ) : Type 0 where
 
 -- an open record that can't stand: its body or the gate behind it lies past the end, or it is one too many
 abbrev pub CannotStand : List ℕ → ℕ → Type 0
-CannotStand bytes n = (length bytes ≤ gate_of (n + 1)) ⊎ (n ≡ 4000000)
+CannotStand bytes n = (length bytes ≤ gate_place (n + 1)) ⊎ (n ≡ 4000000)
 
 -- the gates up to that of record n are open, and n is the first that can't stand
 pub record IsBadAt (bytes : List ℕ) (n : ℕ) : Type 0 where
   pub finished : ¬ IsUnfinished bytes
   pub long : 18 ≤ length bytes
   pub made : IsMade bytes
-  pub gates : (k : ℕ) → k ≤ n → slice_index bytes (gate_of k) ≡ 1
+  pub gates : (k : ℕ) → k ≤ n → slice_index bytes (gate_place k) ≡ 1
   pub before : (k : ℕ) → k < n → ¬ CannotStand bytes k
   pub here : CannotStand bytes n
 
@@ -53,4 +53,4 @@ IsToBegin bytes = (length bytes ≤ 1) ⊎ IsNearlyMade bytes
 
 -- the file opens to no bodies
 abbrev pub IsEmpty : List ℕ → Type 0
-IsEmpty bytes = Opens bytes []
+IsEmpty bytes = OpensToBodies bytes []

@@ -1,6 +1,6 @@
 -- The journal of a list of bodies, as a whole file. What stands behind the first gate that is closed has no meaning.
 use Rattle.std.specs.Prelude.{◌≡◌, ◌≢◌, ◌⊎◌, ℕ, ◌+◌, ◌<◌, ◌≤◌, List, [], ◌∷◌, ◌++◌, length, take, drop, slice_index, slice_index_or}
-use Rattle.posting_journal.specs.Layout.{header, gate_of, body_of}
+use Rattle.posting_journal.specs.Layout.{header, gate_place, body_place}
 
 -- its creation has ended, and it has the header
 pub record IsMade (bytes : List ℕ) : Type 0 where
@@ -9,8 +9,8 @@ pub record IsMade (bytes : List ℕ) : Type 0 where
 
 -- record n is open and has this body
 pub record IsRecord (bytes : List ℕ) (n : ℕ) (body : List ℕ) : Type 0 where
-  pub opened : slice_index bytes (gate_of n) ≡ 1
-  pub whole : take 64 (drop (body_of n) bytes) ≡ body
+  pub opened : slice_index bytes (gate_place n) ≡ 1
+  pub whole : take 64 (drop (body_place n) bytes) ≡ body
 
 -- each record has its body, in order
 abbrev pub HasRecords : List ℕ → List (List ℕ) → Type 0
@@ -18,8 +18,8 @@ HasRecords bytes bodies = (n : ℕ) → n < length bodies → IsRecord bytes n (
 
 -- the gate of a record is there, and closed
 pub record IsClosed (bytes : List ℕ) (n : ℕ) : Type 0 where
-  pub there : gate_of n < length bytes
-  pub closed : slice_index bytes (gate_of n) ≢ 1
+  pub there : gate_place n < length bytes
+  pub closed : slice_index bytes (gate_place n) ≢ 1
 
 -- The file is the journal of these bodies: its records are just these, and a closed gate ends them.
 pub record IsJournal (bytes : List ℕ) (bodies : List (List ℕ)) : Type 0 where
@@ -33,7 +33,7 @@ pub record IsJournal (bytes : List ℕ) (bodies : List (List ℕ)) : Type 0 wher
 pub record IsStaged (bytes : List ℕ) (bodies : List (List ℕ)) (body : List ℕ) : Type 0 where
   pub made : IsMade bytes
   pub records : HasRecords bytes bodies
-  pub whole : take 64 (drop (body_of (length bodies)) bytes) ≡ body
+  pub whole : take 64 (drop (body_place (length bodies)) bytes) ≡ body
   pub end : IsClosed bytes (length bodies + 1)
   pub fewer : length bodies < 4000000
 

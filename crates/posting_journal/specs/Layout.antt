@@ -7,9 +7,9 @@ abbrev pub header : List ℕ
 header = 76 ∷ 73 ∷ 70 ∷ 69 ∷ 74 ∷ 82 ∷ 78 ∷ 76 ∷ 0 ∷ 1 ∷ 0 ∷ 64 ∷ 0 ∷ 0 ∷ 0 ∷ 0 ∷ []
 
 -- the place of the gate of a record
-abbrev pub gate_of : ℕ → ℕ
-gate_of n = 17 + 65 * n
+abbrev pub gate_place : ℕ → ℕ
+gate_place n = 17 + 65 * n
 
 -- the place of the first byte of its body
-abbrev pub body_of : ℕ → ℕ
-body_of n = 18 + 65 * n
+abbrev pub body_place : ℕ → ℕ
+body_place n = 18 + 65 * n

@@ -2,12 +2,12 @@
 use Rattle.std.specs.Prelude.{◌≡◌, ◌⊎◌, ℕ, ◌≤◌, List, [], length}
 use Rattle.outside_io.specs.declared.disks.Disk.{Ghosts}
 use Rattle.posting_journal.specs.Files.{IsJournal}
-use Rattle.posting_journal.specs.Creation.{IsUnfinished, Opens}
+use Rattle.posting_journal.specs.Creation.{IsUnfinished, OpensToBodies}
 use Rattle.posting_journal.specs.Runs.{IsSafe, Leaves, LooksOn}
 
 -- while a file is opened: it is as it was, or a creation that goes on or has just ended
-abbrev pub IsOpening : List ℕ → List ℕ → Type 0
-IsOpening before image = (image ≡ before) ⊎ (IsUnfinished before × Opens image [])
+abbrev pub IsOpenedOn : List ℕ → List ℕ → Type 0
+IsOpenedOn before image = (image ≡ before) ⊎ (IsUnfinished before × OpensToBodies image [])
 
 -- The disk as it was at the end of a sync: it read as before the call, and a crash then left just what was read.
 pub record IsSynced {D : Type 0} (g : Ghosts D) (old synced new : D) : Type 0 where
@@ -20,12 +20,12 @@ pub record IsSynced {D : Type 0} (g : Ghosts D) (old synced new : D) : Type 0 wh
 pub record HasSynced {D : Type 0} (g : Ghosts D) (old new : D) : Type 0 where
   pub synced : D
   pub at_sync : IsSynced g old synced new
-  pub since : (image : List ℕ) → g.left_since new (g.clock synced) image → IsOpening (g.reads old) image
+  pub since : (image : List ℕ) → g.left_since new (g.clock synced) image → IsOpenedOn (g.reads old) image
 
 -- An honest disk from the call on: a crash leaves what it might have left at the call, or the file as it was, or a
 -- creation. Either it was only looked at, or a sync of it succeeded.
 pub record OpensOn {D : Type 0} (g : Ghosts D) (old new : D) : Type 0 where
-  pub ever : Leaves g old new (λ image. g.may_leave old image ⊎ IsOpening (g.reads old) image)
+  pub ever : Leaves g old new (λ image. g.may_leave old image ⊎ IsOpenedOn (g.reads old) image)
   pub synced : LooksOn g old new ⊎ HasSynced g old new
   -- no file but an unfinished creation is written to
   pub unwritten : ¬ IsUnfinished (g.reads old) → LooksOn g old new
@@ -33,7 +33,7 @@ pub record OpensOn {D : Type 0} (g : Ghosts D) (old new : D) : Type 0 where
 -- The file is the journal of so many bodies, those to which it opened, and each image is what is read.
 pub record OpenedTo {D : Type 0} (g : Ghosts D) (old new : D) (count : ℕ) : Type 0 where
   pub bodies : List (List ℕ)
-  pub opened : Opens (g.reads old) bodies
+  pub opened : OpensToBodies (g.reads old) bodies
   pub holds : IsJournal (g.reads new) bodies
   pub counted : count ≡ length bodies
   pub safe : IsSafe g new

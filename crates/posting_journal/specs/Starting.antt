@@ -3,7 +3,7 @@ use Rattle.std.specs.Prelude.{◌≡◌, ℕ, List, []}
 use Rattle.outside_io.specs.Faults.{Rose}
 use Rattle.outside_io.specs.declared.disks.Disk.{Ghosts}
 use Rattle.posting_journal.specs.Files.{IsJournal}
-use Rattle.posting_journal.specs.Creation.{IsForeign, IsBadAt, Opens}
+use Rattle.posting_journal.specs.Creation.{IsForeign, IsBadAt, OpensToBodies}
 use Rattle.posting_journal.specs.Opening.{HasSynced}
 use Rattle.posting_journal.specs.Runs.{IsSafe}
 use Rattle.posting_journal.specs.States.{StandsFor}
@@ -17,24 +17,24 @@ TellsCause before now (DiskFault count) = (count ≡ now) × Rose before now
 TellsCause before now cause = now ≡ before
 
 -- what the bytes show of a refused file
-abbrev pub IsShown : List ℕ → JournalCause → Type 0
-IsShown bytes (DiskFault count) = Unit {0}
-IsShown bytes NotAJournal = IsForeign bytes
-IsShown bytes (BadRecord n) = IsBadAt bytes n
+abbrev pub ShowsCause : List ℕ → JournalCause → Type 0
+ShowsCause bytes (DiskFault count) = Unit {0}
+ShowsCause bytes NotAJournal = IsForeign bytes
+ShowsCause bytes (BadRecord n) = IsBadAt bytes n
 
 -- the cause for which a file with these bytes is refused
-abbrev pub IsRefusal : List ℕ → JournalCause → Type 0
-IsRefusal bytes (DiskFault count) = ⊥
-IsRefusal bytes cause = IsShown bytes cause
+abbrev pub IsRefusedFor : List ℕ → JournalCause → Type 0
+IsRefusedFor bytes (DiskFault count) = ⊥
+IsRefusedFor bytes cause = ShowsCause bytes cause
 
 abbrev pub IsFault : JournalCause → Type 0
 IsFault (DiskFault count) = Unit {0}
 IsFault cause = ⊥
 
 -- The journal is that of the bodies to which the file opened, and each image is what is read.
-pub record HasOpened {D : Type 0} {g : Ghosts D} (old : D) (journal : Journal D g) : Type 0 where
+pub record HasStarted {D : Type 0} {g : Ghosts D} (old : D) (journal : Journal D g) : Type 0 where
   pub bodies : List (List ℕ)
-  pub opened : Opens (g.reads old) bodies
+  pub opened : OpensToBodies (g.reads old) bodies
   pub holds : IsJournal (g.reads journal.disk) bodies
   pub stands : StandsFor journal bodies []
   pub safe : IsSafe g journal.disk

@@ -1,7 +1,7 @@
 -- What is known while the records of a file are counted, and where it isn't opened.
 use Rattle.std.specs.Prelude.{◌≡◌, ℕ, ◌<◌, ◌≤◌, List, slice_index, Result, IfErr, OnOk}
 use Rattle.outside_io.specs.Faults.{Rose}
-use Rattle.posting_journal.specs.Layout.{gate_of}
+use Rattle.posting_journal.specs.Layout.{gate_place}
 use Rattle.posting_journal.specs.Files.{IsClosed}
 use Rattle.posting_journal.specs.Creation.{CannotStand, IsForeign, IsBadAt}
 use Rattle.posting_journal.specs.declared.faults.Unopened.{Unopened}
@@ -19,25 +19,25 @@ pub record HasUnopenedCause {T : Type 0} (before now : ℕ) (result : Result T U
 
 -- the gates before that of record n are open, and their records stand
 pub record AreOpen (bytes : List ℕ) (n : ℕ) : Type 0 where
-  pub gates : (k : ℕ) → k < n → slice_index bytes (gate_of k) ≡ 1
+  pub gates : (k : ℕ) → k < n → slice_index bytes (gate_place k) ≡ 1
   pub stand : (k : ℕ) → k < n → ¬ CannotStand bytes k
 
 -- just n records stand before a closed gate
 pub record EndsAt (bytes : List ℕ) (n : ℕ) : Type 0 where
-  pub gates : (k : ℕ) → k < n → slice_index bytes (gate_of k) ≡ 1
+  pub gates : (k : ℕ) → k < n → slice_index bytes (gate_place k) ≡ 1
   pub end : IsClosed bytes n
 
 -- record n has an open gate and can't stand
 abbrev pub CantStand : List ℕ → ℕ → Unopened → Type 0
 CantStand bytes n Unread = Unit {0}
 CantStand bytes n NotAJournal = ⊥
-CantStand bytes n (BadRecord m) = (m ≡ n) × (slice_index bytes (gate_of n) ≡ 1) × CannotStand bytes n
+CantStand bytes n (BadRecord m) = (m ≡ n) × (slice_index bytes (gate_place n) ≡ 1) × CannotStand bytes n
 
 -- the records before it stand
 abbrev pub IsBadFrom : List ℕ → Unopened → Type 0
 IsBadFrom bytes Unread = Unit {0}
 IsBadFrom bytes NotAJournal = ⊥
-IsBadFrom bytes (BadRecord n) = AreOpen bytes n × (slice_index bytes (gate_of n) ≡ 1) × CannotStand bytes n
+IsBadFrom bytes (BadRecord n) = AreOpen bytes n × (slice_index bytes (gate_place n) ≡ 1) × CannotStand bytes n
 
 -- what the bytes show of a file that wasn't opened
 abbrev pub ShowsWhy : List ℕ → Unopened → Type 0

@@ -3,7 +3,7 @@ ghost use Rattle.std.specs.Prelude.{◌≡◌, ◌↔◌, ℕ, ◌+◌, ◌<◌,
 ghost use Rattle.outside_io.specs.Disks.{HasDiskCause};
 ghost use Rattle.outside_io.specs.Faults.{Rose};
 ghost use Rattle.posting_journal.specs.Files.{IsStaged, IsBeforeOrAfter};
-ghost use Rattle.posting_journal.specs.Layout.{gate_of, body_of};
+ghost use Rattle.posting_journal.specs.Layout.{gate_place, body_place};
 ghost use Rattle.posting_journal.specs.Runs.{IsSafe, Leaves, LooksOn};
 ghost use Rattle.posting_journal.specs.States.{AcknowledgesOn, StagesOn, StandsFor, count_of, disk_of, is_clean};
 
@@ -39,7 +39,7 @@ impl<D: Disk> Journal<D> {
         ensures honesty { (D.honest (disk_of self.old)) ↔ (D.honest (disk_of self.new)) }
         ensures unwritten { D.honest (disk_of self.old) → LooksOn D.Disk (disk_of self.old) (disk_of self.new) }
         ensures read { D.honest (disk_of self.old)
-            → IfOk result (λ body. body ≡ take 64 (drop (body_of n) (D.reads (disk_of self.old)))) }
+            → IfOk result (λ body. body ≡ take 64 (drop (body_place n) (D.reads (disk_of self.old)))) }
         ensures nth { (bodies : List (List ℕ)) (faulted : List ℕ) → D.honest (disk_of self.old)
             → StandsFor self.old bodies faulted
             → IfOk result (λ body. body ≡ slice_index_or bodies n []) }
@@ -136,7 +136,7 @@ impl<D: Disk> Journal<D> {
         ensures cause { HasDiskCause (D.faults (disk_of self.old)) (D.faults (disk_of self.new)) result }
         ensures honesty { (D.honest (disk_of self.old)) ↔ (D.honest (disk_of self.new)) }
         ensures next { D.honest (disk_of self.old)
-            → OnOk result (gate_of ((count_of self.new) + 1) < length (D.reads (disk_of self.new))) }
+            → OnOk result (gate_place ((count_of self.new) + 1) < length (D.reads (disk_of self.new))) }
         ensures stages { (bodies : List (List ℕ)) (faulted : List ℕ) → D.honest (disk_of self.old)
             → StandsFor self.old bodies faulted
             → StagesOn self.old self.new bodies body.now result }
@@ -145,11 +145,11 @@ impl<D: Disk> Journal<D> {
         put(&mut self.disk, body_place(self.count), &record)
     }
 
-    // Opens the gate before a staged body.
+    // OpensToBodies the gate before a staged body.
     fn acknowledge(&mut self) -> Result<(), Failed>
         requires room { count_of self.old < 4000000 }
         requires next { D.honest (disk_of self.old)
-            → gate_of ((count_of self.old) + 1) < length (D.reads (disk_of self.old)) }
+            → gate_place ((count_of self.old) + 1) < length (D.reads (disk_of self.old)) }
         ensures count { count_of self.new ≡ (if is_ok result then (count_of self.old) + 1 else (count_of self.old)) }
         ensures clean { is_clean self.new ≡ is_ok result }
         ensures cause { HasDiskCause (D.faults (disk_of self.old)) (D.faults (disk_of self.new)) result }
@@ -195,14 +195,14 @@ fn staged_record(body: &[u8; 64]) -> [u8; 65]
 
 // The place of the gate of a record.
 pub(crate) fn gate_place(n: u32) -> u64
-    ensures { result ≡ gate_of n }
+    ensures { result ≡ gate_place n }
 {
     17 + 65 * u64::from(n)
 }
 
 // The place of the body of a record.
 pub(crate) fn body_place(n: u32) -> u64
-    ensures { result ≡ body_of n }
+    ensures { result ≡ body_place n }
 {
     18 + 65 * u64::from(n)
 }

@@ -1,6 +1,6 @@
 // The journal.
 ghost use Rattle.std.specs.Prelude.{◌<◌, ◌≤◌, length};
-ghost use Rattle.posting_journal.specs.Layout.{gate_of};
+ghost use Rattle.posting_journal.specs.Layout.{gate_place};
 
 use outside_io::Disk;
 
@@ -11,5 +11,5 @@ pub struct Journal<D: Disk> {
     pub(crate) count: u32,
     pub(crate) clean: bool,
     ghost few: { count ≤ 4000000 },
-    ghost within: { D.honest disk → gate_of count < length (D.reads disk) },
+    ghost within: { D.honest disk → gate_place count < length (D.reads disk) },
 }

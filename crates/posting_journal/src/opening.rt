@@ -3,7 +3,7 @@ ghost use Rattle.std.specs.Prelude.{◌≡◌, ◌↔◌, ◌≤◌, length, IfO
 ghost use Rattle.outside_io.specs.Disks.{HasDiskCause};
 ghost use Rattle.posting_journal.specs.Creation.{IsUnfinished};
 ghost use Rattle.posting_journal.specs.Kinds.{IsOfKind, IsLongIfMade};
-ghost use Rattle.posting_journal.specs.Opening.{IsOpening, OpensOn, HasSynced, OpenedTo};
+ghost use Rattle.posting_journal.specs.Opening.{IsOpenedOn, OpensOn, HasSynced, OpenedTo};
 ghost use Rattle.posting_journal.specs.Runs.{IsSafe, LooksOn, Passes};
 ghost use Rattle.posting_journal.specs.Unopened.{HasUnopenedCause, ShowsWhy};
 
@@ -14,7 +14,7 @@ use crate::putting::make_safe;
 use crate::scanning::count_records;
 use outside_io::{Disk, Failed};
 
-// Opens the journal and answers how many records it has. What a crash left is made safe first, so that it is all
+// OpensToBodies the journal and answers how many records it has. What a crash left is made safe first, so that it is all
 // that a later crash leaves.
 pub(crate) fn open<D: Disk>(disk: &mut D) -> Result<u32, Unopened>
     ensures cause { HasUnopenedCause (D.faults disk.old) (D.faults disk.new) result }
@@ -29,7 +29,7 @@ pub(crate) fn open<D: Disk>(disk: &mut D) -> Result<u32, Unopened>
     open_safe(disk)
 }
 
-// Opens what is safe.
+// OpensToBodies what is safe.
 fn open_safe<D: Disk>(disk: &mut D) -> Result<u32, Unopened>
     requires safe { D.honest disk.old → IsSafe D.Disk disk.old }
     ensures cause { HasUnopenedCause (D.faults disk.old) (D.faults disk.new) result }
@@ -37,7 +37,7 @@ fn open_safe<D: Disk>(disk: &mut D) -> Result<u32, Unopened>
     ensures few { IfOk result (λ n. n ≤ 4000000) }
     ensures opened { D.honest disk.old → IfOk result (λ n. OpenedTo D.Disk disk.old disk.new n) }
     ensures refused { D.honest disk.old → IfErr result (λ cause. ShowsWhy (D.reads disk.old) cause) }
-    ensures moments { D.honest disk.old → Passes D.Disk disk.old disk.new (IsOpening (D.reads disk.old)) }
+    ensures moments { D.honest disk.old → Passes D.Disk disk.old disk.new (IsOpenedOn (D.reads disk.old)) }
     ensures unwritten { D.honest disk.old → ¬ IsUnfinished (D.reads disk.old) → LooksOn D.Disk disk.old disk.new }
 {
     let size = disk.len()?;

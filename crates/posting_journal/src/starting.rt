@@ -2,7 +2,7 @@
 ghost use Rattle.std.specs.Prelude.{◌≡◌, ◌↔◌, ◌⊎◌, ℕ, List, IsTrue, IfOk, IfErr, IsErrAnd, MatchResult};
 ghost use Rattle.posting_journal.specs.States.{disk_of, is_clean};
 ghost use Rattle.posting_journal.specs.Opening.{OpensOn};
-ghost use Rattle.posting_journal.specs.Starting.{TellsCause, IsShown, IsRefusal, IsFault, HasOpened};
+ghost use Rattle.posting_journal.specs.Starting.{TellsCause, ShowsCause, IsRefusedFor, IsFault, HasStarted};
 ghost use Rattle.posting_journal.specs.Unopened.{ShowsWhy, TellsCount};
 ghost use Rattle.posting_journal.specs.declared.faults.JournalCause.{JournalCause};
 
@@ -12,7 +12,7 @@ use crate::{Journal, JournalCause, JournalFault};
 use outside_io::Disk;
 
 impl<D: Disk> Journal<D> {
-    /// Opens the journal of the disk, or makes an empty one of an unfinished creation. Over any other file nothing is
+    /// OpensToBodies the journal of the disk, or makes an empty one of an unfinished creation. Over any other file nothing is
     /// written. A disk that fails is given back with its count, which rose in this call.
     pub fn start(disk: D) -> Result<Journal<D>, JournalFault<D>>
         ensures told { IfErr result (λ fault. TellsCause (D.faults disk) (D.faults fault.disk) fault.cause) }
@@ -20,9 +20,9 @@ impl<D: Disk> Journal<D> {
         ensures clean { IfOk result (λ journal. IsTrue (is_clean journal)) }
         ensures honesty { MatchResult result (λ journal. (D.honest disk) ↔ (D.honest (disk_of journal)))
             (λ fault. (D.honest disk) ↔ (D.honest fault.disk)) }
-        ensures opened { D.honest disk → IfOk result (λ journal. HasOpened disk journal) }
-        ensures refused { D.honest disk → IfErr result (λ fault. IsShown (D.reads disk) fault.cause) }
-        ensures due { (cause : JournalCause) → D.honest disk → IsRefusal (D.reads disk) cause
+        ensures opened { D.honest disk → IfOk result (λ journal. HasStarted disk journal) }
+        ensures refused { D.honest disk → IfErr result (λ fault. ShowsCause (D.reads disk) fault.cause) }
+        ensures due { (cause : JournalCause) → D.honest disk → IsRefusedFor (D.reads disk) cause
             → IsErrAnd result (λ fault. (fault.cause ≡ cause) ⊎ IsFault fault.cause) }
         ensures opens { D.honest disk
             → MatchResult result (λ journal. OpensOn D.Disk disk (disk_of journal))
@@ -46,7 +46,7 @@ impl<D: Disk> Journal<D> {
 // The same cause, with the count of the disk's faults.
 fn cause_of(unopened: Unopened, count: u64) -> JournalCause
     ensures told { (before : ℕ) → TellsCount before count unopened → TellsCause before count result }
-    ensures shown { (bytes : List ℕ) → ShowsWhy bytes unopened → IsShown bytes result }
+    ensures shown { (bytes : List ℕ) → ShowsWhy bytes unopened → ShowsCause bytes result }
 {
     match unopened {
         Unopened::Unread => JournalCause::DiskFault(count),

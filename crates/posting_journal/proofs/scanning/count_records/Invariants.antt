@@ -1,6 +1,6 @@
 -- The records up to this one stand, and nothing was written.
 use Rattle.std.proofs.Common.{◌≡◌, ◌↔◌, ◌-◌, ◌<◌, ◌≤◌, length}
-use Rattle.posting_journal.specs.Layout.{gate_of}
+use Rattle.posting_journal.specs.Layout.{gate_place}
 use Rattle.posting_journal.specs.Runs.{LooksOn}
 use Rattle.posting_journal.specs.Unopened.{AreOpen}
 use Rattle.posting_journal.proofs.scanning.count_records.Given as goal
@@ -8,7 +8,7 @@ use Rattle.posting_journal.proofs.scanning.count_records.Given as goal
 abbrev pub invariant-loop-n : goal.invariant-loop-n
 invariant-loop-n g l = record {
   few : l.n ≤ 4000000;
-  within : gate_of l.n < l.size;
+  within : gate_place l.n < l.size;
   count : g.D.Disk.faults l.disk ≡ g.D.Disk.faults l.fn.disk;
   honesty : (g.D.Disk.honest l.fn.disk) ↔ (g.D.Disk.honest l.disk);
   told : g.D.Disk.honest l.fn.disk → l.size ≡ length (g.D.Disk.reads l.fn.disk);

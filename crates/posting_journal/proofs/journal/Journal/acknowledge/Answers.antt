@@ -1,7 +1,7 @@
 -- The gate was opened, or may be open.
 use Rattle.std.proofs.Common.{[], ◌∷◌, ◌++◌, length, refl, ◌∙◌, ap, arith}
 use Rattle.std.proofs.lemmas.List.{length_push}
-use Rattle.posting_journal.specs.Layout.{gate_of}
+use Rattle.posting_journal.specs.Layout.{gate_place}
 use Rattle.posting_journal.specs.Files.{IsJournal, IsStaged, IsBeforeOrAfter}
 use Rattle.posting_journal.proofs.Moments.{leaves_more}
 use Rattle.posting_journal.proofs.Staging.{gating, puts_at, each_safe}
@@ -12,7 +12,7 @@ pub returns-in-Ok-clause-acknowledges : goal.returns-in-Ok-clause-acknowledges
 returns-in-Ok-clause-acknowledges g c = λ bodies body honest count staged safe.
     let old = c.args.self.now in
     let new = c.put.new.disk in
-    let puts = puts_at g.D.Disk old.disk new c.gate_place.result (gate_of (length bodies)) (1 ∷ []) (1 ∷ []) _ (c.in-Ok.ensures.facts honest) (c.gate_place.ensures ∙ ap gate_of count) refl in
+    let puts = puts_at g.D.Disk old.disk new c.gate_place.result (gate_place (length bodies)) (1 ∷ []) (1 ∷ []) _ (c.in-Ok.ensures.facts honest) (c.gate_place.ensures ∙ ap gate_place count) refl in
     let s = gating g.D.Disk old.disk new bodies body 1 _ staged (each_safe g.D.Disk old.disk (λ image. IsStaged image bodies body) safe staged)
     (λ image left. g.met.D.Disk.only_now old.disk image honest left) puts in
     let reads : IsJournal (g.D.Disk.reads new) (bodies ++ body ∷ []) = written_opened bodies body (g.D.Disk.reads old.disk) (g.D.Disk.reads new) staged puts.facts.written in
@@ -33,7 +33,7 @@ pub returns-in-Err-clause-acknowledges : goal.returns-in-Err-clause-acknowledges
 returns-in-Err-clause-acknowledges g c = λ bodies body honest count staged safe.
     let old = c.args.self.now in
     let new = c.put.new.disk in
-    let puts = puts_at g.D.Disk old.disk new c.gate_place.result (gate_of (length bodies)) (1 ∷ []) (1 ∷ []) _ (c.in-Err.ensures.facts honest) (c.gate_place.ensures ∙ ap gate_of count) refl in
+    let puts = puts_at g.D.Disk old.disk new c.gate_place.result (gate_place (length bodies)) (1 ∷ []) (1 ∷ []) _ (c.in-Err.ensures.facts honest) (c.gate_place.ensures ∙ ap gate_place count) refl in
     let s = gating g.D.Disk old.disk new bodies body 1 _ staged (each_safe g.D.Disk old.disk (λ image. IsStaged image bodies body) safe staged)
     (λ image left. g.met.D.Disk.only_now old.disk image honest left) puts in
     record {

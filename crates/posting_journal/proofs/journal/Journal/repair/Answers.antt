@@ -1,6 +1,6 @@
 -- The gate was closed, or the record of the fault may still be there.
 use Rattle.std.proofs.Common.{[], ◌∷◌, length, refl, ◌∙◌, ap}
-use Rattle.posting_journal.specs.Layout.{gate_of}
+use Rattle.posting_journal.specs.Layout.{gate_place}
 use Rattle.posting_journal.specs.Files.{IsJournal, IsStaged, IsBeforeOrAfter}
 use Rattle.posting_journal.proofs.Moments.{leaves_more}
 use Rattle.posting_journal.proofs.Staging.{gating, puts_at, each_safe, kept_unclean, unclean_kept}
@@ -11,7 +11,7 @@ pub returns-in-Ok-clause-repaired : goal.returns-in-Ok-clause-repaired
 returns-in-Ok-clause-repaired g c = λ bodies faulted honest stands.
     let old = c.args.self.now in
     let new = c.put.new.disk in
-    let puts = puts_at g.D.Disk old.disk new c.gate_place.result (gate_of (length bodies)) (0 ∷ []) (0 ∷ []) _ (c.in-Ok.ensures.facts honest) (c.gate_place.ensures ∙ ap gate_of stands.count) refl in
+    let puts = puts_at g.D.Disk old.disk new c.gate_place.result (gate_place (length bodies)) (0 ∷ []) (0 ∷ []) _ (c.in-Ok.ensures.facts honest) (c.gate_place.ensures ∙ ap gate_place stands.count) refl in
     let staged = kept_unclean old.clean bodies faulted (g.D.Disk.reads old.disk) c.requires stands.reads in
     let reads : IsJournal (g.D.Disk.reads new) bodies = written_closed bodies faulted (g.D.Disk.reads old.disk) (g.D.Disk.reads new) staged puts.facts.written in (
       record { count = stands.count; reads = reads; images = each_safe g.D.Disk new (λ image. IsJournal image bodies) puts.durable reads },
@@ -22,7 +22,7 @@ pub returns-in-Ok-clause-moments : goal.returns-in-Ok-clause-moments
 returns-in-Ok-clause-moments g c = λ bodies faulted honest stands.
     let old = c.args.self.now in
     let new = c.put.new.disk in
-    let puts = puts_at g.D.Disk old.disk new c.gate_place.result (gate_of (length bodies)) (0 ∷ []) (0 ∷ []) _ (c.in-Ok.ensures.facts honest) (c.gate_place.ensures ∙ ap gate_of stands.count) refl in
+    let puts = puts_at g.D.Disk old.disk new c.gate_place.result (gate_place (length bodies)) (0 ∷ []) (0 ∷ []) _ (c.in-Ok.ensures.facts honest) (c.gate_place.ensures ∙ ap gate_place stands.count) refl in
     let s = gating g.D.Disk old.disk new bodies faulted 0 _ (kept_unclean old.clean bodies faulted (g.D.Disk.reads old.disk) c.requires stands.reads)
     (λ image left. kept_unclean old.clean bodies faulted image c.requires (stands.images image left))
     (λ image left. g.met.D.Disk.only_now old.disk image honest left) puts in
@@ -32,7 +32,7 @@ pub returns-in-Err-clause-faulted : goal.returns-in-Err-clause-faulted
 returns-in-Err-clause-faulted g c = λ bodies faulted honest stands.
     let old = c.args.self.now in
     let new = c.put.new.disk in
-    let puts = puts_at g.D.Disk old.disk new c.gate_place.result (gate_of (length bodies)) (0 ∷ []) (0 ∷ []) _ (c.in-Err.ensures.facts honest) (c.gate_place.ensures ∙ ap gate_of stands.count) refl in
+    let puts = puts_at g.D.Disk old.disk new c.gate_place.result (gate_place (length bodies)) (0 ∷ []) (0 ∷ []) _ (c.in-Err.ensures.facts honest) (c.gate_place.ensures ∙ ap gate_place stands.count) refl in
     let s = gating g.D.Disk old.disk new bodies faulted 0 _ (kept_unclean old.clean bodies faulted (g.D.Disk.reads old.disk) c.requires stands.reads)
     (λ image left. kept_unclean old.clean bodies faulted image c.requires (stands.images image left))
     (λ image left. g.met.D.Disk.only_now old.disk image honest left) puts in
@@ -46,7 +46,7 @@ pub returns-in-Err-clause-moments : goal.returns-in-Err-clause-moments
 returns-in-Err-clause-moments g c = λ bodies faulted honest stands.
     let old = c.args.self.now in
     let new = c.put.new.disk in
-    let puts = puts_at g.D.Disk old.disk new c.gate_place.result (gate_of (length bodies)) (0 ∷ []) (0 ∷ []) _ (c.in-Err.ensures.facts honest) (c.gate_place.ensures ∙ ap gate_of stands.count) refl in
+    let puts = puts_at g.D.Disk old.disk new c.gate_place.result (gate_place (length bodies)) (0 ∷ []) (0 ∷ []) _ (c.in-Err.ensures.facts honest) (c.gate_place.ensures ∙ ap gate_place stands.count) refl in
     let s = gating g.D.Disk old.disk new bodies faulted 0 _ (kept_unclean old.clean bodies faulted (g.D.Disk.reads old.disk) c.requires stands.reads)
     (λ image left. kept_unclean old.clean bodies faulted image c.requires (stands.images image left))
     (λ image left. g.met.D.Disk.only_now old.disk image honest left) puts in
