@@ -7,7 +7,6 @@ use Rattle.policy_types.specs.declared.entry.Entry.{Entry}
 use Rattle.life_app.specs.Images.{HasFaulted}
 use Rattle.policy_types.specs.declared.script.Line.{Line}
 use Rattle.policy_types.specs.declared.script.Line.TheVariants.{Post as PostLine, Value, Trim}
-use Rattle.policy_types.specs.declared.script.Lane.{Lane}
 use Rattle.policy_machine.specs.Merge.{AnswersLine, AnswersLines, Placed, IsMerge}
 use Rattle.command_csv.specs.Reads.{IsIssueLine, lane_of}
 use Rattle.life_app.specs.declared.office.Answer.{Answer}

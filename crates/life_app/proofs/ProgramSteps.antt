@@ -9,7 +9,7 @@ use Rattle.policy_types.specs.declared.script.Lane.{Lane}
 use Rattle.command_csv.specs.Reads.{Reads}
 use Rattle.command_csv.proofs.Faults.{fault_excludes}
 use Rattle.life_app.specs.declared.ending.Ending.{Ending}
-use Rattle.life_app.specs.declared.ending.Ending.TheVariants.{Done, Usage, BadScript, BadJournal, ReadFault as InputFault, WriteFault, DiskFault, NoMemory}
+use Rattle.life_app.specs.declared.ending.Ending.TheVariants.{Done, BadScript, BadJournal, ReadFault as InputFault, WriteFault, DiskFault, NoMemory}
 use Rattle.life_app.specs.declared.opening.Cause.{Cause}
 use Rattle.life_app.specs.declared.opening.Cause.TheVariants.{DiskFault as FaultyDisk, NotAJournal, BadRecord, NoMemory as NoRoom}
 use Rattle.life_app.specs.declared.words.Mode.TheVariants.{Run}

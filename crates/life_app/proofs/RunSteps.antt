@@ -28,7 +28,7 @@ use Rattle.life_app.specs.Journals.{bodies_of}
 use Rattle.life_app.specs.declared.opening.Cause.{Cause}
 use Rattle.life_app.specs.declared.opening.Cause.TheVariants.{DiskFault as FaultyDisk, NotAJournal, BadRecord, NoMemory as NoRoom}
 use Rattle.life_app.specs.inside.Opening.{HasNotOpened, HasOpened}
-use Rattle.life_app.specs.Obeys.{EndsRead, EndsRun}
+use Rattle.life_app.specs.Obeys.{EndsRun}
 use Rattle.life_app.specs.Outcome.{AreTried, AreAnswered, EndsScript, HaveAFault, IsRunOf}
 use Rattle.life_app.specs.Script.{EndsUnread, IsReadAs, IsRefused, most_script_bytes}
 use Rattle.life_app.specs.inside.Parts.{AnswersAll, EndsLines, SaysUnopened, SaysUnread, lines_text}

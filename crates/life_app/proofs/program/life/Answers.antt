@@ -1,4 +1,3 @@
-use Rattle.std.proofs.Common.{◌∙◌}
 use Rattle.life_app.proofs.ProgramSteps.{complete, refused_exactly, script_refused, unopened}
 use Rattle.life_app.proofs.program.life.Goals as goal
 

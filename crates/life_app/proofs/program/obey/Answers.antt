@@ -1,1 +1,0 @@
-use Rattle.life_app.proofs.program.obey.Goals as goal
