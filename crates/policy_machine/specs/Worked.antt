@@ -6,3 +6,6 @@ pub mod Alterations
 pub mod Lapses
 pub mod Claims
 pub mod Maturities
+pub mod Pins
+pub mod Reads
+pub mod Merges

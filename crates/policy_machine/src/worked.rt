@@ -6,4 +6,7 @@ pub mod claims;
 pub mod issues;
 pub mod lapses;
 pub mod maturities;
+pub mod merges;
+pub mod pins;
+pub mod reads;
 pub mod premiums;
