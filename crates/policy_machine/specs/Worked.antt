@@ -6,6 +6,8 @@ pub mod Alterations
 pub mod Lapses
 pub mod Claims
 pub mod Maturities
+pub mod Soundness
+pub mod Postings
 pub mod Pins
 pub mod Reads
 pub mod Merges

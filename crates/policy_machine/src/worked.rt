@@ -8,5 +8,7 @@ pub mod lapses;
 pub mod maturities;
 pub mod merges;
 pub mod pins;
-pub mod reads;
+pub mod postings;
 pub mod premiums;
+pub mod reads;
+pub mod soundness;

@@ -1,17 +1,15 @@
 -- Worked merges of two clerks' lanes. The first, caller 5, posts the policy and values the book; the second, caller 6,
 -- posts its premium and trims
-use Rattle.std.specs.Prelude.{◌≡◌, ℕ, List, [], ◌∷◌, ◌++◌, pos}
+use Rattle.std.specs.Prelude.{◌≡◌, List, [], ◌∷◌, pos}
 use Rattle.policy_types.specs.declared.policy.Status.TheVariants.{InForce}
-use Rattle.policy_types.specs.declared.entry.At.TheVariants.{Now, Position}
-use Rattle.policy_types.specs.declared.entry.Call.TheVariants.{Post, Pin, PinAt, Read, Unpin, Trim as TrimCall}
-use Rattle.policy_types.specs.declared.entry.Reply.TheVariants.{Accepted, Pinned, PinRefused, Slice as Policies, Unpinned, Floor}
-use Rattle.policy_types.specs.declared.entry.PinRefusal.TheVariants.{Ahead}
+use Rattle.policy_types.specs.declared.entry.At.TheVariants.{Now}
+use Rattle.policy_types.specs.declared.entry.Call.TheVariants.{Post, Pin, Read, Unpin, Trim as TrimCall}
+use Rattle.policy_types.specs.declared.entry.Reply.TheVariants.{Accepted, Pinned, Slice as Policies, Unpinned, Floor}
 use Rattle.policy_types.specs.declared.entry.Entry.{Entry}
-use Rattle.policy_types.specs.declared.script.Line.{Line}
 use Rattle.policy_types.specs.declared.script.Line.TheVariants.{Post as PostLine, Value, Trim}
 use Rattle.policy_types.specs.declared.script.Lane.{Lane}
 use Rattle.policy_machine.specs.History.{IsLegalAfter}
-use Rattle.policy_machine.specs.Merge.{IsMerge, AnswersLine, FollowsPin, reads_of}
+use Rattle.policy_machine.specs.Merge.{IsMerge, reads_of}
 use Rattle.policy_machine.specs.Worked.Cases.{policy_issue, policy_with, premium_on, empty_office, turn}
 
 -- the reads of a pin: none of no policies, one of 256, two of 257

@@ -1,5 +1,5 @@
 -- Worked histories of pins, reads and floors. A pin's number is the place of its turn, counted from 0
-use Rattle.std.specs.Prelude.{◌≡◌, ℕ, List, [], ◌∷◌, ◌++◌, pos}
+use Rattle.std.specs.Prelude.{List, [], ◌∷◌, ◌++◌, pos}
 use Rattle.std.specs.List.{repeat}
 use Rattle.policy_types.specs.declared.command.Command.{Command}
 use Rattle.policy_types.specs.declared.command.Command.TheVariants.{Issue}

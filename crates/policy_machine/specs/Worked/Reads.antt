@@ -1,5 +1,5 @@
 -- A worked history of reads past the end of a batch: 257 policies are read as 256 and one
-use Rattle.std.specs.Prelude.{ℕ, ◌+◌, map, List, [], ◌∷◌, pos}
+use Rattle.std.specs.Prelude.{ℕ, map, List, [], ◌∷◌, pos}
 use Rattle.std.specs.List.{range_with_len}
 use Rattle.policy_types.specs.declared.command.Command.{Command}
 use Rattle.policy_types.specs.declared.command.Command.TheVariants.{Issue}

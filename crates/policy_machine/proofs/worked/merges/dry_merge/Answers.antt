@@ -10,12 +10,19 @@ use Rattle.policy_machine.proofs.worked.merges.dry_merge.Goals as goal
 pub returns-clause-legal : goal.returns-clause-legal
 unfolding anniversary_of day_number date_of date_at year_of month_of days_before days_before_year days_of_months
 returns-clause-legal c =
-    let pin = turn 5 Pin (Pinned 1 1) in
-    ((refl, refl),
-    ((omega arith, refl, refl),
-    ((refl, refl),
-    (refl,
-    (((1, 1), refl, (pin, refl, refl)), tt)))))
+    let pin = turn 5 Pin (Pinned 1 1) in (
+      (refl, refl),
+      (
+        (omega arith, refl, refl),
+        (
+          (refl, refl),
+          (
+            refl,
+            (((1, 1), refl, (pin, refl, refl)), tt),
+          ),
+        ),
+      ),
+    )
 
 pub returns-clause-merge : goal.returns-clause-merge
 unfolding IsDistinct
@@ -28,6 +35,8 @@ returns-clause-merge c =
     record {
       distinct = ((refl, tt), (tt, tt));
       theirs = ((0, omega arith, refl), ((0, omega arith, refl), ((1, omega arith, refl), ((1, omega arith, refl), ((0, omega arith, refl), tt)))));
-      answers = (((0, issue) ∷ [], ((1, pin) ∷ (4, unpin) ∷ [], refl, refl, ((1, pin) ∷ (4, unpin) ∷ [], ([], refl, (refl, (0, refl, λ not_dry. absurd (not_dry (0, omega arith, refl)))), refl)))),
-      (((2, premium) ∷ [], ((3, trim) ∷ [], refl, refl, ((3, trim) ∷ [], ([], refl, refl, refl)))), tt));
+      answers = (
+        ((0, issue) ∷ [], ((1, pin) ∷ (4, unpin) ∷ [], refl, refl, ((1, pin) ∷ (4, unpin) ∷ [], ([], refl, (refl, (0, refl, λ not_dry. absurd (not_dry (0, omega arith, refl)))), refl)))),
+        (((2, premium) ∷ [], ((3, trim) ∷ [], refl, refl, ((3, trim) ∷ [], ([], refl, refl, refl)))), tt),
+      );
     }
