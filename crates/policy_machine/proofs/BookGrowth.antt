@@ -237,7 +237,7 @@ IsDistinct-nil : IsDistinct nat_eq []
 unfolding IsDistinct
 IsDistinct-nil = tt
 
-accepted_policy : (decision : Result Policy Refusal) → IsOk decision → (after : Policy) × (decision ≡ Ok after)
+pub accepted_policy : (decision : Result Policy Refusal) → IsOk decision → (after : Policy) × (decision ≡ Ok after)
 accepted_policy (Ok after) ok = (after, refl)
 accepted_policy (Err refusal) ok = grind arith
 
