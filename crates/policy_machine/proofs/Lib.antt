@@ -1,4 +1,5 @@
-pub mod BookLemmas
-pub mod HistoryLemmas
 pub mod BookGrowth
+pub mod BookLemmas
 pub mod HistoryGrowth
+pub mod HistoryLemmas
+pub mod LedgerLemmas
