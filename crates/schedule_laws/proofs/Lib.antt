@@ -1,1 +1,2 @@
+pub mod Payable
 pub mod ReadsTogether

@@ -1,6 +1,5 @@
 -- What is payable and what is outstanding change together
-use Rattle.std.proofs.Common.{◌≡◌, ℕ, ◌+◌, ◌-◌, ◌≤◌, ◌==◌, nat_eq, nat_lt, Bool, true, false, not, cond, if◌then◌else◌, List, [], ◌∷◌, ◌++◌, ℤ, pos, ◌+ℤ◌, ◌-ℤ◌, refl, sym, ap, ◌∙◌, subst, append_assoc, append-nil, None, Some, Option, Ok, Err, Result, IsOk, eqb-true, eq-eqb, arith, rules}
-use Rattle.std.specs.List.{sum_by}
+use Rattle.std.proofs.Common.{◌≡◌, ℕ, ◌+◌, ◌-◌, ◌≤◌, ◌==◌, nat_lt, Bool, true, false, not, if◌then◌else◌, List, [], ◌∷◌, ◌++◌, ℤ, pos, ◌+ℤ◌, ◌-ℤ◌, refl, sym, ap, ◌∙◌, subst, append_assoc, append-nil, None, Some, Option, Ok, IsOk, eqb-true, arith}
 use Rattle.std.proofs.lemmas.Int.{ints}
 use Rattle.std.proofs.lemmas.List.Sums.{sum_by-append, sum_by-cons, sum_by_push}
 use Rattle.policy_types.specs.declared.command.Command.{Command}
@@ -11,13 +10,13 @@ use Rattle.policy_types.specs.declared.policy.Policy.{Policy}
 use Rattle.policy_types.specs.declared.policy.Status.{Status}
 use Rattle.policy_types.specs.declared.policy.Status.TheVariants.{InForce, Lapsed, Claimed, Matured, Expired, Settled}
 use Rattle.policy_types.specs.declared.refusal.Refusal.{Refusal}
-use Rattle.policy_types.specs.Accounts.{Booking, against, added, booking_of, booked_at_term}
+use Rattle.policy_types.specs.Accounts.{Booking, against, booking_of}
 use Rattle.policy_types.specs.Valid.{id_of}
 use Rattle.policy_machine.specs.Rules.{next, decided, changed, matured, checks_of, first_refusal, is_in_force, is_lapsed, awaits_settlement}
 use Rattle.policy_machine.specs.Book.{book, kept, policy_of, issue_id, IsAccepted, IsAcceptedAfter}
 use Rattle.policy_machine.specs.Accounts.{ledger_of}
 use Rattle.policy_machine.proofs.BookLemmas.{policy_of-push_own, policy_of-push_other, IsAccepted-push}
-use Rattle.policy_machine.proofs.BookGrowth.{BookChange, book-push_issue, book-push_change, accepted_policy}
+use Rattle.policy_machine.proofs.BookGrowth.{book-push_issue, book-push_change, accepted_policy}
 use Rattle.policy_machine.proofs.LedgerLemmas.{ledger_of-push}
 use Rattle.schedule_laws.specs.Balances.{outstanding_in}
 
@@ -115,7 +114,8 @@ moves (Settle id day amount) p owes accepted =
 moves (Mature id day) p owes accepted =
     let from_second = (passes _ _ _ accepted).1 in
     let in_force = (passes (not (is_in_force p.status)) _ _ from_second).0 in
-    at_term id day p.plan (record p { last = day }) (owes (quiet_in_force p.status in_force))
+    let ended = at_term id day p.plan (record p { last = day }) (owes (quiet_in_force p.status in_force)) in
+    record { booked = ended.booked; owes = ended.owes }
 
 -- an accepted command on no policy is an issue
 record Fresh (command : Command) (after : Policy) : Type 0 where
@@ -195,10 +195,10 @@ Balanced-push commands command accepted balanced is_ok = by_policy (policy_of co
         ∙ sum_by_push (λ q. q.outstanding) (book commands) after in
         record {
           payable =
-            ledger ∙ ap (λ z. z +ℤ (booking_of command after).payable) balanced.payable
-            ∙ ap (λ z. against (outstanding_in (book commands)) +ℤ z) new.booked
-            ∙ no_change (outstanding_in (book commands)) after.outstanding new.none
-            ∙ ap against (sym there);
+              ledger ∙ ap (λ z. z +ℤ (booking_of command after).payable) balanced.payable
+              ∙ ap (λ z. against (outstanding_in (book commands)) +ℤ z) new.booked
+              ∙ no_change (outstanding_in (book commands)) after.outstanding new.none
+              ∙ ap against (sym there);
           owes = owes_more commands command after balanced.owes decision.1 (λ quiet. new.none);
         }
       where
@@ -218,10 +218,10 @@ Balanced-push commands command accepted balanced is_ok = by_policy (policy_of co
         ap outstanding_in change.now ∙ outstanding_around change.front change.back after in
         record {
           payable =
-            ledger ∙ ap (λ z. z +ℤ (booking_of command after).payable) (balanced.payable ∙ ap against was)
-            ∙ ap (λ z. against (outstanding_in change.front + (before.outstanding + outstanding_in change.back)) +ℤ z) moved.booked
-            ∙ against_moved (outstanding_in change.front) (outstanding_in change.back) before.outstanding after.outstanding
-            ∙ ap against (sym now);
+              ledger ∙ ap (λ z. z +ℤ (booking_of command after).payable) (balanced.payable ∙ ap against was)
+              ∙ ap (λ z. against (outstanding_in change.front + (before.outstanding + outstanding_in change.back)) +ℤ z) moved.booked
+              ∙ against_moved (outstanding_in change.front) (outstanding_in change.back) before.outstanding after.outstanding
+              ∙ ap against (sym now);
           owes = owes_more commands command after balanced.owes decision.1 moved.owes;
         }
 
@@ -230,7 +230,7 @@ balanced_after before [] accepted balanced more = subst Balanced (sym (append-ni
 balanced_after before (command ∷ rest) accepted balanced more =
     subst Balanced (append_assoc before (command ∷ []) rest)
     (balanced_after (before ++ command ∷ []) rest (IsAccepted-push before command accepted more.0)
-      (Balanced-push before command accepted balanced more.0) more.1)
+    (Balanced-push before command accepted balanced more.0) more.1)
 
 pub payable-ledger : (commands : List Command) → IsAccepted commands
     → (ledger_of commands).payable ≡ against (outstanding_in (book commands))

@@ -2,6 +2,7 @@
 //! the law.
 #![tactic(auto)]
 
+pub mod balances;
 pub mod growth;
 pub mod pinned_reads;
 pub mod prefixes;
