@@ -1,6 +1,6 @@
 -- What one more accepted command does to the book: an issue adds its policy at the end, another command changes one
 -- policy where it stands
-use Rattle.std.proofs.Common.{◌≡◌, ℕ, Bool, true, false, cond, ◌==◌, nat_eq, List, [], ◌∷◌, ◌++◌, map, refl, sym, ap, ◌⊎◌, inl, inr, ◌∙◌, append_assoc, append-nil, subst, None, Some, Option, Ok, Err, Result, IsOk, eqb-true, eq-eqb, ne_eqb, filter_map, arith, rules}
+use Rattle.std.proofs.Common.{◌≡◌, ℕ, Bool, true, false, cond, ◌==◌, nat_eq, List, [], ◌∷◌, ◌++◌, map, refl, sym, ap, ◌⊎◌, inl, inr, ◌∙◌, append_assoc, append-nil, subst, None, Some, Option, Ok, Err, Result, IsOk, eqb-true, eq-eqb, ne_eqb, filter_map, arith}
 use Rattle.std.specs.List.{AllByRecursion, IsDistinct, fold, cons_option}
 use Rattle.std.proofs.lemmas.Bool.{eqb-false}
 use Rattle.std.proofs.lemmas.List.Elements.{filter-append, filter_map-append}

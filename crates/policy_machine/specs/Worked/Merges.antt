@@ -2,9 +2,10 @@
 -- posts its premium and trims
 use Rattle.std.specs.Prelude.{◌≡◌, List, [], ◌∷◌, pos}
 use Rattle.policy_types.specs.declared.policy.Status.TheVariants.{InForce}
-use Rattle.policy_types.specs.declared.entry.At.TheVariants.{Now}
-use Rattle.policy_types.specs.declared.entry.Call.TheVariants.{Post, Pin, Read, Unpin, Trim as TrimCall}
-use Rattle.policy_types.specs.declared.entry.Reply.TheVariants.{Accepted, Pinned, Slice as Policies, Unpinned, Floor}
+use Rattle.policy_types.specs.declared.entry.At.TheVariants.{Now, Position}
+use Rattle.policy_types.specs.declared.entry.Call.TheVariants.{Post, Pin, PinAt, Read, Unpin, Trim as TrimCall}
+use Rattle.policy_types.specs.declared.entry.Reply.TheVariants.{Accepted, Pinned, PinRefused, Slice as Policies, Unpinned, Floor}
+use Rattle.policy_types.specs.declared.entry.PinRefusal.TheVariants.{Ahead, Trimmed}
 use Rattle.policy_types.specs.declared.entry.Entry.{Entry}
 use Rattle.policy_types.specs.declared.script.Line.TheVariants.{Post as PostLine, Value, Trim}
 use Rattle.policy_types.specs.declared.script.Lane.{Lane}
@@ -18,9 +19,15 @@ ReadsByPolicies = (reads_of 7 0 ≡ []) × (reads_of 7 1 ≡ Read 7 0 ∷ [])
     × (reads_of 7 256 ≡ Read 7 0 ∷ []) × (reads_of 7 257 ≡ Read 7 0 ∷ Read 7 256 ∷ [])
     × (reads_of 7 513 ≡ Read 7 0 ∷ Read 7 256 ∷ Read 7 512 ∷ [])
 
+abbrev pub second_lane : Lane
+second_lane = record { number = 2; lines = PostLine (premium_on (pos 18262)) ∷ Trim ∷ [] }
+
 abbrev pub two_lanes : List Lane
-two_lanes = record { number = 1; lines = PostLine policy_issue ∷ Value (pos 18628) Now 1 ∷ [] }
-    ∷ record { number = 2; lines = PostLine (premium_on (pos 18262)) ∷ Trim ∷ [] } ∷ []
+two_lanes = record { number = 1; lines = PostLine policy_issue ∷ Value (pos 18628) Now 1 ∷ [] } ∷ second_lane ∷ []
+
+-- a lane without lines
+abbrev pub idle_lane : Lane
+idle_lane = record { number = 2; lines = [] }
 
 -- the premium is posted, and the office trimmed, between the pin of turn 1 and its read
 abbrev pub whole_turns : List Entry
@@ -60,3 +67,44 @@ NoReadLeftOut = IsMerge dry_turns two_lanes (5 ∷ 6 ∷ []) (2 ∷ []) → ⊥
 -- the lanes' callers are told apart by their order
 abbrev pub NoOthersLines : Type 0
 NoOthersLines = IsMerge whole_turns two_lanes (6 ∷ 5 ∷ []) [] → ⊥
+
+-- every line is answered: the trim isn't left out
+abbrev pub NoLineLeftOut : Type 0
+NoLineLeftOut =
+    IsMerge (turn 6 (Post (premium_on (pos 18262))) (Accepted 2) ∷ []) (second_lane ∷ []) (6 ∷ []) [] → ⊥
+
+-- and answered once: nothing is posted twice
+abbrev pub NoLineTwice : Type 0
+NoLineTwice =
+    IsMerge
+    (turn 6 (Post (premium_on (pos 18262))) (Accepted 2) ∷ turn 6 TrimCall (Floor 2)
+    ∷ turn 6 TrimCall (Floor 2) ∷ [])
+    (second_lane ∷ []) (6 ∷ []) [] → ⊥
+
+-- in the order of its lane
+abbrev pub NoOtherOrder : Type 0
+NoOtherOrder =
+    IsMerge (turn 6 TrimCall (Floor 1) ∷ turn 6 (Post (premium_on (pos 18262))) (Accepted 2) ∷ []) (second_lane ∷ []) (6 ∷ []) [] → ⊥
+
+-- every turn is that of a lane's caller
+abbrev pub NoStranger : Type 0
+NoStranger =
+    IsMerge
+    (turn 6 (Post (premium_on (pos 18262))) (Accepted 2) ∷ turn 6 TrimCall (Floor 2) ∷ turn 7 TrimCall (Floor 2) ∷ [])
+    (second_lane ∷ []) (6 ∷ []) [] → ⊥
+
+-- two lanes have two callers
+abbrev pub NoSharedCaller : Type 0
+NoSharedCaller = IsMerge [] (idle_lane ∷ idle_lane ∷ []) (6 ∷ 6 ∷ []) [] → ⊥
+
+-- where the pin of a valuation is refused, nothing else answers its line
+abbrev pub RefusedMerge : Type 0
+RefusedMerge =
+    IsMerge (turn 6 (PinAt 2) (PinRefused (Ahead 1)) ∷ []) (record { number = 2; lines = Value (pos 18628) (Position 2) 1 ∷ [] } ∷ [])
+    (6 ∷ []) []
+
+-- and one at a position pins there
+abbrev pub NoOtherPosition : Type 0
+NoOtherPosition =
+    IsMerge (turn 6 (PinAt 1) (PinRefused (Trimmed 2)) ∷ []) (record { number = 2; lines = Value (pos 18628) (Position 2) 1 ∷ [] } ∷ [])
+    (6 ∷ []) [] → ⊥

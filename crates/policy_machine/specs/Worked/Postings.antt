@@ -1,5 +1,5 @@
 -- Worked histories of postings: positions, faults, and what an office can be opened on
-use Rattle.std.specs.Prelude.{◌≡◌, ◌-◌, ◌^◌, List, [], ◌∷◌, pos, Some, None, Ok, Err, length}
+use Rattle.std.specs.Prelude.{◌≡◌, ℕ, ◌-◌, ◌^◌, List, [], ◌∷◌, pos, Some, None, Ok, Err, length}
 use Rattle.policy_types.specs.declared.command.Command.{Command}
 use Rattle.policy_types.specs.declared.command.Command.TheVariants.{Issue}
 use Rattle.policy_types.specs.declared.command.Plan.TheVariants.{Whole}
@@ -85,3 +85,8 @@ NoOpeningOnRefused = IsOpening (opened_on (premium_on (pos 18262) ∷ []) 0) →
 -- nor on an issue that isn't valid
 abbrev pub NoOpeningOnInvalid : Type 0
 NoOpeningOnInvalid = IsOpening (opened_on (Issue 7001 (pos 18262) Whole 30 20 100000 40000 ∷ []) 0) → ⊥
+
+-- nor on more commands than may be accepted
+abbrev pub NoOpeningPastTheLimit : Type 0
+NoOpeningPastTheLimit = (commands : List Command) (faults : ℕ) → length commands ≡ 4000001
+    → IsOpening (opened_on commands faults) → ⊥

@@ -1,6 +1,6 @@
 //! Worked merges of two clerks' lanes.
 
-ghost use Rattle.policy_machine.specs.Worked.Merges.{DryIsLegal, DryMerge, NoOthersLines, NoReadLeftOut, ReadsByPolicies, WholeIsLegal, WholeMerge};
+ghost use Rattle.policy_machine.specs.Worked.Merges.{DryIsLegal, DryMerge, NoLineLeftOut, NoLineTwice, NoOtherOrder, NoOtherPosition, NoOthersLines, NoReadLeftOut, NoSharedCaller, NoStranger, ReadsByPolicies, RefusedMerge, WholeIsLegal, WholeMerge};
 
 /// How many reads a pin has.
 pub fn reads_by_policies()
@@ -20,7 +20,18 @@ pub fn dry_merge()
     ensures left_out { NoReadLeftOut }
 {}
 
-/// Whose lines are whose.
+/// Whose lines are whose: each clerk's, every one once and in order.
 pub fn own_lines()
-    ensures { NoOthersLines }
+    ensures others { NoOthersLines }
+    ensures left_out { NoLineLeftOut }
+    ensures twice { NoLineTwice }
+    ensures order { NoOtherOrder }
+    ensures stranger { NoStranger }
+    ensures shared { NoSharedCaller }
+{}
+
+/// A valuation whose pin is refused.
+pub fn refused_valuation()
+    ensures merge { RefusedMerge }
+    ensures position { NoOtherPosition }
 {}

@@ -1,6 +1,6 @@
 //! Worked histories of postings, and what an office can be opened on.
 
-ghost use Rattle.policy_machine.specs.Worked.Postings.{FaultAtTheLastCount, Faults, FullAtTheLimit, NoFaultOfARefusal, NoFaultOfTheOpening, NoFaultTwice, NoGap, NoOpeningOnInvalid, NoOpeningOnRefused, NoOtherRefusal, NoPositionTwice, NoRefusal, NotFullBefore, OpensOnAccepted, PositionsGoOn, RulesBeforeFull};
+ghost use Rattle.policy_machine.specs.Worked.Postings.{FaultAtTheLastCount, Faults, FullAtTheLimit, NoFaultOfARefusal, NoFaultOfTheOpening, NoFaultTwice, NoGap, NoOpeningOnInvalid, NoOpeningOnRefused, NoOpeningPastTheLimit, NoOtherRefusal, NoPositionTwice, NoRefusal, NotFullBefore, OpensOnAccepted, PositionsGoOn, RulesBeforeFull};
 
 /// An accepted command has the next position.
 pub fn positions()
@@ -36,4 +36,5 @@ pub fn openings()
     ensures accepted { OpensOnAccepted }
     ensures refused { NoOpeningOnRefused }
     ensures invalid { NoOpeningOnInvalid }
+    ensures limit { NoOpeningPastTheLimit }
 {}
