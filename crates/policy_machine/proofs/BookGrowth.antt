@@ -1,76 +1,36 @@
 -- What one more accepted command does to the book: an issue adds its policy at the end, another command changes one
 -- policy where it stands
-use Rattle.std.proofs.Common.{◌≡◌, ℕ, Bool, true, false, cond, ◌==◌, nat_eq, List, [], ◌∷◌, ◌++◌, map, refl, sym, ap, ◌⊎◌, inl, inr, ◌∙◌, append_assoc, append-nil, subst, None, Some, Option, Ok, Err, Result, IsOk, eqb-true, eq-eqb, ne_eqb, filter_map, arith}
+use Rattle.std.proofs.Common.{◌≡◌, ℕ, Bool, true, false, cond, ◌==◌, nat_eq, List, [], ◌∷◌, ◌++◌, map, refl, sym, ap, ◌⊎◌, inl, inr, ◌∙◌, append_assoc, append-nil, subst, None, Some, Option, Ok, Err, Result, IsOk, IfSome, eqb-true, eq-eqb, ne_eqb, filter_map, arith}
 use Rattle.std.specs.List.{AllByRecursion, IsDistinct, fold, cons_option}
 use Rattle.std.proofs.lemmas.Bool.{eqb-false}
 use Rattle.std.proofs.lemmas.List.Elements.{filter-append, filter_map-append}
 use Rattle.std.proofs.lemmas.List.Sums.{fold-append}
 use Rattle.policy_types.specs.declared.command.Command.{Command}
 use Rattle.policy_types.specs.declared.command.Command.TheVariants.{Issue, Premium, Alter, Lapse, Reinstate, Claim, Settle, Mature}
-use Rattle.policy_types.specs.declared.command.Plan.{Plan}
-use Rattle.policy_types.specs.declared.command.Plan.TheVariants.{Term, Whole, Endowment, Limited}
 use Rattle.policy_types.specs.declared.policy.Policy.{Policy}
 use Rattle.policy_types.specs.declared.refusal.Refusal.{Refusal}
 use Rattle.policy_types.specs.Valid.{id_of}
 use Rattle.policy_machine.specs.Rules.{next, decided, changed, matured, checks_of, first_refusal}
 use Rattle.policy_machine.specs.Book.{own, kept, policy_of, issue_id, book, IsAccepted, IsAcceptedAfter}
-use Rattle.policy_machine.proofs.BookLemmas.{policy_of-push_own, policy_of-push_other}
-
--- the number of the policy, if there is one
-abbrev HasId : ℕ → Option Policy → Type 0
-HasId id None = Unit {0}
-HasId id (Some p) = p.id ≡ id
+use Rattle.policy_machine.proofs.AcceptedLemmas.{next-keeps}
+use Rattle.policy_machine.proofs.BookLemmas.{policy_of-own, policy_of-push_own, policy_of-push_other}
 
 -- there is a policy, and it has the number
 abbrev pub IsThere : ℕ → Option Policy → Type 0
 IsThere id None = ⊥
 IsThere id (Some p) = p.id ≡ id
 
--- no command changes a policy's number
-matured_id : (plan : Plan) (p : Policy) → (matured plan p).id ≡ p.id
-matured_id Term p = refl
-matured_id Whole p = refl
-matured_id Endowment p = refl
-matured_id Limited p = refl
-
-changed_id : (p : Policy) (command : Command) → (changed p command).id ≡ p.id
-changed_id p (Issue id day plan age years amount premium) = refl
-changed_id p (Premium id day amount) = refl
-changed_id p (Alter id day amount premium) = refl
-changed_id p (Lapse id day) = refl
-changed_id p (Reinstate id day amount) = refl
-changed_id p (Claim id day) = refl
-changed_id p (Settle id day amount) = refl
-changed_id p (Mature id day) = matured_id p.plan (record p { last = day })
-
-IsThere-decided : (id : ℕ) (p after : Policy) (refusal : Option Refusal) → p.id ≡ id → after.id ≡ id
-    → IsThere id (kept (Some p) (decided refusal after))
-IsThere-decided id p after None before_id after_id = after_id
-IsThere-decided id p after (Some refusal) before_id after_id = before_id
-
+-- what is there stays
 IsThere-step : (id : ℕ) (p : Option Policy) (command : Command) → IsThere id p → IsThere id (kept p (next p command))
 IsThere-step id None command there = absurd there
-IsThere-step id (Some p) command there =
-    IsThere-decided id p (changed p command) (first_refusal (checks_of p command)) there (changed_id p command ∙ there)
-
-HasId-step : (id : ℕ) (p : Option Policy) (command : Command) → id_of command ≡ id → HasId id p
-    → HasId id (kept p (next p command))
-HasId-step id None (Issue n day plan age years amount premium) own_id has = own_id
-HasId-step id None (Premium n day amount) own_id has = tt
-HasId-step id None (Alter n day amount premium) own_id has = tt
-HasId-step id None (Lapse n day) own_id has = tt
-HasId-step id None (Reinstate n day amount) own_id has = tt
-HasId-step id None (Claim n day) own_id has = tt
-HasId-step id None (Settle n day amount) own_id has = tt
-HasId-step id None (Mature n day) own_id has = tt
-HasId-step id (Some p) command own_id has = has_in (kept (Some p) (next (Some p) command)) (IsThere-step id (Some p) command has)
+IsThere-step id (Some p) command there = by_decision (next (Some p) command) refl
   where
-    has_in : (o : Option Policy) → IsThere id o → HasId id o
-    has_in None there = absurd there
-    has_in (Some q) there = there
+    by_decision : (decision : Result Policy Refusal) → next (Some p) command ≡ decision → IsThere id (kept (Some p) decision)
+    by_decision (Ok after) accepted = (next-keeps p after command accepted).same_id ∙ there
+    by_decision (Err refusal) refused = there
 
 -- after its issue there is a policy of the number
-IsThere-issue : (id : ℕ) (p : Option Policy) (command : Command) → issue_id command ≡ Some id → id_of command ≡ id → HasId id p
+IsThere-issue : (id : ℕ) (p : Option Policy) (command : Command) → issue_id command ≡ Some id → id_of command ≡ id → IfSome p (λ q. q.id ≡ id)
     → IsThere id (kept p (next p command))
 IsThere-issue id None (Issue n day plan age years amount premium) issue own_id has = own_id
 IsThere-issue id None (Premium n day amount) issue own_id has = grind arith
@@ -87,20 +47,6 @@ IsThere-fold : (id : ℕ) (commands : List Command) (p : Option Policy) → IsTh
 IsThere-fold id [] p there = there
 IsThere-fold id (command ∷ commands) p there =
     IsThere-fold id commands (kept p (next p command)) (IsThere-step id p command there)
-
-HasId-own : (id : ℕ) (commands : List Command) (p : Option Policy) → HasId id p
-    → HasId id (fold (λ policy command. kept policy (next policy command)) p (own commands id))
-HasId-own id [] p has = has
-HasId-own id (command ∷ commands) p has = split (HasId-own id commands) (id_of command == id) refl
-  where
-    split : ((q : Option Policy) → HasId id q → HasId id (fold (λ policy command. kept policy (next policy command)) q (own commands id)))
-        → (b : Bool) → (id_of command == id) ≡ b
-        → HasId id (fold (λ policy command. kept policy (next policy command)) p (cond b (command ∷ own commands id) (own commands id)))
-    split rest true same = rest (kept p (next p command)) (HasId-step id p command (eqb-true (id_of command) id same) has)
-    split rest false other = rest p has
-
-HasId-policy : (id : ℕ) (commands : List Command) → HasId id (policy_of commands id)
-HasId-policy id commands = HasId-own id commands None tt
 
 policy_of-append : (before rest : List Command) (id : ℕ)
     → policy_of (before ++ rest) id ≡ fold (λ policy command. kept policy (next policy command)) (policy_of before id) (own rest id)
@@ -128,7 +74,7 @@ IsThere-issued before rest command id issue =
     ap (λ b. cond b (command ∷ own rest id) (own rest id)) (eq-eqb (id_of command) id own_id) in
     let there : IsThere id (fold step (policy_of before id) (command ∷ own rest id)) =
     IsThere-fold id (own rest id) (step (policy_of before id) command)
-    (IsThere-issue id (policy_of before id) command issue own_id (HasId-policy id before)) in
+    (IsThere-issue id (policy_of before id) command issue own_id (policy_of-own before id)) in
     subst (IsThere id) (sym (policy_of-append before (command ∷ rest) id ∙ ap (fold step (policy_of before id)) first)) there
 
 issued_after : (before rest : List Command)
