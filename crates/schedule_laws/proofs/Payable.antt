@@ -90,6 +90,9 @@ at_term id day Limited p none = record { booked = incurred p.outstanding p.amoun
 not_above : (was cents : ℕ) → nat_lt was cents ≡ false → cents ≤ was
 not_above was cents not_less = grind arith
 
+never : true ≡ false → ⊥
+never same = grind arith
+
 moves : (command : Command) (p : Policy) → Owes p → first_refusal (checks_of p command) ≡ None → Moves command p (changed p command)
 moves (Issue id day plan age years amount premium) p owes accepted = grind arith
 moves (Premium id day amount) p owes accepted = record { booked = nothing_moved p.outstanding; owes = owes }
@@ -105,7 +108,7 @@ moves (Reinstate id day amount) p owes accepted =
 moves (Claim id day) p owes accepted =
     let from_second = (passes _ _ _ accepted).1 in
     let in_force = (passes (not (is_in_force p.status)) _ _ from_second).0 in
-    record { booked = incurred p.outstanding p.amount (owes (quiet_in_force p.status in_force)); owes = λ quiet. grind arith }
+    record { booked = incurred p.outstanding p.amount (owes (quiet_in_force p.status in_force)); owes = λ quiet. absurd (never quiet) }
 moves (Settle id day amount) p owes accepted =
     let from_second = (passes _ _ _ accepted).1 in
     let awaits = passes (not (awaits_settlement p.status)) _ _ from_second in
