@@ -10,7 +10,7 @@ use Rattle.policy_types.specs.declared.command.Command.TheVariants.{Issue, Premi
 use Rattle.policy_types.specs.declared.policy.Policy.{Policy}
 use Rattle.policy_types.specs.declared.refusal.Refusal.{Refusal}
 use Rattle.policy_types.specs.Valid.{id_of}
-use Rattle.policy_machine.specs.Rules.{next, decided, changed, matured, checks_of, first_refusal}
+use Rattle.policy_machine.specs.Rules.{next}
 use Rattle.policy_machine.specs.Book.{own, kept, policy_of, issue_id, book, IsAccepted, IsAcceptedAfter}
 use Rattle.policy_machine.proofs.AcceptedLemmas.{next-keeps}
 use Rattle.policy_machine.proofs.BookLemmas.{policy_of-own, policy_of-push_own, policy_of-push_other}

@@ -86,6 +86,11 @@ abbrev pub NoOtherOrder : Type 0
 NoOtherOrder =
     IsMerge (turn 6 TrimCall (Floor 1) ∷ turn 6 (Post (premium_on (pos 18262))) (Accepted 2) ∷ []) (second_lane ∷ []) (6 ∷ []) [] → ⊥
 
+-- by the call that the line asks for
+abbrev pub NoOtherCall : Type 0
+NoOtherCall =
+    IsMerge (turn 6 (Post (premium_on (pos 18262))) (Accepted 2) ∷ turn 6 Pin (Pinned 2 1) ∷ []) (second_lane ∷ []) (6 ∷ []) [] → ⊥
+
 -- every turn is that of a lane's caller
 abbrev pub NoStranger : Type 0
 NoStranger =

@@ -47,6 +47,10 @@ abbrev pub PremiumWrongAmount : Type 0
 PremiumWrongAmount = Refuses paid_once (Premium 7001 (pos 18628) 39999) (WrongAmount 40000)
     × Refuses paid_once (Premium 7001 (pos 18628) 40001) (WrongAmount 40000)
 
+-- a premium that is refused changes nothing
+abbrev pub PremiumRefused : Type 0
+PremiumRefused = Leaves (policy_issue ∷ Premium 7001 (pos 18262) 39999 ∷ []) (policy_with (pos 18262) 0 InForce 0 ∷ [])
+
 -- the second premium on 2021-02-01
 abbrev pub PremiumPaid : Type 0
 PremiumPaid = Leaves (policy_issue ∷ premium_on (pos 18262) ∷ premium_on (pos 18659) ∷ [])

@@ -1,6 +1,6 @@
 //! Worked merges of two clerks' lanes.
 
-ghost use Rattle.policy_machine.specs.Worked.Merges.{DryIsLegal, DryMerge, NoLineLeftOut, NoLineTwice, NoOtherOrder, NoOtherPosition, NoOthersLines, NoReadLeftOut, NoSharedCaller, NoStranger, ReadsByPolicies, RefusedMerge, WholeIsLegal, WholeMerge};
+ghost use Rattle.policy_machine.specs.Worked.Merges.{DryIsLegal, DryMerge, NoLineLeftOut, NoLineTwice, NoOtherCall, NoOtherOrder, NoOtherPosition, NoOthersLines, NoReadLeftOut, NoSharedCaller, NoStranger, ReadsByPolicies, RefusedMerge, WholeIsLegal, WholeMerge};
 
 /// How many reads a pin has.
 pub fn reads_by_policies()
@@ -26,6 +26,7 @@ pub fn own_lines()
     ensures left_out { NoLineLeftOut }
     ensures twice { NoLineTwice }
     ensures order { NoOtherOrder }
+    ensures call { NoOtherCall }
     ensures stranger { NoStranger }
     ensures shared { NoSharedCaller }
 {}

@@ -1,6 +1,6 @@
 //! Worked cases of premiums.
 
-ghost use Rattle.policy_machine.specs.Worked.Premiums.{Grace, LeapDay, LimitedPremiums, PremiumBeforeLast, PremiumGraceOver, PremiumNothingDue, PremiumPaid, PremiumTermOver, PremiumTooEarly, PremiumUnknown, PremiumWrongAmount, PremiumWrongStatus, WholeLifePremiums};
+ghost use Rattle.policy_machine.specs.Worked.Premiums.{Grace, LeapDay, LimitedPremiums, PremiumBeforeLast, PremiumGraceOver, PremiumNothingDue, PremiumPaid, PremiumRefused, PremiumTermOver, PremiumTooEarly, PremiumUnknown, PremiumWrongAmount, PremiumWrongStatus, WholeLifePremiums};
 
 /// The reasons to refuse a premium, in their order.
 pub fn premium_refusals()
@@ -14,9 +14,10 @@ pub fn premium_refusals()
     ensures wrong_amount { PremiumWrongAmount }
 {}
 
-/// What a premium changes.
+/// What a premium changes, and that a refused one changes nothing.
 pub fn premium_paid()
-    ensures { PremiumPaid }
+    ensures paid { PremiumPaid }
+    ensures refused { PremiumRefused }
 {}
 
 /// A premium may be paid on the 31st day after it fell due, and not on the 32nd.
