@@ -132,7 +132,7 @@ live_of_none : (before : List Entry) (pin : ℕ) → list_any (λ later. gives_u
     → slice_get before pin ≡ None → live_pin before pin ≡ None
 live_of_none before pin kept none = rw kept (rw none refl)
 
-live_of_some : (before : List Entry) (pin : ℕ) (entry : Entry)
+pub live_of_some : (before : List Entry) (pin : ℕ) (entry : Entry)
     → list_any (λ later. gives_up pin later.call) (drop (pin + 1) before) ≡ false
     → slice_get before pin ≡ Some entry → live_pin before pin ≡ pin_of entry.reply
 live_of_some before pin entry kept found = rw kept (rw found refl)
@@ -197,13 +197,13 @@ floors-push before entry =
     ap (λ floors. unwrap_or (last_or None floors) 0) (filter_map-append (λ e. floor_set e.reply) before (entry ∷ []))
 
 -- the floor stays, or is the one that the turn set
-floor_of-kept : (before : List Entry) (entry : Entry) → floor_set entry.reply ≡ None → floor_of (before ++ entry ∷ []) ≡ floor_of before
+pub floor_of-kept : (before : List Entry) (entry : Entry) → floor_set entry.reply ≡ None → floor_of (before ++ entry ∷ []) ≡ floor_of before
 floor_of-kept before entry none =
     floors-push before entry
     ∙ ap (λ o. unwrap_or (last_or None (filter_map (λ e. floor_set e.reply) before ++ cons_option o [])) 0) none
     ∙ ap (λ floors. unwrap_or (last_or None floors) 0) (append-nil (filter_map (λ e. floor_set e.reply) before))
 
-floor_of-set : (before : List Entry) (entry : Entry) (floor : ℕ) → floor_set entry.reply ≡ Some floor
+pub floor_of-set : (before : List Entry) (entry : Entry) (floor : ℕ) → floor_set entry.reply ≡ Some floor
     → floor_of (before ++ entry ∷ []) ≡ floor
 floor_of-set before entry floor set =
     floors-push before entry
