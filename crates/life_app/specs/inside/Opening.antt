@@ -15,7 +15,7 @@ use Rattle.life_app.specs.declared.opening.Cause.TheVariants.{DiskFault, NotAJou
 use Rattle.life_app.specs.declared.office.Office.{Office}
 use Rattle.life_app.specs.Journals.{Opens, IsShown}
 use Rattle.life_app.specs.Images.{HoldsOnce, HoldsSince, IsLeftAlone}
-use Rattle.life_app.specs.Books.{StandsAfter}
+use Rattle.life_app.specs.inside.Books.{StandsAfter}
 
 -- The office is that of the commands to which the disk's file opened. Since the opening began a crash leaves what it
 -- might have left before, or what opens to them; since the end of a sync the second alone. No file but an unfinished

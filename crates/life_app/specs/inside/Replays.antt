@@ -15,7 +15,7 @@ use Rattle.life_app.specs.declared.opening.Cause.{Cause}
 use Rattle.life_app.specs.declared.opening.Cause.TheVariants.{DiskFault, NotAJournal, BadRecord, NoMemory}
 use Rattle.life_app.specs.declared.office.Office.{Office}
 use Rattle.life_app.specs.Journals.{IsRecordable, IsUnspelled, bodies_of}
-use Rattle.life_app.specs.Books.{Keeps}
+use Rattle.life_app.specs.inside.Books.{Keeps}
 
 -- a disk was only looked at
 pub record IsLookedAt {D : Type 0} (g : Ghosts D) (old new : D) : Type 0 where
