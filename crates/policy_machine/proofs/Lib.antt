@@ -1,2 +1,4 @@
 pub mod BookLemmas
 pub mod HistoryLemmas
+pub mod MissedLemmas
+pub mod SoundLemmas

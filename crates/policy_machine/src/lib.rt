@@ -2,7 +2,12 @@
 //! histories of turns are legal.
 #![tactic(auto)]
 
+mod benefits;
+mod checks;
+mod contract;
 mod decision;
+mod premiums;
+mod terms;
 #[cfg(test)]
 mod tests;
 pub mod worked;
