@@ -1,3 +1,4 @@
+pub mod AcceptedLemmas
 pub mod BookLemmas
 pub mod HistoryLemmas
 pub mod MissedLemmas

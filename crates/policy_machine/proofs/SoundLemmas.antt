@@ -1,6 +1,5 @@
 -- Accepted commands keep a policy sound
-use Rattle.std.proofs.Common.{◌≡◌, ℕ, ◌-◌, ◌<◌, ◌≤◌, ◌↔◌, inl, inr, List, [], ◌∷◌, Bool, true, false, not, ◌==◌, if◌then◌else◌, refl, subst, arith, ℤ, IsTrue, Some, None, Option, Ok, Err, Result, IfOk, IfSome}
-use Rattle.std.specs.List.{AllByRecursion}
+use Rattle.std.proofs.Common.{◌≡◌, ℕ, ◌-◌, ◌<◌, ◌≤◌, ◌↔◌, inl, inr, Bool, true, false, not, ◌==◌, if◌then◌else◌, refl, subst, arith, ℤ, IsTrue, Some, None, Option, Ok, IfOk, IfSome}
 use Rattle.std.proofs.lemmas.Bool.{cases_lt, eqb-false, eqb-true}
 use Rattle.std.proofs.lemmas.Bool.Decides.{nat_tests}
 use Rattle.std.proofs.lemmas.Int.{ints}
@@ -11,25 +10,10 @@ use Rattle.policy_types.specs.declared.command.Plan.TheVariants.{Term, Whole, En
 use Rattle.policy_types.specs.declared.policy.Policy.{Policy}
 use Rattle.policy_types.specs.declared.policy.Status.{Status}
 use Rattle.policy_types.specs.declared.policy.Status.TheVariants.{InForce, Lapsed, Claimed, Matured, Expired, Settled}
-use Rattle.policy_types.specs.declared.refusal.Refusal.{Refusal}
 use Rattle.policy_types.specs.Valid.{IsIssue, IsAmount, IsCommandDay, IsValid}
-use Rattle.policy_machine.specs.Rules.{IsSound, payments_of, Check, checks_of, changed, first_refusal, is_in_force, is_lapsed, awaits_settlement, decided, matured, issued, next}
+use Rattle.policy_machine.specs.Rules.{IsSound, payments_of, checks_of, changed, is_in_force, is_lapsed, awaits_settlement, matured, issued, next}
+use Rattle.policy_machine.proofs.AcceptedLemmas.{accepted, if_ok}
 use Rattle.policy_machine.proofs.MissedLemmas.{premiums_missed-le}
-
--- where a decision is no refusal its first check doesn't apply
-passed : (applies : Bool) (refusal : Refusal) (others : Option Refusal) (after kept : Policy)
-    → decided (if applies then Some refusal else others) after ≡ Ok kept → (applies ≡ false) × (decided others after ≡ Ok kept)
-passed true refusal others after kept e = absurd (cc)
-passed false refusal others after kept e = (refl, e)
-
--- nor do the others
-accepted : (checks : List Check) (after kept : Policy) → decided (first_refusal checks) after ≡ Ok kept
-    → AllByRecursion (λ check. check.applies ≡ false) checks × (after ≡ kept)
-accepted [] after kept e = (tt, (cc))
-accepted (check ∷ checks) after kept e =
-    let first = passed check.applies check.refusal (first_refusal checks) after kept e in
-    let rest = accepted checks after kept first.1 in
-    ((first.0, rest.0), rest.1)
 
 -- a policy in force, or a lapsed one, has nothing outstanding
 in_force_idle : (status : Status) → not (is_in_force status) ≡ false → awaits_settlement status ≡ false
@@ -74,12 +58,7 @@ sound_premium : (p after : Policy) (id amount : ℕ) (day : ℤ) → IsSound p �
 sound_premium p after id amount day sound day_in e =
     let fact = accepted (checks_of p (Premium id day amount)) (changed p (Premium id day amount)) after e in
     let since = fact.0.0 in
-    let in_force = fact.0.1.0 in
-    let in_term = fact.0.1.1.0 in
     let some_due = fact.0.1.1.1.0 in
-    let in_time = fact.0.1.1.1.1.0 in
-    let in_grace = fact.0.1.1.1.1.1.0 in
-    let right = fact.0.1.1.1.1.1.1.0 in
     subst IsSound fact.1 (record {
       issue_in = sound.issue_in;
       paid_in = omega (arith, sound.paid_in, eqb-false p.paid (payments_of p) some_due);
@@ -95,9 +74,6 @@ sound_alter p after id amount premium day sound day_in amount_in premium_in e =
     let fact = accepted (checks_of p (Alter id day amount premium)) (changed p (Alter id day amount premium)) after e in
     let since = fact.0.0 in
     let in_force = fact.0.1.0 in
-    let in_term = fact.0.1.1.0 in
-    let in_grace = fact.0.1.1.1.0 in
-    let less = fact.0.1.1.1.1.0 in
     let none = nothing_outstanding p sound (in_force_idle p.status in_force) in
     let i = sound.issue_in in
     subst IsSound fact.1 (record {
@@ -115,8 +91,6 @@ sound_lapse p after id day sound day_in e =
     let fact = accepted (checks_of p (Lapse id day)) (changed p (Lapse id day)) after e in
     let since = fact.0.0 in
     let in_force = fact.0.1.0 in
-    let some_due = fact.0.1.1.0 in
-    let in_arrears = fact.0.1.1.1.0 in
     subst IsSound fact.1 (record {
       issue_in = sound.issue_in;
       paid_in = sound.paid_in;
@@ -132,9 +106,6 @@ sound_reinstate p after id amount day sound day_in e =
     let fact = accepted (checks_of p (Reinstate id day amount)) (changed p (Reinstate id day amount)) after e in
     let since = fact.0.0 in
     let lapsed = fact.0.1.0 in
-    let in_term = fact.0.1.1.0 in
-    let in_time = fact.0.1.1.1.0 in
-    let right = fact.0.1.1.1.1.0 in
     subst IsSound fact.1 (record {
       issue_in = sound.issue_in;
       paid_in = omega (arith, sound.paid_in, premiums_missed-le p day);
@@ -149,9 +120,6 @@ sound_claim : (p after : Policy) (id : ℕ) (day : ℤ) → IsSound p → IsComm
 sound_claim p after id day sound day_in e =
     let fact = accepted (checks_of p (Claim id day)) (changed p (Claim id day)) after e in
     let since = fact.0.0 in
-    let in_force = fact.0.1.0 in
-    let in_term = fact.0.1.1.0 in
-    let in_grace = fact.0.1.1.1.0 in
     subst IsSound fact.1 (record {
       issue_in = sound.issue_in;
       paid_in = sound.paid_in;
@@ -220,9 +188,6 @@ sound_mature : (p after : Policy) (id : ℕ) (day : ℤ) → IsSound p → IsCom
 sound_mature p after id day sound day_in e =
     let fact = accepted (checks_of p (Mature id day)) (changed p (Mature id day)) after e in
     let since = fact.0.0 in
-    let in_force = fact.0.1.0 in
-    let in_grace = fact.0.1.1.0 in
-    let at_end = fact.0.1.1.1.0 in
     let later : IsSound (record p { last = day }) = record {
       issue_in = sound.issue_in;
       paid_in = sound.paid_in;
@@ -243,10 +208,6 @@ sound_after p after (Reinstate id day amount) sound valid e = sound_reinstate p 
 sound_after p after (Claim id day) sound valid e = sound_claim p after id day sound valid.1 e
 sound_after p after (Settle id day amount) sound valid e = sound_settle p after id amount day sound valid.1 e
 sound_after p after (Mature id day) sound valid e = sound_mature p after id day sound valid.1 e
-
-if_ok : {P : Policy → Type 0} (r : Result Policy Refusal) → ((after : Policy) → r ≡ Ok after → P after) → IfOk r P
-if_ok (Ok after) each = each after refl
-if_ok (Err refusal) each = tt
 
 pub next-sound : (before : Option Policy) (command : Command) → IsValid command → IfSome before IsSound → IfOk (next before command) IsSound
 next-sound None (Issue id day plan age years amount premium) valid sound = sound_issue id age years amount premium day plan valid

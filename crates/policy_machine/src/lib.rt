@@ -6,6 +6,7 @@ mod benefits;
 mod checks;
 mod contract;
 mod decision;
+mod laws;
 mod premiums;
 mod terms;
 #[cfg(test)]
@@ -13,3 +14,4 @@ mod tests;
 pub mod worked;
 
 pub use decision::decide;
+pub use laws::{books_are_sound, contracts_are_kept};
