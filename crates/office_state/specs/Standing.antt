@@ -17,7 +17,8 @@ pub record IsHistory {D : Type 0} {g : Ghosts D} (state : OfficeState D g) (turn
 -- Since the opening began a crash leaves what it might have left before, or an image of the history; since the end of
 -- a sync in the opening the second alone.
 pub record LeavesSince {D : Type 0} (g : Ghosts D) (begun now : D) (opening : Opening) (turns : List Entry) : Type 0 where
-  pub begun : (image : List ℕ) → g.left_since now (g.clock begun) image → g.may_leave begun image ⊎ HoldsOnce opening turns image
+  pub since : (image : List ℕ) → g.left_since now (g.clock begun) image → g.may_leave begun image
+      ⊎ HoldsOnce opening turns image
   pub synced : (mid : D) × IsSynced g begun mid now × HoldsSince g now (g.clock mid) opening turns
 
 pub record StandsFor {D : Type 0} {g : Ghosts D} (state : OfficeState D g) (turns : List Entry) : Type 0 where

@@ -12,6 +12,7 @@ mod reading;
 mod recording;
 mod replaying;
 mod state;
+mod stub;
 #[cfg(test)]
 mod tests;
 

@@ -1,5 +1,5 @@
 // A command is posted.
-ghost use Rattle.std.specs.Prelude.{◌≡◌, ◌↔◌, ◌+◌, ◌≤◌, ◌<◌, ◌++◌, [], ◌∷◌, Ok, OnOk, IsOk, List};
+ghost use Rattle.std.specs.Prelude.{◌≡◌, ◌↔◌, ◌+◌, ◌≤◌, ◌<◌, ◌++◌, [], ◌∷◌, Ok, OnOk, IsOk, List, ℕ};
 ghost use Rattle.policy_types.specs.Valid.{IsValid, id_of};
 ghost use Rattle.policy_types.specs.declared.entry.Entry.{Entry};
 ghost use Rattle.policy_machine.specs.Book.{policy_of};

@@ -29,11 +29,11 @@ pub record JournalHolds {D : Type 0} {g : Ghosts D} (journal : Journal D g) (ope
   pub pending : is_clean journal ≡ false → IsLeftBehind opening turns last
 
 -- what a turn needs to know beside what is promised
-pub record Holds {D : Type 0} {g : Ghosts D} (begun : D) (journal : Journal D g) (opening : Opening) (turns : List Entry)
+pub record Holds {D : Type 0} {g : Ghosts D} (begun : D) (under : Journal D g) (opening : Opening) (turns : List Entry)
     : Type 0 where
-  pub later : g.honest begun → g.clock begun ≤ g.clock (disk_of journal)
+  pub later : g.honest begun → g.clock begun ≤ g.clock (disk_of under)
   -- no fault was answered with a number above the disk's count
-  pub opened : opening.faults ≤ g.faults (disk_of journal)
-  pub met : AllByRecursion (λ n. n ≤ g.faults (disk_of journal))
+  pub opened : opening.faults ≤ g.faults (disk_of under)
+  pub met : AllByRecursion (λ n. n ≤ g.faults (disk_of under))
       (filter_map (λ (entry : Entry). fault_of entry.reply) turns)
-  pub journal : g.honest (disk_of journal) → JournalHolds journal opening turns
+  pub journal : g.honest (disk_of under) → JournalHolds under opening turns

@@ -90,11 +90,11 @@ HasStopped journal disk NoMemory = IsQuiet journal disk
 HasStopped journal disk NotAJournal = ⊥
 
 -- the office of a journal's records, before any turn
-pub record IsOfficeOf {D : Type 0} {g : Ghosts D} (journal : Journal D g) (begun : D) (state : OfficeState D g) : Type 0 where
+pub record IsOfficeOf {D : Type 0} {g : Ghosts D} (journal : Journal D g) (disk : D) (state : OfficeState D g) : Type 0 where
   pub stays : StaysAs journal state.journal
   pub replayed : AreReplayed journal state.journal state.books (count_of journal)
   pub recovered : state.recovered.value ≡ state.books
-  pub begun : state.begun.value ≡ begun
+  pub begun : state.begun.value ≡ disk
 
 -- there is none
 pub record HasNoOffice {D : Type 0} {g : Ghosts D} (journal : Journal D g) (disk : D) (cause : StartCause) : Type 0 where
