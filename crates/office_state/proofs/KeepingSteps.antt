@@ -1,0 +1,75 @@
+-- What one more accepted command does to what the books keep
+use Rattle.std.proofs.Common.{◌≡◌, ℕ, Bool, true, false, cond, ◌==◌, nat_eq, ◌<◌, List, [], ◌∷◌, ◌++◌, length, refl, ap, sym, ◌∙◌, subst, Some, None, Option, Ok, Err, IfSome, append-nil, length-append, arith}
+use Rattle.std.specs.Prelude.{is_ok, is_some, IsSome}
+use Rattle.std.specs.List.{AllByRecursion, filter_map, cons_option}
+use Rattle.std.specs.Map.{keys_of}
+use Rattle.std.proofs.lemmas.Bool.{eqb-true}
+use Rattle.std.proofs.lemmas.List.Elements.{filter_map-append}
+use Rattle.indexmap.specs.IndexMap.{IndexMap, get, keys, insert_entry, Updates}
+use Rattle.indexmap.proofs.CallerLemmas.{insert_entry-new, keys-insert_entry-present}
+use Rattle.policy_types.specs.declared.command.Command.{Command}
+use Rattle.policy_types.specs.declared.policy.Policy.{Policy}
+use Rattle.policy_types.specs.Limits.{most_commands}
+use Rattle.policy_types.specs.Valid.{IsValid, id_of}
+use Rattle.policy_machine.specs.Rules.{next}
+use Rattle.policy_machine.specs.Book.{policy_of, issue_id, kept}
+use Rattle.policy_machine.proofs.BookLemmas.{IsAccepted-push, policy_of-push_own, policy_of-push_other}
+use Rattle.office_state.specs.inside.Keeping.{Keeps}
+use Rattle.office_state.proofs.BookSteps.{issues-new}
+
+-- one more that has P
+pub all-more : {X : Type 0} (P : X → Type 0) (xs : List X) (x : X) → AllByRecursion P xs → P x → AllByRecursion P (xs ++ x ∷ [])
+all-more P [] x all here = (here, tt)
+all-more P (first ∷ xs) x all here = (all.0, all-more P xs x all.1 here)
+
+found_after : (commands : List Command) (command : Command) (policy : Policy) (before after : Option Policy) (id : ℕ) (here : Bool)
+    → (id_of command == id) ≡ here → before ≡ policy_of commands id → after ≡ cond here (Some policy) before
+    → next (policy_of commands (id_of command)) command ≡ Ok policy
+    → after ≡ policy_of (commands ++ command ∷ []) id
+found_after commands command policy before after id true here found now decided =
+    let same : id_of command ≡ id = eqb-true (id_of command) id here in
+    let decided' : next (policy_of commands id) command ≡ Ok policy =
+    ap (λ i. next (policy_of commands i) command) (sym same) ∙ decided in
+    now ∙ sym (policy_of-push_own commands command id here ∙ ap (kept (policy_of commands id)) decided')
+found_after commands command policy before after id false other found now decided =
+    now ∙ found ∙ sym (policy_of-push_other commands command id other)
+
+module _ {S : Type 0} (old new : IndexMap ℕ Policy S) where
+  -- the keys after an insert, by whether the key was there
+  keys_after : (id : ℕ) (policy : Policy) (found : Option Policy) → get nat_eq old id ≡ found
+      → keys_of (insert_entry nat_eq old.entries id policy) ≡ keys old ++ cond (is_some found) [] (id ∷ [])
+  keys_after id policy None none =
+      ap keys_of (insert_entry-new nat_eq old id policy none) ∙ keys_push old.entries id policy
+    where
+      keys_push : (entries : List (ℕ × Policy)) (id : ℕ) (policy : Policy) → keys_of (entries ++ (id, policy) ∷ []) ≡ keys_of entries ++ id ∷ []
+      keys_push [] id policy = refl
+      keys_push (entry ∷ entries) id policy = ap (λ ids. entry.0 ∷ ids) (keys_push entries id policy)
+  keys_after id policy (Some p) there =
+      keys-insert_entry-present nat_eq old id policy (ap is_some there) ∙ sym (append-nil (keys old))
+
+  issued_last : (command : Command) (policy : Policy) (found : Option Policy) → next found command ≡ Ok policy
+      → filter_map issue_id (command ∷ []) ≡ cond (is_some found) [] (id_of command ∷ [])
+  issued_last command policy None accepted = ap (λ o. cons_option o []) (issues-new None command policy accepted)
+  issued_last command policy (Some p) accepted = ap (λ o. cons_option o []) (issues-new (Some p) command policy accepted)
+
+  -- the books keep one command more
+  pub keeps_more : (commands : List Command) (command : Command) (policy : Policy)
+      → IsValid command → length commands < most_commands → Keeps old commands
+      → next (policy_of commands (id_of command)) command ≡ Ok policy → policy.id ≡ id_of command
+      → Updates nat_eq old new policy.id (Some policy)
+      → new.entries ≡ insert_entry nat_eq old.entries policy.id policy → Keeps new (commands ++ command ∷ [])
+  keeps_more commands command policy valid fewer keeps decided named updates entries =
+      let id = id_of command in
+      let order : keys new ≡ keys old ++ cond (is_some (policy_of commands id)) [] (id ∷ []) =
+      ap keys_of entries ∙ ap (λ i. keys_of (insert_entry nat_eq old.entries i policy)) named
+      ∙ keys_after id policy (policy_of commands id) (keeps.found id) in
+      record {
+        valid = all-more IsValid commands command keeps.valid valid;
+        accepted = IsAccepted-push commands command keeps.accepted (ap is_ok decided);
+        few = omega (arith, fewer, length-append commands (command ∷ []));
+        in_order = order ∙ ap (λ ids. ids ++ cond (is_some (policy_of commands id)) [] (id ∷ [])) keeps.in_order
+            ∙ ap (λ ids. filter_map issue_id commands ++ ids) (sym (issued_last command policy (policy_of commands id) decided))
+            ∙ sym (filter_map-append issue_id commands (command ∷ []));
+        found = λ (i : ℕ). found_after commands command policy (get nat_eq old i) (get nat_eq new i) i (id == i) refl
+            (keeps.found i) (updates.0 i ∙ ap (λ n. cond (nat_eq n i) (Some policy) (get nat_eq old i)) named) decided;
+      }
