@@ -1,2 +1,5 @@
+pub mod AcceptedLemmas
 pub mod BookLemmas
 pub mod HistoryLemmas
+pub mod MissedLemmas
+pub mod SoundLemmas

@@ -3,3 +3,4 @@ pub mod Book
 pub mod History
 pub mod Merge
 pub mod Worked
+pub mod inside

@@ -2,9 +2,16 @@
 //! histories of turns are legal.
 #![tactic(auto)]
 
+mod benefits;
+mod checks;
+mod contract;
 mod decision;
+mod laws;
+mod premiums;
+mod terms;
 #[cfg(test)]
 mod tests;
 pub mod worked;
 
 pub use decision::decide;
+pub use laws::{books_are_sound, contracts_are_kept};
