@@ -1,5 +1,5 @@
 -- The policies of accepted commands, in order of issue
-use Rattle.std.proofs.Common.{◌≡◌, ℕ, zero, suc, ◌<◌, Bool, true, false, cond, ◌==◌, List, [], ◌∷◌, ◌++◌, length, take, drop, refl, ap, sym, ◌∙◌, subst, Some, None, Option, Ok, Err, Result, IsOk, IsSome, append_assoc, append-nil, arith}
+use Rattle.std.proofs.Common.{◌≡◌, ℕ, zero, suc, ◌<◌, ◌≤◌, Bool, true, false, cond, ◌==◌, List, [], ◌∷◌, ◌++◌, length, take, drop, refl, ap, sym, ◌∙◌, subst, Some, None, Option, Ok, Err, Result, IsOk, IsSome, append_assoc, append-nil, arith}
 use Rattle.std.specs.Prelude.{is_some, slice_get}
 use Rattle.std.specs.List.{AllByRecursion, filter_map, cons_option}
 use Rattle.std.proofs.lemmas.List.{take-append-drop}
@@ -171,3 +171,13 @@ issued_front p i id commands at within =
     let parts : ids_in commands ≡ ids_in (take p commands) ++ ids_in (drop p commands) =
     ap ids_in (sym (take-append-drop p commands)) ∙ filter_map-append issue_id (take p commands) (drop p commands) in
     get_front (ids_in (take p commands)) (ids_in (drop p commands)) i id (rw parts at at) within
+
+cons_one : {Y : Type 0} (o : Option Y) (ys : List Y) → length (cons_option o ys) ≤ suc (length ys)
+cons_one (Some y) ys = omega arith
+cons_one None ys = omega arith
+
+-- there are no more issues than commands
+pub length-issues : (commands : List Command) → length (filter_map issue_id commands) ≤ length commands
+length-issues [] = omega arith
+length-issues (command ∷ commands) =
+    omega (arith, cons_one (issue_id command) (ids_in commands), length-issues commands)

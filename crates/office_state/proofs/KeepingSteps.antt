@@ -1,11 +1,11 @@
 -- What one more accepted command does to what the books keep
-use Rattle.std.proofs.Common.{◌≡◌, ℕ, Bool, true, false, cond, ◌==◌, nat_eq, ◌<◌, List, [], ◌∷◌, ◌++◌, length, refl, ap, sym, ◌∙◌, subst, Some, None, Option, Ok, Err, IfSome, append-nil, length-append, arith}
+use Rattle.std.proofs.Common.{◌≡◌, ℕ, Bool, true, false, cond, ◌==◌, nat_eq, ◌+◌, ◌<◌, List, [], ◌∷◌, ◌++◌, length, refl, ap, sym, ◌∙◌, subst, Some, None, Option, Ok, Err, IfSome, append-nil, length-append, arith}
 use Rattle.std.specs.Prelude.{is_ok, is_some, IsSome}
 use Rattle.std.specs.List.{AllByRecursion, filter_map, cons_option}
 use Rattle.std.specs.Map.{keys_of}
 use Rattle.std.proofs.lemmas.Bool.{eqb-true}
 use Rattle.std.proofs.lemmas.List.Elements.{filter_map-append}
-use Rattle.indexmap.specs.IndexMap.{IndexMap, get, keys, insert_entry, Updates}
+use Rattle.indexmap.specs.IndexMap.{IndexMap, get, index_map_len, keys, insert_entry, Updates}
 use Rattle.indexmap.proofs.CallerLemmas.{insert_entry-new, keys-insert_entry-present}
 use Rattle.policy_types.specs.declared.command.Command.{Command}
 use Rattle.policy_types.specs.declared.policy.Policy.{Policy}
@@ -73,3 +73,12 @@ module _ {S : Type 0} (old new : IndexMap ℕ Policy S) where
         found = λ (i : ℕ). found_after commands command policy (get nat_eq old i) (get nat_eq new i) i (id == i) refl
             (keeps.found i) (updates.0 i ∙ ap (λ n. cond (nat_eq n i) (Some policy) (get nat_eq old i)) named) decided;
       }
+
+length-keys_of : (entries : List (ℕ × Policy)) → length entries ≡ length (keys_of entries)
+length-keys_of [] = refl
+length-keys_of (entry ∷ entries) = ap (λ n. n + 1) (length-keys_of entries)
+
+-- there are as many policies as issues
+pub length-keys : {S : Type 0} (policies : IndexMap ℕ Policy S) (commands : List Command) → Keeps policies commands
+    → index_map_len policies ≡ length (filter_map issue_id commands)
+length-keys policies commands keeps = length-keys_of policies.entries ∙ ap length keeps.in_order

@@ -8,7 +8,7 @@ ghost use Rattle.office_state.specs.inside.Keeping.{Keeps, Keeps-prop};
 
 use crate::folding::{issues_in, policy_after};
 use indexmap::IndexMap;
-use crate::stub::decide;
+use policy_machine::decide;
 use policy_types::{Command, NoMemory, Policy, Refusal};
 use std::alloc::Global;
 

@@ -5,7 +5,7 @@ ghost use Rattle.policy_types.specs.Limits.{most_commands};
 ghost use Rattle.policy_types.specs.Valid.{IsValid};
 ghost use Rattle.policy_machine.specs.Book.{policy_of, issue_id, IsAccepted};
 
-use crate::stub::decide;
+use policy_machine::decide;
 use policy_types::{Command, Policy};
 
 /// How many of the commands are issues.

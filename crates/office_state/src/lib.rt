@@ -12,7 +12,6 @@ mod reading;
 mod recording;
 mod replaying;
 mod state;
-mod stub;
 #[cfg(test)]
 mod tests;
 

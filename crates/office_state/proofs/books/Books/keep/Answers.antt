@@ -1,0 +1,22 @@
+use Rattle.std.proofs.Common.{◌≡◌, ◌++◌, [], ◌∷◌, Ok, IfOk, subst, sym, refl}
+use Rattle.policy_types.specs.Valid.{id_of}
+use Rattle.policy_machine.specs.Book.{policy_of}
+use Rattle.policy_machine.proofs.AcceptedLemmas.{next-own}
+use Rattle.policy_machine.proofs.BookLemmas.{policy_of-own}
+use Rattle.office_state.specs.inside.Keeping.{Keeps}
+use Rattle.office_state.proofs.KeepingSteps.{keeps_more}
+use Rattle.office_state.proofs.books.Books.keep.Goals as goal
+
+pub invariant_of-self : goal.invariant_of-self
+invariant_of-self c =
+    let old = c.args.self.now in
+    let commands = old.commands.items in
+    let command = c.args.command.now in
+    let id = id_of command in
+    let named = subst (λ r. IfOk r (λ p. p.id ≡ id)) c.requires.accepted
+    (next-own (policy_of commands id) command id refl (policy_of-own commands id)) in
+    record {
+      kept = subst (Keeps c.insert.new.self) (sym c.push_reserved.ensures.items)
+          (keeps_more old.policies c.insert.new.self commands command c.args.policy c.requires.valid c.requires.few old.kept
+          c.requires.accepted named c.in-Ok.ensures.updates c.in-Ok.ensures.entries);
+    }
