@@ -1,8 +1,8 @@
 -- The policies of accepted commands, in order of issue
-use Rattle.std.proofs.Common.{◌≡◌, ℕ, zero, suc, ◌<◌, ◌≤◌, Bool, true, false, cond, ◌==◌, List, [], ◌∷◌, ◌++◌, length, take, drop, refl, ap, sym, ◌∙◌, subst, Some, None, Option, Ok, Err, Result, IsOk, IsSome, append_assoc, append-nil, arith}
+use Rattle.std.proofs.Common.{◌≡◌, ℕ, zero, suc, ◌+◌, get_or, ◌<◌, ◌≤◌, Bool, true, false, cond, ◌==◌, List, [], ◌∷◌, ◌++◌, length, take, drop, refl, ap, sym, ◌∙◌, subst, Some, None, Option, Ok, Err, Result, IsOk, IsSome, append_assoc, append-nil, length-append, arith}
 use Rattle.std.specs.Prelude.{is_some, slice_get}
 use Rattle.std.specs.List.{AllByRecursion, filter_map, cons_option}
-use Rattle.std.proofs.lemmas.List.{take-append-drop}
+use Rattle.std.proofs.lemmas.List.{take-append-drop, take_more}
 use Rattle.std.proofs.lemmas.List.Elements.{filter_map-append}
 use Rattle.std.proofs.lemmas.Bool.{eq-eqb}
 use Rattle.policy_types.specs.declared.command.Command.{Command}
@@ -181,3 +181,32 @@ pub length-issues : (commands : List Command) → length (filter_map issue_id co
 length-issues [] = omega arith
 length-issues (command ∷ commands) =
     omega (arith, cons_one (issue_id command) (ids_in commands), length-issues commands)
+
+-- nor does a front of them have more
+issues_front : (p : ℕ) (commands : List Command) → length (filter_map issue_id (take p commands)) ≤ length (filter_map issue_id commands)
+issues_front p commands =
+    let parts : ids_in commands ≡ ids_in (take p commands) ++ ids_in (drop p commands) =
+    ap ids_in (sym (take-append-drop p commands)) ∙ filter_map-append issue_id (take p commands) (drop p commands) in
+    omega (arith, ap length parts, length-append (ids_in (take p commands)) (ids_in (drop p commands)))
+
+-- an index of an earlier book is one of the newest
+pub index_front : (p i : ℕ) (commands : List Command) → IsAccepted commands → i < length (book (take p commands))
+    → i < length (filter_map issue_id commands)
+index_front p i commands accepted within =
+    omega (arith, within, length-book (take p commands) (accepted-take p commands accepted), issues_front p commands)
+
+-- and of the same number, which has a policy there
+pub number_front : (p i id : ℕ) (commands : List Command) → IsAccepted commands → i < length (book (take p commands))
+    → slice_get (filter_map issue_id commands) i ≡ Some id → slice_get (filter_map issue_id (take p commands)) i ≡ Some id
+number_front p i id commands accepted within at =
+    issued_front p i id commands at (omega (arith, within, length-book (take p commands) (accepted-take p commands accepted)))
+
+-- one more command, and the issues so far
+pub issues_more : (commands : List Command) (i : ℕ) (d : Command) (issues more : ℕ) → i < length commands
+    → issues ≡ length (filter_map issue_id (take i commands)) → more ≡ length (filter_map issue_id (get_or commands i d ∷ []))
+    → issues + more ≡ length (filter_map issue_id (take (i + 1) commands))
+issues_more commands i d issues more within counted one =
+    let command = get_or commands i d in
+    let parts : ids_in (take (i + 1) commands) ≡ ids_in (take i commands) ++ ids_in (command ∷ []) =
+    ap ids_in (take_more commands i d within) ∙ filter_map-append issue_id (take i commands) (command ∷ []) in
+    omega (arith, counted, one, ap length parts, length-append (ids_in (take i commands)) (ids_in (command ∷ [])))

@@ -1,6 +1,9 @@
 -- What one more accepted command does to what the books keep
-use Rattle.std.proofs.Common.{◌≡◌, ℕ, Bool, true, false, cond, ◌==◌, nat_eq, ◌+◌, ◌<◌, List, [], ◌∷◌, ◌++◌, length, refl, ap, sym, ◌∙◌, subst, Some, None, Option, Ok, Err, IfSome, append-nil, length-append, arith}
-use Rattle.std.specs.Prelude.{is_ok, is_some, IsSome}
+use Rattle.std.proofs.Common.{◌≡◌, ℕ, suc, Bool, true, false, cond, ◌==◌, nat_eq, ◌+◌, ◌<◌, List, [], ◌∷◌, ◌++◌, length, refl, ap, sym, ◌∙◌, subst, Some, None, Option, Ok, Err, IfSome, append-nil, length-append, arith}
+use Rattle.std.specs.Prelude.{is_ok, is_some, take, slice_get, IsSome}
+use Rattle.std.specs.Option.{option_map}
+use Rattle.std.proofs.Math.Seq.{take-length}
+use Rattle.std.proofs.lemmas.Option.{slice_get-map}
 use Rattle.std.specs.List.{AllByRecursion, filter_map, cons_option}
 use Rattle.std.specs.Map.{keys_of}
 use Rattle.std.proofs.lemmas.Bool.{eqb-true}
@@ -12,10 +15,10 @@ use Rattle.policy_types.specs.declared.policy.Policy.{Policy}
 use Rattle.policy_types.specs.Limits.{most_commands}
 use Rattle.policy_types.specs.Valid.{IsValid, id_of}
 use Rattle.policy_machine.specs.Rules.{next}
-use Rattle.policy_machine.specs.Book.{policy_of, issue_id, kept}
+use Rattle.policy_machine.specs.Book.{book, policy_of, issue_id, kept}
 use Rattle.policy_machine.proofs.BookLemmas.{IsAccepted-push, policy_of-push_own, policy_of-push_other}
 use Rattle.office_state.specs.inside.Keeping.{Keeps}
-use Rattle.office_state.proofs.BookSteps.{issues-new}
+use Rattle.office_state.proofs.BookSteps.{accepted-take, book_at, index_front, issued_at, issues-new, number_front}
 
 -- one more that has P
 pub all-more : {X : Type 0} (P : X → Type 0) (xs : List X) (x : X) → AllByRecursion P xs → P x → AllByRecursion P (xs ++ x ∷ [])
@@ -76,9 +79,38 @@ module _ {S : Type 0} (old new : IndexMap ℕ Policy S) where
 
 length-keys_of : (entries : List (ℕ × Policy)) → length entries ≡ length (keys_of entries)
 length-keys_of [] = refl
-length-keys_of (entry ∷ entries) = ap (λ n. n + 1) (length-keys_of entries)
+length-keys_of (entry ∷ entries) = ap suc (length-keys_of entries)
 
 -- there are as many policies as issues
 pub length-keys : {S : Type 0} (policies : IndexMap ℕ Policy S) (commands : List Command) → Keeps policies commands
     → index_map_len policies ≡ length (filter_map issue_id commands)
 length-keys policies commands keeps = length-keys_of policies.entries ∙ ap length keeps.in_order
+
+module _ {S : Type 0} (policies : IndexMap ℕ Policy S) (commands : List Command) (keeps : Keeps policies commands) (i : ℕ) where
+  -- a policy at an index of an earlier book is there
+  pub index_within : (p : ℕ) → i < length (book (take p commands)) → i < index_map_len policies
+  index_within p within =
+      let front : i < length (filter_map issue_id commands) = index_front p i commands keeps.accepted within in
+      omega (arith, front, length-keys policies commands keeps)
+
+  module _ (id : ℕ) (policy : Policy) (at : slice_get policies.entries i ≡ Some (id, policy)) where
+    number_at : slice_get (filter_map issue_id commands) i ≡ Some id
+    number_at = ap (λ ids. slice_get ids i) (sym keeps.in_order) ∙ slice_get-map (λ (entry : ℕ × Policy). entry.0) policies.entries i
+        ∙ ap (option_map (λ (entry : ℕ × Policy). entry.0)) at
+
+    -- it is that of the newest book
+    pub policy_now : (p : ℕ) → p ≡ length commands → get nat_eq policies id ≡ Some policy → slice_get (book (take p commands)) i ≡ Some policy
+    policy_now p all found =
+        subst (λ cs. slice_get (book cs) i ≡ Some policy) (sym (take-length commands) ∙ ap (λ n. take n commands) (sym all))
+        (book_at commands i id policy keeps.accepted number_at (sym (keeps.found id) ∙ found))
+
+    -- in an earlier one its number has a policy
+    pub known_then : (p : ℕ) → i < length (book (take p commands)) → IsSome (policy_of (take p commands) id)
+    known_then p within =
+        issued_at (take p commands) i id (accepted-take p commands keeps.accepted) (number_front p i id commands keeps.accepted within number_at)
+
+    pub policy_then : (p : ℕ) (then : Policy) → i < length (book (take p commands)) → policy_of (take p commands) id ≡ Some then
+        → slice_get (book (take p commands)) i ≡ Some then
+    policy_then p then within found =
+        book_at (take p commands) i id then (accepted-take p commands keeps.accepted)
+        (number_front p i id commands keeps.accepted within number_at) found

@@ -106,6 +106,9 @@ impl Books {
         if p == self.count() {
             return *policy;
         }
-        policy_after(&self.commands[..p as usize], *id)
+        let Some(then) = policy_after(&self.commands[..p as usize], *id) else {
+            unreachable!()
+        };
+        then
     }
 }
