@@ -5,9 +5,10 @@ use life_app::{Ended, life};
 use outside_io::{FileDisk, FolderShelf, OpenGate, StdSink, StdSource, write_all};
 use std::alloc::AllocError;
 use std::env;
+use std::fs::File;
 use std::io::ErrorKind;
 use std::process::ExitCode;
-use std::rt::Env;
+use std::rt::{Env, Files};
 
 /// The file in which the policies are kept, in the folder in which the program runs.
 const JOURNAL: &str = "journal.life";
@@ -15,6 +16,7 @@ const JOURNAL: &str = "journal.life";
 /// Ends with the status of the top call; with 9 where not even the devices find memory.
 fn main(rt: HostRuntime) -> ExitCode {
     let alloc = rt.alloc();
+    let held = hold_descriptors(&rt);
     let mut input = StdSource::new(rt.stdin());
     let mut output = StdSink::new(rt.stdout());
     let found: Result<Vec<String>, AllocError> = words_of(&rt);
@@ -35,7 +37,19 @@ fn main(rt: HostRuntime) -> ExitCode {
         &OpenGate,
     );
     drop(disk);
+    drop(held);
     ExitCode::from(status)
+}
+
+// Where the program is started with a closed input, output or error, the next file that is opened would take its place,
+// and be read as the input or written as the output. So the folder takes such places, which can be neither read nor
+// written.
+fn hold_descriptors<R: Files<File = File>>(files: &R) -> [Option<File>; 3] {
+    [
+        File::open(files, ".").ok(),
+        File::open(files, ".").ok(),
+        File::open(files, ".").ok(),
+    ]
 }
 
 // The words behind the program's name. Words that are no text are no words, which no command has.

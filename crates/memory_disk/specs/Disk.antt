@@ -1,5 +1,5 @@
 -- What a disk in memory shows.
-use Rattle.std.specs.Prelude.{◌≡◌, ℕ, List, Result, IsErr}
+use Rattle.std.specs.Prelude.{◌≡◌, ◌⊎◌, ℕ, List, [], ◌∷◌, ◌++◌, Result, IsErr}
 use Rattle.outside_io.specs.declared.fault_plan.FaultPlan.{FaultPlan}
 use Rattle.outside_io.specs.Plans.{plan_calls, plan_failing, number_after, FailsNext}
 use Rattle.memory_disk.specs.First.{first_bytes}
@@ -21,6 +21,10 @@ disk_calls disk = disk.history.calls.items
 -- the calls that are to fail, and those that were made
 abbrev pub disk_plan : MemoryDisk → FaultPlan
 disk_plan disk = disk.plan
+
+-- the record of calls is as it was, where there was no memory for a call's record, or has this call too
+abbrev pub KeepsOrAdds : List DiskCall → List DiskCall → DiskCall → Type 0
+KeepsOrAdds old new call = (new ≡ old) ⊎ (new ≡ old ++ call ∷ [])
 
 -- a call whose number was to fail failed, and one call more was made
 pub record FollowsPlan {T E : Type 0} (before now : FaultPlan) (result : Result T E) : Type 0 where

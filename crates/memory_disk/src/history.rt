@@ -84,6 +84,7 @@ impl History {
             (IsImage (first_bytes self.new.first self.new.bytes) self.new.calls.items) }
         ensures kept { IsTrue result
             → IsWriteOf at bytes.now failed self.old.calls.items self.new.calls.items }
+        ensures missed { result ≡ false → self.new.calls.items ≡ self.old.calls.items }
     {
         let Ok(written) = self.prepare(alloc, bytes) else {
             return false;

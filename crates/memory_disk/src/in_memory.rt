@@ -1,8 +1,8 @@
 // The disk: a history, and the calls that are to fail.
-ghost use Rattle.std.specs.Prelude.{◌≡◌, ℕ, List, [], ◌∷◌, ◌++◌, ◌+◌, ◌≤◌, false, length, take, drop, IfOk, OnOk, ⊤};
+ghost use Rattle.std.specs.Prelude.{◌≡◌, ℕ, List, [], ◌∷◌, ◌++◌, ◌+◌, ◌≤◌, false, true, length, take, drop, IfOk, OnOk, OnErr, ⊤, ◌⊎◌};
 ghost use Rattle.outside_io.specs.Disks.{HasDiskCause, Looks, Writes, Syncs, Elapses};
 ghost use Rattle.outside_io.specs.Plans.{plan_faults, plan_failing, plan_calls};
-ghost use Rattle.memory_disk.specs.Disk.{disk_first, disk_bytes, disk_calls, disk_plan, FollowsPlan};
+ghost use Rattle.memory_disk.specs.Disk.{disk_first, disk_bytes, disk_calls, disk_plan, FollowsPlan, KeepsOrAdds};
 ghost use Rattle.memory_disk.specs.History.{IsImage, WasImage, IsWriteOf, kept_after};
 ghost use Rattle.memory_disk.specs.HistoryLaws.{replayed_image, now_counts, only_now_left};
 ghost use Rattle.memory_disk.specs.declared.disk_call.DiskCall.TheVariants.{Len, Read, Sync};
@@ -112,6 +112,7 @@ impl Disk for MemoryDisk {
             (IsImage (disk_first self.new) (disk_calls self.new)) }
         ensures planned { FollowsPlan (disk_plan self.old) (disk_plan self.new) result }
         ensures kept { OnOk result (disk_calls self.new ≡ disk_calls self.old ++ Len false ∷ []) }
+        ensures missed { OnErr result (KeepsOrAdds (disk_calls self.old) (disk_calls self.new) (Len true)) }
     {
         let failed = self.plan.fails_next();
         if !self.history.note(DiskCall::Len { failed }) || failed {
@@ -136,6 +137,8 @@ impl Disk for MemoryDisk {
         ensures planned { FollowsPlan (disk_plan self.old) (disk_plan self.new) result }
         ensures kept { OnOk result
             (disk_calls self.new ≡ disk_calls self.old ++ Read at (length buf.old) false ∷ []) }
+        ensures missed { OnErr result
+            (KeepsOrAdds (disk_calls self.old) (disk_calls self.new) (Read at (length buf.old) true)) }
     {
         let failed = self.plan.fails_next();
         let many = buf.len();
@@ -162,9 +165,15 @@ impl Disk for MemoryDisk {
         ensures planned { FollowsPlan (disk_plan self.old) (disk_plan self.new) result }
         ensures kept { OnOk result
             (IsWriteOf at bytes.now false (disk_calls self.old) (disk_calls self.new)) }
+        ensures missed { OnErr result ((disk_calls self.new ≡ disk_calls self.old)
+            ⊎ IsWriteOf at bytes.now true (disk_calls self.old) (disk_calls self.new)) }
     {
         let failed = self.plan.fails_next();
-        if !self.history.write(self.alloc, at, bytes, failed) || failed {
+        if !self.history.write(self.alloc, at, bytes, failed) {
+            self.plan.add_fault();
+            return Err(Failed);
+        }
+        if failed {
             self.plan.add_fault();
             return Err(Failed);
         }
@@ -183,6 +192,7 @@ impl Disk for MemoryDisk {
             (IsImage (disk_first self.new) (disk_calls self.new)) }
         ensures planned { FollowsPlan (disk_plan self.old) (disk_plan self.new) result }
         ensures kept { OnOk result (disk_calls self.new ≡ disk_calls self.old ++ Sync false ∷ []) }
+        ensures missed { OnErr result (KeepsOrAdds (disk_calls self.old) (disk_calls self.new) (Sync true)) }
     {
         let failed = self.plan.fails_next();
         if !self.history.note_sync(failed) || failed {

@@ -11,7 +11,8 @@ use std::os::unix::fs::FileExt;
 use std::rt::Files;
 
 /// The file with a name in the folder in which the program runs. It is opened, or made, at the
-/// first call; nothing of it is cut off.
+/// first call; nothing of it is cut off. It is locked against other processes that do the same, until
+/// it is dropped; where one of them has it, the call fails and counts.
 #[derive(Drop)]
 pub struct FileDisk<R: Files<File = File>> {
     files: R,
@@ -137,6 +138,9 @@ fn open_or_make<R: Files<File = File>>(files: &R, name: &str) -> io::Result<File
         .write(true)
         .create(true)
         .open(files, name)?;
+    if file.try_lock().is_err() {
+        return Err(io::Error::from(ErrorKind::WouldBlock));
+    }
     File::open(files, ".")?.sync_all()?;
     Ok(file)
 }

@@ -64,7 +64,23 @@ fn a_real_file_is_a_disk(rt: HostRuntime) -> Result<(), Fail> {
     let beyond = again.read(6, &mut [0; 7]);
     assert!(rt; (length, inside, beyond) == (Ok(12), Ok(()), Err(Failed)));
     assert!(rt; (part, again.faults()) == (*b" FIRST ", 1));
+    // while one holds the file another is refused, and writes nothing
+    let mut other = FileDisk::at(rt.clone()?, name);
+    let refused = write_and_sync(&mut other, 0, b"over it");
+    assert!(rt; (refused, other.faults(), again.len()) == (Err(Failed), 1, Ok(12)));
+    drop(again);
+    assert!(rt; (other.len(), other.faults()) == (Ok(12), 1));
     fs::remove_file(&rt, name)?;
+    Ok(())
+}
+
+// A write that the device refuses, and a sync that it can't make, are faults.
+#[test]
+fn a_full_device_fails(rt: HostRuntime) -> Result<(), Fail> {
+    let mut full = FileDisk::at(rt.clone()?, "/dev/full");
+    let written = full.write_at(0, b"a line");
+    let synced = full.sync();
+    assert!(rt; (written, synced, full.faults()) == (Err(Failed), Err(Failed), 2));
     Ok(())
 }
 

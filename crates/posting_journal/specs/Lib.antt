@@ -1,4 +1,5 @@
 pub mod Layout
+pub mod Faults
 pub mod Files
 pub mod Creation
 pub mod Runs

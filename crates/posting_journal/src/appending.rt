@@ -1,7 +1,7 @@
 // What is done with an open journal.
-ghost use Rattle.std.specs.Prelude.{◌≡◌, ◌↔◌, ℕ, ◌+◌, ◌<◌, ◌≤◌, ◌++◌, [], ◌∷◌, List, false, if◌then◌else◌, is_ok, IsTrue, IfOk, IfErr, OnOk, OnErr, MatchResult, Ok, Err, take, drop, length, slice_index_or};
+ghost use Rattle.std.specs.Prelude.{◌≡◌, ◌↔◌, ℕ, ◌+◌, ◌<◌, ◌≤◌, ◌++◌, [], ◌∷◌, List, false, if◌then◌else◌, is_ok, IsTrue, IfOk, OnOk, OnErr, MatchResult, Ok, Err, take, drop, length, slice_index_or};
 ghost use Rattle.outside_io.specs.Disks.{HasDiskCause};
-ghost use Rattle.outside_io.specs.Faults.{Rose};
+ghost use Rattle.posting_journal.specs.Faults.{TellsFaults};
 ghost use Rattle.posting_journal.specs.Files.{IsStaged, IsBeforeOrAfter};
 ghost use Rattle.posting_journal.specs.Layout.{gate_place, body_place};
 ghost use Rattle.posting_journal.specs.Runs.{IsSafe, Leaves, LooksOn};
@@ -32,11 +32,7 @@ impl<D: Disk> Journal<D> {
         requires { n < count_of self.old }
         ensures count { count_of self.new ≡ count_of self.old }
         ensures clean { is_clean self.new ≡ is_clean self.old }
-        ensures later { D.faults (disk_of self.old) ≤ D.faults (disk_of self.new) }
-        ensures quiet { OnOk result (D.faults (disk_of self.new) ≡ D.faults (disk_of self.old)) }
-        ensures fault { IfErr result (λ fault. (fault.count ≡ D.faults (disk_of self.new))
-            × Rose (D.faults (disk_of self.old)) (D.faults (disk_of self.new))) }
-        ensures honesty { (D.honest (disk_of self.old)) ↔ (D.honest (disk_of self.new)) }
+        ensures disk { TellsFaults D.Disk (disk_of self.old) (disk_of self.new) result }
         ensures unwritten { D.honest (disk_of self.old) → LooksOn D.Disk (disk_of self.old) (disk_of self.new) }
         ensures read { D.honest (disk_of self.old)
             → IfOk result (λ body. body ≡ take 64 (drop (body_place n) (D.reads (disk_of self.old)))) }
@@ -60,11 +56,7 @@ impl<D: Disk> Journal<D> {
         requires clean { IsTrue (is_clean self.old) }
         ensures count { count_of self.new ≡ (if is_ok result then (count_of self.old) + 1 else (count_of self.old)) }
         ensures clean { OnOk result (IsTrue (is_clean self.new)) }
-        ensures later { D.faults (disk_of self.old) ≤ D.faults (disk_of self.new) }
-        ensures quiet { OnOk result (D.faults (disk_of self.new) ≡ D.faults (disk_of self.old)) }
-        ensures fault { IfErr result (λ fault. (fault.count ≡ D.faults (disk_of self.new))
-            × Rose (D.faults (disk_of self.old)) (D.faults (disk_of self.new))) }
-        ensures honesty { (D.honest (disk_of self.old)) ↔ (D.honest (disk_of self.new)) }
+        ensures disk { TellsFaults D.Disk (disk_of self.old) (disk_of self.new) result }
         ensures acknowledged { (bodies : List (List ℕ)) (faulted : List ℕ) → D.honest (disk_of self.old)
             → StandsFor self.old bodies faulted
             → OnOk result (StandsFor self.new (bodies ++ body.now ∷ []) [] × IsSafe D.Disk (disk_of self.new)) }
@@ -88,11 +80,7 @@ impl<D: Disk> Journal<D> {
         requires { is_clean self.old ≡ false }
         ensures count { count_of self.new ≡ count_of self.old }
         ensures clean { is_clean self.new ≡ is_ok result }
-        ensures later { D.faults (disk_of self.old) ≤ D.faults (disk_of self.new) }
-        ensures quiet { OnOk result (D.faults (disk_of self.new) ≡ D.faults (disk_of self.old)) }
-        ensures fault { IfErr result (λ fault. (fault.count ≡ D.faults (disk_of self.new))
-            × Rose (D.faults (disk_of self.old)) (D.faults (disk_of self.new))) }
-        ensures honesty { (D.honest (disk_of self.old)) ↔ (D.honest (disk_of self.new)) }
+        ensures disk { TellsFaults D.Disk (disk_of self.old) (disk_of self.new) result }
         ensures repaired { (bodies : List (List ℕ)) (faulted : List ℕ) → D.honest (disk_of self.old)
             → StandsFor self.old bodies faulted
             → OnOk result (StandsFor self.new bodies [] × IsSafe D.Disk (disk_of self.new)) }
