@@ -1,5 +1,5 @@
 -- The policies of accepted commands, in order of issue
-use Rattle.std.proofs.Common.{◌≡◌, ℕ, zero, suc, ◌+◌, get_or, ◌<◌, ◌≤◌, Bool, true, false, cond, ◌==◌, List, [], ◌∷◌, ◌++◌, length, take, drop, refl, ap, sym, ◌∙◌, subst, Some, None, Option, Ok, Err, Result, IsOk, IsSome, append_assoc, append-nil, length-append, arith}
+use Rattle.std.proofs.Common.{◌≡◌, ℕ, zero, suc, ◌+◌, get_or, ◌<◌, ◌≤◌, Bool, true, false, true≢false, cond, ◌==◌, List, [], ◌∷◌, ◌++◌, length, take, drop, refl, ap, sym, ◌∙◌, subst, Some, None, Option, Ok, Err, Result, IsOk, IsSome, append_assoc, append-nil, length-append, arith}
 use Rattle.std.specs.Prelude.{is_some, slice_get}
 use Rattle.std.specs.List.{AllByRecursion, filter_map, cons_option}
 use Rattle.std.proofs.lemmas.List.{take-append-drop, take_more}
@@ -35,6 +35,9 @@ issues-new (Some p) (Reinstate id day amount) policy e = refl
 issues-new (Some p) (Claim id day) policy e = refl
 issues-new (Some p) (Settle id day amount) policy e = refl
 issues-new (Some p) (Mature id day) policy e = refl
+
+pub none_some : {X : Type 0} (found : Option X) → found ≡ None → IsSome found → ⊥
+none_some found none some = true≢false (sym some ∙ ap is_some none)
 
 -- a policy of the number
 abbrev pub Known : List Command → ℕ → Type 0

@@ -1,5 +1,5 @@
 -- What one more accepted command does to what the books keep
-use Rattle.std.proofs.Common.{◌≡◌, ℕ, suc, Bool, true, false, cond, ◌==◌, nat_eq, ◌+◌, ◌<◌, List, [], ◌∷◌, ◌++◌, length, refl, ap, sym, ◌∙◌, subst, Some, None, Option, Ok, Err, IfSome, append-nil, length-append, arith}
+use Rattle.std.proofs.Common.{◌≡◌, ℕ, ◌*◌, ◌-◌, ◌^◌, ◌≤◌, suc, Bool, true, false, cond, ◌==◌, nat_eq, ◌+◌, ◌<◌, List, [], ◌∷◌, ◌++◌, length, refl, ap, sym, ◌∙◌, subst, Some, None, Option, Ok, Err, IfSome, append-nil, length-append, arith}
 use Rattle.std.specs.Prelude.{is_ok, is_some, take, slice_get, IsSome}
 use Rattle.std.specs.Option.{option_map}
 use Rattle.std.proofs.Math.Seq.{take-length}
@@ -14,9 +14,14 @@ use Rattle.policy_types.specs.declared.command.Command.{Command}
 use Rattle.policy_types.specs.declared.policy.Policy.{Policy}
 use Rattle.policy_types.specs.Limits.{most_commands}
 use Rattle.policy_types.specs.Valid.{IsValid, id_of}
+use Rattle.policy_types.specs.Accounts.{AreWithin, added, booking_of}
+use Rattle.money_ledgers.specs.Balances.{HasRoom, balances}
+use Rattle.money_ledgers.specs.declared.ledger.Ledger.{Ledger}
+use Rattle.policy_machine.specs.Accounts.{ledger_of}
 use Rattle.policy_machine.specs.Rules.{next}
 use Rattle.policy_machine.specs.Book.{book, policy_of, issue_id, kept}
 use Rattle.policy_machine.proofs.BookLemmas.{IsAccepted-push, policy_of-push_own, policy_of-push_other}
+use Rattle.policy_machine.proofs.LedgerLemmas.{AreWithin-ledger, AreWithin-wider, ledger_of-push}
 use Rattle.office_state.specs.inside.Keeping.{Keeps}
 use Rattle.office_state.proofs.BookSteps.{accepted-take, book_at, index_front, issued_at, issues-new, number_front}
 
@@ -57,11 +62,12 @@ module _ {S : Type 0} (old new : IndexMap ℕ Policy S) where
 
   -- the books keep one command more
   pub keeps_more : (commands : List Command) (command : Command) (policy : Policy)
-      → IsValid command → length commands < most_commands → Keeps old commands
+      (before after : Ledger) → IsValid command → length commands < most_commands → Keeps old before commands
       → next (policy_of commands (id_of command)) command ≡ Ok policy → policy.id ≡ id_of command
       → Updates nat_eq old new policy.id (Some policy)
-      → new.entries ≡ insert_entry nat_eq old.entries policy.id policy → Keeps new (commands ++ command ∷ [])
-  keeps_more commands command policy valid fewer keeps decided named updates entries =
+      → new.entries ≡ insert_entry nat_eq old.entries policy.id policy
+      → balances after ≡ added (balances before) (booking_of command policy) → Keeps new after (commands ++ command ∷ [])
+  keeps_more commands command policy before after valid fewer keeps decided named updates entries posted =
       let id = id_of command in
       let order : keys new ≡ keys old ++ cond (is_some (policy_of commands id)) [] (id ∷ []) =
       ap keys_of entries ∙ ap (λ i. keys_of (insert_entry nat_eq old.entries i policy)) named
@@ -75,6 +81,8 @@ module _ {S : Type 0} (old new : IndexMap ℕ Policy S) where
             ∙ sym (filter_map-append issue_id commands (command ∷ []));
         found = λ (i : ℕ). found_after commands command policy (get nat_eq old i) (get nat_eq new i) i (id == i) refl
             (keeps.found i) (updates.0 i ∙ ap (λ n. cond (nat_eq n i) (Some policy) (get nat_eq old i)) named) decided;
+        booked = posted ∙ ap (λ balance. added balance (booking_of command policy)) keeps.booked
+            ∙ sym (ledger_of-push commands command policy decided);
       }
 
 length-keys_of : (entries : List (ℕ × Policy)) → length entries ≡ length (keys_of entries)
@@ -82,16 +90,17 @@ length-keys_of [] = refl
 length-keys_of (entry ∷ entries) = ap suc (length-keys_of entries)
 
 -- there are as many policies as issues
-pub length-keys : {S : Type 0} (policies : IndexMap ℕ Policy S) (commands : List Command) → Keeps policies commands
+pub length-keys : {S : Type 0} (policies : IndexMap ℕ Policy S) (ledger : Ledger) (commands : List Command) → Keeps policies ledger commands
     → index_map_len policies ≡ length (filter_map issue_id commands)
-length-keys policies commands keeps = length-keys_of policies.entries ∙ ap length keeps.in_order
+length-keys policies ledger commands keeps = length-keys_of policies.entries ∙ ap length keeps.in_order
 
-module _ {S : Type 0} (policies : IndexMap ℕ Policy S) (commands : List Command) (keeps : Keeps policies commands) (i : ℕ) where
+module _ {S : Type 0} (policies : IndexMap ℕ Policy S) (ledger : Ledger) (commands : List Command)
+    (keeps : Keeps policies ledger commands) (i : ℕ) where
   -- a policy at an index of an earlier book is there
   pub index_within : (p : ℕ) → i < length (book (take p commands)) → i < index_map_len policies
   index_within p within =
       let front : i < length (filter_map issue_id commands) = index_front p i commands keeps.accepted within in
-      omega (arith, front, length-keys policies commands keeps)
+      omega (arith, front, length-keys policies ledger commands keeps)
 
   module _ (id : ℕ) (policy : Policy) (at : slice_get policies.entries i ≡ Some (id, policy)) where
     number_at : slice_get (filter_map issue_id commands) i ≡ Some id
@@ -114,3 +123,10 @@ module _ {S : Type 0} (policies : IndexMap ℕ Policy S) (commands : List Comman
     policy_then p then within found =
         book_at (take p commands) i id then (accepted-take p commands keeps.accepted)
         (number_front p i id commands keeps.accepted within number_at) found
+
+-- the ledger has room for one booking more
+pub has_room : {S : Type 0} (policies : IndexMap ℕ Policy S) (ledger : Ledger) (commands : List Command) → Keeps policies ledger commands → HasRoom ledger
+has_room policies ledger commands keeps =
+    let few : 40000000000 * length commands ≤ 2 ^ 63 - 1 - 40000000000 = omega (arith, keeps.few) in
+    subst (AreWithin (2 ^ 63 - 1 - 40000000000)) (sym keeps.booked)
+    (AreWithin-wider (40000000000 * length commands) (2 ^ 63 - 1 - 40000000000) (ledger_of commands) few (AreWithin-ledger commands keeps.valid))

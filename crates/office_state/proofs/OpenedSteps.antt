@@ -1,7 +1,8 @@
 -- The office of a journal that was started on a disk, and what is known where there is none
-use Rattle.std.proofs.Common.{◌≡◌, inl, inr, ℕ, ◌<◌, true, false, List, [], ◌∷◌, ◌++◌, length, ◌∙◌, sym, subst, refl, append-nil, arith}
+use Rattle.std.proofs.Common.{◌≡◌, inl, inr, ℕ, ◌<◌, true, false, List, [], ◌∷◌, ◌++◌, length, ◌∙◌, ap, sym, subst, refl, append-nil, arith}
 use Rattle.outside_io.specs.declared.disks.Disk.{Ghosts}
 use Rattle.outside_io.specs.Faults.{Rose}
+use Rattle.policy_machine.specs.Accounts.{ledger_of}
 use Rattle.policy_machine.specs.History.{Opening, opened_on}
 use Rattle.posting_journal.specs.Creation.{OpensToBodies}
 use Rattle.posting_journal.specs.States.{StandsFor as JournalStands, disk_of as disk_under, is_clean}
@@ -123,6 +124,7 @@ module _ {D : Type 0} (g : Ghosts D) (old : D) (journal : Journal D g) (started 
               counted = simp append-nil refl;
             };
             kept = all;
+            ledger = keeps.booked ∙ ap ledger_of all;
             honesty = honesty;
             images_now = λ (honest : g.honest old). holds_now state.journal opening []
                 (simp append-nil keeps.valid) (simp append-nil keeps.accepted) (holds honest);

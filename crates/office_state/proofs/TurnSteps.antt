@@ -10,6 +10,7 @@ use Rattle.policy_types.specs.declared.policy.Policy.{Policy}
 use Rattle.policy_types.specs.declared.entry.Reply.TheVariants.{Accepted, Faulted}
 use Rattle.policy_types.specs.declared.entry.Entry.{Entry}
 use Rattle.policy_types.specs.Valid.{IsValid, id_of}
+use Rattle.policy_machine.specs.Accounts.{ledger_of}
 use Rattle.policy_machine.specs.Book.{policy_of, IsAccepted}
 use Rattle.policy_machine.specs.Rules.{next}
 use Rattle.policy_machine.specs.History.{Opening, IsDue, IsLegal, accepted_of, commands_after, refusal_due}
@@ -24,7 +25,7 @@ use Rattle.posting_journal.proofs.Written.{staged_either}
 use Rattle.office_state.specs.declared.books.Books.{Books}
 use Rattle.office_state.specs.declared.state.OfficeState.{OfficeState}
 use Rattle.office_state.specs.declared.answer.Answer.TheVariants.{Accepted as AcceptedAt, DiskFault}
-use Rattle.office_state.specs.Images.{HoldsNow, HoldsOnce, IsPending, faults_after}
+use Rattle.office_state.specs.Images.{HoldsNow, HoldsOnce, IsLeftBy}
 use Rattle.office_state.specs.Journals.{JournalBytes, bodies_of}
 use Rattle.office_state.specs.Posting.{CrashesIn, turn_of}
 use Rattle.office_state.specs.Standing.{LeavesSince, StandsFor}
@@ -170,6 +171,7 @@ module _ {D : Type 0} {g : Ghosts D} where
         record {
           history = record { legal = legal-push opening turns entry stands.history.legal due; counted = ap length kept };
           kept = kept;
+          ledger = books.kept.booked ∙ ap ledger_of kept;
           honesty = stands.honesty;
           images_now = λ (honest : g.honest (begun_of old)). holds_now old.journal opening (turns ++ entry ∷ [])
               (subst (AllByRecursion IsValid) kept books.kept.valid) (subst IsAccepted kept books.kept.accepted)
@@ -294,6 +296,7 @@ module _ {D : Type 0} {g : Ghosts D} where
               record {
                 history = record { legal = legal-push opening turns entry stands.history.legal (due, at); counted = ap length kept };
                 kept = kept;
+                ledger = books.kept.booked ∙ ap ledger_of kept;
                 honesty = (λ honest. honesty.0 (stands.honesty.0 honest), λ honest. stands.honesty.1 (honesty.1 honest));
                 images_now = λ (honest : g.honest (begun_of old)). holds_now journal opening (turns ++ entry ∷ [])
                     (subst (AllByRecursion IsValid) kept books.kept.valid) (subst IsAccepted kept books.kept.accepted)
@@ -325,10 +328,10 @@ module _ {D : Type 0} {g : Ghosts D} where
               let due : refusal_due commands command ≡ None = is_due commands command policy decided' (λ full. few (ap length stands.kept ∙ full)) in
               let fresh = is_fresh opening turns (g.faults (disk_of old)) count stands.inside.opened stands.inside.met (rw told rose) in
               let failed = λ (honest : g.honest (disk_of old)).
-                  subst (λ r. OnErr r ((left : List ℕ) × JournalStands journal (bodies_of commands) left
-                      × (is_clean journal ≡ false → (left ≡ spelling_of command) ⊎ ((is_clean old.journal ≡ false)
-                      × (left ≡ (stands.inside.journal honest).last)))))
-                  err (recorded honest).failed in
+              subst (λ r. OnErr r ((left : List ℕ) × JournalStands journal (bodies_of commands) left
+              × (is_clean journal ≡ false → (left ≡ spelling_of command) ⊎ ((is_clean old.journal ≡ false)
+              × (left ≡ (stands.inside.journal honest).last)))))
+              err (recorded honest).failed in
               let holds : g.honest (disk_of old) → JournalHolds journal opening (turns ++ entry ∷ []) = λ honest.
               record {
                 last = (failed honest).0;
@@ -348,6 +351,7 @@ module _ {D : Type 0} {g : Ghosts D} where
               record {
                 history = record { legal = legal-push opening turns entry stands.history.legal (due, fresh); counted = ap length kept };
                 kept = kept;
+                ledger = old.books.kept.booked ∙ ap ledger_of kept;
                 honesty = (λ honest. honesty.0 (stands.honesty.0 honest), λ honest. stands.honesty.1 (honesty.1 honest));
                 images_now = λ (honest : g.honest (begun_of old)). holds_now journal opening (turns ++ entry ∷ [])
                     (valid_after old (turns ++ entry ∷ []) kept) (accepted_after old (turns ++ entry ∷ []) kept)
@@ -365,3 +369,14 @@ module _ {D : Type 0} {g : Ghosts D} where
                   journal = λ honest. holds (honesty.1 honest);
                 };
               }
+
+  -- the disk that an office leaves
+  pub left_by : (state : OfficeState D g) (turns : List Entry) → StandsFor state turns
+      → IsLeftBy g (begun_of state) (disk_of state) (opening_of state) turns
+  left_by state turns stands = record {
+    honesty = stands.honesty;
+    faults = stands.fault_count;
+    now = stands.images_now;
+    since = λ honest. (stands.images_since honest).since;
+    synced = λ honest. (stands.images_since honest).synced;
+  }

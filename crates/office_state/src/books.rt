@@ -1,23 +1,27 @@
-// The books: the accepted commands, and the policies that they leave.
+// The books: the accepted commands, and the policies and balances that they leave.
 ghost use Rattle.std.specs.Prelude.{◌≡◌, ◌+◌, ◌<◌, ◌≤◌, ◌++◌, [], ◌∷◌, Ok, Some, IsOk, IfOk, OnOk, length, take, slice_get};
 ghost use Rattle.policy_types.specs.Limits.{most_commands};
 ghost use Rattle.policy_types.specs.Valid.{IsValid, id_of};
+ghost use Rattle.policy_machine.specs.Accounts.{ledger_of};
 ghost use Rattle.policy_machine.specs.Book.{book, policy_of};
+ghost use Rattle.money_ledgers.specs.Balances.{balances};
 ghost use Rattle.policy_machine.specs.Rules.{next};
 ghost use Rattle.office_state.specs.inside.Keeping.{Keeps, Keeps-prop};
 
 use crate::folding::{issues_in, policy_after};
 use indexmap::IndexMap;
+use money_ledgers::Ledger;
 use policy_machine::decide;
 use policy_types::{Command, NoMemory, Policy, Refusal};
 use std::alloc::Global;
 
-/// The accepted commands in order, and the policies by their numbers, in order of issue.
+/// The accepted commands in order, the policies by their numbers in order of issue, and the ledger.
 #[derive(Drop)]
 pub(crate) struct Books {
     pub(crate) commands: Vec<Command>,
     pub(crate) policies: IndexMap<u32, Policy>,
-    ghost kept: { Keeps policies commands.items } by { Keeps-prop policies commands.items },
+    pub(crate) ledger: Ledger,
+    ghost kept: { Keeps policies ledger commands.items } by { Keeps-prop policies ledger commands.items },
 }
 
 impl Books {
@@ -34,7 +38,11 @@ impl Books {
         let Ok(policies) = IndexMap::with_capacity(alloc, room) else {
             return Err(NoMemory);
         };
-        Ok(Books { commands, policies })
+        Ok(Books {
+            commands,
+            policies,
+            ledger: Ledger::new(),
+        })
     }
 
     /// Makes room for so many commands more.
@@ -70,6 +78,7 @@ impl Books {
         ensures commands { commands_in self.new ≡ commands_in self.old ++ command.now ∷ [] }
         ensures room { room_in self.old ≤ room_in self.new + 1 }
     {
+        self.ledger.post(command, &policy);
         let Ok(_) = self.policies.insert(policy.id, policy) else {
             unreachable!()
         };
@@ -81,6 +90,13 @@ impl Books {
         ensures { result ≡ length (commands_in self.now) }
     {
         self.commands.len() as u32
+    }
+
+    /// The balances.
+    pub(crate) fn ledger(&self) -> Ledger
+        ensures { balances result ≡ ledger_of (commands_in self.now) }
+    {
+        self.ledger
     }
 
     /// How many policies there are after the first `p` commands.

@@ -10,15 +10,20 @@ use Rattle.policy_types.specs.declared.command.Plan.TheVariants.{Term, Whole, En
 use Rattle.policy_types.specs.declared.policy.Policy.{Policy}
 use Rattle.policy_types.specs.Limits.{most_commands}
 use Rattle.policy_types.specs.Valid.{IsValid}
+use Rattle.money_ledgers.specs.Balances.{balances}
+use Rattle.money_ledgers.specs.declared.ledger.Ledger.{Ledger}
+use Rattle.policy_machine.specs.Accounts.{ledger_of}
 use Rattle.policy_machine.specs.Book.{policy_of, issue_id, IsAccepted, IsAcceptedAfter}
 
--- the policies are those of the commands by their numbers, in order of issue
-pub record Keeps {S : Type 0} (policies : IndexMap ℕ Policy S) (commands : List Command) : Type 0 where
+-- the policies are those of the commands by their numbers, in order of issue, and the balances are theirs
+pub record Keeps {S : Type 0} (policies : IndexMap ℕ Policy S) (ledger : Ledger) (commands : List Command)
+    : Type 0 where
   pub valid : AllByRecursion IsValid commands
   pub accepted : IsAccepted commands
   pub few : length commands ≤ most_commands
   pub in_order : keys policies ≡ filter_map issue_id commands
   pub found : (id : ℕ) → get nat_eq policies id ≡ policy_of commands id
+  pub booked : balances ledger ≡ ledger_of commands
 
 IsValid-prop : (command : Command) → IsProp (IsValid command)
 IsValid-prop (Issue id day Whole age years amount premium) = Prim.hlevel props
@@ -38,5 +43,6 @@ IsAcceptedAfter-prop before [] = Unit-prop
 IsAcceptedAfter-prop before (command ∷ commands) = ×_prop (Prim.hlevel props) (IsAcceptedAfter-prop (before ++ command ∷ []) commands)
 
 -- it has one proof at most
-pub Keeps-prop : {S : Type 0} (policies : IndexMap ℕ Policy S) (commands : List Command) → IsProp (Keeps policies commands)
-Keeps-prop policies commands = Prim.hlevel (props, IsValid-prop, IsAcceptedAfter-prop)
+pub Keeps-prop : {S : Type 0} (policies : IndexMap ℕ Policy S) (ledger : Ledger) (commands : List Command)
+    → IsProp (Keeps policies ledger commands)
+Keeps-prop policies ledger commands = Prim.hlevel (props, IsValid-prop, IsAcceptedAfter-prop)

@@ -11,7 +11,7 @@ pub overflow_cast-result : goal.overflow_cast-result
 overflow_cast-result c =
     let books = c.args.self.now in
     let many : c.len.result ≡ length (filter_map issue_id (commands_in books)) =
-    c.len.ensures.len ∙ length-keys books.policies (commands_in books) books.kept in
+    c.len.ensures.len ∙ length-keys books.policies books.ledger (commands_in books) books.kept in
     omega (arith, many, length-issues (commands_in books), books.kept.few)
 
 pub returns-then-p-count : goal.returns-then-p-count
@@ -19,7 +19,7 @@ returns-then-p-count c =
     let books = c.args.self.now in
     let commands = commands_in books in
     let all = c.if-p-count.true ∙ c.count.ensures in
-    c.len.ensures.len ∙ length-keys books.policies commands books.kept ∙ sym (length-book commands books.kept.accepted)
+    c.len.ensures.len ∙ length-keys books.policies books.ledger commands books.kept ∙ sym (length-book commands books.kept.accepted)
     ∙ ap (λ cs. length (book cs)) (sym (take-length commands)) ∙ ap (λ p. length (book (take p commands))) (sym all)
 
 pub returns : goal.returns

@@ -18,7 +18,7 @@ returns-in-Ok-clause-opened g c =
     } in
     MatchResult-weaker c.office_of.result c.office_of.ensures.opened
     (λ state made. made_office g.D.Disk c.args.disk c.in-Ok.journal started state
-        (subst (λ begun. IsOfficeOf c.in-Ok.journal begun state) c.of-begun.ensures made) g.met.D.Disk.counts_now)
+    (subst (λ begun. IsOfficeOf c.in-Ok.journal begun state) c.of-begun.ensures made) g.met.D.Disk.counts_now)
     (λ fault u. u)
 
 pub returns-in-Ok-clause-refused : goal.returns-in-Ok-clause-refused
