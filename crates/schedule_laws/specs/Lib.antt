@@ -2,3 +2,4 @@ pub mod Prefixes
 pub mod PinnedReads
 pub mod Growth
 pub mod Balances
+pub mod Replies

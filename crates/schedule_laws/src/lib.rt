@@ -6,3 +6,4 @@ pub mod balances;
 pub mod growth;
 pub mod pinned_reads;
 pub mod prefixes;
+pub mod replies;
