@@ -129,5 +129,20 @@ begin "closed pipe"
 judge "$(cat status)" 7 "$nothing"
 leaves "$one_day"
 
+# a limit of 512 bytes on the size of files: seven records fit, the others meet a fault each, and the run goes on
+begin "size limit"
+for n in 1 2 3 4 5 6 7 8 9; do echo "1,issue,$n,2020-01-01,endowment,0,3,1000.00,400.00"; done >nine.csv
+for n in 1 2 3 4 5 6 7; do echo "1,issue,$n,accepted,$n"; done >wanted
+for n in 8 9; do echo "1,issue,$n,fault"; done >>wanted
+(ulimit -f 1 && "$root/life" run <nine.csv >out)
+judge $? 8 wanted
+{
+    head -n 7 wanted | sed 's/accepted,.*/refused,taken/'
+    echo "1,issue,8,accepted,8"
+    echo "1,issue,9,accepted,9"
+} >again
+"$root/life" run <nine.csv >out
+judge $? 0 again
+
 [ "$failed" = 0 ] && echo "program: the program runs as a user runs it"
 exit "$failed"

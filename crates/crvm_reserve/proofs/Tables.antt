@@ -1,6 +1,6 @@
 -- What a table and the columns made from it say of the covers.
 use Rattle.std.proofs.Common.{◌≡◌, ℕ, ◌+◌, ◌-◌, ◌*◌, ◌<◌, ◌≤◌, refl, ap, ◌∙◌, arith, min, length, true, add-zero}
-use Rattle.std.proofs.Math.Nat.{le_trans, min_comm, mul-le-mul_right}
+use Rattle.std.proofs.Math.Nat.{le_trans, min_comm, mul-le-mul_left, mul-le-mul_right}
 use Rattle.std.proofs.lemmas.Nat.{mul-le}
 use Rattle.rate_table.specs.Rates.{Rates, ONE, AreRates, rate_at, last_age_of}
 use Rattle.rate_table.specs.declared.shape.Shape.{Shape}
@@ -9,6 +9,7 @@ use Rattle.present_value.specs.Sums.{Cover, cover_of}
 use Rattle.present_value.specs.Premium.{cap_of, cap_shape}
 use Rattle.present_value.specs.Values.{CanValue, AreColumns, pair_at}
 use Rattle.present_value.specs.declared.pair.Columns.{Columns}
+use Rattle.present_value.proofs.Quotients.{up-le}
 use Rattle.present_value.proofs.Steps.{ben_hi-most, ben_lo-most, ann_lo-least, ann_lo-most, ann_hi-most}
 use Rattle.crvm_reserve.specs.Rounded.{term_lo, term_hi, level_lo, level_hi, excess_lo, excess_hi, beta_lo, beta_hi, reserve_lo, reserve_hi, amount_lo, amount_hi}
 use Rattle.crvm_reserve.specs.Made.{CanReserve, IsReserved, AreMadeFor}
@@ -86,7 +87,7 @@ due_at c columns t is are paid =
       ben_hi = rw (are.benefits.within t within) (ben_hi-most c t is.rates);
     }
 
-pub cap_is_cover : (table : Rates) (age bp : ℕ) → AreRates table → table.first_age ≤ age → age + 2 ≤ table.first_age + length table.rates
+pub cap_is_cover : (table : Rates) (age bp : ℕ) → AreRates table → table.first_age ≤ age + 1 → age + 2 ≤ table.first_age + length table.rates
     → IsCover (cap_of table age bp) × (0 < (cap_of table age bp).h)
 cap_is_cover table age bp are first last =
     let ages = are.ages in (
@@ -181,3 +182,9 @@ amount_lo_is c cap amount t unit p = rw p refl
 pub amount_hi_is : (c cap : Cover) (amount t unit : ℕ) → unit ≡ reserve_hi c cap t → up (amount * unit) UNIT ≡ amount_hi c cap amount t
 unfolding amount_hi
 amount_hi_is c cap amount t unit p = rw p refl
+
+-- the reserve of an amount is at most the amount
+pub amount_hi-most : (c cap : Cover) (amount t : ℕ) → IsReserved c cap → amount_hi c cap amount t ≤ amount
+unfolding amount_hi
+amount_hi-most c cap amount t is =
+    up-le (amount * reserve_hi c cap t) UNIT amount (omega arith) (mul-le-mul_left amount (reserve_hi-most c cap t is))

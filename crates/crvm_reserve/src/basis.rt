@@ -9,10 +9,8 @@ ghost use Rattle.crvm_reserve.specs.Rounded.{level_lo, level_hi, excess_lo, exce
 ghost use Rattle.crvm_reserve.specs.Made.{CanReserve, AreMadeFor, premium_of};
 
 use crate::premium::Premium;
-use present_value::{Columns, Pair, columns, quotient_down, quotient_up};
+use present_value::{Columns, Pair, UNITS_IN_ONE, columns, quotient_down, quotient_up};
 use rate_table::{RateTable, Shape};
-
-const UNITS_IN_ONE: u128 = 10_000_000_000_000_000;
 
 /// The modified net premium of a shape by a table, at an interest in basis points.
 pub fn basis_premium(table: &RateTable, shape: &Shape, bp: u16, columns: &Columns) -> Premium
@@ -70,7 +68,7 @@ fn first_year_premium(table: &RateTable, age: u8, bp: u16) -> Pair
 {
     let rate = table.rate(age).unwrap();
     let denominator = 1_000_000_000 * (10_000 + bp as u128);
-    let dividend = 10_000 * rate as u128 * UNITS_IN_ONE;
+    let dividend = 10_000 * rate as u128 * UNITS_IN_ONE as u128;
     Pair {
         lo: quotient_down(dividend, denominator),
         hi: quotient_up(dividend, denominator),
@@ -87,15 +85,21 @@ fn level_premium(benefits: Pair, premiums: Pair) -> Pair
     ensures hi { result.hi ≡ up (benefits.hi * UNIT) premiums.lo }
 {
     Pair {
-        lo: quotient_down(benefits.lo as u128 * UNITS_IN_ONE, premiums.hi as u128),
-        hi: quotient_up(benefits.hi as u128 * UNITS_IN_ONE, premiums.lo as u128),
+        lo: quotient_down(
+            benefits.lo as u128 * UNITS_IN_ONE as u128,
+            premiums.hi as u128,
+        ),
+        hi: quotient_up(
+            benefits.hi as u128 * UNITS_IN_ONE as u128,
+            premiums.lo as u128,
+        ),
     }
 }
 
 /// The level premium of the whole life plan with nineteen premiums at the next age.
 fn cap_premium(table: &RateTable, age: u8, bp: u16) -> Pair
     requires interest { bp ≤ 2000 }
-    requires first { table.now.first_age ≤ age }
+    requires first { table.now.first_age ≤ age + 1 }
     requires last { age + 2 ≤ table.now.first_age + length table.now.rates }
     ensures lo { result.lo ≡ level_lo (cap_of table.now age bp) 0 }
     ensures hi { result.hi ≡ level_hi (cap_of table.now age bp) 0 }

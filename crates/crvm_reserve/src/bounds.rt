@@ -5,9 +5,7 @@ ghost use Rattle.crvm_reserve.specs.Rounded.{reserve_lo, reserve_hi, rounded};
 ghost use Rattle.crvm_reserve.specs.Made.{AreMade, AreMadeFor, AreClose};
 
 use crate::premium::Premium;
-use present_value::{Columns, Pair, quotient_down, quotient_up};
-
-const UNITS_IN_ONE: u128 = 10_000_000_000_000_000;
+use present_value::{Columns, Pair, UNITS_IN_ONE, quotient_down, quotient_up};
 
 /// A lower and an upper bound of the reserve of an amount at year `t`, in the amount's cents.
 pub fn reserve_bounds(columns: &Columns, premium: &Premium, amount: u64, t: u8) -> (u64, u64)
@@ -18,13 +16,14 @@ pub fn reserve_bounds(columns: &Columns, premium: &Premium, amount: u64, t: u8) 
         → result ≡ rounded c cap amount t }
     ensures exact { (c cap : Cover) → AreMadeFor c cap columns.now premium.now
         → Encloses result.0 result.1 amount (reserve c cap t) }
+    ensures most { result.1 ≤ amount }
     ensures close { (c cap : Cover) → AreMadeFor c cap columns.now premium.now
         → AreClose (reserve_lo c cap t) (reserve_hi c cap t) (reserve c cap t) }
 {
     let reserve = unit_reserve(columns, premium, t);
     (
-        quotient_down(amount as u128 * reserve.lo as u128, UNITS_IN_ONE),
-        quotient_up(amount as u128 * reserve.hi as u128, UNITS_IN_ONE),
+        quotient_down(amount as u128 * reserve.lo as u128, UNITS_IN_ONE as u128),
+        quotient_up(amount as u128 * reserve.hi as u128, UNITS_IN_ONE as u128),
     )
 }
 
@@ -37,8 +36,14 @@ fn unit_reserve(columns: &Columns, premium: &Premium, t: u8) -> Pair
 {
     let benefits = columns.ben[t as usize];
     let annuity = columns.ann[t as usize];
-    let most = quotient_up(premium.hi as u128 * annuity.hi as u128, UNITS_IN_ONE);
-    let least = quotient_down(premium.lo as u128 * annuity.lo as u128, UNITS_IN_ONE);
+    let most = quotient_up(
+        premium.hi as u128 * annuity.hi as u128,
+        UNITS_IN_ONE as u128,
+    );
+    let least = quotient_down(
+        premium.lo as u128 * annuity.lo as u128,
+        UNITS_IN_ONE as u128,
+    );
     Pair {
         lo: benefits.lo.saturating_sub(most),
         hi: benefits.hi.saturating_sub(least),

@@ -5,17 +5,27 @@ use std::alloc::{AllocError, Global};
 use std::process::Abort;
 use std::test::Fail;
 
-/// Five ages, with the rates 0.1, 0.2, 0.25, 0.5 and 1.
-const Q: bool = false;
-/// 121 ages, with the rate 600 units of 10^-9 times the cube of the age, and at most 1.
-const G: bool = true;
+/// The tables of the cases.
+#[derive(Clone, Copy)]
+enum Rates {
+    /// The ages 0 to 4, with the rates 0.1, 0.2, 0.25, 0.5 and 1.
+    Q,
+    /// The ages 0 to 120, with the rate 600 units of 10^-9 times the cube of the age, and at most 1.
+    G,
+    /// The ages 0 to 4, with the rates 0.1, 0.2, 0.25, 0.5 and 0.5: whoever is left at the end survives.
+    Survived,
+    /// The ages 40 to 44, with the rates 0.4, 0.01, 0.02, 0.5 and 1: the first year's premium is above the level one.
+    Steep,
+}
+
+use Rates::{G, Q, Steep, Survived};
 
 /// Table, age, years of cover, years of premiums, whether it matures, basis points, amount, year, and
 /// the lower and the upper bound.
-type Case = (bool, u8, u8, u8, bool, u16, u64, u8, u64, u64);
+type Case = (Rates, u8, u8, u8, bool, u16, u64, u8, u64, u64);
 
 /// Cases that an actuary can follow by hand.
-const BY_HAND: [Case; 13] = [
+const BY_HAND: [Case; 21] = [
     (Q, 0, 3, 3, true, 0, 100000, 1, 12722, 12723),
     (Q, 0, 3, 3, true, 0, 100000, 2, 51512, 51513),
     (Q, 0, 3, 3, true, 0, 100000, 3, 100000, 100000),
@@ -29,6 +39,16 @@ const BY_HAND: [Case; 13] = [
     (Q, 0, 5, 2, true, 0, 100000, 2, 100000, 100000),
     (Q, 3, 2, 2, true, 0, 100000, 1, 0, 0),
     (Q, 3, 2, 2, true, 0, 100000, 2, 100000, 100000),
+    // the plan of the cap pays the survivor too
+    (Survived, 0, 3, 3, true, 0, 100000, 0, 0, 0),
+    (Survived, 0, 3, 3, true, 0, 100000, 1, 12722, 12723),
+    (Survived, 0, 3, 3, true, 0, 100000, 2, 51512, 51513),
+    (Survived, 0, 3, 3, true, 0, 100000, 3, 100000, 100000),
+    // no excess is below 0
+    (Steep, 40, 3, 3, true, 0, 100000, 0, 0, 1),
+    (Steep, 40, 3, 3, true, 0, 100000, 1, 9298, 9299),
+    (Steep, 40, 3, 3, true, 0, 100000, 2, 54421, 54422),
+    (Steep, 40, 3, 3, true, 0, 100000, 3, 100000, 100000),
 ];
 
 /// A hundred shapes drawn at random. Their bounds were computed outside this program, by the rounded
@@ -137,24 +157,39 @@ const DRAWN: [Case; 100] = [
     (G, 33, 38, 38, true, 400, 1, 30, 0, 1),
 ];
 
-fn table_of(alloc: Global, table: bool) -> Result<Option<RateTable>, AllocError> {
+fn table_of(alloc: Global, table: Rates) -> Result<Option<RateTable>, AllocError> {
+    let table = match table {
+        Q => RateTable::new(
+            0,
+            millionths(alloc, [100_000, 200_000, 250_000, 500_000, 1_000_000])?,
+        ),
+        Survived => RateTable::new(
+            0,
+            millionths(alloc, [100_000, 200_000, 250_000, 500_000, 500_000])?,
+        ),
+        Steep => RateTable::new(
+            40,
+            millionths(alloc, [400_000, 10_000, 20_000, 500_000, 1_000_000])?,
+        ),
+        G => RateTable::new(0, cubes(alloc)?),
+    };
+    Ok(table.ok())
+}
+
+fn millionths(alloc: Global, millionths: [u32; 5]) -> Result<Vec<u32>, AllocError> {
     let mut rates = Vec::new(alloc);
-    if table == G {
-        for age in 0..121u64 {
-            rates.push((600 * age * age * age).min(1_000_000_000) as u32)?;
-        }
-    } else {
-        for rate in [
-            100_000_000,
-            200_000_000,
-            250_000_000,
-            500_000_000,
-            1_000_000_000u32,
-        ] {
-            rates.push(rate)?;
-        }
+    for rate in millionths {
+        rates.push(rate * 1000)?;
     }
-    Ok(RateTable::new(0, rates).ok())
+    Ok(rates)
+}
+
+fn cubes(alloc: Global) -> Result<Vec<u32>, AllocError> {
+    let mut rates = Vec::new(alloc);
+    for age in 0..121u64 {
+        rates.push((600 * age * age * age).min(1_000_000_000) as u32)?;
+    }
+    Ok(rates)
 }
 
 /// The bounds, where the shape fits the table.

@@ -12,7 +12,7 @@ use Rattle.command_csv.specs.Reads.{IsIssueLine}
 use Rattle.life_app.specs.declared.office.Answer.{Answer}
 use Rattle.life_app.specs.declared.office.Office.{Office}
 use Rattle.life_app.specs.Journals.{IsRecordable}
-use Rattle.life_app.specs.Books.{GoesOn, StandsAfter, turn_of, turns_made}
+use Rattle.life_app.specs.inside.Books.{GoesOn, StandsAfter, turn_of, turns_made}
 
 -- a script's line is a valid issue
 pub issue_command : (command : Command) → IsIssueLine (PostLine command) → IsRecordable command

@@ -10,3 +10,4 @@ pub mod TextSteps
 pub mod MergeSteps
 pub mod RunSteps
 pub mod ProgramSteps
+mod CrashLaws

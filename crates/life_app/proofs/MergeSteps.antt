@@ -1,5 +1,5 @@
 -- The turns of one clerk's answered lines make a run
-use Rattle.std.proofs.Common.{◌≡◌, ℕ, ◌+◌, ◌==◌, ◌||◌, Bool, true, false, List, [], ◌∷◌, ◌++◌, length, refl, ap, sym, ◌∙◌, lit<, arith}
+use Rattle.std.proofs.Common.{◌≡◌, ℕ, ◌+◌, ◌==◌, ◌||◌, Bool, true, false, List, [], ◌∷◌, ◌++◌, length, map, refl, ap, sym, ◌∙◌, lit<, arith}
 use Rattle.std.specs.List.{AllByRecursion, Contains, IsDistinct, enumerate_from, filter, flat_map, list_any}
 use Rattle.std.proofs.lemmas.Bool.{cond-true, eq-eqb}
 use Rattle.policy_types.specs.declared.command.Command.{Command}
@@ -7,15 +7,15 @@ use Rattle.policy_types.specs.declared.entry.Entry.{Entry}
 use Rattle.life_app.specs.Images.{HasFaulted}
 use Rattle.policy_types.specs.declared.script.Line.{Line}
 use Rattle.policy_types.specs.declared.script.Line.TheVariants.{Post as PostLine, Value, Trim}
-use Rattle.policy_types.specs.declared.script.Lane.{Lane}
-use Rattle.policy_machine.specs.Merge.{AnswersLines, Placed, IsMerge}
+use Rattle.policy_machine.specs.Merge.{AnswersLine, AnswersLines, Placed, IsMerge}
 use Rattle.command_csv.specs.Reads.{IsIssueLine, lane_of}
 use Rattle.life_app.specs.declared.office.Answer.{Answer}
 use Rattle.life_app.specs.declared.office.Answer.TheVariants.{Accepted as AcceptedAt, Taken as IsTaken, Full as IsFull, Faulted as FaultedAt}
-use Rattle.life_app.specs.Books.{is_faulted, reply_of, turn_of, turns_made}
+use Rattle.life_app.specs.inside.Books.{is_faulted, reply_of, turn_of, turns_made}
 use Rattle.life_app.specs.Outcome.{AreAnswered, AreTried, IsAnswered, IsTried}
-use Rattle.life_app.specs.Transcript.{clerk_of, turn_text, transcript_text}
-use Rattle.life_app.proofs.TextSteps.{text_of}
+use Rattle.life_app.specs.AnsweredLines.{AnsweredLine, AreLinesOf, AreRising, lines_by, turns_in}
+use Rattle.life_app.specs.inside.Parts.{lines_text}
+use Rattle.life_app.specs.Transcript.{line_text, transcript_text}
 
 or_none : (a b : Bool) → (a || b) ≡ false → (a ≡ false) × (b ≡ false)
 or_none true b none = absurd (cc)
@@ -151,18 +151,79 @@ is_merge (line ∷ lines) answers issues each =
       answers = (rw (all_turns 1 0 history theirs) (answered_lines 1 0 (line ∷ lines) answers issues each), tt);
     }
 
-same_text : (lane : Lane) (history : List Entry) → lane.number ≡ 1 → AreTheirs 1 history
-    → transcript_text (lane ∷ []) (1 ∷ []) history ≡ flat_map (text_of 1) history
-same_text lane [] number theirs = refl
-same_text lane (entry ∷ history) number theirs =
-    let here : (1 == entry.caller) ≡ true = eq-eqb 1 entry.caller (sym theirs.0) in
-    let clerk : clerk_of (lane ∷ []) (1 ∷ []) entry.caller ≡ 1 = cond-true (1 == entry.caller) _ _ here ∙ number in
-    ap (λ n. turn_text n entry.call entry.reply ++ flat_map (λ (e : Entry). turn_text (clerk_of (lane ∷ []) (1 ∷ []) e.caller) e.call e.reply) history) clerk
-    ∙ ap (λ t. text_of 1 entry ++ t) (same_text lane history number theirs.1)
+-- the lines beside their answers, one turn each, from a place on
+abbrev pub answered_from : ℕ → List Line → List Answer → List AnsweredLine
+answered_from n (line ∷ lines) (answer ∷ answers) =
+    (record { clerk = 1; line = line; first = (n, turn_of 1 line answer); rest = [] }) ∷ answered_from (n + 1) lines answers
+answered_from n _ _ = []
 
--- the transcript is the text of the turns
-pub text_of_turns : (lines : List Line) (answers : List Answer)
-    → transcript_text (lane_of 1 lines) (callers_of lines) (turns_made 1 lines answers) ≡ flat_map (text_of 1) (turns_made 1 lines answers)
-text_of_turns [] answers = refl
-text_of_turns (line ∷ lines) answers =
-    same_text (record { number = 1; lines = line ∷ lines }) (turns_made 1 (line ∷ lines) answers) refl (are_theirs 1 (line ∷ lines) answers)
+are_rising : (n : ℕ) (lines : List Line) (answers : List Answer)
+    → AreRising (map (λ (one : AnsweredLine). one.first.0) (answered_from n lines answers))
+are_rising n [] answers = tt
+are_rising n (line ∷ lines) [] = tt
+are_rising n (line ∷ []) (answer ∷ answers) = tt
+are_rising n (line ∷ other ∷ lines) (answer ∷ []) = tt
+are_rising n (line ∷ other ∷ lines) (answer ∷ next ∷ answers) =
+    (omega arith, are_rising (n + 1) (other ∷ lines) (next ∷ answers))
+
+are_clerks : (n : ℕ) (lines : List Line) (answers : List Answer)
+    → AllByRecursion (λ (one : AnsweredLine). Contains (1 ∷ []) one.clerk) (answered_from n lines answers)
+are_clerks n [] answers = tt
+are_clerks n (line ∷ lines) [] = tt
+are_clerks n (line ∷ lines) (answer ∷ answers) = ((0, lit< tt, refl), are_clerks (n + 1) lines answers)
+
+are_turns : (n : ℕ) (lines : List Line) (answers : List Answer) → AllByRecursion IsIssueLine lines
+    → AllByRecursion (λ (one : AnsweredLine). AnswersLine [] one.line (turns_in one)) (answered_from n lines answers)
+are_turns n [] answers issues = tt
+are_turns n (line ∷ lines) [] issues = tt
+are_turns n (PostLine command ∷ lines) (answer ∷ answers) issues = (refl, are_turns (n + 1) lines answers issues.1)
+are_turns n (Value on at workers ∷ lines) (answer ∷ answers) issues = absurd issues.0
+are_turns n (Trim ∷ lines) (answer ∷ answers) issues = absurd issues.0
+
+-- all of them are clerk 1's
+all_by : (n : ℕ) (lines : List Line) (answers : List Answer)
+    → lines_by 1 (answered_from n lines answers) ≡ answered_from n lines answers
+all_by n [] answers = refl
+all_by n (line ∷ lines) [] = refl
+all_by n (line ∷ lines) (answer ∷ answers) = ap (λ later. (record { clerk = 1; line = line; first = (n, turn_of 1 line answer); rest = [] }) ∷ later) (all_by (n + 1) lines answers)
+
+all_lines : (n : ℕ) (lines : List Line) (answers : List Answer) → length answers ≡ length lines
+    → map (λ (one : AnsweredLine). one.line) (answered_from n lines answers) ≡ lines
+all_lines n [] answers each = refl
+all_lines n (line ∷ lines) [] each = absurd (omega arith)
+all_lines n (line ∷ lines) (answer ∷ answers) each = ap (λ later. line ∷ later) (all_lines (n + 1) lines answers (omega (arith, each)))
+
+all_theirs : (n : ℕ) (lines : List Line) (answers : List Answer)
+    → flat_map turns_in (answered_from n lines answers) ≡ enumerate_from n (turns_made 1 lines answers)
+all_theirs n [] answers = refl
+all_theirs n (line ∷ lines) [] = refl
+all_theirs n (line ∷ lines) (answer ∷ answers) = ap (λ later. (n, turn_of 1 line answer) ∷ later) (all_theirs (n + 1) lines answers)
+
+-- they are the lines of the run
+pub are_lines_of : (lines : List Line) (answers : List Answer) → AllByRecursion IsIssueLine lines
+    → length answers ≡ length lines
+    → AreLinesOf (answered_from 0 lines answers) (turns_made 1 lines answers) (lane_of 1 lines) (callers_of lines) []
+are_lines_of [] answers issues each = record { rising = tt; clerks = tt; turns = tt; each = tt }
+are_lines_of (line ∷ lines) answers issues each =
+    let history = turns_made 1 (line ∷ lines) answers in
+    record {
+      rising = are_rising 0 (line ∷ lines) answers;
+      clerks = are_clerks 0 (line ∷ lines) answers;
+      turns = are_turns 0 (line ∷ lines) answers issues;
+      each = (
+        ap (map (λ (one : AnsweredLine). one.line)) (all_by 0 (line ∷ lines) answers) ∙ all_lines 0 (line ∷ lines) answers each,
+        ap (flat_map turns_in) (all_by 0 (line ∷ lines) answers) ∙ all_theirs 0 (line ∷ lines) answers
+            ∙ sym (all_turns 1 0 history (are_theirs 1 (line ∷ lines) answers)),
+        tt,
+      );
+    }
+
+-- and the transcript is their text
+pub text_of_lines : (n : ℕ) (lines : List Line) (answers : List Answer) → AllByRecursion IsIssueLine lines
+    → transcript_text (answered_from n lines answers) ≡ lines_text 1 lines answers
+text_of_lines n [] answers issues = refl
+text_of_lines n (line ∷ lines) [] issues = refl
+text_of_lines n (PostLine command ∷ lines) (answer ∷ answers) issues =
+    ap (λ later. line_text 1 (PostLine command) (reply_of answer) ++ later) (text_of_lines (n + 1) lines answers issues.1)
+text_of_lines n (Value on at workers ∷ lines) (answer ∷ answers) issues = absurd issues.0
+text_of_lines n (Trim ∷ lines) (answer ∷ answers) issues = absurd issues.0

@@ -21,10 +21,10 @@ use Rattle.posting_journal.specs.Files.{IsJournal}
 use Rattle.posting_journal.specs.States.{StandsFor, count_of, disk_of, is_clean}
 use Rattle.posting_journal.specs.declared.journal.Journal.{Journal}
 use Rattle.life_app.specs.declared.office.Office.{Office}
-use Rattle.life_app.specs.Books.{GoesOn, JournalHolds, Keeps, StandsAfter}
+use Rattle.life_app.specs.inside.Books.{GoesOn, JournalHolds, Keeps, StandsAfter}
 use Rattle.life_app.specs.Images.{HoldsOnce, IsPending}
 use Rattle.life_app.specs.Journals.{IsRecordable, JournalBytes, bodies_of}
-use Rattle.life_app.specs.Records.{Records}
+use Rattle.life_app.specs.inside.Records.{Records}
 use Rattle.life_app.proofs.HistorySteps.{all_up_to, commands-more, commands-same, faults-same, faults_after-more, faults_after-same, faults_met, faults-more, holds_all, holds_more, holds_once-push, is_fresh, pending-now, pending-push, posting}
 use Rattle.life_app.proofs.PolicySteps.{all-push}
 

@@ -12,10 +12,10 @@ use Rattle.life_app.specs.declared.opening.Cause.{Cause}
 use Rattle.life_app.specs.declared.opening.Cause.TheVariants.{DiskFault, NotAJournal, BadRecord, NoMemory}
 use Rattle.life_app.specs.declared.office.Office.{Office}
 use Rattle.life_app.specs.Journals.{IsRecordable, bodies_of, Opens, IsShown}
-use Rattle.life_app.specs.Books.{JournalHolds, StandsAfter}
+use Rattle.life_app.specs.inside.Books.{JournalHolds, StandsAfter}
 use Rattle.policy_machine.specs.History.{opened_on}
-use Rattle.life_app.specs.Opening.{HasOpened, HasNotOpened, TellsFault}
-use Rattle.life_app.specs.Replays.{IsLookedAt, HasStopped, IsStoppedAt, IsOfficeOf, HasNoOffice}
+use Rattle.life_app.specs.inside.Opening.{HasOpened, HasNotOpened, TellsFault}
+use Rattle.life_app.specs.inside.Replays.{IsLookedAt, HasStopped, IsStoppedAt, IsOfficeOf, HasNoOffice}
 use Rattle.life_app.proofs.ReplaySteps.{all_replayed, stopped_shown}
 use Rattle.life_app.proofs.OpeningSteps.{CountsNow, IsStarted, ReadsImage, opening_keeps, looked_on, holds_once, looked_alone, looked_ever, synced_images, opens_commands, started_later}
 

@@ -1,5 +1,5 @@
 -- What is known of the disk and its images once a journal was started, or couldn't be
-use Rattle.std.proofs.Common.{◌≡◌, ◌⊎◌, ◌↔◌, inl, inr, ⊎_elim, ℕ, ◌≤◌, List, [], ◌∷◌, refl, ◌∙◌, sym, subst, append-nil, arith, IsTrue}
+use Rattle.std.proofs.Common.{◌≡◌, ◌⊎◌, ◌↔◌, inl, inr, ⊎_elim, ℕ, ◌≤◌, List, [], ◌∷◌, refl, sym, subst, append-nil, arith, IsTrue}
 use Rattle.std.specs.List.{AllByRecursion}
 use Rattle.outside_io.specs.declared.disks.Disk.{Ghosts}
 use Rattle.policy_types.specs.declared.command.Command.{Command}
@@ -16,8 +16,8 @@ use Rattle.posting_journal.proofs.Moments.{looks_on}
 use Rattle.life_app.specs.Journals.{IsRecordable, bodies_of, Opens, OpensToNone, IsShown}
 use Rattle.life_app.specs.Images.{HoldsOnce, IsLeftAlone, OpensAlike}
 use Rattle.policy_machine.specs.History.{opened_on}
-use Rattle.life_app.specs.Opening.{HasNotOpened, TellsFault, as_cause}
-use Rattle.life_app.specs.Replays.{IsLookedAt}
+use Rattle.life_app.specs.inside.Opening.{HasNotOpened, TellsFault, as_cause}
+use Rattle.life_app.specs.inside.Replays.{IsLookedAt}
 use Rattle.life_app.proofs.JournalLaws.{opens_to_one}
 
 no_bodies : (commands : List Command) → bodies_of commands ≡ [] → commands ≡ []

@@ -14,7 +14,7 @@ use Rattle.policy_machine.specs.Rules.{next, issued}
 use Rattle.policy_machine.specs.Book.{policy_of, issue_id, kept}
 use Rattle.policy_machine.proofs.BookLemmas.{IsAccepted-push, policy_of-push_own, policy_of-push_other}
 use Rattle.record_codec.specs.Spelling.{IsIssuing}
-use Rattle.life_app.specs.Books.{Keeps}
+use Rattle.life_app.specs.inside.Books.{Keeps}
 use Rattle.life_app.specs.Journals.{IsRecordable}
 
 -- an issue is one that gives a number

@@ -12,7 +12,7 @@ use Rattle.posting_journal.specs.declared.journal.Journal.{Journal}
 use Rattle.life_app.specs.declared.opening.Cause.{Cause}
 use Rattle.life_app.specs.declared.opening.Cause.TheVariants.{DiskFault, NotAJournal, BadRecord, NoMemory}
 use Rattle.life_app.specs.Journals.{bodies_of, IsUnfollowed, IsUnspelled}
-use Rattle.life_app.specs.Replays.{StaysAs, BodiesHave, IsStuck, AreReplayed, IsStoppedAt, HasStopped}
+use Rattle.life_app.specs.inside.Replays.{StaysAs, BodiesHave, IsStuck, AreReplayed, IsStoppedAt, HasStopped}
 
 module _ {D S : Type 0} (g : Ghosts D) (start : Journal D g) where
   stopped_at : (mid : Journal D g) (policies : IndexMap ℕ Policy S) (n : ℕ)

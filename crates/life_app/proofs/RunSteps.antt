@@ -22,16 +22,18 @@ use Rattle.life_app.specs.declared.ending.Ending.TheVariants.{Done, Usage, BadSc
 use Rattle.life_app.specs.declared.intake.Unread.{Unread}
 use Rattle.life_app.specs.declared.intake.Unread.TheVariants.{TooLong, BadRow, ReadFault, NoMemory as OutOfMemory}
 use Rattle.life_app.specs.declared.office.Office.{Office}
-use Rattle.life_app.specs.Books.{AreLanes, GoesOn, StandsAfter, is_faulted, turns_made}
+use Rattle.life_app.specs.inside.Books.{AreLanes, GoesOn, StandsAfter, is_faulted, turns_made}
 use Rattle.life_app.specs.Images.{HoldsNow, HoldsOnce, IsLeftBy}
 use Rattle.life_app.specs.Journals.{bodies_of}
 use Rattle.life_app.specs.declared.opening.Cause.{Cause}
 use Rattle.life_app.specs.declared.opening.Cause.TheVariants.{DiskFault as FaultyDisk, NotAJournal, BadRecord, NoMemory as NoRoom}
-use Rattle.life_app.specs.Opening.{HasNotOpened, HasOpened}
-use Rattle.life_app.specs.Outcome.{AreTried, AreAnswered, EndsRun, HaveAFault, IsRefused, IsRunOf, most_script_bytes, IsReadAs}
-use Rattle.life_app.specs.Parts.{AnswersAll, EndsLines, EndsScript, EndsUnopened, EndsUnread, lines_text}
+use Rattle.life_app.specs.inside.Opening.{HasNotOpened, HasOpened}
+use Rattle.life_app.specs.Obeys.{EndsRun}
+use Rattle.life_app.specs.Outcome.{AreTried, AreAnswered, EndsScript, HaveAFault, IsRunOf}
+use Rattle.life_app.specs.Script.{EndsUnread, IsReadAs, IsRefused, most_script_bytes}
+use Rattle.life_app.specs.inside.Parts.{AnswersAll, EndsLines, SaysUnopened, SaysUnread, lines_text}
 use Rattle.life_app.specs.Writing.{Stream, WroteAll, WroteNothing}
-use Rattle.life_app.proofs.MergeSteps.{all_answered, all_tried, callers_of, has_a_fault, is_merge, text_of_turns}
+use Rattle.life_app.proofs.MergeSteps.{all_answered, all_tried, answered_from, are_lines_of, callers_of, has_a_fault, is_merge, text_of_lines}
 use Rattle.life_app.proofs.HistorySteps.{rose_in}
 use Rattle.life_app.proofs.OpeningSteps.{synced_before}
 use Rattle.life_app.proofs.OfficeSteps.{journal_of, journal_of_more}
@@ -42,14 +44,14 @@ nothing_written None = tt
 nothing_written (Some xs) = sym (append-nil xs)
 
 as_answered : (lines : List Line) (answers : List Answer) (output : Stream) (faulted : Bool) → list_any is_faulted answers ≡ faulted
-    → WroteAll output (lines_text lines answers) → EndsLines lines answers output (if faulted then DiskFault else Done)
+    → WroteAll output (lines_text 1 lines answers) → EndsLines lines answers output (if faulted then DiskFault else Done)
 as_answered lines answers output true is wrote = (is, wrote)
 as_answered lines answers output false is wrote = (is, wrote)
 
 -- a text that is written whole ends a run by its answers
 pub ends_as_answered : (lines : List Line) (answers : List Answer) (output : Stream) (ending : Ending)
     → ending ≡ (if list_any is_faulted answers then DiskFault else Done)
-    → WroteAll output (lines_text lines answers) → EndsLines lines answers output ending
+    → WroteAll output (lines_text 1 lines answers) → EndsLines lines answers output ending
 ends_as_answered lines answers output ending is wrote =
     subst (EndsLines lines answers output) (sym is) (as_answered lines answers output (list_any is_faulted answers) refl wrote)
 
@@ -118,7 +120,7 @@ module _ {D : Type 0} {g : Ghosts D} where
   run_of : (old disk : D) (office : Office D g) (lanes : List Lane) (lines : List Line) (output : Stream) (ending : Ending)
       (Wrote : List ℕ → Type 0) (Replies : List Entry → Type 0) (opened : HasOpened old office) → AreLanes lanes lines
       → (ran : AnswersAll office disk (opened_on opened.commands (g.faults old)) lines output ending)
-      → Wrote (lines_text lines ran.answers) → Replies (turns_made 1 lines ran.answers) → IsRunOf g old disk lanes Wrote Replies
+      → Wrote (lines_text 1 lines ran.answers) → Replies (turns_made 1 lines ran.answers) → IsRunOf g old disk lanes Wrote Replies
   run_of old disk office lanes lines output ending Wrote Replies opened are ran wrote replies =
       let issues = recursion_from_All IsIssueLine lines are.issues in
       subst (λ (ls : List Lane). IsRunOf g old disk ls Wrote Replies) (sym are.one)
@@ -127,10 +129,12 @@ module _ {D : Type 0} {g : Ghosts D} where
         callers = callers_of lines;
         dry = [];
         history = turns_made 1 lines ran.answers;
+        answered = answered_from 0 lines ran.answers;
         opened = opened.opened;
         merge = is_merge lines ran.answers issues ran.each;
         legal = ran.went.stands.legal;
-        wrote = subst Wrote (sym (text_of_turns lines ran.answers)) wrote;
+        lines = are_lines_of lines ran.answers issues ran.each;
+        wrote = subst Wrote (sym (text_of_lines 0 lines ran.answers issues)) wrote;
         replies = replies;
         disk = is_left_by old disk office ran.last (opened_on opened.commands (g.faults old)) (turns_made 1 lines ran.answers) opened refl ran.went ran.left;
       })
@@ -164,13 +168,13 @@ module _ {D : Type 0} {g : Ghosts D} where
   ends_run old disk office lanes lines output InputFault opened are ran = absurd ran.ends
 
 refused_long : (told : Option (List ℕ)) (output : Stream) → IfSome told (λ t. most_script_bytes < length t)
-    → EndsUnread TooLong output BadScript → IfSome told (λ t. IsRefused t output)
+    → SaysUnread TooLong output BadScript → IfSome told (λ t. IsRefused t output)
 refused_long None output long said = tt
 refused_long (Some t) output long said = inl (long, said)
 
 refused_row : (told : Option (List ℕ)) (output : Stream) (row field : ℕ)
     → IfSome told (λ t. (length t ≤ most_script_bytes) × IsFirstFault t row field)
-    → EndsUnread (BadRow row field) output BadScript → IfSome told (λ t. IsRefused t output)
+    → SaysUnread (BadRow row field) output BadScript → IfSome told (λ t. IsRefused t output)
 refused_row None output row field fault said = tt
 refused_row (Some t) output row field fault said = inr (row, (field, fault.0, fault.1, said))
 
@@ -189,7 +193,7 @@ told_lanes (Some t) bytes lanes same read short =
 
 -- what is known of a disk on which no office was opened gives the ending
 pub ends_unopened : {D : Type 0} (g : Ghosts D) (old new : D) (lanes : List Lane) (output : Stream) (cause : Cause) (ending : Ending)
-    → HasNotOpened g old new cause → EndsUnopened cause output ending → EndsScript g old new lanes output ending
+    → HasNotOpened g old new cause → SaysUnopened cause output ending → EndsScript g old new lanes output ending
 ends_unopened g old new lanes output FaultyDisk DiskFault not said = (not.told, inl (said, not.alone))
 ends_unopened g old new lanes output NotAJournal BadJournal not said = record { cause = NotAJournal; line = said; shown = not.shown; quiet = not.told; alone = not.alone }
 ends_unopened g old new lanes output (BadRecord n) BadJournal not said = record { cause = BadRecord n; line = said; shown = not.shown; quiet = not.told; alone = not.alone }
@@ -202,34 +206,17 @@ pub ends_script : {D : Type 0} (g : Ghosts D) (old new : D) (input output : Stre
     → Reads bytes lanes → length bytes ≤ most_script_bytes → IfSome input.before (λ t. t ≡ bytes) → IsAtEnd input.after
     → EndsScript g old new lanes output ending → EndsRun g old new input output ending
 ends_script g old new input output lanes bytes ending read short same end ends =
-    by ending (told_lanes input.before bytes lanes same read short) ends
-  where
-    by : (ending : Ending) → IsReadAs input.before lanes → EndsScript g old new lanes output ending
-        → EndsRun g old new input output ending
-    by Done told ends = (end, record { lanes = lanes; read = told; run = ends })
-    by BadJournal told ends = (end, (lanes, told), ends)
-    by WriteFault told ends = (end, ends.0, record { lanes = lanes; read = told; run = ends.1 })
-    by DiskFault told ends = elim ends.1 [
-      | inl said ↦ (end, ends.0, inl ((lanes, told), said.0, said.1))
-      | inr run ↦ (end, ends.0, inr (record { lanes = lanes; read = told; run = run }))
-    ]
-    by NoMemory told ends = elim ends [
-      | inl said ↦ elim said.1 [
-        | inl untouched ↦ inl (said.0, inl untouched)
-        | inr alone ↦ inl (said.0, inr ((lanes, told), alone.0, alone.1))
-      ]
-      | inr run ↦ inr (record { lanes = lanes; read = told; run = run })
-    ]
-    by Usage told ends = absurd ends
-    by BadScript told ends = absurd ends
-    by InputFault told ends = absurd ends
+    inl (record { lanes = lanes; read = told_lanes input.before bytes lanes same read short; end = end; ends = ends })
 
 -- one that read none leaves the disk
 pub ends_unread : {D : Type 0} (g : Ghosts D) (disk : D) (input output : Stream) (unread : Unread) (ending : Ending)
-    → IsUnread input unread → EndsUnread unread output ending → EndsRun g disk disk input output ending
-ends_unread g disk input output TooLong BadScript is said = (refl, refused_long input.before output (is.too_long refl) said)
-ends_unread g disk input output (BadRow row field) BadScript is said = (refl, refused_row input.before output row field (is.bad_row row field refl) said)
-ends_unread g disk input output (BadRow row field) NoMemory is said = inl (said, inl refl)
-ends_unread g disk input output ReadFault InputFault is said = (refl, is.fault refl, said)
-ends_unread g disk input output OutOfMemory NoMemory is said = inl (said, inl refl)
-ends_unread g disk input output _ _ is said = absurd said
+    → IsUnread input unread → SaysUnread unread output ending → EndsRun g disk disk input output ending
+ends_unread g disk input output unread ending is says = inr (refl, by unread ending is says)
+  where
+    by : (unread : Unread) (ending : Ending) → IsUnread input unread → SaysUnread unread output ending → EndsUnread input output ending
+    by TooLong BadScript is said = refused_long input.before output (is.too_long refl) said
+    by (BadRow row field) BadScript is said = refused_row input.before output row field (is.bad_row row field refl) said
+    by (BadRow row field) NoMemory is said = said
+    by ReadFault InputFault is said = (is.fault refl, said)
+    by OutOfMemory NoMemory is said = said
+    by _ _ is said = absurd said

@@ -2,11 +2,12 @@ pub mod Words
 pub mod Status
 pub mod Journals
 pub mod Images
-pub mod Records
-pub mod Books
-pub mod Opening
-pub mod Replays
+pub mod AnsweredLines
 pub mod Transcript
 pub mod Writing
+pub mod Script
 pub mod Outcome
-pub mod Parts
+pub mod Obeys
+pub mod Crashes
+pub mod Worked
+pub mod inside

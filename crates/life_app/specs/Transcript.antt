@@ -1,5 +1,5 @@
--- The text of a run: one line for each turn that a script's line asks for, in the order of the turns
-use Rattle.std.specs.Prelude.{ℕ, ◌==◌, if◌then◌else◌, List, [], ◌∷◌, ◌++◌, codes, decimal}
+-- The text of a run: for each answered line of the script a line of text, in the order of their first turns
+use Rattle.std.specs.Prelude.{ℕ, List, [], ◌∷◌, ◌++◌, codes, decimal}
 use Rattle.std.specs.List.{flat_map}
 use Rattle.policy_types.specs.declared.command.Command.{Command}
 use Rattle.policy_types.specs.declared.command.Command.TheVariants.{Issue, Premium, Alter, Lapse, Reinstate, Claim, Settle, Mature}
@@ -7,15 +7,14 @@ use Rattle.policy_types.specs.declared.policy.Status.{Status}
 use Rattle.policy_types.specs.declared.policy.Status.TheVariants.{InForce, Lapsed, Claimed, Matured, Expired, Settled}
 use Rattle.policy_types.specs.declared.refusal.Refusal.{Refusal}
 use Rattle.policy_types.specs.declared.refusal.Refusal.TheVariants.{Taken, Unknown, BeforeLast, WrongStatus, TermOver, NothingDue, TooEarly, GraceOver, NotInArrears, TooLate, WrongAmount, NotAReduction, NotMatured, OverSettled, Full}
-use Rattle.policy_types.specs.declared.entry.Call.{Call}
-use Rattle.policy_types.specs.declared.entry.Call.TheVariants.{Post}
 use Rattle.policy_types.specs.declared.entry.Reply.{Reply}
 use Rattle.policy_types.specs.declared.entry.Reply.TheVariants.{Accepted, Refused, Faulted, Blank}
-use Rattle.policy_types.specs.declared.entry.Entry.{Entry}
-use Rattle.policy_types.specs.declared.script.Lane.{Lane}
+use Rattle.policy_types.specs.declared.script.Line.{Line}
+use Rattle.policy_types.specs.declared.script.Line.TheVariants.{Post}
 use Rattle.policy_types.specs.Valid.{id_of}
 use Rattle.life_dates.specs.DayText.{day_text}
 use Rattle.money_core.specs.CentsText.{cents_text}
+use Rattle.life_app.specs.AnsweredLines.{AnsweredLine}
 
 abbrev pub kind_word : Command → List ℕ
 kind_word (Issue id day plan age years amount premium) = codes "issue"
@@ -61,25 +60,21 @@ reply_text (Faulted count) = codes "fault"
 reply_text Blank = codes "nomemory"
 reply_text _ = []
 
--- a line: the clerk, what was asked, the policy and what became of it; 44 is the comma, 10 the line feed
-abbrev pub line_text : ℕ → List ℕ → ℕ → Reply → List ℕ
-line_text clerk kind id reply =
+-- a line: the clerk, the kind, the policy and what became of it; 44 is the comma, 10 the line feed
+abbrev pub words_text : ℕ → List ℕ → ℕ → Reply → List ℕ
+words_text clerk kind id reply =
     decimal clerk ++ (44 ∷ (kind ++ (44 ∷ (decimal id ++ (44 ∷ (reply_text reply ++ 10 ∷ []))))))
 
 -- the line of a clerk's posting
 abbrev pub posting_text : ℕ → Command → Reply → List ℕ
-posting_text clerk command reply = line_text clerk (kind_word command) (id_of command) reply
+posting_text clerk command reply = words_text clerk (kind_word command) (id_of command) reply
 
--- the line of a turn, where it has one; the scripts that are read so far ask for postings alone
-abbrev pub turn_text : ℕ → Call → Reply → List ℕ
-turn_text clerk (Post command) reply = posting_text clerk command reply
-turn_text clerk _ reply = []
+-- the text of a clerk's line by the reply to its first turn; the scripts that are read so far ask for postings alone
+abbrev pub line_text : ℕ → Line → Reply → List ℕ
+line_text clerk (Post command) reply = posting_text clerk command reply
+line_text clerk _ reply = []
 
--- the number of the lane whose caller it is
-abbrev pub clerk_of : List Lane → List ℕ → ℕ → ℕ
-clerk_of (lane ∷ lanes) (caller ∷ callers) n = if caller == n then lane.number else clerk_of lanes callers n
-clerk_of _ _ n = 0
-
-abbrev pub transcript_text : List Lane → List ℕ → List Entry → List ℕ
-transcript_text lanes callers history =
-    flat_map (λ (entry : Entry). turn_text (clerk_of lanes callers entry.caller) entry.call entry.reply) history
+-- the text of a run, by its answered lines
+abbrev pub transcript_text : List AnsweredLine → List ℕ
+transcript_text lines =
+    flat_map (λ (answered : AnsweredLine). line_text answered.clerk answered.line answered.first.1.reply) lines

@@ -4,7 +4,7 @@ ghost use Rattle.indexmap.specs.IndexMap.{spare};
 ghost use Rattle.policy_types.specs.declared.entry.Entry.{Entry};
 ghost use Rattle.policy_machine.specs.History.{Opening};
 ghost use Rattle.command_csv.specs.Reads.{IsIssueLine};
-ghost use Rattle.life_app.specs.Books.{GoesOn, StandsAfter, turn_of, turns_made};
+ghost use Rattle.life_app.specs.inside.Books.{GoesOn, StandsAfter, turn_of, turns_made};
 
 use crate::office::{Answer, Office};
 use outside_io::Disk;

@@ -7,7 +7,7 @@ ghost use Rattle.policy_types.specs.declared.entry.Entry.{Entry};
 ghost use Rattle.policy_machine.specs.History.{Opening};
 ghost use Rattle.posting_journal.specs.States.{disk_of};
 ghost use Rattle.record_codec.specs.Spelling.{IsIssuing};
-ghost use Rattle.life_app.specs.Books.{GoesOn, IsRefusal, StandsAfter, reply_of};
+ghost use Rattle.life_app.specs.inside.Books.{GoesOn, IsRefusal, StandsAfter, reply_of};
 
 use crate::policies::{decided, keep};
 use crate::recording::record;
@@ -34,7 +34,7 @@ pub enum Answer {
 }
 
 impl Answer {
-    ghost use Rattle.life_app.specs.Books.{is_faulted};
+    ghost use Rattle.life_app.specs.inside.Books.{is_faulted};
 
     /// Whether the disk failed.
     pub fn is_faulted(&self) -> bool

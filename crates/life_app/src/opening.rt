@@ -3,9 +3,9 @@ ghost use Rattle.std.specs.Prelude.{◌≡◌, ◌+◌, ◌<◌, ◌≤◌, ◌^
 ghost use Rattle.indexmap.specs.IndexMap.{spare};
 ghost use Rattle.policy_types.specs.declared.command.Command.{Command as ACommand};
 ghost use Rattle.posting_journal.specs.States.{count_of, disk_of};
-ghost use Rattle.life_app.specs.Books.{Keeps};
-ghost use Rattle.life_app.specs.Opening.{HasOpened, HasNotOpened, as_cause};
-ghost use Rattle.life_app.specs.Replays.{StaysAs, IsReplayed, IsStuck, AreReplayed, HasStopped, IsOfficeOf, HasNoOffice};
+ghost use Rattle.life_app.specs.inside.Books.{Keeps};
+ghost use Rattle.life_app.specs.inside.Opening.{HasOpened, HasNotOpened, as_cause};
+ghost use Rattle.life_app.specs.inside.Replays.{StaysAs, IsReplayed, IsStuck, AreReplayed, HasStopped, IsOfficeOf, HasNoOffice};
 
 use crate::office::Office;
 use crate::policies::{decided, keep};

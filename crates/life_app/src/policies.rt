@@ -7,7 +7,7 @@ ghost use Rattle.policy_types.specs.declared.refusal.Refusal.TheVariants.{Taken}
 ghost use Rattle.policy_machine.specs.Book.{policy_of};
 ghost use Rattle.policy_machine.specs.Rules.{next};
 ghost use Rattle.record_codec.specs.Spelling.{IsIssuing};
-ghost use Rattle.life_app.specs.Books.{Keeps};
+ghost use Rattle.life_app.specs.inside.Books.{Keeps};
 ghost use Rattle.life_app.specs.Journals.{IsRecordable};
 
 use indexmap::IndexMap;

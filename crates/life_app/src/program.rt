@@ -1,20 +1,19 @@
 // The top call: all that the program does, over any devices.
-ghost use Rattle.std.specs.Prelude.{◌≡◌, ◌≤◌, ◌⊎◌, ◌↔◌, ℕ, List, Some, length, codes};
+ghost use Rattle.std.specs.Prelude.{◌≡◌, ◌≤◌, ◌⊎◌, ◌↔◌, ℕ, List, Some, length};
 ghost use Rattle.outside_io.specs.Faults.{Rose};
 ghost use Rattle.policy_types.specs.declared.command.Command.{Command as ACommand};
 ghost use Rattle.policy_types.specs.declared.script.Lane.{Lane as ALane};
 ghost use Rattle.command_csv.specs.Reads.{Reads};
 ghost use Rattle.life_app.specs.Journals.{Opens, OpensToNone};
-ghost use Rattle.life_app.specs.Outcome.{EndsRun, IsUnreadable, Obeys};
-ghost use Rattle.life_app.specs.Writing.{WroteLine, between};
-ghost use Rattle.life_app.specs.Status.{IsStatus};
-ghost use Rattle.life_app.specs.Words.{AreRunWords};
-ghost use Rattle.life_app.specs.declared.ending.Ending.TheVariants.{BadJournal, BadScript, DiskFault, Done, NoMemory, ReadFault, WriteFault};
+ghost use Rattle.life_app.specs.Obeys.{Does, Obeys};
+ghost use Rattle.life_app.specs.Script.{IsUnreadable};
+ghost use Rattle.life_app.specs.Words.{AreRunWords, AskForNothing};
+ghost use Rattle.life_app.specs.Writing.{between};
 
 use crate::ending::Ending;
 use crate::refusing::say;
 use crate::run::{Finished, run};
-use crate::words::are_run_words;
+use crate::words::{Mode, mode_of};
 use outside_io::{Disk, Gate, Shelf, Sink, Source};
 use policy_types::Watcher;
 use std::alloc::Global;
@@ -37,35 +36,12 @@ pub fn life<S: Source, K: Sink, H: Shelf, D: Disk + Send, G: Gate + Sync>(
     watchers: Vec<Box<dyn Watcher + Send>>,
     gate: &G,
 ) -> Ended<D>
-    ensures statuses { IsStatus result.status }
+    ensures obeys { Obeys D.Disk disk result.disk words.now (between S.faults S.left input.old input.new)
+        (between K.faults K.written output.old output.new) (input.new ≡ input.old) result.status }
     ensures shelf { shelf.new ≡ shelf.old }
 
-    // 2 exactly where the words aren't of a command; then the input and the disk are left alone.
-    ensures usage { (result.status ≡ 2) ↔ (AreRunWords words.now → ⊥) }
-    ensures command { (result.status ≡ 2 → ⊥) ↔ AreRunWords words.now }
-    ensures usage_line { result.status ≡ 2 → (result.disk ≡ disk) × (input.new ≡ input.old)
-        × WroteLine (between K.faults K.written output.old output.new) (codes "usage") }
-
-    // Else the status tells how the run ended.
-    ensures done { result.status ≡ 0 → EndsRun D.Disk disk result.disk (between S.faults S.left input.old input.new)
-        (between K.faults K.written output.old output.new) Done }
-    ensures bad_script { result.status ≡ 3
-        → EndsRun D.Disk disk result.disk (between S.faults S.left input.old input.new)
-        (between K.faults K.written output.old output.new) BadScript }
-    ensures bad_journal { result.status ≡ 5
-        → EndsRun D.Disk disk result.disk (between S.faults S.left input.old input.new)
-        (between K.faults K.written output.old output.new) BadJournal }
-    ensures read_fault { result.status ≡ 6
-        → EndsRun D.Disk disk result.disk (between S.faults S.left input.old input.new)
-        (between K.faults K.written output.old output.new) ReadFault }
-    ensures write_fault { result.status ≡ 7
-        → EndsRun D.Disk disk result.disk (between S.faults S.left input.old input.new)
-        (between K.faults K.written output.old output.new) WriteFault }
-    ensures disk_fault { result.status ≡ 8
-        → EndsRun D.Disk disk result.disk (between S.faults S.left input.old input.new)
-        (between K.faults K.written output.old output.new) DiskFault }
-    ensures no_memory { result.status ≡ 9 → EndsRun D.Disk disk result.disk (between S.faults S.left input.old input.new)
-        (between K.faults K.written output.old output.new) NoMemory }
+    // 2 exactly where the words aren't of a command.
+    ensures usage { (result.status ≡ 2) ↔ AskForNothing words.now }
 
     // A script that is too long, or has a row that is no line, is refused with 3, but for want of memory.
     ensures unreadable { (bytes : List ℕ) → AreRunWords words.now → S.left input.old ≡ Some bytes → IsUnreadable bytes
@@ -107,15 +83,17 @@ fn obey<S: Source, K: Sink, D: Disk>(
     output: &mut K,
     disk: D,
 ) -> Finished<D>
-    ensures { Obeys D.Disk disk result.disk words.now (between S.faults S.left input.old input.new)
+    ensures { Does D.Disk disk result.disk words.now (between S.faults S.left input.old input.new)
         (between K.faults K.written output.old output.new) (input.new ≡ input.old) result.ending }
 {
-    if are_run_words(words) {
-        return run(alloc, input, output, disk);
-    }
-    say(output, b"usage\n");
-    Finished {
-        ending: Ending::Usage,
-        disk,
+    let Some(mode) = mode_of(words) else {
+        say(output, b"usage\n");
+        return Finished {
+            ending: Ending::Usage,
+            disk,
+        };
+    };
+    match mode {
+        Mode::Run => run(alloc, input, output, disk),
     }
 }

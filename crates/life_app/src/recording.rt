@@ -2,7 +2,7 @@
 ghost use Rattle.std.specs.Prelude.{◌≡◌, ◌<◌, ◌≤◌, ◌+◌, ◌↔◌, List, ℕ, IfErr, OnOk, is_ok, if◌then◌else◌};
 ghost use Rattle.outside_io.specs.Faults.{Rose};
 ghost use Rattle.posting_journal.specs.States.{StandsFor, count_of, disk_of};
-ghost use Rattle.life_app.specs.Records.{Records};
+ghost use Rattle.life_app.specs.inside.Records.{Records};
 
 use outside_io::Disk;
 use posting_journal::{DiskFault, Journal};

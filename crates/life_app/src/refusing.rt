@@ -1,6 +1,6 @@
 // Endings that write one line.
 ghost use Rattle.std.specs.Prelude.{◌≤◌};
-ghost use Rattle.life_app.specs.Parts.{EndsUnopened, EndsUnread};
+ghost use Rattle.life_app.specs.inside.Parts.{SaysUnopened, SaysUnread};
 ghost use Rattle.life_app.specs.Writing.{WroteOrFailed, between};
 ghost use Rattle.life_app.specs.declared.opening.Cause.TheVariants.{BadRecord};
 ghost use Rattle.life_app.specs.declared.intake.Unread.TheVariants.{BadRow};
@@ -22,7 +22,7 @@ pub fn say<K: Sink>(output: &mut K, line: &[u8])
 /// Says why there is no script.
 pub fn refuse<K: Sink>(alloc: Global, unread: Unread, output: &mut K) -> Ending
     ensures later { K.faults output.old ≤ K.faults output.new }
-    ensures ends { EndsUnread unread (between K.faults K.written output.old output.new) result }
+    ensures says { SaysUnread unread (between K.faults K.written output.old output.new) result }
 {
     match unread {
         Unread::TooLong => {
@@ -43,7 +43,7 @@ pub fn refuse<K: Sink>(alloc: Global, unread: Unread, output: &mut K) -> Ending
 
 fn refuse_row<K: Sink>(alloc: Global, row: u32, field: u32, output: &mut K) -> Ending
     ensures later { K.faults output.old ≤ K.faults output.new }
-    ensures ends { EndsUnread (BadRow row field) (between K.faults K.written output.old output.new) result }
+    ensures says { SaysUnread (BadRow row field) (between K.faults K.written output.old output.new) result }
 {
     match format!(in alloc; "badscript,{row},{field}\n") {
         Ok(line) => {
@@ -60,7 +60,7 @@ fn refuse_row<K: Sink>(alloc: Global, row: u32, field: u32, output: &mut K) -> E
 /// Says why no office was opened.
 pub fn refuse_journal<K: Sink>(alloc: Global, cause: Cause, output: &mut K) -> Ending
     ensures later { K.faults output.old ≤ K.faults output.new }
-    ensures ends { EndsUnopened cause (between K.faults K.written output.old output.new) result }
+    ensures says { SaysUnopened cause (between K.faults K.written output.old output.new) result }
 {
     match cause {
         Cause::DiskFault => {
@@ -81,7 +81,7 @@ pub fn refuse_journal<K: Sink>(alloc: Global, cause: Cause, output: &mut K) -> E
 
 fn refuse_record<K: Sink>(alloc: Global, n: u32, output: &mut K) -> Ending
     ensures later { K.faults output.old ≤ K.faults output.new }
-    ensures ends { EndsUnopened (BadRecord n) (between K.faults K.written output.old output.new) result }
+    ensures says { SaysUnopened (BadRecord n) (between K.faults K.written output.old output.new) result }
 {
     match format!(in alloc; "badjournal,badrecord,{n}\n") {
         Ok(line) => {

@@ -5,9 +5,10 @@ ghost use Rattle.indexmap.specs.IndexMap.{spare};
 ghost use Rattle.policy_types.specs.declared.script.Line.{Line as ALine};
 ghost use Rattle.policy_machine.specs.History.{Opening};
 ghost use Rattle.command_csv.specs.Reads.{IsIssueLine, Reads, lane_of};
-ghost use Rattle.life_app.specs.Books.{AreLanes, StandsAfter, is_faulted};
-ghost use Rattle.life_app.specs.Outcome.{EndsRun};
-ghost use Rattle.life_app.specs.Parts.{AnswersAll, EndsLines, EndsScript};
+ghost use Rattle.life_app.specs.inside.Books.{AreLanes, StandsAfter, is_faulted};
+ghost use Rattle.life_app.specs.Obeys.{EndsRun};
+ghost use Rattle.life_app.specs.Outcome.{EndsScript};
+ghost use Rattle.life_app.specs.inside.Parts.{AnswersAll, EndsLines};
 ghost use Rattle.life_app.specs.Writing.{between};
 ghost use Rattle.life_app.specs.declared.ending.Ending.TheVariants.{DiskFault, Done};
 

@@ -2,8 +2,11 @@
 use crate::{Ended, life};
 use memory_disk::MemoryDisk;
 use outside_io::{BytesSink, BytesSource, MapShelf, OpenGate};
+use policy_types::{Attention, Command, NoMemory, Report, Watcher};
 use std::alloc::{AllocError, Global};
 use std::collections::BTreeMap;
+use std::sync::Arc;
+use std::sync::atomic::{AtomicU32, Ordering};
 
 const POLICY: &str = "1,issue,7001,2020-01-01,endowment,0,3,1000.00,400.00\n";
 
@@ -329,5 +332,74 @@ fn files_are_opened_or_refused(rt: HostRuntime) -> Result<(), AllocError> {
     for case in cases.iter() {
         assert!(rt; holds(rt.alloc(), case)?);
     }
+    Ok(())
+}
+
+// An auditor without room for any command, who counts the calls to it.
+#[derive(Drop)]
+struct Uncalled {
+    calls: Arc<AtomicU32>,
+}
+
+impl Watcher for Uncalled {
+    ghost use Rattle.std.specs.Prelude.{[], false};
+
+    ghost noted = { λ w. [] };
+
+    ghost spare = { λ w. 0 };
+
+    ghost stops = { λ w h. false };
+
+    ghost number = { λ w h. 0 };
+
+    fn ready(&mut self) -> Result<(), NoMemory> {
+        self.calls.fetch_add(1, Ordering::SeqCst);
+        Err(NoMemory)
+    }
+
+    fn note(&mut self, position: u32, command: &Command) -> Attention {
+        let _ = position;
+        let _ = command;
+        self.calls.fetch_add(1, Ordering::SeqCst);
+        Attention::More
+    }
+
+    fn report(&self) -> Report {
+        self.calls.fetch_add(1, Ordering::SeqCst);
+        Report { seen: 0, tally: 0 }
+    }
+}
+
+#[test]
+fn a_watcher_is_let_go_and_never_called(rt: HostRuntime) -> Result<(), AllocError> {
+    let alloc = rt.alloc();
+    let calls = Arc::new(alloc, AtomicU32::new(0))?;
+    let mut watchers: Vec<Box<dyn Watcher + Send>> = Vec::new(alloc);
+    let one: Box<dyn Watcher + Send> = Box::new(
+        alloc,
+        Uncalled {
+            calls: calls.clone()?,
+        },
+    )?;
+    watchers.push(one)?;
+    assert!(rt; Arc::strong_count(&calls) == 2);
+    let words = words_of(alloc, &["run"])?;
+    let mut input = BytesSource::new(Vec::from_slice(alloc, POLICY.as_bytes())?, Vec::new(alloc));
+    let mut output = BytesSink::new(alloc, Vec::new(alloc));
+    let mut shelf = MapShelf::new(BTreeMap::new(alloc), Vec::new(alloc));
+    let disk = MemoryDisk::new(alloc, Vec::new(alloc), Vec::new(alloc));
+    let Ended { status, disk: _ } = life(
+        alloc,
+        &words,
+        &mut input,
+        &mut output,
+        &mut shelf,
+        disk,
+        watchers,
+        &OpenGate,
+    );
+    assert!(rt; status == 0);
+    assert!(rt; calls.load(Ordering::SeqCst) == 0);
+    assert!(rt; Arc::strong_count(&calls) == 1);
     Ok(())
 }

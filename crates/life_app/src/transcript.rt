@@ -1,10 +1,10 @@
 // The text of a run.
-ghost use Rattle.std.specs.Prelude.{◌≡◌, ◌++◌, ℕ, codes, length, string_bytes, IfOk, OnOk};
-ghost use Rattle.std.specs.List.{flat_map, All};
-ghost use Rattle.policy_types.specs.declared.entry.Entry.{Entry as AnEntry};
+ghost use Rattle.std.specs.Prelude.{◌≡◌, ◌++◌, codes, length, string_bytes, IfOk, OnOk};
+ghost use Rattle.std.specs.List.{All};
 ghost use Rattle.command_csv.specs.Reads.{IsIssueLine};
-ghost use Rattle.life_app.specs.Transcript.{line_text, turn_text};
-ghost use Rattle.life_app.specs.Books.{reply_of, turn_of, turns_made};
+ghost use Rattle.life_app.specs.Transcript.{line_text, words_text};
+ghost use Rattle.life_app.specs.inside.Books.{reply_of};
+ghost use Rattle.life_app.specs.inside.Parts.{lines_text};
 
 use crate::office::Answer;
 use policy_types::Line;
@@ -20,9 +20,7 @@ pub fn transcript(
 ) -> Result<String, AllocError>
     requires issues { All IsIssueLine lines.now }
     requires each { length answers.now ≡ length lines.now }
-    ensures { IfOk result (λ text. (caller : ℕ) → string_bytes text
-        ≡ flat_map (λ (entry : AnEntry). turn_text clerk entry.call entry.reply)
-        (turns_made caller lines.now answers.now)) }
+    ensures { IfOk result (λ text. string_bytes text ≡ lines_text clerk lines.now answers.now) }
 {
     let mut text = String::new(alloc);
     for i in 0..lines.len() {
@@ -34,8 +32,8 @@ pub fn transcript(
 // Adds the line of one answer.
 fn write_line(text: &mut String, clerk: u8, line: &Line, answer: Answer) -> Result<(), AllocError>
     requires issue { IsIssueLine line.now }
-    ensures { OnOk result ((caller : ℕ) → let turn = turn_of caller line.now answer in
-        string_bytes text.new ≡ string_bytes text.old ++ turn_text clerk turn.call turn.reply) }
+    ensures { OnOk result (string_bytes text.new
+        ≡ string_bytes text.old ++ line_text clerk line.now (reply_of answer)) }
 {
     let Line::Post(command) = line else {
         unreachable!()
@@ -45,7 +43,7 @@ fn write_line(text: &mut String, clerk: u8, line: &Line, answer: Answer) -> Resu
 
 fn write_answer(text: &mut String, clerk: u8, id: u32, answer: Answer) -> Result<(), AllocError>
     ensures { OnOk result (string_bytes text.new
-        ≡ string_bytes text.old ++ line_text clerk (codes "issue") id (reply_of answer)) }
+        ≡ string_bytes text.old ++ words_text clerk (codes "issue") id (reply_of answer)) }
 {
     match answer {
         Answer::Accepted(position) => write!(text, "{clerk},issue,{id},accepted,{position}\n"),

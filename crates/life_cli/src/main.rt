@@ -1,6 +1,8 @@
 //! The program `life`: the real devices, handed to the top call.
 #![tactic(auto)]
 
+mod words;
+
 use life_app::{Ended, life};
 use outside_io::{FileDisk, FolderShelf, OpenGate, StdSink, StdSource, write_all};
 use std::alloc::AllocError;
@@ -9,6 +11,7 @@ use std::fs::File;
 use std::io::ErrorKind;
 use std::process::ExitCode;
 use std::rt::{Env, Files};
+use words::behind_first;
 
 /// The file in which the policies are kept, in the folder in which the program runs.
 const JOURNAL: &str = "journal.life";
@@ -54,15 +57,9 @@ fn hold_descriptors<R: Files<File = File>>(files: &R) -> [Option<File>; 3] {
 
 // The words behind the program's name. Words that are no text are no words, which no command has.
 fn words_of<R: Env + AllocGlobal>(rt: &R) -> Result<Vec<String>, AllocError> {
-    let mut words = Vec::new(rt.alloc());
     match env::args(rt) {
-        Ok(all) => {
-            for word in all.skip(1) {
-                words.push(word)?;
-            }
-        }
-        Err(error) if error.kind() == ErrorKind::OutOfMemory => return Err(AllocError),
-        Err(_) => {}
+        Ok(all) => behind_first(rt.alloc(), all),
+        Err(error) if error.kind() == ErrorKind::OutOfMemory => Err(AllocError),
+        Err(_) => Ok(Vec::new(rt.alloc())),
     }
-    Ok(words)
 }

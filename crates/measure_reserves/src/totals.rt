@@ -1,4 +1,6 @@
-ghost use Rattle.std.specs.Prelude.{◌≡◌, ◌≤◌, ◌+◌, ◌-◌, ◌^◌, min};
+ghost use Rattle.std.specs.Prelude.{◌≡◌, ℕ, Option};
+ghost use Rattle.policy_types.specs.Valid.{AreYears};
+ghost use Rattle.measure_reserves.specs.Valued.{Adds, IsWorth};
 
 use crate::workload::Drawn;
 use crvm_reserve::{basis_premium, reserve_bounds};
@@ -37,29 +39,31 @@ impl Totals {
     /// Values a policy and adds its bounds, or counts it as one that has no value. Sums stand still at their
     /// type's end.
     pub fn add(&mut self, policy: &Drawn, table: &RateTable)
-        ensures one_more { self.new.policies ≡ min (self.old.policies + 1) (2 ^ 64 - 1) }
-        ensures lower { self.old.lower ≤ self.new.lower }
-        ensures upper { self.old.upper ≤ self.new.upper }
+        requires { AreYears policy.now.plan policy.now.age policy.now.years }
+        ensures { (worth : Option (ℕ × ℕ)) × IsWorth policy.now table.now worth × Adds self.old self.new worth }
     {
-        let (lower, upper) = match bounds(policy, table) {
-            Some(pair) => pair,
-            None => {
-                self.unvalued = self.unvalued.saturating_add(1);
-                (0, 0)
+        match bounds(policy, table) {
+            Some((lower, upper)) => {
+                self.policies = self.policies.saturating_add(1);
+                self.lower = self.lower.saturating_add(lower);
+                self.upper = self.upper.saturating_add(upper);
             }
-        };
-        self.policies = self.policies.saturating_add(1);
-        self.lower = self.lower.saturating_add(lower);
-        self.upper = self.upper.saturating_add(upper);
+            None => {
+                self.policies = self.policies.saturating_add(1);
+                self.unvalued = self.unvalued.saturating_add(1);
+            }
+        }
     }
 }
 
-fn bounds(policy: &Drawn, table: &RateTable) -> Option<(u64, u64)> {
+fn bounds(policy: &Drawn, table: &RateTable) -> Option<(u64, u64)>
+    requires { AreYears policy.now.plan policy.now.age policy.now.years }
+    ensures { IsWorth policy.now table.now result }
+{
     let policy = *policy;
-    let shape = shape(policy.plan, policy.age, policy.years, table).ok()?;
-    if shape.h < 2 {
+    let Ok(shape) = shape(policy.plan, policy.age, policy.years, table) else {
         return None;
-    }
+    };
     let columns = columns(table, &shape, BASIS_POINTS);
     let premium = basis_premium(table, &shape, BASIS_POINTS, &columns);
     let t = completed(policy.issued, ON).min(shape.n);

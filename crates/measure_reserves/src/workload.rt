@@ -1,4 +1,5 @@
-ghost use Rattle.std.specs.Prelude.{◌≡◌, ◌<◌, ◌≤◌, ◌^◌, pos, ◌≤ℤ◌};
+ghost use Rattle.std.specs.Prelude.{◌≡◌, ◌<◌, ◌≤◌, ◌^◌, ℕ, pos, ◌≤ℤ◌};
+ghost use Rattle.policy_types.specs.Valid.{AreYears};
 
 use policy_types::Plan;
 
@@ -45,6 +46,7 @@ impl Workload {
     pub fn next_policy(&mut self) -> Drawn
         ensures age { (20 ≤ result.age) × (result.age ≤ 79) }
         ensures amount { 100000 ≤ result.amount }
+        ensures years { AreYears result.plan result.age result.years }
     {
         let plan = match self.draw(4) {
             0 => Plan::Term,
@@ -53,12 +55,7 @@ impl Workload {
             _ => Plan::Limited,
         };
         let age = 20 + self.draw(60) as u8;
-        let drawn_years = 2 + self.draw(20) as u8;
-        let years = if matches!(plan, Plan::Whole) {
-            0
-        } else {
-            drawn_years
-        };
+        let years = years_of(plan, 2 + self.draw(20) as u8);
         let amount = (self.draw(1000) + 1) * 100_000;
         let issued = FIRST_ISSUE + self.draw(3650) as i32;
         Drawn {
@@ -68,5 +65,16 @@ impl Workload {
             amount,
             issued,
         }
+    }
+}
+
+// The years that were drawn, but none for whole life.
+fn years_of(plan: Plan, drawn: u8) -> u8
+    requires { (2 ≤ drawn) × (drawn ≤ 21) }
+    ensures { (age : ℕ) → age ≤ 79 → AreYears plan age result }
+{
+    match plan {
+        Plan::Whole => 0,
+        Plan::Term | Plan::Endowment | Plan::Limited => drawn,
     }
 }

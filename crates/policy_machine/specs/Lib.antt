@@ -4,3 +4,4 @@ pub mod Accounts
 pub mod History
 pub mod Merge
 pub mod Worked
+pub mod inside

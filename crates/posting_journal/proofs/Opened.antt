@@ -7,8 +7,9 @@ use Rattle.outside_io.specs.declared.disks.Disk.{Ghosts}
 use Rattle.posting_journal.specs.Layout.{gate_place, body_place}
 use Rattle.posting_journal.specs.Files.{IsMade, IsClosed, IsJournal}
 use Rattle.posting_journal.specs.Creation.{IsUnfinished}
-use Rattle.posting_journal.specs.Unopened.{EndsAt, IsBadFrom, ShowsWhy}
-use Rattle.posting_journal.specs.Opening.{IsOpenedOn, OpenedTo, OpensOn, HasSynced}
+use Rattle.posting_journal.specs.inside.Unopened.{EndsAt, IsBadFrom, ShowsWhy}
+use Rattle.posting_journal.specs.Opening.{IsOpenedOn, OpensOn, HasSynced}
+use Rattle.posting_journal.specs.inside.Steps.{OpenedTo}
 use Rattle.posting_journal.specs.Runs.{LooksOn, IsSafe, Passes}
 use Rattle.posting_journal.specs.declared.faults.Unopened.{Unopened}
 use Rattle.posting_journal.specs.declared.faults.Unopened.TheVariants.{Unread, NotAJournal, BadRecord}

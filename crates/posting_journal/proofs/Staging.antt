@@ -4,7 +4,8 @@ use Rattle.outside_io.specs.Disks.{Torn}
 use Rattle.outside_io.specs.declared.disks.Disk.{Ghosts}
 use Rattle.posting_journal.specs.Layout.{gate_place, body_place}
 use Rattle.posting_journal.specs.Files.{IsJournal, IsStaged}
-use Rattle.posting_journal.specs.Runs.{PutsOn, IsSafe, Leaves, TornOf}
+use Rattle.posting_journal.specs.Runs.{IsSafe, Leaves}
+use Rattle.posting_journal.specs.inside.Steps.{PutsOn, TornOf}
 use Rattle.posting_journal.specs.States.{IsKept}
 use Rattle.posting_journal.proofs.Bytes.{written_torn}
 use Rattle.posting_journal.proofs.Moments.{leaves, wider}

@@ -104,7 +104,7 @@ staged_either bodies body bytes staged = elim (cases_eq (get_or bytes (gate_plac
   | inr shut ↦ inl (staged_closed bodies body bytes staged shut)
 ]
 
-written_byte : (old : List ℕ) (at byte : ℕ) (new : List ℕ) → at ≤ length old → Holds old at (byte ∷ []) new → get_or new at 0 ≡ byte
+pub written_byte : (old : List ℕ) (at byte : ℕ) (new : List ℕ) → at ≤ length old → Holds old at (byte ∷ []) new → get_or new at 0 ≡ byte
 written_byte old at byte new within holds =
     let w = written old at (byte ∷ []) new within holds in
     let place : at + 0 ≡ at = omega arith in
@@ -112,7 +112,7 @@ written_byte old at byte new within holds =
     subst (λ k. get_or new k 0 ≡ byte) place first
 
 module _ (bodies : List (List ℕ)) (body old new : List ℕ) (staged : IsStaged old bodies body) where
-  within : gate_place (length bodies) ≤ length old
+  pub within : gate_place (length bodies) ≤ length old
   within = omega (arith, staged.end.there)
 
   -- The gate was opened.

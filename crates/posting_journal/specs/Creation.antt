@@ -1,6 +1,6 @@
 -- What a file can be when it is opened: a creation that didn't end, a journal, or neither.
 use Rattle.std.specs.Prelude.{◌≡◌, ◌≢◌, ◌⊎◌, ℕ, ◌+◌, ◌<◌, ◌≤◌, List, [], length, take, drop, slice_index}
-use Rattle.posting_journal.specs.Layout.{header, gate_place}
+use Rattle.posting_journal.specs.Layout.{header, gate_place, most_records}
 use Rattle.posting_journal.specs.Files.{IsMade, IsJournal}
 
 -- Byte 0 says that the creation goes on, and nothing stands behind the first gate.
@@ -36,7 +36,7 @@ pub record IsForeign (bytes : List ℕ) : Type 0 where
 
 -- an open record that can't stand: its body or the gate behind it lies past the end, or it is one too many
 abbrev pub CannotStand : List ℕ → ℕ → Type 0
-CannotStand bytes n = (length bytes ≤ gate_place (n + 1)) ⊎ (n ≡ 4000000)
+CannotStand bytes n = (length bytes ≤ gate_place (n + 1)) ⊎ (n ≡ most_records)
 
 -- the gates up to that of record n are open, and n is the first that can't stand
 pub record IsBadAt (bytes : List ℕ) (n : ℕ) : Type 0 where

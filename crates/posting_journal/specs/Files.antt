@@ -1,6 +1,6 @@
 -- The journal of a list of bodies, as a whole file. What stands behind the first gate that is closed has no meaning.
 use Rattle.std.specs.Prelude.{◌≡◌, ◌≢◌, ◌⊎◌, ℕ, ◌+◌, ◌<◌, ◌≤◌, List, [], ◌∷◌, ◌++◌, length, take, drop, slice_index, slice_index_or}
-use Rattle.posting_journal.specs.Layout.{header, gate_place, body_place}
+use Rattle.posting_journal.specs.Layout.{header, gate_place, body_place, most_records}
 
 -- its creation has ended, and it has the header
 pub record IsMade (bytes : List ℕ) : Type 0 where
@@ -26,7 +26,7 @@ pub record IsJournal (bytes : List ℕ) (bodies : List (List ℕ)) : Type 0 wher
   pub made : IsMade bytes
   pub records : HasRecords bytes bodies
   pub end : IsClosed bytes (length bodies)
-  pub few : length bodies ≤ 4000000
+  pub few : length bodies ≤ most_records
 
 -- It is that of these bodies, or of these and one more, by whether the gate of this one is open: the body stands whole
 -- behind that gate, and a closed gate behind the body.
@@ -35,7 +35,7 @@ pub record IsStaged (bytes : List ℕ) (bodies : List (List ℕ)) (body : List �
   pub records : HasRecords bytes bodies
   pub whole : take 64 (drop (body_place (length bodies)) bytes) ≡ body
   pub end : IsClosed bytes (length bodies + 1)
-  pub fewer : length bodies < 4000000
+  pub fewer : length bodies < most_records
 
 -- without the new body or with it
 abbrev pub IsBeforeOrAfter : List (List ℕ) → List ℕ → List ℕ → Type 0

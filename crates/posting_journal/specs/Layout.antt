@@ -1,10 +1,18 @@
 -- Where the parts of a journal stand in its file. Byte 0 is the gate of its creation, bytes 1 to 16 are the header,
 -- and from byte 17 on stand the records, each a gate and a body of 64 bytes. A gate is open exactly where it is 1.
-use Rattle.std.specs.Prelude.{ℕ, ◌+◌, ◌*◌, List, [], ◌∷◌}
+use Rattle.std.specs.Prelude.{ℕ, ◌+◌, ◌*◌, List, [], ◌∷◌, ◌++◌}
 
 -- LIFEJRNL, the version 1 and the size 64 of a body, both in two bytes, big endian, and four zero bytes
 abbrev pub header : List ℕ
 header = 76 ∷ 73 ∷ 70 ∷ 69 ∷ 74 ∷ 82 ∷ 78 ∷ 76 ∷ 0 ∷ 1 ∷ 0 ∷ 64 ∷ 0 ∷ 0 ∷ 0 ∷ 0 ∷ []
+
+-- the records that a journal takes at most
+abbrev pub most_records : ℕ
+most_records = 4000000
+
+-- a journal without records: byte 0 says that it is made, and its first gate is closed
+abbrev pub empty_journal : List ℕ
+empty_journal = 1 ∷ header ++ 0 ∷ []
 
 -- the place of the gate of a record
 abbrev pub gate_place : ℕ → ℕ

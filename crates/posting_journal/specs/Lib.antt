@@ -6,5 +6,4 @@ pub mod Runs
 pub mod States
 pub mod Opening
 pub mod Starting
-pub mod Kinds
-pub mod Unopened
+pub mod inside

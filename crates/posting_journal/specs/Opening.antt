@@ -1,7 +1,6 @@
 -- What opening a file does.
-use Rattle.std.specs.Prelude.{◌≡◌, ◌⊎◌, ℕ, ◌≤◌, List, [], length}
+use Rattle.std.specs.Prelude.{◌≡◌, ◌⊎◌, ℕ, ◌≤◌, List, []}
 use Rattle.outside_io.specs.declared.disks.Disk.{Ghosts}
-use Rattle.posting_journal.specs.Files.{IsJournal}
 use Rattle.posting_journal.specs.Creation.{IsUnfinished, OpensToBodies}
 use Rattle.posting_journal.specs.Runs.{IsSafe, Leaves, LooksOn}
 
@@ -29,11 +28,3 @@ pub record OpensOn {D : Type 0} (g : Ghosts D) (old new : D) : Type 0 where
   pub synced : LooksOn g old new ⊎ HasSynced g old new
   -- no file but an unfinished creation is written to
   pub unwritten : ¬ IsUnfinished (g.reads old) → LooksOn g old new
-
--- The file is the journal of so many bodies, those to which it opened, and each image is what is read.
-pub record OpenedTo {D : Type 0} (g : Ghosts D) (old new : D) (count : ℕ) : Type 0 where
-  pub bodies : List (List ℕ)
-  pub opened : OpensToBodies (g.reads old) bodies
-  pub holds : IsJournal (g.reads new) bodies
-  pub counted : count ≡ length bodies
-  pub safe : IsSafe g new

@@ -1,6 +1,6 @@
 -- What a run of calls does to an honest disk.
-use Rattle.std.specs.Prelude.{ℕ, List, length, Result, OnOk}
-use Rattle.outside_io.specs.Disks.{Torn, Only, Looks, Writes, Elapses, LeavesOnly}
+use Rattle.std.specs.Prelude.{ℕ, List}
+use Rattle.outside_io.specs.Disks.{Only, Looks, Elapses, LeavesOnly}
 use Rattle.outside_io.specs.declared.disks.Disk.{Ghosts}
 
 -- nothing was written
@@ -11,17 +11,6 @@ pub record LooksOn {D : Type 0} (g : Ghosts D) (old new : D) : Type 0 where
 -- a crash since old leaves what has P, or what it might have left before
 abbrev pub Passes : {D : Type 0} → Ghosts D → D → D → (List ℕ → Type 0) → Type 0
 Passes g old new P = Elapses (g.clock old) (g.clock new) (g.left_since old) (g.left_since new) P
-
--- the images that a write of so many bytes from a place on may make of those before
-abbrev pub TornOf : {D : Type 0} → Ghosts D → D → ℕ → ℕ → List ℕ → Type 0
-TornOf g old at many image = (earlier : List ℕ) × g.may_leave old earlier × Torn at many earlier image
-
--- a write that was made safe, or failed
-pub record PutsOn {D T E : Type 0} (g : Ghosts D) (old new : D) (at : ℕ) (bytes : List ℕ)
-    (result : Result T E) : Type 0 where
-  pub facts : Writes at bytes result (g.reads old) (g.reads new) (g.may_leave old) (g.may_leave new)
-  pub durable : OnOk result (Only (g.reads new) (g.may_leave new))
-  pub time : Passes g old new (TornOf g old at (length bytes))
 
 -- what a crash may leave now is what is read
 abbrev pub IsSafe : {D : Type 0} → Ghosts D → D → Type 0

@@ -1,8 +1,7 @@
 -- What a journal and its disk stand for.
-use Rattle.std.specs.Prelude.{◌≡◌, ℕ, Bool, true, false, List, [], ◌∷◌, ◌++◌, length, Result, OnOk, OnErr}
+use Rattle.std.specs.Prelude.{◌≡◌, ℕ, Bool, true, false, List, length}
 use Rattle.outside_io.specs.declared.disks.Disk.{Ghosts}
-use Rattle.posting_journal.specs.Files.{IsJournal, IsStaged, IsBeforeOrAfter}
-use Rattle.posting_journal.specs.Runs.{IsSafe, Leaves}
+use Rattle.posting_journal.specs.Files.{IsJournal, IsStaged}
 use Rattle.posting_journal.specs.declared.journal.Journal.{Journal}
 
 -- what a caller sees of a journal: how many records there are, whether one can be appended without a repair, and its
@@ -27,17 +26,3 @@ pub record StandsFor {D : Type 0} {g : Ghosts D} (journal : Journal D g) (bodies
   pub count : journal.count ≡ length bodies
   pub reads : IsKept journal.clean bodies faulted (g.reads journal.disk)
   pub images : (image : List ℕ) → g.may_leave journal.disk image → IsKept journal.clean bodies faulted image
-
--- A clean journal with these bodies, whose next body was written behind its last gate, and made safe or failed.
-pub record StagesOn {D T E : Type 0} {g : Ghosts D} (old new : Journal D g) (bodies : List (List ℕ)) (body : List ℕ)
-    (result : Result T E) : Type 0 where
-  pub stands : StandsFor new bodies body
-  pub staged : OnOk result (IsStaged (g.reads new.disk) bodies body × IsSafe g new.disk)
-  pub moments : Leaves g old.disk new.disk (λ image. IsJournal image bodies)
-
--- A journal whose staged body was acknowledged, or may be there.
-pub record AcknowledgesOn {D T E : Type 0} {g : Ghosts D} (old new : Journal D g) (bodies : List (List ℕ))
-    (body : List ℕ) (result : Result T E) : Type 0 where
-  pub done : OnOk result (StandsFor new (bodies ++ body ∷ []) [] × IsSafe g new.disk)
-  pub failed : OnErr result (StandsFor new bodies body)
-  pub moments : Leaves g old.disk new.disk (IsBeforeOrAfter bodies body)

@@ -1,11 +1,12 @@
 // What is done with an open journal.
-ghost use Rattle.std.specs.Prelude.{◌≡◌, ◌↔◌, ℕ, ◌+◌, ◌<◌, ◌≤◌, ◌++◌, [], ◌∷◌, List, false, if◌then◌else◌, is_ok, IsTrue, IfOk, OnOk, OnErr, MatchResult, Ok, Err, take, drop, length, slice_index_or};
+ghost use Rattle.std.specs.Prelude.{◌≡◌, ◌↔◌, ℕ, ◌+◌, ◌<◌, ◌≤◌, ◌++◌, [], ◌∷◌, List, false, if◌then◌else◌, is_ok, IsTrue, IfOk, OnOk, OnErr, MatchResult, Ok, Err, take, drop, length, slice_index, slice_index_or};
 ghost use Rattle.outside_io.specs.Disks.{HasDiskCause};
 ghost use Rattle.posting_journal.specs.Faults.{TellsFaults};
 ghost use Rattle.posting_journal.specs.Files.{IsStaged, IsBeforeOrAfter};
-ghost use Rattle.posting_journal.specs.Layout.{gate_place, body_place};
+ghost use Rattle.posting_journal.specs.Layout.{gate_place, body_place, most_records};
 ghost use Rattle.posting_journal.specs.Runs.{IsSafe, Leaves, LooksOn};
-ghost use Rattle.posting_journal.specs.States.{AcknowledgesOn, StagesOn, StandsFor, count_of, disk_of, is_clean};
+ghost use Rattle.posting_journal.specs.States.{StandsFor, count_of, disk_of, is_clean};
+ghost use Rattle.posting_journal.specs.inside.Steps.{AcknowledgesOn, StagesOn};
 
 use crate::layout::{CLOSED, OPEN};
 use crate::putting::put;
@@ -52,7 +53,7 @@ impl<D: Disk> Journal<D> {
     /// Adds a record. At `Ok` it is acknowledged: each crash leaves it from then on. At a fault the count stays, and
     /// where the journal isn't clean any more the record may be there or not after a crash, until it is repaired.
     pub fn append(&mut self, body: &[u8; 64]) -> Result<(), DiskFault>
-        requires room { count_of self.old < 4000000 }
+        requires room { count_of self.old < most_records }
         requires clean { IsTrue (is_clean self.old) }
         ensures count { count_of self.new ≡ (if is_ok result then (count_of self.old) + 1 else (count_of self.old)) }
         ensures clean { OnOk result (IsTrue (is_clean self.new)) }
@@ -84,6 +85,9 @@ impl<D: Disk> Journal<D> {
         ensures repaired { (bodies : List (List ℕ)) (faulted : List ℕ) → D.honest (disk_of self.old)
             → StandsFor self.old bodies faulted
             → OnOk result (StandsFor self.new bodies [] × IsSafe D.Disk (disk_of self.new)) }
+        ensures closed { (bodies : List (List ℕ)) (faulted : List ℕ) → D.honest (disk_of self.old)
+            → StandsFor self.old bodies faulted
+            → OnOk result (slice_index (D.reads (disk_of self.new)) (gate_place (length bodies)) ≡ 0) }
         ensures faulted { (bodies : List (List ℕ)) (faulted : List ℕ) → D.honest (disk_of self.old)
             → StandsFor self.old bodies faulted
             → OnErr result (StandsFor self.new bodies faulted) }
@@ -117,7 +121,7 @@ impl<D: Disk> Journal<D> {
 
     // Writes a body and a closed gate behind the gate that ends the records.
     fn stage(&mut self, body: &[u8; 64]) -> Result<(), Failed>
-        requires room { count_of self.old < 4000000 }
+        requires room { count_of self.old < most_records }
         requires clean { IsTrue (is_clean self.old) }
         ensures count { count_of self.new ≡ count_of self.old }
         ensures clean { IsTrue (is_clean self.new) }
@@ -133,9 +137,9 @@ impl<D: Disk> Journal<D> {
         put(&mut self.disk, body_place(self.count), &record)
     }
 
-    // OpensToBodies the gate before a staged body.
+    // Opens the gate before a staged body.
     fn acknowledge(&mut self) -> Result<(), Failed>
-        requires room { count_of self.old < 4000000 }
+        requires room { count_of self.old < most_records }
         requires next { D.honest (disk_of self.old)
             → gate_place ((count_of self.old) + 1) < length (D.reads (disk_of self.old)) }
         ensures count { count_of self.new ≡ (if is_ok result then (count_of self.old) + 1 else (count_of self.old)) }

@@ -1,8 +1,9 @@
 // The creation of an empty journal, in three steps. At each moment the file is an unfinished creation, or the journal.
-ghost use Rattle.std.specs.Prelude.{◌≡◌, ◌↔◌, [], false, IsTrue, OnOk};
+ghost use Rattle.std.specs.Prelude.{◌≡◌, ◌↔◌, [], ◌∷◌, ◌++◌, false, IsTrue, OnOk};
 ghost use Rattle.outside_io.specs.Disks.{HasDiskCause};
 ghost use Rattle.posting_journal.specs.Creation.{IsBegun, IsToBegin, IsReady, IsEmpty};
 ghost use Rattle.posting_journal.specs.Files.{IsJournal};
+ghost use Rattle.posting_journal.specs.Layout.{empty_journal, header};
 ghost use Rattle.posting_journal.specs.Runs.{IsSafe, Passes};
 
 use crate::layout::{CLOSED, HEADER_AND_GATE, OPEN};
@@ -18,6 +19,7 @@ pub(crate) fn create<D: Disk>(disk: &mut D, begun: bool) -> Result<(), Failed>
     ensures cause { HasDiskCause (D.faults disk.old) (D.faults disk.new) result }
     ensures honesty { (D.honest disk.old) ↔ (D.honest disk.new) }
     ensures made { D.honest disk.old → OnOk result (IsJournal (D.reads disk.new) [] × IsSafe D.Disk disk.new) }
+    ensures exact { D.honest disk.old → OnOk result (D.reads disk.new ≡ empty_journal) }
     ensures moments { D.honest disk.old → Passes D.Disk disk.old disk.new IsEmpty }
 {
     if !begun {
@@ -46,6 +48,7 @@ fn write_header<D: Disk>(disk: &mut D) -> Result<(), Failed>
     ensures cause { HasDiskCause (D.faults disk.old) (D.faults disk.new) result }
     ensures honesty { (D.honest disk.old) ↔ (D.honest disk.new) }
     ensures ready { D.honest disk.old → OnOk result (IsReady (D.reads disk.new) × IsSafe D.Disk disk.new) }
+    ensures exact { D.honest disk.old → OnOk result (D.reads disk.new ≡ 0 ∷ header ++ 0 ∷ []) }
     ensures moments { D.honest disk.old → Passes D.Disk disk.old disk.new IsEmpty }
 {
     put(disk, 1, &HEADER_AND_GATE)
@@ -54,10 +57,12 @@ fn write_header<D: Disk>(disk: &mut D) -> Result<(), Failed>
 // Byte 0 says that the creation has ended.
 fn finish<D: Disk>(disk: &mut D) -> Result<(), Failed>
     requires ready { D.honest disk.old → IsReady (D.reads disk.old) }
+    requires exact { D.honest disk.old → D.reads disk.old ≡ 0 ∷ header ++ 0 ∷ [] }
     requires safe { D.honest disk.old → IsSafe D.Disk disk.old }
     ensures cause { HasDiskCause (D.faults disk.old) (D.faults disk.new) result }
     ensures honesty { (D.honest disk.old) ↔ (D.honest disk.new) }
     ensures made { D.honest disk.old → OnOk result (IsJournal (D.reads disk.new) [] × IsSafe D.Disk disk.new) }
+    ensures exact { D.honest disk.old → OnOk result (D.reads disk.new ≡ empty_journal) }
     ensures moments { D.honest disk.old → Passes D.Disk disk.old disk.new IsEmpty }
 {
     put(disk, 0, &[OPEN])

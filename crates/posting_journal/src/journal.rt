@@ -1,6 +1,6 @@
 // The journal.
 ghost use Rattle.std.specs.Prelude.{◌<◌, ◌≤◌, length};
-ghost use Rattle.posting_journal.specs.Layout.{gate_place};
+ghost use Rattle.posting_journal.specs.Layout.{gate_place, most_records};
 
 use outside_io::Disk;
 
@@ -10,6 +10,6 @@ pub struct Journal<D: Disk> {
     pub(crate) disk: D,
     pub(crate) count: u32,
     pub(crate) clean: bool,
-    ghost few: { count ≤ 4000000 },
+    ghost few: { count ≤ most_records },
     ghost within: { D.honest disk → gate_place count < length (D.reads disk) },
 }

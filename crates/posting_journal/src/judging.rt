@@ -1,6 +1,6 @@
 // What a file is, by its length and its first bytes.
 ghost use Rattle.std.specs.Prelude.{◌≡◌, ℕ, List, min, length, take};
-ghost use Rattle.posting_journal.specs.Kinds.{IsOfKind, IsLongIfMade};
+ghost use Rattle.posting_journal.specs.inside.Kinds.{IsOfKind, IsLongIfMade};
 
 use crate::layout::{HEADER, OPEN};
 

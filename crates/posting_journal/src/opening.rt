@@ -2,10 +2,12 @@
 ghost use Rattle.std.specs.Prelude.{◌≡◌, ◌↔◌, ◌≤◌, length, IfOk, IfErr};
 ghost use Rattle.outside_io.specs.Disks.{HasDiskCause};
 ghost use Rattle.posting_journal.specs.Creation.{IsUnfinished};
-ghost use Rattle.posting_journal.specs.Kinds.{IsOfKind, IsLongIfMade};
-ghost use Rattle.posting_journal.specs.Opening.{IsOpenedOn, OpensOn, HasSynced, OpenedTo};
+ghost use Rattle.posting_journal.specs.Layout.{empty_journal, most_records};
+ghost use Rattle.posting_journal.specs.inside.Kinds.{IsOfKind, IsLongIfMade};
+ghost use Rattle.posting_journal.specs.Opening.{IsOpenedOn, OpensOn, HasSynced};
+ghost use Rattle.posting_journal.specs.inside.Steps.{OpenedTo};
 ghost use Rattle.posting_journal.specs.Runs.{IsSafe, LooksOn, Passes};
-ghost use Rattle.posting_journal.specs.Unopened.{HasUnopenedCause, ShowsWhy};
+ghost use Rattle.posting_journal.specs.inside.Unopened.{HasUnopenedCause, ShowsWhy};
 
 use crate::creation::create;
 use crate::faults::Unopened;
@@ -14,13 +16,15 @@ use crate::putting::make_safe;
 use crate::scanning::count_records;
 use outside_io::{Disk, Failed};
 
-// OpensToBodies the journal and answers how many records it has. What a crash left is made safe first, so that it is all
+// Opens the journal and answers how many records it has. What a crash left is made safe first, so that it is all
 // that a later crash leaves.
 pub(crate) fn open<D: Disk>(disk: &mut D) -> Result<u32, Unopened>
     ensures cause { HasUnopenedCause (D.faults disk.old) (D.faults disk.new) result }
     ensures honesty { (D.honest disk.old) ↔ (D.honest disk.new) }
-    ensures few { IfOk result (λ n. n ≤ 4000000) }
+    ensures few { IfOk result (λ n. n ≤ most_records) }
     ensures opened { D.honest disk.old → IfOk result (λ n. OpenedTo D.Disk disk.old disk.new n) }
+    ensures made { D.honest disk.old → IsUnfinished (D.reads disk.old)
+        → IfOk result (λ n. D.reads disk.new ≡ empty_journal) }
     ensures refused { D.honest disk.old → IfErr result (λ cause. ShowsWhy (D.reads disk.old) cause) }
     ensures opens { D.honest disk.old → OpensOn D.Disk disk.old disk.new }
     ensures synced { D.honest disk.old → IfOk result (λ n. HasSynced D.Disk disk.old disk.new) }
@@ -29,13 +33,15 @@ pub(crate) fn open<D: Disk>(disk: &mut D) -> Result<u32, Unopened>
     open_safe(disk)
 }
 
-// OpensToBodies what is safe.
+// Opens what is safe.
 fn open_safe<D: Disk>(disk: &mut D) -> Result<u32, Unopened>
     requires safe { D.honest disk.old → IsSafe D.Disk disk.old }
     ensures cause { HasUnopenedCause (D.faults disk.old) (D.faults disk.new) result }
     ensures honesty { (D.honest disk.old) ↔ (D.honest disk.new) }
-    ensures few { IfOk result (λ n. n ≤ 4000000) }
+    ensures few { IfOk result (λ n. n ≤ most_records) }
     ensures opened { D.honest disk.old → IfOk result (λ n. OpenedTo D.Disk disk.old disk.new n) }
+    ensures made { D.honest disk.old → IsUnfinished (D.reads disk.old)
+        → IfOk result (λ n. D.reads disk.new ≡ empty_journal) }
     ensures refused { D.honest disk.old → IfErr result (λ cause. ShowsWhy (D.reads disk.old) cause) }
     ensures moments { D.honest disk.old → Passes D.Disk disk.old disk.new (IsOpenedOn (D.reads disk.old)) }
     ensures unwritten { D.honest disk.old → ¬ IsUnfinished (D.reads disk.old) → LooksOn D.Disk disk.old disk.new }

@@ -1,7 +1,8 @@
 // A write that is made safe before anything else is done.
 ghost use Rattle.std.specs.Prelude.{◌+◌, ◌↔◌, ◌≤◌, length, OnOk};
 ghost use Rattle.outside_io.specs.Disks.{HasDiskCause, Syncs};
-ghost use Rattle.posting_journal.specs.Runs.{Passes, PutsOn};
+ghost use Rattle.posting_journal.specs.Runs.{Passes};
+ghost use Rattle.posting_journal.specs.inside.Steps.{PutsOn};
 
 use outside_io::{Disk, Failed};
 

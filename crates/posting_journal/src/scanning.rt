@@ -1,8 +1,8 @@
 // The records of a file that was made, gate by gate.
 ghost use Rattle.std.specs.Prelude.{◌≡◌, ◌↔◌, ◌+◌, ◌<◌, ◌≤◌, length, IsTrue, IfOk, IfErr, slice_index};
-ghost use Rattle.posting_journal.specs.Layout.{gate_place};
+ghost use Rattle.posting_journal.specs.Layout.{gate_place, most_records};
 ghost use Rattle.posting_journal.specs.Runs.{LooksOn};
-ghost use Rattle.posting_journal.specs.Unopened.{HasUnopenedCause, CantStand, IsBadFrom, EndsAt};
+ghost use Rattle.posting_journal.specs.inside.Unopened.{HasUnopenedCause, CantStand, IsBadFrom, EndsAt};
 
 use crate::appending::gate_place;
 use crate::faults::Unopened;
@@ -15,7 +15,7 @@ pub(crate) fn count_records<D: Disk>(disk: &mut D, size: u64) -> Result<u32, Uno
     requires told { D.honest disk.old → size ≡ length (D.reads disk.old) }
     ensures cause { HasUnopenedCause (D.faults disk.old) (D.faults disk.new) result }
     ensures honesty { (D.honest disk.old) ↔ (D.honest disk.new) }
-    ensures few { IfOk result (λ n. n ≤ 4000000) }
+    ensures few { IfOk result (λ n. n ≤ most_records) }
     ensures ends { D.honest disk.old → IfOk result (λ n. EndsAt (D.reads disk.old) n) }
     ensures bad { D.honest disk.old → IfErr result (λ cause. IsBadFrom (D.reads disk.old) cause) }
     ensures unwritten { D.honest disk.old → LooksOn D.Disk disk.old disk.new }
@@ -29,12 +29,12 @@ pub(crate) fn count_records<D: Disk>(disk: &mut D, size: u64) -> Result<u32, Uno
 
 // Whether the gate of record n is open; then the record has to stand.
 fn has_record<D: Disk>(disk: &mut D, size: u64, n: u32) -> Result<bool, Unopened>
-    requires few { n ≤ 4000000 }
+    requires few { n ≤ most_records }
     requires within { gate_place n < size }
     requires told { D.honest disk.old → size ≡ length (D.reads disk.old) }
     ensures cause { HasUnopenedCause (D.faults disk.old) (D.faults disk.new) result }
     ensures honesty { (D.honest disk.old) ↔ (D.honest disk.new) }
-    ensures stands { IfOk result (λ stands. IsTrue stands → (n < 4000000) × (gate_place (n + 1) < size)) }
+    ensures stands { IfOk result (λ stands. IsTrue stands → (n < most_records) × (gate_place (n + 1) < size)) }
     ensures gate { D.honest disk.old
         → IfOk result (λ stands. IsTrue stands ↔ (slice_index (D.reads disk.old) (gate_place n) ≡ 1)) }
     ensures bad { D.honest disk.old → IfErr result (λ cause. CantStand (D.reads disk.old) n cause) }

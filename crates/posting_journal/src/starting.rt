@@ -1,9 +1,11 @@
 // A journal is started on a disk.
 ghost use Rattle.std.specs.Prelude.{◌≡◌, ◌↔◌, ◌⊎◌, ℕ, List, IsTrue, IfOk, IfErr, IsErrAnd, MatchResult};
+ghost use Rattle.posting_journal.specs.Creation.{IsUnfinished};
+ghost use Rattle.posting_journal.specs.Layout.{empty_journal};
 ghost use Rattle.posting_journal.specs.States.{disk_of, is_clean};
 ghost use Rattle.posting_journal.specs.Opening.{OpensOn};
 ghost use Rattle.posting_journal.specs.Starting.{TellsCause, ShowsCause, IsRefusedFor, IsFault, HasStarted};
-ghost use Rattle.posting_journal.specs.Unopened.{ShowsWhy, TellsCount};
+ghost use Rattle.posting_journal.specs.inside.Unopened.{ShowsWhy, TellsCount};
 ghost use Rattle.posting_journal.specs.declared.faults.JournalCause.{JournalCause};
 
 use crate::faults::Unopened;
@@ -12,7 +14,7 @@ use crate::{Journal, JournalCause, JournalFault};
 use outside_io::Disk;
 
 impl<D: Disk> Journal<D> {
-    /// OpensToBodies the journal of the disk, or makes an empty one of an unfinished creation. Over any other file nothing is
+    /// Opens the journal of the disk, or makes an empty one of an unfinished creation. Over any other file nothing is
     /// written. A disk that fails is given back with its count, which rose in this call.
     pub fn start(disk: D) -> Result<Journal<D>, JournalFault<D>>
         ensures told { IfErr result (λ fault. TellsCause (D.faults disk) (D.faults fault.disk) fault.cause) }
@@ -21,6 +23,8 @@ impl<D: Disk> Journal<D> {
         ensures honesty { MatchResult result (λ journal. (D.honest disk) ↔ (D.honest (disk_of journal)))
             (λ fault. (D.honest disk) ↔ (D.honest fault.disk)) }
         ensures opened { D.honest disk → IfOk result (λ journal. HasStarted disk journal) }
+        ensures made { D.honest disk → IsUnfinished (D.reads disk)
+            → IfOk result (λ journal. D.reads (disk_of journal) ≡ empty_journal) }
         ensures refused { D.honest disk → IfErr result (λ fault. ShowsCause (D.reads disk) fault.cause) }
         ensures due { (cause : JournalCause) → D.honest disk → IsRefusedFor (D.reads disk) cause
             → IsErrAnd result (λ fault. (fault.cause ≡ cause) ⊎ IsFault fault.cause) }

@@ -9,6 +9,6 @@ mod tests;
 mod valuation;
 mod year;
 
-pub use pair::{Columns, Pair};
+pub use pair::{Columns, Pair, UNITS_IN_ONE};
 pub use quotient::{quotient_down, quotient_up};
 pub use valuation::columns;

@@ -1,3 +1,6 @@
+/// The units of 10^-16 that make 1.
+pub const UNITS_IN_ONE: u64 = 10_000_000_000_000_000;
+
 /// A lower and an upper bound of one value, in units of 10^-16.
 #[derive(Clone, Copy, PartialEq, Eq, Debug)]
 pub struct Pair {

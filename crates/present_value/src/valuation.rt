@@ -4,7 +4,7 @@ ghost use Rattle.present_value.specs.Rounding.{UNIT};
 ghost use Rattle.present_value.specs.Sums.{cover_of};
 ghost use Rattle.present_value.specs.Values.{CanValue, AreColumns, AreBenefits, ArePremiums, Enclose, HoldsOnly, pair_of};
 
-use crate::pair::{Columns, Pair};
+use crate::pair::{Columns, Pair, UNITS_IN_ONE};
 use crate::reciprocal::Reciprocal;
 use crate::year::{benefits_before, premiums_before};
 use rate_table::{RateTable, Shape};
@@ -70,7 +70,7 @@ fn year_reciprocal(bp: u16) -> Reciprocal
 fn end_value(matures: bool) -> u64
     ensures { result ≡ (if matures then UNIT else 0) }
 {
-    if matures { 10_000_000_000_000_000 } else { 0 }
+    if matures { UNITS_IN_ONE } else { 0 }
 }
 
 /// A column that holds a value at one year, and zeros elsewhere.

@@ -2,10 +2,8 @@ ghost use Rattle.std.specs.Prelude.{◌≡◌, ◌+◌, ◌*◌, ◌≤◌};
 ghost use Rattle.rate_table.specs.Rates.{ONE};
 ghost use Rattle.present_value.specs.Rounding.{UNIT, down, up, benefit_dividend, annuity_dividend};
 
-use crate::pair::Pair;
+use crate::pair::{Pair, UNITS_IN_ONE};
 use crate::reciprocal::Reciprocal;
-
-const UNITS_IN_ONE: u128 = 10_000_000_000_000_000;
 
 /// The benefits a year earlier: what a death in that year pays, and the value of a survivor's.
 ///
@@ -17,7 +15,7 @@ pub fn benefits_before(rate: u32, year: &Reciprocal, later: Pair) -> Pair
     ensures lo { result.lo ≡ down (benefit_dividend rate later.lo) (10000 * year.now.divisor) }
     ensures hi { result.hi ≡ up (benefit_dividend rate later.hi) (10000 * year.now.divisor) }
 {
-    let death = rate as u128 * UNITS_IN_ONE;
+    let death = rate as u128 * UNITS_IN_ONE as u128;
     let survival = 1_000_000_000 - rate as u128;
     Pair {
         lo: year.down(death + survival * later.lo as u128),
@@ -35,7 +33,7 @@ pub fn premiums_before(rate: u32, year: &Reciprocal, later: Pair) -> Pair
 {
     let survival = 1_000_000_000 - rate as u128;
     Pair {
-        lo: UNITS_IN_ONE as u64 + year.down(survival * later.lo as u128),
-        hi: UNITS_IN_ONE as u64 + year.up(survival * later.hi as u128),
+        lo: UNITS_IN_ONE + year.down(survival * later.lo as u128),
+        hi: UNITS_IN_ONE + year.up(survival * later.hi as u128),
     }
 }

@@ -1,7 +1,7 @@
 use Rattle.std.proofs.Common.{ℕ, [], arith, ap, length, length-append, refl, rules, ◌+◌, ◌∙◌}
 use Rattle.std.proofs.lemmas.Option.{slice_get-get_or}
 use Rattle.policy_machine.specs.History.{Opening}
-use Rattle.life_app.specs.Books.{StandsAfter}
+use Rattle.life_app.specs.inside.Books.{StandsAfter}
 use Rattle.life_app.proofs.AnswerSteps.{answers_more, begins}
 use Rattle.life_app.proofs.answers.answer_lines.Goals as goal
 

@@ -1,7 +1,7 @@
 use Rattle.std.proofs.Common.{◌≡◌, ◌≤◌, ◌+◌, ℕ, [], length, vec_len, vec_capacity}
 use Rattle.indexmap.specs.IndexMap.{spare}
 use Rattle.policy_machine.specs.History.{Opening}
-use Rattle.life_app.specs.Books.{GoesOn, StandsAfter, turns_made}
+use Rattle.life_app.specs.inside.Books.{GoesOn, StandsAfter, turns_made}
 use Rattle.life_app.proofs.answers.answer_lines.Given as goal
 
 abbrev pub invariant-loop-line : goal.invariant-loop-line

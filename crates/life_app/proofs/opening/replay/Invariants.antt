@@ -1,7 +1,7 @@
 -- The first n records are replayed, and there is room for the others' policies.
 use Rattle.std.proofs.Common.{◌+◌, ◌≤◌}
 use Rattle.indexmap.specs.IndexMap.{spare}
-use Rattle.life_app.specs.Replays.{StaysAs, AreReplayed}
+use Rattle.life_app.specs.inside.Replays.{StaysAs, AreReplayed}
 use Rattle.life_app.proofs.opening.replay.Given as goal
 
 abbrev pub invariant-loop-n : goal.invariant-loop-n

@@ -3,7 +3,7 @@ use Rattle.policy_types.specs.declared.command.Command.{Command}
 use Rattle.policy_types.specs.Valid.{id_of}
 use Rattle.policy_machine.specs.Book.{policy_of}
 use Rattle.policy_machine.specs.Rules.{next}
-use Rattle.life_app.specs.Books.{Keeps}
+use Rattle.life_app.specs.inside.Books.{Keeps}
 use Rattle.life_app.specs.Journals.{IsRecordable}
 use Rattle.life_app.proofs.PolicySteps.{keeps_more}
 use Rattle.life_app.proofs.policies.keep.Goals as goal

@@ -16,5 +16,5 @@ returns-in-Err g c = record {
         bad_row = λ (row field : ℕ) (e : c.in-Err.unread ≡ BadRow row field). c.read_lanes.ensures.bad_row row field (c.in-Err.is ∙ ap Err e);
         fault = λ (e : c.in-Err.unread ≡ ReadFault). c.read_lanes.ensures.fault (c.in-Err.is ∙ ap Err e);
       })
-      c.refuse.ensures.ends;
+      c.refuse.ensures.says;
 }

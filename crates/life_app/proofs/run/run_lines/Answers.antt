@@ -1,6 +1,6 @@
 use Rattle.std.proofs.Common.{[]}
 use Rattle.policy_machine.specs.History.{Opening}
-use Rattle.life_app.specs.Books.{StandsAfter}
+use Rattle.life_app.specs.inside.Books.{StandsAfter}
 use Rattle.life_app.proofs.run.run_lines.Goals as goal
 
 pub returns-clause-all : goal.returns-clause-all

@@ -14,5 +14,5 @@ returns-in-Ok-open g c =
 pub returns-in-Err : goal.returns-in-Err
 returns-in-Err g c = record {
   ends = ends_unopened g.D.Disk c.args.disk c.in-Err.unopened.disk c.args.script.now _ c.in-Err.unopened.cause c.refuse_journal.result
-      c.in-Err.ensures.refused c.refuse_journal.ensures.ends;
+      c.in-Err.ensures.refused c.refuse_journal.ensures.says;
 }

@@ -2,7 +2,7 @@
 use Rattle.std.proofs.Common.{◌≡◌, ◌↔◌, ◌-◌, ◌<◌, ◌≤◌, length}
 use Rattle.posting_journal.specs.Layout.{gate_place}
 use Rattle.posting_journal.specs.Runs.{LooksOn}
-use Rattle.posting_journal.specs.Unopened.{AreOpen}
+use Rattle.posting_journal.specs.inside.Unopened.{AreOpen}
 use Rattle.posting_journal.proofs.scanning.count_records.Given as goal
 
 abbrev pub invariant-loop-n : goal.invariant-loop-n

@@ -2,7 +2,7 @@ use Rattle.std.proofs.Common.{ℕ, List, ◌∙◌, sym}
 use Rattle.policy_types.specs.declared.entry.Entry.{Entry}
 use Rattle.policy_types.specs.declared.refusal.Refusal.TheVariants.{Taken, Full}
 use Rattle.policy_machine.specs.History.{Opening, commands_after}
-use Rattle.life_app.specs.Books.{StandsAfter}
+use Rattle.life_app.specs.inside.Books.{StandsAfter}
 use Rattle.life_app.specs.Journals.{IsRecordable}
 use Rattle.life_app.proofs.HistorySteps.{is_due, is_full, is_refused}
 use Rattle.life_app.proofs.OfficeSteps.{accepted_goes_on, faulted_goes_on, refused_goes_on}

@@ -1,0 +1,81 @@
+#!/bin/sh
+# The calls that the program makes on a real file, recorded by strace: just those that the journal allows, in order and
+# number. A sync that is left out, or made too late, is seen here and by no proof.
+root=$(cd "$(dirname "$0")/../.." && pwd) || exit 2
+command -v strace >/dev/null || {
+    echo "calls: strace is needed to record the program's calls" >&2
+    exit 1
+}
+work=$(mktemp -d) || exit 2
+trap 'rm -rf "$work"' EXIT
+"$root/life" x >/dev/null
+cd "$work" || exit 2
+head -n 3 "$root/examples/first-issues.csv" >three
+"$root/life" run <three >expected || exit 2
+rm journal.life
+
+record() {
+    strace -f -s 128 -xx -o "$1" -e trace=openat,flock,pread64,read,pwrite64,write,fsync,fdatasync,ftruncate,close,dup,dup2 \
+        "$root/crates/life_cli/out/life_cli" run <three >out || {
+        echo "calls: the program could not be recorded" >&2
+        exit 1
+    }
+}
+record fresh
+cmp -s expected out || { echo "calls: another transcript under strace" >&2; exit 1; }
+record again
+python3 - <<'PY'
+import re, sys
+
+def calls(name):
+    """The calls on the folder, the journal and the output, each with what it wrote and where."""
+    roles, found = {}, []
+    for line in open(name):
+        call = re.match(r"\d+ +(\w+)\((.*)\) += (-?\d+)", line)
+        if not call:
+            continue
+        word, args, result = call[1], call[2], int(call[3])
+        if word == "openat":
+            path = bytes.fromhex(re.search(r'"((?:\\x[0-9a-f]{2})*)"', args)[1].replace("\\x", "")).decode()
+            roles[result] = {".": "folder", "journal.life": "journal"}.get(path, "other")
+            if roles[result] != "other":
+                found.append(f"open {roles[result]}")
+            continue
+        fd = int(args.split(",")[0])
+        role = "output" if fd == 1 else roles.get(fd, "other")
+        if role == "other" or word in ("pread64", "read") or (word == "close" and role == "output"):
+            continue
+        if word == "pwrite64":
+            text, size, at = re.search(r'"((?:\\x[0-9a-f]{2})*)"(?:\.\.\.)?, (\d+), (\d+)$', args).groups()
+            written = bytes.fromhex(text.replace("\\x", ""))
+            if result != int(size):
+                sys.exit(f"calls: a short write: {line}")
+            found.append(f"write {role} {at} {written.hex()}")
+        elif word == "flock":
+            found.append(f"lock {role} {args.split(', ')[1]}")
+        else:
+            found.append(f"{word} {role}")
+    return found
+
+HELD = ["open folder"] * 3
+OPENED = ["open journal", "lock journal LOCK_EX|LOCK_NB", "open folder", "fsync folder", "close folder", "fsync journal"]
+ENDED = ["write output", "close journal"] + ["close folder"] * 3
+bytes_kept = open("journal.life", "rb").read()
+created = []
+for at, written in ((0, b"\0"), (1, b"LIFEJRNL\0\1\0\x40\0\0\0\0\0"), (0, b"\1")):
+    created += [f"write journal {at} {written.hex()}", "fsync journal"]
+posted = []
+for n in range(3):
+    body = bytes_kept[18 + 65 * n:82 + 65 * n]
+    posted += [f"write journal {18 + 65 * n} {body.hex()}00", "fsync journal", f"write journal {17 + 65 * n} 01", "fsync journal"]
+
+def judge(name, wanted):
+    made = calls(name)
+    if made != wanted:
+        place = next((i for i, (a, b) in enumerate(zip(made, wanted)) if a != b), min(len(made), len(wanted)))
+        sys.exit(f"calls: the {name} run, call {place}: made {made[place:place + 3]}, wanted {wanted[place:place + 3]}")
+
+judge("fresh", HELD + OPENED + created + posted + ENDED)
+judge("again", HELD + OPENED + ENDED)
+print("calls: the program syncs each write before the next, and its records before its transcript")
+PY

@@ -1,0 +1,60 @@
+#!/bin/sh
+# Two runs at once over one file, again and again: one has the file, and the other is answered diskfault, or runs before
+# or after it. What the runs accepted stands in the file, and nothing else.
+root=$(cd "$(dirname "$0")/../.." && pwd) || exit 2
+work=$(mktemp -d) || exit 2
+trap 'rm -rf "$work"' EXIT
+"$root/life" x >/dev/null
+python3 - "$root/crates/life_cli/out/life_cli" "$work" <<'PY' || exit 1
+import os, subprocess, sys
+program, work = sys.argv[1:]
+POSTINGS, ROUNDS = 60, 12
+
+def script(first):
+    return "".join(f"1,issue,{n},2020-01-01,endowment,0,3,1000.00,400.00\n" for n in range(first, first + POSTINGS)).encode()
+
+def start(folder):
+    made = subprocess.Popen([program, "run"], cwd=folder, stdin=subprocess.PIPE, stdout=subprocess.PIPE)
+    return made
+
+def end(run):
+    out = run.stdout.read()
+    return run.wait(), out.decode()
+
+def records(folder):
+    bytes = open(f"{folder}/journal.life", "rb").read()
+    ids, place = [], 17
+    while bytes[place] == 1:
+        ids.append(int.from_bytes(bytes[place + 5:place + 9], "big"))
+        place += 65
+    return ids
+
+met = 0
+for round in range(ROUNDS):
+    folder = f"{work}/{round}"
+    os.mkdir(folder)
+    runs = [start(folder), start(folder)]
+    for run, first in zip(runs, (1, 1 + POSTINGS)):
+        run.stdin.write(script(first))
+    # both have read their scripts but for the end, so they open the file at about the same time
+    for run in runs:
+        run.stdin.close()
+    ended = [end(run) for run in runs]
+    accepted = []
+    for (status, out), first in zip(ended, (1, 1 + POSTINGS)):
+        lines = out.splitlines()
+        if status == 8 and lines == ["diskfault"]:
+            met += 1
+        elif status == 0 and len(lines) == POSTINGS and all(",accepted," in line for line in lines):
+            accepted.append((int(lines[0].split(",")[-1]), range(first, first + POSTINGS)))
+        else:
+            sys.exit(f"two_runs: status {status}, printed {out[:200]!r}")
+    if not accepted:
+        sys.exit("two_runs: neither run had the file")
+    wanted = [n for _, ids in sorted(accepted, key=lambda one: one[0]) for n in ids]
+    if records(folder) != wanted:
+        sys.exit(f"two_runs: round {round}: the file doesn't hold just what was accepted")
+if met == 0:
+    sys.exit("two_runs: no two runs met, so nothing was tried")
+print(f"two_runs: of {ROUNDS} pairs of runs {met} met, and nothing was lost")
+PY

@@ -1,0 +1,91 @@
+-- What a crash leaves of a run, and what the next run finds
+use Rattle.std.proofs.Common.{◌≡◌, ℕ, List, [], ◌∷◌, ◌++◌, refl, ap, sym, ◌∙◌, subst, inl, inr, append-nil, append_assoc}
+use Rattle.outside_io.specs.declared.disks.Disk.{Ghosts}
+use Rattle.policy_types.specs.declared.command.Command.{Command}
+use Rattle.policy_types.specs.declared.entry.Entry.{Entry}
+use Rattle.policy_machine.specs.History.{Opening, accepted_of, commands_after}
+use Rattle.posting_journal.specs.Runs.{IsSafe}
+use Rattle.life_app.specs.Crashes.{AreAllHeld, AreHeld, HasRun}
+use Rattle.life_app.specs.Images.{HoldsOnce, IsLeftAlone, IsOneMore}
+use Rattle.life_app.specs.Journals.{Opens}
+use Rattle.life_app.proofs.JournalLaws.{opens_to_one}
+
+-- a file that opens to the commands from before the run
+as_before : (opening : Opening) (history : List Entry) (image : List ℕ) → Opens image opening.commands → HoldsOnce opening history image
+as_before opening history image opens = record {
+  held = [];
+  rest = accepted_of history;
+  more = [];
+  front = refl;
+  one = tt;
+  opens = subst (Opens image) (sym (append-nil (opening.commands ++ []) ∙ append-nil opening.commands)) opens;
+}
+
+-- a file that opens as one did that was left
+alike : (opening : Opening) (history : List Entry) (before image : List ℕ) (commands : List Command)
+    → HoldsOnce opening history before → Opens before commands → Opens image commands → HoldsOnce opening history image
+alike opening history before image commands holds opens again = record {
+  held = holds.held;
+  rest = holds.rest;
+  more = holds.more;
+  front = holds.front;
+  one = holds.one;
+  opens = subst (Opens image) (opens_to_one before commands (opening.commands ++ holds.held ++ holds.more) opens holds.opens) again;
+}
+
+-- with no turns none is accepted, and none faulted
+none_held : (held rest more : List Command) → [] ≡ held ++ rest → IsOneMore [] held more → held ++ more ≡ []
+none_held [] rest [] front one = refl
+none_held [] rest (command ∷ []) front one = nothing one.1.0.before _ _ one.1.0.turns
+  where
+    nothing : (before : List Entry) (entry : Entry) (after : List Entry) → [] ≡ before ++ entry ∷ after → command ∷ [] ≡ []
+    nothing [] entry after none = cc
+    nothing (first ∷ before) entry after none = cc
+none_held [] rest (command ∷ other ∷ more) front one = absurd one
+none_held (command ∷ held) rest more front one = cc
+
+pub next_commands : (opening : Opening) (history : List Entry) (image : List ℕ) (commands : List Command)
+    → HoldsOnce opening history image → Opens image commands → AreHeld opening history commands
+next_commands opening history image commands holds opens = record {
+  held = holds.held;
+  rest = holds.rest;
+  more = holds.more;
+  front = holds.front;
+  one = holds.one;
+  are = opens_to_one image commands (opening.commands ++ holds.held ++ holds.more) opens holds.opens;
+}
+
+module _ {D : Type 0} (g : Ghosts D) (old new : D) (opening : Opening) (history : List Entry) where
+  pub during : HasRun g old new opening history → (image : List ℕ) → g.left_since new (g.clock old) image → HoldsOnce opening history image
+  during ran image left = elim (ran.left.since ran.honest image left) [
+    | inl before ↦ as_before opening history image (subst (λ bytes. Opens bytes opening.commands) (sym (ran.safe image before)) ran.opens)
+    | inr held ↦ held
+  ]
+
+  pub afterwards : HasRun g old new opening history → (image : List ℕ) (commands : List Command) → g.may_leave new image
+      → Opens image commands → AreAllHeld opening history commands
+  afterwards ran image commands left opens = elim (ran.left.now ran.honest image left) [
+    | inl all ↦ inl (opens_to_one image commands (commands_after opening history) opens (inl all))
+    | inr more ↦ inr (
+      more.0,
+      more.1,
+      opens_to_one image commands (commands_after opening history ++ more.0 ∷ []) opens (inl more.2),
+    )
+  ]
+
+module _ {E : Type 0} (g : Ghosts E) (next last : E) (opening : Opening) (history : List Entry)
+    (holds : HoldsOnce opening history (g.reads next)) where
+  pub unopened_again : g.honest next → IsSafe g next → IsLeftAlone g next last → (image : List ℕ)
+      → g.left_since last (g.clock next) image → HoldsOnce opening history image
+  unopened_again honest safe alone image left = elim (alone.since honest image left) [
+    | inl before ↦ subst (HoldsOnce opening history) (sym (safe image before)) holds
+    | inr both ↦ alike opening history (g.reads next) image both.0 holds both.1 both.2
+  ]
+
+  pub opened_again : (second : Opening) → HasRun g next last second [] → (image : List ℕ)
+      → g.left_since last (g.clock next) image → HoldsOnce opening history image
+  opened_again second ran image left =
+      let held = during g next last second [] ran image left in
+      let none = none_held held.held held.rest held.more held.front held.one in
+      alike opening history (g.reads next) image second.commands holds ran.opens
+      (subst (Opens image) (append_assoc second.commands held.held held.more ∙ ap (λ cs. second.commands ++ cs) none ∙ append-nil second.commands) held.opens)

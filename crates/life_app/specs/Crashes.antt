@@ -1,0 +1,34 @@
+-- What a crash leaves of a run, as commands
+use Rattle.std.specs.Prelude.{◌≡◌, ◌⊎◌, List, [], ◌∷◌, ◌++◌}
+use Rattle.outside_io.specs.declared.disks.Disk.{Ghosts}
+use Rattle.policy_types.specs.declared.command.Command.{Command}
+use Rattle.policy_types.specs.declared.entry.Entry.{Entry}
+use Rattle.policy_machine.specs.History.{Opening, accepted_of, commands_after}
+use Rattle.posting_journal.specs.Runs.{IsSafe}
+use Rattle.life_app.specs.Images.{IsLeftBy, IsOneMore, IsPending}
+use Rattle.life_app.specs.Journals.{Opens}
+
+-- An office was opened on the commands of an honest disk's file, when a crash left just what is read, and the turns of
+-- the history left the disk so.
+pub record HasRun {D : Type 0} (g : Ghosts D) (old new : D) (opening : Opening) (history : List Entry) : Type 0 where
+  pub honest : g.honest old
+  pub safe : IsSafe g old
+  pub opens : Opens (g.reads old) opening.commands
+  pub left : IsLeftBy g old new opening history
+
+-- the commands from before the run, then a front of what it accepted, then at most one more, whose posting faulted when
+-- just these were accepted
+pub record AreHeld (opening : Opening) (history : List Entry) (commands : List Command) : Type 0 where
+  pub held : List Command
+  pub rest : List Command
+  pub more : List Command
+  pub front : accepted_of history ≡ held ++ rest
+  pub one : IsOneMore history held more
+  pub are : commands ≡ opening.commands ++ held ++ more
+
+-- the commands from before the run and all that it accepted, or these and one more, whose posting faulted with none
+-- accepted since
+abbrev pub AreAllHeld : Opening → List Entry → List Command → Type 0
+AreAllHeld opening history commands =
+    (commands ≡ commands_after opening history)
+    ⊎ ((command : Command) × IsPending history command × (commands ≡ commands_after opening history ++ command ∷ []))
