@@ -47,7 +47,7 @@ fn write_terms(lines: &mut LineWriter, command: &Command) -> Result<(), NoMemory
             amount,
             premium,
             ..
-        } => { write_insurance(lines, plan, age, years, amount, premium) }
+        } => write_insurance(lines, plan, age, years, amount, premium),
         Command::Alter {
             amount,
             premium,
