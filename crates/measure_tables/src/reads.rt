@@ -2,8 +2,7 @@ ghost use Rattle.std.specs.Prelude.{◌≡◌, ◌≤◌, List, length, IfOk, If
 ghost use Rattle.basis_book.specs.declared.row.BasisRow.{BasisRow};
 ghost use Rattle.basis_book.specs.File.{IsBasisFile, IsFileFault};
 ghost use Rattle.rate_table.specs.Rates.{Rates, last_age_of};
-ghost use Rattle.xtbml_subset.specs.Answers.{IsDue, Spells};
-ghost use Rattle.xtbml_subset.specs.Rows.{Unless};
+ghost use Rattle.xtbml_subset.specs.Answers.{IsDue, Spells, Unless};
 
 use basis_book::{BasisFault, LONGEST_FILE, read_basis};
 use std::alloc::Global;

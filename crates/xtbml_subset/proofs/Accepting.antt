@@ -8,9 +8,9 @@ use Rattle.xtbml_subset.specs.declared.class.Class.TheVariants.{White, Text}
 use Rattle.xtbml_subset.specs.declared.state.Phase.{Phase}
 use Rattle.xtbml_subset.specs.declared.state.Phase.TheVariants.{Opening, Prolog, Epilog}
 use Rattle.xtbml_subset.specs.Classes.{is_in, InClass}
-use Rattle.xtbml_subset.specs.Pieces.{Tag, Piece, byte, comment, declaration, start, whole, finish, IsPiece}
-use Rattle.xtbml_subset.specs.Nesting.{State, outside, past, after_piece, Spell, IsMark}
-use Rattle.xtbml_subset.specs.Walk.{walk_at, walk_from, after_mark, fault_place, fault_at}
+use Rattle.xtbml_subset.specs.Pieces.{Tag, Piece, byte, comment, declaration, start, whole, finish, IsPiece, IsMark, Spell}
+use Rattle.xtbml_subset.specs.inside.Machine.{State, outside, past, after_piece}
+use Rattle.xtbml_subset.specs.inside.Walk.{walk_at, walk_from, after_mark, fault_place, fault_at}
 use Rattle.xtbml_subset.specs.Documents.{Content, nothing, letter, remark, element, IsElement, IsContent, AreMisc, IsMisc, IsOpening, Node, IsDocument}
 use Rattle.xtbml_subset.proofs.LexAgain.{at_white}
 use Rattle.xtbml_subset.proofs.PieceAgain.{piece_again}

@@ -5,12 +5,12 @@ use Rattle.rate_table.specs.Rates.{Rates}
 use Rattle.xtbml_subset.specs.declared.fault.TableKind.TheVariants.{NotDocument}
 use Rattle.xtbml_subset.specs.declared.fault.TableFault.{TableFault}
 use Rattle.xtbml_subset.specs.declared.fault.TableFault.TheVariants.{Bad, NoMemory}
-use Rattle.xtbml_subset.specs.Walk.{fault_at}
-use Rattle.xtbml_subset.specs.Elements.{Found, elements_at}
+use Rattle.xtbml_subset.specs.inside.Walk.{fault_at}
+use Rattle.xtbml_subset.specs.inside.Elements.{Found, elements_at}
 use Rattle.xtbml_subset.specs.Checks.{Parts, parts_of, IsTable}
-use Rattle.xtbml_subset.specs.Rows.{found_asks, Unless}
+use Rattle.xtbml_subset.specs.inside.Rows.{found_asks}
 use Rattle.xtbml_subset.specs.Documents.{Node, IsDocument, node_asks}
-use Rattle.xtbml_subset.specs.Answers.{IsLongestNested, IsJudged, IsNoDocument, IsDue, Gives}
+use Rattle.xtbml_subset.specs.Answers.{IsLongestNested, IsJudged, IsNoDocument, IsDue, Gives, Unless}
 use Rattle.xtbml_subset.proofs.Accepting.{document_accepted}
 use Rattle.xtbml_subset.proofs.Sounding.{whole_document, longest_nested}
 use Rattle.xtbml_subset.proofs.Matching.{Matches, finds_root}
@@ -26,8 +26,8 @@ fault_due bytes at e = inr (not_accepted bytes at e, (at, longest_nested bytes a
 
 one_longest : (bytes : List ℕ) (m n : ℕ) → IsLongestNested bytes m → IsLongestNested bytes n → m ≡ n
 one_longest bytes m n a b =
-    let up : m ≤ n = b.longest m a.end a.within a.nested in
-    let down : n ≤ m = a.longest n b.end b.within b.nested in
+    let up : m ≤ n = b.longest m a.within a.nested in
+    let down : n ≤ m = a.longest n b.within b.nested in
     omega arith
 
 pub fault_only : (bytes : List ℕ) (at : ℕ) (answer : Result Rates TableFault) → Some at ≡ fault_at bytes → IsDue bytes answer → answer ≡ Err (Bad at NotDocument)

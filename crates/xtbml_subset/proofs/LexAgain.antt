@@ -5,7 +5,7 @@ use Rattle.xtbml_subset.specs.declared.class.Class.{Class}
 use Rattle.xtbml_subset.specs.declared.class.Class.TheVariants.{White, Name, DoubleQuoted, SingleQuoted}
 use Rattle.xtbml_subset.specs.Classes.{is_in, starts_name, InClass, front, after}
 use Rattle.xtbml_subset.specs.Pieces.{Attribute, IsSpace, IsName, IsQuoted, IsAttribute}
-use Rattle.xtbml_subset.specs.Reading.{spaces_at, name_at, closed_at, quoted_at, attribute_at}
+use Rattle.xtbml_subset.specs.inside.Reading.{spaces_at, name_at, closed_at, quoted_at, attribute_at}
 
 -- the bytes are over, or go on with a byte that isn't of the class
 abbrev pub Stops : Class → List ℕ → Type 0

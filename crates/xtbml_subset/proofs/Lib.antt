@@ -14,6 +14,7 @@ pub mod Accepting
 pub mod Scales
 pub mod TableRates
 pub mod Building
+pub mod Nested
 pub mod Sounding
 pub mod Matching
 pub mod Judging

@@ -6,13 +6,12 @@ use Rattle.std.proofs.lemmas.List.{length-append}
 use Rattle.std.specs.Str.{bytes_eq}
 use Rattle.xtbml_subset.specs.declared.class.Class.TheVariants.{White, Text}
 use Rattle.xtbml_subset.specs.Classes.{is_in, starts_name, InClass, front, after}
-use Rattle.xtbml_subset.specs.Pieces.{Tag, Piece, byte, comment, declaration, start, whole, finish, IsPiece, IsName}
-use Rattle.xtbml_subset.specs.Reading.{byte_at}
+use Rattle.xtbml_subset.specs.Pieces.{Tag, Piece, byte, comment, declaration, start, whole, finish, IsPiece, IsName, IsMark, Spell}
+use Rattle.xtbml_subset.specs.inside.Reading.{byte_at}
 use Rattle.xtbml_subset.specs.Texts.{◌>>=◌, value_of}
-use Rattle.xtbml_subset.specs.Nesting.{Spell, IsMark}
-use Rattle.xtbml_subset.specs.Elements.{Found, on, found, closed, is_wanted, is_hit, step_of, elements_at, children_at, text_at}
+use Rattle.xtbml_subset.specs.inside.Elements.{Found, on, found, closed, is_wanted, is_hit, step_of, elements_at, children_at, text_at}
 use Rattle.xtbml_subset.specs.Documents.{Content, nothing, letter, remark, element, IsElement, IsContent, AreMisc, IsOpening, Node, IsDocument, with_named, named_in, with_letter, text_of, node_row}
-use Rattle.xtbml_subset.specs.Rows.{row_of}
+use Rattle.xtbml_subset.specs.inside.Rows.{row_of}
 use Rattle.xtbml_subset.proofs.LexAgain.{at_white}
 use Rattle.xtbml_subset.proofs.PieceAgain.{not_start, piece_again}
 use Rattle.xtbml_subset.proofs.Searching.{elements_by}

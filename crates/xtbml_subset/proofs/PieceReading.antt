@@ -4,7 +4,7 @@ use Rattle.std.proofs.lemmas.Bool.{eqb-true}
 use Rattle.xtbml_subset.specs.declared.class.Class.TheVariants.{White, Declared, Text}
 use Rattle.xtbml_subset.specs.Classes.{is_in, front, after}
 use Rattle.xtbml_subset.specs.Pieces.{Attribute, Tag, Piece, byte, comment, declaration, start, whole, finish, IsName, AreAttributes, IsTag, IsEndTag, EndsByDashes, IsDeclaration, IsPiece}
-use Rattle.xtbml_subset.specs.Reading.{byte_at, spaces_at, name_at, attribute_at, attributes_from, attributes_at, with_attribute, dashes_at, comment_end_at, comment_at, declaration_at, end_tag_at, start_at, whole_at, tag_end_at, tag_at, marked_at, piece_at}
+use Rattle.xtbml_subset.specs.inside.Reading.{byte_at, spaces_at, name_at, attribute_at, attributes_from, attributes_at, with_attribute, dashes_at, comment_end_at, comment_at, declaration_at, end_tag_at, start_at, whole_at, tag_end_at, tag_at, marked_at, piece_at}
 use Rattle.xtbml_subset.specs.Texts.{◌>>=◌}
 use Rattle.xtbml_subset.proofs.Options.{bind_some, first_of_some, chosen, pair_is, some_pair}
 use Rattle.xtbml_subset.proofs.Runs.{front-after, front_in}

@@ -8,8 +8,8 @@ use Rattle.std.specs.Borrow.{Bor}
 use Rattle.std.specs.Prelude.{MatchBool}
 use Rattle.xtbml_subset.specs.declared.state.Phase.{Phase}
 use Rattle.xtbml_subset.specs.Pieces.{Tag, start, whole}
-use Rattle.xtbml_subset.specs.Nesting.{State, after_names}
-use Rattle.xtbml_subset.specs.Walk.{names_of}
+use Rattle.xtbml_subset.specs.inside.Machine.{State, after_names}
+use Rattle.xtbml_subset.specs.inside.Walk.{names_of}
 
 names_of-set : (depth : ℕ) (names : List (List ℕ)) (i : ℕ) (name : List ℕ) → depth ≤ i → names_of depth (set names i name) ≡ names_of depth names
 names_of-set zero names i name le = refl

@@ -1,8 +1,8 @@
 ghost use Rattle.std.specs.Prelude.{◌≡◌, ◌≤◌, ◌<◌, ◌+◌, ◌^◌, [], ◌∷◌, length, MatchOption, IfSome};
 ghost use Rattle.std.specs.Option.{option_copied};
-ghost use Rattle.xtbml_subset.specs.Elements.{is_wanted, is_hit, step_of, elements_at, depth_in};
-ghost use Rattle.xtbml_subset.specs.Tokens.{piece_of, tag_of};
-ghost use Rattle.xtbml_subset.specs.Views.{found_of, step_seen};
+ghost use Rattle.xtbml_subset.specs.inside.Elements.{is_wanted, is_hit, step_of, elements_at, depth_in};
+ghost use Rattle.xtbml_subset.specs.inside.Tokens.{piece_of, tag_of};
+ghost use Rattle.xtbml_subset.specs.inside.Views.{found_of, step_seen};
 
 use crate::found::Element;
 use crate::token::{Tag, Token, next_token};

@@ -1,9 +1,9 @@
 ghost use Rattle.std.specs.Prelude.{◌≡◌, ◌≤◌, ◌<◌, ◌-◌, ℕ, [], ◌∷◌, length, map, MatchBool, IfSome};
 ghost use Rattle.std.specs.Option.{option_map, option_copied};
-ghost use Rattle.xtbml_subset.specs.Nesting.{State, after_piece, after_outside, outside, past};
+ghost use Rattle.xtbml_subset.specs.inside.Machine.{State, after_piece, after_outside, outside, past};
 ghost use Rattle.xtbml_subset.specs.Pieces.{Tag, start, whole, finish, declaration};
-ghost use Rattle.xtbml_subset.specs.Tokens.{piece_of};
-ghost use Rattle.xtbml_subset.specs.Walk.{state_of, after_mark, fault_at, fault_place, is_ended};
+ghost use Rattle.xtbml_subset.specs.inside.Tokens.{piece_of};
+ghost use Rattle.xtbml_subset.specs.inside.Walk.{state_of, after_mark, fault_at, fault_place, is_ended};
 
 use crate::class::{Class, is_in};
 use crate::state::{DEEPEST, Nesting, Phase};
@@ -203,7 +203,7 @@ fn place_at_end(bytes: &[u8], rest: &[u8], nesting: &Nesting) -> Option<usize>
 }
 
 /// The place up to which the pieces nest, or `None` where the bytes are a document.
-#[tactic(auto, unfolding(crate::specs::Walk::fault_at))]
+#[tactic(auto, unfolding(crate::specs::inside::Walk::fault_at))]
 pub fn place_of_fault(bytes: &[u8]) -> Option<usize>
     ensures fault { result ≡ fault_at bytes.now }
     ensures within { IfSome result (λ at. at ≤ length bytes.now) }

@@ -1,7 +1,6 @@
 ghost use Rattle.std.specs.Prelude.{◌≡◌, ℕ, ◌≤◌, length, IfOk, IfErr, Ok, Err, Result};
 ghost use Rattle.rate_table.specs.Rates.{Rates};
-ghost use Rattle.xtbml_subset.specs.Answers.{Spells, IsDue, Gives};
-ghost use Rattle.xtbml_subset.specs.Rows.{Unless};
+ghost use Rattle.xtbml_subset.specs.Answers.{Spells, IsDue, Gives, Unless};
 
 use crate::fault::{TableFault, TableKind};
 use crate::finder::next_element;

@@ -1,8 +1,9 @@
 ghost use Rattle.std.specs.Prelude.{◌≡◌, ℕ, ◌≤◌, ◌<◌, ◌+◌, ◌*◌, ◌^◌, length, IfSome, IfOk, IfErr, MatchBool};
 ghost use Rattle.std.specs.Option.{option_copied, ForSome};
 ghost use Rattle.xtbml_subset.specs.Checks.{digit_then, short_number, age_of, is_due, Reads, IsRow, AreRows, first_age};
-ghost use Rattle.xtbml_subset.specs.Rows.{row_of, rows_at, Unless};
-ghost use Rattle.xtbml_subset.specs.Views.{found_of};
+ghost use Rattle.xtbml_subset.specs.inside.Rows.{row_of, rows_at};
+ghost use Rattle.xtbml_subset.specs.Answers.{Unless};
+ghost use Rattle.xtbml_subset.specs.inside.Views.{found_of};
 
 use crate::fault::{TableFault, TableKind};
 use crate::found::Element;

@@ -1,9 +1,10 @@
 ghost use Rattle.std.specs.Prelude.{◌≡◌, ◌==◌, ◌||◌, ℕ, ◌≤◌, OnOk, length, IfOk, IfErr, MatchResult, MatchBool, Ok, Err, codes};
 ghost use Rattle.std.specs.Option.{option_copied, ForSome};
 ghost use Rattle.xtbml_subset.specs.Checks.{within, path, rates_of, factor_of, option_row, parts_of, IsUnscaled, IsScale, IsScaledTable, IsTable};
-ghost use Rattle.xtbml_subset.specs.Elements.{children_at};
-ghost use Rattle.xtbml_subset.specs.Rows.{found_asks, rows_at, Unless};
-ghost use Rattle.xtbml_subset.specs.Views.{found_of, found_result, found_pair};
+ghost use Rattle.xtbml_subset.specs.inside.Elements.{children_at};
+ghost use Rattle.xtbml_subset.specs.inside.Rows.{found_asks, rows_at};
+ghost use Rattle.xtbml_subset.specs.Answers.{Unless};
+ghost use Rattle.xtbml_subset.specs.inside.Views.{found_of, found_result, found_pair};
 
 use crate::class::Class;
 use crate::fault::{TableFault, TableKind};

@@ -1,7 +1,7 @@
 ghost use Rattle.std.specs.Prelude.{◌≡◌, ◌≤◌, ◌+◌, length};
 ghost use Rattle.std.specs.Option.{option_map, option_copied};
 ghost use Rattle.xtbml_subset.specs.Texts.{without_end, trimmed};
-ghost use Rattle.xtbml_subset.specs.Reading.{byte_at, spaces_at, name_at};
+ghost use Rattle.xtbml_subset.specs.inside.Reading.{byte_at, spaces_at, name_at};
 ghost use Rattle.xtbml_subset.specs.Classes.{front, after};
 
 use crate::class::{Class, is_in, starts_name};
@@ -38,7 +38,7 @@ pub fn after_byte(bytes: &[u8], byte: u8) -> Option<&[u8]>
 }
 
 /// The bytes after white space, of which there is at least one byte.
-#[tactic(auto, unfolding(crate::specs::Reading::spaces_at))]
+#[tactic(auto, unfolding(crate::specs::inside::Reading::spaces_at))]
 pub fn after_spaces(bytes: &[u8]) -> Option<&[u8]>
     ensures { option_copied result ≡ spaces_at bytes.now }
 {
@@ -49,7 +49,7 @@ pub fn after_spaces(bytes: &[u8]) -> Option<&[u8]>
 }
 
 /// The name at the front, and the bytes after it.
-#[tactic(auto, unfolding(crate::specs::Reading::name_at))]
+#[tactic(auto, unfolding(crate::specs::inside::Reading::name_at))]
 pub fn name(bytes: &[u8]) -> Option<(&[u8], &[u8])>
     ensures { option_map (λ x. (x.0.now, x.1.now)) result ≡ name_at bytes.now }
 {

@@ -1,6 +1,6 @@
 use Rattle.std.proofs.Common.{◌<◌, ◌≤◌, length, sym, ap, ◌∙◌, arith}
-use Rattle.xtbml_subset.specs.Tokens.{piece_of}
-use Rattle.xtbml_subset.specs.Walk.{state_of, fault_place, fault_at}
+use Rattle.xtbml_subset.specs.inside.Tokens.{piece_of}
+use Rattle.xtbml_subset.specs.inside.Walk.{state_of, fault_place, fault_at}
 use Rattle.xtbml_subset.proofs.Behind.{behind_shorter}
 use Rattle.xtbml_subset.proofs.PieceReading.{piece_behind}
 use Rattle.xtbml_subset.proofs.Walking.{walk_step, walk_stuck, walk_end, place_stuck}

@@ -1,7 +1,7 @@
 use Rattle.std.proofs.Common.{◌≡◌, ◌≤◌, length}
 use Rattle.xtbml_subset.specs.declared.state.Phase.TheVariants.{Opening}
-use Rattle.xtbml_subset.specs.Nesting.{outside}
-use Rattle.xtbml_subset.specs.Walk.{state_of, walk_at, after_mark}
+use Rattle.xtbml_subset.specs.inside.Machine.{outside}
+use Rattle.xtbml_subset.specs.inside.Walk.{state_of, walk_at, after_mark}
 use Rattle.xtbml_subset.proofs.nesting.place_of_fault.Given as goal
 
 abbrev pub invariant-loop-token : goal.invariant-loop-token

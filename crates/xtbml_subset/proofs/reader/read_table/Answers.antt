@@ -1,8 +1,8 @@
 use Rattle.std.proofs.Common.{length, None, Ok, Err, inl}
-use Rattle.xtbml_subset.specs.Elements.{elements_at, depth_in}
+use Rattle.xtbml_subset.specs.inside.Elements.{elements_at, depth_in}
 use Rattle.xtbml_subset.specs.Checks.{parts_of, IsTable}
-use Rattle.xtbml_subset.specs.Rows.{found_asks}
-use Rattle.xtbml_subset.specs.Views.{found_of}
+use Rattle.xtbml_subset.specs.inside.Rows.{found_asks}
+use Rattle.xtbml_subset.specs.inside.Views.{found_of}
 use Rattle.xtbml_subset.specs.Answers.{Spells, IsDue}
 use Rattle.xtbml_subset.proofs.Final.{fault_due, fault_only, some_root, judged_by, due_by, if_ok, if_fault, gives}
 use Rattle.xtbml_subset.proofs.reader.read_table.Goals as goal

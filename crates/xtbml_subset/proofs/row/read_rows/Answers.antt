@@ -1,9 +1,9 @@
 use Rattle.std.proofs.Common.{◌+◌, map, None, Some, Err, sym, subst, codes}
 use Rattle.std.proofs.lemmas.Result.{err_from_is_err_and}
-use Rattle.xtbml_subset.specs.Elements.{siblings_at}
+use Rattle.xtbml_subset.specs.inside.Elements.{siblings_at}
 use Rattle.xtbml_subset.specs.Checks.{AreRows}
-use Rattle.xtbml_subset.specs.Rows.{row_of, rows_at}
-use Rattle.xtbml_subset.specs.Views.{found_of}
+use Rattle.xtbml_subset.specs.inside.Rows.{row_of, rows_at}
+use Rattle.xtbml_subset.specs.inside.Views.{found_of}
 use Rattle.xtbml_subset.proofs.RowRuns.{ReadSoFar, so_far_more, so_far_fault, so_far_all, left_siblings, unless_from}
 use Rattle.xtbml_subset.proofs.row.read_rows.Goals as goal
 

@@ -1,5 +1,5 @@
-use Rattle.xtbml_subset.specs.Rows.{rows_at}
-use Rattle.xtbml_subset.specs.Views.{found_of, bytes_left}
+use Rattle.xtbml_subset.specs.inside.Rows.{rows_at}
+use Rattle.xtbml_subset.specs.inside.Views.{found_of, bytes_left}
 use Rattle.xtbml_subset.proofs.RowRuns.{ReadSoFar, rows_left}
 use Rattle.xtbml_subset.proofs.row.read_rows.Given as goal
 

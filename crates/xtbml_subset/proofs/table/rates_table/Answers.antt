@@ -1,9 +1,9 @@
 use Rattle.std.proofs.Common.{◌≤◌, ℕ, length, sym, subst, arith, codes}
 use Rattle.std.proofs.lemmas.List.{length-map}
 use Rattle.rate_table.specs.Rates.{AreRates}
-use Rattle.xtbml_subset.specs.Elements.{Found, children_at}
-use Rattle.xtbml_subset.specs.Rows.{row_of, rows_at}
-use Rattle.xtbml_subset.specs.Views.{found_of}
+use Rattle.xtbml_subset.specs.inside.Elements.{Found, children_at}
+use Rattle.xtbml_subset.specs.inside.Rows.{row_of, rows_at}
+use Rattle.xtbml_subset.specs.inside.Views.{found_of}
 use Rattle.xtbml_subset.proofs.TableRates.{rows_make_rates, no_fault}
 use Rattle.xtbml_subset.proofs.table.rates_table.Goals as goal
 

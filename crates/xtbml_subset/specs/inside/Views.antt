@@ -3,8 +3,8 @@ use Rattle.xtbml_subset.specs.declared.fault.TableFault.{TableFault}
 use Rattle.xtbml_subset.specs.declared.found.Element.{Element}
 use Rattle.xtbml_subset.specs.declared.finder.Seen.{Seen}
 use Rattle.xtbml_subset.specs.declared.finder.Seen.TheVariants as seen
-use Rattle.xtbml_subset.specs.Tokens.{tag_of}
-use Rattle.xtbml_subset.specs.Elements.{Found, Step, on, found, closed}
+use Rattle.xtbml_subset.specs.inside.Tokens.{tag_of}
+use Rattle.xtbml_subset.specs.inside.Elements.{Found, Step, on, found, closed}
 
 abbrev pub found_of : Element → Found
 found_of element = record { from = element.from.now; tag = tag_of element.tag; is_open = element.is_open; rest = element.rest.now }
