@@ -19,3 +19,4 @@ pub mod Sounding
 pub mod Matching
 pub mod Judging
 pub mod Final
+pub mod WorkedPlaces
