@@ -9,7 +9,7 @@ use Rattle.xtbml_subset.specs.Classes.{is_in}
 use Rattle.xtbml_subset.specs.Pieces.{Piece, byte, comment, declaration, start, whole, finish, IsPiece, IsMark, Spell}
 use Rattle.xtbml_subset.specs.inside.Reading.{byte_at, piece_at}
 use Rattle.xtbml_subset.specs.Texts.{◌>>=◌}
-use Rattle.xtbml_subset.specs.inside.Machine.{State, outside, after_piece, Steps, IsWalked}
+use Rattle.xtbml_subset.specs.inside.Machine.{State, outside, after_piece, Steps}
 use Rattle.xtbml_subset.specs.inside.Walk.{walk_at, after_mark, fault_place, fault_at}
 use Rattle.xtbml_subset.specs.Documents.{Node, IsDocument}
 use Rattle.xtbml_subset.specs.Answers.{IsLongestNested}
@@ -108,7 +108,7 @@ splits_mark bytes =
 
 -- ---- a document
 
-place_none : (total : ℕ) (phase : Phase) (names : List (List ℕ)) (rest : List ℕ) → fault_place total (record { phase = phase; names = names }, rest) ≡ None
+pub place_none : (total : ℕ) (phase : Phase) (names : List (List ℕ)) (rest : List ℕ) → fault_place total (record { phase = phase; names = names }, rest) ≡ None
     → (rest ≡ []) × (let state : State = record { phase = phase; names = names } in state ≡ outside Epilog)
 place_none total phase names (b ∷ rest) e = absurd cc
 place_none total Epilog [] [] e = (refl, refl)
@@ -194,7 +194,7 @@ longest_nested bytes at e =
     record {
       within = omega arith;
       nested = nested_by_walk (take at bytes) end.0
-      (record { mark = m.mark; rest = w.text; pieces = w.pieces; parts = front_is; is_mark = m.is_mark; spelled = w.spelled; steps = w.nests });
+          (record { mark = m.mark; rest = w.text; pieces = w.pieces; parts = front_is; is_mark = m.is_mark; spelled = w.spelled; steps = w.nests });
       longest = λ n le nested.
           let other = walk_by_nested (take n bytes) nested in
           let o = other.1 in

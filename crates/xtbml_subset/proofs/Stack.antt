@@ -31,7 +31,7 @@ names_pushed names depth name lt =
     let rest : names_of depth (set (texts names) depth name.now) ≡ names_of depth (texts names) = names_of-set depth (texts names) depth name.now (omega arith) in
     rw (add-one, written, first, rest) refl
 
-length-names_of : (depth : ℕ) (names : List (List ℕ)) → length (names_of depth names) ≡ depth
+pub length-names_of : (depth : ℕ) (names : List (List ℕ)) → length (names_of depth names) ≡ depth
 length-names_of zero names = refl
 length-names_of (suc depth) names = ap suc (length-names_of depth names)
 

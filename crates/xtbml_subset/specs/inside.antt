@@ -4,5 +4,6 @@ pub mod Reading
 pub mod Tokens
 pub mod Walk
 pub mod Elements
+pub mod Searches
 pub mod Views
 pub mod Rows

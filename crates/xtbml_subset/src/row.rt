@@ -1,7 +1,7 @@
 ghost use Rattle.std.specs.Prelude.{◌≡◌, ℕ, ◌≤◌, ◌<◌, ◌+◌, ◌*◌, ◌^◌, length, IfSome, IfOk, IfErr, MatchBool};
 ghost use Rattle.std.specs.Option.{option_copied, ForSome};
 ghost use Rattle.xtbml_subset.specs.Checks.{digit_then, short_number, age_of, is_due, Reads, IsRow, AreRows, first_age};
-ghost use Rattle.xtbml_subset.specs.inside.Rows.{row_of, rows_at};
+ghost use Rattle.xtbml_subset.specs.inside.Rows.{row_of, rows_from};
 ghost use Rattle.xtbml_subset.specs.Answers.{Unless};
 ghost use Rattle.xtbml_subset.specs.inside.Views.{found_of};
 
@@ -96,14 +96,14 @@ pub fn read_row(row: &Element<'_>, due: Option<u8>, total: u32) -> Result<(u8, u
     }
 }
 
-/// The rates of the `Y` in an axis, in order.
-pub fn read_rows(alloc: Global, axis: &Element<'_>, total: u32) -> Result<Vec<u32>, TableFault>
-    ensures read { IfOk result (λ rates. AreRows None (rows_at total (found_of axis.now)) (Ok rates.items)) }
-    ensures fault { IfErr result (λ fault. Unless fault (AreRows None (rows_at total (found_of axis.now)) (Err fault))) }
+/// The rates of a `Y` and of those behind it, in order.
+pub fn read_rows(alloc: Global, first: &Element<'_>, total: u32) -> Result<Vec<u32>, TableFault>
+    ensures read { IfOk result (λ rates. AreRows None (rows_from total (found_of first.now)) (Ok rates.items)) }
+    ensures fault { IfErr result (λ fault. Unless fault (AreRows None (rows_from total (found_of first.now)) (Err fault))) }
 {
     let mut rates = Vec::new(alloc);
     let mut due: Option<u8> = None;
-    let mut next = axis.first_child(b"Y");
+    let mut next = Some(*first);
     while let Some(row) = next {
         let (age, rate) = read_row(&row, due, total)?;
         rates.push(rate)?;
@@ -113,15 +113,12 @@ pub fn read_rows(alloc: Global, axis: &Element<'_>, total: u32) -> Result<Vec<u3
     Ok(rates)
 }
 
-/// The age of the first `Y` in an axis.
-pub fn first_age(axis: &Element<'_>) -> u8
-    ensures { (total : ℕ) → result ≡ first_age (rows_at total (found_of axis.now)) }
+/// The age of a `Y`, or 0 where it has none.
+pub fn age_at(row: &Element<'_>) -> u8
+    ensures { (total : ℕ) → result ≡ first_age (rows_from total (found_of row.now)) }
 {
-    match axis.first_child(b"Y") {
-        Some(row) => match age_of(row.attribute(b"t")) {
-            Some(age) => age,
-            None => 0,
-        },
+    match age_of(row.attribute(b"t")) {
+        Some(age) => age,
         None => 0,
     }
 }

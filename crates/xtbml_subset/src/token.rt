@@ -5,7 +5,7 @@ ghost use Rattle.xtbml_subset.specs.inside.Tokens.{piece_of};
 
 use crate::attribute::after_attributes;
 use crate::class::Class;
-use crate::text::{after_byte, after_spaces, name, skip};
+use crate::text::{after_byte, after_spaces, from_byte, name, skip};
 
 /// A tag's name, and the bytes behind the name, with which its attributes begin.
 #[derive(Clone, Copy)]
@@ -36,12 +36,12 @@ fn after_dashes(bytes: &[u8]) -> Option<&[u8]>
 fn after_comment(bytes: &[u8]) -> Option<&[u8]>
     ensures { option_copied result ≡ comment_end_at bytes.now }
 {
-    let mut rest = bytes;
+    let mut rest = from_byte(bytes, 45);
     while let [_, next @ ..] = rest {
         if let Some(after) = after_dashes(rest) {
             return Some(after);
         }
-        rest = next;
+        rest = from_byte(next, 45);
     }
     None
 }

@@ -76,4 +76,3 @@ pub record IsWalked (bytes : List ℕ) (end : State) : Type 0 where
   pub is_mark : IsMark mark
   pub spelled : Spell pieces rest
   pub steps : Steps (outside Opening) pieces end
-

@@ -1,6 +1,6 @@
 -- The rows of the elements that a reader finds, in a file of so many bytes.
-use Rattle.std.specs.Prelude.{ℕ, ◌-◌, List, length, map, codes}
-use Rattle.xtbml_subset.specs.inside.Elements.{Found, children_at, text_at}
+use Rattle.std.specs.Prelude.{ℕ, ◌-◌, List, ◌∷◌, length, map, codes}
+use Rattle.xtbml_subset.specs.inside.Elements.{Found, children_at, siblings_at, text_at}
 use Rattle.xtbml_subset.specs.Texts.{value_of}
 use Rattle.xtbml_subset.specs.Checks.{Row, Asks}
 
@@ -20,3 +20,7 @@ found_asks total = record {
 
 abbrev pub rows_at : ℕ → Found → List Row
 rows_at total axis = map (λ element. row_of total element) (children_at (codes "Y") axis)
+
+-- the row of an element and those of the rates behind it
+abbrev pub rows_from : ℕ → Found → List Row
+rows_from total element = row_of total element ∷ map (λ e. row_of total e) (siblings_at (codes "Y") element)

@@ -2,7 +2,7 @@ use Rattle.std.proofs.Common.{◌+◌, map, None, Some, Err, sym, subst, codes}
 use Rattle.std.proofs.lemmas.Result.{err_from_is_err_and}
 use Rattle.xtbml_subset.specs.inside.Elements.{siblings_at}
 use Rattle.xtbml_subset.specs.Checks.{AreRows}
-use Rattle.xtbml_subset.specs.inside.Rows.{row_of, rows_at}
+use Rattle.xtbml_subset.specs.inside.Rows.{row_of, rows_from}
 use Rattle.xtbml_subset.specs.inside.Views.{found_of}
 use Rattle.xtbml_subset.proofs.RowRuns.{ReadSoFar, so_far_more, so_far_fault, so_far_all, left_siblings, unless_from}
 use Rattle.xtbml_subset.proofs.row.read_rows.Goals as goal
@@ -11,7 +11,7 @@ pub returns-in_err-age-clause-fault : goal.returns-in_err-age-clause-fault
 returns-in_err-age-clause-fault c =
     let p = err_from_is_err_and c.from_residual.result c.from_residual.ensures.1 in
     let total = c.args.total in
-    let all = rows_at total (found_of c.args.axis.now) in
+    let all = rows_from total (found_of c.args.first.now) in
     let row = found_of c.in-Some.row in
     let fault = c.in_err-age.field-0.0 in
     let so_far = rw c.in-Some.is at c.loop-next.invariant in
@@ -21,7 +21,7 @@ returns-in_err-age-clause-fault c =
 pub loop-next-preserved : goal.loop-next-preserved
 loop-next-preserved c =
     let total = c.args.total in
-    let all = rows_at total (found_of c.args.axis.now) in
+    let all = rows_from total (found_of c.args.first.now) in
     let row = found_of c.in-Some.row in
     let behind = map (λ e. row_of total e) (siblings_at (codes "Y") row) in
     let rate = c.in_ok-age.rate in
@@ -33,5 +33,5 @@ loop-next-preserved c =
 
 pub returns-clause-read : goal.returns-clause-read
 returns-clause-read c =
-    let all = rows_at c.args.total (found_of c.args.axis.now) in
+    let all = rows_from c.args.total (found_of c.args.first.now) in
     so_far_all all c.loop-next.rates.items c.loop-next.due (rw c.in_default.is at c.loop-next.invariant)
