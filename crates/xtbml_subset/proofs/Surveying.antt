@@ -6,12 +6,13 @@ use Rattle.std.specs.Prelude.{MatchBool}
 use Rattle.xtbml_subset.specs.declared.class.Class.TheVariants.{White}
 use Rattle.xtbml_subset.specs.declared.state.Phase.{Phase}
 use Rattle.xtbml_subset.specs.declared.state.Phase.TheVariants.{Opening, Prolog, Epilog}
+use Rattle.xtbml_subset.specs.declared.search.Tally.{Tally}
 use Rattle.xtbml_subset.specs.Classes.{is_in}
 use Rattle.xtbml_subset.specs.Pieces.{Tag, Piece, byte, comment, declaration, start, whole, finish}
 use Rattle.xtbml_subset.specs.inside.Machine.{State, outside, past, after_names, after_piece}
 use Rattle.xtbml_subset.specs.inside.Reading.{piece_at}
-use Rattle.xtbml_subset.specs.inside.Elements.{Found, on, found, closed, is_wanted, is_hit, step_of, elements_at, children_at}
-use Rattle.xtbml_subset.specs.inside.Searches.{Passing, Sought, seeking, hit, missed, by_step, sought_at, opens, sought_under, Path, no_path, path_after, Stands, StandsUnder, IsPath, IsFirstIn, IsFirstUnder, IsFound}
+use Rattle.xtbml_subset.specs.inside.Elements.{depth_in, Found, on, found, closed, is_wanted, is_hit, step_of, elements_at, children_at}
+use Rattle.xtbml_subset.specs.inside.Searches.{Passing, Sought, seeking, hit, missed, by_step, sought_at, opens, sought_under, counted, tally_at, tally_under, no_tally, Path, no_path, path_after, Stands, StandsUnder, Tallies, TalliesUnder, IsPath, IsFirstIn, IsFirstUnder, IsCountUnder, IsFound}
 use Rattle.xtbml_subset.proofs.Options.{chosen}
 use Rattle.xtbml_subset.proofs.Searching.{elements_by}
 
@@ -253,6 +254,106 @@ gate level name p above s = by_gate (opens above)
     by_gate true = inr refl
     by_gate false = inl refl
 
+-- ---- a count
+
+-- the level of what was found begins where the bytes behind it are left
+hit_place : (level depth next : ℕ) (wanted : Option (List ℕ)) (p : Passing) (f : Found) → p.depth ≡ depth → Moves p.piece depth next → sought_at level wanted p seeking ≡ hit f
+    → (level ≤ next) × (f.rest ≡ p.rest) × (depth_in f.is_open ≡ next - level)
+hit_place level depth next wanted p f at move is =
+    elim (chosen (eqb p.depth level) (by_step p (step_of 0 wanted p.piece)) seeking (hit f) is) [
+      | inl h ↦
+          let same_level : depth ≡ level = sym at ∙ eqb-true p.depth level h.0 in
+          by_piece p.piece (subst (λ (n : ℕ). Moves p.piece n next) same_level move) h.1
+      | inr h ↦ absurd (let no = h.1 in cc)
+    ]
+  where
+    found_is : (tag : Tag) (is_open : Bool) → hit (record { from = p.from; tag = tag; is_open = is_open; rest = p.rest }) ≡ hit f
+        → (p.rest ≡ f.rest) × (is_open ≡ f.is_open)
+    found_is tag is_open e = let g : Found = record { from = p.from; tag = tag; is_open = is_open; rest = p.rest } in
+        let same_found : g ≡ f = cc in (ap (λ (x : Found). x.rest) same_found, ap (λ (x : Found). x.is_open) same_found)
+    by_piece : (piece : Piece) → Moves piece level next → by_step p (step_of 0 wanted piece) ≡ hit f → (level ≤ next) × (f.rest ≡ p.rest) × (depth_in f.is_open ≡ next - level)
+    by_piece (byte b) m e = absurd (let no = e in cc)
+    by_piece comment m e = absurd (let no = e in cc)
+    by_piece declaration m e = absurd (let no = e in cc)
+    by_piece (finish name) m e = absurd (let no = e in cc)
+    by_piece (start tag) m e =
+        elim (cases_Bool (is_hit 0 wanted tag)) [
+          | inl h ↦
+              let same = found_is tag true (rw h at e) in
+              let one : 1 ≡ next - level = omega arith in
+              (omega arith, sym same.0, ap depth_in (sym same.1) ∙ one)
+          | inr h ↦ absurd (let no : seeking ≡ hit f = rw h at e in cc)
+        ]
+    by_piece (whole tag) m e =
+        elim (cases_Bool (is_hit 0 wanted tag)) [
+          | inl h ↦
+              let same = found_is tag false (rw h at e) in
+              let none : 0 ≡ next - level = omega arith in
+              (omega arith, sym same.0, ap depth_in (sym same.1) ∙ none)
+          | inr h ↦ absurd (let no : seeking ≡ hit f = rw h at e in cc)
+        ]
+
+tallies_step : (level depth next : ℕ) (wanted : Option (List ℕ)) (p : Passing) (elements : List Found) (count : ℕ) (over : Bool) → p.depth ≡ depth → piece_at p.from ≡ Some (p.piece, p.rest)
+    → Moves p.piece depth next → Tallies level wanted depth p.from elements (record { count = count; is_over = over })
+    → Tallies level wanted next p.rest elements (tally_at level wanted p (record { count = count; is_over = over }))
+tallies_step level depth next wanted p elements count true at read move tallies = tallies
+tallies_step level depth next wanted p elements count false at read move tallies =
+    let left_before = elements_at (depth - level) wanted p.from in
+    by_sought (sought_at level wanted p seeking) refl (stands_step level depth next wanted p left_before seeking at read move (tallies.0, refl))
+  where
+    by_sought : (s : Sought) → sought_at level wanted p seeking ≡ s → Stands level wanted next p.rest (elements_at (depth - level) wanted p.from) s
+        → Tallies level wanted next p.rest elements (counted (record { count = count; is_over = false }) s)
+    by_sought seeking e stands = (stands.0, tallies.1 ∙ ap (λ (fs : List Found). count + length fs) stands.1)
+    by_sought (hit f) e stands =
+        let place = hit_place level depth next wanted p f at move e in
+        let rest_is : elements_at (depth_in f.is_open) wanted f.rest ≡ elements_at (next - level) wanted p.rest
+        = ap (λ (r : List ℕ). elements_at (depth_in f.is_open) wanted r) place.1 ∙ ap (λ (n : ℕ). elements_at n wanted p.rest) place.2 in
+        let split : length (elements_at (depth - level) wanted p.from) ≡ suc (length (elements_at (next - level) wanted p.rest))
+        = ap (λ (fs : List Found). length fs) stands ∙ ap (λ (fs : List Found). suc (length fs)) rest_is in
+        (place.0, let all = tallies.1 in omega arith)
+    by_sought missed e stands =
+        let none : length (elements_at (depth - level) wanted p.from) ≡ 0 = ap (λ (fs : List Found). length fs) stands in
+        let all = tallies.1 in
+        omega arith
+
+tally_fresh : (level depth : ℕ) (name rest : List ℕ) (above : Sought) → StandsUnder level name depth rest above seeking → TalliesUnder level name depth rest above no_tally
+tally_fresh level depth name rest seeking under = refl
+tally_fresh level depth name rest missed under = tt
+tally_fresh level depth name rest (hit f) under = inside f.is_open under
+  where
+    inside : (b : Bool) → MatchBool b (Stands level (Some name) depth rest (children_at name f) seeking) (seeking ≡ seeking)
+        → MatchBool b (Tallies level (Some name) depth rest (children_at name f) no_tally) (no_tally ≡ no_tally)
+    inside true stands = (stands.0, let all : length (children_at name f) ≡ length (elements_at (depth - level) (Some name) rest) = ap (λ (fs : List Found). length fs) stands.1 in omega arith)
+    inside false none = refl
+
+tally_step : (level depth next : ℕ) (wanted : Option (List ℕ)) (name : List ℕ) (p : Passing) (above now : Sought) (t : Tally) → p.depth ≡ depth → piece_at p.from ≡ Some (p.piece, p.rest)
+    → Moves p.piece depth next → IsAbove level wanted p above now → TalliesUnder (suc level) name depth p.from above t
+    → TalliesUnder (suc level) name next p.rest now (tally_under (suc level) name p above t)
+tally_step level depth next wanted name p seeking now t at read move is under =
+    subst (λ u. TalliesUnder (suc level) name next p.rest now u) (sym under)
+    (tally_fresh (suc level) next name p.rest now (under_seeking level depth next wanted name p now at move is))
+tally_step level depth next wanted name p missed now t at read move is under =
+    subst (λ s. TalliesUnder (suc level) name next p.rest s t) (sym (kept_above level wanted p missed now refl is)) tt
+tally_step level depth next wanted name p (hit f) now t at read move is under =
+    subst (λ s. TalliesUnder (suc level) name next p.rest s (tally_under (suc level) name p (hit f) t)) (sym (kept_above level wanted p (hit f) now refl is)) (inside f.is_open under)
+  where
+    inside : (b : Bool) → MatchBool b (Tallies (suc level) (Some name) depth p.from (children_at name f) t) (t ≡ no_tally)
+        → MatchBool b (Tallies (suc level) (Some name) next p.rest (children_at name f) (cond b (tally_at (suc level) (Some name) p t) t)) (cond b (tally_at (suc level) (Some name) p t) t ≡ no_tally)
+    inside true tallies = tallies_step (suc level) depth next (Some name) p (children_at name f) t.count t.is_over at read move tallies
+    inside false none = none
+
+pub tally_low : (level : ℕ) (name : List ℕ) (p : Passing) (above : Sought) (t : Tally) → (tally_under level name p above t).count ≤ t.count + 1
+tally_low level name p above t = by_gate (opens above) t.is_over (sought_at level (Some name) p seeking)
+  where
+    low : (s : Sought) → (counted t s).count ≤ t.count + 1
+    low seeking = omega arith
+    low (hit f) = omega arith
+    low missed = omega arith
+    by_gate : (b over : Bool) (s : Sought) → (cond b (cond over t (counted t s)) t).count ≤ t.count + 1
+    by_gate true true s = omega arith
+    by_gate true false s = low s
+    by_gate false over s = omega arith
+
 -- ---- all searches
 
 pub path_step : (bytes : List ℕ) (state next : State) (p : Passing) (path : Path) → p.depth ≡ length state.names → piece_at p.from ≡ Some (p.piece, p.rest) → after_piece state p.piece ≡ Some next
@@ -269,6 +370,7 @@ path_step bytes state next p path at read goes is =
       axis = under_step 2 depth last (Some (codes "Values")) (codes "Axis") p path.values (sought_under 2 (codes "Values") p path.table path.values) path.axis at read move (gate 2 (codes "Values") p path.table path.values) is.axis;
       inner = under_step 3 depth last (Some (codes "Axis")) (codes "Axis") p path.axis (sought_under 3 (codes "Axis") p path.values path.axis) path.inner at read move (gate 3 (codes "Axis") p path.values path.axis) is.inner;
       first = under_step 3 depth last (Some (codes "Axis")) (codes "Y") p path.axis (sought_under 3 (codes "Axis") p path.values path.axis) path.first at read move (gate 3 (codes "Axis") p path.values path.axis) is.first;
+      tally = tally_step 3 depth last (Some (codes "Axis")) (codes "Y") p path.axis (sought_under 3 (codes "Axis") p path.values path.axis) path.tally at read move (gate 3 (codes "Axis") p path.values path.axis) is.tally;
     }
 
 -- ---- bytes that are passed over
@@ -294,6 +396,18 @@ under_run level depth name from rest (hit f) s same under = inside f.is_open und
     inside true stands = stands_run level depth (Some name) from rest (children_at name f) s same stands
     inside false none = none
 
+tally_run : (level depth : ℕ) (name from rest : List ℕ) (above : Sought) (t : Tally) → SameElements rest from → TalliesUnder level name depth from above t → TalliesUnder level name depth rest above t
+tally_run level depth name from rest seeking t same under = under
+tally_run level depth name from rest missed t same under = under
+tally_run level depth name from rest (hit f) t same under = inside f.is_open t.is_over under
+  where
+    inside : (b over : Bool)
+        → MatchBool b (MatchBool over (length (children_at name f) ≡ t.count) ((level ≤ depth) × (length (children_at name f) ≡ t.count + length (elements_at (depth - level) (Some name) from)))) (t ≡ no_tally)
+        → MatchBool b (MatchBool over (length (children_at name f) ≡ t.count) ((level ≤ depth) × (length (children_at name f) ≡ t.count + length (elements_at (depth - level) (Some name) rest)))) (t ≡ no_tally)
+    inside true true tallies = tallies
+    inside true false tallies = (tallies.0, tallies.1 ∙ ap (λ (fs : List Found). t.count + length fs) (sym (same (depth - level) (Some name))))
+    inside false over none = none
+
 pub path_run : (bytes : List ℕ) (depth : ℕ) (from rest : List ℕ) (path : Path) → SameElements rest from → IsPath bytes depth from path → IsPath bytes depth rest path
 path_run bytes depth from rest path same is = record {
   root = stands_run 0 depth None from rest (elements_at 0 None bytes) path.root same is.root;
@@ -303,12 +417,13 @@ path_run bytes depth from rest path same is = record {
   axis = under_run 3 depth (codes "Axis") from rest path.values path.axis same is.axis;
   inner = under_run 4 depth (codes "Axis") from rest path.axis path.inner same is.inner;
   first = under_run 4 depth (codes "Y") from rest path.axis path.first same is.first;
+  tally = tally_run 4 depth (codes "Y") from rest path.axis path.tally same is.tally;
 }
 
 -- ---- the start
 
 pub path_start : (bytes rest : List ℕ) → elements_at 0 None bytes ≡ elements_at 0 None rest → IsPath bytes 0 rest no_path
-path_start bytes rest e = record { root = (omega arith, e); table = refl; about = refl; values = refl; axis = refl; inner = refl; first = refl }
+path_start bytes rest e = record { root = (omega arith, e); table = refl; about = refl; values = refl; axis = refl; inner = refl; first = refl; tally = refl }
 
 -- ---- the end
 
@@ -332,6 +447,20 @@ ends_any level name seeking s low under = tt
 ends_any level name missed s low under = tt
 ends_any level name (hit f) s low under = ends_under level name f s low under
 
+counts_any : (level : ℕ) (name : List ℕ) (above : Sought) (t : Tally) → 1 ≤ level → TalliesUnder level name 0 [] above t → IsCountUnder name above t
+counts_any level name seeking t low under = tt
+counts_any level name missed t low under = tt
+counts_any level name (hit f) t low under = inside f.is_open t.is_over refl under
+  where
+    inside : (b over : Bool) → f.is_open ≡ b
+        → MatchBool b (MatchBool over (length (children_at name f) ≡ t.count) ((level ≤ 0) × (length (children_at name f) ≡ t.count + length (elements_at (0 - level) (Some name) [])))) (t ≡ no_tally)
+        → length (children_at name f) ≡ t.count
+    inside true true e tallies = tallies
+    inside true false e tallies = absurd (let le : level ≤ 0 = tallies.0 in omega arith)
+    inside false over e none =
+        let empty : children_at name f ≡ [] = rw e refl in
+        ap (λ (fs : List Found). length fs) empty ∙ ap (λ (u : Tally). u.count) (sym none)
+
 pub path_found : (bytes : List ℕ) (path : Path) (root : Found) → path.root ≡ hit root → IsPath bytes 0 [] path → IsFound root path
 path_found bytes path root e is =
     let table : StandsUnder 1 (codes "Table") 0 [] (hit root) path.table = subst (λ above. StandsUnder 1 (codes "Table") 0 [] above path.table) e is.table in
@@ -342,6 +471,7 @@ path_found bytes path root e is =
       axis = ends_any 3 (codes "Axis") path.values path.axis (omega arith) is.axis;
       inner = ends_any 4 (codes "Axis") path.axis path.inner (omega arith) is.inner;
       first = ends_any 4 (codes "Y") path.axis path.first (omega arith) is.first;
+      tally = counts_any 4 (codes "Y") path.axis path.tally (omega arith) is.tally;
     }
 
 -- ---- deep pieces
@@ -360,8 +490,17 @@ kept_under level name p above s low deep = by_gate (opens above)
     by_gate true = kept_at level (Some name) p s low deep
     by_gate false = refl
 
-abbrev path_with : Sought → Sought → Sought → Sought → Sought → Sought → Sought → Path
-path_with root table about values axis inner first = record { root = root; table = table; about = about; values = values; axis = axis; inner = inner; first = first }
+abbrev path_with : Sought → Sought → Sought → Sought → Sought → Sought → Sought → Tally → Path
+path_with root table about values axis inner first tally =
+    record { root = root; table = table; about = about; values = values; axis = axis; inner = inner; first = first; tally = tally }
+
+kept_tally : (level : ℕ) (name : List ℕ) (p : Passing) (above : Sought) (t : Tally) → level ≤ 4 → 4 < p.depth → t ≡ tally_under level name p above t
+kept_tally level name p above t low deep = by_gate (opens above) t.is_over (sought_at level (Some name) p seeking) (kept_at level (Some name) p seeking low deep)
+  where
+    by_gate : (b over : Bool) (s : Sought) → seeking ≡ s → t ≡ cond b (cond over t (counted t s)) t
+    by_gate true true s e = refl
+    by_gate true false s e = ap (counted t) e
+    by_gate false over s e = refl
 
 pub path_kept : (p : Passing) (path : Path) → 4 < p.depth → path ≡ path_after p path
 path_kept p path deep =
@@ -372,7 +511,8 @@ path_kept p path deep =
     let axis = kept_under 3 (codes "Axis") p path.values path.axis (omega arith) deep in
     let inner = kept_under 4 (codes "Axis") p path.axis path.inner (omega arith) deep in
     let first = kept_under 4 (codes "Y") p path.axis path.first (omega arith) deep in
+    let tally = kept_tally 4 (codes "Y") p path.axis path.tally (omega arith) deep in
     let next = path_after p path in
-    let all : path_with path.root path.table path.about path.values path.axis path.inner path.first
-    ≡ path_with next.root next.table next.about next.values next.axis next.inner next.first = cc in
+    let all : path_with path.root path.table path.about path.values path.axis path.inner path.first path.tally
+    ≡ path_with next.root next.table next.about next.values next.axis next.inner next.first next.tally = cc in
     all

@@ -1,4 +1,4 @@
-ghost use Rattle.std.specs.Prelude.{◌≡◌, ◌==◌, ◌||◌, ℕ, ◌≤◌, ◌∷◌, List, length, IfOk, IfErr, MatchResult, MatchBool, Ok, Err, codes};
+ghost use Rattle.std.specs.Prelude.{◌≡◌, ◌==◌, ◌||◌, ℕ, ◌+◌, ◌≤◌, ◌∷◌, List, length, IfOk, IfErr, MatchResult, MatchBool, Ok, Err, codes};
 ghost use Rattle.std.specs.Option.{option_copied, ForSome};
 ghost use Rattle.xtbml_subset.specs.Checks.{within, path, rates_of, factor_of, option_row, parts_of, IsUnscaled, IsScale, IsScaledTable, IsTable};
 ghost use Rattle.xtbml_subset.specs.inside.Elements.{children_at, siblings_at};
@@ -135,12 +135,18 @@ fn check_scale(table: &Element<'_>, about: &Search<'_>, total: u32) -> Result<()
     }
 }
 
-/// The rates from the first of an axis on, as a table.
-fn rates_table(alloc: Global, first: &Element<'_>, total: u32) -> Result<RateTable, TableFault>
+/// The rates from the first of an axis on, which are so many, as a table.
+fn rates_table(
+    alloc: Global,
+    first: &Element<'_>,
+    count: usize,
+    total: u32,
+) -> Result<RateTable, TableFault>
+    requires { 1 + length (siblings_at (codes "Y") (found_of first.now)) ≡ count }
     ensures read { IfOk result (λ table. IsScaledTable (rows_from total (found_of first.now)) (Ok tt) (Ok table)) }
     ensures fault { IfErr result (λ fault. Unless fault (IsScaledTable (rows_from total (found_of first.now)) (Ok tt) (Err fault))) }
 {
-    let rates = read_rows(alloc, first, total)?;
+    let rates = read_rows(alloc, first, count, total)?;
     match RateTable::new(age_at(first), rates) {
         Ok(table) => Ok(table),
         Err(_) => unreachable!(),
@@ -161,5 +167,5 @@ pub fn table_of(
     let (table, axis) = table_and_axis(root, found, total)?;
     let first = check_axis(&axis, found, total)?;
     check_scale(&table, &found.about, total)?;
-    rates_table(alloc, &first, total)
+    rates_table(alloc, &first, found.tally.count, total)
 }

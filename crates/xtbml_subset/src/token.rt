@@ -72,12 +72,17 @@ fn end_tag(bytes: &[u8]) -> Option<(Token<'_>, &[u8])>
     Some((Token::End(name), rest))
 }
 
-#[tactic(auto, unfolding(crate::specs::inside::Reading::tag_at))]
+#[tactic(auto, unfolding(crate::specs::inside::Reading::tag_at, crate::specs::inside::Reading::attributes_from, crate::specs::inside::Reading::attribute_at, crate::specs::inside::Reading::spaces_at))]
 fn start_tag(bytes: &[u8]) -> Option<(Token<'_>, &[u8])>
     ensures { option_map (λ x. (piece_of x.0, x.1.now)) result ≡ tag_at bytes.now }
 {
     let (name, attributes) = name(bytes)?;
     let tag = Tag { name, attributes };
+    match attributes {
+        [62, rest @ ..] => return Some((Token::Start(tag), rest)),
+        [47, 62, rest @ ..] => return Some((Token::Whole(tag), rest)),
+        _ => {}
+    }
     let rest = skip(after_attributes(attributes), Class::White);
     if let Some(rest) = after_byte(rest, 62) {
         return Some((Token::Start(tag), rest));

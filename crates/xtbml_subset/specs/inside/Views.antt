@@ -36,6 +36,7 @@ path_of path = record {
   axis = sought_of path.axis;
   inner = sought_of path.inner;
   first = sought_of path.first;
+  tally = path.tally;
 }
 
 abbrev pub found_result : Result Element TableFault → Result Found TableFault

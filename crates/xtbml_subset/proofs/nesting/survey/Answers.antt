@@ -1,8 +1,8 @@
-use Rattle.std.proofs.Common.{◌<◌, ◌≤◌, length, None, sym, ap, subst, ◌∙◌, arith}
+use Rattle.std.proofs.Common.{◌≡◌, ◌+◌, ◌<◌, ◌≤◌, length, None, sym, ap, subst, ◌∙◌, arith, codes}
 use Rattle.xtbml_subset.specs.declared.state.Phase.TheVariants.{Opening}
 use Rattle.xtbml_subset.specs.inside.Machine.{State, outside}
 use Rattle.xtbml_subset.specs.inside.Elements.{elements_at}
-use Rattle.xtbml_subset.specs.inside.Searches.{Passing, no_path, IsPath}
+use Rattle.xtbml_subset.specs.inside.Searches.{Passing, Path, no_path, IsPath}
 use Rattle.xtbml_subset.specs.inside.Tokens.{piece_of}
 use Rattle.xtbml_subset.specs.inside.Views.{path_of}
 use Rattle.xtbml_subset.specs.inside.Walk.{state_of, walk_at, fault_place, fault_at}
@@ -12,7 +12,7 @@ use Rattle.xtbml_subset.proofs.Walking.{walk_step, walk_stuck, walk_end, place_s
 use Rattle.xtbml_subset.proofs.Stack.{texts, length-names_of}
 use Rattle.xtbml_subset.proofs.Sounding.{place_none}
 use Rattle.xtbml_subset.proofs.Matching.{mark_passed}
-use Rattle.xtbml_subset.proofs.Surveying.{path_start, path_step, path_run}
+use Rattle.xtbml_subset.proofs.Surveying.{path_start, path_step, path_run, tally_low}
 use Rattle.xtbml_subset.proofs.nesting.survey.Goals as goal
 
 pub loop-token-init : goal.loop-token-init
@@ -26,6 +26,7 @@ loop-token-init c =
     record {
       same_end = ap (λ (s : State). walk_at s rest) begins ∙ ap (walk_at (outside Opening)) c.after_mark-rest.ensures.rest;
       within = c.after_mark-rest.ensures.length;
+      low = (let none_yet = ap (λ (p : Path). p.tally.count) c.new-path.ensures in let shorter : length rest ≤ length bytes = c.after_mark-rest.ensures.length in omega arith);
       is_path = subst (IsPath bytes (length (state_of c.new-nesting.result).names) rest) (sym c.new-path.ensures) there;
     }
 
@@ -71,9 +72,13 @@ loop-token-preserved c =
     let depth_is = sym (length-names_of old.depth (texts old.names)) in
     let step = path_step bytes (state_of old) next passing (path_of c.loop-token.path) depth_is read c.if-not-take.ensures c.loop-token.invariant.is_path in
     let passed = subst (IsPath bytes (length next.names) after) (sym c.pass.ensures) step in
+    let count_is = ap (λ (p : Path). p.tally.count) c.pass.ensures in
+    let count_low = tally_low 4 (codes "Y") passing (path_of c.loop-token.path).axis c.loop-token.path.tally in
+    let room : c.loop-token.path.tally.count + length rest ≤ length bytes = c.loop-token.invariant.low in
     record {
       same_end = c.after_run-rest.ensures.walk ∙ sym (walk_step rest piece after (state_of old) next read c.if-not-take.ensures) ∙ c.loop-token.invariant.same_end;
       within = omega arith;
+      low = omega arith;
       is_path = path_run bytes (length next.names) after c.after_run-rest.result.now (path_of c.pass.new.self) c.after_run-rest.ensures.elements passed;
     }
 
@@ -100,3 +105,11 @@ returns-in-None-clause-path c =
     let ended = place_none (length bytes) state.phase state.names rest (sym c.in-None.ensures.fault) in
     let none = ap (λ (s : State). length s.names) ended.1 in
     subst (λ r. IsPath bytes 0 r path) ended.0 (subst (λ n. IsPath bytes n rest path) none c.loop-token.invariant.is_path)
+
+pub pass-requires : goal.pass-requires
+pass-requires c =
+    let rest = c.loop-token.rest.now in
+    let shorter : length c.in-Some.after.now < length rest = behind_shorter rest c.in-Some.after.now (piece_behind rest (piece_of c.in-Some.token) c.in-Some.after.now (sym c.in-Some.ensures)) in
+    let room : c.loop-token.path.tally.count + length rest ≤ length c.args.bytes.now = c.loop-token.invariant.low in
+    let short : length c.args.bytes.now ≤ 4194304 = c.requires.short in
+    omega arith
