@@ -1,4 +1,4 @@
-ghost use Rattle.std.specs.Prelude.{◌≡◌, ◌≤◌, ◌+◌, ℕ, List, length, IfOk, IfErr, IfSome, Err};
+ghost use Rattle.std.specs.Prelude.{◌≡◌, ◌≤◌, ◌<◌, ◌+◌, ℕ, List, length, IfOk, IfErr, MatchOption, Err};
 ghost use Rattle.basis_book.specs.declared.row.BasisRow.{BasisRow};
 ghost use Rattle.basis_book.specs.File.{IsBasisFile, IsFileFault};
 ghost use Rattle.rate_table.specs.Rates.{Rates, last_age_of};
@@ -13,16 +13,21 @@ pub trait Reading {
     /// How often it was read.
     ghost readings: { Self → ℕ };
 
+    /// It was read, and what it was read as last is what it holds.
+    ghost is_read: { Self → Type 0 };
+
     /// Reads once more.
     fn read(&mut self)
         requires { readings self.old + 1 ≤ 4294967295 }
-        ensures { readings self.new ≡ readings self.old + 1 };
+        ensures count { readings self.new ≡ readings self.old + 1 }
+        ensures read { is_read self.new };
 }
 
 /// Reads so many times.
 pub fn repeat<R: Reading>(reading: &mut R, times: u32)
     requires { R.readings reading.old + times ≤ 4294967295 }
-    ensures { R.readings reading.new ≡ R.readings reading.old + times }
+    ensures count { R.readings reading.new ≡ R.readings reading.old + times }
+    ensures read { 0 < times → R.is_read reading.new }
 {
     let mut left = times;
     while left > 0 {
@@ -32,18 +37,21 @@ pub fn repeat<R: Reading>(reading: &mut R, times: u32)
 }
 
 /// A basis file, and what it was read as last.
+#[derive(Drop)]
 pub struct BasisFile<'a> {
     pub alloc: Global,
     pub bytes: &'a [u8],
     pub count: u32,
     pub last: Option<Result<usize, BasisFault>>,
-    ghost short: { length bytes.now ≤ LONGEST_FILE },
-    ghost rows: { IfSome last (λ read. IfOk read (λ count. (found : List BasisRow) × IsBasisFile bytes.now found × (count ≡ length found))) },
-    ghost faults: { IfSome last (λ read. IfErr read (IsFileFault bytes.now)) },
+    ghost short: { length bytes.now ≤ 4194304 },
 }
 
 impl Reading for BasisFile<'_> {
     ghost readings = { λ file. file.count };
+
+    ghost is_read = { λ file. MatchOption file.last ⊥ (λ read.
+        IfOk read (λ count. (found : List BasisRow) × IsBasisFile file.bytes.now found × (count ≡ length found))
+        × IfErr read (IsFileFault file.bytes.now)) };
 
     fn read(&mut self) {
         self.count += 1;
@@ -63,18 +71,21 @@ fn rows(alloc: Global, bytes: &[u8]) -> Result<usize, BasisFault>
 }
 
 /// A table file, and the first and the last age of the table that was read last.
+#[derive(Drop)]
 pub struct TableFile<'a> {
     pub alloc: Global,
     pub bytes: &'a [u8],
     pub count: u32,
     pub last: Option<Result<(u8, u8), TableFault>>,
-    ghost short: { length bytes.now ≤ LONGEST_FILE },
-    ghost ages: { IfSome last (λ read. IfOk read (λ ages. (table : Rates) × Spells bytes.now table × (ages.0 ≡ table.first_age) × (ages.1 ≡ last_age_of table))) },
-    ghost faults: { IfSome last (λ read. IfErr read (λ fault. Unless fault (IsDue bytes.now (Err fault)))) },
+    ghost short: { length bytes.now ≤ 4194304 },
 }
 
 impl Reading for TableFile<'_> {
     ghost readings = { λ file. file.count };
+
+    ghost is_read = { λ file. MatchOption file.last ⊥ (λ read.
+        IfOk read (λ ages. (table : Rates) × Spells file.bytes.now table × (ages.0 ≡ table.first_age) × (ages.1 ≡ last_age_of table))
+        × IfErr read (λ fault. Unless fault (IsDue file.bytes.now (Err fault)))) };
 
     fn read(&mut self) {
         self.count += 1;
