@@ -4,9 +4,9 @@ use Rattle.std.specs.Option.{option_map_or, unwrap_or}
 use Rattle.xtbml_subset.specs.declared.state.Phase.{Phase}
 use Rattle.xtbml_subset.specs.declared.state.Phase.TheVariants.{Opening, Prolog, Epilog}
 use Rattle.xtbml_subset.specs.declared.state.Nesting.{Nesting}
-use Rattle.xtbml_subset.specs.Reading.{byte_at, piece_at}
+use Rattle.xtbml_subset.specs.inside.Reading.{byte_at, piece_at}
 use Rattle.xtbml_subset.specs.Texts.{◌>>=◌}
-use Rattle.xtbml_subset.specs.Nesting.{State, outside, after_piece}
+use Rattle.xtbml_subset.specs.inside.Machine.{State, outside, after_piece}
 
 -- the first so many names, the last of them first
 abbrev pub names_of : ℕ → List (List ℕ) → List (List ℕ)

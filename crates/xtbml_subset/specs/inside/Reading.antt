@@ -11,6 +11,11 @@ abbrev pub byte_at : ℕ → List ℕ → Option (List ℕ)
 byte_at b [] = None
 byte_at b (c ∷ bytes) = if c == b then Some bytes else None
 
+-- the bytes from the first one of a value on
+abbrev pub from_byte : ℕ → List ℕ → List ℕ
+from_byte b [] = []
+from_byte b (c ∷ bytes) = if c == b then c ∷ bytes else from_byte b bytes
+
 -- at least one byte of white space
 unfoldable pub spaces_at : List ℕ → Option (List ℕ)
 spaces_at [] = None

@@ -1,8 +1,6 @@
 -- The rows of the elements that a reader finds, in a file of so many bytes.
-use Rattle.std.specs.Prelude.{ℕ, ◌-◌, List, length, map, codes}
-use Rattle.xtbml_subset.specs.declared.fault.TableFault.{TableFault}
-use Rattle.xtbml_subset.specs.declared.fault.TableFault.TheVariants.{Bad, NoMemory}
-use Rattle.xtbml_subset.specs.Elements.{Found, children_at, text_at}
+use Rattle.std.specs.Prelude.{ℕ, ◌-◌, List, ◌∷◌, length, map, codes}
+use Rattle.xtbml_subset.specs.inside.Elements.{Found, children_at, siblings_at, text_at}
 use Rattle.xtbml_subset.specs.Texts.{value_of}
 use Rattle.xtbml_subset.specs.Checks.{Row, Asks}
 
@@ -23,7 +21,6 @@ found_asks total = record {
 abbrev pub rows_at : ℕ → Found → List Row
 rows_at total axis = map (λ element. row_of total element) (children_at (codes "Y") axis)
 
--- a fault that isn't want of memory says this
-abbrev pub Unless : TableFault → Type 0 → Type 0
-Unless NoMemory P = Unit {0}
-Unless (Bad at kind) P = P
+-- the row of an element and those of the rates behind it
+abbrev pub rows_from : ℕ → Found → List Row
+rows_from total element = row_of total element ∷ map (λ e. row_of total e) (siblings_at (codes "Y") element)

@@ -2,7 +2,7 @@ use Rattle.xtbml_subset.specs.declared.token.Tag.{Tag as TokenTag}
 use Rattle.xtbml_subset.specs.declared.token.Token.{Token}
 use Rattle.xtbml_subset.specs.declared.token.Token.TheVariants as tokens
 use Rattle.xtbml_subset.specs.Pieces.{Tag, Piece, byte, comment, declaration, start, whole, finish}
-use Rattle.xtbml_subset.specs.Reading.{attributes_at}
+use Rattle.xtbml_subset.specs.inside.Reading.{attributes_at}
 
 -- the tag that the reader keeps as its name and the bytes behind the name
 abbrev pub tag_of : TokenTag → Tag

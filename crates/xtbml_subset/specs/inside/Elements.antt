@@ -4,7 +4,7 @@ use Rattle.std.specs.Option.{option_map_or}
 use Rattle.std.specs.Str.{bytes_eq}
 use Rattle.xtbml_subset.specs.declared.class.Class.TheVariants.{Text}
 use Rattle.xtbml_subset.specs.Pieces.{Tag, Piece, byte, comment, declaration, start, whole, finish}
-use Rattle.xtbml_subset.specs.Reading.{byte_at, piece_at}
+use Rattle.xtbml_subset.specs.inside.Reading.{byte_at, piece_at}
 use Rattle.xtbml_subset.specs.Texts.{◌>>=◌}
 use Rattle.xtbml_subset.specs.Classes.{front, after}
 
