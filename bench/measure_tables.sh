@@ -81,7 +81,9 @@ with tempfile.TemporaryDirectory() as folder:
         data = text.encode()
         with open(name, "wb") as file:
             file.write(data)
-        more = max(3, 32 * 1024 * 1024 // len(data))
+        more = 4
+        while least(lambda: run(name, 1 + more), 1, 1) < 0.4:
+            more *= 2
         said = run(name, 1)
         one = (least(lambda: run(name, 1 + more), 1) - least(lambda: run(name, 1), 1)) / more
         line = "%s: %d bytes, %.1f MB/s, %.1f us a reading" % (said, len(data), len(data) / one / 1e6, one * 1e6)

@@ -271,6 +271,7 @@ hit_place level depth next wanted p f at move is =
         → (p.rest ≡ f.rest) × (is_open ≡ f.is_open)
     found_is tag is_open e = let g : Found = record { from = p.from; tag = tag; is_open = is_open; rest = p.rest } in
         let same_found : g ≡ f = cc in (ap (λ (x : Found). x.rest) same_found, ap (λ (x : Found). x.is_open) same_found)
+
     by_piece : (piece : Piece) → Moves piece level next → by_step p (step_of 0 wanted piece) ≡ hit f → (level ≤ next) × (f.rest ≡ p.rest) × (depth_in f.is_open ≡ next - level)
     by_piece (byte b) m e = absurd (let no = e in cc)
     by_piece comment m e = absurd (let no = e in cc)
@@ -349,6 +350,7 @@ tally_low level name p above t = by_gate (opens above) t.is_over (sought_at leve
     low seeking = omega arith
     low (hit f) = omega arith
     low missed = omega arith
+
     by_gate : (b over : Bool) (s : Sought) → (cond b (cond over t (counted t s)) t).count ≤ t.count + 1
     by_gate true true s = omega arith
     by_gate true false s = low s

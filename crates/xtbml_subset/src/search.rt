@@ -94,7 +94,13 @@ impl Tally {
     }
 
     /// Takes the next piece where the level lies in the element that a search found.
-    pub fn pass_under(&mut self, above: &Search<'_>, passing: &Passing<'_>, level: usize, name: &[u8])
+    pub fn pass_under(
+        &mut self,
+        above: &Search<'_>,
+        passing: &Passing<'_>,
+        level: usize,
+        name: &[u8],
+    )
         requires { self.old.count < 4194304 }
         ensures { self.new ≡ tally_under level name.now (passing_of passing.now) (sought_of above.now) self.old }
     {

@@ -1,4 +1,4 @@
-use Rattle.std.proofs.Common.{◌≡◌, ◌+◌, ◌<◌, ◌≤◌, length, None, sym, ap, subst, ◌∙◌, arith, codes}
+use Rattle.std.proofs.Common.{◌+◌, ◌<◌, ◌≤◌, length, None, sym, ap, subst, ◌∙◌, arith, codes}
 use Rattle.xtbml_subset.specs.declared.state.Phase.TheVariants.{Opening}
 use Rattle.xtbml_subset.specs.inside.Machine.{State, outside}
 use Rattle.xtbml_subset.specs.inside.Elements.{elements_at}
