@@ -1,5 +1,5 @@
 pub mod Cause
-pub mod Left
 pub mod Reads
 pub mod Rows
 pub mod Spelling
+pub mod inside

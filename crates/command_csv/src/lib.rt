@@ -3,13 +3,14 @@
 
 mod fault;
 mod fields;
+mod kind;
 mod laws;
-mod pieces;
+mod postings;
 mod reader;
 mod row;
 
 pub use fault::ScriptFault;
-pub use laws::{faults_are_exact, one_clerk, readings_are_one};
+pub use laws::{faults_are_exact, one_clerk, readings_are_one, scripts_are_judged};
 pub use reader::read_script;
 
 #[cfg(test)]
