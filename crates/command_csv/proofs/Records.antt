@@ -60,8 +60,8 @@ record_leaves : (s : State) (fields : List (List ℕ)) (field xs : List ℕ) (p 
 unfolding next_record
 record_leaves s fields field [] p e = by (ends_at_end s) e
   where
-    by : (b : Bool) → (if b then Some (fields ++ (field ∷ []), st.StartRecord, []) else None) ≡ Some p → Leaves (length [] - 1) p
-    by true e = subst (Leaves (length [] - 1)) (some_same (fields ++ (field ∷ []), st.StartRecord, []) p e) (omega arith, refl)
+    by : (b : Bool) → (if b then Some (fields ++ (field ∷ []), st.StartRecord, []) else None) ≡ Some p → Leaves (0 - 1) p
+    by true e = subst (Leaves (0 - 1)) (some_same (fields ++ (field ∷ []), st.StartRecord, []) p e) (omega arith, refl)
     by false e = absurd (none-some p e)
 record_leaves s fields field (c ∷ rest) p e =
     by (is_end (step default_config s c).1) refl e
