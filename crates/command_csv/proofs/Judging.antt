@@ -164,10 +164,13 @@ judge {X} Fits text_of More decides possible carries more (word ∷ rest) = elim
 
 judge_end : (fields : List (List ℕ)) → Judges Ends fields
 judge_end [] = inl refl
-judge_end (word ∷ rest) = inr (0, record {
-  before = record { whole = []; right = refl; same = refl };
-  bad = λ other. let same : word ∷ [] ≡ [] = other.same ∙ ap (take 1) other.right in cc;
-})
+judge_end (word ∷ rest) = inr (
+  0,
+  record {
+    before = record { whole = []; right = refl; same = refl };
+    bad = λ other. let same : word ∷ [] ≡ [] = other.same ∙ ap (take 1) other.right in cc;
+  },
+)
 
 judge_amount : (More : List (List ℕ) → Type 0) → IsPossible More → ((rest : List (List ℕ)) → Judges More rest) → (fields : List (List ℕ)) → Judges (Amount More) fields
 judge_amount More possible more = judge IsAmount cents_text (λ cents. More) amount_decides (amount_possible More possible) (λ x h. carries_all IsAmount cents_text More x) (λ x h. more)
@@ -256,14 +259,20 @@ judge_rows (row ∷ rows) = on (judge_row row) (judge_rows rows)
 pub judged : (bytes : List ℕ) → ((lanes : List Lane) × Reads bytes lanes) ⊎ ((row : ℕ) × ((field : ℕ) × IsFirstFault bytes row field))
 judged bytes = elim (judge_rows (rows_of bytes)) [
   | inl all ↦ inl (lanes_of all.0, record { entries = all.0; rows = all.1; by_clerk = refl })
-  | inr s ↦ inr (length s.before + 1, (s.field, record {
-    before = s.before;
-    faulty = s.faulty;
-    after = s.after;
-    rows = s.split;
-    number = refl;
-    entries = s.entries;
-    right = s.right;
-    bad = s.bad;
-  }))
+  | inr s ↦ inr (
+    length s.before + 1,
+    (
+      s.field,
+      record {
+        before = s.before;
+        faulty = s.faulty;
+        after = s.after;
+        rows = s.split;
+        number = refl;
+        entries = s.entries;
+        right = s.right;
+        bad = s.bad;
+      },
+    ),
+  )
 ]

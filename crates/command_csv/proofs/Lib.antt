@@ -8,3 +8,4 @@ pub mod OneReading
 pub mod Progress
 pub mod Records
 pub mod Words
+pub mod WorkedScripts

@@ -111,19 +111,18 @@ of_form fields h = by h.value h.rest h.spelled h.more
         let a = p.more in
         let y = a.more in
         let s = y.more in
-        let r = s.more in
-        (
+        let r = s.more in (
           command.Issue m.value d.value p.value a.value y.value s.value r.value,
           record { id_in = m.fits; day_in = d.fits; age_in = a.fits; years_in = y.fits; amount_in = s.fits; premium_in = r.fits },
           let one = m.spelled in
-          let two = d.spelled in
-          let three = p.spelled in
-          let four = a.spelled in
-          let five = y.spelled in
-          let six = s.spelled in
-          let seven = r.spelled in
-          let last = r.more in
-          cc,
+              let two = d.spelled in
+              let three = p.spelled in
+              let four = a.spelled in
+              let five = y.spelled in
+              let six = s.spelled in
+              let seven = r.spelled in
+              let last = r.more in
+              cc,
         )
     by kind.Premium rest e m =
         let d = m.more in
@@ -132,8 +131,7 @@ of_form fields h = by h.value h.rest h.spelled h.more
     by kind.Alter rest e m =
         let d = m.more in
         let s = d.more in
-        let r = s.more in
-        (
+        let r = s.more in (
           command.Alter m.value d.value s.value r.value,
           (m.fits, d.fits, s.fits, r.fits),
           let one = m.spelled in let two = d.spelled in let three = s.spelled in let four = r.spelled in let last = r.more in cc,

@@ -158,7 +158,7 @@ one_command a b h k e =
     let kinds : kind_in a ≡ kind_in b = one_kind a b [] (ap (take 1) (append-nil (command_fields a) ∙ e)) in
     let one = made_again a in
     let two : b ≡ made (kind_in a) (id_of b) (day_of b) (plan_in b) (age_in b) (years_in b) (amount_in b) (premium_in b) =
-        made_again b ∙ ap (λ (x : Kind). made x (id_of b) (day_of b) (plan_in b) (age_in b) (years_in b) (amount_in b) (premium_in b)) (sym kinds) in
+    made_again b ∙ ap (λ (x : Kind). made x (id_of b) (day_of b) (plan_in b) (age_in b) (years_in b) (amount_in b) (premium_in b)) (sym kinds) in
     let P : Command → Type 0 = λ c. IsValid c in
     one ∙ one_made (kind_in a) (id_of a) (id_of b) (day_of a) (day_of b) (plan_in a) (plan_in b) (age_in a) (age_in b) (years_in a) (years_in b) (amount_in a) (amount_in b) (premium_in a) (premium_in b)
     (subst P one h) (subst P two k) (ap command_fields (sym one) ∙ e ∙ ap command_fields two) ∙ sym two

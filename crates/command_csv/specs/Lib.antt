@@ -2,4 +2,5 @@ pub mod Cause
 pub mod Reads
 pub mod Rows
 pub mod Spelling
+pub mod Worked
 pub mod inside
