@@ -1,5 +1,5 @@
 -- Where the fields of a row leave a form
-use Rattle.std.proofs.Common.{◌≡◌, ◌≢◌, ℕ, suc, zero, ◌+◌, ◌≤◌, List, [], ◌∷◌, take, refl, ap, sym, ◌∙◌, subst, arith, lit≤, ℤ, pos}
+use Rattle.std.proofs.Common.{◌≡◌, ◌≢◌, ℕ, suc, List, [], ◌∷◌, take, refl, ap, sym, ◌∙◌, subst, arith, lit≤, ℤ, pos}
 use Rattle.std.specs.Prelude.{decimal, ⊤}
 use Rattle.std.proofs.lemmas.Fmt.{decimal_injective}
 use Rattle.std.proofs.lemmas.Int.{ints}
@@ -13,7 +13,7 @@ use Rattle.command_csv.specs.declared.kind.Kind.{Kind}
 use Rattle.command_csv.specs.declared.kind.Kind.TheVariants.{Issue, Premium, Alter, Lapse, Reinstate, Claim, Settle, Mature}
 use Rattle.command_csv.specs.Spelling.{plan_word}
 use Rattle.command_csv.specs.inside.Cursor.{Took, Missed, StopsIn, left_of}
-use Rattle.command_csv.specs.inside.Forms.{Ends, Then, Amount, Reinstatement, PolicyAndDay, YearsOn, AgeOn, PlanOn, IsClerk, RowForm, kind_word, form_of, FitsIn, StopsAfter}
+use Rattle.command_csv.specs.inside.Forms.{Ends, Then, Amount, Reinstatement, PolicyAndDay, YearsOn, AgeOn, PlanOn, IsClerk, RowForm, kind_word, form_of, StopsAfter}
 use Rattle.command_csv.proofs.Words.{plan_word_injective, kind_word_injective}
 
 -- what may follow one value may follow another of the same text

@@ -1,5 +1,5 @@
 -- How far a script is read: these rows are behind, and these lines were on them
-use Rattle.std.proofs.Common.{◌≡◌, ℕ, ◌+◌, List, [], ◌∷◌, ◌++◌, length, map, Option, Some, Bor, true, false, inl, Bool, ◌≤◌, refl, ap, sym, ◌∙◌, append_assoc, length-append, arith, subst}
+use Rattle.std.proofs.Common.{◌≡◌, ℕ, ◌+◌, List, [], ◌∷◌, ◌++◌, length, map, Option, Some, Bor, true, false, inl, Bool, ◌≤◌, ap, sym, ◌∙◌, append_assoc, length-append, arith, subst}
 use Rattle.std.specs.Prelude.{Result, IfOk}
 use Rattle.std.specs.List.{AllZip}
 use Rattle.std.proofs.lemmas.List.{map-append}
@@ -14,7 +14,7 @@ use Rattle.policy_types.specs.declared.script.Lane.{Lane}
 use Rattle.command_csv.specs.declared.fault.ScriptFault.{ScriptFault}
 use Rattle.command_csv.specs.Rows.{rows_of}
 use Rattle.command_csv.specs.Spelling.{ClerkLine, by_first}
-use Rattle.command_csv.specs.Reads.{IsRowOf, IsFirstBadField, IsFirstFault, Reads, lane_of, lanes_of}
+use Rattle.command_csv.specs.Reads.{IsRowOf, IsFirstBadField, IsFirstFault, Reads, lane_of}
 use Rattle.command_csv.proofs.Clerks.{lanes_of_first}
 use Rattle.command_csv.proofs.Records.{rows_begin, rows_end, rows_few}
 

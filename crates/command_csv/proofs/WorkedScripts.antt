@@ -1,10 +1,9 @@
 -- What the worked scripts rest on
-use Rattle.std.proofs.Common.{◌≡◌, ◌≢◌, ℕ, List, [], ◌∷◌, map, get_or, refl, ap, sym, ◌∙◌, subst, arith, lit≤, ℤ, pos, codes}
+use Rattle.std.proofs.Common.{◌≡◌, ℕ, List, [], ◌∷◌, map, get_or, refl, ap, sym, ◌∙◌, subst, arith, codes}
 use Rattle.std.specs.Prelude.{decimal, ⊤}
 use Rattle.std.specs.Fmt.{digits}
 use Rattle.std.specs.List.{AllZip}
 use Rattle.policy_types.specs.declared.command.Command.{Command}
-use Rattle.policy_types.specs.declared.command.Command.TheVariants.{Lapse}
 use Rattle.policy_types.specs.declared.script.Line.TheVariants.{Post}
 use Rattle.policy_types.specs.Valid.{IsValid, IsId, IsCommandDay}
 use Rattle.life_dates.specs.DayText.{day_text}
@@ -14,7 +13,7 @@ use Rattle.command_csv.specs.Rows.{rows_of}
 use Rattle.command_csv.specs.Spelling.{ClerkLine, by_first, row_fields}
 use Rattle.command_csv.specs.Reads.{IsRowOf, IsFirstBadField}
 use Rattle.command_csv.specs.Worked.{Says}
-use Rattle.command_csv.specs.inside.Forms.{Ends, Then, IsClerk, RowForm, PolicyAndDay, kind_word, form_of, StopsAfter}
+use Rattle.command_csv.specs.inside.Forms.{Ends, Then, IsClerk, kind_word, form_of}
 use Rattle.command_csv.proofs.Clerks.{lanes_of_first}
 use Rattle.command_csv.proofs.Forms.{carries_all, kind_carries, day_possible, end_possible, row_possible, goes_on, stops}
 use Rattle.command_csv.proofs.Lines.{bad_field}

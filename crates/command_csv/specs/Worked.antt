@@ -1,5 +1,5 @@
 -- Scripts, and what they say: each kind of line as a clerk writes it, and some first faults
-use Rattle.std.specs.Prelude.{◌≡◌, ℕ, List, [], ◌∷◌, ◌++◌, map, pos, codes}
+use Rattle.std.specs.Prelude.{ℕ, List, [], ◌∷◌, map, pos, codes}
 use Rattle.policy_types.specs.declared.command.Command.{Command}
 use Rattle.policy_types.specs.declared.command.Command.TheVariants.{Issue, Premium, Alter, Lapse, Reinstate, Claim, Settle, Mature}
 use Rattle.policy_types.specs.declared.command.Plan.TheVariants.{Endowment}

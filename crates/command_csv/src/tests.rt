@@ -10,23 +10,23 @@ use std::test::Fail;
 const MOST_BYTES: usize = 16_777_216;
 
 // The number of lines of clerk 1 as row 0, or the bad row and field.
-fn answer(alloc: Global, script: &[u8]) -> Result<(u32, u32), Fail>
+fn answer(alloc: Global, script: &[u8]) -> Result<(u64, u64), Fail>
     requires { length script.now ≤ MOST_BYTES }
 {
     match read_script(alloc, script) {
         Ok(script) => match script.as_slice() {
             [] => Ok((0, 0)),
-            [lane] => Ok((0, lane.lines.as_slice().len() as u32)),
+            [lane] => Ok((0, lane.lines.as_slice().len() as u64)),
             _ => Err("two lanes")?,
         },
-        Err(ScriptFault::BadRow { row, field }) => Ok((row, field)),
+        Err(ScriptFault::BadRow { row, field }) => Ok((u64::from(row), u64::from(field))),
         Err(ScriptFault::NoMemory) => Err("no memory")?,
     }
 }
 
 #[test]
 fn bad_fields(rt: HostRuntime) -> Result<(), Fail> {
-    let cases: [(&[u8], (u32, u32)); 49] = [
+    let cases: [(&[u8], (u64, u64)); 49] = [
         (b"1,issue,0,2020-01-01,term,30,10,1.00,1.00", (1, 3)),
         (b"9,lapse,1,2020-01-01", (1, 1)),
         (b"1,lapse,1", (1, 4)),
@@ -90,7 +90,7 @@ fn bad_fields(rt: HostRuntime) -> Result<(), Fail> {
 // What the rows and fields of odd texts are, by RFC 4180 and by what the library `csv` does where it says nothing.
 #[test]
 fn odd_texts(rt: HostRuntime) -> Result<(), Fail> {
-    let cases: [(&[u8], (u32, u32)); 36] = [
+    let cases: [(&[u8], (u64, u64)); 36] = [
         (b"", (0, 0)),
         (b"\n\r\n\r\r\n\n", (0, 0)),
         (b"1,lapse,1,2020-01-01", (0, 1)),
@@ -225,7 +225,7 @@ fn long_script(alloc: Global, front: &[u8], piece: &[u8]) -> Result<Vec<u8>, Fai
 #[test]
 fn long_scripts(rt: HostRuntime) -> Result<(), Fail> {
     let alloc = rt.alloc();
-    let cases: [(&str, &[u8], &[u8], (u32, u32)); 8] = [
+    let cases: [(&str, &[u8], &[u8], (u64, u64)); 8] = [
         (
             "lines",
             b"",
@@ -238,15 +238,30 @@ fn long_scripts(rt: HostRuntime) -> Result<(), Fail> {
             b"\"1\",\"lapse\",\"7001\",\"2022-02-02\"\r\n",
             (0, 16_777_216 / 33),
         ),
-        ("line feeds", b"", b"\n", (0, 0)),
-        ("commas", b"1,lapse,1,2022-02-02", b",", (1, 5)),
-        ("a long field", b"1,lapse,", b"9", (1, 3)),
-        ("quotes", b"", b"\"", (1, 1)),
-        ("a row cut inside quotes", b"1,\"", b"\n", (1, 2)),
         (
-            "rows of one byte",
-            b"1,lapse,1,2022-02-02\n",
-            b"1\n",
+            "line feeds",
+            b"",
+            b"\n\n\n\n\n\n\n\n\n\n\n\n\n\n\n\n",
+            (0, 0),
+        ),
+        (
+            "commas",
+            b"1,lapse,1,2022-02-02",
+            b",,,,,,,,,,,,,,,,",
+            (1, 5),
+        ),
+        ("a long field", b"1,lapse,", b"9999999999999999", (1, 3)),
+        ("quotes", b"", b"\"\"\"\"\"\"\"\"\"\"\"\"\"\"\"\"", (1, 1)),
+        (
+            "a row cut inside quotes",
+            b"1,\"",
+            b"\n\n\n\n\n\n\n\n\n\n\n\n\n\n\n\n",
+            (1, 2),
+        ),
+        (
+            "empty rows, then a bad one",
+            b"\n\n\n\n\n\n\n\n1,lapse,1,2022-02-02\n",
+            b"\r\n\r\n\r\n\r\n\r\n\r\n\r\n1\n",
             (2, 2),
         ),
     ];

@@ -1,4 +1,4 @@
-use Rattle.std.proofs.Common.{refl, [], ◌∷◌, ◌≢◌, codes, pos, arith, lit≤}
+use Rattle.std.proofs.Common.{refl, [], ◌∷◌, codes, pos, arith, lit≤}
 use Rattle.std.specs.Fmt.{digits}
 use Rattle.std.proofs.lemmas.Int.{ints}
 use Rattle.csv.proofs.OnLiterals.{csv_on_literals}
