@@ -43,7 +43,7 @@ ReadLaw = (opening : Opening) (history : List Entry) (pin position policies firs
     → StandsIn history read → read.call ≡ Read pin first
     → policies_in read.reply ≡ take policies_per_read (drop first (book_at opening history position))
 
--- the first reads of a pin, put together, are a front of that book, and all of them are the book
+-- the first k reads of a pin, put together, are the first 256 k policies of that book
 abbrev pub PinnedReadLaw : Type 0
 PinnedReadLaw = (opening : Opening) (history : List Entry) (pin position policies k : ℕ) (reads : List Entry)
     → IsLegal opening history → IsPinnedAt history pin position policies
@@ -51,6 +51,7 @@ PinnedReadLaw = (opening : Opening) (history : List Entry) (pin position policie
     → map (λ read. read.call) reads ≡ take k (reads_of pin policies)
     → flat_map (λ read. policies_in read.reply) reads ≡ take (policies_per_read * k) (book_at opening history position)
 
+-- all reads of a pin, put together, are that book
 abbrev pub WholePinnedReadLaw : Type 0
 WholePinnedReadLaw = (opening : Opening) (history : List Entry) (pin position policies : ℕ) (reads : List Entry)
     → IsLegal opening history → IsPinnedAt history pin position policies
