@@ -7,12 +7,10 @@ use Rattle.std.proofs.lemmas.List.Elements.{filter_map-append}
 use Rattle.std.proofs.lemmas.Bool.{eq-eqb}
 use Rattle.policy_types.specs.declared.command.Command.{Command}
 use Rattle.policy_types.specs.declared.command.Command.TheVariants.{Issue, Premium, Alter, Lapse, Reinstate, Claim, Settle, Mature}
-use Rattle.policy_types.specs.declared.command.Plan.{Plan}
-use Rattle.policy_types.specs.declared.command.Plan.TheVariants.{Term, Whole, Endowment, Limited}
 use Rattle.policy_types.specs.declared.policy.Policy.{Policy}
 use Rattle.policy_types.specs.declared.refusal.Refusal.{Refusal}
 use Rattle.policy_types.specs.Valid.{id_of}
-use Rattle.policy_machine.specs.Rules.{next, changed, checks_of, decided, first_refusal, matured}
+use Rattle.policy_machine.specs.Rules.{next}
 use Rattle.policy_machine.specs.Book.{book, policy_of, issue_id, kept, IsAccepted, IsAcceptedAfter}
 use Rattle.policy_machine.proofs.BookLemmas.{policy_of-push_own, policy_of-push_other}
 

@@ -1,23 +1,21 @@
 -- The office of a journal that was started on a disk, and what is known where there is none
-use Rattle.std.proofs.Common.{◌≡◌, inl, inr, ℕ, ◌<◌, true, false, List, [], ◌∷◌, ◌++◌, length, ◌∙◌, ap, sym, subst, refl, append-nil, arith}
+use Rattle.std.proofs.Common.{◌≡◌, inl, inr, ℕ, ◌<◌, true, false, List, [], ◌++◌, length, ◌∙◌, ap, sym, subst, refl, append-nil, arith}
 use Rattle.outside_io.specs.declared.disks.Disk.{Ghosts}
 use Rattle.outside_io.specs.Faults.{Rose}
 use Rattle.policy_machine.specs.Accounts.{ledger_of}
 use Rattle.policy_machine.specs.History.{Opening, opened_on}
 use Rattle.posting_journal.specs.Creation.{OpensToBodies}
-use Rattle.posting_journal.specs.States.{StandsFor as JournalStands, disk_of as disk_under, is_clean}
+use Rattle.posting_journal.specs.States.{StandsFor as JournalStands, is_clean}
 use Rattle.posting_journal.specs.declared.journal.Journal.{Journal}
-use Rattle.office_state.specs.declared.books.Books.{Books}
 use Rattle.office_state.specs.declared.faults.StartCause.{StartCause}
 use Rattle.office_state.specs.declared.faults.StartCause.TheVariants.{DiskFault, NotAJournal, BadRecord, NoMemory}
 use Rattle.office_state.specs.declared.state.OfficeState.{OfficeState}
 use Rattle.office_state.specs.Journals.{bodies_of, Opens, IsShown}
 use Rattle.office_state.specs.Opening.{HasOpened, HasNotOpened, TellsFault}
 use Rattle.office_state.specs.Standing.{LeavesSince, StandsFor}
-use Rattle.office_state.specs.States.{begun_of, commands_of, disk_of, opening_of}
-use Rattle.office_state.specs.inside.Books.{commands_in}
+use Rattle.office_state.specs.States.{commands_of, disk_of}
 use Rattle.office_state.specs.inside.Holding.{JournalHolds}
-use Rattle.office_state.specs.inside.Replays.{IsLookedAt, HasStopped, IsStoppedAt, IsOfficeOf, HasNoOffice}
+use Rattle.office_state.specs.inside.Replays.{HasStopped, IsStoppedAt, IsOfficeOf, HasNoOffice}
 use Rattle.office_state.proofs.ReplaySteps.{all_replayed, stopped_shown}
 use Rattle.office_state.proofs.OpeningSteps.{CountsNow, IsStarted, ReadsImage, opening_keeps, looked_on, holds_once, looked_alone, looked_ever, synced_images, opens_commands, started_later}
 use Rattle.office_state.proofs.TurnSteps.{holds_now}

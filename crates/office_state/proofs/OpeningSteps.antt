@@ -1,5 +1,5 @@
 -- What is known of the disk and its images once a journal was started, or couldn't be
-use Rattle.std.proofs.Common.{◌≡◌, ◌⊎◌, ◌↔◌, inl, inr, ⊎_elim, ℕ, ◌≤◌, List, [], ◌∷◌, refl, ◌∙◌, sym, subst, append-nil, arith, IsTrue}
+use Rattle.std.proofs.Common.{◌≡◌, ◌⊎◌, ◌↔◌, inl, inr, ⊎_elim, ℕ, ◌≤◌, List, [], ◌∷◌, refl, sym, subst, append-nil, arith, IsTrue}
 use Rattle.std.specs.List.{AllByRecursion}
 use Rattle.outside_io.specs.declared.disks.Disk.{Ghosts}
 use Rattle.policy_types.specs.declared.command.Command.{Command}

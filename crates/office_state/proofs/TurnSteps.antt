@@ -1,5 +1,5 @@
 -- What one more turn does to an office
-use Rattle.std.proofs.Common.{◌≡◌, ◌⊎◌, ℕ, ◌+◌, ◌≤◌, Bool, true, false, List, [], ◌∷◌, ◌++◌, length, refl, ap, sym, ◌∙◌, subst, Some, None, Ok, Err, Result, length-append, arith, inl, inr}
+use Rattle.std.proofs.Common.{◌≡◌, ◌⊎◌, ℕ, ◌+◌, ◌≤◌, Bool, true, false, List, [], ◌∷◌, ◌++◌, length, refl, ap, sym, ◌∙◌, subst, None, Ok, Err, Result, length-append, arith, inl, inr}
 use Rattle.std.proofs.lemmas.List.{map-append}
 use Rattle.std.specs.Prelude.{is_ok, OnOk, OnErr}
 use Rattle.std.specs.List.{AllByRecursion}
@@ -27,11 +27,11 @@ use Rattle.office_state.specs.declared.state.OfficeState.{OfficeState}
 use Rattle.office_state.specs.declared.answer.Answer.TheVariants.{Accepted as AcceptedAt, DiskFault}
 use Rattle.office_state.specs.Images.{HoldsNow, HoldsOnce, IsLeftBy}
 use Rattle.office_state.specs.Journals.{JournalBytes, bodies_of}
-use Rattle.office_state.specs.Posting.{CrashesIn, turn_of}
+use Rattle.office_state.specs.Posting.{CrashesIn}
 use Rattle.office_state.specs.Standing.{LeavesSince, StandsFor}
 use Rattle.office_state.specs.States.{begun_of, commands_of, disk_of, opening_of}
 use Rattle.office_state.specs.inside.Books.{commands_in}
-use Rattle.office_state.specs.inside.Holding.{Holds, IsLeftBehind, JournalHolds}
+use Rattle.office_state.specs.inside.Holding.{IsLeftBehind, JournalHolds}
 use Rattle.office_state.specs.inside.Records.{Records}
 use Rattle.office_state.proofs.HistorySteps.{all_up_to, commands-more, commands-same, faults-same, faults_after-more, faults_after-same, faults_met, faults-more, holds_all, holds_more, holds_once-push, is_due, is_fresh, pending-now, pending-push, posting}
 use Rattle.office_state.proofs.KeepingSteps.{all-more}

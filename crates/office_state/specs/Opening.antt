@@ -1,5 +1,5 @@
 -- What opening an office does
-use Rattle.std.specs.Prelude.{◌≡◌, ◌↔◌, ℕ, List, []}
+use Rattle.std.specs.Prelude.{◌≡◌, ◌↔◌, ℕ, []}
 use Rattle.outside_io.specs.declared.disks.Disk.{Ghosts}
 use Rattle.outside_io.specs.Faults.{Rose}
 use Rattle.posting_journal.specs.Creation.{IsUnfinished}

@@ -6,7 +6,7 @@ use Rattle.policy_machine.specs.Accounts.{ledger_of}
 use Rattle.policy_machine.specs.History.{Opening, IsLegal, commands_after}
 use Rattle.posting_journal.specs.Opening.{IsSynced}
 use Rattle.office_state.specs.declared.state.OfficeState.{OfficeState}
-use Rattle.office_state.specs.Images.{HoldsNow, HoldsOnce, HoldsSince, IsLeftBy, faults_after}
+use Rattle.office_state.specs.Images.{HoldsNow, HoldsOnce, HoldsSince, faults_after}
 use Rattle.office_state.specs.States.{balances_of, begun_of, commands_of, count_of, disk_of, opening_of}
 use Rattle.office_state.specs.inside.Holding.{Holds}
 

@@ -1,5 +1,5 @@
 -- What deciding a journal's records anew tells, while an office is opened
-use Rattle.std.specs.Prelude.{◌≡◌, ◌↔◌, ℕ, ◌<◌, ◌≤◌, List, [], ◌∷◌, ◌++◌, length, take, slice_index_or}
+use Rattle.std.specs.Prelude.{◌≡◌, ◌↔◌, ℕ, ◌<◌, List, [], ◌∷◌, ◌++◌, length, take, slice_index_or}
 use Rattle.std.specs.List.{AllByRecursion}
 use Rattle.outside_io.specs.declared.disks.Disk.{Ghosts}
 use Rattle.outside_io.specs.Faults.{Rose}
@@ -9,7 +9,6 @@ use Rattle.policy_machine.specs.Book.{IsAccepted}
 use Rattle.record_codec.specs.Spelling.{spelling_of}
 use Rattle.posting_journal.specs.Runs.{LooksOn}
 use Rattle.posting_journal.specs.States.{StandsFor, count_of, disk_of, is_clean}
-use Rattle.posting_journal.specs.Starting.{TellsCause}
 use Rattle.posting_journal.specs.declared.journal.Journal.{Journal}
 use Rattle.posting_journal.specs.declared.faults.JournalCause.{JournalCause}
 use Rattle.posting_journal.specs.declared.faults.JournalCause.TheVariants.{DiskFault as FaultyDisk, NotAJournal as IsNoJournal, BadRecord as IsBadRecord}

@@ -1,4 +1,4 @@
-use Rattle.std.proofs.Common.{◌+◌, ◌≤◌, arith}
+use Rattle.std.proofs.Common.{arith}
 use Rattle.office_state.proofs.BookSteps.{issues_more}
 use Rattle.office_state.proofs.folding.issues_in.Goals as goal
 

@@ -1,4 +1,4 @@
-use Rattle.std.proofs.Common.{ap, sym, ◌∙◌, ◌≡◌, ◌≤◌, length, take, arith}
+use Rattle.std.proofs.Common.{ap, sym, ◌∙◌, ◌≡◌, length, take, arith}
 use Rattle.std.proofs.Math.Seq.{take-length}
 use Rattle.std.specs.List.{filter_map}
 use Rattle.policy_machine.specs.Book.{book, issue_id}

@@ -1,6 +1,5 @@
-use Rattle.std.proofs.Common.{◌≡◌, ◌<◌, ap, sym, ◌∙◌, take, Some, subst, length, arith}
-use Rattle.std.specs.Prelude.{is_some, slice_get, IsSome}
-use Rattle.policy_machine.specs.Book.{book, policy_of}
+use Rattle.std.proofs.Common.{ap, sym, ◌∙◌, take}
+use Rattle.policy_machine.specs.Book.{policy_of}
 use Rattle.office_state.specs.inside.Books.{commands_in}
 use Rattle.office_state.proofs.BookSteps.{none_some}
 use Rattle.office_state.proofs.KeepingSteps.{index_within, known_then, policy_now, policy_then}
