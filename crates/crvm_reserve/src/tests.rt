@@ -20,6 +20,30 @@ enum Rates {
 
 use Rates::{G, Q, Steep, Survived};
 
+const Q_RATES: [u32; 5] = [
+    100_000_000,
+    200_000_000,
+    250_000_000,
+    500_000_000,
+    1_000_000_000,
+];
+
+const SURVIVED_RATES: [u32; 5] = [
+    100_000_000,
+    200_000_000,
+    250_000_000,
+    500_000_000,
+    500_000_000,
+];
+
+const STEEP_RATES: [u32; 5] = [
+    400_000_000,
+    10_000_000,
+    20_000_000,
+    500_000_000,
+    1_000_000_000,
+];
+
 /// Table, age, years of cover, years of premiums, whether it matures, basis points, amount, year, and
 /// the lower and the upper bound.
 type Case = (Rates, u8, u8, u8, bool, u16, u64, u8, u64, u64);
@@ -159,29 +183,12 @@ const DRAWN: [Case; 100] = [
 
 fn table_of(alloc: Global, table: Rates) -> Result<Option<RateTable>, AllocError> {
     let table = match table {
-        Q => RateTable::new(
-            0,
-            millionths(alloc, [100_000, 200_000, 250_000, 500_000, 1_000_000])?,
-        ),
-        Survived => RateTable::new(
-            0,
-            millionths(alloc, [100_000, 200_000, 250_000, 500_000, 500_000])?,
-        ),
-        Steep => RateTable::new(
-            40,
-            millionths(alloc, [400_000, 10_000, 20_000, 500_000, 1_000_000])?,
-        ),
+        Q => RateTable::new(0, Vec::from_array(alloc, Q_RATES)?),
+        Survived => RateTable::new(0, Vec::from_array(alloc, SURVIVED_RATES)?),
+        Steep => RateTable::new(40, Vec::from_array(alloc, STEEP_RATES)?),
         G => RateTable::new(0, cubes(alloc)?),
     };
     Ok(table.ok())
-}
-
-fn millionths(alloc: Global, millionths: [u32; 5]) -> Result<Vec<u32>, AllocError> {
-    let mut rates = Vec::new(alloc);
-    for rate in millionths {
-        rates.push(rate * 1000)?;
-    }
-    Ok(rates)
 }
 
 fn cubes(alloc: Global) -> Result<Vec<u32>, AllocError> {
