@@ -18,9 +18,6 @@ found_asks total = record {
   children = λ name element. children_at name element;
 }
 
-abbrev pub rows_at : ℕ → Found → List Row
-rows_at total axis = map (λ element. row_of total element) (children_at (codes "Y") axis)
-
 -- the row of an element and those of the rates behind it
 abbrev pub rows_from : ℕ → Found → List Row
 rows_from total element = row_of total element ∷ map (λ e. row_of total e) (siblings_at (codes "Y") element)
