@@ -1,0 +1,7 @@
+mod Entries
+mod Pages
+mod Totals
+mod Knowing
+mod Moving
+mod Stepping
+mod Dividing
