@@ -45,6 +45,10 @@ distinct_append [] ms a b c = b
 distinct_append (n ∷ ns) ms a b c =
     (all_append (λ m. eqb n m ≡ false) ns ms a.0 (all_weaker (λ m. n ≢ m) (λ m. eqb n m ≡ false) ms (λ m. ne_eqb n m) c.0), distinct_append ns ms a.1 b c.1)
 
+pub distinct_none : IsDistinct eqb []
+unfolding IsDistinct
+distinct_none = tt
+
 pub distinct_one : (n : ℕ) → IsDistinct eqb (n ∷ [])
 unfolding IsDistinct
 distinct_one n = (tt, tt)
