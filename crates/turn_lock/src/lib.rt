@@ -6,6 +6,7 @@
 mod plays;
 mod seats;
 mod stands;
+mod steps;
 //mod steps;
 mod turn;
 //mod turnstile;
