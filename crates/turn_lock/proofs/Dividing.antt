@@ -21,7 +21,7 @@ use Rattle.turn_lock.specs.inside.Rule.{ticket_at, PageStands, StageStands, Seat
 use Rattle.turn_lock.proofs.Entries.{same_start, starts_empty, nested, sandwiched, start_fits, full_start, longer_cases}
 use Rattle.turn_lock.proofs.Pages.{all_weaker, all_append, all_numbers, numbers-append, distinct_append, distinct_none, distinct_one, among_none}
 use Rattle.turn_lock.proofs.Totals.{has_place, total_set, total_push, total_two}
-use Rattle.turn_lock.proofs.Knowing.{IsFree, IsInside, free_ticket, named_live, named_pages, named_units, live_shares, own_pages, own_apart, stays}
+use Rattle.turn_lock.proofs.Knowing.{IsFree, IsInside, free_ticket, named_live, named_pages, named_units, live_shares, own_pages, own_apart, own_below, stays}
 use Rattle.turn_lock.proofs.Moving.{lies_still}
 
 -- a function of numbers, where one value is put for another
@@ -56,10 +56,10 @@ module _ {T O : Type 0} (opens : T → O) (legal : O → List Entry → Type 0) 
       let is_named : IsNamed v.stage = subst IsNamed (sym is) tt in let live : IsLive v.stage = named_live v.stage is_named in let free : IsFree v.stage = subst IsFree (sym is) tt in
       let k = r.each_seat id v at live in let h : List Entry = r.history in let here = set_here s.views id w (has_place s.views id v at) in
       let kept : SeatStands legal opening h r.names r.tickets r.owner r.holder id w = record {
-        opened = k.opened; seen = k.seen; also = k.also; lawful = k.lawful; sharing = omega arith; paged = k.paged; apart = k.apart; staged = k.staged;
+        opened = k.opened; seen = k.seen; also = k.also; lawful = k.lawful; sharing = omega arith; paged = k.paged; apart = k.apart; counted = k.counted; below = k.below; staged = k.staged;
       } in
       let given : (j : ℕ) → SeatStands legal opening h r.names r.tickets r.owner r.holder j g = λ j. record {
-        opened = k.opened; seen = k.seen; also = starts_empty h; lawful = k.lawful; sharing = omega arith; paged = tt; apart = distinct_none; staged = tt;
+        opened = k.opened; seen = k.seen; also = starts_empty h; lawful = k.lawful; sharing = omega arith; paged = tt; apart = distinct_none; counted = k.counted; below = tt; staged = tt;
       } in
       let is_v : (j : ℕ) (u : View O) → j ≡ id → get_elem? s.views j ≡ some u → u ≡ v = λ j u e f. some-injective u v (sym f ∙ (ap (get_elem? s.views) e ∙ at)) in
       let u₀ : units v ≡ v.left = named_units v.stage v.left is_named in let u₁ : units w ≡ w.left = named_units v.stage w.left is_named in
@@ -74,6 +74,7 @@ module _ {T O : Type 0} (opens : T → O) (legal : O → List Entry → Type 0) 
         words_are = r.words_are;
         slot_is = r.slot_is;
         served = r.served;
+        begun = r.begun;
         lies = lies_longer h vs₁ g r.slot (lies_still opens legal stands opening h s.views id v w r.slot at free r.lies);
         theirs = r.theirs;
         each_seat = λ j d e l. ⊎_elim
@@ -152,6 +153,10 @@ module _ {T O : Type 0} (opens : T → O) (legal : O → List Entry → Type 0) 
             (all_weaker (PageStands legal opening h r.names r.owner other w.seen) (PageStands legal opening h r.names owner' id j.seen) (own w ∷ w.ended)
             (λ p q. record { given = q.given; owned = moved_here r.owner other id p.0 q.owned; whole = q.whole; shown = sandwiched h j.seen w.seen p.1 p.0 best.whole best.second q.whole q.shown }) pw));
         apart = subst (IsDistinct eqb) (sym numbers_j) apart_j;
+        counted = (let a = kv.counted in let b = kw.counted in grind arith);
+        below = subst (AllByRecursion (λ (p : Page). p.0 < j.names)) (sym pages_j) (all_append (λ (p : Page). p.0 < j.names) (own v ∷ v.ended) (own w ∷ w.ended)
+            (all_weaker (λ (p : Page). p.0 < v.names) (λ (p : Page). p.0 < j.names) (own v ∷ v.ended) (λ p l. grind arith) (own_below legal opening h r.names r.tickets r.owner r.holder id v named_v kv))
+            (all_weaker (λ (p : Page). p.0 < w.names) (λ (p : Page). p.0 < j.names) (own w ∷ w.ended) (λ p l. grind arith) (own_below legal opening h r.names r.tickets r.owner r.holder other w named_w kw)));
         staged = subst (StageStands legal opening h r.tickets r.holder id j.seen) (sym is) tt;
       } in
       let u₀ : units v ≡ v.left = named_units v.stage v.left named_v in let u₁ : units j ≡ v.left + w.left = named_units v.stage (v.left + w.left) named_v in let u₂ : units w ≡ w.left = named_units w.stage w.left named_w in
@@ -166,6 +171,7 @@ module _ {T O : Type 0} (opens : T → O) (legal : O → List Entry → Type 0) 
         words_are = r.words_are;
         slot_is = r.slot_is;
         served = r.served;
+        begun = r.begun;
         lies = lies_still opens legal stands opening h vs₁ other w spent_view r.slot at' free_w (lies_still opens legal stands opening h s.views id v j r.slot at free_v r.lies);
         theirs = r.theirs;
         each_seat = λ i d e l. ⊎_elim
@@ -212,6 +218,7 @@ module _ {T O : Type 0} (opens : T → O) (legal : O → List Entry → Type 0) 
     words_are = refl;
     slot_is = refl;
     served = omega arith;
+    begun = omega arith;
     lies = (stood, is);
     theirs = tt;
     each_seat = λ j d e l. ⊎_elim (λ (q : (j ≡ 0) × (first_view opening ≡ d)). subst (λ (z : ℕ × View O). SeatStands legal opening [] 1 0 (λ _. 0) (λ _. 0) z.0 z.1) (λ i. (sym q.0 i, q.1 i)) first)
@@ -229,7 +236,7 @@ module _ {T O : Type 0} (opens : T → O) (legal : O → List Entry → Type 0) 
       first : SeatStands legal opening [] 1 0 (λ _. 0) (λ _. 0) 0 (first_view opening)
       first = record {
         opened = refl; seen = starts_empty []; also = starts_empty []; lawful = subst (λ o. legal o []) is (law x [] stood); sharing = omega arith;
-        paged = (record { given = omega arith; owned = refl; whole = refl; shown = refl }, tt); apart = distinct_one 0; staged = tt;
+        paged = (record { given = omega arith; owned = refl; whole = refl; shown = refl }, tt); apart = distinct_one 0; counted = omega arith; below = (omega arith, tt); staged = tt;
       }
 
   -- what a seat with all shares sees at the end

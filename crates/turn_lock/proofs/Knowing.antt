@@ -65,6 +65,13 @@ named_units Idle left n = refl
 named_units (Queued j) left n = refl
 named_units (Inside j) left n = refl
 
+pub live_units : (st : Stage) (left : ℕ) → IsLive st → left ≤ units_at st left
+live_units Spent left l = absurd l
+live_units Unnamed left l = omega arith
+live_units Idle left l = omega arith
+live_units (Queued j) left l = omega arith
+live_units (Inside j) left l = omega arith
+
 pub live_shares : (st : Stage) (n : ℕ) → IsLive st → Rattle.turn_lock.specs.inside.Seats.shares_at st n ≡ n
 live_shares Spent n l = absurd l
 live_shares Unnamed n l = refl
@@ -84,11 +91,17 @@ module _ {O : Type 0} (legal : O → List Entry → Type 0) (opening : O) where
     pub own_apart : (v : View O) → IsNamed v.stage → SeatStands legal opening h m t owner holder seat v → IsDistinct eqb (numbers (own v ∷ v.ended))
     own_apart v named k = subst (λ ps. IsDistinct eqb (numbers ps)) (named_pages v.stage (own v) v.ended named) k.apart
 
-    pub told : (v : View O) → IsNamed v.stage → SeatStands legal opening h m t owner holder seat v → SeatFacts legal v
-    told v named k = record {
+    pub own_below : (v : View O) → IsNamed v.stage → SeatStands legal opening h m t owner holder seat v → AllByRecursion (λ p. p.0 < v.names) (own v ∷ v.ended)
+    own_below v named k = subst (AllByRecursion (λ (p : Page). p.0 < v.names)) (named_pages v.stage (own v) v.ended named) k.below
+
+    pub told : (v : View O) → IsNamed v.stage → SeatStands legal opening h m t owner holder seat v → (v.left ≤ 4611686018427387904) × (v.shares ≤ 4294967296) → SeatFacts legal v
+    told v named k fits = record {
       lawful = subst (λ o. IfSome o (λ opening. legal opening v.seen)) (sym k.opened) k.lawful;
       paged = all_weaker (PageStands legal opening h m owner seat v.seen) (λ p. entries_of v.seen p.0 ≡ p.1) (own v ∷ v.ended) (λ p s. s.shown) (own_pages v named k);
       apart = own_apart v named k;
+      below = own_below v named k;
+      left_fits = fits.0;
+      shares_fit = fits.1;
     }
 
   stage_stays : (h : List Entry) (t t' : ℕ) (holder holder' : ℕ → ℕ) (seat : ℕ) (seen : List Entry) (st : Stage) → t ≤ t' → ((k : ℕ) → k < t → holder k ≡ seat → holder' k ≡ seat)
@@ -112,6 +125,8 @@ module _ {O : Type 0} (legal : O → List Entry → Type 0) (opening : O) where
     paged = all_weaker (PageStands legal opening h m owner seat v.seen) (PageStands legal opening h m' owner' seat v.seen) (pages v)
         (λ p s. let lt = s.given in record { given = omega arith; owned = owns p.0 s.given s.owned; whole = s.whole; shown = s.shown }) k.paged;
     apart = k.apart;
+    counted = (let c = k.counted in omega arith);
+    below = k.below;
     staged = stage_stays h t t' holder holder' seat v.seen v.stage later holds k.staged;
   }
 
@@ -136,5 +151,7 @@ module _ {O : Type 0} (legal : O → List Entry → Type 0) (opening : O) where
     paged = all_weaker (PageStands legal opening h m owner seat v.seen) (PageStands legal opening (h ++ e ∷ []) m owner seat v.seen) (pages v)
         (λ p s. record { given = s.given; owned = s.owned; whole = entries-other h e p.0 (λ is. other (sym s.owned ∙ (ap owner (sym is) ∙ by))) ∙ s.whole; shown = s.shown }) k.paged;
     apart = k.apart;
+    counted = k.counted;
+    below = k.below;
     staged = stage_waits h e t holder id seat v.seen v.stage other mine k.staged;
   }

@@ -50,7 +50,7 @@ module _ {T O : Type 0} (opens : T → O) (legal : O → List Entry → Type 0) 
     One_saw = (seat : ℕ) × (u : View O) × (get_elem? vs' seat ≡ some u) × IsLive u.stage × (u.seen ≡ h')
 
     pub moved : (words' : List ℕ) (homes' : List (maybe.Option (Option T))) (slot' : maybe.Option (Option T)) → IsLive v.stage → IsLive w.stage
-        → words' ≡ length h' ∷ t' ∷ m' ∷ [] → homes' ≡ slot' ∷ [] → length h' ≤ t' → SlotStands opens legal stands opening h' vs' slot' → AllByRecursion (λ e. e.caller < m') h'
+        → words' ≡ length h' ∷ t' ∷ m' ∷ [] → homes' ≡ slot' ∷ [] → length h' ≤ t' → 1 ≤ m' → SlotStands opens legal stands opening h' vs' slot' → AllByRecursion (λ e. e.caller < m') h'
         → SeatStands legal opening h' m' t' owner' holder' id w
         → ((j : ℕ) (d : View O) → j ≢ id → SeatStands legal opening r.history r.names r.tickets r.owner r.holder j d → SeatStands legal opening h' m' t' owner' holder' j d)
         → (w.seen ≡ h') ⊎ ((h' ≡ r.history) × (v.seen ≡ h' → w.seen ≡ h'))
@@ -60,7 +60,7 @@ module _ {T O : Type 0} (opens : T → O) (legal : O → List Entry → Type 0) 
         → ((k : ℕ) → length h' ≤ k → ticket_at v.stage ≡ Some k → ticket_at w.stage ≡ Some k)
         → t' + (m' + units w) ≡ r.tickets + (r.names + units v) → shares w ≡ shares v
         → Rule record { words = words'; homes = homes'; views = vs' }
-    moved words' homes' slot' was_live live words slot served lies theirs mine others saw names kept_names tickets kept_ticket allowance share = record {
+    moved words' homes' slot' was_live live words slot served begun lies theirs mine others saw names kept_names tickets kept_ticket allowance share = record {
       history = h';
       tickets = t';
       names = m';
@@ -70,6 +70,7 @@ module _ {T O : Type 0} (opens : T → O) (legal : O → List Entry → Type 0) 
       words_are = words;
       slot_is = slot;
       served = served;
+      begun = begun;
       lies = lies;
       theirs = theirs;
       each_seat = λ j d e l. ⊎_elim (λ (q : (j ≡ id) × (w ≡ d)). subst (λ (z : ℕ × View O). SeatStands legal opening h' m' t' owner' holder' z.0 z.1) (λ i. (sym q.0 i, q.1 i)) mine)

@@ -21,8 +21,8 @@ use Rattle.turn_lock.specs.inside.Steps as steps
 use Rattle.turn_lock.specs.inside.Steps.{Sat, IsDue}
 use Rattle.turn_lock.proofs.Entries.{entries-own, entries-other, entries-none, none_at_start, same_start, starts_more, starts_empty, nested}
 use Rattle.turn_lock.proofs.Pages.{all_weaker, all_append, all_both, all_pages, distinct_head, distinct_one}
-use Rattle.turn_lock.proofs.Totals.{has_place}
-use Rattle.turn_lock.proofs.Knowing.{IsFree, IsInside, ticket_or, free_ticket, same_ticket, named_live, named_pages, named_units, live_shares, own_pages, own_apart, told, stays, waits}
+use Rattle.turn_lock.proofs.Totals.{has_place, total_one}
+use Rattle.turn_lock.proofs.Knowing.{IsFree, IsInside, ticket_or, free_ticket, same_ticket, named_live, named_pages, named_units, live_units, live_shares, own_pages, own_apart, own_below, told, stays, waits}
 use Rattle.turn_lock.proofs.Moving.{lies_still, moved}
 
 -- a function of numbers, changed at one
@@ -49,6 +49,11 @@ module _ {T O : Type 0} (opens : T → O) (legal : O → List Entry → Type 0) 
     abbrev v : View O
     v = me.0
 
+    -- no seat has more than there is
+    fits_in : (s : State (Option T) (View O)) → Rule s → get_elem? s.views id ≡ some v → IsLive v.stage → (v.left ≤ 4611686018427387904) × (v.shares ≤ 4294967296)
+    fits_in s r at live = let sum = r.units_left in let out = r.shares_out in let begun = r.begun in let one = total_one units s.views id v at in let two = total_one shares s.views id v at in
+        let left = live_units v.stage v.left live in let share : shares v ≡ v.shares = live_shares v.stage v.shares live in (omega arith, omega arith)
+
     pub names : v.stage ≡ Unnamed → Allows Rule slots id me 2 (λ n. (n + 1) % 2 ^ 64) (steps.Names legal (step slots 2 1 0 none) me)
     names is s r deep at fits =
         let n : ℕ = get_or s.words 2 0 in let found : n ≡ r.names = ap (λ ws. get_or ws 2 0) r.words_are in let w : View O = named v n in let limit = r.units_left in
@@ -64,13 +69,15 @@ module _ {T O : Type 0} (opens : T → O) (legal : O → List Entry → Type 0) 
           sharing = k.sharing;
           paged = (record { given = omega arith; owned = put_here r.owner n id n refl; whole = none; shown = none_at_start r.history v.seen n k.seen none }, tt);
           apart = distinct_one n;
+          counted = omega arith;
+          below = (omega arith, tt);
           staged = tt;
         } in let was : units v ≡ v.left + 1 = ap (λ st. units_at st v.left) is in let share : shares v ≡ v.shares = live_shares v.stage v.shares live in (
           w,
           keeps,
           tt,
           moved opens legal stands opening s r id v w r.history r.tickets (r.names + 1) owner' r.holder at (set s.words 2 ((n + 1) % 18446744073709551616)) s.homes r.slot live tt
-              (ap (λ ws. set ws 2 ((n + 1) % 18446744073709551616)) r.words_are ∙ ap (λ (x : ℕ). length r.history ∷ r.tickets ∷ x ∷ []) next) r.slot_is r.served
+              (ap (λ ws. set ws 2 ((n + 1) % 18446744073709551616)) r.words_are ∙ ap (λ (x : ℕ). length r.history ∷ r.tickets ∷ x ∷ []) next) r.slot_is r.served (omega arith)
               (lies_still opens legal stands opening r.history s.views id v w r.slot at free r.lies) (all_weaker (λ e. e.caller < r.names) (λ e. e.caller < r.names + 1) r.history (λ e l. omega arith) r.theirs) mine
               (λ j d other q. stays legal opening r.history r.names r.tickets (r.names + 1) r.tickets r.owner r.holder owner' r.holder j d (omega arith) (omega arith)
               (λ i l e. kept i l ∙ e) (λ i l e. e) q)
@@ -78,7 +85,7 @@ module _ {T O : Type 0} (opens : T → O) (legal : O → List Entry → Type 0) 
               (λ i l. dite (ℕ_discrete i n) (λ e. inr (put_here r.owner n id i e, (0, omega arith, sym e))) (λ ne. inl (let lt : i < r.names = omega arith in (lt, kept i lt))))
               (λ i c. absurd (let l = c.1 in let none : length (numbers (pages v)) ≡ 0 = ap (λ st. length (numbers (Rattle.turn_lock.specs.inside.Seats.pages_at st (own v) v.ended))) is in omega arith))
               (λ i low high. inl (low, high, refl)) (λ i low e. absurd (free_ticket v.stage i free e)) (omega arith) (sym share),
-          (refl, told legal opening r.history (r.names + 1) r.tickets owner' r.holder id w tt mine),
+          (refl, (let c = k.counted in omega arith), told legal opening r.history (r.names + 1) r.tickets owner' r.holder id w tt mine (fits_in s r at live)),
         )
 
     -- facts of a seat with a number, before its step
@@ -111,13 +118,15 @@ module _ {T O : Type 0} (opens : T → O) (legal : O → List Entry → Type 0) 
           sharing = k.sharing;
           paged = own_stands s r at is_named;
           apart = own_apart legal opening r.history r.names r.tickets r.owner r.holder id v is_named k;
+          counted = k.counted;
+          below = own_below legal opening r.history r.names r.tickets r.owner r.holder id v is_named k;
           staged = (omega arith, omega arith, put_here r.holder n id n refl);
         } in let was : units v ≡ v.left = named_units v.stage v.left is_named in (
           w,
           keeps,
           tt,
           moved opens legal stands opening s r id v w r.history (r.tickets + 1) r.names r.owner holder' at (set s.words 1 ((n + 1) % 18446744073709551616)) s.homes r.slot (named_live v.stage is_named) tt
-              (ap (λ ws. set ws 1 ((n + 1) % 18446744073709551616)) r.words_are ∙ ap (λ (x : ℕ). length r.history ∷ x ∷ r.names ∷ []) next) r.slot_is (omega arith)
+              (ap (λ ws. set ws 1 ((n + 1) % 18446744073709551616)) r.words_are ∙ ap (λ (x : ℕ). length r.history ∷ x ∷ r.names ∷ []) next) r.slot_is (omega arith) r.begun
               (lies_still opens legal stands opening r.history s.views id v w r.slot at free r.lies) r.theirs mine
               (λ j d other q. stays legal opening r.history r.names r.tickets r.names (r.tickets + 1) r.owner r.holder r.owner holder' j d (omega arith) (omega arith)
               (λ i l e. e) (λ i l e. kept i l ∙ e) q)
@@ -139,16 +148,18 @@ module _ {T O : Type 0} (opens : T → O) (legal : O → List Entry → Type 0) 
           sharing = k.sharing;
           paged = k.paged;
           apart = k.apart;
+          counted = k.counted;
+          below = k.below;
           staged = k.staged;
         } in (
           w,
           keeps,
           tt,
           moved opens legal stands opening s r id v w r.history r.tickets r.names r.owner r.holder at (set s.words 0 (get_or s.words 0 0)) s.homes r.slot (named_live v.stage is_named) (named_live v.stage is_named)
-              (set-get_or s.words 0 0 ∙ r.words_are) r.slot_is r.served
+              (set-get_or s.words 0 0 ∙ r.words_are) r.slot_is r.served r.begun
               (lies_still opens legal stands opening r.history s.views id v w r.slot at free r.lies) r.theirs mine (λ j d other q. q)
               (inr (refl, λ e. e)) (λ i l. inl (l, refl)) (λ i c. c) (λ i low high. inl (low, high, refl)) (λ i low e. e) refl refl,
-          (refl, (λ le. nested r.history v.seen v.also k.seen k.also le), told legal opening r.history r.names r.tickets r.owner r.holder id w is_named mine),
+          (refl, (λ le. nested r.history v.seen v.also k.seen k.also le), told legal opening r.history r.names r.tickets r.owner r.holder id w is_named mine (fits_in s r at (named_live v.stage is_named))),
         )
 
     -- the entry under a hand on is one more page line
@@ -191,6 +202,8 @@ module _ {T O : Type 0} (opens : T → O) (legal : O → List Entry → Type 0) 
                   pages_are.1 (all_pages (λ z. z ≢ v.number) v.ended (distinct_head v.number (numbers v.ended) apart')),
             );
             apart = apart';
+            counted = k.counted;
+            below = own_below legal opening h r.names r.tickets r.owner r.holder id v is_named k;
             staged = tt;
           } in let was : units v ≡ v.left = named_units v.stage v.left is_named in (
             w,
@@ -198,12 +211,12 @@ module _ {T O : Type 0} (opens : T → O) (legal : O → List Entry → Type 0) 
             tt,
             moved opens legal stands opening s r id v w h' r.tickets r.names r.owner r.holder at (set s.words 0 ((n + 1) % 18446744073709551616)) (table.put_back s.homes me.1) (maybe.Option.some (Some x)) (named_live v.stage is_named) tt
                 (ap (λ ws. set ws 0 ((n + 1) % 18446744073709551616)) r.words_are ∙ ap (λ (z : ℕ). z ∷ r.tickets ∷ r.names ∷ []) next)
-                (ap (λ c. table.put_back s.homes c) carried ∙ ap (λ hs. set hs 0 (some (Some x))) r.slot_is) (omega arith) (stood', now)
+                (ap (λ c. table.put_back s.homes c) carried ∙ ap (λ hs. set hs 0 (some (Some x))) r.slot_is) (omega arith) r.begun (stood', now)
                 (all_append (λ z. z.caller < r.names) h (e ∷ []) r.theirs (below, tt)) mine
                 (λ j d other q. waits legal opening h e r.names r.tickets r.owner r.holder id j d other own_caller mine_served q)
                 (inl (ap (λ l. l ++ e ∷ []) saw)) (λ i l. inl (l, refl)) (pages_kept s r at is_named w tt refl) (λ i low high. inl (omega arith, high, refl))
                 (λ i low z. absurd (let j : ticket ≡ i = same_ticket ticket i v.stage is z in omega arith)) (omega arith) (share_kept s r at is_named w tt refl),
-            ((λ i. (w, table.rest (carried i))), found ∙ ap length (sym saw), told legal opening h' r.names r.tickets r.owner r.holder id w tt mine),
+            ((λ i. (w, table.rest (carried i))), found ∙ ap length (sym saw), told legal opening h' r.names r.tickets r.owner r.holder id w tt mine (fits_in s r at (named_live v.stage is_named))),
           )
 
     -- what a look leaves, where the ticket is due
@@ -249,6 +262,8 @@ module _ {T O : Type 0} (opens : T → O) (legal : O → List Entry → Type 0) 
             paged = all_weaker (PageStands legal opening h r.names r.owner id v.seen) (PageStands legal opening h r.names r.owner id h) (own v ∷ v.ended)
                 (λ p q. record { given = q.given; owned = q.owned; whole = q.whole; shown = q.whole }) pages_are;
             apart = own_apart legal opening h r.names r.tickets r.owner r.holder id v is_named k;
+            counted = k.counted;
+            below = own_below legal opening h r.names r.tickets r.owner r.holder id v is_named k;
             staged = (found, omega arith, ap r.holder (sym now) ∙ st.2, refl);
           } in let was : units v ≡ v.left = named_units v.stage v.left is_named in
           let told_of : IsDue opens legal stands me n (w, (0, Some x) ∷ me.1) = record {
@@ -260,13 +275,13 @@ module _ {T O : Type 0} (opens : T → O) (legal : O → List Entry → Type 0) 
             begins = k.seen;
             place = sym found;
             short = omega arith;
-            facts = told legal opening h r.names r.tickets r.owner r.holder id w tt mine;
+            facts = told legal opening h r.names r.tickets r.owner r.holder id w tt mine (fits_in s r at (named_live v.stage is_named));
           } in (
             w,
             takes 0 (Some x),
             ap (λ hs. get_elem? hs 0) homes,
             moved opens legal stands opening s r id v w h r.tickets r.names r.owner r.holder at (set s.words 0 n) (set s.homes 0 none) none (named_live v.stage is_named) tt
-                (set-get_or s.words 0 0 ∙ r.words_are) (ap (λ hs. set hs 0 none) homes) r.served
+                (set-get_or s.words 0 0 ∙ r.words_are) (ap (λ hs. set hs 0 none) homes) r.served r.begun
                 (id, w, set_here s.views id w (has_place s.views id v at), ap (λ (z : ℕ). Inside z) found) r.theirs mine (λ j d other q. q) (inl refl) (λ i l. inl (l, refl)) (pages_kept s r at is_named w tt refl)
                 (λ i low high. inl (low, high, refl)) (λ i low e. ap (λ (z : ℕ). Some z) (sym now ∙ ap (ticket_or 0) (sym (ap ticket_at is) ∙ e))) (ap (λ z. r.tickets + (r.names + z)) (sym was)) (share_kept s r at is_named w tt refl),
             record { due = λ _. told_of; early = λ j e ne. absurd (ne (sym (same j e) ∙ now)) },
@@ -278,7 +293,7 @@ module _ {T O : Type 0} (opens : T → O) (legal : O → List Entry → Type 0) 
         keeps,
         tt,
         moved opens legal stands opening s r id v v r.history r.tickets r.names r.owner r.holder at (set s.words 0 n) s.homes r.slot (named_live v.stage is_named) (named_live v.stage is_named)
-            (set-get_or s.words 0 0 ∙ r.words_are) r.slot_is r.served still r.theirs k (λ j d other q. q) (inr (refl, λ e. e)) (λ i l. inl (l, refl)) (λ i c. c) (λ i low high. inl (low, high, refl)) (λ i low e. e) refl refl,
+            (set-get_or s.words 0 0 ∙ r.words_are) r.slot_is r.served r.begun still r.theirs k (λ j d other q. q) (inr (refl, λ e. e)) (λ i l. inl (l, refl)) (λ i c. c) (λ i low high. inl (low, high, refl)) (λ i low e. e) refl refl,
         record { due = λ e. absurd (later (same n e)); early = λ _ _ _. refl },
       )
         where

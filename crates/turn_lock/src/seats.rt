@@ -25,6 +25,8 @@ pub enum Stage {
 pub struct View<O> {
     pub stage: Stage,
     pub number: u64,
+    /// So many names were given, and its own and the ended ones are among them.
+    pub names: u64,
     pub left: u64,
     pub shares: u64,
     /// `None` only where the seat is spent.

@@ -27,6 +27,7 @@ pub(crate) fn name<T: Stands>(shares: &Shares<T>, place: &mut Place<T>) -> u64
     requires board { IsBoard shares.now.table_id × (place.old.table_id ≡ shares.now.table_id) }
     requires unnamed { place.old.me.0.stage ≡ Unnamed }
     ensures now { IsNow place.old place.new (named place.old.me.0 result, place.old.me.1) }
+    ensures fresh { place.old.me.0.names ≤ result }
     ensures facts { SeatFacts T.legal place.new.me.0 }
 {
     shares.fetch_add::<Names<T>>(place, NAMES, 1)

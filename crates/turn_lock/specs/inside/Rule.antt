@@ -42,6 +42,8 @@ module _ {O : Type 0} (legal : O → List Entry → Type 0) (opening : O) (histo
     pub sharing : 1 ≤ v.shares
     pub paged : AllByRecursion (PageStands names owner seat v.seen) (pages v)
     pub apart : IsDistinct nat_eq (numbers (pages v))
+    pub counted : v.names ≤ names
+    pub below : AllByRecursion (λ page. page.0 < v.names) (pages v)
     pub staged : StageStands tickets holder seat v.seen v.stage
 
 module _ {T O : Type 0} (opens : T → O) (legal : O → List Entry → Type 0) (stands : T → List Entry → Type 0) (opening : O) where
@@ -62,6 +64,7 @@ module _ {T O : Type 0} (opens : T → O) (legal : O → List Entry → Type 0) 
     pub words_are : s.words ≡ length history ∷ tickets ∷ names ∷ []
     pub slot_is : s.homes ≡ slot ∷ []
     pub served : length history ≤ tickets
+    pub begun : 1 ≤ names
     pub lies : SlotStands history s.views slot
     pub theirs : AllByRecursion (λ entry. entry.caller < names) history
     pub each_seat : (seat : ℕ) (v : View O) → get_elem? s.views seat ≡ some v → IsLive v.stage → SeatStands legal opening history names tickets owner holder seat v

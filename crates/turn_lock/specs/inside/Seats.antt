@@ -1,5 +1,5 @@
 -- What a seat of the lock knows, read out of its view
-use Rattle.std.specs.Prelude.{◌≡◌, ℕ, ◌+◌, ◌-◌, ◌/◌, nat_eq, nat_lt, if◌then◌else◌, List, [], ◌∷◌, ◌++◌, length, map, Option, Some, None, IfSome}
+use Rattle.std.specs.Prelude.{◌≡◌, ℕ, ◌+◌, ◌-◌, ◌/◌, ◌<◌, ◌≤◌, max, nat_eq, nat_lt, if◌then◌else◌, List, [], ◌∷◌, ◌++◌, length, map, Option, Some, None, IfSome}
 use Rattle.std.specs.List.{AllByRecursion, IsDistinct}
 use Rattle.policy_types.specs.declared.entry.Entry.{Entry}
 use Rattle.turn_lock.specs.History.{entries_of, longer}
@@ -61,7 +61,7 @@ module _ {O : Type 0} where
   total f (v ∷ vs) = f v + total f vs
 
   abbrev pub first_view : O → View O
-  first_view opening = record { stage = Idle; number = 0; left = 4611686018427387904; shares = 4294967296; opened = Some opening; seen = []; made = []; also = []; ended = [] }
+  first_view opening = record { stage = Idle; number = 0; names = 1; left = 4611686018427387904; shares = 4294967296; opened = Some opening; seen = []; made = []; also = []; ended = [] }
 
   -- the seat keeps its lists, and half of what it has
   abbrev pub kept_half : View O → View O
@@ -69,17 +69,17 @@ module _ {O : Type 0} where
 
   -- the new seat has seen what the old one has, made nothing, and waits for its number
   abbrev pub given_half : View O → View O
-  given_half v = record { stage = Unnamed; number = 0; left = (v.left - 1) / 2; shares = v.shares / 2; opened = v.opened; seen = v.seen; made = []; also = []; ended = [] }
+  given_half v = record { stage = Unnamed; number = 0; names = v.names; left = (v.left - 1) / 2; shares = v.shares / 2; opened = v.opened; seen = v.seen; made = []; also = []; ended = [] }
 
   abbrev pub joined : View O → View O → View O
-  joined v w = record v { left = v.left + w.left; shares = v.shares + w.shares; seen = longer v.seen w.seen; also = shorter v.seen w.seen; ended = v.ended ++ own w ∷ w.ended }
+  joined v w = record v { names = max v.names w.names; left = v.left + w.left; shares = v.shares + w.shares; seen = longer v.seen w.seen; also = shorter v.seen w.seen; ended = v.ended ++ own w ∷ w.ended }
 
   abbrev pub spent_view : View O
-  spent_view = record { stage = Spent; number = 0; left = 0; shares = 0; opened = None; seen = []; made = []; also = []; ended = [] }
+  spent_view = record { stage = Spent; number = 0; names = 0; left = 0; shares = 0; opened = None; seen = []; made = []; also = []; ended = [] }
 
   -- a new seat has its number, and has made nothing
   abbrev pub named : View O → ℕ → View O
-  named v n = record v { stage = Idle; number = n; made = []; also = []; ended = [] }
+  named v n = record v { stage = Idle; number = n; names = n + 1; made = []; also = []; ended = [] }
 
   abbrev pub queued : View O → ℕ → View O
   queued v ticket = record v { stage = Queued ticket; left = v.left - 1 }
@@ -99,3 +99,6 @@ module _ {O : Type 0} where
     pub lawful : IfSome v.opened (λ opening. legal opening v.seen)
     pub paged : AllByRecursion (λ page. entries_of v.seen page.0 ≡ page.1) (own v ∷ v.ended)
     pub apart : IsDistinct nat_eq (numbers (own v ∷ v.ended))
+    pub below : AllByRecursion (λ page. page.0 < v.names) (own v ∷ v.ended)
+    pub left_fits : v.left ≤ 4611686018427387904
+    pub shares_fit : v.shares ≤ 4294967296

@@ -13,9 +13,9 @@ abbrev pub Sat : Type 0 → Type 0 → Type 0
 Sat T O = Me (Option T) (View O)
 
 module _ {T O : Type 0} where
-  -- the name found is the seat's
+  -- the name found is the seat's, and a new one
   abbrev pub Names : (O → List Entry → Type 0) → Step (Option T) → Sat T O → ℕ → Sat T O → Type 0
-  Names legal step me n next = (next ≡ (named me.0 n, me.1)) × SeatFacts legal next.0
+  Names legal step me n next = (next ≡ (named me.0 n, me.1)) × (me.0.names ≤ n) × SeatFacts legal next.0
 
   -- the ticket found is the seat's
   abbrev pub Draws : Step (Option T) → Sat T O → ℕ → Sat T O → Type 0
