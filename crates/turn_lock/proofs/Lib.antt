@@ -5,3 +5,4 @@ mod Knowing
 mod Moving
 mod Stepping
 mod Dividing
+mod Passing

@@ -1,5 +1,5 @@
 -- What contracts see of a pass, and what each call does to it
-use Rattle.std.specs.Prelude.{◌≡◌, ℕ, ◌+◌, ◌-◌, ◌/◌, ◌<◌, nat_eq, List, [], ◌∷◌, ◌++◌, length, map}
+use Rattle.std.specs.Prelude.{◌≡◌, ◌≢◌, ℕ, ◌+◌, ◌-◌, ◌/◌, ◌<◌, nat_eq, List, [], ◌∷◌, ◌++◌, length, map}
 use Rattle.std.specs.List.{AllByRecursion, Contains, IsDistinct}
 use Rattle.atomic_table.specs.Seated.{TableId}
 use Rattle.policy_types.specs.declared.entry.Entry.{Entry}
@@ -50,17 +50,20 @@ module _ {Opening : Type 0} where
     pub made : pass.made ≡ []
     pub ended : pass.ended ≡ []
 
-  -- One unit is spent. The new pass has half of the rest and half of the shares, rounded down, and what the old one has seen
+  -- A pass gives a part of what it has to a new one. One unit is spent; the new pass gets half of the rest and half of the shares,
+  -- rounded down, and a new number. It has seen what the old one has, and made nothing. The lists of the old one stay
   pub record Enters (old kept given : Holding Opening) : Type 0 where
     pub kept_is : kept ≡ record old { left = old.left - 1 - (old.left - 1) / 2; shares = old.shares - old.shares / 2 }
     pub turnstile : given.turnstile ≡ old.turnstile
+    pub caller : AllByRecursion (λ number. number ≢ given.caller) (callers old)
     pub left : given.left ≡ (old.left - 1) / 2
     pub shares : given.shares ≡ old.shares / 2
     pub seen : given.seen ≡ old.seen
     pub made : given.made ≡ []
     pub ended : given.ended ≡ []
 
-  -- the pass after another was taken back into it: the longer list, of which both are beginnings, and the pages of both
+  -- A pass takes another back: what it has left, its shares, and the pages that it vouches for.
+  -- It has then seen the longer of the two lists, and both are beginnings of that
   pub record Leaves (gone old new : Holding Opening) : Type 0 where
     pub new_is : new ≡ record old {
       left = old.left + gone.left;
@@ -71,15 +74,14 @@ module _ {Opening : Type 0} where
     pub begins_old : StartsWith new.seen old.seen
     pub begins_gone : StartsWith new.seen gone.seen
 
-  -- A turn was taken: what the pass has seen begins with what it had seen, is legal, and ends, at this place, with this entry.
-  -- Between the two no entry is the caller's. Of its own entries there is this one more, and one turn less is left to it
-  pub record TakesTurn (legal : Opening → List Entry → Type 0) (turn : ℕ) (entry : Entry) (old new : Holding Opening) : Type 0 where
+  -- A turn: what the pass has seen begins with what it had seen and ends, at this place, with this entry, which is its caller's.
+  -- No entry between the two is. It made this one entry more, and has one turn less left
+  pub record TakesTurn (turn : ℕ) (entry : Entry) (old new : Holding Opening) : Type 0 where
     pub between : List Entry
     pub new_is : new ≡ record old { left = old.left - 1; seen = (old.seen ++ between) ++ entry ∷ []; made = old.made ++ entry ∷ [] }
     pub place : turn ≡ length (old.seen ++ between)
     pub caller : entry.caller ≡ old.caller
     pub others : entries_of between old.caller ≡ []
-    pub facts : PassFacts legal new
 
   -- The pass at the end has seen the whole history: each entry is its own or an ended caller's
   abbrev pub OwnsAll : Holding Opening → Type 0

@@ -2,17 +2,16 @@
 //! caller's pass knows, in contracts alone, which entries it has seen and made.
 #![tactic(auto)]
 
-//mod pass;
+mod pass;
 mod plays;
 mod seats;
 mod stands;
 mod steps;
-//mod steps;
 mod turn;
-//mod turnstile;
-//mod waiting;
+mod turnstile;
+mod waiting;
 
-//pub use pass::Pass;
+pub use pass::Pass;
 pub use stands::Stands;
 pub use turn::{Turn, Turned};
-//pub use turnstile::{NoRoom, Turnstile};
+pub use turnstile::{NoRoom, Turnstile};

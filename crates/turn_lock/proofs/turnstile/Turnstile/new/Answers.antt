@@ -1,0 +1,16 @@
+use Rattle.std.proofs.Common.{rules, ◌≡◌, ◌∷◌, [], sym, ap, ◌∙◌, subst, Some}
+use Rattle.atomic_table.specs.Table.{opening}
+use Rattle.turn_lock.specs.inside.Seats.{first_view}
+use Rattle.turn_lock.specs.inside.Rule.{LockRule}
+use Rattle.turn_lock.proofs.Dividing.{starts}
+use Rattle.turn_lock.proofs.Passing.{first_pass}
+use Rattle.turn_lock.proofs.turnstile.Turnstile.new.Goals as goal
+
+pub new-requires : goal.new-requires
+new-requires g c = let T = g.T.Stands in let o = T.opening c.of-first.result.value in let items : c.push.new.self.items ≡ Some c.args.value ∷ [] = search rules in
+    subst (λ xs. LockRule T.opening T.legal T.stands o (opening (0 ∷ 0 ∷ 1 ∷ []) xs (first_view o))) (sym items)
+        (starts T.opening T.legal T.stands o T.is_legal c.args.value (ap T.opening (sym c.of-first.ensures)) c.requires)
+
+pub invariant_of-pass : goal.invariant_of-pass
+invariant_of-pass g c = let T = g.T.Stands in let ok = c.in-Ok.ensures.ok in let same = ap (λ s. T.opening s.value) (sym c.of.ensures) in let begun = ap T.opening (sym c.of-first.ensures ∙ ap (λ s. s.value) (sym c.of.ensures)) in
+    first_pass T.legal (T.opening c.of.result.value.value) c.in-Ok.place.me (ok.4 ∙ ap (λ o. (first_view o, [])) same) (subst (λ o. T.legal o []) begun (T.is_legal c.args.value [] c.requires))
