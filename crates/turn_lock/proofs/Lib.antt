@@ -6,3 +6,4 @@ mod Moving
 mod Stepping
 mod Dividing
 mod Passing
+mod Ending

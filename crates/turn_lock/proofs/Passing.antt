@@ -38,10 +38,10 @@ module _ {T O : Type 0} (legal : O → List Entry → Type 0) where
     apart = f.apart;
   }
 
-  pub enters : (o o' : O) (old kept half given : S T O) (n : ℕ) → o' ≡ o → IsNow old kept (kept_half old.me.0, old.me.1) → (half.table_id ≡ old.table_id) × (half.me ≡ (given_half old.me.0, []))
-      → IsNow half given (named half.me.0 n, half.me.1) → half.me.0.names ≤ n → SeatFacts legal old.me.0 → Enters (holding o old) (holding o kept) (holding o' given)
-  enters o o' old kept half given n same kept_now half_is given_now fresh facts = let g = ap (λ (m : Sat T O). m.0) half_is.1 in let m = ap (λ (m : Sat T O). m.0) given_now.2 in let below : old.me.0.names ≤ n = subst (λ (v : View O). v.names ≤ n) g fresh in
-      let is_n : given.me.0.number ≡ n = ap (λ (v : View O). v.number) m in record {
+  pub enters : (p : Holding O) (o o' : O) (old kept half given : S T O) (n : ℕ) → holding o old ≡ p → o' ≡ o → IsNow old kept (kept_half old.me.0, old.me.1) → (half.table_id ≡ old.table_id) × (half.me ≡ (given_half old.me.0, []))
+      → IsNow half given (named half.me.0 n, half.me.1) → half.me.0.names ≤ n → SeatFacts legal old.me.0 → Enters p (holding o kept) (holding o' given)
+  enters p o o' old kept half given n is_p same kept_now half_is given_now fresh facts = let g = ap (λ (m : Sat T O). m.0) half_is.1 in let m = ap (λ (m : Sat T O). m.0) given_now.2 in let below : old.me.0.names ≤ n = subst (λ (v : View O). v.names ≤ n) g fresh in
+      let is_n : given.me.0.number ≡ n = ap (λ (v : View O). v.number) m in subst (λ (z : Holding O). Enters z (holding o kept) (holding o' given)) is_p record {
         kept_is = now_as o old kept (kept_half old.me.0, old.me.1) kept_now;
         turnstile = λ i. record { table = (given_now.0 ∙ half_is.0) i; opening = same i };
         caller = all_numbers (λ k. k ≢ given.me.0.number) (own old.me.0 ∷ old.me.0.ended) (all_weaker (λ (p : Page). p.0 < old.me.0.names) (λ (p : Page). p.0 ≢ given.me.0.number) (own old.me.0 ∷ old.me.0.ended)
