@@ -1,9 +1,16 @@
 -- What contracts see of a pass, and what each call does to it
-use Rattle.std.specs.Prelude.{◌≡◌, ◌≢◌, ℕ, ◌+◌, ◌-◌, ◌/◌, ◌<◌, nat_eq, List, [], ◌∷◌, ◌++◌, length, map}
+use Rattle.std.specs.Prelude.{◌≡◌, ◌≢◌, ℕ, ◌+◌, ◌-◌, ◌/◌, ◌^◌, ◌<◌, nat_eq, List, [], ◌∷◌, ◌++◌, length, map}
 use Rattle.std.specs.List.{AllByRecursion, Contains, IsDistinct}
-use Rattle.atomic_table.specs.Seated.{TableId}
+pub use Rattle.atomic_table.specs.Seated.{TableId}
 use Rattle.policy_types.specs.declared.entry.Entry.{Entry}
 use Rattle.turn_lock.specs.History.{entries_of, StartsWith, longer}
+
+-- all turns that there are to take, and all shares, of a turnstile
+abbrev pub all_turns : ℕ
+all_turns = 2 ^ 62
+
+abbrev pub all_shares : ℕ
+all_shares = 2 ^ 32
 
 -- which turnstile it is, and what its value was opened on
 pub record Identity (Opening : Type 0) : Type 0 where
@@ -44,8 +51,8 @@ module _ {Opening : Type 0} where
   pub record IsFirst (opening : Opening) (pass : Holding Opening) : Type 0 where
     pub opened : pass.turnstile.opening ≡ opening
     pub caller : pass.caller ≡ 0
-    pub left : pass.left ≡ 4611686018427387904
-    pub shares : pass.shares ≡ 4294967296
+    pub left : pass.left ≡ all_turns
+    pub shares : pass.shares ≡ all_shares
     pub seen : pass.seen ≡ []
     pub made : pass.made ≡ []
     pub ended : pass.ended ≡ []
@@ -87,11 +94,11 @@ module _ {Opening : Type 0} where
   abbrev pub OwnsAll : Holding Opening → Type 0
   OwnsAll pass = AllByRecursion (λ entry. Contains (callers pass) entry.caller) pass.seen
 
--- what a call is lent: a value that stands for a history of fewer than 2^62 entries, which begins with what its caller has seen,
+-- what a call is lent: a value that stands for a history of fewer entries than there are turns, which begins with what its caller has seen,
 -- and has of this caller just what it made; and what the call needs of its caller
 pub record IsLent {T : Type 0} (stands : T → List Entry → Type 0) (needs : ℕ → List Entry → List Entry → Type 0) (value : T) (caller : ℕ) (history seen made : List Entry) : Type 0 where
   pub stood : stands value history
-  pub short : length history < 4611686018427387904
+  pub short : length history < all_turns
   pub begins : StartsWith history seen
   pub own : entries_of history caller ≡ made
   pub need : needs caller seen made

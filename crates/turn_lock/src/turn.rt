@@ -1,5 +1,3 @@
-ghost use Rattle.std.specs.Prelude.{◌≡◌};
-
 use crate::stands::Stands;
 
 /// One call on the value, made in a turn of its caller.
@@ -27,6 +25,7 @@ pub trait Turn<T: Stands> {
 }
 
 /// What a turn gives back.
+#[derive(Drop)]
 pub struct Turned<A> {
     /// The place of the turn's entry in the history, from 0.
     pub turn: u64,

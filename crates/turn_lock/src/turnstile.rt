@@ -42,12 +42,13 @@ pub struct NoRoom<T> {
 }
 
 impl<T: Stands> Turnstile<T> {
-    ghost use Rattle.turn_lock.specs.Passes.{PassFacts, IsFirst, Enters, Leaves, TakesTurn, OwnsAll};
+    ghost use Rattle.turn_lock.specs.Passes.{PassFacts, all_shares, IsFirst, Enters, Leaves, TakesTurn, OwnsAll};
 
     /// A turnstile round this value, and its first pass, which has all turns and all shares.
     pub fn new(alloc: Global, value: T) -> Result<(Turnstile<T>, Pass<T>), NoRoom<T>>
         requires { T.stands value [] }
         ensures ok { IfOk result (λ made. IsFirst (T.opening value) made.1 × (made.1.turnstile ≡ made.0)) }
+        ensures facts { IfOk result (λ made. PassFacts T.legal made.1) }
         ensures err { IfErr result (λ refused. refused.value ≡ value) }
     {
         let first = Snapshot::of(&value);
@@ -140,7 +141,7 @@ impl<T: Stands> Turnstile<T> {
     /// history. It waits for nobody.
     pub fn close(self, pass: Pass<T>) -> T
         requires ours { pass.turnstile ≡ self }
-        requires all { pass.shares ≡ 4294967296 }
+        requires all { pass.shares ≡ all_shares }
         ensures stood { T.stands result pass.seen }
         ensures opened { T.opening result ≡ pass.turnstile.opening }
         ensures whole { OwnsAll pass }

@@ -4,7 +4,7 @@ use Rattle.atomic_table.specs.Seated.{TableId}
 use Rattle.atomic_table.specs.declared.shared.Seat.{Seat}
 use Rattle.policy_types.specs.declared.entry.Entry.{Entry}
 use Rattle.turn_lock.specs.History.{StartsWith}
-use Rattle.turn_lock.specs.Passes.{Holding, Identity}
+use Rattle.turn_lock.specs.Passes.{Holding, Identity, all_turns}
 use Rattle.turn_lock.specs.declared.seats.View.{View}
 use Rattle.turn_lock.specs.declared.seats.Stage.{Stage}
 use Rattle.turn_lock.specs.declared.seats.Stage.TheVariants.{Spent, Unnamed, Idle, Queued, Inside}
@@ -28,7 +28,7 @@ module _ {T O : Type 0} where
     pub opened : old.me.0.opened ≡ Some (opens value)
     pub begins : StartsWith history old.me.0.seen
     pub place : length history ≡ ticket
-    pub short : ticket < 4611686018427387904
+    pub short : ticket < all_turns
     pub facts : SeatFacts legal new.me.0
 
   -- the seat is a pass's: it is idle, holds no slot, and knows what the pass says

@@ -7,7 +7,7 @@ use lib.ListN.{get_elem?}
 use Rattle.atomic_table.specs.Table.{State}
 use Rattle.policy_types.specs.declared.entry.Entry.{Entry}
 use Rattle.turn_lock.specs.History.{entries_of, StartsWith}
-use Rattle.turn_lock.specs.Passes.{Page}
+use Rattle.turn_lock.specs.Passes.{Page, all_turns, all_shares}
 use Rattle.turn_lock.specs.declared.seats.View.{View}
 use Rattle.turn_lock.specs.declared.seats.Stage.{Stage}
 use Rattle.turn_lock.specs.declared.seats.Stage.TheVariants.{Spent, Unnamed, Idle, Queued, Inside}
@@ -71,5 +71,5 @@ module _ {T O : Type 0} (opens : T → O) (legal : O → List Entry → Type 0) 
     pub one_saw_all : (seat : ℕ) × (v : View O) × (get_elem? s.views seat ≡ some v) × IsLive v.stage × (v.seen ≡ history)
     pub each_name : (n : ℕ) → n < names → (v : View O) × (get_elem? s.views (owner n) ≡ some v) × Contains (numbers (pages v)) n
     pub each_ticket : (k : ℕ) → length history ≤ k → k < tickets → (v : View O) × (get_elem? s.views (holder k) ≡ some v) × (ticket_at v.stage ≡ Some k)
-    pub units_left : tickets + (names + total units s.views) ≡ 4611686018427387905
-    pub shares_out : total shares s.views ≡ 4294967296
+    pub units_left : tickets + (names + total units s.views) ≡ all_turns + 1
+    pub shares_out : total shares s.views ≡ all_shares

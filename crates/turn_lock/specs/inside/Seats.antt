@@ -3,7 +3,7 @@ use Rattle.std.specs.Prelude.{◌≡◌, ℕ, ◌+◌, ◌-◌, ◌/◌, ◌<◌
 use Rattle.std.specs.List.{AllByRecursion, IsDistinct}
 use Rattle.policy_types.specs.declared.entry.Entry.{Entry}
 use Rattle.turn_lock.specs.History.{entries_of, longer}
-use Rattle.turn_lock.specs.Passes.{Page}
+use Rattle.turn_lock.specs.Passes.{Page, all_turns, all_shares}
 use Rattle.turn_lock.specs.declared.seats.View.{View}
 use Rattle.turn_lock.specs.declared.seats.Stage.{Stage}
 use Rattle.turn_lock.specs.declared.seats.Stage.TheVariants.{Spent, Unnamed, Idle, Queued, Inside}
@@ -61,7 +61,7 @@ module _ {O : Type 0} where
   total f (v ∷ vs) = f v + total f vs
 
   abbrev pub first_view : O → View O
-  first_view opening = record { stage = Idle; number = 0; names = 1; left = 4611686018427387904; shares = 4294967296; opened = Some opening; seen = []; made = []; also = []; ended = [] }
+  first_view opening = record { stage = Idle; number = 0; names = 1; left = all_turns; shares = all_shares; opened = Some opening; seen = []; made = []; also = []; ended = [] }
 
   -- the seat keeps its lists, and half of what it has
   abbrev pub kept_half : View O → View O
@@ -100,5 +100,5 @@ module _ {O : Type 0} where
     pub paged : AllByRecursion (λ page. entries_of v.seen page.0 ≡ page.1) (own v ∷ v.ended)
     pub apart : IsDistinct nat_eq (numbers (own v ∷ v.ended))
     pub below : AllByRecursion (λ page. page.0 < v.names) (own v ∷ v.ended)
-    pub left_fits : v.left ≤ 4611686018427387904
-    pub shares_fit : v.shares ≤ 4294967296
+    pub left_fits : v.left ≤ all_turns
+    pub shares_fit : v.shares ≤ all_shares

@@ -3,6 +3,7 @@ use Rattle.std.specs.Prelude.{◌≡◌, ◌≢◌, ℕ, ◌+◌, ◌<◌, ◌�
 use Rattle.atomic_table.specs.Table.{Me, Step}
 use Rattle.policy_types.specs.declared.entry.Entry.{Entry}
 use Rattle.turn_lock.specs.History.{entries_of, StartsWith}
+use Rattle.turn_lock.specs.Passes.{all_turns}
 use Rattle.turn_lock.specs.declared.seats.View.{View}
 use Rattle.turn_lock.specs.declared.seats.Stage.{Stage}
 use Rattle.turn_lock.specs.declared.seats.Stage.TheVariants.{Spent, Unnamed, Idle, Queued, Inside}
@@ -30,7 +31,7 @@ module _ {T O : Type 0} where
     pub opened : me.0.opened ≡ Some (opens value)
     pub begins : StartsWith history me.0.seen
     pub place : length history ≡ n
-    pub short : n < 4611686018427387904
+    pub short : n < all_turns
     pub facts : SeatFacts legal next.0
 
   -- the ticket is due, or nothing changes
