@@ -17,21 +17,17 @@ module _ {T O : Type 0} (opens : T → O) (legal : O → List Entry → Type 0) 
     pub value : T
     pub is : found ≡ Some value
     pub stood : stands value pass.seen
-    pub opened : opens value ≡ pass.turnstile.opening
+    pub opened : pass.opening ≡ Some (opens value)
     pub whole : OwnsAll pass
 
-  abbrev opened_or : O → Option O → O
-  opened_or d (Some o) = o
-  opened_or d None = d
-
-  pub ends : (place : Seat (Option T) (View O)) (pass : Holding O) (words : List ℕ) (slots : List (Option T)) (found : Option T) → holding pass.turnstile.opening place ≡ pass
-      → IsPass legal pass.turnstile.opening place.me pass.caller pass.left pass.shares → pass.shares ≡ 4294967296
+  pub ends : (place : Seat (Option T) (View O)) (pass : Holding O) (words : List ℕ) (slots : List (Option T)) (found : Option T) → holding place ≡ pass
+      → IsPass legal place.me pass.caller pass.left pass.shares → pass.shares ≡ 4294967296
       → Final (Seen (LockRule opens legal stands opening) place.id place.me.0) words slots → get_elem? slots 0 ≡ some found → Ended pass found
   ends place pass words slots found same is_pass all final at = let c = closes opens legal stands opening place.id place.me.0 is_pass.idle (is_pass.shares_is ∙ all) final.0 final.1.0 final.1.1 in record {
     value = c.value;
     is = some-injective found (Some c.value) (sym at ∙ final.4 0 (Some c.value) c.home);
     stood = subst (λ (p : Holding O). stands c.value p.seen) same c.stood;
-    opened = ap (opened_or pass.turnstile.opening) (sym c.opened ∙ is_pass.opened);
+    opened = ap (λ (p : Holding O). p.opening) (sym same) ∙ c.opened;
     whole = subst OwnsAll same c.known;
   }
 
@@ -40,5 +36,5 @@ module _ {T O : Type 0} (opens : T → O) (legal : O → List Entry → Type 0) 
   value_or d None = d
 
   -- the value that was unwrapped is the one
-  pub is_value : (pass : Holding O) (found : Option T) (x : T) → Ended pass found → found ≡ Some x → stands x pass.seen × (opens x ≡ pass.turnstile.opening)
-  is_value pass found x e is = subst (λ (y : T). stands y pass.seen × (opens y ≡ pass.turnstile.opening)) (ap (value_or x) (sym e.is ∙ is)) (e.stood, e.opened)
+  pub is_value : (pass : Holding O) (found : Option T) (x : T) → Ended pass found → found ≡ Some x → stands x pass.seen × (pass.opening ≡ Some (opens x))
+  is_value pass found x e is = subst (λ (y : T). stands y pass.seen × (pass.opening ≡ Some (opens y))) (ap (value_or x) (sym e.is ∙ is)) (e.stood, e.opened)

@@ -96,7 +96,7 @@ module _ {O : Type 0} (legal : O → List Entry → Type 0) (opening : O) where
 
     pub told : (v : View O) → IsNamed v.stage → SeatStands legal opening h m t owner holder seat v → (v.left ≤ 4611686018427387904) × (v.shares ≤ 4294967296) → SeatFacts legal v
     told v named k fits = record {
-      lawful = subst (λ o. IfSome o (λ opening. legal opening v.seen)) (sym k.opened) k.lawful;
+      lawful = (opening, k.opened, k.lawful);
       paged = all_weaker (PageStands legal opening h m owner seat v.seen) (λ p. entries_of v.seen p.0 ≡ p.1) (own v ∷ v.ended) (λ p s. s.shown) (own_pages v named k);
       apart = own_apart v named k;
       below = own_below v named k;

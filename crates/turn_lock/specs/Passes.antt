@@ -1,5 +1,5 @@
 -- What contracts see of a pass, and what each call does to it
-use Rattle.std.specs.Prelude.{◌≡◌, ◌≢◌, ℕ, ◌+◌, ◌-◌, ◌/◌, ◌^◌, ◌<◌, nat_eq, List, [], ◌∷◌, ◌++◌, length, map}
+use Rattle.std.specs.Prelude.{◌≡◌, ◌≢◌, ℕ, ◌+◌, ◌-◌, ◌/◌, ◌^◌, ◌<◌, nat_eq, List, [], ◌∷◌, ◌++◌, length, map, Option, Some}
 use Rattle.std.specs.List.{AllByRecursion, Contains, IsDistinct}
 pub use Rattle.atomic_table.specs.Seated.{TableId}
 use Rattle.policy_types.specs.declared.entry.Entry.{Entry}
@@ -12,19 +12,15 @@ all_turns = 2 ^ 62
 abbrev pub all_shares : ℕ
 all_shares = 2 ^ 32
 
--- which turnstile it is, and what its value was opened on
-pub record Identity (Opening : Type 0) : Type 0 where
-  pub table : TableId
-  pub opening : Opening
-
 -- a caller's number, and the entries that it made
 abbrev pub Page : Type 0
 Page = ℕ × List Entry
 
--- a pass: its turnstile, its caller's number, the turns left to it and its shares;
+-- a pass: which turnstile it is of, and what that was opened on; its caller's number, the turns left to it and its shares;
 -- the entries that it has seen and those that it made; and a page for each pass that was taken back into it
 pub record Holding (Opening : Type 0) : Type 0 where
-  pub turnstile : Identity Opening
+  pub turnstile : TableId
+  pub opening : Option Opening
   pub caller : ℕ
   pub left : ℕ
   pub shares : ℕ
@@ -43,13 +39,13 @@ module _ {Opening : Type 0} where
 
   -- what it has seen is legal and has of its caller, and of each ended one, just that page; and these callers all differ
   pub record PassFacts (legal : Opening → List Entry → Type 0) (pass : Holding Opening) : Type 0 where
-    pub lawful : legal pass.turnstile.opening pass.seen
+    pub lawful : (opening : Opening) × (pass.opening ≡ Some opening) × legal opening pass.seen
     pub paged : AllByRecursion (λ page. entries_of pass.seen page.0 ≡ page.1) (pages pass)
     pub apart : IsDistinct nat_eq (callers pass)
 
   -- the first pass of a turnstile, whose value was opened on this
   pub record IsFirst (opening : Opening) (pass : Holding Opening) : Type 0 where
-    pub opened : pass.turnstile.opening ≡ opening
+    pub opened : pass.opening ≡ Some opening
     pub caller : pass.caller ≡ 0
     pub left : pass.left ≡ all_turns
     pub shares : pass.shares ≡ all_shares
@@ -61,13 +57,8 @@ module _ {Opening : Type 0} where
   -- rounded down, and a new number. It has seen what the old one has, and made nothing. The lists of the old one stay
   pub record Enters (old kept given : Holding Opening) : Type 0 where
     pub kept_is : kept ≡ record old { left = old.left - 1 - (old.left - 1) / 2; shares = old.shares - old.shares / 2 }
-    pub turnstile : given.turnstile ≡ old.turnstile
-    pub caller : AllByRecursion (λ number. number ≢ given.caller) (callers old)
-    pub left : given.left ≡ (old.left - 1) / 2
-    pub shares : given.shares ≡ old.shares / 2
-    pub seen : given.seen ≡ old.seen
-    pub made : given.made ≡ []
-    pub ended : given.ended ≡ []
+    pub given_is : given ≡ record old { caller = given.caller; left = (old.left - 1) / 2; shares = old.shares / 2; made = []; ended = [] }
+    pub new_number : AllByRecursion (λ number. number ≢ given.caller) (callers old)
 
   -- A pass takes another back: what it has left, its shares, and the pages that it vouches for.
   -- It has then seen the longer of the two lists, and both are beginnings of that

@@ -3,13 +3,10 @@ ghost use Rattle.std.specs.Prelude.{◌≡◌};
 use crate::seats::Place;
 use crate::stands::Stands;
 use std::marker::Model;
-use std::snapshot::Snapshot;
 
 /// One caller's right to take turns. Contracts see it as what it has, has seen and has made.
 pub struct Pass<T: Stands> {
     pub(crate) place: Place<T>,
-    /// What the turnstile's first value was, for contracts alone.
-    pub(crate) first: Snapshot<Snapshot<T>>,
     pub(crate) caller: u64,
     pub(crate) left: u64,
     pub(crate) shares: u64,
@@ -21,9 +18,9 @@ impl<T: Stands> Model for Pass<T> {
 
     ghost Value = { Holding T.Opening };
 
-    ghost view = { λ p. holding (T.opening p.first.value.value) p.place };
+    ghost view = { λ p. holding p.place };
 
-    ghost invariant = { λ p. IsPass T.legal (T.opening p.first.value.value) p.place.me p.caller p.left p.shares };
+    ghost invariant = { λ p. IsPass T.legal p.place.me p.caller p.left p.shares };
 }
 
 impl<T: Stands> Pass<T> {
@@ -54,12 +51,11 @@ impl<T: Stands> Pass<T> {
 
     /// The pass's seat.
     pub(crate) fn into_place(self) -> Place<T>
-        ensures same { holding self.turnstile.opening result ≡ self }
-        ensures pass { IsPass T.legal self.turnstile.opening result.me self.caller self.left self.shares }
+        ensures same { holding result ≡ self }
+        ensures pass { IsPass T.legal result.me self.caller self.left self.shares }
     {
         let Self {
             place,
-            first: _,
             caller: _,
             left: _,
             shares: _,
@@ -72,7 +68,6 @@ impl<T: Stands> Drop for Pass<T> {
     fn drop(self) {
         let Self {
             place: _,
-            first: _,
             caller: _,
             left: _,
             shares: _,

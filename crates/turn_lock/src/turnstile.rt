@@ -17,20 +17,18 @@ use std::marker::{Brand, Model};
 use std::snapshot::Snapshot;
 use std::sync::Wait;
 
-/// A lock by tickets round a value. Contracts see which turnstile it is, and what its value was opened on.
+/// A lock by tickets round a value. Contracts see which turnstile it is.
 pub struct Turnstile<T: Stands> {
     board: Board<T>,
-    /// The value that it was made with, for contracts alone.
-    first: Snapshot<T>,
 }
 
 impl<T: Stands> Model for Turnstile<T> {
-    ghost use Rattle.turn_lock.specs.Passes.{Identity};
+    ghost use Rattle.turn_lock.specs.Passes.{TableId};
     ghost use Rattle.turn_lock.specs.inside.Places.{IsBoard};
 
-    ghost Value = { Identity T.Opening };
+    ghost Value = { TableId };
 
-    ghost view = { λ t. record { table = t.board.shared.table_id; opening = T.opening t.first.value } };
+    ghost view = { λ t. t.board.shared.table_id };
 
     ghost invariant = { λ t. IsBoard t.board.shared.table_id };
 }
@@ -61,15 +59,13 @@ impl<T: Stands> Turnstile<T> {
         }
         match Table::new(alloc, &[0, 0, 1], slots, &first) {
             Ok((board, place)) => {
-                let turnstile = Turnstile { board, first };
                 let pass = Pass {
                     place,
-                    first: Snapshot::of(&turnstile.first),
                     caller: 0,
                     left: 1 << 62,
                     shares: 1 << 32,
                 };
-                Ok((turnstile, pass))
+                Ok((Turnstile { board }, pass))
             }
             Err(Refused { mut slots }) => {
                 let value = slots.pop().unwrap().unwrap();
@@ -95,7 +91,6 @@ impl<T: Stands> Turnstile<T> {
         pass.shares -= shares;
         Pass {
             place,
-            first: Snapshot::of(&self.first),
             caller,
             left,
             shares,
@@ -143,11 +138,11 @@ impl<T: Stands> Turnstile<T> {
         requires ours { pass.turnstile ≡ self }
         requires all { pass.shares ≡ all_shares }
         ensures stood { T.stands result pass.seen }
-        ensures opened { T.opening result ≡ pass.turnstile.opening }
+        ensures opened { pass.opening ≡ Some (T.opening result) }
         ensures whole { OwnsAll pass }
         ensures facts { PassFacts T.legal pass }
     {
-        let Turnstile { board, first: _ } = self;
+        let Turnstile { board } = self;
         let mut closed = board.close_with(pass.into_place());
         let value = closed.take(VALUE).unwrap();
         closed.free();

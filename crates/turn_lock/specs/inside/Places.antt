@@ -4,7 +4,7 @@ use Rattle.atomic_table.specs.Seated.{TableId}
 use Rattle.atomic_table.specs.declared.shared.Seat.{Seat}
 use Rattle.policy_types.specs.declared.entry.Entry.{Entry}
 use Rattle.turn_lock.specs.History.{StartsWith}
-use Rattle.turn_lock.specs.Passes.{Holding, Identity, all_turns}
+use Rattle.turn_lock.specs.Passes.{Holding, all_turns}
 use Rattle.turn_lock.specs.declared.seats.View.{View}
 use Rattle.turn_lock.specs.declared.seats.Stage.{Stage}
 use Rattle.turn_lock.specs.declared.seats.Stage.TheVariants.{Spent, Unnamed, Idle, Queued, Inside}
@@ -32,19 +32,19 @@ module _ {T O : Type 0} where
     pub facts : SeatFacts legal new.me.0
 
   -- the seat is a pass's: it is idle, holds no slot, and knows what the pass says
-  pub record IsPass (legal : O → List Entry → Type 0) (opening : O) (me : Sat T O) (caller left shares : ℕ) : Type 0 where
+  pub record IsPass (legal : O → List Entry → Type 0) (me : Sat T O) (caller left shares : ℕ) : Type 0 where
     pub idle : me.0.stage ≡ Idle
     pub bare : me.1 ≡ []
     pub caller_is : me.0.number ≡ caller
     pub left_is : me.0.left ≡ left
     pub shares_is : me.0.shares ≡ shares
-    pub opened : me.0.opened ≡ Some opening
     pub facts : SeatFacts legal me.0
 
   -- what contracts see of the pass
-  abbrev pub holding : O → Seat (Option T) (View O) → Holding O
-  holding opening place = record {
-    turnstile = record { table = place.table_id; opening = opening };
+  abbrev pub holding : Seat (Option T) (View O) → Holding O
+  holding place = record {
+    turnstile = place.table_id;
+    opening = place.me.0.opened;
     caller = place.me.0.number;
     left = place.me.0.left;
     shares = place.me.0.shares;

@@ -1,5 +1,5 @@
 -- What a seat of the lock knows, read out of its view
-use Rattle.std.specs.Prelude.{◌≡◌, ℕ, ◌+◌, ◌-◌, ◌/◌, ◌<◌, ◌≤◌, max, nat_eq, nat_lt, if◌then◌else◌, List, [], ◌∷◌, ◌++◌, length, map, Option, Some, None, IfSome}
+use Rattle.std.specs.Prelude.{◌≡◌, ℕ, ◌+◌, ◌-◌, ◌/◌, ◌<◌, ◌≤◌, max, nat_eq, nat_lt, if◌then◌else◌, List, [], ◌∷◌, ◌++◌, length, map, Option, Some, None}
 use Rattle.std.specs.List.{AllByRecursion, IsDistinct}
 use Rattle.policy_types.specs.declared.entry.Entry.{Entry}
 use Rattle.turn_lock.specs.History.{entries_of, longer}
@@ -96,7 +96,7 @@ module _ {O : Type 0} where
 
   -- what a seat with a number knows of itself
   pub record SeatFacts (legal : O → List Entry → Type 0) (v : View O) : Type 0 where
-    pub lawful : IfSome v.opened (λ opening. legal opening v.seen)
+    pub lawful : (opening : O) × (v.opened ≡ Some opening) × legal opening v.seen
     pub paged : AllByRecursion (λ page. entries_of v.seen page.0 ≡ page.1) (own v ∷ v.ended)
     pub apart : IsDistinct nat_eq (numbers (own v ∷ v.ended))
     pub below : AllByRecursion (λ page. page.0 < v.names) (own v ∷ v.ended)

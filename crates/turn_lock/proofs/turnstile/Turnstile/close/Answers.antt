@@ -23,5 +23,4 @@ pub returns-clause-whole : goal.returns-clause-whole
 returns-clause-whole g c = (ended g (goal.at.returns-clause-whole g c).After-take).whole
 
 pub returns-clause-facts : goal.returns-clause-facts
-returns-clause-facts g c = let T = g.T.Stands in let pass = c.into_place.ensures.pass in
-    subst (PassFacts T.legal) c.into_place.ensures.same (facts_of T.legal c.args.pass.turnstile.opening c.into_place.result pass.opened pass.facts)
+returns-clause-facts g c = let T = g.T.Stands in subst (PassFacts T.legal) c.into_place.ensures.same (facts_of T.legal c.into_place.result c.into_place.ensures.pass.facts)

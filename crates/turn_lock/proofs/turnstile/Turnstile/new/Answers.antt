@@ -1,4 +1,4 @@
-use Rattle.std.proofs.Common.{rules, ◌≡◌, ◌∷◌, [], sym, ap, ◌∙◌, subst, Some}
+use Rattle.std.proofs.Common.{rules, ◌≡◌, ◌∷◌, [], sym, ap, subst, Some}
 use Rattle.atomic_table.specs.Table.{opening}
 use Rattle.turn_lock.specs.Passes.{all_turns, all_shares}
 use Rattle.turn_lock.specs.inside.Seats.{first_view}
@@ -6,7 +6,7 @@ use Rattle.turn_lock.specs.inside.Rule.{LockRule}
 use Rattle.turn_lock.specs.inside.Places.{IsPass}
 use Rattle.turn_lock.proofs.Dividing.{starts}
 use Rattle.turn_lock.proofs.Passing.{first_pass, facts_of}
-use Rattle.turn_lock.proofs.turnstile.Turnstile.new.Goals.{After-of}
+use Rattle.turn_lock.proofs.turnstile.Turnstile.new.Goals.{In-Ok}
 use Rattle.turn_lock.proofs.turnstile.Turnstile.new.Goals as goal
 
 pub new-requires : goal.new-requires
@@ -14,13 +14,12 @@ new-requires g c = let T = g.T.Stands in let o = T.opening c.of-first.result.val
     subst (λ xs. LockRule T.opening T.legal T.stands o (opening (0 ∷ 0 ∷ 1 ∷ []) xs (first_view o))) (sym items)
         (starts T.opening T.legal T.stands o T.is_legal c.args.value (ap T.opening (sym c.of-first.ensures)) c.requires)
 
-first : (g : _) (c : After-of g) → IsPass g.T.Stands.legal (g.T.Stands.opening c.of.result.value.value) c.in-Ok.place.me 0 all_turns all_shares
-first g c = let T = g.T.Stands in let ok = c.in-Ok.ensures.ok in let same = ap (λ s. T.opening s.value) (sym c.of.ensures) in
-    let begun = ap T.opening (sym c.of-first.ensures ∙ ap (λ s. s.value) (sym c.of.ensures)) in
-    first_pass T.legal (T.opening c.of.result.value.value) c.in-Ok.place.me (ok.4 ∙ ap (λ o. (first_view o, [])) same) (subst (λ o. T.legal o []) begun (T.is_legal c.args.value [] c.requires))
+first : (g : _) (c : In-Ok g) → IsPass g.T.Stands.legal c.in-Ok.place.me 0 all_turns all_shares
+first g c = let T = g.T.Stands in let o = T.opening c.of-first.result.value in
+    first_pass T.legal o c.in-Ok.place.me c.in-Ok.ensures.ok.4 (subst (λ z. T.legal z []) (ap T.opening (sym c.of-first.ensures)) (T.is_legal c.args.value [] c.requires))
 
 pub invariant_of-pass : goal.invariant_of-pass
 invariant_of-pass g c = first g c
 
 pub returns-in-Ok-clause-facts : goal.returns-in-Ok-clause-facts
-returns-in-Ok-clause-facts g c = let is = first g c in facts_of g.T.Stands.legal (g.T.Stands.opening c.of.result.value.value) c.in-Ok.place is.opened is.facts
+returns-in-Ok-clause-facts g c = facts_of g.T.Stands.legal c.in-Ok.place (first g (goal.at.returns-in-Ok-clause-facts g c).In-Ok).facts
