@@ -3,15 +3,15 @@ use Rattle.std.proofs.Common.{◌≡◌, ℕ, ◌+◌, ◌-◌, ◌/◌, ◌<◌
 use mathlib.Core.Logic.{dite}
 use mathlib.Core.Option.{some, none, some-injective, some-ne-none}
 use mathlib.Core.Option as maybe
-use native.Mathlib.Decide.{ℕ_discrete, dec_le}
+use native.Mathlib.Decide.{ℕ_discrete}
 use lib.ListN.{get_elem?}
 use Rattle.std.specs.List.{AllByRecursion, Contains, IsDistinct}
 use Rattle.std.proofs.lemmas.List.Elements.{Contains-append_left, Contains-append_right}
 use Rattle.atomic_table.specs.Table.{State, Splits, Joins}
 use Rattle.atomic_table.specs.Table as table
-use Rattle.atomic_table.proofs.Lists.{at_set, set_here, set_else, at_snoc, at_longer, at_last}
+use Rattle.atomic_table.proofs.Lists.{at_set, set_here, set_else, at_snoc, at_longer}
 use Rattle.policy_types.specs.declared.entry.Entry.{Entry}
-use Rattle.turn_lock.specs.History.{StartsWith, entries_of, longer}
+use Rattle.turn_lock.specs.History.{StartsWith, longer}
 use Rattle.turn_lock.specs.Passes.{Page}
 use Rattle.turn_lock.specs.declared.seats.View.{View}
 use Rattle.turn_lock.specs.declared.seats.Stage.{Stage}
@@ -56,10 +56,28 @@ module _ {T O : Type 0} (opens : T → O) (legal : O → List Entry → Type 0) 
       let is_named : IsNamed v.stage = subst IsNamed (sym is) tt in let live : IsLive v.stage = named_live v.stage is_named in let free : IsFree v.stage = subst IsFree (sym is) tt in
       let k = r.each_seat id v at live in let h : List Entry = r.history in let here = set_here s.views id w (has_place s.views id v at) in
       let kept : SeatStands legal opening h r.names r.tickets r.owner r.holder id w = record {
-        opened = k.opened; seen = k.seen; also = k.also; lawful = k.lawful; sharing = omega arith; paged = k.paged; apart = k.apart; counted = k.counted; below = k.below; staged = k.staged;
+        opened = k.opened;
+        seen = k.seen;
+        also = k.also;
+        lawful = k.lawful;
+        sharing = omega arith;
+        paged = k.paged;
+        apart = k.apart;
+        counted = k.counted;
+        below = k.below;
+        staged = k.staged;
       } in
       let given : (j : ℕ) → SeatStands legal opening h r.names r.tickets r.owner r.holder j g = λ j. record {
-        opened = k.opened; seen = k.seen; also = starts_empty h; lawful = k.lawful; sharing = omega arith; paged = tt; apart = distinct_none; counted = k.counted; below = tt; staged = tt;
+        opened = k.opened;
+        seen = k.seen;
+        also = starts_empty h;
+        lawful = k.lawful;
+        sharing = omega arith;
+        paged = tt;
+        apart = distinct_none;
+        counted = k.counted;
+        below = tt;
+        staged = tt;
       } in
       let is_v : (j : ℕ) (u : View O) → j ≡ id → get_elem? s.views j ≡ some u → u ≡ v = λ j u e f. some-injective u v (sym f ∙ (ap (get_elem? s.views) e ∙ at)) in
       let u₀ : units v ≡ v.left = named_units v.stage v.left is_named in let u₁ : units w ≡ w.left = named_units v.stage w.left is_named in
@@ -112,12 +130,22 @@ module _ {T O : Type 0} (opens : T → O) (legal : O → List Entry → Type 0) 
   longest : (P : List Entry → Type 0) (h xs ys : List Entry) → StartsWith h xs → StartsWith h ys → Longest P h xs ys (longer xs ys) (shorter xs ys)
   longest P h xs ys a b = longer_cases xs ys (Longest P h xs ys)
       (λ less. record {
-        whole = b; other = a; lawful = λ p q. q; first = nested h ys xs b a (omega arith); second = same_start ys;
-        all_first = λ e. absurd (let f = start_fits h ys b in let g : length xs ≡ length h = ap length e in omega arith); all_second = λ e. e;
+        whole = b;
+        other = a;
+        lawful = λ p q. q;
+        first = nested h ys xs b a (omega arith);
+        second = same_start ys;
+        all_first = λ e. absurd (let f = start_fits h ys b in let g : length xs ≡ length h = ap length e in omega arith);
+        all_second = λ e. e;
       })
       (λ more. record {
-        whole = a; other = b; lawful = λ p q. p; first = same_start xs; second = nested h xs ys a b more;
-        all_first = λ e. e; all_second = λ e. full_start h xs a (let g : length ys ≡ length h = ap length e in omega arith);
+        whole = a;
+        other = b;
+        lawful = λ p q. p;
+        first = same_start xs;
+        second = nested h xs ys a b more;
+        all_first = λ e. e;
+        all_second = λ e. full_start h xs a (let g : length ys ≡ length h = ap length e in omega arith);
       })
 
   pub joins : (id : ℕ) (v : View O) (other : ℕ) (w : View O) → v.stage ≡ Idle → w.stage ≡ Idle → Joins Rule id v other w (joined v w) spent_view
@@ -140,7 +168,7 @@ module _ {T O : Type 0} (opens : T → O) (legal : O → List Entry → Type 0) 
       let theirs : AllByRecursion (λ n. r.owner n ≡ id) ns = all_numbers (λ n. r.owner n ≡ id) (own v ∷ v.ended) (all_weaker (PageStands legal opening h r.names r.owner id v.seen) (λ p. r.owner p.0 ≡ id) (own v ∷ v.ended) (λ p q. q.owned) pv) in
       let others : AllByRecursion (λ n. r.owner n ≡ other) ms = all_numbers (λ n. r.owner n ≡ other) (own w ∷ w.ended) (all_weaker (PageStands legal opening h r.names r.owner other w.seen) (λ p. r.owner p.0 ≡ other) (own w ∷ w.ended) (λ p q. q.owned) pw) in
       let apart_j : IsDistinct eqb (ns ++ ms) = distinct_append ns ms (own_apart legal opening h r.names r.tickets r.owner r.holder id v named_v kv) (own_apart legal opening h r.names r.tickets r.owner r.holder other w named_w kw)
-          (all_weaker (λ n. r.owner n ≡ id) (λ n. AllByRecursion (λ m. n ≢ m) ms) ns (λ n e. all_weaker (λ m. r.owner m ≡ other) (λ m. n ≢ m) ms (λ m f g. ne (sym f ∙ (ap r.owner (sym g) ∙ e))) others) theirs) in
+      (all_weaker (λ n. r.owner n ≡ id) (λ n. AllByRecursion (λ m. n ≢ m) ms) ns (λ n e. all_weaker (λ m. r.owner m ≡ other) (λ m. n ≢ m) ms (λ m f g. ne (sym f ∙ (ap r.owner (sym g) ∙ e))) others) theirs) in
       let joined_stands : SeatStands legal opening h r.names r.tickets owner' r.holder id j = record {
         opened = kv.opened;
         seen = best.whole;
@@ -233,10 +261,19 @@ module _ {T O : Type 0} (opens : T → O) (legal : O → List Entry → Type 0) 
       beyond : (j : ℕ) (d : View O) → j ≢ 0 → get_elem? (first_view opening ∷ []) j ≡ some d → ⊥
       beyond Rattle.std.proofs.Common.zero d other e = other refl
       beyond (Rattle.std.proofs.Common.suc j) d other e = some-ne-none d (sym e)
+
       first : SeatStands legal opening [] 1 0 (λ _. 0) (λ _. 0) 0 (first_view opening)
       first = record {
-        opened = refl; seen = starts_empty []; also = starts_empty []; lawful = subst (λ o. legal o []) is (law x [] stood); sharing = omega arith;
-        paged = (record { given = omega arith; owned = refl; whole = refl; shown = refl }, tt); apart = distinct_one 0; counted = omega arith; below = (omega arith, tt); staged = tt;
+        opened = refl;
+        seen = starts_empty [];
+        also = starts_empty [];
+        lawful = subst (λ o. legal o []) is (law x [] stood);
+        sharing = omega arith;
+        paged = (record { given = omega arith; owned = refl; whole = refl; shown = refl }, tt);
+        apart = distinct_one 0;
+        counted = omega arith;
+        below = (omega arith, tt);
+        staged = tt;
       }
 
   -- what a seat with all shares sees at the end
@@ -252,20 +289,27 @@ module _ {T O : Type 0} (opens : T → O) (legal : O → List Entry → Type 0) 
     where
       h : List Entry
       h = r.history
+
       named_v : IsNamed v.stage
       named_v = subst IsNamed (sym is) tt
+
       alone : (j : ℕ) (u : View O) → get_elem? s.views j ≡ some u → IsLive u.stage → j ≡ id
       alone j u e l = dite (ℕ_discrete j id) (λ z. z) (λ ne. absurd (let two = total_two shares s.views j id u v ne e at in let k = r.each_seat j u e l in let some_of = k.sharing in let su : shares u ≡ u.shares = live_shares u.stage u.shares l in
           let sv : shares v ≡ v.shares = live_shares v.stage v.shares (named_live v.stage named_v) in let sum = r.shares_out in omega arith))
+
       is_v : (j : ℕ) (u : View O) → j ≡ id → get_elem? s.views j ≡ some u → u ≡ v
       is_v j u e f = some-injective u v (sym f ∙ (ap (get_elem? s.views) e ∙ at))
+
       k : SeatStands legal opening h r.names r.tickets r.owner r.holder id v
       k = r.each_seat id v at (named_live v.stage named_v)
+
       saw : v.seen ≡ h
       saw = let o = r.one_saw_all in ap (λ (y : View O). y.seen) (sym (is_v o.0 o.1 (alone o.0 o.1 o.2 o.3) o.2)) ∙ o.4
+
       among : (n : ℕ) → n < r.names → Contains (numbers (own v ∷ v.ended)) n
       among n l = let o = r.each_name n l in let j : r.owner n ≡ id = alone (r.owner n) o.0 o.1 (live_pages o.0.stage (own o.0) o.0.ended n o.2) in
           subst (λ (ps : List Page). Contains (numbers ps) n) (ap pages (is_v (r.owner n) o.0 j o.1) ∙ named_pages v.stage (own v) v.ended named_v) o.2
+
       ends : (slot : maybe.Option (Option T)) → s.homes ≡ slot ∷ [] → SlotStands opens legal stands opening h s.views slot → Closes s v
       ends maybe.Option.none homes lies = absurd (let j : lies.0 ≡ id = alone lies.0 lies.1 lies.2 (subst IsLive (sym lies.3) tt) in
           subst IsInside (ap (λ (z : View O). z.stage) (is_v lies.0 lies.1 j lies.2) ∙ is) (subst IsInside (sym lies.3) tt))

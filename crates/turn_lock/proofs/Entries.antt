@@ -1,6 +1,6 @@
 -- Lists of entries: the entries of one caller, beginnings, and the longer of two lists.
-use Rattle.std.proofs.Common.{◌≡◌, ℕ, ◌+◌, ◌<◌, ◌≤◌, ◌≢◌, ◌⊎◌, Bool, true, false, cond, eqb, ltb, List, [], ◌∷◌, ◌++◌, length, get_or, sym, refl, ap, ◌∙◌, subst, inl, inr, ⊎_elim, arith, rules, eq-eqb, ne_eqb, length-append}
-use Rattle.std.specs.List.{filter, AllByRecursion}
+use Rattle.std.proofs.Common.{◌≡◌, ℕ, ◌+◌, ◌<◌, ◌≤◌, ◌≢◌, Bool, cond, eqb, List, [], ◌∷◌, ◌++◌, length, sym, refl, ap, ◌∙◌, subst, inl, inr, arith, eq-eqb, ne_eqb, length-append}
+use Rattle.std.specs.List.{AllByRecursion}
 use Rattle.std.proofs.lemmas.List.{append-nil}
 use Rattle.std.proofs.lemmas.List.Elements.{filter-append}
 use Rattle.std.proofs.lemmas.Bool.{cases_lt, lt-ltb, le-ltb}
@@ -48,9 +48,11 @@ nested h xs ys a b le = go xs ys a.0 b.0 (sym a.1 ∙ b.1) le
     tail : List Entry → List Entry
     tail [] = []
     tail (x ∷ xs) = xs
+
     head_or : Entry → List Entry → Entry
     head_or d [] = d
     head_or d (x ∷ xs) = x
+
     go : (xs ys us vs : List Entry) → xs ++ us ≡ ys ++ vs → length ys ≤ length xs → StartsWith xs ys
     go xs [] us vs e le = (xs, refl)
     go [] (y ∷ ys) us vs e le = absurd (omega arith)
@@ -78,9 +80,9 @@ none_between xs ys between p n is whole part =
 -- the longer and the shorter list are the two, in some order
 pub longer_cases : (xs ys : List Entry) (F : List Entry → List Entry → Type 0) → (length xs < length ys → F ys xs) → (length ys ≤ length xs → F xs ys) → F (longer xs ys) (shorter xs ys)
 longer_cases xs ys F less more = elim (cases_lt (length xs) (length ys)) [
-    | inl l ↦ subst (λ (b : Bool). F (cond b ys xs) (cond b xs ys)) (sym (lt-ltb (length xs) (length ys) l)) (less l)
-    | inr l ↦ subst (λ (b : Bool). F (cond b ys xs) (cond b xs ys)) (sym (le-ltb (length xs) (length ys) l)) (more l)
-  ]
+  | inl l ↦ subst (λ (b : Bool). F (cond b ys xs) (cond b xs ys)) (sym (lt-ltb (length xs) (length ys) l)) (less l)
+  | inr l ↦ subst (λ (b : Bool). F (cond b ys xs) (cond b xs ys)) (sym (le-ltb (length xs) (length ys) l)) (more l)
+]
 
 -- where the whole has no entry of n, a beginning has none
 pub none_at_start : (h xs : List Entry) (n : ℕ) → StartsWith h xs → entries_of h n ≡ [] → entries_of xs n ≡ []

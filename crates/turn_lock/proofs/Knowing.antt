@@ -1,8 +1,8 @@
 -- What one seat knows: read at its stage, and kept while others step.
-use Rattle.std.proofs.Common.{◌≡◌, ℕ, ◌+◌, ◌<◌, ◌≤◌, ◌≢◌, ◌⊎◌, eqb, List, [], ◌∷◌, ◌++◌, length, sym, refl, ap, ◌∙◌, subst, inl, inr, arith, rules, Option, Some, None, IfSome, length-append}
-use Rattle.std.specs.List.{AllByRecursion, Contains, IsDistinct}
+use Rattle.std.proofs.Common.{◌≡◌, ℕ, ◌<◌, ◌≤◌, ◌≢◌, eqb, List, [], ◌∷◌, ◌++◌, length, sym, refl, ap, ◌∙◌, subst, arith, Option, Some, None, length-append}
+use Rattle.std.specs.List.{AllByRecursion, IsDistinct}
 use Rattle.policy_types.specs.declared.entry.Entry.{Entry}
-use Rattle.turn_lock.specs.History.{entries_of, StartsWith}
+use Rattle.turn_lock.specs.History.{entries_of}
 use Rattle.turn_lock.specs.Passes.{Page}
 use Rattle.turn_lock.specs.declared.seats.View.{View}
 use Rattle.turn_lock.specs.declared.seats.Stage.{Stage}

@@ -1,5 +1,5 @@
 -- A step of one seat keeps the rule, where it keeps what the others know.
-use Rattle.std.proofs.Common.{◌≡◌, ℕ, ◌+◌, ◌<◌, ◌≤◌, ◌≢◌, ◌⊎◌, eqb, List, [], ◌∷◌, ◌++◌, length, set, sym, refl, ap, ◌∙◌, subst, inl, inr, ⊎_elim, arith, rules, Option, Some, None}
+use Rattle.std.proofs.Common.{◌≡◌, ℕ, ◌+◌, ◌<◌, ◌≤◌, ◌≢◌, ◌⊎◌, List, [], ◌∷◌, length, set, sym, ap, ◌∙◌, subst, ⊎_elim, arith, Option, Some, None}
 use mathlib.Core.Logic.{dite}
 use mathlib.Core.Option.{some, some-injective, some-ne-none}
 use mathlib.Core.Option as maybe
@@ -10,9 +10,7 @@ use Rattle.atomic_table.specs.Table.{State}
 use Rattle.atomic_table.proofs.Lists.{at_set, set_here, set_else}
 use Rattle.policy_types.specs.declared.entry.Entry.{Entry}
 use Rattle.turn_lock.specs.declared.seats.View.{View}
-use Rattle.turn_lock.specs.declared.seats.Stage.{Stage}
-use Rattle.turn_lock.specs.declared.seats.Stage.TheVariants.{Spent, Unnamed, Idle, Queued, Inside}
-use Rattle.turn_lock.specs.inside.Seats.{IsLive, units, shares, pages, numbers, total}
+use Rattle.turn_lock.specs.inside.Seats.{IsLive, units, shares, pages, numbers}
 use Rattle.turn_lock.specs.inside.Rule.{ticket_at, SeatStands, SlotStands, LockRule}
 use Rattle.turn_lock.proofs.Totals.{has_place, total_set}
 use Rattle.turn_lock.proofs.Knowing.{IsFree, free_outside}

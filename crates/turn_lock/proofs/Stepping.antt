@@ -1,5 +1,5 @@
 -- Name, draw, look, compare and hand on keep the rule, and tell what they tell.
-use Rattle.std.proofs.Common.{◌≡◌, ℕ, ◌+◌, ◌-◌, ◌%◌, ◌^◌, ◌<◌, ◌≤◌, ◌≢◌, ◌⊎◌, Bool, cond, eqb, List, [], ◌∷◌, ◌++◌, length, get_or, set, sym, refl, ap, ◌∙◌, subst, inl, inr, ⊎_elim, arith, rules, Option, Some, None, eq-eqb, ne_eqb, length-append}
+use Rattle.std.proofs.Common.{◌≡◌, ℕ, ◌+◌, ◌%◌, ◌^◌, ◌<◌, ◌≤◌, ◌≢◌, Bool, cond, eqb, List, [], ◌∷◌, ◌++◌, length, get_or, set, sym, refl, ap, ◌∙◌, subst, inl, inr, arith, Option, Some, None, eq-eqb, ne_eqb, length-append}
 use mathlib.Core.Logic.{dite}
 use mathlib.Core.Option.{some, none, some-injective}
 use mathlib.Core.Option as maybe
@@ -14,7 +14,7 @@ use Rattle.policy_types.specs.declared.entry.Entry.{Entry}
 use Rattle.turn_lock.specs.History.{StartsWith, entries_of}
 use Rattle.turn_lock.specs.declared.seats.View.{View}
 use Rattle.turn_lock.specs.declared.seats.Stage.{Stage}
-use Rattle.turn_lock.specs.declared.seats.Stage.TheVariants.{Spent, Unnamed, Idle, Queued, Inside}
+use Rattle.turn_lock.specs.declared.seats.Stage.TheVariants.{Unnamed, Idle, Queued, Inside}
 use Rattle.turn_lock.specs.inside.Seats.{IsLive, IsNamed, units_at, units, shares, own, pages, numbers, SeatFacts, named, queued, inside, handed_on, compared}
 use Rattle.turn_lock.specs.inside.Rule.{ticket_at, PageStands, StageStands, SeatStands, SlotStands, LockRule}
 use Rattle.turn_lock.specs.inside.Steps as steps
@@ -305,3 +305,11 @@ module _ {T O : Type 0} (opens : T → O) (legal : O → List Entry → Type 0) 
 
     pub looks : ((y : T) (h : List Entry) → stands y h → legal (opens y) h) → (ticket : ℕ) → v.stage ≡ Queued ticket → Allows Rule slots id me 0 (λ n. n) (steps.Looks opens legal stands (step slots 0 0 0 none) me)
     looks law ticket is s r deep at fits = looked law ticket is s r at
+
+  -- a hand on, right after the changed value went into the slot in hand
+  pub hands_back : (slots id : ℕ) (old me : Sat T O) (x : T) (e : Entry) (ticket : ℕ) → me ≡ (old.0, (0, Some x) ∷ table.rest old.1) → old.0.stage ≡ Inside ticket → old.1 ≡ (0, None) ∷ [] → e.caller ≡ old.0.number
+      → stands x (old.0.seen ++ e ∷ []) → old.0.opened ≡ Some (opens x) → ((y : T) (h : List Entry) → stands y h → legal (opens y) h)
+      → Allows Rule slots id me 0 (λ n. (n + 1) % 2 ^ 64) (steps.HandsOn legal e (step slots 0 1 0 none) me)
+  hands_back slots id old me x e ticket now is carried by stood opened law = let z : Sat T O = (old.0, (0, Some x) ∷ table.rest old.1) in
+      subst (λ (m : Sat T O). Allows Rule slots id m 0 (λ n. (n + 1) % 2 ^ 64) (steps.HandsOn legal e (step slots 0 1 0 none) m)) (sym now)
+      (hands_on slots id z x e ticket is (ap (λ cs. (0, Some x) ∷ table.rest cs) carried) by stood opened law)

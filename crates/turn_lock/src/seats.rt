@@ -53,11 +53,15 @@ impl<T: Stands> TableRule<Option<T>, View<T::Opening>, Snapshot<T>> for Law<T> {
 }
 
 /// Word 0 counts the turns served, word 1 the tickets drawn, word 2 the names given. The one slot holds the value.
-pub(crate) type Board<T> =
-    Table<Option<T>, View<<T as Stands>::Opening>, Snapshot<T>, Law<T>, Global>;
+pub(crate) type Board<T> = Table<
+    Option<T>,
+    View<<T as Stands>::Opening>,
+    Snapshot<T>,
+    Law<T>,
+    Global,
+>;
 
-pub(crate) type Shares<T> =
-    Shared<Option<T>, View<<T as Stands>::Opening>, Snapshot<T>, Law<T>>;
+pub(crate) type Shares<T> = Shared<Option<T>, View<<T as Stands>::Opening>, Snapshot<T>, Law<T>>;
 
 pub(crate) type Place<T> = Seat<Option<T>, View<<T as Stands>::Opening>>;
 

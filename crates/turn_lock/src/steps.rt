@@ -43,11 +43,7 @@ pub(crate) fn draw<T: Stands>(shares: &Shares<T>, place: &mut Place<T>) -> u64
 }
 
 /// Look: where the ticket is due the seat takes the value out; else nothing changes.
-pub(crate) fn look<T: Stands>(
-    shares: &Shares<T>,
-    place: &mut Place<T>,
-    ticket: u64,
-) -> Option<T>
+pub(crate) fn look<T: Stands>(shares: &Shares<T>, place: &mut Place<T>, ticket: u64) -> Option<T>
     requires board { IsBoard shares.now.table_id × (place.old.table_id ≡ shares.now.table_id) }
     requires queued { (place.old.me.0.stage ≡ Queued ticket) × (place.old.me.1 ≡ []) }
     ensures due { IfSome result (λ value. TookOut T.opening T.legal T.stands place.old place.new ticket value) }

@@ -1,13 +1,12 @@
 -- A seat at the table, as the functions of the steps and a pass see it
-use Rattle.std.specs.Prelude.{◌≡◌, ℕ, ◌<◌, List, [], ◌∷◌, ◌++◌, length, Option, Some, None}
+use Rattle.std.specs.Prelude.{◌≡◌, ℕ, ◌<◌, List, [], ◌∷◌, length, Option, Some, None}
 use Rattle.atomic_table.specs.Seated.{TableId}
 use Rattle.atomic_table.specs.declared.shared.Seat.{Seat}
 use Rattle.policy_types.specs.declared.entry.Entry.{Entry}
 use Rattle.turn_lock.specs.History.{StartsWith}
 use Rattle.turn_lock.specs.Passes.{Holding, all_turns}
 use Rattle.turn_lock.specs.declared.seats.View.{View}
-use Rattle.turn_lock.specs.declared.seats.Stage.{Stage}
-use Rattle.turn_lock.specs.declared.seats.Stage.TheVariants.{Spent, Unnamed, Idle, Queued, Inside}
+use Rattle.turn_lock.specs.declared.seats.Stage.TheVariants.{Idle}
 use Rattle.turn_lock.specs.inside.Seats.{SeatFacts, inside}
 use Rattle.turn_lock.specs.inside.Steps.{Sat}
 

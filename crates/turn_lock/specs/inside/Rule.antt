@@ -10,7 +10,7 @@ use Rattle.turn_lock.specs.History.{entries_of, StartsWith}
 use Rattle.turn_lock.specs.Passes.{Page, all_turns, all_shares}
 use Rattle.turn_lock.specs.declared.seats.View.{View}
 use Rattle.turn_lock.specs.declared.seats.Stage.{Stage}
-use Rattle.turn_lock.specs.declared.seats.Stage.TheVariants.{Spent, Unnamed, Idle, Queued, Inside}
+use Rattle.turn_lock.specs.declared.seats.Stage.TheVariants.{Queued, Inside}
 use Rattle.turn_lock.specs.inside.Seats.{IsLive, units, shares, pages, numbers, total}
 
 -- the ticket that a seat holds

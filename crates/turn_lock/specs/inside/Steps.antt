@@ -1,12 +1,11 @@
 -- What each kind of step tells its seat
-use Rattle.std.specs.Prelude.{◌≡◌, ◌≢◌, ℕ, ◌+◌, ◌<◌, ◌≤◌, List, [], ◌∷◌, ◌++◌, length, Option, Some, None}
+use Rattle.std.specs.Prelude.{◌≡◌, ◌≢◌, ℕ, ◌<◌, ◌≤◌, List, [], ◌∷◌, length, Option, Some}
 use Rattle.atomic_table.specs.Table.{Me, Step}
 use Rattle.policy_types.specs.declared.entry.Entry.{Entry}
-use Rattle.turn_lock.specs.History.{entries_of, StartsWith}
+use Rattle.turn_lock.specs.History.{StartsWith}
 use Rattle.turn_lock.specs.Passes.{all_turns}
 use Rattle.turn_lock.specs.declared.seats.View.{View}
-use Rattle.turn_lock.specs.declared.seats.Stage.{Stage}
-use Rattle.turn_lock.specs.declared.seats.Stage.TheVariants.{Spent, Unnamed, Idle, Queued, Inside}
+use Rattle.turn_lock.specs.declared.seats.Stage.TheVariants.{Queued}
 use Rattle.turn_lock.specs.inside.Seats.{SeatFacts, named, queued, inside, handed_on, compared}
 
 -- a seat's view, and the slots that are out with it

@@ -1,4 +1,4 @@
-use Rattle.std.proofs.Common.{Some, sym, refl, subst}
+use Rattle.std.proofs.Common.{sym, refl, subst}
 use Rattle.std.specs.Option.{IsSome}
 use Rattle.turn_lock.specs.Passes.{PassFacts}
 use Rattle.turn_lock.proofs.Passing.{facts_of}
