@@ -61,7 +61,13 @@ pub(crate) type Board<T> = Table<
     Global,
 >;
 
-pub(crate) type Shares<T> = Shared<Option<T>, View<<T as Stands>::Opening>, Snapshot<T>, Law<T>>;
+/// The table as threads see it.
+pub(crate) type SharedBoard<T> = Shared<
+    Option<T>,
+    View<<T as Stands>::Opening>,
+    Snapshot<T>,
+    Law<T>,
+>;
 
 pub(crate) type Place<T> = Seat<Option<T>, View<<T as Stands>::Opening>>;
 

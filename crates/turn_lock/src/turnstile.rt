@@ -6,7 +6,7 @@ ghost use Rattle.turn_lock.specs.inside.Seats.{SeatFacts, handed_on};
 ghost use Rattle.turn_lock.specs.inside.Places.{IsBoard, IsNow};
 
 use crate::pass::Pass;
-use crate::seats::{Board, Place, Shares, VALUE};
+use crate::seats::{Board, Place, SharedBoard, VALUE};
 use crate::stands::Stands;
 use crate::steps::{draw, hand_on, join, name, split};
 use crate::turn::{Turn, Turned};
@@ -152,13 +152,13 @@ impl<T: Stands> Turnstile<T> {
 
 /// Runs the call on the value that is out with the seat, hands on, and wakes who waits.
 fn serve<T: Stands, C: Turn<T>>(
-    shared: &Shares<T>,
+    board: &SharedBoard<T>,
     place: &mut Place<T>,
     mut value: T,
     call: C,
     caller: u64,
 ) -> Turned<C::Answer>
-    requires board { IsBoard shared.now.table_id × (place.old.table_id ≡ shared.now.table_id) }
+    requires ours { IsBoard board.now.table_id × (place.old.table_id ≡ board.now.table_id) }
     requires inside { ((ticket : ℕ) × (place.old.me.0.stage ≡ Inside ticket)) × (place.old.me.1 ≡ (0, None) ∷ []) }
     requires caller { caller ≡ place.old.me.0.number }
     requires lent { (seen : List Entry) × IsLent T.stands (C.needs call) value caller place.old.me.0.seen seen place.old.me.0.made }
@@ -169,7 +169,7 @@ fn serve<T: Stands, C: Turn<T>>(
 {
     let asked = Snapshot::of(&call);
     let answer = call.run(&mut value, caller);
-    let turn = hand_on::<T, Brand, C>(shared, place, value, &asked, caller, &answer);
-    wake(shared, turn);
+    let turn = hand_on::<T, Brand, C>(board, place, value, &asked, caller, &answer);
+    wake(board, turn);
     Turned { turn, answer }
 }

@@ -3,7 +3,7 @@ ghost use Rattle.std.specs.Prelude.{◌≡◌, ◌^◌, ◌<◌, []};
 ghost use Rattle.turn_lock.specs.declared.seats.Stage.TheVariants.{Queued};
 ghost use Rattle.turn_lock.specs.inside.Places.{IsBoard, IsNow, TookOut};
 
-use crate::seats::{Place, SERVED, Shares, TICKETS};
+use crate::seats::{Place, SERVED, SharedBoard, TICKETS};
 use crate::stands::Stands;
 use crate::steps::look;
 use std::hint::spin_loop;
@@ -18,47 +18,47 @@ const YIELDS: u32 = SPINS + 64;
 /// Waits until the ticket is due, and takes the value out.
 pub(crate) fn wait<T: Stands, R: Wait>(
     rt: &R,
-    shares: &Shares<T>,
+    board: &SharedBoard<T>,
     place: &mut Place<T>,
     ticket: u64,
 ) -> T
-    requires board { IsBoard shares.now.table_id × (place.old.table_id ≡ shares.now.table_id) }
+    requires ours { IsBoard board.now.table_id × (place.old.table_id ≡ board.now.table_id) }
     requires queued { (place.old.me.0.stage ≡ Queued ticket) × (place.old.me.1 ≡ []) }
     ensures { TookOut T.opening T.legal T.stands place.old place.new ticket result }
 {
     let mut looks = 0;
     for _ in rt.forever() {
-        let found = look(shares, place, ticket);
+        let found = look(board, place, ticket);
         if let Some(value) = found {
             return value;
         }
-        pause(rt, shares, ticket, looks);
+        pause(rt, board, ticket, looks);
         looks = looks.saturating_add(1);
     }
     unreachable!()
 }
 
 /// Gives the processor up between two looks: it spins at first, then yields, then parks until a turn is handed on.
-fn pause<T: Stands, R: Wait>(rt: &R, shares: &Shares<T>, ticket: u64, looks: u32)
-    requires { IsBoard shares.now.table_id }
+fn pause<T: Stands, R: Wait>(rt: &R, board: &SharedBoard<T>, ticket: u64, looks: u32)
+    requires { IsBoard board.now.table_id }
 {
     if looks < SPINS {
         spin_loop();
     } else if looks < YIELDS {
         yield_now();
     } else {
-        let served = shares.peek(SERVED);
+        let served = board.peek(SERVED);
         if served != ticket {
-            shares.park(rt, SERVED, (served & 0xffff_ffff) as u32);
+            board.park(rt, SERVED, (served & 0xffff_ffff) as u32);
         }
     }
 }
 
 /// Wakes those that park, where another ticket than the one handed on is drawn.
-pub(crate) fn wake<T: Stands>(shares: &Shares<T>, turn: u64)
-    requires { IsBoard shares.now.table_id × (turn < 2 ^ 62) }
+pub(crate) fn wake<T: Stands>(board: &SharedBoard<T>, turn: u64)
+    requires { IsBoard board.now.table_id × (turn < 2 ^ 62) }
 {
-    if shares.peek(TICKETS) > turn + 1 {
-        shares.wake_all(SERVED);
+    if board.peek(TICKETS) > turn + 1 {
+        board.wake_all(SERVED);
     }
 }
