@@ -1,14 +1,16 @@
 -- What one more accepted command does to what the books keep
-use Rattle.std.proofs.Common.{◌≡◌, ℕ, ◌*◌, ◌-◌, ◌^◌, ◌≤◌, suc, Bool, true, false, cond, ◌==◌, nat_eq, ◌<◌, List, [], ◌∷◌, ◌++◌, length, refl, ap, sym, ◌∙◌, subst, Some, None, Option, Ok, append-nil, length-append, arith}
+use Rattle.std.proofs.Common.{◌≡◌, ℕ, ◌*◌, ◌-◌, ◌^◌, ◌≤◌, suc, Bool, true, false, cond, ◌==◌, nat_eq, ◌<◌, List, [], ◌∷◌, ◌++◌, map, length, refl, ap, sym, ◌∙◌, subst, Some, None, Option, Ok, append-nil, length-append, arith}
 use Rattle.std.specs.Prelude.{is_ok, is_some, take, slice_get, IsSome}
 use Rattle.std.specs.Option.{option_map}
 use Rattle.std.proofs.Math.Seq.{take-length}
+use Rattle.std.specs.Cmp.{nat_eq_equiv}
+use Rattle.std.proofs.lemmas.Map.Entries.{hash_map_get_place}
 use Rattle.std.proofs.lemmas.Option.{slice_get-map}
 use Rattle.std.specs.List.{AllByRecursion, filter_map, cons_option}
 use Rattle.std.specs.Map.{keys_of}
 use Rattle.std.proofs.lemmas.Bool.{eqb-true}
 use Rattle.std.proofs.lemmas.List.Elements.{filter_map-append}
-use Rattle.indexmap.specs.IndexMap.{IndexMap, get, index_map_len, keys, insert_entry, Updates}
+use Rattle.indexmap.specs.IndexMap.{IndexMap, IsUnique, values, get, index_map_len, keys, insert_entry, Updates}
 use Rattle.indexmap.proofs.CallerLemmas.{insert_entry-new, keys-insert_entry-present}
 use Rattle.policy_types.specs.declared.command.Command.{Command}
 use Rattle.policy_types.specs.declared.policy.Policy.{Policy}
@@ -64,10 +66,10 @@ module _ {S : Type 0} (old new : IndexMap ℕ Policy S) where
   pub keeps_more : (commands : List Command) (command : Command) (policy : Policy)
       (before after : Ledger) → IsValid command → length commands < most_commands → Keeps old before commands
       → next (policy_of commands (id_of command)) command ≡ Ok policy → policy.id ≡ id_of command
-      → Updates nat_eq old new policy.id (Some policy)
+      → IsUnique nat_eq new → Updates nat_eq old new policy.id (Some policy)
       → new.entries ≡ insert_entry nat_eq old.entries policy.id policy
       → balances after ≡ added (balances before) (booking_of command policy) → Keeps new after (commands ++ command ∷ [])
-  keeps_more commands command policy before after valid fewer keeps decided named updates entries posted =
+  keeps_more commands command policy before after valid fewer keeps decided named unique updates entries posted =
       let id = id_of command in
       let order : keys new ≡ keys old ++ cond (is_some (policy_of commands id)) [] (id ∷ []) =
       ap keys_of entries ∙ ap (λ i. keys_of (insert_entry nat_eq old.entries i policy)) named
@@ -76,6 +78,7 @@ module _ {S : Type 0} (old new : IndexMap ℕ Policy S) where
         valid = all-more IsValid commands command keeps.valid valid;
         accepted = IsAccepted-push commands command keeps.accepted (ap is_ok decided);
         few = omega (arith, fewer, length-append commands (command ∷ []));
+        unique = unique;
         in_order = order ∙ ap (λ ids. ids ++ cond (is_some (policy_of commands id)) [] (id ∷ [])) keeps.in_order
             ∙ ap (λ ids. filter_map issue_id commands ++ ids) (sym (issued_last command policy (policy_of commands id) decided))
             ∙ sym (filter_map-append issue_id commands (command ∷ []));
@@ -130,3 +133,23 @@ has_room policies ledger commands keeps =
     let few : 40000000000 * length commands ≤ 2 ^ 63 - 1 - 40000000000 = omega (arith, keeps.few) in
     subst (AreWithin (2 ^ 63 - 1 - 40000000000)) (sym keeps.booked)
     (AreWithin-wider (40000000000 * length commands) (2 ^ 63 - 1 - 40000000000) (ledger_of commands) few (AreWithin-ledger commands keeps.valid))
+
+values_known : (find : ℕ → Option Policy) (entries : List (ℕ × Policy)) → AllByRecursion (λ (entry : ℕ × Policy). find entry.0 ≡ Some entry.1) entries
+    → map (λ (entry : ℕ × Policy). entry.1) entries ≡ filter_map find (keys_of entries)
+values_known find [] all = refl
+values_known find (entry ∷ entries) all =
+    ap (λ policies. entry.1 ∷ policies) (values_known find entries all.1)
+    ∙ ap (λ found. cons_option found (filter_map find (keys_of entries))) (sym all.0)
+
+each_at : {X : Type 0} (P : X → Type 0) (xs : List X) → ((i : ℕ) (x : X) → slice_get xs i ≡ Some x → P x) → AllByRecursion P xs
+each_at P [] at = tt
+each_at P (x ∷ xs) at = (at 0 x refl, each_at P xs (λ i y found. at (suc i) y found))
+
+-- the policies are the book, in order of issue
+pub values-book : {S : Type 0} (policies : IndexMap ℕ Policy S) (ledger : Ledger) (commands : List Command) → Keeps policies ledger commands
+    → values policies ≡ book commands
+values-book policies ledger commands keeps =
+    values_known (policy_of commands) policies.entries
+    (each_at (λ (entry : ℕ × Policy). policy_of commands entry.0 ≡ Some entry.1) policies.entries
+    (λ i entry found. sym (keeps.found entry.0) ∙ hash_map_get_place nat_eq_equiv policies i entry.0 entry.1 keeps.unique found))
+    ∙ ap (filter_map (policy_of commands)) keeps.in_order

@@ -3,6 +3,7 @@ use Rattle.std.proofs.Common.{◌≡◌, inl, inr, ℕ, ◌<◌, true, false, Li
 use Rattle.outside_io.specs.declared.disks.Disk.{Ghosts}
 use Rattle.outside_io.specs.Faults.{Rose}
 use Rattle.policy_machine.specs.Accounts.{ledger_of}
+use Rattle.policy_machine.specs.Book.{book}
 use Rattle.policy_machine.specs.History.{Opening, opened_on}
 use Rattle.posting_journal.specs.Creation.{OpensToBodies}
 use Rattle.posting_journal.specs.States.{StandsFor as JournalStands, is_clean}
@@ -18,6 +19,7 @@ use Rattle.office_state.specs.inside.Holding.{JournalHolds}
 use Rattle.office_state.specs.inside.Replays.{HasStopped, IsStoppedAt, IsOfficeOf, HasNoOffice}
 use Rattle.office_state.proofs.ReplaySteps.{all_replayed, stopped_shown}
 use Rattle.office_state.proofs.OpeningSteps.{CountsNow, IsStarted, ReadsImage, opening_keeps, looked_on, holds_once, looked_alone, looked_ever, synced_images, opens_commands, started_later}
+use Rattle.office_state.proofs.KeepingSteps.{values-book}
 use Rattle.office_state.proofs.TurnSteps.{holds_now}
 
 -- the bodies that stop a replay are those of a journal, since there are some
@@ -122,6 +124,7 @@ module _ {D : Type 0} (g : Ghosts D) (old : D) (journal : Journal D g) (started 
               counted = simp append-nil refl;
             };
             kept = all;
+            policies = values-book state.books.policies state.books.ledger (commands_of state) keeps ∙ ap book all;
             ledger = keeps.booked ∙ ap ledger_of all;
             honesty = honesty;
             images_now = λ (honest : g.honest old). holds_now state.journal opening []

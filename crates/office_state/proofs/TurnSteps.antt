@@ -11,7 +11,7 @@ use Rattle.policy_types.specs.declared.entry.Reply.TheVariants.{Accepted, Faulte
 use Rattle.policy_types.specs.declared.entry.Entry.{Entry}
 use Rattle.policy_types.specs.Valid.{IsValid, id_of}
 use Rattle.policy_machine.specs.Accounts.{ledger_of}
-use Rattle.policy_machine.specs.Book.{policy_of, IsAccepted}
+use Rattle.policy_machine.specs.Book.{book, policy_of, IsAccepted}
 use Rattle.policy_machine.specs.Rules.{next}
 use Rattle.policy_machine.specs.History.{Opening, IsDue, IsLegal, accepted_of, commands_after, refusal_due}
 use Rattle.policy_machine.proofs.BookLemmas.{IsAccepted-push}
@@ -34,7 +34,7 @@ use Rattle.office_state.specs.inside.Books.{commands_in}
 use Rattle.office_state.specs.inside.Holding.{IsLeftBehind, JournalHolds}
 use Rattle.office_state.specs.inside.Records.{Records}
 use Rattle.office_state.proofs.HistorySteps.{all_up_to, commands-more, commands-same, faults-same, faults_after-more, faults_after-same, faults_met, faults-more, holds_all, holds_more, holds_once-push, is_due, is_fresh, pending-now, pending-push, posting}
-use Rattle.office_state.proofs.KeepingSteps.{all-more}
+use Rattle.office_state.proofs.KeepingSteps.{all-more, values-book}
 use Rattle.office_state.proofs.OpeningSteps.{synced_before}
 
 legal-push : (opening : Opening) (turns : List Entry) (entry : Entry) → IsLegal opening turns
@@ -171,6 +171,7 @@ module _ {D : Type 0} {g : Ghosts D} where
         record {
           history = record { legal = legal-push opening turns entry stands.history.legal due; counted = ap length kept };
           kept = kept;
+          policies = values-book books.policies books.ledger (commands_in books) books.kept ∙ ap book kept;
           ledger = books.kept.booked ∙ ap ledger_of kept;
           honesty = stands.honesty;
           images_now = λ (honest : g.honest (begun_of old)). holds_now old.journal opening (turns ++ entry ∷ [])
@@ -185,6 +186,23 @@ module _ {D : Type 0} {g : Ghosts D} where
             met = rw (faults-same turns entry quiet) stands.inside.met;
             journal = holds;
           };
+        }
+
+    -- it stands for the same turns with other books of the same commands
+    pub stands_with : (books : Books) (counted : records_in old.journal ≡ length (commands_in books)) → commands_in books ≡ commands_of old
+        → StandsFor (record { journal = old.journal; books = books; begun = old.begun; recovered = old.recovered; counted = counted }) turns
+    stands_with books counted as_was =
+        let kept : commands_in books ≡ commands = as_was ∙ stands.kept in
+        record {
+          history = record { legal = stands.history.legal; counted = ap length kept };
+          kept = kept;
+          policies = values-book books.policies books.ledger (commands_in books) books.kept ∙ ap book kept;
+          ledger = books.kept.booked ∙ ap ledger_of kept;
+          honesty = stands.honesty;
+          images_now = stands.images_now;
+          images_since = stands.images_since;
+          fault_count = stands.fault_count;
+          inside = stands.inside;
         }
 
     -- an image while a record of the command is made: without it, with it, or with that of an earlier fault
@@ -296,6 +314,7 @@ module _ {D : Type 0} {g : Ghosts D} where
               record {
                 history = record { legal = legal-push opening turns entry stands.history.legal (due, at); counted = ap length kept };
                 kept = kept;
+                policies = values-book books.policies books.ledger (commands_in books) books.kept ∙ ap book kept;
                 ledger = books.kept.booked ∙ ap ledger_of kept;
                 honesty = (λ honest. honesty.0 (stands.honesty.0 honest), λ honest. stands.honesty.1 (honesty.1 honest));
                 images_now = λ (honest : g.honest (begun_of old)). holds_now journal opening (turns ++ entry ∷ [])
@@ -351,6 +370,7 @@ module _ {D : Type 0} {g : Ghosts D} where
               record {
                 history = record { legal = legal-push opening turns entry stands.history.legal (due, fresh); counted = ap length kept };
                 kept = kept;
+                policies = values-book old.books.policies old.books.ledger (commands_in old.books) old.books.kept ∙ ap book kept;
                 ledger = old.books.kept.booked ∙ ap ledger_of kept;
                 honesty = (λ honest. honesty.0 (stands.honesty.0 honest), λ honest. stands.honesty.1 (honesty.1 honest));
                 images_now = λ (honest : g.honest (begun_of old)). holds_now journal opening (turns ++ entry ∷ [])

@@ -2,11 +2,12 @@
 use Rattle.std.specs.Prelude.{ℕ, List, length}
 use Rattle.outside_io.specs.declared.disks.Disk.{Ghosts}
 use Rattle.policy_types.specs.declared.command.Command.{Command}
+use Rattle.policy_types.specs.declared.policy.Policy.{Policy}
 use Rattle.policy_types.specs.Accounts.{Booking}
 use Rattle.policy_machine.specs.History.{Opening, opened_on}
 use Rattle.posting_journal.specs.States.{disk_of as disk_under}
 use Rattle.office_state.specs.declared.state.OfficeState.{OfficeState}
-use Rattle.office_state.specs.inside.Books.{balances_in, commands_in, room_in}
+use Rattle.office_state.specs.inside.Books.{balances_in, commands_in, policies_in, room_in}
 
 -- what an office was opened on, and the disk as it was handed in
 pub record Opened (D : Type 0) : Type 0 where
@@ -23,6 +24,10 @@ module _ {D : Type 0} {g : Ghosts D} where
 
   abbrev pub count_of : OfficeState D g → ℕ
   count_of state = length (commands_of state)
+
+  -- the policies that they leave, in order of issue
+  abbrev pub policies_of : OfficeState D g → List Policy
+  policies_of state = policies_in state.books
 
   -- the balances of its ledger
   abbrev pub balances_of : OfficeState D g → Booking

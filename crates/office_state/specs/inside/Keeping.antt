@@ -3,7 +3,7 @@ use Rattle.std.specs.Prelude.{◌≡◌, ℕ, ◌≤◌, List, [], ◌∷◌, �
 use Rattle.std.specs.Coded.{×_prop, Unit-prop}
 use Rattle.std.specs.List.{AllByRecursion, filter_map}
 use Rattle.std.proofs.Props.{props}
-use Rattle.indexmap.specs.IndexMap.{IndexMap, get, keys}
+use Rattle.indexmap.specs.IndexMap.{IndexMap, IsUnique, get, keys}
 use Rattle.policy_types.specs.declared.command.Command.{Command}
 use Rattle.policy_types.specs.declared.command.Command.TheVariants.{Issue, Premium, Alter, Lapse, Reinstate, Claim, Settle, Mature}
 use Rattle.policy_types.specs.declared.command.Plan.TheVariants.{Term, Whole, Endowment, Limited}
@@ -21,6 +21,7 @@ pub record Keeps {S : Type 0} (policies : IndexMap ℕ Policy S) (ledger : Ledge
   pub valid : AllByRecursion IsValid commands
   pub accepted : IsAccepted commands
   pub few : length commands ≤ most_commands
+  pub unique : IsUnique nat_eq policies
   pub in_order : keys policies ≡ filter_map issue_id commands
   pub found : (id : ℕ) → get nat_eq policies id ≡ policy_of commands id
   pub booked : balances ledger ≡ ledger_of commands

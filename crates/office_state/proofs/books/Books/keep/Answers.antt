@@ -33,5 +33,5 @@ invariant_of-self c =
     record {
       kept = subst (Keeps c.insert.new.self c.post.new.self) (sym c.push_reserved.ensures.items)
           (keeps_more old.policies c.insert.new.self commands command c.args.policy old.ledger c.post.new.self c.requires.valid c.requires.few old.kept
-          c.requires.accepted named c.in-Ok.ensures.updates c.in-Ok.ensures.entries c.post.ensures);
+          c.requires.accepted named c.insert.ensures.unique c.in-Ok.ensures.updates c.in-Ok.ensures.entries c.post.ensures);
     }
