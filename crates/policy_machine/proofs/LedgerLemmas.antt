@@ -1,5 +1,5 @@
 -- What one more command does to the balances
-use Rattle.std.proofs.Common.{◌≡◌, ℕ, ◌+◌, ◌*◌, ◌≤◌, ◌==◌, true, List, [], ◌∷◌, ◌++◌, length, ℤ, pos, ◌+ℤ◌, ◌≤ℤ◌, refl, ap, sym, ◌∙◌, append_assoc, append-nil, None, Some, Option, Ok, Err, Result, cond, false, subst, suc, arith, rules}
+use Rattle.std.proofs.Common.{◌≡◌, ℕ, ◌+◌, ◌*◌, ◌≤◌, ◌==◌, true, List, [], ◌∷◌, ◌++◌, length, ℤ, pos, ◌+ℤ◌, refl, ap, ◌∙◌, append_assoc, append-nil, None, Some, Option, Ok, cond, false, subst, suc, arith, rules}
 use Rattle.std.specs.List.{fold, AllByRecursion}
 use Rattle.std.proofs.lemmas.Int.{ints}
 use Rattle.std.proofs.lemmas.List.Sums.{fold-append}
@@ -78,7 +78,7 @@ sum_of-after before [] start balanced = balanced
 sum_of-after before (command ∷ rest) start balanced =
     let booking = booked_after before command in
     sum_of-after (before ++ command ∷ []) rest (added start booking)
-      (sum_of-added start booking balanced (sum_of-booked (policy_of (before ++ command ∷ []) (id_of command)) command))
+    (sum_of-added start booking balanced (sum_of-booked (policy_of (before ++ command ∷ []) (id_of command)) command))
 
 pub sum_of-ledger : (commands : List Command) → sum_of (ledger_of commands) ≡ pos 0
 sum_of-ledger commands = sum_of-after [] commands nothing_booked refl
@@ -127,8 +127,9 @@ IsModest-own [] id p all modest = modest
 IsModest-own (command ∷ commands) id p all modest =
     let step = λ (policy : Option Policy) (c : Command). kept policy (next policy c) in
     elim (id_of command == id) as (λ b. IsModest (fold step p (cond b (command ∷ own commands id) (own commands id)))) [
-      true ↦ IsModest-own commands id (step p command) all.1 (IsModest-next p command all.0 modest)
-    | false ↦ IsModest-own commands id p all.1 modest ]
+      | true ↦ IsModest-own commands id (step p command) all.1 (IsModest-next p command all.0 modest)
+      | false ↦ IsModest-own commands id p all.1 modest
+    ]
 
 debit_within : (most cents : ℕ) → cents ≤ most → IsWithin most (pos cents)
 debit_within most cents few = (omega (arith, ints), omega (arith, ints))
@@ -207,7 +208,7 @@ AreWithin-after most before (command ∷ rest) start valid_before valid_rest wit
     let booked : AreWithin 40000000000 (booked_after before command) =
     booked_within (policy_of front (id_of command)) command valid_rest.0 (IsModest-own front (id_of command) None valid_front tt) in
     let later = AreWithin-after (most + 40000000000) front rest (added start (booked_after before command)) valid_front valid_rest.1
-      (AreWithin-added most 40000000000 start (booked_after before command) within booked) in
+    (AreWithin-added most 40000000000 start (booked_after before command) within booked) in
     subst (λ n. AreWithin n (fold added start (bookings_after before (command ∷ rest)))) (one_more most (length rest)) later
 
 pub AreWithin-ledger : (commands : List Command) → AllByRecursion IsValid commands

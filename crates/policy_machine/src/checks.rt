@@ -1,5 +1,5 @@
 // The checks that several commands make.
-ghost use Rattle.policy_machine.specs.Rules.{IsSound, day_before_last, not_in_force, term_over, grace_over, nothing_due, due_of, payments_of};
+ghost use Rattle.policy_machine.specs.Rules.{IsSound, day_before_last, not_in_force, term_over, grace_over, nothing_due};
 ghost use Rattle.policy_machine.specs.inside.Passing.{IsAnswerOf};
 
 use crate::terms::{due, end, payments};

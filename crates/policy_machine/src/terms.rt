@@ -1,8 +1,6 @@
 // What the plan and the days of a policy decide.
-ghost use Rattle.std.specs.Prelude.{◌≡◌, ◌≤◌, ◌+◌, ◌-◌, ◌≤ℤ◌};
+ghost use Rattle.std.specs.Prelude.{◌≡◌, ◌≤◌, ◌+◌, ◌≤ℤ◌};
 ghost use Rattle.life_dates.specs.Calendar.{IsTermDay};
-ghost use Rattle.life_dates.specs.Anniversary.{anniversary_of};
-ghost use Rattle.policy_types.specs.Valid.{IsCommandDay};
 ghost use Rattle.policy_machine.specs.Rules.{IsSound, years_of, payments_of, end_of, due_of, premiums_missed, reinstatement_end_of};
 
 use life_dates::{anniversary, completed};

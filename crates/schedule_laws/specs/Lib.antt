@@ -1,0 +1,4 @@
+pub mod Prefixes
+pub mod PinnedReads
+pub mod Growth
+pub mod Balances
