@@ -3,6 +3,5 @@ pub mod Points
 pub mod Row
 pub mod Rows
 pub mod File
-pub mod Fields
-pub mod Judged
 pub mod Dated
+pub mod inside

@@ -3,9 +3,9 @@ ghost use Rattle.csv.specs.Records.{fields_of};
 ghost use Rattle.basis_book.specs.Dated.{AreBounded};
 ghost use Rattle.basis_book.specs.declared.row.BasisRow.{BasisRow};
 ghost use Rattle.basis_book.specs.declared.fault.BasisFault.{BasisFault as AFault};
-ghost use Rattle.basis_book.specs.Fields.{AreThree};
+ghost use Rattle.basis_book.specs.inside.Fields.{AreThree};
 ghost use Rattle.basis_book.specs.File.{Gives, HasRows, IsBasisFile, IsDue, IsFileFault};
-ghost use Rattle.basis_book.specs.Judged.{Judged};
+ghost use Rattle.basis_book.specs.inside.Judged.{Judged};
 
 use crate::fault::BasisFault;
 use crate::fields::Fields;

@@ -3,8 +3,8 @@ ghost use Rattle.basis_book.specs.declared.row.BasisRow.{BasisRow as ARow};
 ghost use Rattle.basis_book.specs.Row.{IsRow};
 ghost use Rattle.basis_book.specs.Rows.{AreRows, IsAfter, Falls, IsFault};
 ghost use Rattle.basis_book.specs.Dated.{AreBounded};
-ghost use Rattle.basis_book.specs.Fields.{AreThree, list_of};
-ghost use Rattle.basis_book.specs.Judged.{Judged};
+ghost use Rattle.basis_book.specs.inside.Fields.{AreThree, list_of};
+ghost use Rattle.basis_book.specs.inside.Judged.{Judged};
 
 use crate::fault::BasisFault;
 use crate::fields::Fields;

@@ -94,6 +94,36 @@ fn names_and_many_rows(rt: HostRuntime) -> Result<(), Fail> {
     Ok(())
 }
 
+/// A thousand right rows, one for each month from January 1900 on, whose tables have names of 64 letters.
+fn thousand_rows(alloc: Global) -> Result<Vec<u8>, Fail> {
+    let name = [b'Q'; 64];
+    let mut file = Vec::new(alloc);
+    for month in 0..1_000u32 {
+        let (year, of_year) = (1900 + month / 12, 1 + month % 12);
+        file.extend_from_slice(format!(in alloc; "{year}-{of_year:02}-01,")?.as_bytes())?;
+        file.extend_from_slice(&name)?;
+        file.extend_from_slice(b",2000\n")?;
+    }
+    Ok(file)
+}
+
+#[test]
+fn files_at_their_limits(rt: HostRuntime) -> Result<(), Fail> {
+    let mut file = thousand_rows(rt.alloc())?;
+    assert!(rt; file.len() <= LONGEST_FILE);
+    assert_eq!(rt; rows_of(rt.alloc(), &file), Ok(1_000));
+    let rows = file.len();
+    file.extend_from_slice(b"1983-05-01,q.xml,0\n")?;
+    assert!(rt; file.len() <= LONGEST_FILE);
+    assert_eq!(rt; rows_of(rt.alloc(), &file), Err(BasisFault::TooManyRows));
+    // Empty lines are no rows.
+    file.truncate(rows);
+    file.resize(LONGEST_FILE, b'\n')?;
+    assert_eq!(rt; file.len(), LONGEST_FILE);
+    assert_eq!(rt; rows_of(rt.alloc(), &file), Ok(1_000));
+    Ok(())
+}
+
 #[test]
 fn picks(rt: HostRuntime) -> Result<(), Fail> {
     let alloc = rt.alloc();

@@ -4,7 +4,7 @@ use Rattle.std.specs.List.{AllZip, AllByRecursion}
 use Rattle.std.proofs.lemmas.List.{append-nil}
 use Rattle.policy_types.specs.declared.script.Line.{Line}
 use Rattle.command_csv.specs.Spelling.{ClerkLine, by_first}
-use Rattle.command_csv.specs.Reads.{IsIssueLine, IsRowOf, lines_of, lane_of, lanes_of}
+use Rattle.command_csv.specs.Reads.{IsScriptLine, IsRowOf, lines_of, lane_of, lanes_of}
 
 pub lines_of_first : (lines : List Line) → lines_of 1 (map by_first lines) ≡ lines
 lines_of_first [] = refl
@@ -20,7 +20,7 @@ lanes_of_first lines =
     (append-nil (lane_of 1 lines))
 
 -- what rows say is all of clerk 1
-pub entries_of_first : (rows : List (List ℕ)) (entries : List ClerkLine) → AllZip IsRowOf rows entries → entries ≡ map by_first (map (λ (entry : ClerkLine). entry.line) entries)
+pub entries_of_first : (rows : List (List (List ℕ))) (entries : List ClerkLine) → AllZip IsRowOf rows entries → entries ≡ map by_first (map (λ (entry : ClerkLine). entry.line) entries)
 entries_of_first [] [] h = refl
 entries_of_first [] (entry ∷ entries) h = absurd h
 entries_of_first (row ∷ rows) [] h = absurd h
@@ -29,8 +29,8 @@ entries_of_first (row ∷ rows) (entry ∷ entries) h =
     let rest = entries_of_first rows entries h.1 in
     cc
 
-pub all_issues : (rows : List (List ℕ)) (entries : List ClerkLine) → AllZip IsRowOf rows entries → AllByRecursion IsIssueLine (map (λ (entry : ClerkLine). entry.line) entries)
-all_issues [] [] h = tt
-all_issues [] (entry ∷ entries) h = absurd h
-all_issues (row ∷ rows) [] h = absurd h
-all_issues (row ∷ rows) (entry ∷ entries) h = (h.0.allowed.issue, all_issues rows entries h.1)
+pub all_right : (rows : List (List (List ℕ))) (entries : List ClerkLine) → AllZip IsRowOf rows entries → AllByRecursion IsScriptLine (map (λ (entry : ClerkLine). entry.line) entries)
+all_right [] [] h = tt
+all_right [] (entry ∷ entries) h = absurd h
+all_right (row ∷ rows) [] h = absurd h
+all_right (row ∷ rows) (entry ∷ entries) h = (h.0.allowed.right, all_right rows entries h.1)

@@ -1,41 +1,52 @@
--- A field that is another number, and the first two fields of a row
-use Rattle.std.proofs.Common.{◌≡◌, ◌≢◌, ℕ, ◌<◌, ◌≤◌, ◌^◌, List, [], ◌∷◌, take, ap, sym, ◌∙◌, subst, arith, lit<, Option, Some, None, ℤ}
-use Rattle.std.specs.Prelude.{codes, decimal, IfSome, IfNone, IsTrue, is_some, ◌↔◌, Bool, true, false}
-use Rattle.std.proofs.lemmas.Fmt.{decimal_injective, decimal_digit}
+-- What a field is the text of
+use Rattle.std.proofs.Common.{◌≡◌, ◌≢◌, ℕ, zero, suc, ◌+◌, ◌<◌, ◌≤◌, ◌^◌, List, [], ◌∷◌, drop, take, ap, sym, ◌∙◌, subst, refl, arith, Option, Some, None, Bor, ℤ}
+use Rattle.std.specs.Prelude.{decimal, option_map, IfSome, IfNone, IsTrue, ◌↔◌, Bool, true, false}
+use Rattle.std.proofs.lemmas.Fmt.{decimal_injective}
 use Rattle.std.proofs.lemmas.Int.{ints}
 use Rattle.std.proofs.lemmas.Option.{none-some}
+use Rattle.csv.specs.Records.{field_at}
 use Rattle.policy_types.specs.declared.command.Plan.{Plan}
 use Rattle.policy_types.specs.declared.command.Plan.TheVariants.{Term, Whole, Endowment, Limited}
-use Rattle.policy_types.specs.Valid.{AreYears}
+use Rattle.policy_types.specs.Valid.{AreYears, IsCommandDay, IsIssueAge}
 use Rattle.life_dates.specs.Calendar.{IsDay, IsTermDay}
 use Rattle.life_dates.specs.DayText.{day_text, IsDayText}
 use Rattle.life_dates.proofs.TextLemmas.{IsDayText-day_text, day_text-only}
-use Rattle.command_csv.specs.Left.{issue_fields}
-use Rattle.command_csv.specs.Reads.{IsFirstBadField}
-use Rattle.command_csv.proofs.Issues.{bad_clerk, bad_kind}
+use Rattle.command_csv.specs.declared.fields.Fields.{Fields}
+use Rattle.command_csv.specs.inside.Cursor.{Took, Missed, left_of}
+
+-- the field at a place, and those behind it
+field_some : (xs : List (List ℕ)) (i : ℕ) (text : List ℕ) → Some text ≡ field_at xs i → drop i xs ≡ text ∷ drop (suc i) xs
+unfolding field_at
+field_some [] i text e = absurd (none-some text (sym e))
+field_some (x ∷ xs) zero text e = cc
+field_some (x ∷ xs) (suc i) text e = field_some xs i text e
+
+none_left : (none : List (List ℕ)) (i : ℕ) → none ≡ [] → drop i none ≡ []
+none_left [] zero e = refl
+none_left [] (suc i) e = refl
+none_left (x ∷ xs) i e = cc
+
+field_none : (xs : List (List ℕ)) (i : ℕ) → None ≡ field_at xs i → drop i xs ≡ []
+unfolding field_at
+field_none [] i e = none_left [] i refl
+field_none (x ∷ xs) zero e = absurd (none-some x e)
+field_none (x ∷ xs) (suc i) e = field_none xs i e
+
+pub next_some : (found : Option (Bor (List ℕ))) (xs : List (List ℕ)) (i : ℕ) → option_map (λ (s : Bor (List ℕ)). s.now) found ≡ field_at xs i → IfSome found (λ text. drop i xs ≡ text.now ∷ drop (i + 1) xs)
+next_some None xs i e = tt
+next_some (Some text) xs i e =
+    let next : suc i ≡ i + 1 = omega arith in
+    field_some xs i text.now e ∙ ap (λ (n : ℕ). text.now ∷ drop n xs) next
+
+pub next_none : (found : Option (Bor (List ℕ))) (xs : List (List ℕ)) (i : ℕ) → option_map (λ (s : Bor (List ℕ)). s.now) found ≡ field_at xs i → IfNone found (drop i xs ≡ [])
+next_none None xs i e = field_none xs i e
+next_none (Some text) xs i e = tt
 
 pub other_number : (left new : List (List ℕ)) (n m : ℕ) → left ≡ decimal n ∷ new → n < 2 ^ 64 → m < 2 ^ 64 → m ≢ n → take 1 left ≢ decimal m ∷ []
 other_number left new n m e n_small m_small differ h =
     let one : take 1 left ≡ decimal n ∷ [] = ap (take 1) e in
     let same : decimal m ≡ decimal n = cc in
     differ (decimal_injective m n m_small n_small same)
-
--- the digit 1
-one_digit : decimal 1 ≡ 49 ∷ []
-one_digit = decimal_digit 1 (lit< tt)
-
-pub bad_first : (fields left : List (List ℕ)) → left ≡ fields → take 1 left ≢ (49 ∷ []) ∷ [] → IsFirstBadField fields 1
-bad_first fields left e none = bad_clerk fields (λ h. none (ap (take 1) e ∙ h ∙ ap (λ digits. digits ∷ []) one_digit))
-
-pub bad_second : (fields left next : List (List ℕ)) → left ≡ fields → left ≡ (49 ∷ []) ∷ next → take 1 next ≢ codes "issue" ∷ [] → IsFirstBadField fields 2
-bad_second fields left next e first none =
-    let whole : decimal 1 ∷ next ≡ fields = ap (λ digits. digits ∷ next) one_digit ∙ sym first ∙ e in
-    let P : List (List ℕ) → Type 0 = λ l. IsFirstBadField l 2 in
-    subst P whole (bad_kind next none)
-
-pub begins_as_issue : (fields left next rest : List (List ℕ)) → left ≡ fields → left ≡ (49 ∷ []) ∷ next → next ≡ codes "issue" ∷ rest → issue_fields rest ≡ fields
-begins_as_issue fields left next rest e first second =
-    ap (λ digits. digits ∷ codes "issue" ∷ rest) one_digit ∙ ap (λ more. (49 ∷ []) ∷ more) (sym second) ∙ sym first ∙ e
 
 pub years_within : (plan : Plan) (age years : ℕ) → AreYears plan age years → years ≤ 131
 years_within Term age years h = omega arith
@@ -46,34 +57,35 @@ years_within Limited age years h = omega arith
 pub term_day : (day : ℤ) → IsDay day → IsTermDay day
 term_day day h = (h.0, omega (arith, ints))
 
-pub day_read : (found : Option ℤ) (text : List ℕ) (left new : List (List ℕ)) → left ≡ text ∷ new
+pub day_took : (found : Option ℤ) (text : List ℕ) (old new : Fields) → left_of old ≡ text ∷ left_of new → new.asked ≡ old.asked + 1
     → IfSome found (λ day. IsDay day × IsDayText text day)
-    → IfSome found (λ day. IsDay day × (left ≡ day_text day ∷ new))
-day_read None text left new e h = tt
-day_read (Some day) text left new e h = (h.0, e ∙ ap (λ t. t ∷ new) (day_text-only text day (term_day day h.0) h.1))
+    → IfSome found (λ day. Took (IsCommandDay day) (day_text day) old new)
+day_took None text old new e n h = tt
+day_took (Some day) text old new e n h = record { fits = h.0; spelled = e ∙ ap (λ t. t ∷ left_of new) (day_text-only text day (term_day day h.0) h.1); counted = n }
 
-pub day_unread : (found : Option ℤ) (text : List ℕ) (left new : List (List ℕ)) → left ≡ text ∷ new
+pub day_missed : (found : Option ℤ) (text : List ℕ) (old new : Fields) → left_of old ≡ text ∷ left_of new → new.asked ≡ old.asked + 1
     → ((day : ℤ) → IsDay day → IsDayText text day → found ≡ Some day)
-    → IfNone found ((day : ℤ) → IsDay day → take 1 left ≢ day_text day ∷ [])
-day_unread (Some day) text left new e exact = tt
-day_unread None text left new e exact = λ day day_in h.
-    let one : take 1 left ≡ text ∷ [] = ap (take 1) e in
-    let same : day_text day ≡ text = cc in
-    let P : List ℕ → Type 0 = λ t. IsDayText t day in
-    none-some day (exact day day_in (subst P same (IsDayText-day_text day (term_day day day_in))))
+    → IfNone found (Missed IsCommandDay day_text old new)
+day_missed (Some day) text old new e n exact = tt
+day_missed None text old new e n exact = record {
+  none = λ day day_in h.
+      let one : take 1 (left_of old) ≡ text ∷ [] = ap (take 1) e in
+      let same : day_text day ≡ text = cc in
+      let P : List ℕ → Type 0 = λ t. IsDayText t day in
+      none-some day (exact day day_in (subst P same (IsDayText-day_text day (term_day day day_in))));
+  counted = n;
+}
 
--- a list after its first field
-pub behind : {first : List ℕ} {left next rest : List (List ℕ)} → left ≡ first ∷ next → next ≡ rest → left ≡ first ∷ rest
-behind {first} e f = e ∙ ap (λ l. first ∷ l) f
+-- a number that doesn't fit
+pub number_missed : (Fits : ℕ → Type 0) (n : ℕ) (text : List ℕ) (old new : Fields) → left_of old ≡ text ∷ left_of new → new.asked ≡ old.asked + 1 → text ≡ decimal n → n < 2 ^ 64
+    → ((x : ℕ) → Fits x → x < 2 ^ 64) → (Fits n → ⊥) → Missed Fits decimal old new
+number_missed Fits n text old new e c is small all bad = record {
+  none = λ x h. other_number (left_of old) (left_of new) n x (e ∙ ap (λ t. t ∷ left_of new) is) small (all x h) (λ same. bad (subst Fits same h));
+  counted = c;
+}
 
-pub years_unread : (plan : Plan) (age n years : ℕ) (left new : List (List ℕ)) (fits : Bool) → left ≡ decimal n ∷ new → n ≤ 131
-    → (IsTrue fits ↔ AreYears plan age n) → fits ≡ false → AreYears plan age years → take 1 left ≢ decimal years ∷ []
-years_unread plan age n years left new fits e small says fails years_in =
-    let low : years ≤ 131 = years_within plan age years years_in in
-    let P : ℕ → Type 0 = λ m. AreYears plan age m in
-    other_number left new n years e (omega arith) (omega arith) (λ same. let held : fits ≡ true = says.1 (subst P same years_in) in cc)
-
--- what is there, where something is
-pub there : {X : Type 0} {P : X → Type 0} (found : Option X) → is_some found ≡ true → IfSome found P → (x : X) × P x
-there None e h = cc
-there (Some x) e h = (x, h)
+pub years_missed : (plan : Plan) (age n : ℕ) (text : List ℕ) (old new : Fields) (fits : Bool) → left_of old ≡ text ∷ left_of new → new.asked ≡ old.asked + 1 → text ≡ decimal n → n ≤ 131
+    → IsIssueAge age → (IsTrue fits ↔ (IsIssueAge age × AreYears plan age n)) → fits ≡ false → Missed (AreYears plan age) decimal old new
+years_missed plan age n text old new fits e c is small age_in says fails =
+    number_missed (AreYears plan age) n text old new e c is (omega (arith, small)) (λ x h. omega (arith, years_within plan age x h))
+    (λ h. let held : fits ≡ true = says.1 (age_in, h) in cc)

@@ -1,7 +1,11 @@
 pub mod Clerks
-pub mod Cuts
 pub mod Faults
 pub mod FieldTexts
-pub mod Issues
+pub mod Forms
+pub mod Judging
+pub mod Lines
 pub mod OneReading
 pub mod Progress
+pub mod Records
+pub mod Words
+pub mod WorkedScripts

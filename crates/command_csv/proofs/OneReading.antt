@@ -1,21 +1,30 @@
 -- A script is read in one way
-use Rattle.std.proofs.Common.{◌≡◌, ℕ, ◌≤◌, cond, Bool, true, false, List, [], ◌∷◌, Some, refl, ap, sym, ◌∙◌, subst, arith, lit≤, ℤ}
+use Rattle.std.proofs.Common.{◌≡◌, ℕ, ◌≤◌, cond, Bool, true, false, List, [], ◌∷◌, Some, take, refl, ap, sym, ◌∙◌, subst, arith, lit≤, ℤ}
 use Rattle.std.specs.Prelude.{decimal, ◌==◌, ◌||◌}
 use Rattle.std.specs.List.{AllZip}
 use Rattle.std.proofs.lemmas.Fmt.{decimal_injective}
-use Rattle.policy_types.specs.declared.command.Command.TheVariants.{Issue}
+use Rattle.std.proofs.lemmas.List.{append-nil}
+use Rattle.policy_types.specs.declared.command.Command.{Command}
+use Rattle.policy_types.specs.declared.command.Command.TheVariants as command
+use Rattle.policy_types.specs.declared.command.Plan.{Plan}
+use Rattle.policy_types.specs.declared.command.Plan.TheVariants.{Term}
 use Rattle.policy_types.specs.declared.script.Line.{Line}
 use Rattle.policy_types.specs.declared.script.Line.TheVariants.{Post}
 use Rattle.policy_types.specs.declared.script.Lane.{Lane}
+use Rattle.policy_types.specs.Valid.{IsValid, IsId, id_of, day_of}
 use Rattle.life_dates.specs.Calendar.{IsDay, days_in_month, is_leap_year, day_number}
 use Rattle.life_dates.specs.DayText.{day_text, IsDayText}
 use Rattle.life_dates.proofs.TextLemmas.{IsDayText-day_text, read_exact}
+use Rattle.money_core.specs.CentsText.{cents_text}
 use Rattle.money_core.proofs.CentsTextLemmas.{cents_text_injective}
+use Rattle.command_csv.specs.declared.kind.Kind.{Kind}
+use Rattle.command_csv.specs.declared.kind.Kind.TheVariants as kind
 use Rattle.command_csv.specs.Rows.{rows_of}
-use Rattle.command_csv.specs.Spelling.{ClerkLine, line_fields}
-use Rattle.command_csv.specs.Reads.{IsIssueLine, IsRowOf, Reads, lanes_of}
+use Rattle.command_csv.specs.Spelling.{ClerkLine, command_fields, line_fields}
+use Rattle.command_csv.specs.Reads.{IsScriptLine, IsRowOf, Reads, lanes_of}
 use Rattle.command_csv.proofs.FieldTexts.{term_day, years_within}
-use Rattle.command_csv.proofs.Issues.{plan_word_injective}
+use Rattle.command_csv.proofs.Lines.{kind_in, one_kind}
+use Rattle.command_csv.proofs.Words.{plan_word_injective}
 
 chosen_at_most : (test : Bool) (x y : ℕ) → x ≤ 31 → y ≤ 31 → cond test x y ≤ 31
 chosen_at_most true x y h k = h
@@ -41,29 +50,134 @@ day_text_injective a b a_in b_in e =
     let P : List ℕ → Type 0 = λ text. IsDayText text b in
     one_day (day_text a) a b a_in b_in (IsDayText-day_text a (term_day a a_in)) (subst P (sym e) (IsDayText-day_text b (term_day b b_in)))
 
-one_line : (a b : Line) → IsIssueLine a → IsIssueLine b → line_fields a ≡ line_fields b → a ≡ b
-one_line (Post (Issue id day plan age years amount premium)) (Post (Issue id' day' plan' age' years' amount' premium')) h k e =
-    let i : id ≡ id' = decimal_injective id id' (omega (arith, h.id_in)) (omega (arith, k.id_in)) cc in
+same_id : (a b : ℕ) → IsId a → IsId b → decimal a ≡ decimal b → a ≡ b
+same_id a b h k e = decimal_injective a b (omega (arith, h)) (omega (arith, k)) e
+
+same_cents : (a b : ℕ) → a ≤ 40000000000 → b ≤ 40000000000 → cents_text a ≡ cents_text b → a ≡ b
+same_cents a b h k e = cents_text_injective a b (omega (arith, h)) (omega (arith, k)) e
+
+-- what an issue holds that some other commands don't
+plan_in : Command → Plan
+plan_in (command.Issue id day plan age years amount premium) = plan
+plan_in _ = Term
+
+age_in : Command → ℕ
+age_in (command.Issue id day plan age years amount premium) = age
+age_in _ = 0
+
+years_in : Command → ℕ
+years_in (command.Issue id day plan age years amount premium) = years
+years_in _ = 0
+
+amount_in : Command → ℕ
+amount_in (command.Issue id day plan age years amount premium) = amount
+amount_in (command.Premium id day amount) = amount
+amount_in (command.Alter id day amount premium) = amount
+amount_in (command.Reinstate id day amount) = amount
+amount_in (command.Settle id day amount) = amount
+amount_in _ = 0
+
+premium_in : Command → ℕ
+premium_in (command.Issue id day plan age years amount premium) = premium
+premium_in (command.Alter id day amount premium) = premium
+premium_in _ = 0
+
+-- the command of a kind, of what it may hold
+made : Kind → ℕ → ℤ → Plan → ℕ → ℕ → ℕ → ℕ → Command
+made kind.Issue id day plan age years amount premium = command.Issue id day plan age years amount premium
+made kind.Premium id day plan age years amount premium = command.Premium id day amount
+made kind.Alter id day plan age years amount premium = command.Alter id day amount premium
+made kind.Lapse id day plan age years amount premium = command.Lapse id day
+made kind.Reinstate id day plan age years amount premium = command.Reinstate id day amount
+made kind.Claim id day plan age years amount premium = command.Claim id day
+made kind.Settle id day plan age years amount premium = command.Settle id day amount
+made kind.Mature id day plan age years amount premium = command.Mature id day
+
+made_again : (c : Command) → c ≡ made (kind_in c) (id_of c) (day_of c) (plan_in c) (age_in c) (years_in c) (amount_in c) (premium_in c)
+unfolding plan_in age_in years_in amount_in premium_in made
+made_again (command.Issue id day plan age years amount premium) = refl
+made_again (command.Premium id day amount) = refl
+made_again (command.Alter id day amount premium) = refl
+made_again (command.Lapse id day) = refl
+made_again (command.Reinstate id day amount) = refl
+made_again (command.Claim id day) = refl
+made_again (command.Settle id day amount) = refl
+made_again (command.Mature id day) = refl
+
+-- two commands of one kind, of the same fields
+one_made : (k : Kind) (id id' : ℕ) (day day' : ℤ) (plan plan' : Plan) (age age' years years' amount amount' premium premium' : ℕ)
+    → IsValid (made k id day plan age years amount premium) → IsValid (made k id' day' plan' age' years' amount' premium')
+    → command_fields (made k id day plan age years amount premium) ≡ command_fields (made k id' day' plan' age' years' amount' premium')
+    → made k id day plan age years amount premium ≡ made k id' day' plan' age' years' amount' premium'
+unfolding made
+one_made kind.Issue id id' day day' plan plan' age age' years years' amount amount' premium premium' h k e =
+    let i : id ≡ id' = same_id id id' h.id_in k.id_in cc in
     let d : day ≡ day' = day_text_injective day day' h.day_in k.day_in cc in
     let p : plan ≡ plan' = plan_word_injective plan plan' cc in
     let a : age ≡ age' = decimal_injective age age' (omega (arith, h.age_in)) (omega (arith, k.age_in)) cc in
     let y : years ≡ years' = decimal_injective years years' (omega (arith, years_within plan age years h.years_in)) (omega (arith, years_within plan' age' years' k.years_in)) cc in
-    let m : amount ≡ amount' = cents_text_injective amount amount' (omega (arith, h.amount_in)) (omega (arith, k.amount_in)) cc in
-    let r : premium ≡ premium' = cents_text_injective premium premium' (omega (arith, h.premium_in)) (omega (arith, k.premium_in)) cc in
+    let m : amount ≡ amount' = same_cents amount amount' (omega (arith, h.amount_in)) (omega (arith, k.amount_in)) cc in
+    let r : premium ≡ premium' = same_cents premium premium' (omega (arith, h.premium_in)) (omega (arith, k.premium_in)) cc in
     cc
-one_line (Post (Issue id day plan age years amount premium)) _ h k e = absurd k
+one_made kind.Premium id id' day day' plan plan' age age' years years' amount amount' premium premium' h k e =
+    let i : id ≡ id' = same_id id id' h.0 k.0 cc in
+    let d : day ≡ day' = day_text_injective day day' h.1 k.1 cc in
+    let m : amount ≡ amount' = same_cents amount amount' (omega (arith, h.2)) (omega (arith, k.2)) cc in
+    cc
+one_made kind.Alter id id' day day' plan plan' age age' years years' amount amount' premium premium' h k e =
+    let i : id ≡ id' = same_id id id' h.0 k.0 cc in
+    let d : day ≡ day' = day_text_injective day day' h.1 k.1 cc in
+    let m : amount ≡ amount' = same_cents amount amount' (omega (arith, h.2)) (omega (arith, k.2)) cc in
+    let r : premium ≡ premium' = same_cents premium premium' (omega (arith, h.3)) (omega (arith, k.3)) cc in
+    cc
+one_made kind.Lapse id id' day day' plan plan' age age' years years' amount amount' premium premium' h k e =
+    let i : id ≡ id' = same_id id id' h.0 k.0 cc in
+    let d : day ≡ day' = day_text_injective day day' h.1 k.1 cc in
+    cc
+one_made kind.Reinstate id id' day day' plan plan' age age' years years' amount amount' premium premium' h k e =
+    let i : id ≡ id' = same_id id id' h.0 k.0 cc in
+    let d : day ≡ day' = day_text_injective day day' h.1 k.1 cc in
+    let m : amount ≡ amount' = same_cents amount amount' (omega (arith, h.2)) (omega (arith, k.2)) cc in
+    cc
+one_made kind.Claim id id' day day' plan plan' age age' years years' amount amount' premium premium' h k e =
+    let i : id ≡ id' = same_id id id' h.0 k.0 cc in
+    let d : day ≡ day' = day_text_injective day day' h.1 k.1 cc in
+    cc
+one_made kind.Settle id id' day day' plan plan' age age' years years' amount amount' premium premium' h k e =
+    let i : id ≡ id' = same_id id id' h.0 k.0 cc in
+    let d : day ≡ day' = day_text_injective day day' h.1 k.1 cc in
+    let m : amount ≡ amount' = same_cents amount amount' (omega (arith, h.2)) (omega (arith, k.2)) cc in
+    cc
+one_made kind.Mature id id' day day' plan plan' age age' years years' amount amount' premium premium' h k e =
+    let i : id ≡ id' = same_id id id' h.0 k.0 cc in
+    let d : day ≡ day' = day_text_injective day day' h.1 k.1 cc in
+    cc
+
+one_command : (a b : Command) → IsValid a → IsValid b → command_fields a ≡ command_fields b → a ≡ b
+one_command a b h k e =
+    let kinds : kind_in a ≡ kind_in b = one_kind a b [] (ap (take 1) (append-nil (command_fields a) ∙ e)) in
+    let one = made_again a in
+    let two : b ≡ made (kind_in a) (id_of b) (day_of b) (plan_in b) (age_in b) (years_in b) (amount_in b) (premium_in b) =
+    made_again b ∙ ap (λ (x : Kind). made x (id_of b) (day_of b) (plan_in b) (age_in b) (years_in b) (amount_in b) (premium_in b)) (sym kinds) in
+    let P : Command → Type 0 = λ c. IsValid c in
+    one ∙ one_made (kind_in a) (id_of a) (id_of b) (day_of a) (day_of b) (plan_in a) (plan_in b) (age_in a) (age_in b) (years_in a) (years_in b) (amount_in a) (amount_in b) (premium_in a) (premium_in b)
+    (subst P one h) (subst P two k) (ap command_fields (sym one) ∙ e ∙ ap command_fields two) ∙ sym two
+
+one_line : (a b : Line) → IsScriptLine a → IsScriptLine b → line_fields a ≡ line_fields b → a ≡ b
+one_line (Post a) (Post b) h k e = ap (λ (c : Command). Post c) (one_command a b h k e)
+one_line (Post a) _ h k e = absurd k
 one_line _ _ h k e = absurd h
 
-one_entry : (row : List ℕ) (a b : ClerkLine) → IsRowOf row a → IsRowOf row b → a ≡ b
+one_entry : (row : List (List ℕ)) (a b : ClerkLine) → IsRowOf row a → IsRowOf row b → a ≡ b
 one_entry row a b h k =
     let whole : decimal a.clerk ∷ line_fields a.line ≡ decimal b.clerk ∷ line_fields b.line = sym h.spelled ∙ k.spelled in
-    let line : a.line ≡ b.line = one_line a.line b.line h.allowed.issue k.allowed.issue cc in
+    let line : a.line ≡ b.line = one_line a.line b.line h.allowed.right k.allowed.right cc in
     let clerk : a.clerk ≡ b.clerk = h.allowed.first_clerk ∙ sym k.allowed.first_clerk in
     let made : ℕ → Line → ClerkLine = λ n l. record { clerk = n; line = l } in
     let first : made a.clerk a.line ≡ made b.clerk b.line = cc in
     first
 
-one_list : (rows : List (List ℕ)) (xs ys : List ClerkLine) → AllZip IsRowOf rows xs → AllZip IsRowOf rows ys → xs ≡ ys
+one_list : (rows : List (List (List ℕ))) (xs ys : List ClerkLine) → AllZip IsRowOf rows xs → AllZip IsRowOf rows ys → xs ≡ ys
 one_list [] [] [] h k = refl
 one_list [] [] (y ∷ ys) h k = absurd k
 one_list [] (x ∷ xs) ys h k = absurd h

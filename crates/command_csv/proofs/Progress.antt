@@ -1,81 +1,110 @@
--- How far a script is read: these rows are behind, these lines were on them, and the rest is to come
-use Rattle.std.proofs.Common.{◌≡◌, ℕ, ◌+◌, List, [], ◌∷◌, ◌++◌, length, map, refl, ap, sym, ◌∙◌, append_assoc, length-append, arith, ◌<◌, false, eqb, zero, suc, subst}
-use Rattle.std.specs.List.{AllZip}
-use Rattle.std.proofs.lemmas.List.{map-append, append-nil}
+-- How far a script is read: these rows are behind, and these lines were on them
+use Rattle.std.proofs.Common.{◌≡◌, ℕ, ◌+◌, List, [], ◌∷◌, ◌++◌, length, map, Option, Some, Bor, true, false, inl, Bool, ◌≤◌, ap, sym, ◌∙◌, append_assoc, length-append, arith, subst}
 use Rattle.std.specs.Prelude.{Result, IfOk}
+use Rattle.std.specs.List.{AllZip}
+use Rattle.std.proofs.lemmas.List.{map-append}
 use Rattle.std.proofs.lemmas.Result.{IfOk-weaker}
-use Rattle.command_csv.specs.declared.fault.ScriptFault.{ScriptFault}
-use Rattle.std.proofs.lemmas.Bool.{lt-ltb, le-ltb}
+use Rattle.csv.specs.Reading.{Reached, ReadRecord, Ready, default_config, strip_bom, source_of, reader_config, reader_state, reader_trim, took_first}
+use Rattle.csv.proofs.ReadFacts.{rows-more, rows-end as csv_end}
+use Rattle.csv.specs.declared.parser.State.TheVariants as st
+use Rattle.csv.specs.declared.reader.Reader.{Reader}
+use Rattle.csv.specs.declared.reader.Trim.TheVariants as trim
 use Rattle.policy_types.specs.declared.script.Line.{Line}
 use Rattle.policy_types.specs.declared.script.Lane.{Lane}
-use Rattle.command_csv.specs.Rows.{pieces_of, rows_of, rows_among}
-use Rattle.command_csv.specs.Spelling.{by_first, ClerkLine}
-use Rattle.command_csv.specs.Reads.{IsRowOf, Reads, lane_of}
+use Rattle.command_csv.specs.declared.fault.ScriptFault.{ScriptFault}
+use Rattle.command_csv.specs.Rows.{rows_of}
+use Rattle.command_csv.specs.Spelling.{ClerkLine, by_first}
+use Rattle.command_csv.specs.Reads.{IsRowOf, IsFirstBadField, IsFirstFault, Reads, lane_of}
 use Rattle.command_csv.proofs.Clerks.{lanes_of_first}
+use Rattle.command_csv.proofs.Records.{rows_begin, rows_end, rows_few}
 
-pub record IsReadUpTo (rows : List (List ℕ)) (count : ℕ) (lines : List Line) (rest : List (List ℕ)) : Type 0 where
-  pub behind : List (List ℕ)
-  pub parts : rows ≡ behind ++ rest
+-- the reader of rows stands behind these rows, each of which is a line's
+pub record IsReadTo (bytes : List ℕ) (rows : Reader (Bor (List ℕ))) (count : ℕ) (lines : List Line) : Type 0 where
+  pub plain : reader_trim rows ≡ trim.None
+  pub ready : Ready rows
+  pub config : reader_config rows ≡ default_config
+  pub left : List ℕ
+  pub source : source_of (λ (s : Bor (List ℕ)). Some s.now) rows ≡ Some left
+  pub behind : List (List (List ℕ))
+  pub reached : Reached default_config st.StartRecord (strip_bom bytes) behind (reader_state rows) left
   pub number : count ≡ length behind
   pub right : AllZip IsRowOf behind (map by_first lines)
 
-push : (rows : List (List ℕ)) (entries : List ClerkLine) (row : List ℕ) (entry : ClerkLine) → AllZip IsRowOf rows entries → IsRowOf row entry → AllZip IsRowOf (rows ++ row ∷ []) (entries ++ entry ∷ [])
+-- at first none is read
+pub none_read : {lines : List Line} → lines ≡ [] → AllZip IsRowOf [] (map by_first lines)
+none_read {lines} e = subst (λ (ls : List Line). AllZip IsRowOf [] (map by_first ls)) (sym e) tt
+
+push : (rows : List (List (List ℕ))) (entries : List ClerkLine) (row : List (List ℕ)) (entry : ClerkLine) → AllZip IsRowOf rows entries → IsRowOf row entry → AllZip IsRowOf (rows ++ row ∷ []) (entries ++ entry ∷ [])
 push [] [] row entry h r = (r, tt)
 push [] (e ∷ es) row entry h r = absurd h
 push (x ∷ xs) [] row entry h r = absurd h
 push (x ∷ xs) (e ∷ es) row entry h r = (h.0, push xs es row entry h.1 r)
 
-begins : (rows : List (List ℕ)) → IsReadUpTo rows 0 [] rows
-begins rows = record { behind = []; parts = refl; number = refl; right = tt }
+pub one_more : (rows : List (List (List ℕ))) (lines more : List Line) (row : List (List ℕ)) (line : Line) → AllZip IsRowOf rows (map by_first lines) → IsRowOf row (by_first line) → more ≡ lines ++ line ∷ []
+    → AllZip IsRowOf (rows ++ row ∷ []) (map by_first more)
+one_more rows lines more row line h r e =
+    subst (λ (entries : List ClerkLine). AllZip IsRowOf (rows ++ row ∷ []) entries) (sym (map-append by_first lines (line ∷ [])) ∙ ap (map by_first) (sym e))
+    (push rows (map by_first lines) row (by_first line) h r)
 
-goes_on : (rows : List (List ℕ)) (count : ℕ) (lines : List Line) (row : List ℕ) (rest : List (List ℕ)) (line : Line) → IsReadUpTo rows count lines (row ∷ rest) → IsRowOf row (by_first line) → IsReadUpTo rows (count + 1) (lines ++ line ∷ []) rest
-goes_on rows count lines row rest line h r = record {
-  behind = h.behind ++ row ∷ [];
-  parts = h.parts ∙ sym (append_assoc h.behind (row ∷ []) rest);
-  number = omega (arith, length-append h.behind (row ∷ []), h.number);
-  right = rw (map-append by_first lines (line ∷ [])) (push h.behind (map by_first lines) row (by_first line) h.right r);
-}
+abbrev left_in : Bor (List ℕ) → Option (List ℕ)
+left_in s = Some s.now
 
-ends : (bytes : List ℕ) (count : ℕ) (lines : List Line) (lanes : List Lane) → IsReadUpTo (rows_of bytes) count lines [] → lanes ≡ lane_of 1 lines → Reads bytes lanes
-ends bytes count lines lanes h e =
-    let all : rows_of bytes ≡ h.behind = h.parts ∙ append-nil h.behind in
+pub found : (old new : Reader (Bor (List ℕ))) (there wanted : Bool) (row : List (List ℕ)) → there ≡ wanted → ReadRecord left_in old new there row → ReadRecord left_in old new wanted row
+found old new there wanted row e r = subst (λ (b : Bool). ReadRecord left_in old new b row) e r
+
+-- one more row is reached
+goes : (bytes : List ℕ) (old new : Reader (Bor (List ℕ))) (count : ℕ) (lines : List Line) (row : List (List ℕ)) (h : IsReadTo bytes old count lines) → ReadRecord left_in old new true row
+    → (left : List ℕ) × (source_of left_in new ≡ Some left) × Reached default_config st.StartRecord (strip_bom bytes) (h.behind ++ row ∷ []) (reader_state new) left
+goes bytes old new count lines row h r = rows-more left_in old new row default_config st.StartRecord (strip_bom bytes) h.left h.behind h.config h.source h.reached r
+
+-- a script has no more rows than bytes
+pub row_counted : (bytes : List ℕ) (old new : Reader (Bor (List ℕ))) (count : ℕ) (lines : List Line) (row : List (List ℕ)) → IsReadTo bytes old count lines → ReadRecord left_in old new true row → count + 1 ≤ length bytes
+row_counted bytes old new count lines row h r =
+    let g = goes bytes old new count lines row h r in
+    omega (arith, rows_few bytes (h.behind ++ row ∷ []) (reader_state new) g.0 g.2, length-append h.behind (row ∷ []), h.number)
+
+pub row_right : (bytes : List ℕ) (old new : Reader (Bor (List ℕ))) (count : ℕ) (lines more : List Line) (row : List (List ℕ)) (line : Line) → IsReadTo bytes old count lines → ReadRecord left_in old new true row
+    → took_first new ≡ true → IsRowOf row (by_first line) → more ≡ lines ++ line ∷ [] → IsReadTo bytes new (count + 1) more
+row_right bytes old new count lines more row line h r first is e =
+    let g = goes bytes old new count lines row h r in
     record {
-      entries = map by_first lines;
-      rows = rw all h.right;
-      by_clerk = e ∙ sym (lanes_of_first lines);
+      plain = r.3 ∙ h.plain;
+      ready = inl first;
+      config = r.2 ∙ h.config;
+      left = g.0;
+      source = g.1;
+      behind = h.behind ++ row ∷ [];
+      reached = g.2;
+      number = omega (arith, length-append h.behind (row ∷ []), h.number);
+      right = one_more h.behind lines more row line h.right is e;
     }
 
-abbrev pub IsReadTo : List ℕ → ℕ → List Line → List (List ℕ) → Type 0
-IsReadTo bytes count lines pieces = IsReadUpTo (rows_of bytes) count lines (rows_among pieces)
+-- the row behind those that are right is the first fault
+pub row_faulty : (bytes : List ℕ) (old new : Reader (Bor (List ℕ))) (count field : ℕ) (lines : List Line) (row : List (List ℕ)) → IsReadTo bytes old count lines → ReadRecord left_in old new true row
+    → IsFirstBadField row field → IsFirstFault bytes (count + 1) field
+row_faulty bytes old new count field lines row h r bad =
+    let g = goes bytes old new count lines row h r in
+    let rest = rows_begin bytes (h.behind ++ row ∷ []) (reader_state new) g.0 g.2 in
+    record {
+      before = h.behind;
+      faulty = row;
+      after = rest.0;
+      rows = rest.1 ∙ append_assoc h.behind (row ∷ []) rest.0;
+      number = omega (arith, h.number);
+      entries = map by_first lines;
+      right = h.right;
+      bad = bad;
+    }
 
-pub starts : (bytes : List ℕ) (lines : List Line) (pieces : List (List ℕ)) → pieces ≡ pieces_of 10 bytes → lines ≡ [] → IsReadTo bytes 0 lines pieces
-starts bytes lines pieces e none =
-    let P : List (List ℕ) → Type 0 = λ rest. IsReadUpTo (rows_of bytes) 0 lines rest in
-    let Q : List Line → Type 0 = λ ls. IsReadUpTo (rows_of bytes) 0 ls (rows_of bytes) in
-    subst P (sym (ap rows_among e)) (subst Q (sym none) (begins (rows_of bytes)))
+-- where no row is left, all are right
+pub no_row : (bytes : List ℕ) (old new : Reader (Bor (List ℕ))) (count : ℕ) (lines : List Line) (row : List (List ℕ)) → IsReadTo bytes old count lines → ReadRecord left_in old new false row
+    → AllZip IsRowOf (rows_of bytes) (map by_first lines)
+no_row bytes old new count lines row h r =
+    let none = csv_end left_in old new row default_config h.left h.config h.source r in
+    subst (λ (rows : List (List (List ℕ))). AllZip IsRowOf rows (map by_first lines)) (sym (rows_end bytes h.behind (reader_state old) h.left h.reached none)) h.right
 
-row_among : (pieces next : List (List ℕ)) (row : List ℕ) → pieces ≡ row ∷ next → 0 < length row → rows_among pieces ≡ row ∷ rows_among next
-row_among pieces next row e full = ap rows_among e ∙ rw (lt-ltb 0 (length row) full) refl
+pub one_lane_read : (bytes : List ℕ) (lines : List Line) (lanes : List Lane) → AllZip IsRowOf (rows_of bytes) (map by_first lines) → lanes ≡ lane_of 1 lines → Reads bytes lanes
+one_lane_read bytes lines lanes h e = record { entries = map by_first lines; rows = h; by_clerk = e ∙ sym (lanes_of_first lines) }
 
-empty_among : (pieces next : List (List ℕ)) (row : List ℕ) → pieces ≡ row ∷ next → length row ≡ 0 → rows_among pieces ≡ rows_among next
-empty_among pieces next row e empty = ap rows_among e ∙ rw (le-ltb 0 (length row) (omega arith)) refl
-
-pub skips : (bytes : List ℕ) (count : ℕ) (lines : List Line) (pieces next : List (List ℕ)) (row : List ℕ) → IsReadTo bytes count lines pieces → pieces ≡ row ∷ next → length row ≡ 0 → IsReadTo bytes count lines next
-skips bytes count lines pieces next row h e empty =
-    let P : List (List ℕ) → Type 0 = λ rest. IsReadUpTo (rows_of bytes) count lines rest in
-    subst P (empty_among pieces next row e empty) h
-
-pub takes : (bytes : List ℕ) (count : ℕ) (lines more : List Line) (pieces next : List (List ℕ)) (row : List ℕ) (line : Line) → IsReadTo bytes count lines pieces → pieces ≡ row ∷ next → 0 < length row → IsRowOf row (by_first line) → more ≡ lines ++ line ∷ [] → IsReadTo bytes (count + 1) more next
-takes bytes count lines more pieces next row line h e full is pushed =
-    let P : List (List ℕ) → Type 0 = λ rest. IsReadUpTo (rows_of bytes) count lines rest in
-    let Q : List Line → Type 0 = λ ls. IsReadUpTo (rows_of bytes) (count + 1) ls (rows_among next) in
-    subst Q (sym pushed) (goes_on (rows_of bytes) count lines row (rows_among next) line (subst P (row_among pieces next row e full) h) is)
-
-pub done : (bytes : List ℕ) (count : ℕ) (lines : List Line) (pieces : List (List ℕ)) (script : Result (List Lane) ScriptFault) → IsReadTo bytes count lines pieces → pieces ≡ [] → IfOk script (λ lanes. lanes ≡ lane_of 1 lines) → IfOk script (Reads bytes)
-done bytes count lines pieces script h e made =
-    let P : List (List ℕ) → Type 0 = λ rest. IsReadUpTo (rows_of bytes) count lines rest in
-    IfOk-weaker script (λ lanes. lanes ≡ lane_of 1 lines) (Reads bytes) (λ lanes. ends bytes count lines lanes (subst P (ap rows_among e) h)) made
-
-pub full : (n : ℕ) → false ≡ eqb n 0 → 0 < n
-full zero e = cc
-full (suc n) e = omega arith
+pub script_read : (bytes : List ℕ) (lines : List Line) (script : Result (List Lane) ScriptFault) → AllZip IsRowOf (rows_of bytes) (map by_first lines) → IfOk script (λ lanes. lanes ≡ lane_of 1 lines) → IfOk script (Reads bytes)
+script_read bytes lines script h made = IfOk-weaker script (λ lanes. lanes ≡ lane_of 1 lines) (Reads bytes) (λ lanes. one_lane_read bytes lines lanes h) made

@@ -1,5 +1,6 @@
 pub mod Cause
-pub mod Left
 pub mod Reads
 pub mod Rows
 pub mod Spelling
+pub mod Worked
+pub mod inside

@@ -1,28 +1,27 @@
 -- What a script says: its lines, lane by lane, or the first field that doesn't fit
 use Rattle.std.specs.Prelude.{◌≡◌, ℕ, ◌+◌, ◌-◌, ◌==◌, List, [], ◌∷◌, ◌++◌, length, take, map, filter}
 use Rattle.std.specs.List.{AllZip, flat_map}
-use Rattle.policy_types.specs.declared.command.Command.TheVariants.{Issue}
 use Rattle.policy_types.specs.declared.script.Line.{Line}
 use Rattle.policy_types.specs.declared.script.Line.TheVariants.{Post}
 use Rattle.policy_types.specs.declared.script.Lane.{Lane}
-use Rattle.policy_types.specs.Valid.{IsIssue}
-use Rattle.command_csv.specs.Rows.{rows_of, fields_of}
+use Rattle.policy_types.specs.Valid.{IsValid}
+use Rattle.command_csv.specs.Rows.{rows_of}
 use Rattle.command_csv.specs.Spelling.{ClerkLine, row_fields}
 
--- the lines that a script may hold: valid issues
-abbrev pub IsIssueLine : Line → Type 0
-IsIssueLine (Post (Issue id day plan age years amount premium)) = IsIssue id day plan age years amount premium
-IsIssueLine _ = ⊥
+-- the lines that a script may hold: postings of valid commands
+abbrev pub IsScriptLine : Line → Type 0
+IsScriptLine (Post command) = IsValid command
+IsScriptLine _ = ⊥
 
 -- a line of a script: one of clerk 1, who is the only clerk
 pub record IsAllowed (entry : ClerkLine) : Type 0 where
   pub first_clerk : entry.clerk ≡ 1
-  pub issue : IsIssueLine entry.line
+  pub right : IsScriptLine entry.line
 
--- the row is the line's
-pub record IsRowOf (row : List ℕ) (entry : ClerkLine) : Type 0 where
+-- the row, which is a list of fields, is the line's
+pub record IsRowOf (row : List (List ℕ)) (entry : ClerkLine) : Type 0 where
   pub allowed : IsAllowed entry
-  pub spelled : fields_of row ≡ row_fields entry
+  pub spelled : row ≡ row_fields entry
 
 -- a clerk's lines among all, in order
 abbrev pub lines_of : ℕ → List ClerkLine → List Line
@@ -59,11 +58,11 @@ pub record IsFirstBadField (fields : List (List ℕ)) (place : ℕ) : Type 0 whe
 
 -- the first row, counted from 1, that is no line's, and its first bad field
 pub record IsFirstFault (bytes : List ℕ) (row field : ℕ) : Type 0 where
-  pub before : List (List ℕ)
-  pub faulty : List ℕ
-  pub after : List (List ℕ)
+  pub before : List (List (List ℕ))
+  pub faulty : List (List ℕ)
+  pub after : List (List (List ℕ))
   pub rows : rows_of bytes ≡ before ++ faulty ∷ after
   pub number : row ≡ length before + 1
   pub entries : List ClerkLine
   pub right : AllZip IsRowOf before entries
-  pub bad : IsFirstBadField (fields_of faulty) field
+  pub bad : IsFirstBadField faulty field

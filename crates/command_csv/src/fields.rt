@@ -1,69 +1,118 @@
 // The next field of a row, where it is what it has to be.
-ghost use Rattle.std.specs.Prelude.{◌≡◌, ◌≢◌, ℕ, ℤ, ◌≤◌, ◌∷◌, [], take, decimal, ◌↔◌, IsTrue, IfSome, IfNone};
-ghost use Rattle.std.specs.Bool.{OnFalse, OnTrue};
-ghost use Rattle.policy_types.specs.Valid.{IsId, IsCommandDay, IsAmount, IsIssueAge, AreYears};
+ghost use Rattle.std.specs.Prelude.{◌≡◌, ◌≢◌, ℕ, ℤ, ◌≤◌, ◌<◌, ◌+◌, ◌∷◌, [], ⊤, take, decimal, IfSome, IfNone};
+ghost use Rattle.csv.specs.Records.{fields_of};
+ghost use Rattle.policy_types.specs.Valid.{IsId, IsCommandDay, IsAmount, IsReinstatement, IsIssueAge, AreYears};
 ghost use Rattle.policy_types.specs.declared.command.Plan.{Plan as APlan};
 ghost use Rattle.life_dates.specs.DayText.{day_text};
 ghost use Rattle.money_core.specs.CentsText.{cents_text};
-ghost use Rattle.command_csv.specs.Left.{left_of};
+ghost use Rattle.command_csv.specs.declared.kind.Kind.{Kind as AKind};
+ghost use Rattle.command_csv.specs.inside.Forms.{IsClerk, kind_word};
 ghost use Rattle.command_csv.specs.Spelling.{plan_word};
 
-use crate::pieces::Pieces;
+use crate::kind::{Kind, kind_of};
+use csv::ByteRecord;
 use life_dates::parse_day;
 use money_core::{parse_cents, parse_number};
-use policy_types::{END_AGE, LAST_ISSUE_AGE, MOST_CENTS, Plan};
+use policy_types::{
+    END_AGE, LAST_ISSUE_AGE, MOST_CENTS, MOST_REINSTATEMENT_CENTS, Plan, are_years,
+};
 
-impl Pieces<'_> {
-    /// Whether the next field is this word.
-    pub fn next_is(&mut self, word: &[u8]) -> bool
-        ensures yes { OnTrue result (left_of self.old ≡ word.now ∷ left_of self.new) }
-        ensures no { OnFalse result (take 1 (left_of self.old) ≢ word.now ∷ []) }
+/// The clerks' numbers go up to this.
+const LAST_CLERK: u64 = 1;
+
+/// A row that is read field by field.
+#[derive(Drop)]
+pub struct Fields<'a> {
+    pub row: &'a ByteRecord,
+    /// How many fields were asked for; so the last of them is the one of this number.
+    pub asked: u32,
+}
+
+impl<'a> Fields<'a> {
+    ghost use Rattle.command_csv.specs.inside.Cursor.{left_of, Took, Missed};
+
+    pub fn new(row: &'a ByteRecord) -> Fields<'a>
+        ensures all { left_of result ≡ fields_of row.now }
+        ensures none { result.asked ≡ 0 }
     {
-        match self.next_piece() {
-            Some(field) => field == word,
-            None => false,
-        }
+        Fields { row, asked: 0 }
+    }
+
+    /// The next field, if there is one more.
+    pub fn next_field(&mut self) -> Option<&'a [u8]>
+        requires few { self.old.asked < 16 }
+        ensures some { IfSome result (λ text. left_of self.old ≡ text.now ∷ left_of self.new) }
+        ensures none { IfNone result (left_of self.old ≡ []) }
+        ensures counted { self.new.asked ≡ self.old.asked + 1 }
+    {
+        let field = self.row.get(self.asked as usize);
+        self.asked += 1;
+        field
+    }
+
+    /// The number of the clerk whose line it is.
+    pub fn clerk(&mut self) -> Option<u8>
+        requires few { self.old.asked < 16 }
+        ensures some { IfSome result (λ clerk. Took (IsClerk clerk) (decimal clerk) self.old self.new) }
+        ensures none { IfNone result (Missed IsClerk decimal self.old self.new) }
+    {
+        let clerk = parse_number(self.next_field()?, LAST_CLERK)?;
+        if clerk == 0 { None } else { Some(clerk as u8) }
+    }
+
+    pub fn kind(&mut self) -> Option<Kind>
+        requires few { self.old.asked < 16 }
+        ensures some { IfSome result (λ kind. Took ⊤ (kind_word kind) self.old self.new) }
+        ensures none { IfNone result (Missed (λ (kind : AKind). ⊤) kind_word self.old self.new) }
+    {
+        kind_of(self.next_field()?)
     }
 
     /// A policy's number.
-    pub fn next_id(&mut self) -> Option<u32>
-        ensures some { IfSome result (λ id. IsId id × (left_of self.old ≡ decimal id ∷ left_of self.new)) }
-        ensures none { IfNone result ((id : ℕ) → IsId id → take 1 (left_of self.old) ≢ decimal id ∷ []) }
+    pub fn id(&mut self) -> Option<u32>
+        requires few { self.old.asked < 16 }
+        ensures some { IfSome result (λ id. Took (IsId id) (decimal id) self.old self.new) }
+        ensures none { IfNone result (Missed IsId decimal self.old self.new) }
     {
-        let id = self.next_number(u32::MAX as u64)?;
+        let id = parse_number(self.next_field()?, u32::MAX as u64)?;
         if id == 0 { None } else { Some(id as u32) }
     }
 
     /// A day, in days since 1970-01-01.
-    pub fn next_day(&mut self) -> Option<i32>
-        ensures some { IfSome result (λ day. IsCommandDay day × (left_of self.old ≡ day_text day ∷ left_of self.new)) }
-        ensures none { IfNone result ((day : ℤ) → IsCommandDay day → take 1 (left_of self.old) ≢ day_text day ∷ []) }
+    pub fn day(&mut self) -> Option<i32>
+        requires few { self.old.asked < 16 }
+        ensures some { IfSome result (λ day. Took (IsCommandDay day) (day_text day) self.old self.new) }
+        ensures none { IfNone result (Missed IsCommandDay day_text self.old self.new) }
     {
-        parse_day(self.next_piece()?)
+        parse_day(self.next_field()?)
     }
 
-    pub fn next_plan(&mut self) -> Option<Plan>
-        ensures some { IfSome result (λ plan. left_of self.old ≡ plan_word plan ∷ left_of self.new) }
-        ensures none { IfNone result ((plan : APlan) → take 1 (left_of self.old) ≢ plan_word plan ∷ []) }
+    pub fn plan(&mut self) -> Option<Plan>
+        requires few { self.old.asked < 16 }
+        ensures some { IfSome result (λ plan. Took ⊤ (plan_word plan) self.old self.new) }
+        ensures none { IfNone result (Missed (λ (plan : APlan). ⊤) plan_word self.old self.new) }
     {
-        plan_of(self.next_piece()?)
+        plan_of(self.next_field()?)
     }
 
     /// An age at issue, in years.
-    pub fn next_age(&mut self) -> Option<u8>
-        ensures some { IfSome result (λ age. IsIssueAge age × (left_of self.old ≡ decimal age ∷ left_of self.new)) }
-        ensures none { IfNone result ((age : ℕ) → IsIssueAge age → take 1 (left_of self.old) ≢ decimal age ∷ []) }
+    pub fn age(&mut self) -> Option<u8>
+        requires few { self.old.asked < 16 }
+        ensures some { IfSome result (λ age. Took (IsIssueAge age) (decimal age) self.old self.new) }
+        ensures none { IfNone result (Missed IsIssueAge decimal self.old self.new) }
     {
-        let age = self.next_number(LAST_ISSUE_AGE as u64)?;
+        let age = parse_number(self.next_field()?, LAST_ISSUE_AGE as u64)?;
         Some(age as u8)
     }
 
     /// The years of a plan that is issued at this age.
-    pub fn next_years(&mut self, plan: Plan, age: u8) -> Option<u8>
-        ensures some { IfSome result (λ years. AreYears plan age years × (left_of self.old ≡ decimal years ∷ left_of self.new)) }
-        ensures none { IfNone result ((years : ℕ) → AreYears plan age years → take 1 (left_of self.old) ≢ decimal years ∷ []) }
+    pub fn years(&mut self, plan: Plan, age: u8) -> Option<u8>
+        requires few { self.old.asked < 16 }
+        requires age_in { IsIssueAge age }
+        ensures some { IfSome result (λ years. Took (AreYears plan age years) (decimal years) self.old self.new) }
+        ensures none { IfNone result (Missed (AreYears plan age) decimal self.old self.new) }
     {
-        let years = self.next_number(END_AGE as u64)? as u8;
+        let years = parse_number(self.next_field()?, END_AGE as u64)? as u8;
         if are_years(plan, age, years) {
             Some(years)
         } else {
@@ -71,30 +120,34 @@ impl Pieces<'_> {
         }
     }
 
-    /// An amount of insurance or a premium, in cents.
-    pub fn next_amount(&mut self) -> Option<u64>
-        ensures some { IfSome result (λ cents. IsAmount cents × (left_of self.old ≡ cents_text cents ∷ left_of self.new)) }
-        ensures none { IfNone result ((cents : ℕ) → IsAmount cents → take 1 (left_of self.old) ≢ cents_text cents ∷ []) }
+    /// An amount of insurance, a premium or a payment, in cents.
+    pub fn amount(&mut self) -> Option<u64>
+        requires few { self.old.asked < 16 }
+        ensures some { IfSome result (λ cents. Took (IsAmount cents) (cents_text cents) self.old self.new) }
+        ensures none { IfNone result (Missed IsAmount cents_text self.old self.new) }
     {
-        parse_cents(self.next_piece()?, MOST_CENTS)
+        parse_cents(self.next_field()?, MOST_CENTS)
     }
 
-    // A whole number up to this one.
-    fn next_number(&mut self, most: u64) -> Option<u64>
-        ensures some { IfSome result (λ n. (n ≤ most) × (left_of self.old ≡ decimal n ∷ left_of self.new)) }
-        ensures none { IfNone result ((n : ℕ) → n ≤ most → take 1 (left_of self.old) ≢ decimal n ∷ []) }
+    /// A payment to reinstate, in cents.
+    pub fn reinstatement(&mut self) -> Option<u64>
+        requires few { self.old.asked < 16 }
+        ensures some { IfSome result (λ cents. Took (IsReinstatement cents) (cents_text cents) self.old self.new) }
+        ensures none { IfNone result (Missed IsReinstatement cents_text self.old self.new) }
     {
-        parse_number(self.next_piece()?, most)
+        parse_cents(self.next_field()?, MOST_REINSTATEMENT_CENTS)
     }
-}
 
-fn are_years(plan: Plan, age: u8, years: u8) -> bool
-    ensures { IsTrue result ↔ AreYears plan age years }
-{
-    match plan {
-        Plan::Whole => years == 0,
-        Plan::Term | Plan::Endowment | Plan::Limited => {
-            2 <= years && age as u16 + years as u16 <= END_AGE
+    /// The end of the row.
+    pub fn end(&mut self) -> Option<()>
+        requires few { self.old.asked < 16 }
+        ensures some { IfSome result (λ _. left_of self.old ≡ []) }
+        ensures none { IfNone result (left_of self.old ≢ []) }
+        ensures counted { self.new.asked ≡ self.old.asked + 1 }
+    {
+        match self.next_field() {
+            Some(_) => None,
+            None => Some(()),
         }
     }
 }

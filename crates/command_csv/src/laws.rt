@@ -1,9 +1,15 @@
 // Laws of the definitions, for callers.
-ghost use Rattle.std.specs.Prelude.{◌≡◌, ℕ, List};
+ghost use Rattle.std.specs.Prelude.{◌≡◌, ◌⊎◌, ℕ, List};
 ghost use Rattle.std.specs.List.{All};
 ghost use Rattle.policy_types.specs.declared.script.Lane.{Lane};
 ghost use Rattle.policy_types.specs.declared.script.Line.{Line};
-ghost use Rattle.command_csv.specs.Reads.{IsIssueLine, IsFirstFault, Reads, lane_of};
+ghost use Rattle.command_csv.specs.Reads.{IsScriptLine, IsFirstFault, Reads, lane_of};
+
+/// A script is read, or it has a first fault.
+pub fn scripts_are_judged()
+    ensures { (bytes : List ℕ) → ((lanes : List Lane) × Reads bytes lanes)
+        ⊎ ((row : ℕ) × ((field : ℕ) × IsFirstFault bytes row field)) }
+{}
 
 /// Where a script has a first fault, no lanes are read from it, and it has no other first fault.
 pub fn faults_are_exact()
@@ -16,7 +22,7 @@ pub fn readings_are_one()
     ensures { (bytes : List ℕ) (lanes others : List Lane) → Reads bytes lanes → Reads bytes others → lanes ≡ others }
 {}
 
-/// What is read is no lane, or the one lane of clerk 1, and each of its lines is a valid issue.
+/// What is read is no lane, or the one lane of clerk 1, and each of its lines is one that a script may hold.
 pub fn one_clerk()
-    ensures { (bytes : List ℕ) (lanes : List Lane) → Reads bytes lanes → (lines : List Line) × (lanes ≡ lane_of 1 lines) × All IsIssueLine lines }
+    ensures { (bytes : List ℕ) (lanes : List Lane) → Reads bytes lanes → (lines : List Line) × (lanes ≡ lane_of 1 lines) × All IsScriptLine lines }
 {}

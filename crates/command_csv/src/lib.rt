@@ -3,14 +3,17 @@
 
 mod fault;
 mod fields;
+mod kind;
 mod laws;
-mod pieces;
+mod postings;
 mod reader;
 mod row;
+mod worked;
 
 pub use fault::ScriptFault;
-pub use laws::{faults_are_exact, one_clerk, readings_are_one};
+pub use laws::{faults_are_exact, one_clerk, readings_are_one, scripts_are_judged};
 pub use reader::read_script;
+pub use worked::{faults_are_placed, lines_are_written, odd_scripts_are_read};
 
 #[cfg(test)]
 mod tests;

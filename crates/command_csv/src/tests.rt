@@ -1,208 +1,274 @@
 //! Scripts and what is read from them.
+ghost use Rattle.std.specs.Prelude.{◌≤◌, length};
+
 use crate::fault::ScriptFault;
 use crate::reader::read_script;
 use policy_types::{Command, Line, Plan};
 use std::alloc::Global;
 use std::test::Fail;
 
-// The number of lines as row 0, or the bad row and field.
-fn answer(alloc: Global, script: &str) -> Result<(usize, usize), Fail> {
-    if script.len() > 1000 {
-        return Ok((0, 0));
-    }
-    match read_script(alloc, script.as_bytes()) {
+const MOST_BYTES: usize = 16_777_216;
+
+// The number of lines of clerk 1 as row 0, or the bad row and field.
+fn answer(alloc: Global, script: &[u8]) -> Result<(u64, u64), Fail>
+    requires { length script.now ≤ MOST_BYTES }
+{
+    match read_script(alloc, script) {
         Ok(script) => match script.as_slice() {
             [] => Ok((0, 0)),
-            [lane] => Ok((0, lane.lines.as_slice().len())),
-            _ => Ok((0, 1000)),
+            [lane] => Ok((0, lane.lines.as_slice().len() as u64)),
+            _ => Err("two lanes")?,
         },
-        Err(ScriptFault::BadRow { row, field }) => Ok((row as usize, field as usize)),
+        Err(ScriptFault::BadRow { row, field }) => Ok((u64::from(row), u64::from(field))),
         Err(ScriptFault::NoMemory) => Err("no memory")?,
     }
 }
 
 #[test]
-fn scripts_are_read_or_refused_at_the_first_field(rt: HostRuntime) -> Result<(), Fail> {
-    let cases = [
-        ("", (0, 0)),
-        ("\n\n", (0, 0)),
+fn bad_fields(rt: HostRuntime) -> Result<(), Fail> {
+    let cases: [(&[u8], (u64, u64)); 49] = [
+        (b"1,issue,0,2020-01-01,term,30,10,1.00,1.00", (1, 3)),
+        (b"9,lapse,1,2020-01-01", (1, 1)),
+        (b"1,lapse,1", (1, 4)),
+        (b"1,issue,5,2020-01-01,term,30,10,1.00,1.00,", (1, 10)),
+        (b"1,issue,7,2020-01-01,term,0,2,1.00,1.00", (0, 1)),
         (
-            "1,issue,7001,2020-01-01,endowment,0,3,1000.00,400.00",
+            b"1,issue,4294967295,2199-12-31,term,129,2,100000000.00,0.01",
             (0, 1),
         ),
+        (b"1,issue,7,1900-01-01,whole,129,0,1.00,1.00", (0, 1)),
+        (b"1,issue,7,2000-02-29,limited,29,102,1.00,1.00", (0, 1)),
+        (b"0,lapse,1,2020-01-01", (1, 1)),
+        (b"2,lapse,1,2020-01-01", (1, 1)),
+        (b"01,lapse,1,2020-01-01", (1, 1)),
+        (b"2,lapsed", (1, 1)),
+        (b"1", (1, 2)),
+        (b"1,", (1, 2)),
+        (b"1,Lapse,1,2020-01-01", (1, 2)),
+        (b"1,lapsed,x,x", (1, 2)),
+        (b"1,value,2020-01-01,now,1", (1, 2)),
+        (b"1,trim", (1, 2)),
+        (b"1,claim", (1, 3)),
+        (b"1,claim,+1,2020-01-01", (1, 3)),
+        (b"1,claim,4294967296,2020-01-01", (1, 3)),
+        (b"1,claim,1,1899-12-31", (1, 4)),
+        (b"1,claim,1,2200-01-01", (1, 4)),
+        (b"1,claim,1,2021-02-29", (1, 4)),
+        (b"1,claim,1,2021-2-28", (1, 4)),
+        (b"1,claim,1,2021-02-28,1.00", (1, 5)),
+        (b"1,issue,7,2020-01-01,Term,0,2,1.00,1.00", (1, 5)),
+        (b"1,issue,7,2020-01-01,term,130,2,1.00,1.00", (1, 6)),
+        (b"1,issue,7,2020-01-01,term,0,1,1.00,1.00", (1, 7)),
+        (b"1,issue,7,2020-01-01,term,0,132,1.00,1.00", (1, 7)),
+        (b"1,issue,7,2020-01-01,term,129,3,1.00,1.00", (1, 7)),
+        (b"1,issue,7,2020-01-01,term,0,258,1.00,1.00", (1, 7)),
+        (b"1,issue,7,2020-01-01,whole,0,2,1.00,1.00", (1, 7)),
+        (b"1,issue,7,2020-01-01,limited,0,0,1.00,1.00", (1, 7)),
+        (b"1,issue,7,2020-01-01,term,0,2,0.00,1.00", (1, 8)),
+        (b"1,issue,7,2020-01-01,term,0,2,1.00,100000000.01", (1, 9)),
+        (b"1,issue,7,2020-01-01,term,0,2,1.00", (1, 9)),
+        (b"1,premium,1,2020-01-01,100000000.01", (1, 5)),
+        (b"1,premium,1,2020-01-01,1", (1, 5)),
+        (b"1,premium,1,2020-01-01,01.00", (1, 5)),
+        (b"1,premium,1,2020-01-01,1.0", (1, 5)),
+        (b"1,alter,1,2020-01-01,1.00", (1, 6)),
+        (b"1,alter,1,2020-01-01,1.00,1.00,1.00", (1, 7)),
+        (b"1,reinstate,1,2020-01-01,400000000.00", (0, 1)),
+        (b"1,reinstate,1,2020-01-01,400000000.01", (1, 5)),
+        (b"1,settle,1,2020-01-01,100000000.01", (1, 5)),
+        (b"1,settle,1,2020-01-01,-1.00", (1, 5)),
+        (b"1,mature,1,2020-01-01,", (1, 5)),
+        (b"1,lapse,1,x\n2,lapse,1,2020-01-01", (1, 4)),
+    ];
+    for (script, want) in cases {
+        assert!(rt; script.len() <= MOST_BYTES);
+        assert_eq!(rt; answer(rt.alloc(), script)?, want, "{script:?}");
+    }
+    Ok(())
+}
+
+// What the rows and fields of odd texts are, by RFC 4180 and by what the library `csv` does where it says nothing.
+#[test]
+fn odd_texts(rt: HostRuntime) -> Result<(), Fail> {
+    let cases: [(&[u8], (u64, u64)); 36] = [
+        (b"", (0, 0)),
+        (b"\n\r\n\r\r\n\n", (0, 0)),
+        (b"1,lapse,1,2020-01-01", (0, 1)),
+        (b"1,lapse,1,2020-01-01\r\n", (0, 1)),
+        (b"1,lapse,1,2020-01-01\r1,lapse,1,2020-01-01\r", (0, 2)),
         (
-            "1,issue,7001,2020-01-01,endowment,0,3,1000.00,400.00\n",
-            (0, 1),
+            b"\r\n\n1,lapse,1,2020-01-01\n\r\n\n1,lapse,1,x\n1,lapse",
+            (2, 4),
         ),
         (
-            "\n1,issue,7001,2020-01-01,endowment,0,3,1000.00,400.00\n\n1,issue,1,2020-01-01,endowment,0,3,1000.00,400.00",
+            b"1,lapse,1,2020-01-01\n1,premium,1,2020-01-01,1.00\n",
             (0, 2),
         ),
-        ("1,issue,7001,2020-01-01,whole,0,0,1000.00,400.00", (0, 1)),
+        (b"\"1\",\"lapse\",\"1\",\"2020-01-01\"\r\n", (0, 1)),
+        (b"1,lapse,\"1\",2020-01-01", (0, 1)),
+        (b"1,lapse,\"1\"\"\",2020-01-01", (1, 3)),
+        (b"1,\"lapse,1\",2020-01-01", (1, 2)),
+        (b"1,\"lapse\n\",1,2020-01-01", (1, 2)),
+        (b"1,lapse,1,\"2020-01-01\r\n\"", (1, 4)),
+        (b"1,lapse,1,\"2020-01-01\n1,lapse,1,2020-01-01\n", (1, 4)),
+        (b"1,lapse,1,\"2020-01-01", (0, 1)),
+        (b"1,lap\"se,1,2020-01-01", (1, 2)),
+        (b"1,lapse\",1,2020-01-01", (1, 2)),
+        (b"1,\"lap\"se,1,2020-01-01", (0, 1)),
+        (b"1,\"lapse\" ,1,2020-01-01", (1, 2)),
+        (b"\"\"", (1, 1)),
+        (b"\"\"\n", (1, 1)),
+        (b",", (1, 1)),
+        (b"1,,1,2020-01-01", (1, 2)),
+        (b" 1,lapse,1,2020-01-01", (1, 1)),
+        (b"1, lapse,1,2020-01-01", (1, 2)),
+        (b"1;lapse;1;2020-01-01", (1, 1)),
+        (b"#1,lapse,1,2020-01-01", (1, 1)),
+        (b"1,lapse,1,2020-01-01\0", (1, 4)),
+        (b"\0\n", (1, 1)),
+        (b"1,lapse,\xff,2020-01-01", (1, 3)),
+        (b"1,lapse,1\xc3,2020-01-01", (1, 3)),
+        (b"\xef\xbb\xbf", (0, 0)),
+        (b"\xef\xbb\xbf\"1\",lapse,1,2020-01-01", (0, 1)),
+        (b"\xef\xbb\xbf\xef\xbb\xbf1,lapse,1,2020-01-01", (1, 1)),
+        (b"\xef\xbb1,lapse,1,2020-01-01", (1, 1)),
         (
-            "1,issue,4294967295,2199-12-31,term,129,2,100000000.00,0.01",
-            (0, 1),
-        ),
-        (
-            "1,issue,7001,2000-02-29,limited,29,102,1000.00,400.00",
-            (0, 1),
-        ),
-        (
-            "1,issue,7001,1900-01-01,endowment,0,3,1000.00,400.00",
-            (0, 1),
-        ),
-        ("1,issue,0,2020-01-01,term,30,10,1.00,1.00", (1, 3)),
-        ("9,lapse,1,2020-01-01", (1, 1)),
-        ("1,lapse,1", (1, 2)),
-        (
-            "2,issue,7001,2020-01-01,endowment,0,3,1000.00,400.00",
-            (1, 1),
-        ),
-        (
-            "01,issue,7001,2020-01-01,endowment,0,3,1000.00,400.00",
-            (1, 1),
-        ),
-        (
-            ",issue,7001,2020-01-01,endowment,0,3,1000.00,400.00",
-            (1, 1),
-        ),
-        (
-            "\"1\",issue,7001,2020-01-01,endowment,0,3,1000.00,400.00",
-            (1, 1),
-        ),
-        (
-            "\u{feff}1,issue,7001,2020-01-01,endowment,0,3,1000.00,400.00",
-            (1, 1),
-        ),
-        ("\r", (1, 1)),
-        (
-            "1,Issue,7001,2020-01-01,endowment,0,3,1000.00,400.00",
-            (1, 2),
-        ),
-        ("1", (1, 2)),
-        ("1,issue", (1, 3)),
-        (
-            "1,issue,07001,2020-01-01,endowment,0,3,1000.00,400.00",
-            (1, 3),
-        ),
-        ("1,issue,+1,2020-01-01,endowment,0,3,1000.00,400.00", (1, 3)),
-        (
-            "1,issue,4294967296,2020-01-01,endowment,0,3,1000.00,400.00",
-            (1, 3),
-        ),
-        (
-            "1,issue,7001,2021-02-29,endowment,0,3,1000.00,400.00",
-            (1, 4),
-        ),
-        (
-            "1,issue,7001,2021-02-30,endowment,0,3,1000.00,400.00",
-            (1, 4),
-        ),
-        (
-            "1,issue,7001,1899-12-31,endowment,0,3,1000.00,400.00",
-            (1, 4),
-        ),
-        (
-            "1,issue,7001,2200-01-01,endowment,0,3,1000.00,400.00",
-            (1, 4),
-        ),
-        (
-            "1,issue,7001,2020-1-01,endowment,0,3,1000.00,400.00",
-            (1, 4),
-        ),
-        ("1,issue,7001,2020-01-01,Term,0,3,1000.00,400.00", (1, 5)),
-        ("1,issue,7001,2020-01-01,life,0,3,1000.00,400.00", (1, 5)),
-        (
-            "1,issue,7001,2020-01-01,endowment,130,3,1000.00,400.00",
-            (1, 6),
-        ),
-        (
-            "1,issue,7001,2020-01-01,endowment,00,3,1000.00,400.00",
-            (1, 6),
-        ),
-        (
-            "1,issue,7001,2020-01-01,endowment,0,1,1000.00,400.00",
-            (1, 7),
-        ),
-        (
-            "1,issue,7001,2020-01-01,endowment,0,132,1000.00,400.00",
-            (1, 7),
-        ),
-        (
-            "1,issue,7001,2020-01-01,endowment,129,3,1000.00,400.00",
-            (1, 7),
-        ),
-        ("1,issue,7001,2020-01-01,whole,0,3,1000.00,400.00", (1, 7)),
-        ("1,issue,7001,2020-01-01,whole,0,00,1000.00,400.00", (1, 7)),
-        (
-            "1,issue,7001,2020-01-01,endowment,0,0,1000.00,400.00",
-            (1, 7),
-        ),
-        ("1,issue,7001,2020-01-01,endowment,0,3,0.00,400.00", (1, 8)),
-        ("1,issue,7001,2020-01-01,endowment,0,3,1000,400.00", (1, 8)),
-        (
-            "1,issue,7001,2020-01-01,endowment,0,3,100000000.01,400.00",
-            (1, 8),
-        ),
-        ("1,issue,7001,2020-01-01,endowment,0,3,01.00,400.00", (1, 8)),
-        ("1,issue,7001,2020-01-01,endowment,0,3,1000.00", (1, 9)),
-        (
-            "1,issue,7001,2020-01-01,endowment,0,3,1000.00,\"400.00\"",
-            (1, 9),
-        ),
-        (
-            "1,issue,7001,2020-01-01,endowment,0,3,1000.00,400.00\r\n1,issue,7001,2020-01-01,endowment,0,3,1000.00,400.00",
-            (1, 9),
-        ),
-        (
-            "1,issue,7001,2020-01-01,endowment,0,3,1000.00,400.0",
-            (1, 9),
-        ),
-        (
-            "1,issue,7001,2020-01-01,endowment,0,3,1000.00,400.00,",
-            (1, 10),
-        ),
-        (
-            "1,issue,7001,2020-01-01,endowment,0,3,1000.00,400.00,0,0",
-            (1, 10),
-        ),
-        (
-            "1,issue,7001,2020-01-01,endowment,0,3,1000.00,400.00\n\n\n1,issue,x,y,endowment,0,3,1000.00,400.00",
-            (2, 3),
-        ),
-        (
-            "1,issue,7001,x,endowment,0,3,1000.00,400.00\n2,issue,7001,2020-01-01,endowment,0,3,1000.00,400.00",
-            (1, 4),
+            b"1,lapse,1,2020-01-01\n\xef\xbb\xbf1,lapse,1,2020-01-01",
+            (2, 1),
         ),
     ];
     for (script, want) in cases {
-        assert_eq!(rt; answer(rt.alloc(), script)?, want, "{script}");
+        assert!(rt; script.len() <= MOST_BYTES);
+        assert_eq!(rt; answer(rt.alloc(), script)?, want, "{script:?}");
     }
     Ok(())
 }
 
 #[test]
-fn a_line_is_read_as_it_is_written(rt: HostRuntime) -> Result<(), Fail> {
-    let script = read_script(
-        rt.alloc(),
-        b"1,issue,7001,2020-01-01,endowment,0,3,1000.00,400.00",
-    )?;
+fn lines_are_read_as_they_are_written(rt: HostRuntime) -> Result<(), Fail> {
+    let script = b"1,issue,7001,2020-01-01,endowment,0,3,1000.00,400.00
+1,premium,7001,2021-01-01,400.00
+1,alter,7001,2021-01-02,500.00,200.00
+1,lapse,7001,2022-02-02
+1,reinstate,7001,2022-03-01,400000000.00
+1,claim,7001,2022-12-31
+1,settle,7001,2023-01-15,0.01
+1,mature,4294967295,2199-12-31
+";
+    let id = 7001;
+    let want = [
+        Command::Issue {
+            id,
+            day: 18_262,
+            plan: Plan::Endowment,
+            age: 0,
+            years: 3,
+            amount: 100_000,
+            premium: 40_000,
+        },
+        Command::Premium {
+            id,
+            day: 18_628,
+            amount: 40_000,
+        },
+        Command::Alter {
+            id,
+            day: 18_629,
+            amount: 50_000,
+            premium: 20_000,
+        },
+        Command::Lapse { id, day: 19_025 },
+        Command::Reinstate {
+            id,
+            day: 19_052,
+            amount: 40_000_000_000,
+        },
+        Command::Claim { id, day: 19_357 },
+        Command::Settle {
+            id,
+            day: 19_372,
+            amount: 1,
+        },
+        Command::Mature {
+            id: 4_294_967_295,
+            day: 84_005,
+        },
+    ];
+    let script = read_script(rt.alloc(), script)?;
     let [lane] = script.as_slice() else {
         return Err("one lane")?;
     };
     assert_eq!(rt; lane.number, 1);
-    let [line] = lane.lines.as_slice() else {
-        return Err("one line")?;
-    };
-    let issue = Command::Issue {
-        id: 7001,
-        day: 18262,
-        plan: Plan::Endowment,
-        age: 0,
-        years: 3,
-        amount: 100_000,
-        premium: 40_000,
-    };
-    assert_eq!(rt; *line, Line::Post(issue));
+    let lines = lane.lines.as_slice();
+    assert_eq!(rt; lines.len(), want.len());
+    for i in 0..want.len() {
+        assert!(rt; i < lines.len());
+        assert_eq!(rt; lines[i], Line::Post(want[i]), "row {i}");
+    }
+    Ok(())
+}
+
+// So many bytes that begin with a front and go on with a piece, over and over, as far as it fits whole.
+fn long_script(alloc: Global, front: &[u8], piece: &[u8]) -> Result<Vec<u8>, Fail> {
+    let mut script = Vec::new(alloc);
+    script.extend_from_slice(front)?;
+    for _ in 0..MOST_BYTES {
+        if script.len() as u64 + piece.len() as u64 > MOST_BYTES as u64 {
+            break;
+        }
+        script.extend_from_slice(piece)?;
+    }
+    Ok(script)
+}
+
+// Scripts of 16 MiB take no worse than one pass, and are never refused for memory where there is enough.
+#[test]
+fn long_scripts(rt: HostRuntime) -> Result<(), Fail> {
+    let alloc = rt.alloc();
+    let cases: [(&str, &[u8], &[u8], (u64, u64)); 8] = [
+        (
+            "lines",
+            b"",
+            b"1,lapse,7001,2022-02-02\n",
+            (0, 16_777_216 / 24),
+        ),
+        (
+            "quoted lines",
+            b"",
+            b"\"1\",\"lapse\",\"7001\",\"2022-02-02\"\r\n",
+            (0, 16_777_216 / 33),
+        ),
+        (
+            "line feeds",
+            b"",
+            b"\n\n\n\n\n\n\n\n\n\n\n\n\n\n\n\n",
+            (0, 0),
+        ),
+        (
+            "commas",
+            b"1,lapse,1,2022-02-02",
+            b",,,,,,,,,,,,,,,,",
+            (1, 5),
+        ),
+        ("a long field", b"1,lapse,", b"9999999999999999", (1, 3)),
+        ("quotes", b"", b"\"\"\"\"\"\"\"\"\"\"\"\"\"\"\"\"", (1, 1)),
+        (
+            "a row cut inside quotes",
+            b"1,\"",
+            b"\n\n\n\n\n\n\n\n\n\n\n\n\n\n\n\n",
+            (1, 2),
+        ),
+        (
+            "empty rows, then a bad one",
+            b"\n\n\n\n\n\n\n\n1,lapse,1,2022-02-02\n",
+            b"\r\n\r\n\r\n\r\n\r\n\r\n\r\n1\n",
+            (2, 2),
+        ),
+    ];
+    for (name, front, piece, want) in cases {
+        let script = long_script(alloc, front, piece)?;
+        assert!(rt; script.len() <= MOST_BYTES);
+        assert_eq!(rt; answer(alloc, &script)?, want, "{name}");
+    }
     Ok(())
 }

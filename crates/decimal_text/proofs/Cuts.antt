@@ -5,7 +5,7 @@ use Rattle.std.specs.List.{prefix_len}
 use Rattle.std.proofs.lemmas.List.{append-nil}
 use Rattle.std.proofs.lemmas.Bool.Decides.{nat_tests}
 use Rattle.decimal_text.specs.Decimal.{AreDigits}
-use Rattle.decimal_text.specs.Splits.{SplitsDigits, StopsDigits}
+use Rattle.decimal_text.specs.inside.Splits.{SplitsDigits, StopsDigits}
 
 is_digit : (x : ℕ) → is_ascii_digit x ≡ true → IsAsciiDigit x
 is_digit x h = grind (arith, nat_tests)

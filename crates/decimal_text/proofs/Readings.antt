@@ -4,7 +4,7 @@ use Rattle.std.specs.Char.{is_ascii_digit}
 use Rattle.std.specs.List.{prefix_len}
 use Rattle.std.proofs.lemmas.Bool.{cases_eq}
 use Rattle.decimal_text.specs.Decimal.{AreDigits, number, Decimal, IsSigned, IsExponent, Spells, point, plus, minus}
-use Rattle.decimal_text.specs.Splits.{SplitsDigits, SplitsFraction, StopsDigits}
+use Rattle.decimal_text.specs.inside.Splits.{SplitsDigits, SplitsFraction, StopsDigits}
 use Rattle.decimal_text.proofs.Cuts.{cut_at_prefix, fronts, one_cut}
 
 -- what follows the digits of a decimal is no digit

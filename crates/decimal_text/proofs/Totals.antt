@@ -4,7 +4,7 @@ use Rattle.std.proofs.lemmas.List.{take_all, drop_all}
 use Rattle.std.proofs.lemmas.Bool.{cases_lt}
 use Rattle.decimal_text.specs.Decimal.{number, AreDigits, Decimal}
 use Rattle.decimal_text.specs.Rate.{numerator, denominator, IsValue, IsAboveOne, IsTooFine}
-use Rattle.decimal_text.specs.Places.{Counts}
+use Rattle.decimal_text.specs.inside.Places.{Counts}
 use Rattle.decimal_text.specs.declared.units.Units.{Units}
 use Rattle.decimal_text.proofs.Pushes.{counted}
 use Rattle.decimal_text.proofs.Measures.{Measures, measured, above_by_units, above_by_rest, value_is, at_most_one, no_multiple}

@@ -1,5 +1,3 @@
 pub mod Decimal
 pub mod Rate
-pub mod Splits
-pub mod Places
-pub mod Parts
+pub mod inside

@@ -2,7 +2,7 @@ ghost use Rattle.std.specs.Prelude.{◌≡◌, ◌<◌, ◌≤◌, length};
 ghost use Rattle.std.specs.Char.{is_ascii_digit};
 ghost use Rattle.std.specs.List.{prefix_len};
 ghost use Rattle.decimal_text.specs.Decimal.{AreDigits, number};
-ghost use Rattle.decimal_text.specs.Splits.{SplitsDigits};
+ghost use Rattle.decimal_text.specs.inside.Splits.{SplitsDigits};
 
 /// How many digits a text begins with.
 fn digits_len(text: &[u8]) -> usize

@@ -1,6 +1,6 @@
 ghost use Rattle.std.specs.Prelude.{◌≡◌, ℕ, ◌+◌, ◌<◌, ◌≤◌, ◌↔◌, length, IfOk};
 ghost use Rattle.decimal_text.specs.Decimal.{AreDigits, Decimal, Spells};
-ghost use Rattle.decimal_text.specs.Parts.{decimal_of};
+ghost use Rattle.decimal_text.specs.inside.Parts.{decimal_of};
 ghost use Rattle.decimal_text.specs.Rate.{Answers, IsAboveOne, IsTooFine, IsRate};
 
 use crate::fault::RateFault;

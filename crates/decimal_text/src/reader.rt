@@ -1,7 +1,7 @@
 ghost use Rattle.std.specs.Prelude.{◌≤◌, length, IfSome, IfNone};
 ghost use Rattle.decimal_text.specs.Decimal.{Decimal, Spells};
-ghost use Rattle.decimal_text.specs.Parts.{decimal_of};
-ghost use Rattle.decimal_text.specs.Splits.{SplitsFraction};
+ghost use Rattle.decimal_text.specs.inside.Parts.{decimal_of};
+ghost use Rattle.decimal_text.specs.inside.Splits.{SplitsFraction};
 
 use crate::digits::split_digits;
 use crate::exponent::power_of;

@@ -18,7 +18,7 @@ pub struct Units {
 }
 
 impl Units {
-    ghost use Rattle.decimal_text.specs.Places.{Counts};
+    ghost use Rattle.decimal_text.specs.inside.Places.{Counts};
 
     fn push(&mut self, digit: u8)
         requires { IsAsciiDigit digit }

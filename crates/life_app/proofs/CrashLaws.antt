@@ -6,9 +6,9 @@ use Rattle.policy_types.specs.declared.entry.Entry.{Entry}
 use Rattle.policy_machine.specs.History.{Opening, accepted_of, commands_after}
 use Rattle.posting_journal.specs.Runs.{IsSafe}
 use Rattle.life_app.specs.Crashes.{AreAllHeld, AreHeld, HasRun}
-use Rattle.life_app.specs.Images.{HoldsOnce, IsLeftAlone, IsOneMore}
-use Rattle.life_app.specs.Journals.{Opens}
-use Rattle.life_app.proofs.JournalLaws.{opens_to_one}
+use Rattle.office_state.specs.Images.{HoldsOnce, IsLeftAlone, IsOneMore}
+use Rattle.office_state.specs.Journals.{Opens}
+use Rattle.office_state.proofs.JournalLaws.{opens_to_one}
 
 -- a file that opens to the commands from before the run
 as_before : (opening : Opening) (history : List Entry) (image : List ℕ) → Opens image opening.commands → HoldsOnce opening history image
@@ -43,6 +43,12 @@ none_held [] rest (command ∷ []) front one = nothing one.1.0.before _ _ one.1.
     nothing (first ∷ before) entry after none = cc
 none_held [] rest (command ∷ other ∷ more) front one = absurd one
 none_held (command ∷ held) rest more front one = cc
+
+pub opens_as_begun : (opening : Opening) (image : List ℕ) → HoldsOnce opening [] image → Opens image opening.commands
+opens_as_begun opening image held =
+    let none = none_held held.held held.rest held.more held.front held.one in
+    subst (Opens image) (append_assoc opening.commands held.held held.more
+    ∙ ap (λ cs. opening.commands ++ cs) none ∙ append-nil opening.commands) held.opens
 
 pub next_commands : (opening : Opening) (history : List Entry) (image : List ℕ) (commands : List Command)
     → HoldsOnce opening history image → Opens image commands → AreHeld opening history commands
@@ -85,7 +91,5 @@ module _ {E : Type 0} (g : Ghosts E) (next last : E) (opening : Opening) (histor
   pub opened_again : (second : Opening) → HasRun g next last second [] → (image : List ℕ)
       → g.left_since last (g.clock next) image → HoldsOnce opening history image
   opened_again second ran image left =
-      let held = during g next last second [] ran image left in
-      let none = none_held held.held held.rest held.more held.front held.one in
       alike opening history (g.reads next) image second.commands holds ran.opens
-      (subst (Opens image) (append_assoc second.commands held.held held.more ∙ ap (λ cs. second.commands ++ cs) none ∙ append-nil second.commands) held.opens)
+      (opens_as_begun second image (during g next last second [] ran image left))

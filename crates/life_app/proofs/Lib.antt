@@ -1,13 +1,11 @@
-pub mod JournalLaws
-pub mod PolicySteps
-pub mod ReplaySteps
-pub mod OpeningSteps
-pub mod OpenedSteps
-pub mod HistorySteps
-pub mod OfficeSteps
+pub mod RefusalSteps
 pub mod AnswerSteps
+pub mod FaultSteps
 pub mod TextSteps
 pub mod MergeSteps
+pub mod CrashLaws
 pub mod RunSteps
+pub mod LookSteps
+pub mod StateSteps
+pub mod ReadingSteps
 pub mod ProgramSteps
-mod CrashLaws

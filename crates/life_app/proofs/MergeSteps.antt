@@ -4,14 +4,16 @@ use Rattle.std.specs.List.{AllByRecursion, Contains, IsDistinct, enumerate_from,
 use Rattle.std.proofs.lemmas.Bool.{cond-true, eq-eqb}
 use Rattle.policy_types.specs.declared.command.Command.{Command}
 use Rattle.policy_types.specs.declared.entry.Entry.{Entry}
-use Rattle.life_app.specs.Images.{HasFaulted}
+use Rattle.office_state.specs.Images.{HasFaulted}
 use Rattle.policy_types.specs.declared.script.Line.{Line}
 use Rattle.policy_types.specs.declared.script.Line.TheVariants.{Post as PostLine, Value, Trim}
+use Rattle.policy_types.specs.declared.script.Lane.{Lane}
 use Rattle.policy_machine.specs.Merge.{AnswersLine, AnswersLines, Placed, IsMerge}
-use Rattle.command_csv.specs.Reads.{IsIssueLine, lane_of}
-use Rattle.life_app.specs.declared.office.Answer.{Answer}
-use Rattle.life_app.specs.declared.office.Answer.TheVariants.{Accepted as AcceptedAt, Taken as IsTaken, Full as IsFull, Faulted as FaultedAt}
-use Rattle.life_app.specs.inside.Books.{is_faulted, reply_of, turn_of, turns_made}
+use Rattle.command_csv.specs.Reads.{IsScriptLine, lane_of}
+use Rattle.office_state.specs.declared.answer.Answer.{Answer}
+use Rattle.office_state.specs.declared.answer.Answer.TheVariants.{Accepted, Refused, DiskFault, NoMemory}
+use Rattle.office_state.specs.Posting.{reply_of}
+use Rattle.life_app.specs.inside.Turns.{IsTold, is_faulted, line_turn, turns_made}
 use Rattle.life_app.specs.Outcome.{AreAnswered, AreTried, IsAnswered, IsTried}
 use Rattle.life_app.specs.AnsweredLines.{AnsweredLine, AreLinesOf, AreRising, lines_by, turns_in}
 use Rattle.life_app.specs.inside.Parts.{lines_text}
@@ -21,10 +23,10 @@ or_none : (a b : Bool) → (a || b) ≡ false → (a ≡ false) × (b ≡ false)
 or_none true b none = absurd (cc)
 or_none false b none = (refl, none)
 
-caller_of-turn_of : (caller : ℕ) (line : Line) (answer : Answer) → (turn_of caller line answer).caller ≡ caller
-caller_of-turn_of caller (PostLine command) answer = refl
-caller_of-turn_of caller (Value on at workers) answer = refl
-caller_of-turn_of caller Trim answer = refl
+caller_of-line_turn : (caller : ℕ) (line : Line) (answer : Answer) → (line_turn caller line answer).caller ≡ caller
+caller_of-line_turn caller (PostLine command) answer = refl
+caller_of-line_turn caller (Value on at workers) answer = refl
+caller_of-line_turn caller Trim answer = refl
 
 -- every turn is the clerk's
 abbrev pub AreTheirs : ℕ → List Entry → Type 0
@@ -33,7 +35,7 @@ AreTheirs caller history = AllByRecursion (λ (entry : Entry). entry.caller ≡ 
 are_theirs : (caller : ℕ) (lines : List Line) (answers : List Answer) → AreTheirs caller (turns_made caller lines answers)
 are_theirs caller [] answers = tt
 are_theirs caller (line ∷ lines) [] = tt
-are_theirs caller (line ∷ lines) (answer ∷ answers) = (caller_of-turn_of caller line answer, are_theirs caller lines answers)
+are_theirs caller (line ∷ lines) (answer ∷ answers) = (caller_of-line_turn caller line answer, are_theirs caller lines answers)
 
 -- so all of them are the clerk's turns
 all_turns : (caller n : ℕ) (history : List Entry) → AreTheirs caller history
@@ -49,53 +51,53 @@ contained caller [] theirs = tt
 contained caller (entry ∷ history) theirs = ((0, lit< tt, sym theirs.0), contained caller history theirs.1)
 
 -- and answer its lines
-answered_lines : (caller n : ℕ) (lines : List Line) (answers : List Answer) → AllByRecursion IsIssueLine lines
+answered_lines : (caller n : ℕ) (lines : List Line) (answers : List Answer) → AllByRecursion IsScriptLine lines
     → length answers ≡ length lines → AnswersLines [] lines (enumerate_from n (turns_made caller lines answers))
-answered_lines caller n [] answers issues each = refl
-answered_lines caller n (line ∷ lines) [] issues each = absurd (omega arith)
-answered_lines caller n (PostLine command ∷ lines) (answer ∷ answers) issues each = (
-  (n, turn_of caller (PostLine command) answer) ∷ [],
+answered_lines caller n [] answers right each = refl
+answered_lines caller n (line ∷ lines) [] right each = absurd (omega arith)
+answered_lines caller n (PostLine command ∷ lines) (answer ∷ answers) right each = (
+  (n, line_turn caller (PostLine command) answer) ∷ [],
   (
     enumerate_from (n + 1) (turns_made caller lines answers),
     refl,
     refl,
-    answered_lines caller (n + 1) lines answers issues.1 (omega arith),
+    answered_lines caller (n + 1) lines answers right.1 (omega arith),
   ),
 )
-answered_lines caller n (Value on at workers ∷ lines) (answer ∷ answers) issues each = absurd issues.0
-answered_lines caller n (Trim ∷ lines) (answer ∷ answers) issues each = absurd issues.0
+answered_lines caller n (Value on at workers ∷ lines) (answer ∷ answers) right each = absurd right.0
+answered_lines caller n (Trim ∷ lines) (answer ∷ answers) right each = absurd right.0
 
 -- where the disk failed in none of them, each is accepted or refused
-is_answered : (answer : Answer) → is_faulted answer ≡ false → IsAnswered (reply_of answer)
-is_answered (AcceptedAt position) whole = tt
-is_answered IsTaken whole = tt
-is_answered IsFull whole = tt
-is_answered (FaultedAt count) whole = absurd (cc)
+is_answered : (answer : Answer) → IsTold answer → is_faulted answer ≡ false → IsAnswered (reply_of answer)
+is_answered (Accepted position) told whole = tt
+is_answered (Refused refusal) told whole = tt
+is_answered (DiskFault count) told whole = absurd (cc)
+is_answered NoMemory told whole = absurd told
 
-is_tried : (answer : Answer) → IsTried (reply_of answer)
-is_tried (AcceptedAt position) = tt
-is_tried IsTaken = tt
-is_tried IsFull = tt
-is_tried (FaultedAt count) = tt
+is_tried : (answer : Answer) → IsTold answer → IsTried (reply_of answer)
+is_tried (Accepted position) told = tt
+is_tried (Refused refusal) told = tt
+is_tried (DiskFault count) told = tt
+is_tried NoMemory told = told
 
-pub all_answered : (caller : ℕ) (lines : List Line) (answers : List Answer) → AllByRecursion IsIssueLine lines
-    → list_any is_faulted answers ≡ false → AreAnswered (turns_made caller lines answers)
-all_answered caller [] answers issues whole = tt
-all_answered caller (line ∷ lines) [] issues whole = tt
-all_answered caller (PostLine command ∷ lines) (answer ∷ answers) issues whole =
+pub all_answered : (caller : ℕ) (lines : List Line) (answers : List Answer) → AllByRecursion IsScriptLine lines
+    → AllByRecursion IsTold answers → list_any is_faulted answers ≡ false → AreAnswered (turns_made caller lines answers)
+all_answered caller [] answers right told whole = tt
+all_answered caller (line ∷ lines) [] right told whole = tt
+all_answered caller (PostLine command ∷ lines) (answer ∷ answers) right told whole =
     let both = or_none (is_faulted answer) (list_any is_faulted answers) whole in
-    (is_answered answer both.0, all_answered caller lines answers issues.1 both.1)
-all_answered caller (Value on at workers ∷ lines) (answer ∷ answers) issues whole = absurd issues.0
-all_answered caller (Trim ∷ lines) (answer ∷ answers) issues whole = absurd issues.0
+    (is_answered answer told.0 both.0, all_answered caller lines answers right.1 told.1 both.1)
+all_answered caller (Value on at workers ∷ lines) (answer ∷ answers) right told whole = absurd right.0
+all_answered caller (Trim ∷ lines) (answer ∷ answers) right told whole = absurd right.0
 
-pub all_tried : (caller : ℕ) (lines : List Line) (answers : List Answer) → AllByRecursion IsIssueLine lines
-    → AreTried (turns_made caller lines answers)
-all_tried caller [] answers issues = tt
-all_tried caller (line ∷ lines) [] issues = tt
-all_tried caller (PostLine command ∷ lines) (answer ∷ answers) issues =
-    (is_tried answer, all_tried caller lines answers issues.1)
-all_tried caller (Value on at workers ∷ lines) (answer ∷ answers) issues = absurd issues.0
-all_tried caller (Trim ∷ lines) (answer ∷ answers) issues = absurd issues.0
+pub all_tried : (caller : ℕ) (lines : List Line) (answers : List Answer) → AllByRecursion IsScriptLine lines
+    → AllByRecursion IsTold answers → AreTried (turns_made caller lines answers)
+all_tried caller [] answers right told = tt
+all_tried caller (line ∷ lines) [] right told = tt
+all_tried caller (PostLine command ∷ lines) (answer ∷ answers) right told =
+    (is_tried answer told.0, all_tried caller lines answers right.1 told.1)
+all_tried caller (Value on at workers ∷ lines) (answer ∷ answers) right told = absurd right.0
+all_tried caller (Trim ∷ lines) (answer ∷ answers) right told = absurd right.0
 
 -- and where it did in one, a posting of the history faulted
 abbrev SomeFaulted : List Entry → Type 0
@@ -115,46 +117,46 @@ later_fault entry history fault = (
   ),
 )
 
-pub has_a_fault : (caller : ℕ) (lines : List Line) (answers : List Answer) → AllByRecursion IsIssueLine lines
+pub has_a_fault : (caller : ℕ) (lines : List Line) (answers : List Answer) → AllByRecursion IsScriptLine lines
     → length answers ≡ length lines → list_any is_faulted answers ≡ true → SomeFaulted (turns_made caller lines answers)
-has_a_fault caller lines [] issues each some = absurd (cc)
-has_a_fault caller [] (answer ∷ answers) issues each some = absurd (omega arith)
-has_a_fault caller (PostLine command ∷ lines) (FaultedAt count ∷ answers) issues each some =
+has_a_fault caller lines [] right each some = absurd (cc)
+has_a_fault caller [] (answer ∷ answers) right each some = absurd (omega arith)
+has_a_fault caller (PostLine command ∷ lines) (DiskFault count ∷ answers) right each some =
     (command, (turns_made caller lines answers, record { before = []; caller = caller; count = count; turns = refl }))
-has_a_fault caller (PostLine command ∷ lines) (AcceptedAt position ∷ answers) issues each some =
-    later_fault (turn_of caller (PostLine command) (AcceptedAt position)) (turns_made caller lines answers)
-    (has_a_fault caller lines answers issues.1 (omega (arith, each)) some)
-has_a_fault caller (PostLine command ∷ lines) (IsTaken ∷ answers) issues each some =
-    later_fault (turn_of caller (PostLine command) IsTaken) (turns_made caller lines answers)
-    (has_a_fault caller lines answers issues.1 (omega (arith, each)) some)
-has_a_fault caller (PostLine command ∷ lines) (IsFull ∷ answers) issues each some =
-    later_fault (turn_of caller (PostLine command) IsFull) (turns_made caller lines answers)
-    (has_a_fault caller lines answers issues.1 (omega (arith, each)) some)
-has_a_fault caller (Value on at workers ∷ lines) (answer ∷ answers) issues each some = absurd issues.0
-has_a_fault caller (Trim ∷ lines) (answer ∷ answers) issues each some = absurd issues.0
+has_a_fault caller (PostLine command ∷ lines) (Accepted position ∷ answers) right each some =
+    later_fault (line_turn caller (PostLine command) (Accepted position)) (turns_made caller lines answers)
+    (has_a_fault caller lines answers right.1 (omega (arith, each)) some)
+has_a_fault caller (PostLine command ∷ lines) (Refused refusal ∷ answers) right each some =
+    later_fault (line_turn caller (PostLine command) (Refused refusal)) (turns_made caller lines answers)
+    (has_a_fault caller lines answers right.1 (omega (arith, each)) some)
+has_a_fault caller (PostLine command ∷ lines) (NoMemory ∷ answers) right each some =
+    later_fault (line_turn caller (PostLine command) NoMemory) (turns_made caller lines answers)
+    (has_a_fault caller lines answers right.1 (omega (arith, each)) some)
+has_a_fault caller (Value on at workers ∷ lines) (answer ∷ answers) right each some = absurd right.0
+has_a_fault caller (Trim ∷ lines) (answer ∷ answers) right each some = absurd right.0
 
 -- the callers of the lanes: clerk 1 alone, where there is a line
 abbrev pub callers_of : List Line → List ℕ
 callers_of [] = []
 callers_of (line ∷ lines) = 1 ∷ []
 
-pub is_merge : (lines : List Line) (answers : List Answer) → AllByRecursion IsIssueLine lines
+pub is_merge : (lines : List Line) (answers : List Answer) → AllByRecursion IsScriptLine lines
     → length answers ≡ length lines → IsMerge (turns_made 1 lines answers) (lane_of 1 lines) (callers_of lines) []
 unfolding IsDistinct
-is_merge [] answers issues each = record { distinct = tt; theirs = tt; answers = tt }
-is_merge (line ∷ lines) answers issues each =
+is_merge [] answers right each = record { distinct = tt; theirs = tt; answers = tt }
+is_merge (line ∷ lines) answers right each =
     let history = turns_made 1 (line ∷ lines) answers in
     let theirs = are_theirs 1 (line ∷ lines) answers in
     record {
       distinct = (tt, tt);
       theirs = contained 1 history theirs;
-      answers = (rw (all_turns 1 0 history theirs) (answered_lines 1 0 (line ∷ lines) answers issues each), tt);
+      answers = (rw (all_turns 1 0 history theirs) (answered_lines 1 0 (line ∷ lines) answers right each), tt);
     }
 
 -- the lines beside their answers, one turn each, from a place on
 abbrev pub answered_from : ℕ → List Line → List Answer → List AnsweredLine
 answered_from n (line ∷ lines) (answer ∷ answers) =
-    (record { clerk = 1; line = line; first = (n, turn_of 1 line answer); rest = [] }) ∷ answered_from (n + 1) lines answers
+    (record { clerk = 1; line = line; first = (n, line_turn 1 line answer); rest = [] }) ∷ answered_from (n + 1) lines answers
 answered_from n _ _ = []
 
 are_rising : (n : ℕ) (lines : List Line) (answers : List Answer)
@@ -172,20 +174,20 @@ are_clerks n [] answers = tt
 are_clerks n (line ∷ lines) [] = tt
 are_clerks n (line ∷ lines) (answer ∷ answers) = ((0, lit< tt, refl), are_clerks (n + 1) lines answers)
 
-are_turns : (n : ℕ) (lines : List Line) (answers : List Answer) → AllByRecursion IsIssueLine lines
+are_turns : (n : ℕ) (lines : List Line) (answers : List Answer) → AllByRecursion IsScriptLine lines
     → AllByRecursion (λ (one : AnsweredLine). AnswersLine [] one.line (turns_in one)) (answered_from n lines answers)
-are_turns n [] answers issues = tt
-are_turns n (line ∷ lines) [] issues = tt
-are_turns n (PostLine command ∷ lines) (answer ∷ answers) issues = (refl, are_turns (n + 1) lines answers issues.1)
-are_turns n (Value on at workers ∷ lines) (answer ∷ answers) issues = absurd issues.0
-are_turns n (Trim ∷ lines) (answer ∷ answers) issues = absurd issues.0
+are_turns n [] answers right = tt
+are_turns n (line ∷ lines) [] right = tt
+are_turns n (PostLine command ∷ lines) (answer ∷ answers) right = (refl, are_turns (n + 1) lines answers right.1)
+are_turns n (Value on at workers ∷ lines) (answer ∷ answers) right = absurd right.0
+are_turns n (Trim ∷ lines) (answer ∷ answers) right = absurd right.0
 
 -- all of them are clerk 1's
 all_by : (n : ℕ) (lines : List Line) (answers : List Answer)
     → lines_by 1 (answered_from n lines answers) ≡ answered_from n lines answers
 all_by n [] answers = refl
 all_by n (line ∷ lines) [] = refl
-all_by n (line ∷ lines) (answer ∷ answers) = ap (λ later. (record { clerk = 1; line = line; first = (n, turn_of 1 line answer); rest = [] }) ∷ later) (all_by (n + 1) lines answers)
+all_by n (line ∷ lines) (answer ∷ answers) = ap (λ later. (record { clerk = 1; line = line; first = (n, line_turn 1 line answer); rest = [] }) ∷ later) (all_by (n + 1) lines answers)
 
 all_lines : (n : ℕ) (lines : List Line) (answers : List Answer) → length answers ≡ length lines
     → map (λ (one : AnsweredLine). one.line) (answered_from n lines answers) ≡ lines
@@ -197,19 +199,19 @@ all_theirs : (n : ℕ) (lines : List Line) (answers : List Answer)
     → flat_map turns_in (answered_from n lines answers) ≡ enumerate_from n (turns_made 1 lines answers)
 all_theirs n [] answers = refl
 all_theirs n (line ∷ lines) [] = refl
-all_theirs n (line ∷ lines) (answer ∷ answers) = ap (λ later. (n, turn_of 1 line answer) ∷ later) (all_theirs (n + 1) lines answers)
+all_theirs n (line ∷ lines) (answer ∷ answers) = ap (λ later. (n, line_turn 1 line answer) ∷ later) (all_theirs (n + 1) lines answers)
 
 -- they are the lines of the run
-pub are_lines_of : (lines : List Line) (answers : List Answer) → AllByRecursion IsIssueLine lines
+pub are_lines_of : (lines : List Line) (answers : List Answer) → AllByRecursion IsScriptLine lines
     → length answers ≡ length lines
     → AreLinesOf (answered_from 0 lines answers) (turns_made 1 lines answers) (lane_of 1 lines) (callers_of lines) []
-are_lines_of [] answers issues each = record { rising = tt; clerks = tt; turns = tt; each = tt }
-are_lines_of (line ∷ lines) answers issues each =
+are_lines_of [] answers right each = record { rising = tt; clerks = tt; turns = tt; each = tt }
+are_lines_of (line ∷ lines) answers right each =
     let history = turns_made 1 (line ∷ lines) answers in
     record {
       rising = are_rising 0 (line ∷ lines) answers;
       clerks = are_clerks 0 (line ∷ lines) answers;
-      turns = are_turns 0 (line ∷ lines) answers issues;
+      turns = are_turns 0 (line ∷ lines) answers right;
       each = (
         ap (map (λ (one : AnsweredLine). one.line)) (all_by 0 (line ∷ lines) answers) ∙ all_lines 0 (line ∷ lines) answers each,
         ap (flat_map turns_in) (all_by 0 (line ∷ lines) answers) ∙ all_theirs 0 (line ∷ lines) answers
@@ -219,11 +221,11 @@ are_lines_of (line ∷ lines) answers issues each =
     }
 
 -- and the transcript is their text
-pub text_of_lines : (n : ℕ) (lines : List Line) (answers : List Answer) → AllByRecursion IsIssueLine lines
+pub text_of_lines : (n : ℕ) (lines : List Line) (answers : List Answer) → AllByRecursion IsScriptLine lines
     → transcript_text (answered_from n lines answers) ≡ lines_text 1 lines answers
-text_of_lines n [] answers issues = refl
-text_of_lines n (line ∷ lines) [] issues = refl
-text_of_lines n (PostLine command ∷ lines) (answer ∷ answers) issues =
-    ap (λ later. line_text 1 (PostLine command) (reply_of answer) ++ later) (text_of_lines (n + 1) lines answers issues.1)
-text_of_lines n (Value on at workers ∷ lines) (answer ∷ answers) issues = absurd issues.0
-text_of_lines n (Trim ∷ lines) (answer ∷ answers) issues = absurd issues.0
+text_of_lines n [] answers right = refl
+text_of_lines n (line ∷ lines) [] right = refl
+text_of_lines n (PostLine command ∷ lines) (answer ∷ answers) right =
+    ap (λ later. line_text 1 (PostLine command) (reply_of answer) ++ later) (text_of_lines (n + 1) lines answers right.1)
+text_of_lines n (Value on at workers ∷ lines) (answer ∷ answers) right = absurd right.0
+text_of_lines n (Trim ∷ lines) (answer ∷ answers) right = absurd right.0

@@ -1,42 +1,42 @@
 -- How a run ends, by what its parts did
-use Rattle.std.proofs.Common.{◌≡◌, ℕ, ◌≤◌, ◌<◌, Bool, true, false, List, [], ◌∷◌, ◌++◌, length, refl, sym, subst, inl, inr, Option, Some, None, append-nil}
+use Rattle.std.proofs.Common.{◌≡◌, ℕ, ◌≤◌, ◌<◌, Bool, true, false, List, [], ◌∷◌, ◌++◌, length, refl, sym, subst, ap, ◌∙◌, inl, inr, Option, Some, None, append-nil}
 use Rattle.std.specs.Prelude.{IfSome, if◌then◌else◌}
-use Rattle.std.specs.List.{list_any}
+use Rattle.std.specs.List.{AllByRecursion, list_any}
 use Rattle.std.specs.Io.KnownBytes.{Appends, IsAtEnd}
 use Rattle.std.proofs.lemmas.List.Elements.{recursion_from_All}
 use Rattle.outside_io.specs.Faults.{Rose}
+use Rattle.outside_io.specs.Streams.{AppendsPart}
 use Rattle.outside_io.specs.declared.disks.Disk.{Ghosts}
+use Rattle.policy_types.specs.declared.command.Command.{Command}
 use Rattle.policy_types.specs.declared.script.Line.{Line}
 use Rattle.policy_types.specs.declared.script.Lane.{Lane}
 use Rattle.policy_types.specs.declared.entry.Entry.{Entry}
-use Rattle.policy_machine.specs.History.{Opening, commands_after, opened_on}
-use Rattle.posting_journal.specs.Files.{IsJournal}
-use Rattle.posting_journal.specs.States.{IsKept, disk_of, is_clean}
-use Rattle.posting_journal.proofs.Written.{staged_either}
-use Rattle.outside_io.specs.Streams.{AppendsPart}
-use Rattle.command_csv.specs.Reads.{IsIssueLine, IsFirstFault, Reads, lane_of}
+use Rattle.policy_machine.specs.History.{Opening, opened_on}
+use Rattle.posting_journal.specs.Creation.{IsUnfinished}
+use Rattle.posting_journal.specs.Runs.{LooksOn}
+use Rattle.command_csv.specs.Reads.{IsScriptLine, IsFirstFault, Reads, lane_of}
 use Rattle.command_csv.proofs.Faults.{one_lane}
-use Rattle.life_app.specs.declared.office.Answer.{Answer}
+use Rattle.office_state.specs.declared.answer.Answer.{Answer}
+use Rattle.office_state.specs.declared.faults.StartCause.{StartCause}
+use Rattle.office_state.specs.declared.faults.StartCause.TheVariants.{DiskFault as FaultyDisk, NotAJournal, BadRecord, NoMemory as NoRoom}
+use Rattle.office_state.specs.declared.state.OfficeState.{OfficeState}
+use Rattle.office_state.specs.Images.{HoldsOnce, IsLeftAlone, IsLeftBy}
+use Rattle.office_state.specs.Journals.{Opens}
+use Rattle.office_state.specs.Opening.{HasNotOpened, HasOpened}
+use Rattle.office_state.specs.States.{Opened, begun_of, disk_of, opened_of, opening_of}
 use Rattle.life_app.specs.declared.ending.Ending.{Ending}
 use Rattle.life_app.specs.declared.ending.Ending.TheVariants.{Done, Usage, BadScript, BadJournal, ReadFault as InputFault, WriteFault, DiskFault, NoMemory}
 use Rattle.life_app.specs.declared.intake.Unread.{Unread}
 use Rattle.life_app.specs.declared.intake.Unread.TheVariants.{TooLong, BadRow, ReadFault, NoMemory as OutOfMemory}
-use Rattle.life_app.specs.declared.office.Office.{Office}
-use Rattle.life_app.specs.inside.Books.{AreLanes, GoesOn, StandsAfter, is_faulted, turns_made}
-use Rattle.life_app.specs.Images.{HoldsNow, HoldsOnce, IsLeftBy}
-use Rattle.life_app.specs.Journals.{bodies_of}
-use Rattle.life_app.specs.declared.opening.Cause.{Cause}
-use Rattle.life_app.specs.declared.opening.Cause.TheVariants.{DiskFault as FaultyDisk, NotAJournal, BadRecord, NoMemory as NoRoom}
-use Rattle.life_app.specs.inside.Opening.{HasNotOpened, HasOpened}
 use Rattle.life_app.specs.Obeys.{EndsRun}
 use Rattle.life_app.specs.Outcome.{AreTried, AreAnswered, EndsScript, HaveAFault, IsRunOf}
 use Rattle.life_app.specs.Script.{EndsUnread, IsReadAs, IsRefused, most_script_bytes}
-use Rattle.life_app.specs.inside.Parts.{AnswersAll, EndsLines, SaysUnopened, SaysUnread, lines_text}
 use Rattle.life_app.specs.Writing.{Stream, WroteAll, WroteNothing}
+use Rattle.life_app.specs.inside.Parts.{AnswersAll, AreLanes, EndsLines, EndsOffice, SaysUnopened, SaysUnread, lines_text}
+use Rattle.life_app.specs.inside.Turns.{IsTold, is_faulted, turns_made}
+use Rattle.life_app.proofs.CrashLaws.{opens_as_begun}
+use Rattle.life_app.proofs.FaultSteps.{rose_in}
 use Rattle.life_app.proofs.MergeSteps.{all_answered, all_tried, answered_from, are_lines_of, callers_of, has_a_fault, is_merge, text_of_lines}
-use Rattle.life_app.proofs.HistorySteps.{rose_in}
-use Rattle.life_app.proofs.OpeningSteps.{synced_before}
-use Rattle.life_app.proofs.OfficeSteps.{journal_of, journal_of_more}
 
 -- an output that isn't touched had nothing written to it
 pub nothing_written : (told : Option (List ℕ)) → Appends told told []
@@ -61,111 +61,111 @@ pub are_lanes : (lanes : List Lane) (shown : List Line) → (bytes : List ℕ) �
 are_lanes lanes shown read same =
     let one = one_lane read.0 lanes read.1 in
     let shown_is : shown ≡ one.0 = same one.0 one.1 in
-    record { one = rw shown_is one.1; issues = rw shown_is one.2 }
+    record { one = rw shown_is one.1; right = rw shown_is one.2 }
 
-module _ {D : Type 0} {g : Ghosts D} where
-  -- what a crash now leaves, of a journal that holds the commands of a history
-  holds_now : (office : Office D g) (opening : Opening) (history : List Entry) → StandsAfter office opening history
-      → g.honest (disk_of office.journal) → (image : List ℕ) → g.may_leave (disk_of office.journal) image → HoldsNow opening history image
-  holds_now office opening history stands honest image left =
-      let holds = stands.journal honest in
-      by (is_clean office.journal) refl (holds.stands.images image left)
-    where
-      by : (clean : Bool) → is_clean office.journal ≡ clean
-          → IsKept clean (bodies_of (commands_after opening history)) (stands.journal honest).last image → HoldsNow opening history image
-      by true is kept = inl (journal_of image (commands_after opening history) stands.keeps.recordable stands.keeps.accepted kept)
-      by false is kept =
-          let commands = commands_after opening history in
-          let pending = (stands.journal honest).pending is in
-          elim (staged_either (bodies_of commands) (stands.journal honest).last image kept) [
-            | inl old ↦ inl (journal_of image commands stands.keeps.recordable stands.keeps.accepted old)
-            | inr more ↦ inr (
-              pending.0,
-              pending.1,
-              journal_of_more image commands pending.0 stands.keeps.recordable pending.3 pending.4
-                  (subst (λ body. IsJournal image (bodies_of commands ++ body ∷ [])) pending.2 more),
-            )
-          ]
+-- an office that was opened and made no turn leaves the disk alone
+pub left_alone : {D : Type 0} (g : Ghosts D) (old new : D) (commands : List Command) → (g.honest old → Opens (g.reads old) commands)
+    → (g.honest old → ¬ IsUnfinished (g.reads old) → LooksOn g old new) → IsLeftBy g old new (opened_on commands (g.faults old)) []
+    → IsLeftAlone g old new
+left_alone g old new commands opened unwritten left = record {
+  honesty = left.honesty;
+  unwritten = unwritten;
+  since = λ honest image was. elim (left.since honest image was) [
+    | inl before ↦ inl before
+    | inr held ↦ inr (commands, opened honest, opens_as_begun (opened_on commands (g.faults old)) image held)
+  ];
+  synced = λ honest.
+      let mid = left.synced honest in
+      inr (mid.0, mid.1, λ image was. inr (commands, opened honest, opens_as_begun (opened_on commands (g.faults old)) image (mid.2 image was)));
+}
 
-  -- the disk that a run leaves
-  pub is_left_by : (old disk : D) (office last : Office D g) (opening : Opening) (history : List Entry) (opened : HasOpened old office)
-      → opening ≡ opened_on opened.commands (g.faults old) → GoesOn office last opening [] history → disk ≡ disk_of last.journal
-      → IsLeftBy g old disk opening history
-  is_left_by old disk office last opening history opened is went left =
-      let begun = λ (image : List ℕ) (held : HoldsOnce (opened_on opened.commands (g.faults old)) [] image).
-      went.longer image (subst (λ o. HoldsOnce o [] image) (sym is) held) in
-      let since = λ (moment : ℕ) (image : List ℕ) (honest : g.honest old).
-      went.since moment image (opened.honesty.0 honest) in
-      subst (λ d. IsLeftBy g old d opening history) (sym left)
-      (record {
-        honesty = (λ honest. went.honesty.0 (opened.honesty.0 honest), λ honest. opened.honesty.1 (went.honesty.1 honest));
-        faults = went.stands.faults;
-        now = λ honest. holds_now last opening history went.stands (went.honesty.0 (opened.honesty.0 honest));
-        since = λ honest image left. elim (since (g.clock old) image honest (opened.later honest) left) [
-          | inl earlier ↦ elim (opened.since honest image earlier) [ inl before ↦ inl before | inr held ↦ inr (begun image held) ]
-          | inr held ↦ inr held
-        ];
-        synced = λ honest.
-            let mid = opened.synced honest in (
-              mid.0,
-              synced_before g old mid.0 (disk_of office.journal) (disk_of last.journal) mid.1 (went.later (opened.honesty.0 honest)),
-              λ image left. elim (since (g.clock mid.0) image honest mid.1.passed left) [
-                | inl earlier ↦ begun image (mid.2 image earlier)
-                | inr held ↦ held
-              ],
-            );
-      })
+module _ {D : Type 0} (g : Ghosts D) (old disk : D) (lanes : List Lane) (lines : List Line) (output : Stream)
+    (commands : List Command) (opened : g.honest old → Opens (g.reads old) commands) (are : AreLanes lanes lines) where
+  right : AllByRecursion IsScriptLine lines
+  right = recursion_from_All IsScriptLine lines are.right
 
   -- the answers make a run, of which this was written
-  run_of : (old disk : D) (office : Office D g) (lanes : List Lane) (lines : List Line) (output : Stream) (ending : Ending)
-      (Wrote : List ℕ → Type 0) (Replies : List Entry → Type 0) (opened : HasOpened old office) → AreLanes lanes lines
-      → (ran : AnswersAll office disk (opened_on opened.commands (g.faults old)) lines output ending)
+  run_of : (ending : Ending) (Wrote : List ℕ → Type 0) (Replies : List Entry → Type 0)
+      (ran : AnswersAll g old disk (opened_on commands (g.faults old)) lines output ending)
       → Wrote (lines_text 1 lines ran.answers) → Replies (turns_made 1 lines ran.answers) → IsRunOf g old disk lanes Wrote Replies
-  run_of old disk office lanes lines output ending Wrote Replies opened are ran wrote replies =
-      let issues = recursion_from_All IsIssueLine lines are.issues in
+  run_of ending Wrote Replies ran wrote replies =
       subst (λ (ls : List Lane). IsRunOf g old disk ls Wrote Replies) (sym are.one)
       (record {
-        commands = opened.commands;
+        commands = commands;
         callers = callers_of lines;
         dry = [];
         history = turns_made 1 lines ran.answers;
         answered = answered_from 0 lines ran.answers;
-        opened = opened.opened;
-        merge = is_merge lines ran.answers issues ran.each;
-        legal = ran.went.stands.legal;
-        lines = are_lines_of lines ran.answers issues ran.each;
-        wrote = subst Wrote (sym (text_of_lines 0 lines ran.answers issues)) wrote;
+        opened = opened;
+        merge = is_merge lines ran.answers right ran.each;
+        legal = ran.legal;
+        lines = are_lines_of lines ran.answers right ran.each;
+        wrote = subst Wrote (sym (text_of_lines 0 lines ran.answers right)) wrote;
         replies = replies;
-        disk = is_left_by old disk office ran.last (opened_on opened.commands (g.faults old)) (turns_made 1 lines ran.answers) opened refl ran.went ran.left;
+        disk = ran.left;
       })
 
   -- so a run whose lines were answered ends as its script's run does
-  pub ends_run : (old disk : D) (office : Office D g) (lanes : List Lane) (lines : List Line) (output : Stream) (ending : Ending)
-      (opened : HasOpened old office) → AreLanes lanes lines
-      → AnswersAll office disk (opened_on opened.commands (g.faults old)) lines output ending → EndsScript g old disk lanes output ending
-  ends_run old disk office lanes lines output Done opened are ran =
-      run_of old disk office lanes lines output Done (WroteAll output) AreAnswered opened are ran ran.ends.1
-      (all_answered 1 lines ran.answers (recursion_from_All IsIssueLine lines are.issues) ran.ends.0)
-  ends_run old disk office lanes lines output WriteFault opened are ran = (
+  ends_answered : (ending : Ending) → AnswersAll g old disk (opened_on commands (g.faults old)) lines output ending
+      → EndsScript g old disk lanes output ending
+  ends_answered Done ran =
+      run_of Done (WroteAll output) AreAnswered ran ran.ends.1
+      (all_answered 1 lines ran.answers right (recursion_from_All IsTold ran.answers ran.told) ran.ends.0)
+  ends_answered WriteFault ran = (
     ran.ends.0,
-    run_of old disk office lanes lines output WriteFault (AppendsPart output.before output.after) AreTried opened are ran ran.ends.1
-        (all_tried 1 lines ran.answers (recursion_from_All IsIssueLine lines are.issues)),
+    run_of WriteFault (AppendsPart output.before output.after) AreTried ran ran.ends.1
+        (all_tried 1 lines ran.answers right (recursion_from_All IsTold ran.answers ran.told)),
   )
-  ends_run old disk office lanes lines output DiskFault opened are ran =
-      let issues = recursion_from_All IsIssueLine lines are.issues in
-      let fault = has_a_fault 1 lines ran.answers issues ran.each ran.ends.0 in
-      let run = run_of old disk office lanes lines output DiskFault (WroteAll output) HaveAFault opened are ran ran.ends.1
-      (all_tried 1 lines ran.answers issues, fault) in
-      let rose = rose_in (opened_on opened.commands (g.faults old)) (turns_made 1 lines ran.answers) fault.0 (g.faults (disk_of ran.last.journal))
-      ran.went.stands.legal.due ran.went.stands.met fault.1 in
-      (rw ran.left rose, inr run)
-  ends_run old disk office lanes lines output NoMemory opened are ran =
-      inr (run_of old disk office lanes lines output NoMemory (WroteNothing output) AreTried opened are ran ran.ends
-      (all_tried 1 lines ran.answers (recursion_from_All IsIssueLine lines are.issues)))
-  ends_run old disk office lanes lines output Usage opened are ran = absurd ran.ends
-  ends_run old disk office lanes lines output BadScript opened are ran = absurd ran.ends
-  ends_run old disk office lanes lines output BadJournal opened are ran = absurd ran.ends
-  ends_run old disk office lanes lines output InputFault opened are ran = absurd ran.ends
+  ends_answered DiskFault ran =
+      let fault = has_a_fault 1 lines ran.answers right ran.each ran.ends.0 in
+      let tried = all_tried 1 lines ran.answers right (recursion_from_All IsTold ran.answers ran.told) in
+      let rose = rose_in (opened_on commands (g.faults old)) (turns_made 1 lines ran.answers) fault.0 ran.legal.due fault.1 in (
+        subst (Rose (g.faults old)) (sym ran.left.faults) rose,
+        inr (run_of DiskFault (WroteAll output) HaveAFault ran ran.ends.1 (tried, fault)),
+      )
+  ends_answered NoMemory ran =
+      inr (run_of NoMemory (WroteNothing output) AreTried ran ran.ends
+      (all_tried 1 lines ran.answers right (recursion_from_All IsTold ran.answers ran.told)))
+  ends_answered _ ran = absurd ran.ends
+
+-- an office that was opened and closed
+pub opened_left : {D : Type 0} (g : Ghosts D) (old disk : D) (office : OfficeState D g) → HasOpened old office
+    → IsLeftBy g (begun_of office) disk (opening_of office) [] → IsLeftBy g old disk (opened_on (opening_of office).commands (g.faults old)) []
+opened_left {D = D} g old disk office opened left =
+    subst (λ (begun : D). IsLeftBy g begun disk (opened_on (opening_of office).commands (g.faults begun)) []) opened.begun left
+
+pub opened_alone : {D : Type 0} (g : Ghosts D) (old disk : D) (office : OfficeState D g) → HasOpened old office → disk ≡ disk_of office
+    → IsLeftBy g (begun_of office) disk (opening_of office) [] → IsLeftAlone g old disk
+opened_alone g old disk office opened same left =
+    left_alone g old disk (opening_of office).commands opened.opened
+    (λ honest finished. subst (λ d. LooksOn g old d) (sym same) (opened.unwritten honest finished))
+    (opened_left g old disk office opened left)
+
+-- it ends its script's run
+pub ends_office : {D : Type 0} (g : Ghosts D) (old disk : D) (office : OfficeState D g) (lanes : List Lane) (lines : List Line)
+    (output : Stream) (ending : Ending) → HasOpened old office → AreLanes lanes lines
+    → EndsOffice g office disk lines output ending → EndsScript g old disk lanes output ending
+ends_office {D = D} g old disk office lanes lines output ending opened are ends =
+    let commands = (opening_of office).commands in
+    elim ends [
+      | inl ran ↦ ends_answered g old disk lanes lines output commands opened.opened are ending
+          (subst (λ (begun : D). AnswersAll g begun disk (opened_on commands (g.faults begun)) lines output ending) opened.begun ran)
+      | inr none ↦
+          let alone = opened_alone g old disk office opened none.2 none.3 in
+          subst (EndsScript g old disk lanes output) (sym none.0)
+          (inl (none.1, inr (alone, (opened_left g old disk office opened none.3).faults)))
+    ]
+
+-- making room changes nothing of what an office was opened on
+pub reserved_left : {D : Type 0} (g : Ghosts D) (old new : OfficeState D g) (disk : D) (turns : List Entry) → opened_of new ≡ opened_of old
+    → IsLeftBy g (begun_of new) disk (opening_of new) turns → IsLeftBy g (begun_of old) disk (opening_of old) turns
+reserved_left {D = D} g old new disk turns same left = subst (λ (o : Opened D). IsLeftBy g o.begun disk o.opening turns) same left
+
+pub reserved_answers : {D : Type 0} (g : Ghosts D) (old new : OfficeState D g) (disk : D) (lines : List Line) (output : Stream) (ending : Ending)
+    → opened_of new ≡ opened_of old → AnswersAll g (begun_of new) disk (opening_of new) lines output ending
+    → AnswersAll g (begun_of old) disk (opening_of old) lines output ending
+reserved_answers {D = D} g old new disk lines output ending same ran =
+    subst (λ (o : Opened D). AnswersAll g o.begun disk o.opening lines output ending) same ran
 
 refused_long : (told : Option (List ℕ)) (output : Stream) → IfSome told (λ t. most_script_bytes < length t)
     → SaysUnread TooLong output BadScript → IfSome told (λ t. IsRefused t output)
@@ -192,9 +192,9 @@ told_lanes (Some t) bytes lanes same read short =
     subst (λ (b : List ℕ). (length b ≤ most_script_bytes) × Reads b lanes) (sym same) (short, read)
 
 -- what is known of a disk on which no office was opened gives the ending
-pub ends_unopened : {D : Type 0} (g : Ghosts D) (old new : D) (lanes : List Lane) (output : Stream) (cause : Cause) (ending : Ending)
+pub ends_unopened : {D : Type 0} (g : Ghosts D) (old new : D) (lanes : List Lane) (output : Stream) (cause : StartCause) (ending : Ending)
     → HasNotOpened g old new cause → SaysUnopened cause output ending → EndsScript g old new lanes output ending
-ends_unopened g old new lanes output FaultyDisk DiskFault not said = (not.told, inl (said, not.alone))
+ends_unopened g old new lanes output (FaultyDisk count) DiskFault not said = (not.told.1, inl (said, not.alone))
 ends_unopened g old new lanes output NotAJournal BadJournal not said = record { cause = NotAJournal; line = said; shown = not.shown; quiet = not.told; alone = not.alone }
 ends_unopened g old new lanes output (BadRecord n) BadJournal not said = record { cause = BadRecord n; line = said; shown = not.shown; quiet = not.told; alone = not.alone }
 ends_unopened g old new lanes output (BadRecord n) NoMemory not said = inl (said, inr (not.alone, not.told))

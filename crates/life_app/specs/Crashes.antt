@@ -5,8 +5,8 @@ use Rattle.policy_types.specs.declared.command.Command.{Command}
 use Rattle.policy_types.specs.declared.entry.Entry.{Entry}
 use Rattle.policy_machine.specs.History.{Opening, accepted_of, commands_after}
 use Rattle.posting_journal.specs.Runs.{IsSafe}
-use Rattle.life_app.specs.Images.{IsLeftBy, IsOneMore, IsPending}
-use Rattle.life_app.specs.Journals.{Opens}
+use Rattle.office_state.specs.Images.{IsLeftBy, IsOneMore, IsPending}
+use Rattle.office_state.specs.Journals.{Opens}
 
 -- An office was opened on the commands of an honest disk's file, when a crash left just what is read, and the turns of
 -- the history left the disk so.

@@ -1,12 +1,12 @@
 pub mod Words
 pub mod Status
-pub mod Journals
-pub mod Images
 pub mod AnsweredLines
 pub mod Transcript
 pub mod Writing
 pub mod Script
 pub mod Outcome
+pub mod Books
+pub mod Stating
 pub mod Obeys
 pub mod Crashes
 pub mod Worked

@@ -12,13 +12,13 @@ use Rattle.policy_types.specs.declared.script.Lane.{Lane}
 use Rattle.policy_machine.specs.History.{IsLegal, opened_on}
 use Rattle.policy_machine.specs.Merge.{IsMerge}
 use Rattle.life_app.specs.AnsweredLines.{AnsweredLine, AreLinesOf}
-use Rattle.life_app.specs.Images.{HasFaulted, IsLeftAlone, IsLeftBy}
-use Rattle.life_app.specs.Journals.{IsShown, Opens}
+use Rattle.office_state.specs.Images.{HasFaulted, IsLeftAlone, IsLeftBy}
+use Rattle.office_state.specs.Journals.{IsShown, Opens}
 use Rattle.life_app.specs.Transcript.{transcript_text}
 use Rattle.life_app.specs.declared.ending.Ending.{Ending}
 use Rattle.life_app.specs.declared.ending.Ending.TheVariants.{Done, BadJournal, WriteFault, DiskFault, NoMemory}
-use Rattle.life_app.specs.declared.opening.Cause.{Cause}
-use Rattle.life_app.specs.declared.opening.Cause.TheVariants.{NotAJournal, BadRecord}
+use Rattle.office_state.specs.declared.faults.StartCause.{StartCause}
+use Rattle.office_state.specs.declared.faults.StartCause.TheVariants.{NotAJournal, BadRecord}
 use Rattle.life_app.specs.Writing.{Stream, WroteAll, WroteNothing, WroteLine}
 
 -- a posting was tried: it was accepted or refused, or the disk failed in it
@@ -63,14 +63,14 @@ abbrev pub bad_record_text : ℕ → List ℕ
 bad_record_text n = codes "badjournal,badrecord," ++ decimal n
 
 -- the line of a file's refusal
-abbrev pub SaysWhy : Cause → Stream → Type 0
+abbrev pub SaysWhy : StartCause → Stream → Type 0
 SaysWhy NotAJournal output = WroteLine output (codes "badjournal,notajournal")
 SaysWhy (BadRecord n) output = WroteLine output (bad_record_text n)
 SaysWhy _ _ = ⊥
 
 -- The file is refused for what its bytes show, with the line of the cause.
 pub record IsRefusedJournal {D : Type 0} (g : Ghosts D) (old new : D) (output : Stream) : Type 0 where
-  pub cause : Cause
+  pub cause : StartCause
   pub line : SaysWhy cause output
   pub shown : g.honest old → IsShown (g.reads old) cause
   pub quiet : g.faults new ≡ g.faults old

@@ -1,5 +1,5 @@
 -- The script on the input, and how a run ends that has none
-use Rattle.std.specs.Prelude.{ℕ, ◌<◌, ◌≤◌, ◌⊎◌, List, ◌∷◌, ◌++◌, length, codes, decimal, Option, IfSome}
+use Rattle.std.specs.Prelude.{◌≡◌, ℕ, ◌<◌, ◌≤◌, ◌⊎◌, List, ◌∷◌, ◌++◌, length, codes, decimal, Option, IfSome}
 use Rattle.outside_io.specs.Faults.{Rose}
 use Rattle.policy_types.specs.declared.script.Lane.{Lane}
 use Rattle.command_csv.specs.Reads.{Reads, IsFirstFault}
@@ -13,6 +13,9 @@ most_script_bytes = 16777216
 -- the script isn't too long, and says these lanes
 abbrev pub IsReadAs : Option (List ℕ) → List Lane → Type 0
 IsReadAs script lanes = IfSome script (λ bytes. (length bytes ≤ most_script_bytes) × Reads bytes lanes)
+
+abbrev pub IsReadable : Option (List ℕ) → Type 0
+IsReadable script = (lanes : List Lane) × IsReadAs script lanes
 
 -- the script is too long, or has a row that is no line
 abbrev pub IsUnreadable : List ℕ → Type 0

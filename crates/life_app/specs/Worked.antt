@@ -1,9 +1,10 @@
--- Worked cases of the text of a run, computed from the definitions alone. Day 18262 is 2020-01-01
+-- Worked cases of what a run and `state` write, computed from the definitions alone. Day 18262 is 2020-01-01
 use Rattle.std.specs.Prelude.{◌≡◌, ◌++◌, ℕ, List, [], ◌∷◌, pos, codes}
 use Rattle.policy_types.specs.declared.command.Command.{Command}
 use Rattle.policy_types.specs.declared.command.Command.TheVariants.{Issue, Premium, Alter, Lapse, Reinstate, Claim, Settle, Mature}
 use Rattle.policy_types.specs.declared.command.Plan.TheVariants.{Endowment}
 use Rattle.policy_types.specs.declared.policy.Status.TheVariants.{InForce, Lapsed, Claimed, Matured, Expired, Settled}
+use Rattle.policy_types.specs.declared.refusal.Refusal.{Refusal}
 use Rattle.policy_types.specs.declared.refusal.Refusal.TheVariants.{Taken, Unknown, BeforeLast, WrongStatus, TermOver, NothingDue, TooEarly, GraceOver, NotInArrears, TooLate, WrongAmount, NotAReduction, NotMatured, OverSettled, Full}
 use Rattle.policy_types.specs.declared.entry.Call.TheVariants.{Post}
 use Rattle.policy_types.specs.declared.entry.Reply.{Reply}
@@ -12,33 +13,8 @@ use Rattle.policy_types.specs.declared.entry.Entry.{Entry}
 use Rattle.policy_types.specs.declared.script.Line.TheVariants.{Post as PostLine}
 use Rattle.policy_types.specs.declared.script.Lane.{Lane}
 use Rattle.life_app.specs.AnsweredLines.{AnsweredLine, AreLinesOf}
-use Rattle.life_app.specs.Transcript.{kind_word, posting_text, refusal_text, status_word, transcript_text}
-
--- every refusal, with its value where it has one
-abbrev pub RefusalTexts : Type 0
-RefusalTexts = (refusal_text Taken ≡ codes "taken")
-    × (refusal_text Unknown ≡ codes "unknown")
-    × (refusal_text (BeforeLast (pos 18262)) ≡ codes "beforelast,2020-01-01")
-    × (refusal_text (WrongStatus Lapsed) ≡ codes "wrongstatus,lapsed")
-    × (refusal_text (TermOver (pos 19358)) ≡ codes "termover,2023-01-01")
-    × (refusal_text NothingDue ≡ codes "nothingdue")
-    × (refusal_text (TooEarly (pos 20147)) ≡ codes "tooearly,2025-02-28")
-    × (refusal_text (GraceOver (pos 18262)) ≡ codes "graceover,2020-01-01")
-    × (refusal_text (NotInArrears (pos 18628)) ≡ codes "notinarrears,2021-01-01")
-    × (refusal_text (TooLate (pos 19723)) ≡ codes "toolate,2024-01-01")
-    × (refusal_text (WrongAmount 40000) ≡ codes "wrongamount,400.00")
-    × (refusal_text (NotAReduction 100000) ≡ codes "notareduction,1000.00")
-    × (refusal_text (NotMatured (pos 19358)) ≡ codes "notmatured,2023-01-01")
-    × (refusal_text (OverSettled 5) ≡ codes "oversettled,0.05")
-    × (refusal_text Full ≡ codes "full,4000000")
-
-abbrev pub StatusWords : Type 0
-StatusWords = (status_word InForce ≡ codes "inforce")
-    × (status_word Lapsed ≡ codes "lapsed")
-    × (status_word Claimed ≡ codes "claimed")
-    × (status_word Matured ≡ codes "matured")
-    × (status_word Expired ≡ codes "expired")
-    × (status_word Settled ≡ codes "settled")
+use Rattle.life_app.specs.Books.{books_text, policy_account}
+use Rattle.life_app.specs.Transcript.{posting_text, transcript_text}
 
 abbrev pub policy_issue : Command
 policy_issue = Issue 7001 (pos 18262) Endowment 0 3 100000 40000
@@ -46,24 +22,46 @@ policy_issue = Issue 7001 (pos 18262) Endowment 0 3 100000 40000
 abbrev pub first_premium : Command
 first_premium = Premium 7001 (pos 18262) 40000
 
-abbrev pub KindWords : Type 0
-KindWords = (kind_word policy_issue ≡ codes "issue")
-    × (kind_word first_premium ≡ codes "premium")
-    × (kind_word (Alter 7001 (pos 18262) 50000 20000) ≡ codes "alter")
-    × (kind_word (Lapse 7001 (pos 18262)) ≡ codes "lapse")
-    × (kind_word (Reinstate 7001 (pos 18262) 40000) ≡ codes "reinstate")
-    × (kind_word (Claim 7001 (pos 18262)) ≡ codes "claim")
-    × (kind_word (Settle 7001 (pos 18262) 100000) ≡ codes "settle")
-    × (kind_word (Mature 7001 (pos 18262)) ≡ codes "mature")
+-- the line of a refused premium says this of why
+abbrev pub Says : Refusal → List ℕ → Type 0
+Says refusal why = posting_text 1 first_premium (Refused refusal) ≡ codes "1,premium,7001,refused," ++ why ++ 10 ∷ []
 
--- one posting by each of its answers: accepted, refused without and with a value, a fault, want of memory
+-- every refusal, with its value where it has one
+abbrev pub RefusalTexts : Type 0
+RefusalTexts = Says Taken (codes "taken")
+    × Says Unknown (codes "unknown")
+    × Says (BeforeLast (pos 18262)) (codes "beforelast,2020-01-01")
+    × Says (WrongStatus Lapsed) (codes "wrongstatus,lapsed")
+    × Says (TermOver (pos 19358)) (codes "termover,2023-01-01")
+    × Says NothingDue (codes "nothingdue")
+    × Says (TooEarly (pos 20147)) (codes "tooearly,2025-02-28")
+    × Says (GraceOver (pos 18262)) (codes "graceover,2020-01-01")
+    × Says (NotInArrears (pos 18628)) (codes "notinarrears,2021-01-01")
+    × Says (TooLate (pos 19723)) (codes "toolate,2024-01-01")
+    × Says (WrongAmount 40000) (codes "wrongamount,400.00")
+    × Says (NotAReduction 100000) (codes "notareduction,1000.00")
+    × Says (NotMatured (pos 19358)) (codes "notmatured,2023-01-01")
+    × Says (OverSettled 5) (codes "oversettled,0.05")
+    × Says Full (codes "full,4000000")
+
+abbrev pub StatusTexts : Type 0
+StatusTexts = Says (WrongStatus InForce) (codes "wrongstatus,inforce")
+    × Says (WrongStatus Lapsed) (codes "wrongstatus,lapsed")
+    × Says (WrongStatus Claimed) (codes "wrongstatus,claimed")
+    × Says (WrongStatus Matured) (codes "wrongstatus,matured")
+    × Says (WrongStatus Expired) (codes "wrongstatus,expired")
+    × Says (WrongStatus Settled) (codes "wrongstatus,settled")
+
+-- one posting of each kind, and by each of its answers: accepted, refused, a fault, want of memory
 abbrev pub PostingLines : Type 0
 PostingLines = (posting_text 1 policy_issue (Accepted 1) ≡ codes "1,issue,7001,accepted,1" ++ 10 ∷ [])
-    × (posting_text 2 policy_issue (Refused Taken) ≡ codes "2,issue,7001,refused,taken" ++ 10 ∷ [])
-    × (posting_text 8 first_premium (Refused (GraceOver (pos 18262)))
-    ≡ codes "8,premium,7001,refused,graceover,2020-01-01" ++ 10 ∷ [])
-    × (posting_text 1 first_premium (Faulted 3) ≡ codes "1,premium,7001,fault" ++ 10 ∷ [])
-    × (posting_text 1 first_premium Blank ≡ codes "1,premium,7001,nomemory" ++ 10 ∷ [])
+    × (posting_text 8 first_premium (Faulted 3) ≡ codes "8,premium,7001,fault" ++ 10 ∷ [])
+    × (posting_text 1 (Alter 7001 (pos 18262) 50000 20000) Blank ≡ codes "1,alter,7001,nomemory" ++ 10 ∷ [])
+    × (posting_text 1 (Lapse 7001 (pos 18262)) (Accepted 4000000) ≡ codes "1,lapse,7001,accepted,4000000" ++ 10 ∷ [])
+    × (posting_text 1 (Reinstate 7001 (pos 18262) 40000) (Refused Unknown) ≡ codes "1,reinstate,7001,refused,unknown" ++ 10 ∷ [])
+    × (posting_text 1 (Claim 7001 (pos 18262)) (Accepted 3) ≡ codes "1,claim,7001,accepted,3" ++ 10 ∷ [])
+    × (posting_text 1 (Settle 4294967295 (pos 18262) 1) (Accepted 4) ≡ codes "1,settle,4294967295,accepted,4" ++ 10 ∷ [])
+    × (posting_text 1 (Mature 7001 (pos 18262)) (Accepted 5) ≡ codes "1,mature,7001,accepted,5" ++ 10 ∷ [])
 
 abbrev pub turn : ℕ → Command → Reply → Entry
 turn caller command reply = record { caller = caller; call = Post command; reply = reply }
@@ -88,3 +86,25 @@ abbrev pub TwoClerks : Type 0
 TwoClerks = AreLinesOf clerks_answers clerks_turns clerks_lanes (11 ∷ 12 ∷ []) []
     × (transcript_text clerks_answers
     ≡ codes "5,premium,7001,refused,unknown" ++ 10 ∷ codes "3,issue,7001,accepted,1" ++ 10 ∷ codes "5,premium,7001,accepted,2" ++ 10 ∷ [])
+
+-- the policy is claimed on 2020-06-01 and settled in part on 2020-07-01, beside another that is issued then
+abbrev pub claimed : List Command
+claimed = policy_issue ∷ first_premium ∷ Claim 7001 (pos 18414) ∷ Issue 7 (pos 18444) Endowment 0 3 100000 40000
+    ∷ Settle 7001 (pos 18444) 40000 ∷ []
+
+-- all policies, the balances and the number of commands
+abbrev pub ClaimedBooks : Type 0
+ClaimedBooks = books_text claimed
+    ≡ codes "policy,7001,claimed,endowment,0,3,1000.00,400.00,2020-01-01,1,600.00" ++ 10
+    ∷ codes "policy,7,inforce,endowment,0,3,1000.00,400.00,2020-07-01,0,0.00" ++ 10
+    ∷ codes "balance,cash,0.00" ++ 10 ∷ codes "balance,premiums,-400.00" ++ 10
+    ∷ codes "balance,incurred,1000.00" ++ 10 ∷ codes "balance,payable,-600.00" ++ 10 ∷ codes "count,5" ++ 10 ∷ []
+
+-- one policy's entries, with their numbers among all commands; and a number of no policy
+abbrev pub ClaimedEntries : Type 0
+ClaimedEntries = (policy_account 7001 claimed
+    ≡ codes "entry,1,issue,2020-01-01,endowment,0,3,1000.00,400.00" ++ 10
+    ∷ codes "entry,2,premium,2020-01-01,400.00" ++ 10 ∷ codes "entry,3,claim,2020-06-01" ++ 10
+    ∷ codes "entry,5,settle,2020-07-01,400.00" ++ 10
+    ∷ codes "policy,7001,claimed,endowment,0,3,1000.00,400.00,2020-01-01,1,600.00" ++ 10 ∷ [])
+    × (policy_account 7002 claimed ≡ codes "unknown,7002" ++ 10 ∷ [])

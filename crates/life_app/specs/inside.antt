@@ -1,5 +1,3 @@
-pub mod Records
-pub mod Books
-pub mod Opening
-pub mod Replays
+pub mod Turns
 pub mod Parts
+pub mod Rereading

@@ -1,24 +1,30 @@
 // The lines of a clerk are answered in order.
-ghost use Rattle.std.specs.Prelude.{◌≡◌, ◌<◌, ◌≤◌, ◌+◌, ◌++◌, ℕ, List, [], ◌∷◌, length, vec_capacity, All};
-ghost use Rattle.indexmap.specs.IndexMap.{spare};
+ghost use Rattle.std.specs.Prelude.{◌≡◌, ◌≤◌, ◌+◌, ◌++◌, List, [], ◌∷◌, length, vec_capacity, All};
+ghost use Rattle.std.specs.List.{list_any};
 ghost use Rattle.policy_types.specs.declared.entry.Entry.{Entry};
-ghost use Rattle.policy_machine.specs.History.{Opening};
-ghost use Rattle.command_csv.specs.Reads.{IsIssueLine};
-ghost use Rattle.life_app.specs.inside.Books.{GoesOn, StandsAfter, turn_of, turns_made};
+ghost use Rattle.command_csv.specs.Reads.{IsScriptLine};
+ghost use Rattle.office_state.specs.Standing.{StandsFor};
+ghost use Rattle.office_state.specs.States.{opened_of, room_of};
+ghost use Rattle.life_app.specs.inside.Turns.{IsOpen, IsTold, is_faulted, line_turn, turns_made};
 
-use crate::office::{Answer, Office};
+use office_state::{Answer, OfficeState};
 use outside_io::Disk;
 use policy_types::Line;
 
-/// Answers all lines. There is room for all answers and policies.
-pub fn answer_lines<D: Disk>(lines: &[Line], office: &mut Office<D>, answers: &mut Vec<Answer>)
-    requires issues { All IsIssueLine lines.now }
+/// The number under which the only clerk's lines are posted.
+const CLERK: u64 = 1;
+
+/// Answers all lines. There is room for all answers and postings.
+pub fn answer_lines<D: Disk>(lines: &[Line], office: &mut OfficeState<D>, answers: &mut Vec<Answer>)
+    requires right { All IsScriptLine lines.now }
+    requires stands { StandsFor office.old [] }
     requires unanswered { answers.old.items ≡ [] }
-    requires room { length lines.now ≤ spare office.old.policies }
+    requires room { length lines.now ≤ room_of office.old }
     requires answers_room { length lines.now ≤ vec_capacity answers.old }
     ensures all { length answers.new.items ≡ length lines.now }
-    ensures answered { (opening : Opening) (caller : ℕ) → StandsAfter office.old opening []
-        → GoesOn office.old office.new opening [] (turns_made caller lines.now answers.new.items) }
+    ensures told { All IsTold answers.new.items }
+    ensures opened { opened_of office.new ≡ opened_of office.old }
+    ensures stands { StandsFor office.new (turns_made 1 lines.now answers.new.items) }
 {
     for line in lines {
         let answer = answer_line(line, office);
@@ -27,15 +33,32 @@ pub fn answer_lines<D: Disk>(lines: &[Line], office: &mut Office<D>, answers: &m
 }
 
 // Answers a line.
-fn answer_line<D: Disk>(line: &Line, office: &mut Office<D>) -> Answer
-    requires issue { IsIssueLine line.now }
-    requires room { 0 < spare office.old.policies }
-    ensures room { spare office.old.policies ≤ spare office.new.policies + 1 }
-    ensures answered { (opening : Opening) (history : List Entry) (caller : ℕ) → StandsAfter office.old opening history
-        → GoesOn office.old office.new opening history (history ++ turn_of caller line.now result ∷ []) }
+fn answer_line<D: Disk>(line: &Line, office: &mut OfficeState<D>) -> Answer
+    requires right { IsScriptLine line.now }
+    requires open { IsOpen office.old }
+    requires room { 1 ≤ room_of office.old }
+    ensures open { IsOpen office.new }
+    ensures room { room_of office.old ≤ room_of office.new + 1 }
+    ensures told { IsTold result }
+    ensures opened { opened_of office.new ≡ opened_of office.old }
+    ensures stands { (turns : List Entry) → StandsFor office.old turns
+        → StandsFor office.new (turns ++ line_turn 1 line.now result ∷ []) }
 {
     let Line::Post(command) = line else {
         unreachable!()
     };
-    office.post(command)
+    office.post(CLERK, command)
+}
+
+/// Whether the disk failed in one of the postings.
+pub fn any_faulted(answers: &[Answer]) -> bool
+    ensures { result ≡ list_any is_faulted answers.now }
+{
+    answers.iter().any(|answer| faulted(answer))
+}
+
+fn faulted(answer: &Answer) -> bool
+    ensures { result ≡ is_faulted answer.now }
+{
+    matches!(*answer, Answer::DiskFault(_))
 }

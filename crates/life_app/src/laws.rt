@@ -1,38 +1,23 @@
 // What the definitions have to mean, as functions that do nothing.
-ghost use Rattle.std.specs.Prelude.{◌≡◌, ℕ, List, [], Some};
+ghost use Rattle.std.specs.Prelude.{◌≡◌, ◌⊎◌, ℕ, List, [], Some};
 ghost use Rattle.policy_types.specs.declared.command.Command.{Command};
 ghost use Rattle.policy_types.specs.declared.entry.Entry.{Entry};
-ghost use Rattle.policy_types.specs.declared.script.Lane.{Lane};
 ghost use Rattle.policy_machine.specs.History.{Opening};
 ghost use Rattle.posting_journal.specs.Runs.{IsSafe};
+ghost use Rattle.command_csv.specs.Reads.{IsFirstFault};
 ghost use Rattle.life_app.specs.Crashes.{AreAllHeld, AreHeld, HasRun};
-ghost use Rattle.life_app.specs.Images.{HoldsOnce, IsLeftAlone};
-ghost use Rattle.life_app.specs.Journals.{IsOfTheFile, IsShown, Opens, OpensToNone};
-ghost use Rattle.life_app.specs.Script.{IsReadAs, IsUnreadable};
-ghost use Rattle.life_app.specs.declared.opening.Cause.{Cause};
+ghost use Rattle.office_state.specs.Images.{HoldsOnce, IsLeftAlone};
+ghost use Rattle.office_state.specs.Journals.{Opens};
+ghost use Rattle.life_app.specs.Script.{IsReadable, IsUnreadable};
 
 use outside_io::Disk;
 
-/// A file opens to one list of commands at most.
-pub fn one_list_of_commands()
-    ensures { (bytes : List ℕ) (commands others : List Command) → Opens bytes commands → Opens bytes others
-        → commands ≡ others }
-{}
-
-/// A file that is refused for what its bytes are opens to no list of commands.
-pub fn refused_files_open_to_none()
-    ensures { (bytes : List ℕ) (cause : Cause) → IsOfTheFile cause → IsShown bytes cause → OpensToNone bytes }
-{}
-
-/// A file that is refused for what its bytes are is refused for one cause, and at one record.
-pub fn one_cause_of_refusal()
-    ensures { (bytes : List ℕ) (cause other : Cause) → IsOfTheFile cause → IsOfTheFile other
-        → IsShown bytes cause → IsShown bytes other → cause ≡ other }
-{}
-
-/// No script is both read and refused.
-pub fn scripts_are_never_both()
-    ensures { (bytes : List ℕ) (lanes : List Lane) → IsReadAs (Some bytes) lanes → IsUnreadable bytes → ⊥ }
+/// Every script is read or refused, and none is both; one that isn't too long has one first fault.
+pub fn scripts_are_read_or_refused()
+    ensures either { (bytes : List ℕ) → IsReadable (Some bytes) ⊎ IsUnreadable bytes }
+    ensures not_both { (bytes : List ℕ) → IsReadable (Some bytes) → IsUnreadable bytes → ⊥ }
+    ensures one { (bytes : List ℕ) (row other field place : ℕ) → IsFirstFault bytes row field
+        → IsFirstFault bytes other place → (row ≡ other) × (field ≡ place) }
 {}
 
 /// A crash at any moment of a run leaves the commands from before it, a front of what it accepted, and at most one more.

@@ -1,19 +1,22 @@
 //! The program whole: what it reads, posts, keeps and writes, over any devices.
 #![tactic(auto)]
 
+mod account;
 mod answers;
 #[cfg(test)]
 mod disk_tests;
 mod ending;
 mod intake;
 mod laws;
-mod office;
-mod opening;
-mod policies;
+#[cfg(test)]
+mod policy_tests;
 mod program;
-mod recording;
 mod refusing;
+mod rereading;
 mod run;
+mod state;
+#[cfg(test)]
+mod state_tests;
 #[cfg(test)]
 mod tests;
 mod transcript;
@@ -22,9 +25,7 @@ pub mod worked;
 
 pub use ending::Ending;
 pub use laws::{
-    crashes_of_a_run, crashes_of_an_opening, one_cause_of_refusal, one_list_of_commands,
-    refused_files_open_to_none, runs_after_a_crash, scripts_are_never_both,
+    crashes_of_a_run, crashes_of_an_opening, runs_after_a_crash, scripts_are_read_or_refused,
 };
-pub use opening::Cause;
 pub use program::{Ended, life};
 pub use words::Mode;

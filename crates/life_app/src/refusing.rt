@@ -2,12 +2,12 @@
 ghost use Rattle.std.specs.Prelude.{◌≤◌};
 ghost use Rattle.life_app.specs.inside.Parts.{SaysUnopened, SaysUnread};
 ghost use Rattle.life_app.specs.Writing.{WroteOrFailed, between};
-ghost use Rattle.life_app.specs.declared.opening.Cause.TheVariants.{BadRecord};
+ghost use Rattle.office_state.specs.declared.faults.StartCause.TheVariants.{BadRecord};
 ghost use Rattle.life_app.specs.declared.intake.Unread.TheVariants.{BadRow};
 
 use crate::ending::Ending;
 use crate::intake::Unread;
-use crate::opening::Cause;
+use office_state::StartCause;
 use outside_io::{Sink, write_all};
 use std::alloc::Global;
 
@@ -58,21 +58,21 @@ fn refuse_row<K: Sink>(alloc: Global, row: u32, field: u32, output: &mut K) -> E
 }
 
 /// Says why no office was opened.
-pub fn refuse_journal<K: Sink>(alloc: Global, cause: Cause, output: &mut K) -> Ending
+pub fn refuse_journal<K: Sink>(alloc: Global, cause: StartCause, output: &mut K) -> Ending
     ensures later { K.faults output.old ≤ K.faults output.new }
     ensures says { SaysUnopened cause (between K.faults K.written output.old output.new) result }
 {
     match cause {
-        Cause::DiskFault => {
+        StartCause::DiskFault(_) => {
             say(output, b"diskfault\n");
             Ending::DiskFault
         }
-        Cause::NotAJournal => {
+        StartCause::NotAJournal => {
             say(output, b"badjournal,notajournal\n");
             Ending::BadJournal
         }
-        Cause::BadRecord(n) => refuse_record(alloc, n, output),
-        Cause::NoMemory => {
+        StartCause::BadRecord(n) => refuse_record(alloc, n, output),
+        StartCause::NoMemory => {
             say(output, b"nomemory\n");
             Ending::NoMemory
         }

@@ -1,24 +1,23 @@
 // A run of a script: the office is opened, the script's lines are answered, then the transcript is written.
 ghost use Rattle.std.specs.Prelude.{◌≡◌, ◌≤◌, ℕ, List, [], All, if◌then◌else◌, length, vec_capacity};
 ghost use Rattle.std.specs.List.{list_any};
-ghost use Rattle.indexmap.specs.IndexMap.{spare};
 ghost use Rattle.policy_types.specs.declared.script.Line.{Line as ALine};
-ghost use Rattle.policy_machine.specs.History.{Opening};
-ghost use Rattle.command_csv.specs.Reads.{IsIssueLine, Reads, lane_of};
-ghost use Rattle.life_app.specs.inside.Books.{AreLanes, StandsAfter, is_faulted};
+ghost use Rattle.command_csv.specs.Reads.{IsScriptLine, Reads, lane_of};
+ghost use Rattle.office_state.specs.Standing.{StandsFor};
+ghost use Rattle.office_state.specs.States.{begun_of, opening_of, room_of};
 ghost use Rattle.life_app.specs.Obeys.{EndsRun};
 ghost use Rattle.life_app.specs.Outcome.{EndsScript};
-ghost use Rattle.life_app.specs.inside.Parts.{AnswersAll, EndsLines};
 ghost use Rattle.life_app.specs.Writing.{between};
+ghost use Rattle.life_app.specs.inside.Parts.{AnswersAll, AreLanes, EndsLines, EndsOffice};
+ghost use Rattle.life_app.specs.inside.Turns.{IsTold, is_faulted};
 ghost use Rattle.life_app.specs.declared.ending.Ending.TheVariants.{DiskFault, Done};
 
-use crate::answers::answer_lines;
+use crate::answers::{answer_lines, any_faulted};
 use crate::ending::Ending;
 use crate::intake::read_lanes;
-use crate::office::{Answer, Office};
-use crate::opening::open;
 use crate::refusing::{refuse, refuse_journal, say};
 use crate::transcript::transcript;
+use office_state::{Answer, OfficeState};
 use outside_io::{Disk, Sink, Source, write_all};
 use policy_types::{Lane, Line, Script};
 use std::alloc::Global;
@@ -67,39 +66,64 @@ fn run_script<K: Sink, D: Disk>(
             disk,
         };
     };
-    match open(alloc, disk, lines.len()) {
-        Ok(office) => run_lines(alloc, lines, office, answers, output),
-        Err(unopened) => Finished {
-            ending: refuse_journal(alloc, unopened.cause, output),
-            disk: unopened.disk,
+    match OfficeState::open(alloc, disk) {
+        Ok(office) => run_office(alloc, lines, office, answers, output),
+        Err(fault) => Finished {
+            ending: refuse_journal(alloc, fault.cause, output),
+            disk: fault.disk,
         },
     }
+}
+
+// Answers the lines where there is memory for all of them, then writes the transcript.
+fn run_office<K: Sink, D: Disk>(
+    alloc: Global,
+    lines: &[Line],
+    office: OfficeState<D>,
+    answers: Vec<Answer>,
+    output: &mut K,
+) -> Finished<D>
+    requires right { All IsScriptLine lines.now }
+    requires stands { StandsFor office [] }
+    requires unanswered { answers.items ≡ [] }
+    requires answers_room { length lines.now ≤ vec_capacity answers }
+    ensures ends { EndsOffice D.Disk office result.disk lines.now
+        (between K.faults K.written output.old output.new) result.ending }
+{
+    let mut office = office;
+    if office.reserve(lines.len()).is_err() {
+        say(output, b"nomemory\n");
+        let (disk, _) = office.close();
+        return Finished {
+            ending: Ending::NoMemory,
+            disk,
+        };
+    }
+    run_lines(alloc, lines, office, answers, output)
 }
 
 // Answers the lines, then writes the transcript.
 fn run_lines<K: Sink, D: Disk>(
     alloc: Global,
     lines: &[Line],
-    office: Office<D>,
+    office: OfficeState<D>,
     answers: Vec<Answer>,
     output: &mut K,
 ) -> Finished<D>
-    requires issues { All IsIssueLine lines.now }
+    requires right { All IsScriptLine lines.now }
+    requires stands { StandsFor office [] }
     requires unanswered { answers.items ≡ [] }
-    requires room { length lines.now ≤ spare office.policies }
+    requires room { length lines.now ≤ room_of office }
     requires answers_room { length lines.now ≤ vec_capacity answers }
-    ensures later { K.faults output.old ≤ K.faults output.new }
-    ensures all { (opening : Opening) → StandsAfter office opening [] → AnswersAll office result.disk opening lines.now
+    ensures all { AnswersAll D.Disk (begun_of office) result.disk (opening_of office) lines.now
         (between K.faults K.written output.old output.new) result.ending }
 {
     let mut office = office;
     let mut answers = answers;
     answer_lines(lines, &mut office, &mut answers);
     let ending = write_transcript(alloc, lines, &answers, output);
-    Finished {
-        ending,
-        disk: office.close(),
-    }
+    let (disk, _) = office.close();
+    Finished { ending, disk }
 }
 
 fn write_transcript<K: Sink>(
@@ -108,15 +132,15 @@ fn write_transcript<K: Sink>(
     answers: &[Answer],
     output: &mut K,
 ) -> Ending
-    requires issues { All IsIssueLine lines.now }
+    requires right { All IsScriptLine lines.now }
+    requires told { All IsTold answers.now }
     requires each { length answers.now ≡ length lines.now }
-    ensures later { K.faults output.old ≤ K.faults output.new }
     ensures ends { EndsLines lines.now answers.now (between K.faults K.written output.old output.new) result }
 {
     let Ok(text) = transcript(alloc, 1, lines, answers) else {
         return Ending::NoMemory;
     };
-    match write_all(output, text.as_bytes()) {
+    match write_all(output, text.as_slice()) {
         Ok(()) => ending_of(answers),
         Err(_) => Ending::WriteFault,
     }
@@ -131,12 +155,6 @@ fn ending_of(answers: &[Answer]) -> Ending
     } else {
         Ending::Done
     }
-}
-
-fn any_faulted(answers: &[Answer]) -> bool
-    ensures { result ≡ list_any is_faulted answers.now }
-{
-    answers.iter().any(|answer| answer.is_faulted())
 }
 
 // The lines of the only lane, if there is one.

@@ -157,14 +157,24 @@ fn words_of(alloc: Global, words: &[&str]) -> Result<Vec<String>, AllocError> {
     Ok(made)
 }
 
-// Runs a script over a disk; the other devices don't fail.
+// Does what the words ask for over a disk; the other devices don't fail.
+pub(crate) fn run_words(
+    alloc: Global,
+    words: &[&str],
+    script: &[&str],
+    disk: MemoryDisk,
+) -> Result<Finished, AllocError> {
+    let words = words_of(alloc, words)?;
+    run_over(alloc, &words, script, &[], &[], disk)
+}
+
+// Runs a script over a disk.
 pub(crate) fn run_on(
     alloc: Global,
     script: &[&str],
     disk: MemoryDisk,
 ) -> Result<Finished, AllocError> {
-    let words = words_of(alloc, &["run"])?;
-    run_over(alloc, &words, script, &[], &[], disk)
+    run_words(alloc, &["run"], script, disk)
 }
 
 // Whether the case ends as it must. A run that reads no script calls no disk.

@@ -1,6 +1,6 @@
-//! Worked cases of the text of a run, each a theorem over the definitions alone.
+//! Worked cases of what a run and `state` write, each a theorem over the definitions alone.
 
-ghost use Rattle.life_app.specs.Worked.{KindWords, PostingLines, RefusalTexts, StatusWords, TwoClerks};
+ghost use Rattle.life_app.specs.Worked.{ClaimedBooks, ClaimedEntries, PostingLines, RefusalTexts, StatusTexts, TwoClerks};
 
 /// Each refusal has its word, and its value where it has one.
 pub fn refusal_texts()
@@ -8,16 +8,11 @@ pub fn refusal_texts()
 {}
 
 /// Each status has its word.
-pub fn status_words()
-    ensures { StatusWords }
+pub fn status_texts()
+    ensures { StatusTexts }
 {}
 
-/// Each kind of command has its word.
-pub fn kind_words()
-    ensures { KindWords }
-{}
-
-/// A posting has one line, by its answer.
+/// A posting has one line, by its kind and its answer.
 pub fn posting_lines()
     ensures { PostingLines }
 {}
@@ -25,4 +20,14 @@ pub fn posting_lines()
 /// The lines of two clerks stand in the order of their turns.
 pub fn two_clerks()
     ensures { TwoClerks }
+{}
+
+/// All policies and the balances after a claim.
+pub fn claimed_books()
+    ensures { ClaimedBooks }
+{}
+
+/// The entries of a policy that is claimed, and a number of no policy.
+pub fn claimed_entries()
+    ensures { ClaimedEntries }
 {}

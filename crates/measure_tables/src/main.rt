@@ -2,12 +2,13 @@
 //!
 //! The words are how often each file is read, and the files. One whose name ends in `.xml` is a table file,
 //! any other a basis file. For each there is a line, `table,FILE,FIRST_AGE,LAST_AGE` or `basis,FILE,ROWS`, or
-//! in place of the numbers what is wrong with the file.
+//! in place of the numbers what is wrong with the file, or `unread` where it is to be read no times.
 #![tactic(auto)]
 
 mod reads;
 
 use basis_book::LONGEST_FILE;
+use reads::{BasisFile, TableFile, repeat};
 use std::{env, fs, io};
 
 fn main(rt: HostRuntime) -> io::Result<()> {
@@ -22,14 +23,30 @@ fn main(rt: HostRuntime) -> io::Result<()> {
         if bytes.len() > LONGEST_FILE {
             println!(rt; "toolong,{}", name.as_str())?;
         } else if name.as_str().ends_with(".xml") {
-            match reads::table_ages(rt.alloc(), bytes.as_slice(), times) {
-                Ok((first, last)) => println!(rt; "table,{},{first},{last}", name.as_str())?,
-                Err(fault) => println!(rt; "table,{},{fault:?}", name.as_str())?,
+            let mut file = TableFile {
+                alloc: rt.alloc(),
+                bytes: bytes.as_slice(),
+                count: 0,
+                last: None,
+            };
+            repeat(&mut file, times);
+            match file.last {
+                Some(Ok((first, last))) => println!(rt; "table,{},{first},{last}", name.as_str())?,
+                Some(Err(fault)) => println!(rt; "table,{},{fault:?}", name.as_str())?,
+                None => println!(rt; "table,{},unread", name.as_str())?,
             }
         } else {
-            match reads::basis_rows(rt.alloc(), bytes.as_slice(), times) {
-                Ok(rows) => println!(rt; "basis,{},{rows}", name.as_str())?,
-                Err(fault) => println!(rt; "basis,{},{fault:?}", name.as_str())?,
+            let mut file = BasisFile {
+                alloc: rt.alloc(),
+                bytes: bytes.as_slice(),
+                count: 0,
+                last: None,
+            };
+            repeat(&mut file, times);
+            match file.last {
+                Some(Ok(rows)) => println!(rt; "basis,{},{rows}", name.as_str())?,
+                Some(Err(fault)) => println!(rt; "basis,{},{fault:?}", name.as_str())?,
+                None => println!(rt; "basis,{},unread", name.as_str())?,
             }
         }
     }

@@ -1,13 +1,63 @@
-ghost use Rattle.std.specs.Prelude.{◌≡◌, ◌≤◌, List, length, IfOk, IfErr, Err};
+ghost use Rattle.std.specs.Prelude.{◌≡◌, ◌≤◌, ◌<◌, ◌+◌, ℕ, List, length, IfOk, IfErr, MatchOption, Err};
 ghost use Rattle.basis_book.specs.declared.row.BasisRow.{BasisRow};
 ghost use Rattle.basis_book.specs.File.{IsBasisFile, IsFileFault};
 ghost use Rattle.rate_table.specs.Rates.{Rates, last_age_of};
-ghost use Rattle.xtbml_subset.specs.Answers.{IsDue, Spells};
-ghost use Rattle.xtbml_subset.specs.Rows.{Unless};
+ghost use Rattle.xtbml_subset.specs.Answers.{IsDue, Spells, Unless};
 
 use basis_book::{BasisFault, LONGEST_FILE, read_basis};
 use std::alloc::Global;
 use xtbml_subset::{TableFault, read_table};
+
+/// What can be read again and again.
+pub trait Reading {
+    /// How often it was read.
+    ghost readings: { Self → ℕ };
+
+    /// It was read, and what it was read as last is what it holds.
+    ghost is_read: { Self → Type 0 };
+
+    /// Reads once more.
+    fn read(&mut self)
+        requires { readings self.old + 1 ≤ 4294967295 }
+        ensures count { readings self.new ≡ readings self.old + 1 }
+        ensures read { is_read self.new };
+}
+
+/// Reads so many times.
+pub fn repeat<R: Reading>(reading: &mut R, times: u32)
+    requires { R.readings reading.old + times ≤ 4294967295 }
+    ensures count { R.readings reading.new ≡ R.readings reading.old + times }
+    ensures read { 0 < times → R.is_read reading.new }
+{
+    let mut left = times;
+    while left > 0 {
+        reading.read();
+        left -= 1;
+    }
+}
+
+/// A basis file, and what it was read as last.
+#[derive(Drop)]
+pub struct BasisFile<'a> {
+    pub alloc: Global,
+    pub bytes: &'a [u8],
+    pub count: u32,
+    pub last: Option<Result<usize, BasisFault>>,
+    ghost short: { length bytes.now ≤ 4194304 },
+}
+
+impl Reading for BasisFile<'_> {
+    ghost readings = { λ file. file.count };
+
+    ghost is_read = { λ file. MatchOption file.last ⊥ (λ read.
+        IfOk read (λ count. (found : List BasisRow) × IsBasisFile file.bytes.now found × (count ≡ length found))
+        × IfErr read (IsFileFault file.bytes.now)) };
+
+    fn read(&mut self) {
+        self.count += 1;
+        self.last = Some(rows(self.alloc, self.bytes));
+    }
+}
 
 fn rows(alloc: Global, bytes: &[u8]) -> Result<usize, BasisFault>
     requires { length bytes.now ≤ LONGEST_FILE }
@@ -20,16 +70,27 @@ fn rows(alloc: Global, bytes: &[u8]) -> Result<usize, BasisFault>
     }
 }
 
-/// How many rows a basis file has, found so many times, at least once.
-pub fn basis_rows(alloc: Global, bytes: &[u8], times: u32) -> Result<usize, BasisFault>
-    requires { length bytes.now ≤ LONGEST_FILE }
-    ensures rows { IfOk result (λ count. (found : List BasisRow) × IsBasisFile bytes.now found × (count ≡ length found)) }
-    ensures faults { IfErr result (IsFileFault bytes.now) }
-{
-    for _ in 1..times {
-        let _ = rows(alloc, bytes);
+/// A table file, and the first and the last age of the table that was read last.
+#[derive(Drop)]
+pub struct TableFile<'a> {
+    pub alloc: Global,
+    pub bytes: &'a [u8],
+    pub count: u32,
+    pub last: Option<Result<(u8, u8), TableFault>>,
+    ghost short: { length bytes.now ≤ 4194304 },
+}
+
+impl Reading for TableFile<'_> {
+    ghost readings = { λ file. file.count };
+
+    ghost is_read = { λ file. MatchOption file.last ⊥ (λ read.
+        IfOk read (λ ages. (table : Rates) × Spells file.bytes.now table × (ages.0 ≡ table.first_age) × (ages.1 ≡ last_age_of table))
+        × IfErr read (λ fault. Unless fault (IsDue file.bytes.now (Err fault)))) };
+
+    fn read(&mut self) {
+        self.count += 1;
+        self.last = Some(ages(self.alloc, self.bytes));
     }
-    rows(alloc, bytes)
 }
 
 fn ages(alloc: Global, bytes: &[u8]) -> Result<(u8, u8), TableFault>
@@ -41,16 +102,4 @@ fn ages(alloc: Global, bytes: &[u8]) -> Result<(u8, u8), TableFault>
         Ok(table) => Ok((table.first_age(), table.last_age())),
         Err(fault) => Err(fault),
     }
-}
-
-/// The first and the last age of a table file, found so many times, at least once.
-pub fn table_ages(alloc: Global, bytes: &[u8], times: u32) -> Result<(u8, u8), TableFault>
-    requires { length bytes.now ≤ LONGEST_FILE }
-    ensures ages { IfOk result (λ ages. (table : Rates) × Spells bytes.now table × (ages.0 ≡ table.first_age) × (ages.1 ≡ last_age_of table)) }
-    ensures faults { IfErr result (λ fault. Unless fault (IsDue bytes.now (Err fault))) }
-{
-    for _ in 1..times {
-        let _ = ages(alloc, bytes);
-    }
-    ages(alloc, bytes)
 }

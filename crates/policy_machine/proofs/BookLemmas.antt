@@ -1,13 +1,17 @@
 -- What one more command does to the book
-use Rattle.std.proofs.Common.{◌≡◌, ℕ, true, false, cond, ◌==◌, List, [], ◌∷◌, ◌++◌, ap, ◌∙◌, append_assoc, append-nil, None, Option, IsOk}
-use Rattle.std.specs.List.{fold}
+use Rattle.std.proofs.Common.{◌≡◌, ℕ, true, false, cond, ◌==◌, List, [], ◌∷◌, ◌++◌, ap, ◌∙◌, append_assoc, append-nil, Some, None, Option, Ok, Err, Result, IsOk, IfOk, IfSome, refl, Bool}
+use Rattle.std.specs.List.{AllByRecursion, cons_option, filter_map, fold}
+use Rattle.std.proofs.lemmas.Bool.{eqb-true}
 use Rattle.std.proofs.lemmas.List.Elements.{filter-append}
 use Rattle.std.proofs.lemmas.List.Sums.{fold-append}
 use Rattle.policy_types.specs.declared.command.Command.{Command}
 use Rattle.policy_types.specs.declared.policy.Policy.{Policy}
-use Rattle.policy_types.specs.Valid.{id_of}
-use Rattle.policy_machine.specs.Rules.{next}
-use Rattle.policy_machine.specs.Book.{own, kept, policy_of, IsAccepted, IsAcceptedAfter}
+use Rattle.policy_types.specs.Valid.{IsValid, id_of}
+use Rattle.policy_machine.specs.Rules.{IsSound, next}
+use Rattle.policy_types.specs.declared.refusal.Refusal.{Refusal}
+use Rattle.policy_machine.proofs.AcceptedLemmas.{next-own}
+use Rattle.policy_machine.proofs.SoundLemmas.{next-sound}
+use Rattle.policy_machine.specs.Book.{own, kept, policy_of, issue_id, book, IsAccepted, IsAcceptedAfter}
 
 -- one more command after accepted ones
 pub IsAcceptedAfter-push : (before rest : List Command) (command : Command) → IsAcceptedAfter before rest
@@ -42,3 +46,57 @@ policy_of-push_other commands command id other_id =
     let appended : own (commands ++ command ∷ []) id ≡ own commands id ++ [] =
     own-push commands command id ∙ ap (λ b. own commands id ++ cond b (command ∷ []) []) other_id in
     ap (λ cs. fold step None cs) appended ∙ fold-append step None (own commands id) []
+
+abbrev step : Option Policy → Command → Option Policy
+step policy command = kept policy (next policy command)
+
+-- what each of a number's commands keeps is kept by all of them
+own_keep : (P : Option Policy → Type 0) (Q : Command → Type 0) (id : ℕ)
+    → ((before : Option Policy) (command : Command) → Q command → id_of command ≡ id → P before → P (step before command))
+    → (commands : List Command) (before : Option Policy) → AllByRecursion Q commands → P before → P (fold step before (own commands id))
+own_keep P Q id each [] before valid here = here
+own_keep P Q id each (command ∷ commands) before valid here =
+    at_test (id_of command == id) refl (own_keep P Q id each commands before valid.1 here)
+    (λ own_id. own_keep P Q id each commands (step before command) valid.1 (each before command valid.0 own_id here))
+  where
+    at_test : (b : Bool) → (id_of command == id) ≡ b → P (fold step before (own commands id))
+        → (id_of command ≡ id → P (fold step (step before command) (own commands id)))
+        → P (fold step before (cond b (command ∷ own commands id) (own commands id)))
+    at_test true e others mine = mine (eqb-true (id_of command) id e)
+    at_test false e others mine = others
+
+kept_if : (P : Policy → Type 0) (before : Option Policy) (decision : Result Policy Refusal) → IfSome before P → IfOk decision P
+    → IfSome (kept before decision) P
+kept_if P before (Ok after) here then = then
+kept_if P before (Err refusal) here then = here
+
+-- the policies of valid commands are sound
+pub policy_of-sound : (commands : List Command) (id : ℕ) → AllByRecursion IsValid commands → IfSome (policy_of commands id) IsSound
+policy_of-sound commands id valid =
+    own_keep (λ policy. IfSome policy IsSound) IsValid id
+    (λ before command valid_here own_id sound. kept_if IsSound before (next before command) sound (next-sound before command valid_here sound))
+    commands None valid tt
+
+all_commands : (commands : List Command) → AllByRecursion (λ (command : Command). Unit {0}) commands
+all_commands [] = tt
+all_commands (command ∷ commands) = (tt, all_commands commands)
+
+-- and each has its number
+pub policy_of-own : (commands : List Command) (id : ℕ) → IfSome (policy_of commands id) (λ p. p.id ≡ id)
+policy_of-own commands id =
+    own_keep (λ policy. IfSome policy (λ p. p.id ≡ id)) (λ command. Unit {0}) id
+    (λ before command unit own_id here. kept_if (λ p. p.id ≡ id) before (next before command) here (next-own before command id own_id here))
+    commands None (all_commands commands) tt
+
+filter_map_each : (P : Policy → Type 0) (find : ℕ → Option Policy) → ((id : ℕ) → IfSome (find id) P) → (ids : List ℕ)
+    → AllByRecursion P (filter_map find ids)
+filter_map_each P find each [] = tt
+filter_map_each P find each (id ∷ ids) = with_one (find id) (filter_map find ids) (each id) (filter_map_each P find each ids)
+  where
+    with_one : (found : Option Policy) (others : List Policy) → IfSome found P → AllByRecursion P others
+        → AllByRecursion P (cons_option found others)
+    with_one None others here rest = rest
+    with_one (Some p) others here rest = (here, rest)
+
+pub book-sound : (commands : List Command) → AllByRecursion IsValid commands → AllByRecursion IsSound (book commands)
+book-sound commands valid = filter_map_each IsSound (policy_of commands) (λ id. policy_of-sound commands id valid) (filter_map issue_id commands)

@@ -1,5 +1,5 @@
 -- The book: the policies that a list of accepted commands leaves
-use Rattle.std.specs.Prelude.{ℕ, ◌==◌, List, [], ◌∷◌, ◌++◌, Some, None, Option, Ok, Err, Result, IsOk}
+use Rattle.std.specs.Prelude.{◌≡◌, ℕ, ◌==◌, List, [], ◌∷◌, ◌++◌, Some, None, Option, Ok, Err, Result, IsOk}
 use Rattle.std.specs.List.{filter, filter_map, fold}
 use Rattle.policy_types.specs.declared.command.Command.{Command}
 use Rattle.policy_types.specs.declared.command.Command.TheVariants.{Issue}
@@ -38,3 +38,11 @@ IsAcceptedAfter before (command ∷ rest) =
 
 abbrev pub IsAccepted : List Command → Type 0
 IsAccepted commands = IsAcceptedAfter [] commands
+
+-- what no command changes of a policy
+pub record IsSameContract (before after : Policy) : Type 0 where
+  pub same_id : after.id ≡ before.id
+  pub same_plan : after.plan ≡ before.plan
+  pub same_age : after.age ≡ before.age
+  pub same_years : after.years ≡ before.years
+  pub same_issued : after.issued ≡ before.issued

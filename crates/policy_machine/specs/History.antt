@@ -72,13 +72,14 @@ live_pin before pin =
     live_in None = None
     live_in (Some entry) = pin_of entry.reply
 
+-- the position of a pin, if there is one
+abbrev pub pinned_position : Option (ℕ × ℕ) → Option ℕ
+pinned_position None = None
+pinned_position (Some pin) = Some pin.0
+
 -- the positions of the live pins
 abbrev pub live_positions : List Entry → List ℕ
-live_positions before = filter_map (λ pin. position_in (live_pin before pin)) (range_with_len 0 (length before))
-  where
-    position_in : Option (ℕ × ℕ) → Option ℕ
-    position_in None = None
-    position_in (Some pin) = Some pin.0
+live_positions before = filter_map (λ pin. pinned_position (live_pin before pin)) (range_with_len 0 (length before))
 
 -- a pin's turn was this caller's
 abbrev pub IsOwnPin : List Entry → ℕ → ℕ → Type 0

@@ -1,44 +1,64 @@
-ghost use Rattle.std.specs.Prelude.{◌≡◌, IfSome, IfOk, IsSome};
+ghost use Rattle.std.specs.Prelude.{◌≡◌, IfSome, IfOk};
 ghost use Rattle.std.specs.Option.{option_copied};
 ghost use Rattle.policy_types.specs.Valid.{IsValid, id_of};
-ghost use Rattle.policy_machine.specs.Book.{issue_id};
 ghost use Rattle.policy_machine.specs.Rules.{IsSound, next};
 
-use policy_types::{Command, Policy, Refusal, Status};
+use crate::benefits::{claim, mature, settle};
+use crate::contract::{alter, issue};
+use crate::premiums::{lapse, pay, reinstate};
+use policy_types::{Command, Policy, Refusal};
 
-/// What an issue makes of the policy of its number, if there is one.
+/// What a command makes of the policy of its number, or why it is refused: the first of its checks that applies. With
+/// no policy of the number all but an issue is `Unknown`.
 pub fn decide(policy: Option<&Policy>, command: &Command) -> Result<Policy, Refusal>
     requires valid { IsValid command.now }
-    requires issue { IsSome (issue_id command.now) }
+    requires own { IfSome (option_copied policy) (λ p. p.id ≡ id_of command.now) }
+    requires sound { IfSome (option_copied policy) IsSound }
     ensures decided { result ≡ next (option_copied policy.entry) command.now }
     ensures sound { IfOk result IsSound }
 {
-    let Command::Issue {
-        id,
-        day,
-        plan,
-        age,
-        years,
-        amount,
-        premium,
-    } = *command
-    else {
-        unreachable!()
-    };
     match policy {
-        Some(_) => Err(Refusal::Taken),
-        None => Ok(Policy {
+        Some(policy) => change(*policy, *command),
+        None => begin(*command),
+    }
+}
+
+// A policy where the command issues one.
+fn begin(command: Command) -> Result<Policy, Refusal>
+    ensures { result ≡ next None command }
+{
+    match command {
+        Command::Issue {
             id,
+            day,
             plan,
             age,
             years,
             amount,
             premium,
-            issued: day,
-            last: day,
-            paid: 0,
-            status: Status::InForce,
-            outstanding: 0,
-        }),
+        } => Ok(issue(id, day, plan, age, years, amount, premium)),
+        _ => Err(Refusal::Unknown),
+    }
+}
+
+fn change(policy: Policy, command: Command) -> Result<Policy, Refusal>
+    requires own { policy.id ≡ id_of command }
+    requires sound { IsSound policy }
+    ensures { result ≡ next (Some policy) command }
+{
+    match command {
+        Command::Issue { .. } => Err(Refusal::Taken),
+        Command::Premium { day, amount, .. } => pay(policy, day, amount),
+        Command::Alter {
+            day,
+            amount,
+            premium,
+            ..
+        } => alter(policy, day, amount, premium),
+        Command::Lapse { day, .. } => lapse(policy, day),
+        Command::Reinstate { day, amount, .. } => reinstate(policy, day, amount),
+        Command::Claim { day, .. } => claim(policy, day),
+        Command::Settle { day, amount, .. } => settle(policy, day, amount),
+        Command::Mature { day, .. } => mature(policy, day),
     }
 }

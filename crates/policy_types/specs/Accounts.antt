@@ -1,5 +1,5 @@
 -- What an accepted command books on the four accounts, in cents. Every booking adds up to 0
-use Rattle.std.specs.Prelude.{ℕ, ℤ, pos, ◌-ℤ◌}
+use Rattle.std.specs.Prelude.{ℕ, ℤ, pos, ◌+ℤ◌, ◌-ℤ◌, ◌≤ℤ◌}
 use Rattle.policy_types.specs.declared.command.Command.{Command}
 use Rattle.policy_types.specs.declared.command.Command.TheVariants.{Issue, Premium, Alter, Lapse, Reinstate, Claim, Settle, Mature}
 use Rattle.policy_types.specs.declared.policy.Policy.{Policy}
@@ -47,3 +47,24 @@ booking_of (Reinstate id day amount) after = premium_received amount
 booking_of (Claim id day) after = benefit_incurred after.amount
 booking_of (Settle id day amount) after = benefit_paid amount
 booking_of (Mature id day) after = booked_at_term after.status after.amount
+
+-- two bookings added up, account by account
+abbrev pub added : Booking → Booking → Booking
+added a b = record {
+  cash = a.cash +ℤ b.cash;
+  premiums = a.premiums +ℤ b.premiums;
+  incurred = a.incurred +ℤ b.incurred;
+  payable = a.payable +ℤ b.payable;
+}
+
+-- what the four accounts have together
+abbrev pub sum_of : Booking → ℤ
+sum_of b = b.cash +ℤ b.premiums +ℤ b.incurred +ℤ b.payable
+
+-- so many cents at most, on either side of an account
+abbrev pub IsWithin : ℕ → ℤ → Type 0
+IsWithin most balance = (against most ≤ℤ balance) × (balance ≤ℤ pos most)
+
+-- no account has more
+abbrev pub AreWithin : ℕ → Booking → Type 0
+AreWithin most b = IsWithin most b.cash × IsWithin most b.premiums × IsWithin most b.incurred × IsWithin most b.payable

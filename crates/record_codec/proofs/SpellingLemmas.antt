@@ -8,8 +8,9 @@ use Rattle.policy_types.specs.declared.command.Command.TheVariants.{Issue, Premi
 use Rattle.policy_types.specs.declared.command.Plan.TheVariants.{Term, Whole, Endowment, Limited}
 use Rattle.policy_types.specs.Valid.{IsValid}
 use Rattle.record_codec.specs.declared.fields.Fields.{Fields}
-use Rattle.record_codec.specs.Fields.{fields_of, command_at}
-use Rattle.record_codec.specs.Spelling.{body_of, AreInRange, spelling_of, IsSpelling}
+use Rattle.record_codec.specs.Fields.{fields_of}
+use Rattle.record_codec.specs.Spelling.{body_of, spelling_of, IsSpelling}
+use Rattle.record_codec.specs.inside.Reading.{command_at, AreInRange}
 
 -- the numbers that stand in four and in eight bytes of a body
 abbrev pub word_at : List ℕ → ℕ → ℕ
@@ -88,3 +89,9 @@ pub command_read : (body : List ℕ) (read : Fields) (made : Option Command) →
 unfolding spelling_of
 command_read body read made is e c h =
     e ∙ ap command_at (is (fields_of c) (AreInRange-valid c h.valid) h.spelled) ∙ command_at-fields_of c
+
+-- a body doesn't end in a one
+pub last_byte : {body : List ℕ} {c : Command} → IsSpelling body c → get_or body 63 0 ≡ 1 → ⊥
+unfolding spelling_of
+last_byte {body = body} h one =
+    let last : get_or body 63 0 ≡ 0 = ap (λ b. get_or b 63 0) h.spelled in omega (arith, last, one)

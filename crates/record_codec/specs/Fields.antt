@@ -1,5 +1,5 @@
--- The fields of a command in a record, 0 where its kind has none.
-use Rattle.std.specs.Prelude.{ℕ, ◌==◌, if◌then◌else◌, ℤ, Option, Some, None, option_map}
+-- The fields of a command in a record, each 0 where its kind has none
+use Rattle.std.specs.Prelude.{ℕ, ℤ}
 use Rattle.policy_types.specs.declared.command.Command.{Command}
 use Rattle.policy_types.specs.declared.command.Command.TheVariants.{Issue, Premium, Alter, Lapse, Reinstate, Claim, Settle, Mature}
 use Rattle.policy_types.specs.declared.command.Plan.{Plan}
@@ -44,21 +44,3 @@ fields_of (Reinstate id day amount) = short_fields 5 id day amount 0
 fields_of (Claim id day) = short_fields 6 id day 0 0
 fields_of (Settle id day amount) = short_fields 7 id day amount 0
 fields_of (Mature id day) = short_fields 8 id day 0 0
-
--- the plan of a byte
-abbrev pub plan_at : ℕ → Option Plan
-plan_at byte =
-    if byte == 1 then Some Term else if byte == 2 then Some Whole
-    else if byte == 3 then Some Endowment else if byte == 4 then Some Limited else None
-
--- the command of which these may be the fields
-abbrev pub command_at : Fields → Option Command
-command_at f =
-    if f.kind == 1 then option_map (λ plan. Issue f.id f.day plan f.age f.years f.amount f.premium) (plan_at f.plan)
-    else if f.kind == 2 then Some (Premium f.id f.day f.amount)
-    else if f.kind == 3 then Some (Alter f.id f.day f.amount f.premium)
-    else if f.kind == 4 then Some (Lapse f.id f.day)
-    else if f.kind == 5 then Some (Reinstate f.id f.day f.amount)
-    else if f.kind == 6 then Some (Claim f.id f.day)
-    else if f.kind == 7 then Some (Settle f.id f.day f.amount)
-    else if f.kind == 8 then Some (Mature f.id f.day) else None

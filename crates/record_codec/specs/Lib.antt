@@ -1,2 +1,4 @@
 pub mod Fields
 pub mod Spelling
+pub mod Worked
+pub mod inside

@@ -1,8 +1,7 @@
--- The body of a journal's record: 64 bytes that spell one command.
-use Rattle.std.specs.Prelude.{◌≡◌, ◌++◌, List, [], ◌∷◌, ℕ, ◌<◌, ◌^◌, FitsSigned, replicate}
+-- The body of a journal's record: 64 bytes that spell one command
+use Rattle.std.specs.Prelude.{◌≡◌, ◌++◌, List, [], ◌∷◌, ℕ, replicate}
 use Rattle.std.specs.Int.{w32, w64, to_be_bytes, cast_unsigned}
 use Rattle.policy_types.specs.declared.command.Command.{Command}
-use Rattle.policy_types.specs.declared.command.Command.TheVariants.{Issue}
 use Rattle.policy_types.specs.Valid.{IsValid}
 use Rattle.record_codec.specs.declared.fields.Fields.{Fields}
 use Rattle.record_codec.specs.Fields.{fields_of}
@@ -19,13 +18,6 @@ field_bytes f =
 abbrev pub body_of : Fields → List ℕ
 body_of f = field_bytes f ++ replicate 36 0
 
--- the numbers fit their bytes
-pub record AreInRange (f : Fields) : Type 0 where
-  pub id_in : f.id < 2 ^ 32
-  pub day_in : FitsSigned w32 f.day
-  pub amount_in : f.amount < 2 ^ 64
-  pub premium_in : f.premium < 2 ^ 64
-
 -- the body of a command
 unfoldable pub spelling_of : Command → List ℕ
 spelling_of command = body_of (fields_of command)
@@ -34,8 +26,3 @@ spelling_of command = body_of (fields_of command)
 pub record IsSpelling (body : List ℕ) (command : Command) : Type 0 where
   pub valid : IsValid command
   pub spelled : body ≡ spelling_of command
-
--- the command opens a policy
-abbrev pub IsIssuing : Command → Type 0
-IsIssuing (Issue id day plan age years amount premium) = Unit {0}
-IsIssuing _ = ⊥

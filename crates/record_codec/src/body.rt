@@ -2,7 +2,8 @@
 ghost use Rattle.std.specs.Prelude.{◌≡◌, ◌+◌, ◌≤◌, [], ◌∷◌, slice_index};
 ghost use Rattle.std.specs.Int.{w32, w64, from_be_bytes};
 ghost use Rattle.record_codec.specs.declared.fields.Fields.{Fields};
-ghost use Rattle.record_codec.specs.Spelling.{field_bytes, body_of, AreInRange};
+ghost use Rattle.record_codec.specs.Spelling.{field_bytes, body_of};
+ghost use Rattle.record_codec.specs.inside.Reading.{AreInRange};
 
 use crate::fields::Fields;
 

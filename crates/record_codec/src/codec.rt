@@ -1,36 +1,32 @@
 // Records of commands.
-ghost use Rattle.std.specs.Prelude.{◌≡◌, ◌↔◌, IsTrue, Some, IfSome};
+ghost use Rattle.std.specs.Prelude.{◌≡◌, Some, IfSome};
 ghost use Rattle.policy_types.specs.Valid.{IsValid};
 ghost use Rattle.policy_types.specs.declared.command.Command.{Command};
-ghost use Rattle.record_codec.specs.Spelling.{spelling_of, IsSpelling, IsIssuing};
+ghost use Rattle.record_codec.specs.Spelling.{spelling_of, IsSpelling};
 
 use crate::body::{body_with, fields_at};
 use crate::fields::{command_with, fields_with};
 use policy_types::Command;
 
-/// The body of a record, 64 bytes, that spells a valid command. So far only an `Issue` is recorded.
+/// The body of a record, 64 bytes, that spells a valid command.
 pub fn encode(command: &Command) -> [u8; 64]
-    requires issuing { IsIssuing command.now }
-    requires valid { IsValid command.now }
+    requires { IsValid command.now }
     ensures { result ≡ spelling_of command.now }
 {
     body_with(fields_with(command))
 }
 
-/// The `Issue` that a record's body spells, and `None` exactly where it spells no valid one.
+/// The valid command that a record's body spells, and `None` exactly where it spells none.
 pub fn decode(body: &[u8; 64]) -> Option<Command>
-    ensures some { IfSome result (λ command. IsIssuing command × IsSpelling body.now command) }
-    ensures exact { (command : Command) → IsIssuing command → IsSpelling body.now command
-        → result ≡ Some command }
+    ensures some { IfSome result (IsSpelling body.now) }
+    ensures exact { (command : Command) → IsSpelling body.now command → result ≡ Some command }
 {
     let command = command_in(body)?;
-    if !opens_policy(&command) {
-        return None;
-    }
     if command.is_valid() && encode(&command).as_slice() == body.as_slice() {
-        return Some(command);
+        Some(command)
+    } else {
+        None
     }
-    None
 }
 
 // The command whose fields stand in the body. What else the body holds isn't tested.
@@ -38,10 +34,4 @@ fn command_in(body: &[u8; 64]) -> Option<Command>
     ensures { (command : Command) → IsSpelling body.now command → result ≡ Some command }
 {
     command_with(fields_at(body))
-}
-
-fn opens_policy(command: &Command) -> bool
-    ensures { IsTrue result ↔ IsIssuing command.now }
-{
-    matches!(*command, Command::Issue { .. })
 }

@@ -1,6 +1,4 @@
 //! The body of a journal's record: a command as 64 bytes, and back.
-//!
-//! Only commands that open a policy are recorded so far.
 #![tactic(auto)]
 
 mod body;
@@ -9,6 +7,7 @@ mod fields;
 mod laws;
 #[cfg(test)]
 mod tests;
+pub mod worked;
 
 pub use codec::{decode, encode};
 pub use laws::spells_one_command;

@@ -8,11 +8,11 @@ use Rattle.xtbml_subset.specs.declared.class.Class.TheVariants.{White, Text}
 use Rattle.xtbml_subset.specs.declared.state.Phase.{Phase}
 use Rattle.xtbml_subset.specs.declared.state.Phase.TheVariants.{Opening, Prolog, Epilog}
 use Rattle.xtbml_subset.specs.Classes.{is_in, InClass}
-use Rattle.xtbml_subset.specs.Pieces.{Tag, Piece, byte, comment, declaration, start, whole, finish, IsPiece}
-use Rattle.xtbml_subset.specs.Nesting.{State, outside, past, after_piece, Spell, IsMark}
-use Rattle.xtbml_subset.specs.Walk.{walk_at, walk_from, after_mark, fault_place, fault_at}
+use Rattle.xtbml_subset.specs.Pieces.{Tag, Piece, byte, comment, declaration, start, whole, finish, IsPiece, IsMark, Spell}
+use Rattle.xtbml_subset.specs.inside.Machine.{State, outside, past, after_piece}
+use Rattle.xtbml_subset.specs.inside.Walk.{walk_at, walk_from, after_mark, fault_place, fault_at}
 use Rattle.xtbml_subset.specs.Documents.{Content, nothing, letter, remark, element, IsElement, IsContent, AreMisc, IsMisc, IsOpening, Node, IsDocument}
-use Rattle.xtbml_subset.proofs.LexAgain.{at_white}
+use Rattle.xtbml_subset.proofs.LexAgain.{at_white, white_is_text}
 use Rattle.xtbml_subset.proofs.PieceAgain.{piece_again}
 use Rattle.xtbml_subset.proofs.Walking.{walk_step}
 
@@ -159,9 +159,6 @@ root_walk root at text rest phase is may =
           ∙ content_walk 63 root.inner (at + length w.0) w.1 (w.2 ++ rest) root.tag.name [] w.5 refl
           ∙ piece_walk (finish root.tag.name) w.2 rest opened (outside Epilog) w.6 (finish_goes root.tag.name [])
     ]
-
-white_is_text : (b : ℕ) → is_in White b ≡ true → is_in Text b ≡ true
-white_is_text b white = let other : eqb b 60 ≡ false = at_white (λ n. eqb n 60) refl refl refl refl b white in rw other refl
 
 space_walk : (space rest : List ℕ) (phase : Phase) → InClass White space → walk_at (outside phase) (space ++ rest) ≡ walk_at (outside phase) rest
 space_walk [] rest phase white = refl

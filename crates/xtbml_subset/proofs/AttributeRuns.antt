@@ -3,7 +3,7 @@ use Rattle.std.proofs.Common.{cond, ◌≡◌, ℕ, List, [], ◌∷◌, ◌++�
 use Rattle.std.specs.Str.{bytes_eq}
 use Rattle.xtbml_subset.specs.Texts.{value_of}
 use Rattle.xtbml_subset.specs.Pieces.{Attribute, IsSpace}
-use Rattle.xtbml_subset.specs.Reading.{attribute_at, attributes_from, attributes_at, with_attribute}
+use Rattle.xtbml_subset.specs.inside.Reading.{attribute_at, attributes_from, attributes_at, with_attribute}
 use Rattle.xtbml_subset.proofs.Behind.{IsBehind, behind_count}
 use Rattle.xtbml_subset.proofs.Lexing.{attribute_takes}
 

@@ -7,8 +7,8 @@ use Rattle.std.specs.Str.{bytes_eq}
 use Rattle.xtbml_subset.specs.declared.class.Class.TheVariants.{White, Text}
 use Rattle.xtbml_subset.specs.declared.state.Phase.TheVariants.{Opening, Prolog, Epilog}
 use Rattle.xtbml_subset.specs.Classes.{is_in}
-use Rattle.xtbml_subset.specs.Pieces.{Tag, Piece, byte, comment, declaration, start, whole, finish, IsPiece}
-use Rattle.xtbml_subset.specs.Nesting.{State, outside, Spell, Nests, IsMark}
+use Rattle.xtbml_subset.specs.Pieces.{Tag, Piece, byte, comment, declaration, start, whole, finish, IsPiece, IsMark, Spell}
+use Rattle.xtbml_subset.specs.inside.Machine.{State, outside, Steps}
 use Rattle.xtbml_subset.specs.Documents.{Content, nothing, letter, remark, element, IsElement, IsContent, AreMisc, IsMisc, IsOpening, Node, IsDocument}
 use Rattle.xtbml_subset.proofs.Options.{chosen}
 
@@ -108,10 +108,10 @@ finish_closes levels name names at text rest is h =
     (nothing, [], text, rest, refl, refl, is, place_moves (suc levels) names _ (at + 0 + length text) rest moved h)
 
 abbrev NestsToEnd : List (List ℕ) → List Piece → Type 0
-NestsToEnd names pieces = Nests (open_state names) pieces (outside Epilog)
+NestsToEnd names pieces = Steps (open_state names) pieces (outside Epilog)
 
-next_is : (state next : State) (pieces : List Piece) → some_state state ≡ Some next → Nests next pieces (outside Epilog) → Nests state pieces (outside Epilog)
-next_is state next pieces e h = subst (λ (s : State). Nests s pieces (outside Epilog)) (sym (same_state state next e)) h
+next_is : (state next : State) (pieces : List Piece) → some_state state ≡ Some next → Steps next pieces (outside Epilog) → Steps state pieces (outside Epilog)
+next_is state next pieces e h = subst (λ (s : State). Steps s pieces (outside Epilog)) (sym (same_state state next e)) h
 
 no_next : (next : State) (P : Type 0) → None ≡ some_state next → P
 no_next next P e = absurd cc
@@ -238,7 +238,7 @@ roots_start at tag opening rest pieces is spelled nests =
     let whole_is : opening ++ rest ≡ text ++ h.3 = ap (λ (s : List ℕ). opening ++ s) h.4 ∙ three opening h.1 h.2 h.3 in
     subst (Roots at) (sym whole_is) (roots_here at tag h.0 text h.3 (refl, inr (opening, h.1, h.2, refl, is, h.5, h.6)) h.7)
 
-pub roots : (pieces : List Piece) (at : ℕ) (bytes : List ℕ) → Spell pieces bytes → Nests (outside Prolog) pieces (outside Epilog) → Roots at bytes
+pub roots : (pieces : List Piece) (at : ℕ) (bytes : List ℕ) → Spell pieces bytes → Steps (outside Prolog) pieces (outside Epilog) → Roots at bytes
 roots [] at bytes spelled nests = absurd (let e : Prolog ≡ Epilog = ap (λ (s : State). s.phase) nests in cc)
 roots (byte b ∷ pieces) at bytes spelled nests =
     elim (chosen (is_in White b) (Some (outside Prolog)) None (Some nests.0) nests.1) [
@@ -290,7 +290,7 @@ opens_white at b rest white is_text o =
           }
     ]
 
-pub opens : (pieces : List Piece) (at : ℕ) (bytes : List ℕ) → Spell pieces bytes → Nests (outside Opening) pieces (outside Epilog) → Opens at bytes
+pub opens : (pieces : List Piece) (at : ℕ) (bytes : List ℕ) → Spell pieces bytes → Steps (outside Opening) pieces (outside Epilog) → Opens at bytes
 opens [] at bytes spelled nests = absurd (let e : Opening ≡ Epilog = ap (λ (s : State). s.phase) nests in cc)
 opens (byte b ∷ pieces) at bytes spelled nests =
     elim (chosen (is_in White b) (Some (outside Opening)) None (Some nests.0) nests.1) [

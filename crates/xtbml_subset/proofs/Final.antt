@@ -5,15 +5,22 @@ use Rattle.rate_table.specs.Rates.{Rates}
 use Rattle.xtbml_subset.specs.declared.fault.TableKind.TheVariants.{NotDocument}
 use Rattle.xtbml_subset.specs.declared.fault.TableFault.{TableFault}
 use Rattle.xtbml_subset.specs.declared.fault.TableFault.TheVariants.{Bad, NoMemory}
-use Rattle.xtbml_subset.specs.Walk.{fault_at}
-use Rattle.xtbml_subset.specs.Elements.{Found, elements_at}
+use Rattle.xtbml_subset.specs.inside.Walk.{fault_at}
+use Rattle.xtbml_subset.specs.declared.found.Element.{Element}
+use Rattle.xtbml_subset.specs.declared.search.Search.{Search}
+use Rattle.xtbml_subset.specs.declared.search.Search.TheVariants.{Seeking, Hit, Missed}
+use Rattle.xtbml_subset.specs.declared.path.Path.{Path as APath}
+use Rattle.xtbml_subset.specs.inside.Elements.{Found, depth_in, elements_from, elements_at}
+use Rattle.xtbml_subset.specs.inside.Searches.{Stands, IsPath, IsFound}
+use Rattle.xtbml_subset.specs.inside.Views.{found_of, sought_of, path_of}
 use Rattle.xtbml_subset.specs.Checks.{Parts, parts_of, IsTable}
-use Rattle.xtbml_subset.specs.Rows.{found_asks, Unless}
+use Rattle.xtbml_subset.specs.inside.Rows.{found_asks}
 use Rattle.xtbml_subset.specs.Documents.{Node, IsDocument, node_asks}
-use Rattle.xtbml_subset.specs.Answers.{IsLongestNested, IsJudged, IsNoDocument, IsDue, Gives}
+use Rattle.xtbml_subset.specs.Answers.{IsLongestNested, IsJudged, IsNoDocument, IsDue, Gives, Unless}
 use Rattle.xtbml_subset.proofs.Accepting.{document_accepted}
 use Rattle.xtbml_subset.proofs.Sounding.{whole_document, longest_nested}
 use Rattle.xtbml_subset.proofs.Matching.{Matches, finds_root}
+use Rattle.xtbml_subset.proofs.Surveying.{path_found}
 use Rattle.xtbml_subset.proofs.Judging.{parts_same, table_one}
 
 -- ---- no document
@@ -26,8 +33,8 @@ fault_due bytes at e = inr (not_accepted bytes at e, (at, longest_nested bytes a
 
 one_longest : (bytes : List ℕ) (m n : ℕ) → IsLongestNested bytes m → IsLongestNested bytes n → m ≡ n
 one_longest bytes m n a b =
-    let up : m ≤ n = b.longest m a.end a.within a.nested in
-    let down : n ≤ m = a.longest n b.end b.within b.nested in
+    let up : m ≤ n = b.longest m a.within a.nested in
+    let down : n ≤ m = a.longest n b.within b.nested in
     omega arith
 
 pub fault_only : (bytes : List ℕ) (at : ℕ) (answer : Result Rates TableFault) → Some at ≡ fault_at bytes → IsDue bytes answer → answer ≡ Err (Bad at NotDocument)
@@ -48,12 +55,32 @@ same_parts bytes f others root e d =
     let same : r.found ≡ f = heads_are r.found f r.others others (sym r.first ∙ e) in
     parts_same (length bytes) f root (subst (λ (x : Found). Matches (length bytes) x root) same r.matches)
 
-pub some_root : (bytes : List ℕ) → None ≡ fault_at bytes → elements_at 0 None bytes ≡ [] → ⊥
+some_root : (bytes : List ℕ) → None ≡ fault_at bytes → elements_at 0 None bytes ≡ [] → ⊥
 some_root bytes e none =
     let d = whole_document bytes (sym e) in
     let r = finds_root bytes d.0 d.1 in
     let both : r.found ∷ r.others ≡ [] = sym r.first ∙ none in
     absurd cc
+
+nothing_left : (bytes : List ℕ) → elements_at 0 None bytes ≡ elements_at 0 None [] → elements_at 0 None bytes ≡ []
+unfolding elements_from
+nothing_left bytes e = e
+
+-- the root was found
+pub root_found : (bytes : List ℕ) (search : Search) → None ≡ fault_at bytes → Stands 0 None 0 [] (elements_at 0 None bytes) (sought_of search) → ((e : Element) → search ≡ Hit e → ⊥) → ⊥
+root_found bytes Seeking e stands other = some_root bytes e (nothing_left bytes stands.1)
+root_found bytes Missed e stands other = some_root bytes e stands
+root_found bytes (Hit element) e stands other = other element refl
+
+abbrev pub behind_root : Found → List Found
+behind_root f = elements_at (depth_in f.is_open) None f.rest
+
+pub root_first : (bytes : List ℕ) (search : Search) (root : Element) → search ≡ Hit root → Stands 0 None 0 [] (elements_at 0 None bytes) (sought_of search)
+    → elements_at 0 None bytes ≡ found_of root ∷ behind_root (found_of root)
+root_first bytes search root e stands = subst (λ s. Stands 0 None 0 [] (elements_at 0 None bytes) (sought_of s)) e stands
+
+pub path_of_root : (bytes : List ℕ) (path : APath) (root : Element) → path.root ≡ Hit root → IsPath bytes 0 [] (path_of path) → IsFound (found_of root) (path_of path)
+path_of_root bytes path root e is = path_found bytes (path_of path) (found_of root) (ap sought_of e) is
 
 pub judged_by : (bytes : List ℕ) (f : Found) (others : List Found) (answer : Result Rates TableFault) → None ≡ fault_at bytes → elements_at 0 None bytes ≡ f ∷ others
     → IsTable (parts_of (found_asks (length bytes)) f) answer → IsJudged bytes answer

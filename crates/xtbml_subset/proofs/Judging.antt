@@ -9,8 +9,8 @@ use Rattle.xtbml_subset.specs.declared.fault.TableFault.{TableFault}
 use Rattle.xtbml_subset.specs.declared.fault.TableFault.TheVariants.{Bad}
 use Rattle.xtbml_subset.specs.Texts.{◌>>=◌, trimmed}
 use Rattle.xtbml_subset.specs.Pieces.{Tag}
-use Rattle.xtbml_subset.specs.Elements.{Found, children_at}
-use Rattle.xtbml_subset.specs.Rows.{row_of, found_asks}
+use Rattle.xtbml_subset.specs.inside.Elements.{Found, children_at}
+use Rattle.xtbml_subset.specs.inside.Rows.{row_of, found_asks}
 use Rattle.xtbml_subset.specs.Documents.{Node, named_in, node_row, node_asks}
 use Rattle.xtbml_subset.specs.Checks.{Row, first, ◌>=>◌, or_fault, within, rooted, path, rates_in, rates_of, factor_of, age_of, is_due, Reads, rated, IsAged, with_rate, Continues, AreRows, IsScale, Parts, option_row, parts_of, first_age, IsScaledTable, IsTable}
 use Rattle.xtbml_subset.proofs.Matching.{Matches, AllMatch, children_match, row_match}

@@ -2,10 +2,10 @@
 use Rattle.std.proofs.Common.{◌≡◌, ℕ, Bool, true, false, eqb, ◌||◌, List, [], ◌∷◌, ◌++◌, Some, None, refl, sym, ap, subst, ◌∙◌, ◌⊎◌, inl, inr, append_assoc}
 use Rattle.std.proofs.lemmas.Bool.{eqb-true, eq-eqb, or_cases, cases_Bool, true≢false}
 use Rattle.xtbml_subset.specs.declared.class.Class.{Class}
-use Rattle.xtbml_subset.specs.declared.class.Class.TheVariants.{White, Name, DoubleQuoted, SingleQuoted}
+use Rattle.xtbml_subset.specs.declared.class.Class.TheVariants.{White, Name, DoubleQuoted, SingleQuoted, Text}
 use Rattle.xtbml_subset.specs.Classes.{is_in, starts_name, InClass, front, after}
 use Rattle.xtbml_subset.specs.Pieces.{Attribute, IsSpace, IsName, IsQuoted, IsAttribute}
-use Rattle.xtbml_subset.specs.Reading.{spaces_at, name_at, closed_at, quoted_at, attribute_at}
+use Rattle.xtbml_subset.specs.inside.Reading.{spaces_at, name_at, closed_at, quoted_at, attribute_at}
 
 -- the bytes are over, or go on with a byte that isn't of the class
 abbrev pub Stops : Class → List ℕ → Type 0
@@ -59,6 +59,10 @@ at_white test h9 h10 h13 h32 b h =
                 ]
           ]
     ]
+
+-- white space is text
+pub white_is_text : (b : ℕ) → is_in White b ≡ true → is_in Text b ≡ true
+white_is_text b white = let other : eqb b 60 ≡ false = at_white (λ n. eqb n 60) refl refl refl refl b white in rw other refl
 
 white_no_name : (b : ℕ) → is_in White b ≡ true → is_in Name b ≡ false
 white_no_name b h = at_white (λ n. is_in Name n) refl refl refl refl b h

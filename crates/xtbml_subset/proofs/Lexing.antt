@@ -5,7 +5,7 @@ use Rattle.xtbml_subset.specs.declared.class.Class.{Class}
 use Rattle.xtbml_subset.specs.declared.class.Class.TheVariants.{White, Name, DoubleQuoted, SingleQuoted}
 use Rattle.xtbml_subset.specs.Classes.{is_in, starts_name, InClass, front, after}
 use Rattle.xtbml_subset.specs.Pieces.{Attribute, IsSpace, IsName, IsQuoted, IsAttribute}
-use Rattle.xtbml_subset.specs.Reading.{byte_at, spaces_at, name_at, closed_at, quoted_at, attribute_at}
+use Rattle.xtbml_subset.specs.inside.Reading.{byte_at, spaces_at, name_at, closed_at, quoted_at, attribute_at}
 use Rattle.xtbml_subset.specs.Texts.{◌>>=◌}
 use Rattle.xtbml_subset.proofs.Options.{bind_some, chosen, some_is, pair_is}
 use Rattle.xtbml_subset.proofs.Runs.{front-after, front_in}

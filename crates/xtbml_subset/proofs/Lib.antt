@@ -10,11 +10,16 @@ pub mod Searching
 pub mod RowRuns
 pub mod LexAgain
 pub mod PieceAgain
+pub mod PassedOver
 pub mod Accepting
 pub mod Scales
 pub mod TableRates
 pub mod Building
+pub mod Nested
 pub mod Sounding
 pub mod Matching
+pub mod Surveying
+pub mod PathReading
 pub mod Judging
 pub mod Final
+pub mod WorkedPlaces

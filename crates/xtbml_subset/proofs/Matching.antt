@@ -6,16 +6,17 @@ use Rattle.std.proofs.lemmas.List.{length-append}
 use Rattle.std.specs.Str.{bytes_eq}
 use Rattle.xtbml_subset.specs.declared.class.Class.TheVariants.{White, Text}
 use Rattle.xtbml_subset.specs.Classes.{is_in, starts_name, InClass, front, after}
-use Rattle.xtbml_subset.specs.Pieces.{Tag, Piece, byte, comment, declaration, start, whole, finish, IsPiece, IsName}
-use Rattle.xtbml_subset.specs.Reading.{byte_at}
+use Rattle.xtbml_subset.specs.Pieces.{Tag, Piece, byte, comment, declaration, start, whole, finish, IsPiece, IsName, IsMark, Spell}
+use Rattle.xtbml_subset.specs.inside.Reading.{byte_at}
 use Rattle.xtbml_subset.specs.Texts.{◌>>=◌, value_of}
-use Rattle.xtbml_subset.specs.Nesting.{Spell, IsMark}
-use Rattle.xtbml_subset.specs.Elements.{Found, on, found, closed, is_wanted, is_hit, step_of, elements_at, children_at, text_at}
+use Rattle.xtbml_subset.specs.inside.Elements.{Found, on, found, closed, is_wanted, is_hit, step_of, elements_at, children_at, text_at}
 use Rattle.xtbml_subset.specs.Documents.{Content, nothing, letter, remark, element, IsElement, IsContent, AreMisc, IsOpening, Node, IsDocument, with_named, named_in, with_letter, text_of, node_row}
-use Rattle.xtbml_subset.specs.Rows.{row_of}
-use Rattle.xtbml_subset.proofs.LexAgain.{at_white}
+use Rattle.xtbml_subset.specs.inside.Rows.{row_of}
+use Rattle.xtbml_subset.proofs.LexAgain.{white_is_text}
 use Rattle.xtbml_subset.proofs.PieceAgain.{not_start, piece_again}
+use Rattle.xtbml_subset.specs.inside.Walk.{after_mark}
 use Rattle.xtbml_subset.proofs.Searching.{elements_by}
+use Rattle.xtbml_subset.proofs.Sounding.{splits_mark}
 
 -- an element that was found is this node of the document
 pub record HasContent (total : ℕ) (f : Found) (node : Node) : Type 0 where
@@ -286,9 +287,6 @@ row_match total f node m =
 abbrev Top : List ℕ → List Found
 Top bytes = elements_at 0 None bytes
 
-white_is_text : (b : ℕ) → is_in White b ≡ true → is_in Text b ≡ true
-white_is_text b white = let other : eqb b 60 ≡ false = at_white (λ n. eqb n 60) refl refl refl refl b white in rw other refl
-
 top_misc : (pieces : List Piece) (bytes rest : List ℕ) → Spell pieces bytes → AreMisc pieces → Top (bytes ++ rest) ≡ Top rest
 top_misc [] bytes rest spelled are = ap (λ (s : List ℕ). Top (s ++ rest)) spelled
 top_misc (byte b ∷ pieces) bytes rest spelled are =
@@ -318,6 +316,11 @@ top_mark (b ∷ mark) rest is =
     ∙ pass (byte 239) (239 ∷ []) (187 ∷ 191 ∷ rest) 0 0 None (refl, refl) refl
     ∙ pass (byte 187) (187 ∷ []) (191 ∷ rest) 0 0 None (refl, refl) refl
     ∙ pass (byte 191) (191 ∷ []) rest 0 0 None (refl, refl) refl
+
+pub mark_passed : (bytes : List ℕ) → Top bytes ≡ Top (after_mark bytes)
+mark_passed bytes =
+    let m = splits_mark bytes in
+    ap Top m.parts ∙ top_mark m.mark (after_mark bytes) m.is_mark
 
 -- the root is the first element that is found
 pub record FindsRoot (bytes : List ℕ) (root : Node) : Type 0 where

@@ -1,6 +1,6 @@
 -- Options, tests and tuples taken apart.
 use Rattle.std.proofs.Common.{◌≡◌, Bool, true, false, cond, Option, Some, None, refl, ap, ◌⊎◌, inl, inr}
-use Rattle.xtbml_subset.specs.Reading.{first_of}
+use Rattle.xtbml_subset.specs.inside.Reading.{first_of}
 use Rattle.xtbml_subset.specs.Texts.{◌>>=◌}
 
 pub bind_some : {A B : Type 0} (o : Option A) (f : A → Option B) (y : B) → (o >>= f) ≡ Some y → (x : A) × (o ≡ Some x) × (f x ≡ Some y)

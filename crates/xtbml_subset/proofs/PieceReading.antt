@@ -1,10 +1,10 @@
 -- A piece that is read is a piece of the grammar, and something stands before what is left.
-use Rattle.std.proofs.Common.{◌≡◌, ◌≢◌, ℕ, zero, suc, ◌<◌, ◌≤◌, true, cond, eqb, List, [], ◌∷◌, ◌++◌, length, Option, Some, None, refl, sym, ap, subst, ◌∙◌, inl, inr, append_assoc, arith}
-use Rattle.std.proofs.lemmas.Bool.{eqb-true}
+use Rattle.std.proofs.Common.{◌≡◌, ◌≢◌, ℕ, zero, suc, ◌<◌, ◌≤◌, true, false, cond, eqb, List, [], ◌∷◌, ◌++◌, length, Option, Some, None, refl, sym, ap, subst, ◌∙◌, inl, inr, append_assoc, arith}
+use Rattle.std.proofs.lemmas.Bool.{eqb-true, not-true}
 use Rattle.xtbml_subset.specs.declared.class.Class.TheVariants.{White, Declared, Text}
 use Rattle.xtbml_subset.specs.Classes.{is_in, front, after}
 use Rattle.xtbml_subset.specs.Pieces.{Attribute, Tag, Piece, byte, comment, declaration, start, whole, finish, IsName, AreAttributes, IsTag, IsEndTag, EndsByDashes, IsDeclaration, IsPiece}
-use Rattle.xtbml_subset.specs.Reading.{byte_at, spaces_at, name_at, attribute_at, attributes_from, attributes_at, with_attribute, dashes_at, comment_end_at, comment_at, declaration_at, end_tag_at, start_at, whole_at, tag_end_at, tag_at, marked_at, piece_at}
+use Rattle.xtbml_subset.specs.inside.Reading.{byte_at, spaces_at, name_at, attribute_at, attributes_from, attributes_at, with_attribute, dashes_at, comment_end_at, comment_at, declaration_at, end_tag_at, start_at, whole_at, tag_end_at, tag_at, marked_at, piece_at}
 use Rattle.xtbml_subset.specs.Texts.{◌>>=◌}
 use Rattle.xtbml_subset.proofs.Options.{bind_some, first_of_some, chosen, pair_is, some_pair}
 use Rattle.xtbml_subset.proofs.Runs.{front-after, front_in}
@@ -231,3 +231,9 @@ pub piece_behind : (bytes : List ℕ) (piece : Piece) (rest : List ℕ) → piec
 piece_behind bytes piece rest e =
     let t = piece_takes bytes piece rest e in
     subst (λ (s : List ℕ). IsBehind s rest) (sym t.parts) (piece_text_behind piece t.text rest t.is_piece)
+
+-- ---- runs of single bytes
+
+pub piece_byte : (b : ℕ) (bytes : List ℕ) → is_in Text b ≡ true → piece_at (b ∷ bytes) ≡ Some (byte b, bytes)
+unfolding piece_at
+piece_byte b bytes is = let other : eqb b 60 ≡ false = not-true (eqb b 60) is in rw other refl

@@ -5,18 +5,16 @@ use Rattle.std.proofs.lemmas.List.{append-nil}
 use Rattle.xtbml_subset.specs.declared.found.Element.{Element}
 use Rattle.xtbml_subset.specs.declared.fault.TableFault.{TableFault}
 use Rattle.xtbml_subset.specs.declared.fault.TableFault.TheVariants.{Bad, NoMemory}
-use Rattle.xtbml_subset.specs.Elements.{Found, siblings_at}
+use Rattle.xtbml_subset.specs.inside.Elements.{Found, siblings_at}
 use Rattle.xtbml_subset.specs.Checks.{Row, IsRow, AreRows, with_rate}
-use Rattle.xtbml_subset.specs.Rows.{row_of, Unless}
-use Rattle.xtbml_subset.specs.Views.{found_of}
+use Rattle.xtbml_subset.specs.inside.Rows.{row_of, rows_from}
+use Rattle.xtbml_subset.specs.Answers.{Unless}
+use Rattle.xtbml_subset.specs.inside.Views.{found_of}
 
 -- rates that were read, before those to come
 abbrev pub ahead : List ℕ → Result (List ℕ) TableFault → Result (List ℕ) TableFault
 ahead rates (Ok more) = Ok (rates ++ more)
 ahead rates (Err fault) = Err fault
-
-abbrev pub rows_from : ℕ → Found → List Row
-rows_from total element = row_of total element ∷ map (λ e. row_of total e) (siblings_at (codes "Y") element)
 
 abbrev pub rows_left : ℕ → Option Element → List Row
 rows_left total None = []

@@ -6,11 +6,11 @@ use Rattle.xtbml_subset.specs.declared.state.Phase.{Phase}
 use Rattle.xtbml_subset.specs.declared.state.Phase.TheVariants.{Opening, Prolog, Epilog}
 use Rattle.xtbml_subset.specs.declared.class.Class.TheVariants.{White}
 use Rattle.xtbml_subset.specs.Classes.{is_in}
-use Rattle.xtbml_subset.specs.Pieces.{Piece, byte, comment, declaration, start, whole, finish, IsPiece}
-use Rattle.xtbml_subset.specs.Reading.{byte_at, piece_at}
+use Rattle.xtbml_subset.specs.Pieces.{Piece, byte, comment, declaration, start, whole, finish, IsPiece, IsMark, Spell}
+use Rattle.xtbml_subset.specs.inside.Reading.{byte_at, piece_at}
 use Rattle.xtbml_subset.specs.Texts.{◌>>=◌}
-use Rattle.xtbml_subset.specs.Nesting.{State, outside, after_piece, Spell, Nests, IsMark}
-use Rattle.xtbml_subset.specs.Walk.{walk_at, after_mark, fault_place, fault_at}
+use Rattle.xtbml_subset.specs.inside.Machine.{State, outside, after_piece, Steps}
+use Rattle.xtbml_subset.specs.inside.Walk.{walk_at, after_mark, fault_place, fault_at}
 use Rattle.xtbml_subset.specs.Documents.{Node, IsDocument}
 use Rattle.xtbml_subset.specs.Answers.{IsLongestNested}
 use Rattle.xtbml_subset.proofs.Options.{bind_some, chosen, some_is}
@@ -20,6 +20,7 @@ use Rattle.xtbml_subset.proofs.PieceReading.{piece_takes, piece_behind}
 use Rattle.xtbml_subset.proofs.Walking.{walk_step, walk_stuck, walk_end}
 use Rattle.xtbml_subset.proofs.Accepting.{piece_walk, NoMark, no_mark_after, white_no_mark, begins_no_mark}
 use Rattle.xtbml_subset.proofs.Building.{opens, document_of}
+use Rattle.xtbml_subset.proofs.Nested.{nested_by_walk, walk_by_nested}
 
 -- the pieces that the walk went through
 pub record Walked (state : State) (bytes : List ℕ) (end : State × List ℕ) : Type 0 where
@@ -27,7 +28,7 @@ pub record Walked (state : State) (bytes : List ℕ) (end : State × List ℕ) :
   pub text : List ℕ
   pub parts : bytes ≡ text ++ end.1
   pub spelled : Spell pieces text
-  pub nests : Nests state pieces end.0
+  pub nests : Steps state pieces end.0
 
 walked_none : (state : State) (bytes : List ℕ) → Walked state bytes (state, bytes)
 walked_none state bytes = record { pieces = []; text = []; parts = refl; spelled = refl; nests = refl }
@@ -107,7 +108,7 @@ splits_mark bytes =
 
 -- ---- a document
 
-place_none : (total : ℕ) (phase : Phase) (names : List (List ℕ)) (rest : List ℕ) → fault_place total (record { phase = phase; names = names }, rest) ≡ None
+pub place_none : (total : ℕ) (phase : Phase) (names : List (List ℕ)) (rest : List ℕ) → fault_place total (record { phase = phase; names = names }, rest) ≡ None
     → (rest ≡ []) × (let state : State = record { phase = phase; names = names } in state ≡ outside Epilog)
 place_none total phase names (b ∷ rest) e = absurd cc
 place_none total Epilog [] [] e = (refl, refl)
@@ -125,12 +126,12 @@ whole_document bytes e =
     let p = place_none (length bytes) end.0.phase end.0.names end.1 e in
     let all : rest ≡ w.text = w.parts ∙ ap (λ (s : List ℕ). w.text ++ s) p.0 ∙ append-nil w.text in
     let spelled : Spell w.pieces rest = subst (Spell w.pieces) (sym all) w.spelled in
-    let nests : Nests (outside Opening) w.pieces (outside Epilog) = subst (Nests (outside Opening) w.pieces) p.1 w.nests in
+    let nests : Steps (outside Opening) w.pieces (outside Epilog) = subst (Steps (outside Opening) w.pieces) p.1 w.nests in
     document_of bytes m.mark rest m.parts m.is_mark (opens w.pieces (length m.mark) rest spelled nests)
 
 -- ---- the longest front that nests
 
-nests_walk : (pieces : List Piece) (text more : List ℕ) (state end : State) → Spell pieces text → Nests state pieces end → walk_at state (text ++ more) ≡ walk_at end more
+nests_walk : (pieces : List Piece) (text more : List ℕ) (state end : State) → Spell pieces text → Steps state pieces end → walk_at state (text ++ more) ≡ walk_at end more
 nests_walk [] text more state end spelled nests = ap (λ (s : List ℕ). walk_at state (s ++ more)) spelled ∙ ap (λ (s : State). walk_at s more) nests
 nests_walk (piece ∷ pieces) text more state end spelled nests =
     ap (λ (s : List ℕ). walk_at state (s ++ more)) spelled.2 ∙ ap (walk_at state) (append_assoc spelled.0 spelled.1 more)
@@ -151,7 +152,7 @@ piece_no_mark (finish name) text rest next is goes = begins_no_mark text (47 ∷
 
 -- what follows a front that nests is not shorter than what follows the walk
 not_shorter : (bytes mark text more : List ℕ) (pieces : List Piece) (end : State) → bytes ≡ mark ++ (text ++ more) → IsMark mark → Spell pieces text
-    → Nests (outside Opening) pieces end → length (walk_at (outside Opening) (after_mark bytes)).1 ≤ length more
+    → Steps (outside Opening) pieces end → length (walk_at (outside Opening) (after_mark bytes)).1 ≤ length more
 not_shorter bytes (b ∷ mark) text more pieces end parts is_mark spelled nests =
     let rest : after_mark bytes ≡ text ++ more = ap after_mark parts ∙ ap (λ (s : List ℕ). after_mark (s ++ (text ++ more))) is_mark in
     let same : walk_at (outside Opening) (after_mark bytes) ≡ walk_at end more = ap (walk_at (outside Opening)) rest ∙ nests_walk pieces text more (outside Opening) end spelled nests in
@@ -192,12 +193,14 @@ longest_nested bytes at e =
     let front_is : take at bytes ≡ m.mark ++ w.text = ap (take at) whole_is ∙ take_at (m.mark ++ w.text) end.1 at at_is in
     record {
       within = omega arith;
-      end = end.0;
-      nested = record { mark = m.mark; rest = w.text; pieces = w.pieces; parts = front_is; is_mark = m.is_mark; spelled = w.spelled; nests = w.nests };
-      longest = λ n other le nested.
+      nested = nested_by_walk (take at bytes) end.0
+          (record { mark = m.mark; rest = w.text; pieces = w.pieces; parts = front_is; is_mark = m.is_mark; spelled = w.spelled; steps = w.nests });
+      longest = λ n le nested.
+          let other = walk_by_nested (take n bytes) nested in
+          let o = other.1 in
           let more = drop n bytes in
-          let all : bytes ≡ nested.mark ++ (nested.rest ++ more) = sym (take-append-drop n bytes) ∙ ap (λ (s : List ℕ). s ++ more) nested.parts ∙ append_assoc nested.mark nested.rest more in
-          let low : length end.1 ≤ length more = not_shorter bytes nested.mark nested.rest more nested.pieces other all nested.is_mark nested.spelled nested.nests in
+          let all : bytes ≡ o.mark ++ (o.rest ++ more) = sym (take-append-drop n bytes) ∙ ap (λ (s : List ℕ). s ++ more) o.parts ∙ append_assoc o.mark o.rest more in
+          let low : length end.1 ≤ length more = not_shorter bytes o.mark o.rest more o.pieces other.0 all o.is_mark o.spelled o.steps in
           let count : length bytes ≡ length (take n bytes) + length more = ap (λ (s : List ℕ). length s) (sym (take-append-drop n bytes)) ∙ length-append (take n bytes) more in
           omega (arith, length-take n bytes);
     }

@@ -8,8 +8,8 @@ use Rattle.std.specs.Borrow.{Bor}
 use Rattle.std.specs.Prelude.{MatchBool}
 use Rattle.xtbml_subset.specs.declared.state.Phase.{Phase}
 use Rattle.xtbml_subset.specs.Pieces.{Tag, start, whole}
-use Rattle.xtbml_subset.specs.Nesting.{State, after_names}
-use Rattle.xtbml_subset.specs.Walk.{names_of}
+use Rattle.xtbml_subset.specs.inside.Machine.{State, after_names}
+use Rattle.xtbml_subset.specs.inside.Walk.{names_of}
 
 names_of-set : (depth : ℕ) (names : List (List ℕ)) (i : ℕ) (name : List ℕ) → depth ≤ i → names_of depth (set names i name) ≡ names_of depth names
 names_of-set zero names i name le = refl
@@ -31,7 +31,7 @@ names_pushed names depth name lt =
     let rest : names_of depth (set (texts names) depth name.now) ≡ names_of depth (texts names) = names_of-set depth (texts names) depth name.now (omega arith) in
     rw (add-one, written, first, rest) refl
 
-length-names_of : (depth : ℕ) (names : List (List ℕ)) → length (names_of depth names) ≡ depth
+pub length-names_of : (depth : ℕ) (names : List (List ℕ)) → length (names_of depth names) ≡ depth
 length-names_of zero names = refl
 length-names_of (suc depth) names = ap suc (length-names_of depth names)
 

@@ -4,16 +4,15 @@ use Rattle.rate_table.specs.Rates.{Rates}
 use Rattle.xtbml_subset.specs.declared.fault.TableKind.TheVariants.{NotDocument}
 use Rattle.xtbml_subset.specs.declared.fault.TableFault.{TableFault}
 use Rattle.xtbml_subset.specs.declared.fault.TableFault.TheVariants.{Bad, NoMemory}
-use Rattle.xtbml_subset.specs.Nesting.{State, IsNested}
+use Rattle.xtbml_subset.specs.Nesting.{IsNested}
 use Rattle.xtbml_subset.specs.Documents.{Node, IsDocument, node_asks}
 use Rattle.xtbml_subset.specs.Checks.{parts_of, IsTable}
 
 -- the longest front of the bytes that is a sequence of pieces that nests has this length
 pub record IsLongestNested (bytes : List ℕ) (at : ℕ) : Type 0 where
   pub within : at ≤ length bytes
-  pub end : State
-  pub nested : IsNested (take at bytes) end
-  pub longest : (n : ℕ) (other : State) → n ≤ length bytes → IsNested (take n bytes) other → n ≤ at
+  pub nested : IsNested (take at bytes)
+  pub longest : (n : ℕ) → n ≤ length bytes → IsNested (take n bytes) → n ≤ at
 
 -- The bytes are a document, and by the checks this is the answer.
 abbrev pub IsJudged : List ℕ → Result Rates TableFault → Type 0
@@ -37,3 +36,8 @@ abbrev pub Gives : Result Rates TableFault → Result Rates TableFault → Type 
 Gives (Ok table) answer = answer ≡ Ok table
 Gives (Err (Bad at kind)) answer = answer ≡ Err (Bad at kind)
 Gives (Err NoMemory) answer = Unit {0}
+
+-- a fault that isn't want of memory says this
+abbrev pub Unless : TableFault → Type 0 → Type 0
+Unless NoMemory P = Unit {0}
+Unless (Bad at kind) P = P

@@ -6,10 +6,4 @@ pub mod Texts
 pub mod Documents
 pub mod Checks
 pub mod Answers
--- What the reader finds on its way.
-pub mod Reading
-pub mod Tokens
-pub mod Walk
-pub mod Elements
-pub mod Views
-pub mod Rows
+pub mod inside

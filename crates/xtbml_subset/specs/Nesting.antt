@@ -1,89 +1,97 @@
 -- Which sequences of pieces nest.
-use Rattle.std.specs.Prelude.{◌≡◌, ℕ, if◌then◌else◌, nat_lt, List, [], ◌∷◌, ◌++◌, length, Option, None, Some}
-use Rattle.std.specs.Str.{bytes_eq}
+use Rattle.std.specs.Prelude.{◌≡◌, ℕ, ◌<◌, Bool, true, false, ◌||◌, List, [], ◌∷◌, ◌++◌, length}
 use Rattle.xtbml_subset.specs.declared.class.Class.TheVariants.{White}
-use Rattle.xtbml_subset.specs.declared.state.Phase.{Phase}
-use Rattle.xtbml_subset.specs.declared.state.Phase.TheVariants.{Opening, Prolog, Epilog}
 use Rattle.xtbml_subset.specs.Classes.{is_in}
 use Rattle.xtbml_subset.specs.Pieces.{Piece, byte, comment, declaration, start, whole, finish, IsPiece}
 
--- After some pieces: the names of the elements that are open, the innermost first. Where none is, the phase
--- says what may come: Opening is the start, where nothing stood but white space, Prolog lies between this and
--- the root, Epilog behind the root's start.
-pub record State : Type 0 where
-  pub phase : Phase
-  pub names : List (List ℕ)
+-- EF BB BF counts as a piece too.
+pub data Part : Type 0 where
+  mark : Part
+  piece : Piece → Part
 
-abbrev pub outside : Phase → State
-outside phase = record { phase = phase; names = [] }
+abbrev pub IsPart : Part → List ℕ → Type 0
+IsPart mark text = text ≡ 239 ∷ 187 ∷ 191 ∷ []
+IsPart (piece p) text = IsPiece p text
 
-abbrev pub deepest : ℕ
-deepest = 64
+-- the bytes are these, one behind the other
+abbrev pub AreParts : List Part → List ℕ → Type 0
+AreParts [] bytes = bytes ≡ []
+AreParts (part ∷ parts) bytes =
+    (text : List ℕ) × (rest : List ℕ) × (bytes ≡ text ++ rest) × IsPart part text × AreParts parts rest
 
-abbrev pub past : Phase → Phase
-past Opening = Prolog
-past Prolog = Prolog
-past Epilog = Epilog
+-- The names of the elements that are open, the innermost first: a start tag opens one, an end tag closes the innermost.
+abbrev pub opened : List (List ℕ) → Part → List (List ℕ)
+opened names (piece (start tag)) = tag.name ∷ names
+opened [] (piece (finish last)) = []
+opened (name ∷ names) (piece (finish last)) = names
+opened names mark = names
+opened names (piece (byte b)) = names
+opened names (piece comment) = names
+opened names (piece declaration) = names
+opened names (piece (whole tag)) = names
 
--- What stands outside the root is white space and comments, one declaration with only white space before it,
--- and the root itself.
-abbrev pub after_outside : Phase → Piece → Option State
-after_outside phase (byte b) = if is_in White b then Some (outside phase) else None
-after_outside phase comment = Some (outside (past phase))
-after_outside Opening declaration = Some (outside Prolog)
-after_outside Prolog declaration = None
-after_outside Epilog declaration = None
-after_outside Opening (start tag) = Some (record { phase = Epilog; names = tag.name ∷ [] })
-after_outside Prolog (start tag) = Some (record { phase = Epilog; names = tag.name ∷ [] })
-after_outside Epilog (start tag) = None
-after_outside Opening (whole tag) = Some (outside Epilog)
-after_outside Prolog (whole tag) = Some (outside Epilog)
-after_outside Epilog (whole tag) = None
-after_outside phase (finish name) = None
+abbrev pub open_from : List (List ℕ) → List Part → List (List ℕ)
+open_from names [] = names
+open_from names (part ∷ parts) = open_from (opened names part) parts
 
--- In an element anything stands but a declaration, no element lies too deep, and an end tag has the name of
--- the innermost element that is open.
-abbrev pub after_inside : Phase → List ℕ → List (List ℕ) → Piece → Option State
-after_inside phase name names (byte b) = Some (record { phase = phase; names = name ∷ names })
-after_inside phase name names comment = Some (record { phase = phase; names = name ∷ names })
-after_inside phase name names declaration = None
-after_inside phase name names (start tag) =
-    if nat_lt (length (name ∷ names)) deepest then Some (record { phase = phase; names = tag.name ∷ name ∷ names }) else None
-after_inside phase name names (whole tag) =
-    if nat_lt (length (name ∷ names)) deepest then Some (record { phase = phase; names = name ∷ names }) else None
-after_inside phase name names (finish last) =
-    if bytes_eq last name then Some (record { phase = phase; names = names }) else None
+abbrev pub open_after : List Part → List (List ℕ)
+open_after parts = open_from [] parts
 
-abbrev pub after_names : Phase → List (List ℕ) → Piece → Option State
-after_names phase [] piece = after_outside phase piece
-after_names phase (name ∷ names) piece = after_inside phase name names piece
+abbrev pub is_tag : Part → Bool
+is_tag mark = false
+is_tag (piece (byte b)) = false
+is_tag (piece comment) = false
+is_tag (piece declaration) = false
+is_tag (piece (start tag)) = true
+is_tag (piece (whole tag)) = true
+is_tag (piece (finish name)) = true
 
--- the state after a piece, or none where the piece may not stand there
-abbrev pub after_piece : State → Piece → Option State
-after_piece state piece = after_names state.phase state.names piece
+abbrev pub has_tag : List Part → Bool
+has_tag [] = false
+has_tag (part ∷ parts) = is_tag part || has_tag parts
 
--- the pieces may stand so after each other
-abbrev pub Nests : State → List Piece → State → Type 0
-Nests state [] end = state ≡ end
-Nests state (piece ∷ pieces) end = (next : State) × (after_piece state piece ≡ Some next) × Nests next pieces end
+-- EF BB BF and white space
+abbrev pub IsBlank : Part → Type 0
+IsBlank mark = Unit {0}
+IsBlank (piece (byte b)) = is_in White b ≡ true
+IsBlank (piece comment) = ⊥
+IsBlank (piece declaration) = ⊥
+IsBlank (piece (start tag)) = ⊥
+IsBlank (piece (whole tag)) = ⊥
+IsBlank (piece (finish name)) = ⊥
 
--- the bytes are these pieces, one behind the other
-abbrev pub Spell : List Piece → List ℕ → Type 0
-Spell [] bytes = bytes ≡ []
-Spell (piece ∷ pieces) bytes =
-    (text : List ℕ) × (rest : List ℕ) × (bytes ≡ text ++ rest) × IsPiece piece text × Spell pieces rest
+abbrev pub AreBlank : List Part → Type 0
+AreBlank [] = Unit {0}
+AreBlank (part ∷ parts) = IsBlank part × AreBlank parts
 
--- EF BB BF, or nothing
-abbrev pub IsMark : List ℕ → Type 0
-IsMark [] = Unit {0}
-IsMark (b ∷ bytes) = b ∷ bytes ≡ 239 ∷ 187 ∷ 191 ∷ []
+-- tags stood, and nothing is open any more
+abbrev pub IsRootOver : List Part → Type 0
+IsRootOver before = (has_tag before ≡ true) × (open_after before ≡ [])
 
--- EF BB BF may stand at the very start, and pieces that nest behind it
-pub record IsNested (bytes : List ℕ) (end : State) : Type 0 where
-  pub mark : List ℕ
-  pub rest : List ℕ
-  pub pieces : List Piece
-  pub parts : bytes ≡ mark ++ rest
-  pub is_mark : IsMark mark
-  pub spelled : Spell pieces rest
-  pub nests : Nests (outside Opening) pieces end
+-- No element lies more than 64 deep, and no tag follows the end of the root.
+abbrev pub MayStart : List Part → Type 0
+MayStart before = (length (open_after before) < 64) × (IsRootOver before → ⊥)
+
+-- What may follow the pieces before it. EF BB BF stands only at the very start. A declaration has nothing but EF BB BF and
+-- white space before it, so there is at most one. Outside the root a byte is white space. An end tag has the name of the
+-- innermost element that is open.
+abbrev pub MayFollow : List Part → Part → Type 0
+MayFollow before mark = before ≡ []
+MayFollow before (piece declaration) = AreBlank before
+MayFollow before (piece (byte b)) = open_after before ≡ [] → is_in White b ≡ true
+MayFollow before (piece (finish name)) = (outer : List (List ℕ)) × (open_after before ≡ name ∷ outer)
+MayFollow before (piece (start tag)) = MayStart before
+MayFollow before (piece (whole tag)) = MayStart before
+MayFollow before (piece comment) = Unit {0}
+
+-- each may follow all before it
+abbrev pub Follow : List Part → List Part → Type 0
+Follow before [] = Unit {0}
+Follow before (part ∷ parts) = MayFollow before part × Follow (before ++ part ∷ []) parts
+
+abbrev pub Nests : List Part → Type 0
+Nests parts = Follow [] parts
+
+-- the bytes are a sequence of pieces that nests
+abbrev pub IsNested : List ℕ → Type 0
+IsNested bytes = (parts : List Part) × AreParts parts bytes × Nests parts

@@ -94,3 +94,14 @@ IsPiece declaration text = IsDeclaration text
 IsPiece (start tag) text = IsTag text tag (62 ∷ [])
 IsPiece (whole tag) text = IsTag text tag (47 ∷ 62 ∷ [])
 IsPiece (finish name) text = IsEndTag text name
+
+-- the bytes are these pieces, one behind the other
+abbrev pub Spell : List Piece → List ℕ → Type 0
+Spell [] bytes = bytes ≡ []
+Spell (piece ∷ pieces) bytes =
+    (text : List ℕ) × (rest : List ℕ) × (bytes ≡ text ++ rest) × IsPiece piece text × Spell pieces rest
+
+-- EF BB BF, or nothing
+abbrev pub IsMark : List ℕ → Type 0
+IsMark [] = Unit {0}
+IsMark (b ∷ bytes) = b ∷ bytes ≡ 239 ∷ 187 ∷ 191 ∷ []

@@ -1,12 +1,12 @@
 ghost use Rattle.std.specs.Prelude.{◌≡◌};
 ghost use Rattle.std.specs.Option.{option_map, option_copied};
 ghost use Rattle.xtbml_subset.specs.Texts.{value_of};
-ghost use Rattle.xtbml_subset.specs.Reading.{closed_at, quoted_at, attribute_at, attributes_at};
+ghost use Rattle.xtbml_subset.specs.inside.Reading.{closed_at, quoted_at, attribute_at, attributes_at};
 
 use crate::class::Class;
 use crate::text::{after_byte, after_spaces, name, skip, split};
 
-#[tactic(auto, unfolding(crate::specs::Reading::closed_at))]
+#[tactic(auto, unfolding(crate::specs::inside::Reading::closed_at))]
 fn closed(bytes: &[u8], quote: u8, class: Class) -> Option<(&[u8], &[u8])>
     ensures { option_map (λ x. (x.0.now, x.1.now)) result ≡ closed_at quote class bytes.now }
 {
@@ -15,7 +15,7 @@ fn closed(bytes: &[u8], quote: u8, class: Class) -> Option<(&[u8], &[u8])>
     Some((value, rest))
 }
 
-#[tactic(auto, unfolding(crate::specs::Reading::quoted_at))]
+#[tactic(auto, unfolding(crate::specs::inside::Reading::quoted_at))]
 fn quoted(bytes: &[u8]) -> Option<(&[u8], &[u8])>
     ensures { option_map (λ x. (x.0.now, x.1.now)) result ≡ quoted_at bytes.now }
 {
@@ -34,7 +34,7 @@ pub struct Attribute<'a> {
 }
 
 /// The attribute at the front, and the bytes after it.
-#[tactic(auto, unfolding(crate::specs::Reading::attribute_at))]
+#[tactic(auto, unfolding(crate::specs::inside::Reading::attribute_at))]
 pub fn next_attribute(bytes: &[u8]) -> Option<(Attribute<'_>, &[u8])>
     ensures { option_map (λ x. ((x.0.name.now, x.0.value.now), x.1.now)) result ≡ attribute_at bytes.now }
 {

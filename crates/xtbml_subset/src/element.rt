@@ -1,8 +1,8 @@
 ghost use Rattle.std.specs.Prelude.{◌≡◌, ◌≤◌, [], ◌∷◌, length, MatchOption, IfSome, ◌-◌, ◌<◌, ◌^◌};
 ghost use Rattle.std.specs.Option.{option_copied};
-ghost use Rattle.xtbml_subset.specs.Elements.{children_at, siblings_at, text_at};
+ghost use Rattle.xtbml_subset.specs.inside.Elements.{children_at, siblings_at, text_at};
 ghost use Rattle.xtbml_subset.specs.Texts.{value_of};
-ghost use Rattle.xtbml_subset.specs.Views.{found_of};
+ghost use Rattle.xtbml_subset.specs.inside.Views.{found_of};
 
 use crate::attribute::attribute_value;
 use crate::class::Class;
@@ -42,7 +42,7 @@ impl<'a> Element<'a> {
     }
 
     /// The content, where it is text alone.
-    #[tactic(auto, unfolding(crate::specs::Elements::text_at))]
+    #[tactic(auto, unfolding(crate::specs::inside::Elements::text_at))]
     pub fn text(&self) -> Option<&'a [u8]>
         ensures text { option_copied result ≡ text_at (found_of self.now) }
         ensures short { IfSome result (λ text. length text.now ≤ 4194304) }

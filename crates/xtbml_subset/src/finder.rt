@@ -1,10 +1,11 @@
 ghost use Rattle.std.specs.Prelude.{◌≡◌, ◌≤◌, ◌<◌, ◌+◌, ◌^◌, [], ◌∷◌, length, MatchOption, IfSome};
 ghost use Rattle.std.specs.Option.{option_copied};
-ghost use Rattle.xtbml_subset.specs.Elements.{is_wanted, is_hit, step_of, elements_at, depth_in};
-ghost use Rattle.xtbml_subset.specs.Tokens.{piece_of, tag_of};
-ghost use Rattle.xtbml_subset.specs.Views.{found_of, step_seen};
+ghost use Rattle.xtbml_subset.specs.inside.Elements.{is_wanted, is_hit, step_of, elements_at, depth_in};
+ghost use Rattle.xtbml_subset.specs.inside.Tokens.{piece_of, tag_of};
+ghost use Rattle.xtbml_subset.specs.inside.Views.{found_of, step_seen};
 
 use crate::found::Element;
+use crate::text::after_text;
 use crate::token::{Tag, Token, next_token};
 
 /// Where a piece leads in a search for elements.
@@ -33,7 +34,7 @@ fn is_hit(tag: &Tag<'_>, depth: usize, wanted: Option<&[u8]>) -> bool
     depth == 0 && is_wanted(tag.name, wanted)
 }
 
-fn look<'a>(token: Token<'a>, depth: usize, wanted: Option<&[u8]>) -> Seen<'a>
+pub fn look<'a>(token: Token<'a>, depth: usize, wanted: Option<&[u8]>) -> Seen<'a>
     requires { depth < 2 ^ 63 }
     ensures { step_seen result ≡ step_of depth (option_copied wanted.entry) (piece_of token.entry) }
 {
@@ -71,7 +72,7 @@ pub fn next_element<'a>(bytes: &'a [u8], depth: usize, wanted: Option<&[u8]>) ->
         (λ e. elements_at depth (option_copied wanted.entry) bytes.now
         ≡ found_of e ∷ elements_at (depth_in e.is_open) (option_copied wanted.entry) e.rest.now) }
 {
-    let mut rest = bytes;
+    let mut rest = after_text(bytes);
     let mut below = depth;
     while let Some((token, after)) = next_token(rest) {
         match look(token, below, wanted) {
@@ -86,7 +87,7 @@ pub fn next_element<'a>(bytes: &'a [u8], depth: usize, wanted: Option<&[u8]>) ->
             }
             Seen::Closed => return None,
         }
-        rest = after;
+        rest = after_text(after);
     }
     None
 }

@@ -8,8 +8,11 @@ mod fault;
 mod finder;
 mod found;
 mod nesting;
+mod passing;
+mod path;
 mod reader;
 mod row;
+mod search;
 mod state;
 mod table;
 #[cfg(test)]

@@ -1,13 +1,18 @@
-ghost use Rattle.std.specs.Prelude.{◌≡◌, ◌≤◌, ◌<◌, ◌-◌, ℕ, [], ◌∷◌, length, map, MatchBool, IfSome};
+ghost use Rattle.std.specs.Prelude.{◌≡◌, ◌≤◌, ◌<◌, ◌-◌, ℕ, List, Option, Some, None, [], ◌∷◌, length, map, MatchBool, IfSome, IfOk, IfErr, OnOk};
 ghost use Rattle.std.specs.Option.{option_map, option_copied};
-ghost use Rattle.xtbml_subset.specs.Nesting.{State, after_piece, after_outside, outside, past};
+ghost use Rattle.xtbml_subset.specs.inside.Machine.{State, after_piece, after_outside, outside, past};
 ghost use Rattle.xtbml_subset.specs.Pieces.{Tag, start, whole, finish, declaration};
-ghost use Rattle.xtbml_subset.specs.Tokens.{piece_of};
-ghost use Rattle.xtbml_subset.specs.Walk.{state_of, after_mark, fault_at, fault_place, is_ended};
+ghost use Rattle.xtbml_subset.specs.inside.Tokens.{piece_of};
+ghost use Rattle.xtbml_subset.specs.inside.Elements.{elements_at};
+ghost use Rattle.xtbml_subset.specs.inside.Searches.{IsPath};
+ghost use Rattle.xtbml_subset.specs.inside.Views.{path_of};
+ghost use Rattle.xtbml_subset.specs.inside.Walk.{state_of, after_mark, fault_at, fault_place, is_ended, walk_at};
 
 use crate::class::{Class, is_in};
+use crate::passing::Passing;
+use crate::path::Path;
 use crate::state::{DEEPEST, Nesting, Phase};
-use crate::text::after_byte;
+use crate::text::{after_text, skip};
 use crate::token::{Token, next_token};
 
 impl<'a> Nesting<'a> {
@@ -154,6 +159,20 @@ impl<'a> Nesting<'a> {
         }
     }
 
+    /// The bytes after those at the front that may stand here and change nothing: text in an element, white
+    /// space elsewhere.
+    fn after_run(&self, bytes: &'a [u8]) -> &'a [u8]
+        ensures walk { walk_at (state_of self.now) result.now ≡ walk_at (state_of self.now) bytes.now }
+        ensures elements { (depth : ℕ) (wanted : Option (List ℕ)) → elements_at depth wanted result.now ≡ elements_at depth wanted bytes.now }
+        ensures shorter { length result.now ≤ length bytes.now }
+    {
+        if self.depth == 0 {
+            skip(bytes, Class::White)
+        } else {
+            after_text(bytes)
+        }
+    }
+
     /// Whether the root was closed.
     fn is_ended(&self) -> bool
         ensures { result ≡ is_ended self.now.phase (state_of self.now).names }
@@ -202,19 +221,34 @@ fn place_at_end(bytes: &[u8], rest: &[u8], nesting: &Nesting) -> Option<usize>
     }
 }
 
-/// The place up to which the pieces nest, or `None` where the bytes are a document.
-#[tactic(auto, unfolding(crate::specs::Walk::fault_at))]
-pub fn place_of_fault(bytes: &[u8]) -> Option<usize>
-    ensures fault { result ≡ fault_at bytes.now }
-    ensures within { IfSome result (λ at. at ≤ length bytes.now) }
+/// The elements that a document's table is read from, or the place up to which the pieces of the bytes nest,
+/// which are none.
+#[tactic(auto, unfolding(crate::specs::inside::Walk::fault_at))]
+pub fn survey(bytes: &[u8]) -> Result<Path<'_>, usize>
+    requires short { length bytes.now ≤ 4194304 }
+    ensures document { OnOk result (None ≡ fault_at bytes.now) }
+    ensures path { IfOk result (λ path. IsPath bytes.now 0 [] (path_of path)) }
+    ensures fault { IfErr result (λ at. Some at ≡ fault_at bytes.now) }
+    ensures within { IfErr result (λ at. at ≤ length bytes.now) }
 {
     let mut nesting = Nesting::new(bytes);
+    let mut path = Path::new();
     let mut rest = after_mark(bytes);
     while let Some((token, after)) = next_token(rest) {
+        let passing = Passing {
+            token,
+            depth: nesting.depth,
+            from: rest,
+            after,
+        };
         if !nesting.take(token) {
-            return Some(bytes.len() - rest.len());
+            return Err(bytes.len() - rest.len());
         }
-        rest = after;
+        path.pass(&passing);
+        rest = nesting.after_run(after);
     }
-    place_at_end(bytes, rest, &nesting)
+    match place_at_end(bytes, rest, &nesting) {
+        Some(at) => Err(at),
+        None => Ok(path),
+    }
 }

@@ -1,11 +1,10 @@
 ghost use Rattle.std.specs.Prelude.{◌≡◌, ℕ, ◌≤◌, length, IfOk, IfErr, Ok, Err, Result};
 ghost use Rattle.rate_table.specs.Rates.{Rates};
-ghost use Rattle.xtbml_subset.specs.Answers.{Spells, IsDue, Gives};
-ghost use Rattle.xtbml_subset.specs.Rows.{Unless};
+ghost use Rattle.xtbml_subset.specs.Answers.{Spells, IsDue, Gives, Unless};
 
 use crate::fault::{TableFault, TableKind};
-use crate::finder::next_element;
-use crate::nesting::place_of_fault;
+use crate::nesting::survey;
+use crate::search::Search;
 use crate::table::table_of;
 use rate_table::RateTable;
 use std::alloc::Global;
@@ -25,14 +24,17 @@ pub fn read_table(alloc: Global, bytes: &[u8]) -> Result<RateTable, TableFault>
     // Whatever answer is due is given, unless memory runs out.
     ensures due { (answer : Result Rates TableFault) → IsDue bytes.now answer → Gives result answer }
 {
-    if let Some(at) = place_of_fault(bytes) {
-        return Err(TableFault::Bad {
-            at: at as u32,
-            kind: TableKind::NotDocument,
-        });
-    }
-    let Some(root) = next_element(bytes, 0, None) else {
+    let path = match survey(bytes) {
+        Ok(path) => path,
+        Err(at) => {
+            return Err(TableFault::Bad {
+                at: at as u32,
+                kind: TableKind::NotDocument,
+            });
+        }
+    };
+    let Search::Hit(root) = path.root else {
         unreachable!()
     };
-    table_of(alloc, &root, bytes.len() as u32)
+    table_of(alloc, &root, &path, bytes.len() as u32)
 }

@@ -1,8 +1,10 @@
-ghost use Rattle.std.specs.Prelude.{◌≡◌, ℕ, ◌≤◌, ◌<◌, ◌+◌, ◌*◌, ◌^◌, length, IfSome, IfOk, IfErr, MatchBool};
+ghost use Rattle.std.specs.Prelude.{◌≡◌, ℕ, ◌≤◌, ◌<◌, ◌+◌, ◌*◌, ◌^◌, [], ◌∷◌, length, IfSome, IfOk, IfErr, MatchBool, MatchOption, codes};
 ghost use Rattle.std.specs.Option.{option_copied, ForSome};
 ghost use Rattle.xtbml_subset.specs.Checks.{digit_then, short_number, age_of, is_due, Reads, IsRow, AreRows, first_age};
-ghost use Rattle.xtbml_subset.specs.Rows.{row_of, rows_at, Unless};
-ghost use Rattle.xtbml_subset.specs.Views.{found_of};
+ghost use Rattle.xtbml_subset.specs.inside.Rows.{row_of, rows_from};
+ghost use Rattle.xtbml_subset.specs.Answers.{Unless};
+ghost use Rattle.xtbml_subset.specs.inside.Elements.{siblings_at};
+ghost use Rattle.xtbml_subset.specs.inside.Views.{found_of};
 
 use crate::fault::{TableFault, TableKind};
 use crate::found::Element;
@@ -95,32 +97,51 @@ pub fn read_row(row: &Element<'_>, due: Option<u8>, total: u32) -> Result<(u8, u
     }
 }
 
-/// The rates of the `Y` in an axis, in order.
-pub fn read_rows(alloc: Global, axis: &Element<'_>, total: u32) -> Result<Vec<u32>, TableFault>
-    ensures read { IfOk result (λ rates. AreRows None (rows_at total (found_of axis.now)) (Ok rates.items)) }
-    ensures fault { IfErr result (λ fault. Unless fault (AreRows None (rows_at total (found_of axis.now)) (Err fault))) }
+/// The next `Y` behind one, where so many are left.
+fn next_row<'a>(row: &Element<'a>, left: usize) -> Option<Element<'a>>
+    requires { length (siblings_at (codes "Y") (found_of row.now)) ≡ left }
+    ensures shorter { IfSome result (λ e. length e.rest.now < length row.now.rest.now) }
+    ensures siblings { MatchOption result
+        (siblings_at (codes "Y") (found_of row.now) ≡ [])
+        (λ e. siblings_at (codes "Y") (found_of row.now) ≡ found_of e ∷ siblings_at (codes "Y") (found_of e)) }
+{
+    if left == 0 {
+        return None;
+    }
+    row.next_sibling(b"Y")
+}
+
+/// The rates of a `Y` and of those behind it, in order, which are so many together.
+pub fn read_rows(
+    alloc: Global,
+    first: &Element<'_>,
+    count: usize,
+    total: u32,
+) -> Result<Vec<u32>, TableFault>
+    requires { 1 + length (siblings_at (codes "Y") (found_of first.now)) ≡ count }
+    ensures read { IfOk result (λ rates. AreRows None (rows_from total (found_of first.now)) (Ok rates.items)) }
+    ensures fault { IfErr result (λ fault. Unless fault (AreRows None (rows_from total (found_of first.now)) (Err fault))) }
 {
     let mut rates = Vec::new(alloc);
     let mut due: Option<u8> = None;
-    let mut next = axis.first_child(b"Y");
+    let mut left = count;
+    let mut next = Some(*first);
     while let Some(row) = next {
         let (age, rate) = read_row(&row, due, total)?;
         rates.push(rate)?;
         due = Some(age + 1);
-        next = row.next_sibling(b"Y");
+        left -= 1;
+        next = next_row(&row, left);
     }
     Ok(rates)
 }
 
-/// The age of the first `Y` in an axis.
-pub fn first_age(axis: &Element<'_>) -> u8
-    ensures { (total : ℕ) → result ≡ first_age (rows_at total (found_of axis.now)) }
+/// The age of a `Y`, or 0 where it has none.
+pub fn age_at(row: &Element<'_>) -> u8
+    ensures { (total : ℕ) → result ≡ first_age (rows_from total (found_of row.now)) }
 {
-    match axis.first_child(b"Y") {
-        Some(row) => match age_of(row.attribute(b"t")) {
-            Some(age) => age,
-            None => 0,
-        },
+    match age_of(row.attribute(b"t")) {
+        Some(age) => age,
         None => 0,
     }
 }

@@ -1,26 +1,35 @@
-ghost use Rattle.std.specs.Prelude.{◌≡◌, ◌==◌, ◌||◌, ℕ, ◌≤◌, OnOk, length, IfOk, IfErr, MatchResult, MatchBool, Ok, Err, codes};
+ghost use Rattle.std.specs.Prelude.{◌≡◌, ◌==◌, ◌||◌, ℕ, ◌+◌, ◌≤◌, ◌∷◌, List, length, IfOk, IfErr, MatchResult, MatchBool, Ok, Err, codes};
 ghost use Rattle.std.specs.Option.{option_copied, ForSome};
 ghost use Rattle.xtbml_subset.specs.Checks.{within, path, rates_of, factor_of, option_row, parts_of, IsUnscaled, IsScale, IsScaledTable, IsTable};
-ghost use Rattle.xtbml_subset.specs.Elements.{children_at};
-ghost use Rattle.xtbml_subset.specs.Rows.{found_asks, rows_at, Unless};
-ghost use Rattle.xtbml_subset.specs.Views.{found_of, found_result, found_pair};
+ghost use Rattle.xtbml_subset.specs.inside.Elements.{children_at, siblings_at};
+ghost use Rattle.xtbml_subset.specs.inside.Searches.{hit, IsFirstIn, IsFound};
+ghost use Rattle.xtbml_subset.specs.inside.Rows.{found_asks, rows_from};
+ghost use Rattle.xtbml_subset.specs.Answers.{Unless};
+ghost use Rattle.xtbml_subset.specs.inside.Views.{found_of, found_result, found_pair, path_of, sought_of};
 
 use crate::class::Class;
 use crate::fault::{TableFault, TableKind};
 use crate::found::Element;
-use crate::row::{first_age, rate_in, read_rows};
+use crate::path::Path;
+use crate::row::{age_at, rate_in, read_rows};
+use crate::search::Search;
 use crate::text::skip;
 use rate_table::RateTable;
 use std::alloc::Global;
 
-/// The first child of the name.
-#[tactic(auto, unfolding(crate::specs::Checks::within))]
-fn within<'a>(parent: &Element<'a>, name: &[u8], total: u32) -> Result<Element<'a>, TableFault>
-    ensures { found_result result ≡ within (found_asks total) name.now (found_of parent.now) }
+/// The element that was found, or that the path breaks off at the one before it.
+fn within<'a>(
+    parent: &Element<'a>,
+    search: &Search<'a>,
+    total: u32,
+) -> Result<Element<'a>, TableFault>
+    ensures found { IfOk result (λ child. sought_of search.now ≡ hit (found_of child)) }
+    ensures within { (name : List ℕ) → IsFirstIn name (found_of parent.now) (sought_of search.now)
+        → found_result result ≡ within (found_asks total) name (found_of parent.now) }
 {
-    match parent.first_child(name) {
-        Some(child) => Ok(child),
-        None => Err(TableFault::Bad {
+    match search {
+        Search::Hit(child) => Ok(*child),
+        Search::Seeking | Search::Missed => Err(TableFault::Bad {
             at: parent.place(total),
             kind: TableKind::NoTable,
         }),
@@ -29,8 +38,15 @@ fn within<'a>(parent: &Element<'a>, name: &[u8], total: u32) -> Result<Element<'
 
 /// The first table, and the first axis of its values.
 #[tactic(auto, unfolding(crate::specs::Checks::path))]
-fn path<'a>(root: &Element<'a>, total: u32) -> Result<(Element<'a>, Element<'a>), TableFault>
-    ensures { found_pair result ≡ path (found_asks total) (found_of root.now) }
+fn table_and_axis<'a>(
+    root: &Element<'a>,
+    found: &Path<'a>,
+    total: u32,
+) -> Result<(Element<'a>, Element<'a>), TableFault>
+    requires { IsFound (found_of root.now) (path_of found.now) }
+    ensures pair { found_pair result ≡ path (found_asks total) (found_of root.now) }
+    ensures table { IfOk result (λ pair. sought_of found.now.table ≡ hit (found_of pair.0)) }
+    ensures axis { IfOk result (λ pair. sought_of found.now.axis ≡ hit (found_of pair.1)) }
 {
     if root.tag.name != b"XTbML".as_slice() {
         return Err(TableFault::Bad {
@@ -38,29 +54,36 @@ fn path<'a>(root: &Element<'a>, total: u32) -> Result<(Element<'a>, Element<'a>)
             kind: TableKind::NoTable,
         });
     }
-    let table = within(root, b"Table", total)?;
-    let values = within(&table, b"Values", total)?;
-    let axis = within(&values, b"Axis", total)?;
+    let table = within(root, &found.table, total)?;
+    let values = within(&table, &found.values, total)?;
+    let axis = within(&values, &found.axis, total)?;
     Ok((table, axis))
 }
 
-/// Whether an axis has rates of its own.
+/// The first rate of an axis that has rates of its own.
 #[tactic(auto, unfolding(crate::specs::Checks::rates_of))]
-fn check_axis(axis: &Element<'_>, total: u32) -> Result<(), TableFault>
-    ensures some { OnOk result (1 ≤ length (children_at (codes "Y") (found_of axis.now))) }
+fn check_axis<'a>(
+    axis: &Element<'a>,
+    found: &Path<'a>,
+    total: u32,
+) -> Result<Element<'a>, TableFault>
+    requires inner { IsFirstIn (codes "Axis") (found_of axis.now) (sought_of found.now.inner) }
+    requires first { IsFirstIn (codes "Y") (found_of axis.now) (sought_of found.now.first) }
+    ensures first { IfOk result (λ first.
+        children_at (codes "Y") (found_of axis.now) ≡ found_of first ∷ siblings_at (codes "Y") (found_of first)) }
     ensures rates { MatchResult result
         (λ _. rates_of (found_asks total) (found_of axis.now) ≡ Ok (children_at (codes "Y") (found_of axis.now)))
         (λ fault. rates_of (found_asks total) (found_of axis.now) ≡ Err fault) }
 {
-    if let Some(inner) = axis.first_child(b"Axis") {
+    if let Search::Hit(inner) = found.inner {
         return Err(TableFault::Bad {
             at: inner.place(total),
             kind: TableKind::Select,
         });
     }
-    match axis.first_child(b"Y") {
-        Some(_) => Ok(()),
-        None => Err(TableFault::Bad {
+    match found.first {
+        Search::Hit(first) => Ok(first),
+        Search::Seeking | Search::Missed => Err(TableFault::Bad {
             at: axis.place(total),
             kind: TableKind::NoTable,
         }),
@@ -92,10 +115,11 @@ fn is_unit(rate: u32) -> bool
 
 /// Whether the factor of a table leaves its rates as they are.
 #[tactic(auto, unfolding(crate::specs::Checks::factor_of))]
-fn check_scale(table: &Element<'_>, total: u32) -> Result<(), TableFault>
+fn check_scale(table: &Element<'_>, about: &Search<'_>, total: u32) -> Result<(), TableFault>
+    requires { IsFirstIn (codes "MetaData") (found_of table.now) (sought_of about.now) }
     ensures { IsScale (option_row (found_asks total) (factor_of (found_asks total) (found_of table.now))) result }
 {
-    let Some(about) = table.first_child(b"MetaData") else {
+    let Search::Hit(about) = about else {
         return Ok(());
     };
     let Some(factor) = about.first_child(b"ScalingFactor") else {
@@ -111,26 +135,37 @@ fn check_scale(table: &Element<'_>, total: u32) -> Result<(), TableFault>
     }
 }
 
-/// The rates of an axis as a table.
-fn rates_table(alloc: Global, axis: &Element<'_>, total: u32) -> Result<RateTable, TableFault>
-    requires { 1 ≤ length (children_at (codes "Y") (found_of axis.now)) }
-    ensures read { IfOk result (λ table. IsScaledTable (rows_at total (found_of axis.now)) (Ok tt) (Ok table)) }
-    ensures fault { IfErr result (λ fault. Unless fault (IsScaledTable (rows_at total (found_of axis.now)) (Ok tt) (Err fault))) }
+/// The rates from the first of an axis on, which are so many, as a table.
+fn rates_table(
+    alloc: Global,
+    first: &Element<'_>,
+    count: usize,
+    total: u32,
+) -> Result<RateTable, TableFault>
+    requires { 1 + length (siblings_at (codes "Y") (found_of first.now)) ≡ count }
+    ensures read { IfOk result (λ table. IsScaledTable (rows_from total (found_of first.now)) (Ok tt) (Ok table)) }
+    ensures fault { IfErr result (λ fault. Unless fault (IsScaledTable (rows_from total (found_of first.now)) (Ok tt) (Err fault))) }
 {
-    let rates = read_rows(alloc, axis, total)?;
-    match RateTable::new(first_age(axis), rates) {
+    let rates = read_rows(alloc, first, count, total)?;
+    match RateTable::new(age_at(first), rates) {
         Ok(table) => Ok(table),
         Err(_) => unreachable!(),
     }
 }
 
 /// The table under a root.
-pub fn table_of(alloc: Global, root: &Element<'_>, total: u32) -> Result<RateTable, TableFault>
+pub fn table_of(
+    alloc: Global,
+    root: &Element<'_>,
+    found: &Path<'_>,
+    total: u32,
+) -> Result<RateTable, TableFault>
+    requires { IsFound (found_of root.now) (path_of found.now) }
     ensures read { IfOk result (λ table. IsTable (parts_of (found_asks total) (found_of root.now)) (Ok table)) }
     ensures fault { IfErr result (λ fault. Unless fault (IsTable (parts_of (found_asks total) (found_of root.now)) (Err fault))) }
 {
-    let (table, axis) = path(root, total)?;
-    check_axis(&axis, total)?;
-    check_scale(&table, total)?;
-    rates_table(alloc, &axis, total)
+    let (table, axis) = table_and_axis(root, found, total)?;
+    let first = check_axis(&axis, found, total)?;
+    check_scale(&table, &found.about, total)?;
+    rates_table(alloc, &first, found.tally.count, total)
 }

@@ -196,3 +196,80 @@ fn documents_cut_short(rt: HostRuntime) {
     }
     assert_eq!(rt; fault_of(rt.alloc(), CUT), Some((13, TableKind::NoTable)));
 }
+
+/// The longest file that is read, in bytes.
+const LONGEST: usize = 4_194_304;
+
+/// A table of the ages from 0 to 130 with this rate.
+fn table_at(alloc: Global, rate: &[u8]) -> Result<Vec<u8>, Fail> {
+    let mut file = b"<XTbML><Table><Values><Axis>".to_vec(alloc)?;
+    for age in 0..131u8 {
+        file.extend_from_slice(format!(in alloc; "<Y t='{age}'>")?.as_bytes())?;
+        file.extend_from_slice(rate)?;
+        file.extend_from_slice(b"</Y>")?;
+    }
+    Ok(file)
+}
+
+/// What a long file holds behind its rows, each with as many bytes between the two as fit.
+const FILLINGS: &[(&[u8], &[u8])] = &[
+    (b"", b""),
+    (b"<!--", b"-->"),
+    (b"<Z>", b"</Z>"),
+    (b"<", b"/>"),
+    (b"<Z a='", b"'/>"),
+];
+
+#[test]
+fn the_longest_file_is_read(rt: HostRuntime) -> Result<(), Fail> {
+    let mut file = table_at(rt.alloc(), b"0.5")?;
+    let end = b"</Axis></Values></Table></XTbML>";
+    for (open, close) in FILLINGS {
+        file.extend_from_slice(*open)?;
+        let filled = vec![in rt.alloc(); b'x'; 830_000]?;
+        file.extend_from_slice(&filled)?;
+        file.extend_from_slice(*close)?;
+    }
+    assert!(rt; file.len() <= LONGEST - end.len());
+    file.resize(LONGEST - end.len(), b' ')?;
+    file.extend_from_slice(end)?;
+    assert_eq!(rt; file.len(), LONGEST);
+    let table = table_of(rt.alloc(), &file)?;
+    assert_eq!(rt;
+        (table.first_age(), table.last_age(), table.rate(130)),
+        (0, 130, Some(500_000_000))
+    );
+    Ok(())
+}
+
+/// A rate as it is written, and the units of 10^-9 that are read, if it is one.
+const RATES: &[(&[u8], Option<u32>)] = &[
+    (b"1", Some(1_000_000_000)),
+    (b"1.000000000000", Some(1_000_000_000)),
+    (b"0", Some(0)),
+    (b"0.000000001", Some(1)),
+    (b"1E-09", Some(1)),
+    (b"0.999999999", Some(999_999_999)),
+    (b"1.000000001", None),
+    (b"0.0000000001", None),
+    (b"0.9999999999", None),
+];
+
+#[test]
+fn rates_at_their_limits(rt: HostRuntime) -> Result<(), Fail> {
+    for (rate, units) in RATES {
+        let mut file = table_at(rt.alloc(), *rate)?;
+        file.extend_from_slice(b"</Axis></Values></Table></XTbML>")?;
+        match *units {
+            Some(units) => {
+                let table = table_of(rt.alloc(), &file)?;
+                assert_eq!(rt; table.last_age(), 130);
+                for age in 0..131u8 {
+                    assert_eq!(rt; table.rate(age), Some(units));
+                }
+            }
+            None => assert_eq!(rt; fault_of(rt.alloc(), &file), Some((28, TableKind::BadRate))),
+        }
+    }
+    Ok(())
+}

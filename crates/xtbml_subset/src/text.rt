@@ -1,10 +1,12 @@
 ghost use Rattle.std.specs.Prelude.{◌≡◌, ◌≤◌, ◌+◌, length};
 ghost use Rattle.std.specs.Option.{option_map, option_copied};
 ghost use Rattle.xtbml_subset.specs.Texts.{without_end, trimmed};
-ghost use Rattle.xtbml_subset.specs.Reading.{byte_at, spaces_at, name_at};
+ghost use Rattle.xtbml_subset.specs.inside.Reading.{byte_at, from_byte, spaces_at, name_at};
 ghost use Rattle.xtbml_subset.specs.Classes.{front, after};
+ghost use Rattle.xtbml_subset.specs.declared.class.Class.TheVariants.{Text};
 
 use crate::class::{Class, is_in, starts_name};
+use memchr::memchr;
 
 /// The bytes of the class at the front, and the bytes after these.
 pub fn split(bytes: &[u8], class: Class) -> (&[u8], &[u8])
@@ -27,6 +29,28 @@ pub fn skip(bytes: &[u8], class: Class) -> &[u8]
     split(bytes, class).1
 }
 
+/// The bytes from the first one of this value on.
+pub fn from_byte(bytes: &[u8], byte: u8) -> &[u8]
+    ensures from { result.now ≡ from_byte byte bytes.now }
+    ensures shorter { length result.now ≤ length bytes.now }
+{
+    match memchr(byte, bytes) {
+        Some(count) => bytes.split_at(count).1,
+        None => bytes.split_at(bytes.len()).1,
+    }
+}
+
+/// The bytes after the text at the front.
+pub fn after_text(bytes: &[u8]) -> &[u8]
+    ensures after { result.now ≡ after Text bytes.now }
+    ensures shorter { length result.now ≤ length bytes.now }
+{
+    match bytes {
+        [60, ..] => bytes,
+        _ => from_byte(bytes, 60),
+    }
+}
+
 /// The bytes after the byte, where it stands first.
 pub fn after_byte(bytes: &[u8], byte: u8) -> Option<&[u8]>
     ensures { option_copied result ≡ byte_at byte bytes.now }
@@ -38,7 +62,7 @@ pub fn after_byte(bytes: &[u8], byte: u8) -> Option<&[u8]>
 }
 
 /// The bytes after white space, of which there is at least one byte.
-#[tactic(auto, unfolding(crate::specs::Reading::spaces_at))]
+#[tactic(auto, unfolding(crate::specs::inside::Reading::spaces_at))]
 pub fn after_spaces(bytes: &[u8]) -> Option<&[u8]>
     ensures { option_copied result ≡ spaces_at bytes.now }
 {
@@ -49,7 +73,7 @@ pub fn after_spaces(bytes: &[u8]) -> Option<&[u8]>
 }
 
 /// The name at the front, and the bytes after it.
-#[tactic(auto, unfolding(crate::specs::Reading::name_at))]
+#[tactic(auto, unfolding(crate::specs::inside::Reading::name_at))]
 pub fn name(bytes: &[u8]) -> Option<(&[u8], &[u8])>
     ensures { option_map (λ x. (x.0.now, x.1.now)) result ≡ name_at bytes.now }
 {

@@ -1,25 +1,37 @@
 -- How the parts of a run end
-use Rattle.std.specs.Prelude.{◌≡◌, ℕ, List, [], ◌∷◌, ◌++◌, true, false, length, codes}
-use Rattle.std.specs.List.{list_any}
+use Rattle.std.specs.Prelude.{◌≡◌, ◌⊎◌, ℕ, List, [], ◌∷◌, ◌++◌, true, false, length, codes}
+use Rattle.std.specs.Prelude.{Result, Ok, Err, Vec}
+use Rattle.std.specs.Global.{Global}
+use Rattle.std.specs.List.{All, list_any}
+use Rattle.policy_types.specs.declared.watcher.NoMemory.{NoMemory as Lack}
+use Rattle.outside_io.specs.declared.disks.Disk.{Ghosts}
+use Rattle.policy_machine.specs.History.{Opening, IsLegal}
 use Rattle.outside_io.specs.Faults.{Rose}
 use Rattle.outside_io.specs.Streams.{AppendsPart}
-use Rattle.outside_io.specs.declared.disks.Disk.{Ghosts}
 use Rattle.policy_types.specs.declared.script.Line.{Line}
-use Rattle.policy_machine.specs.History.{Opening}
-use Rattle.posting_journal.specs.States.{disk_of}
-use Rattle.life_app.specs.inside.Books.{GoesOn, is_faulted, reply_of, turns_made}
+use Rattle.policy_types.specs.declared.script.Lane.{Lane}
+use Rattle.command_csv.specs.Reads.{IsScriptLine, lane_of}
+use Rattle.office_state.specs.declared.state.OfficeState.{OfficeState}
+use Rattle.office_state.specs.Images.{IsLeftBy}
+use Rattle.office_state.specs.States.{begun_of, disk_of, opening_of}
+use Rattle.life_app.specs.inside.Turns.{IsTold, is_faulted, turns_made}
 use Rattle.life_app.specs.Transcript.{line_text}
-use Rattle.life_app.specs.declared.office.Answer.{Answer}
-use Rattle.life_app.specs.declared.office.Office.{Office}
+use Rattle.office_state.specs.declared.answer.Answer.{Answer}
+use Rattle.office_state.specs.Posting.{reply_of}
 use Rattle.life_app.specs.declared.ending.Ending.{Ending}
 use Rattle.life_app.specs.declared.ending.Ending.TheVariants.{Done, BadScript, BadJournal, ReadFault as InputFault, WriteFault, DiskFault, NoMemory}
-use Rattle.life_app.specs.declared.opening.Cause.{Cause}
-use Rattle.life_app.specs.declared.opening.Cause.TheVariants.{DiskFault as FaultyDisk, NotAJournal, BadRecord, NoMemory as NoRoom}
+use Rattle.office_state.specs.declared.faults.StartCause.{StartCause}
+use Rattle.office_state.specs.declared.faults.StartCause.TheVariants.{DiskFault as FaultyDisk, NotAJournal, BadRecord, NoMemory as NoRoom}
 use Rattle.life_app.specs.declared.intake.Unread.{Unread}
 use Rattle.life_app.specs.declared.intake.Unread.TheVariants.{TooLong, BadRow, ReadFault, NoMemory as OutOfMemory}
 use Rattle.life_app.specs.Writing.{Stream, WroteAll, WroteNothing, WroteLine}
 use Rattle.life_app.specs.Outcome.{bad_record_text}
 use Rattle.life_app.specs.Script.{bad_row_text}
+
+-- the lanes of a script are clerk 1's lines
+pub record AreLanes (lanes : List Lane) (lines : List Line) : Type 0 where
+  pub one : lanes ≡ lane_of 1 lines
+  pub right : All IsScriptLine lines
 
 -- the text of a clerk's lines and their answers
 abbrev pub lines_text : ℕ → List Line → List Answer → List ℕ
@@ -36,8 +48,8 @@ SaysUnread OutOfMemory output NoMemory = WroteLine output (codes "nomemory")
 SaysUnread _ _ _ = ⊥
 
 -- the line that says why no office was opened
-abbrev pub SaysUnopened : Cause → Stream → Ending → Type 0
-SaysUnopened FaultyDisk output DiskFault = WroteLine output (codes "diskfault")
+abbrev pub SaysUnopened : StartCause → Stream → Ending → Type 0
+SaysUnopened (FaultyDisk count) output DiskFault = WroteLine output (codes "diskfault")
 SaysUnopened NotAJournal output BadJournal = WroteLine output (codes "badjournal,notajournal")
 SaysUnopened (BadRecord n) output BadJournal = WroteLine output (bad_record_text n)
 SaysUnopened (BadRecord n) output NoMemory = WroteLine output (codes "nomemory")
@@ -55,12 +67,27 @@ EndsLines lines answers output WriteFault =
 EndsLines lines answers output NoMemory = WroteNothing output (lines_text 1 lines answers)
 EndsLines lines answers output _ = ⊥
 
--- The lines were answered, and took the office from its opening on to one whose disk is left.
-pub record AnswersAll {D : Type 0} {g : Ghosts D} (office : Office D g) (disk : D) (opening : Opening)
-    (lines : List Line) (output : Stream) (ending : Ending) : Type 0 where
+-- The lines were answered and their text written: the turns are a legal history of the office from its opening on.
+pub record AnswersAll {D : Type 0} (g : Ghosts D) (begun disk : D) (opening : Opening) (lines : List Line)
+    (output : Stream) (ending : Ending) : Type 0 where
   pub answers : List Answer
-  pub last : Office D g
   pub each : length answers ≡ length lines
-  pub went : GoesOn office last opening [] (turns_made 1 lines answers)
-  pub left : disk ≡ disk_of last.journal
+  pub told : All IsTold answers
+  pub legal : IsLegal opening (turns_made 1 lines answers)
+  pub left : IsLeftBy g begun disk opening (turns_made 1 lines answers)
   pub ends : EndsLines lines answers output ending
+
+-- How a run ends that opened the office: its lines were answered, or there was no memory for all of them, and none was.
+abbrev pub EndsOffice : {D : Type 0} (g : Ghosts D) → OfficeState D g → D → List Line → Stream → Ending → Type 0
+EndsOffice g office disk lines output ending =
+    AnswersAll g (begun_of office) disk (opening_of office) lines output ending
+    ⊎ ((ending ≡ NoMemory) × WroteLine output (codes "nomemory") × (disk ≡ disk_of office)
+    × IsLeftBy g (begun_of office) disk (opening_of office) [])
+
+-- How a text is written: whole, or a front of it, or a line in its place where there was no memory for it.
+abbrev pub EndsText : Result (Vec ℕ Global) Lack → Stream → Ending → Type 0
+EndsText (Ok text) output Done = WroteAll output text.items
+EndsText (Ok text) output WriteFault =
+    Rose output.faults_before output.faults_after × AppendsPart output.before output.after text.items
+EndsText (Err lack) output NoMemory = WroteLine output (codes "nomemory")
+EndsText _ _ _ = ⊥

@@ -2,7 +2,7 @@ use Rattle.std.proofs.Common.{◌≡◌, ◌<◌, ℕ, List, Some}
 use Rattle.csv.specs.Reading.{Reached, Ready, default_config, source_of, strip_bom}
 use Rattle.csv.specs.declared.parser.State.TheVariants as st
 use Rattle.csv.specs.declared.reader.Trim.TheVariants as trim
-use Rattle.basis_book.specs.Judged.{Judged}
+use Rattle.basis_book.specs.inside.Judged.{Judged}
 use Rattle.basis_book.proofs.file.judge_rows.Given as goal
 
 abbrev pub invariant-loop-row : goal.invariant-loop-row

@@ -1,5 +1,5 @@
 use Rattle.std.proofs.Common.{[], refl, arith}
-use Rattle.decimal_text.specs.Parts.{decimal_of}
+use Rattle.decimal_text.specs.inside.Parts.{decimal_of}
 use Rattle.decimal_text.proofs.Totals.{Counts-none, totals, many_units, one_and_more, exact_units, few_units}
 use Rattle.decimal_text.proofs.rate.rate_of.Goals as goal
 

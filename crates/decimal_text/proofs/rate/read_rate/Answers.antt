@@ -1,4 +1,4 @@
-use Rattle.decimal_text.specs.Parts.{decimal_of}
+use Rattle.decimal_text.specs.inside.Parts.{decimal_of}
 use Rattle.decimal_text.proofs.Answering.{found, only, no_number, above_one, too_fine}
 use Rattle.decimal_text.proofs.rate.read_rate.Goals as goal
 

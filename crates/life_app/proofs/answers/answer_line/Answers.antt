@@ -1,9 +1,7 @@
-use Rattle.std.proofs.Common.{ℕ, List}
-use Rattle.policy_types.specs.declared.entry.Entry.{Entry}
-use Rattle.policy_machine.specs.History.{Opening}
-use Rattle.life_app.specs.inside.Books.{StandsAfter}
+use Rattle.life_app.proofs.AnswerSteps.{is_told}
 use Rattle.life_app.proofs.answers.answer_line.Goals as goal
 
-pub returns-clause-answered : goal.returns-clause-answered
-returns-clause-answered g c = λ (opening : Opening) (history : List Entry) (caller : ℕ) (stands : StandsAfter c.args.office.now opening history).
-    rw c.in-Post.is (c.post.ensures.posts opening history caller stands)
+pub returns-clause-told : goal.returns-clause-told
+returns-clause-told g c =
+    is_told c.args.office.now c.post.new.self c.in-Post.command c.post.result c.requires.open c.post.ensures.opened c.post.ensures.stands
+    (c.post.ensures.memory c.requires.room)

@@ -5,7 +5,7 @@ use Rattle.life_app.proofs.TextSteps.{lines_text-none, text-push}
 use Rattle.life_app.proofs.transcript.transcript.Goals as goal
 
 pub loop-i-init : goal.loop-i-init
-loop-i-init c = c.new-text.ensures.bytes ∙ sym (lines_text-none c.args.clerk c.args.lines.now)
+loop-i-init c = c.new-text.ensures ∙ sym (lines_text-none c.args.clerk c.args.lines.now)
 
 pub loop-i-preserved : goal.loop-i-preserved
 loop-i-preserved c =

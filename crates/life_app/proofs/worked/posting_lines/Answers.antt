@@ -6,4 +6,4 @@ use Rattle.life_app.proofs.worked.posting_lines.Goals as goal
 
 pub returns : goal.returns
 unfolding digits day_text date_of year_of month_of days_before days_before_year days_of_months
-returns c = (refl, refl, refl, refl, refl)
+returns c = (refl, refl, refl, refl, refl, refl, refl, refl)

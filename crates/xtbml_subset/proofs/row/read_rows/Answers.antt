@@ -1,37 +1,43 @@
-use Rattle.std.proofs.Common.{◌+◌, map, None, Some, Err, sym, subst, codes}
+use Rattle.std.proofs.Common.{◌≡◌, suc, ◌+◌, List, length, map, None, Some, Err, sym, ap, subst, codes, arith}
 use Rattle.std.proofs.lemmas.Result.{err_from_is_err_and}
-use Rattle.xtbml_subset.specs.Elements.{siblings_at}
-use Rattle.xtbml_subset.specs.Checks.{AreRows}
-use Rattle.xtbml_subset.specs.Rows.{row_of, rows_at}
-use Rattle.xtbml_subset.specs.Views.{found_of}
-use Rattle.xtbml_subset.proofs.RowRuns.{ReadSoFar, so_far_more, so_far_fault, so_far_all, left_siblings, unless_from}
+use Rattle.xtbml_subset.specs.inside.Elements.{siblings_at}
+use Rattle.xtbml_subset.specs.Checks.{Row, AreRows}
+use Rattle.xtbml_subset.specs.inside.Rows.{row_of, rows_from}
+use Rattle.xtbml_subset.specs.inside.Views.{found_of}
+use Rattle.xtbml_subset.proofs.RowRuns.{ReadSoFar, so_far_more, so_far_fault, so_far_all, left_siblings, rows_left, unless_from}
 use Rattle.xtbml_subset.proofs.row.read_rows.Goals as goal
 
 pub returns-in_err-age-clause-fault : goal.returns-in_err-age-clause-fault
 returns-in_err-age-clause-fault c =
     let p = err_from_is_err_and c.from_residual.result c.from_residual.ensures.1 in
     let total = c.args.total in
-    let all = rows_at total (found_of c.args.axis.now) in
+    let all = rows_from total (found_of c.args.first.now) in
     let row = found_of c.in-Some.row in
     let fault = c.in_err-age.field-0.0 in
-    let so_far = rw c.in-Some.is at c.loop-next.invariant in
+    let so_far = rw c.in-Some.is at c.loop-next.invariant.so_far in
     let rows = so_far_fault all c.loop-next.rates.items c.loop-next.due (row_of total row) (map (λ e. row_of total e) (siblings_at (codes "Y") row)) fault c.in_err-age.ensures.row so_far in
     rw (p.1, p.2) (unless_from fault (AreRows None all (Err fault)) rows)
 
 pub loop-next-preserved : goal.loop-next-preserved
 loop-next-preserved c =
     let total = c.args.total in
-    let all = rows_at total (found_of c.args.axis.now) in
+    let all = rows_from total (found_of c.args.first.now) in
     let row = found_of c.in-Some.row in
-    let behind = map (λ e. row_of total e) (siblings_at (codes "Y") row) in
+    let siblings = siblings_at (codes "Y") row in
+    let behind = map (λ e. row_of total e) siblings in
     let rate = c.in_ok-age.rate in
-    let so_far = rw c.in-Some.is at c.loop-next.invariant in
-    let more = so_far_more all c.loop-next.rates.items c.loop-next.due (row_of total row) behind c.in_ok-age.age rate c.in_ok-age.ensures.row so_far in
-    let left = left_siblings total c.next_sibling-next.result (siblings_at (codes "Y") row) c.next_sibling-next.ensures.siblings in
+    let invariant = rw c.in-Some.is at c.loop-next.invariant in
+    let more = so_far_more all c.loop-next.rates.items c.loop-next.due (row_of total row) behind c.in_ok-age.age rate c.in_ok-age.ensures.row invariant.so_far in
+    let left = left_siblings total c.next_row-next.result siblings c.next_row-next.ensures.siblings in
     let pushed = subst (λ rates. ReadSoFar all rates (Some (c.in_ok-age.age + 1)) behind) (sym c.in_ok-push.ensures.items) more in
-    subst (λ rows. ReadSoFar all c.push.new.self.items (Some (c.in_ok-age.age + 1)) rows) left pushed
+    let counted : length (rows_left total c.next_row-next.result) ≡ length behind = ap (λ (rows : List Row). length rows) (sym left) in
+    let count : suc (length behind) ≡ c.loop-next.left = invariant.count in
+    record {
+      so_far = subst (λ rows. ReadSoFar all c.push.new.self.items (Some (c.in_ok-age.age + 1)) rows) left pushed;
+      count = omega arith;
+    }
 
 pub returns-clause-read : goal.returns-clause-read
 returns-clause-read c =
-    let all = rows_at c.args.total (found_of c.args.axis.now) in
-    so_far_all all c.loop-next.rates.items c.loop-next.due (rw c.in_default.is at c.loop-next.invariant)
+    let all = rows_from c.args.total (found_of c.args.first.now) in
+    so_far_all all c.loop-next.rates.items c.loop-next.due (rw c.in_default.is at c.loop-next.invariant.so_far)

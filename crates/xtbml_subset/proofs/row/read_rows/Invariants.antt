@@ -1,10 +1,14 @@
-use Rattle.xtbml_subset.specs.Rows.{rows_at}
-use Rattle.xtbml_subset.specs.Views.{found_of, bytes_left}
+use Rattle.std.proofs.Common.{◌≡◌, length}
+use Rattle.xtbml_subset.specs.inside.Rows.{rows_from}
+use Rattle.xtbml_subset.specs.inside.Views.{found_of, bytes_left}
 use Rattle.xtbml_subset.proofs.RowRuns.{ReadSoFar, rows_left}
 use Rattle.xtbml_subset.proofs.row.read_rows.Given as goal
 
 abbrev pub invariant-loop-next : goal.invariant-loop-next
-invariant-loop-next l = ReadSoFar (rows_at l.total (found_of l.axis)) l.rates.items l.due (rows_left l.total l.next)
+invariant-loop-next l = record {
+  so_far : ReadSoFar (rows_from l.total (found_of l.first)) l.rates.items l.due (rows_left l.total l.next);
+  count : length (rows_left l.total l.next) ≡ l.left;
+}
 
 abbrev pub decreases-loop-next : goal.decreases-loop-next
 decreases-loop-next l = bytes_left l.next

@@ -1,5 +1,5 @@
 use Rattle.std.proofs.Common.{ℕ, List, ◌++◌, take}
-use Rattle.decimal_text.specs.Places.{Counts}
+use Rattle.decimal_text.specs.inside.Places.{Counts}
 use Rattle.decimal_text.proofs.units.Units.push_all.Given as goal
 
 abbrev pub invariant-loop-digit : goal.invariant-loop-digit

@@ -1,0 +1,277 @@
+-- Every script is read or has a first fault
+use Rattle.std.proofs.Common.{◌≡◌, ◌≢◌, ◌⊎◌, inl, inr, ℕ, suc, zero, ◌+◌, ◌<◌, ◌≤◌, List, [], ◌∷◌, ◌++◌, length, take, get_or, refl, ap, sym, ◌∙◌, subst, arith, ℤ, pos, negsuc, ◌+ℤ◌, ◌-ℤ◌, ◌≤ℤ◌}
+use Rattle.std.specs.Prelude.{decimal, ⊤}
+use Rattle.std.specs.List.{AllZip}
+use Rattle.std.proofs.lemmas.Bool.{cases_eq, cases_lt}
+use Rattle.std.proofs.lemmas.Int.{ints}
+use Rattle.policy_types.specs.declared.command.Plan.{Plan}
+use Rattle.policy_types.specs.declared.command.Plan.TheVariants.{Term, Whole, Endowment, Limited}
+use Rattle.policy_types.specs.declared.script.Lane.{Lane}
+use Rattle.policy_types.specs.Valid.{IsId, IsCommandDay, IsAmount, IsReinstatement, IsIssueAge, AreYears}
+use Rattle.life_dates.specs.DayText.{day_text}
+use Rattle.money_core.specs.CentsText.{cents_text}
+use Rattle.command_csv.specs.declared.kind.Kind.{Kind}
+use Rattle.command_csv.specs.declared.kind.Kind.TheVariants as kind
+use Rattle.command_csv.specs.Rows.{rows_of}
+use Rattle.command_csv.specs.Spelling.{ClerkLine, by_first, plan_word}
+use Rattle.command_csv.specs.Reads.{IsRowOf, IsFirstBadField, IsFirstFault, Reads, lanes_of}
+use Rattle.command_csv.specs.inside.Forms.{Ends, Then, Amount, Reinstatement, PolicyAndDay, YearsOn, AgeOn, PlanOn, IsClerk, RowForm, kind_word, form_of, StopsAfter}
+use Rattle.command_csv.proofs.Forms.{Carries, IsPossible, carries_all, kind_carries, plan_carries, age_carries, goes_on, stops, end_possible, amount_possible, reinstatement_possible, day_possible, policy_possible, years_possible, age_possible, plan_possible, any_kind_possible, row_possible}
+use Rattle.command_csv.proofs.Lines.{of_row_form, bad_field}
+use Rattle.command_csv.proofs.Words.{plan_by, plan_again, kind_by, kind_again}
+
+-- the field is the text of something that fits, or of nothing
+abbrev Decides : {X : Type 0} → (X → Type 0) → (X → List ℕ) → List ℕ → Type 0
+Decides {X} Fits text_of word = ((x : X) × Fits x × (word ≡ text_of x)) ⊎ ((x : X) → Fits x → word ≢ text_of x)
+
+-- the fields have the form, or a first one doesn't fit
+abbrev Judges : (List (List ℕ) → Type 0) → List (List ℕ) → Type 0
+Judges Form fields = Form fields ⊎ ((n : ℕ) × StopsAfter Form fields n)
+
+same_text : (xs ys : List ℕ) → (xs ≡ ys) ⊎ (xs ≡ ys → ⊥)
+same_text [] [] = inl refl
+same_text [] (y ∷ ys) = inr (λ e. cc)
+same_text (x ∷ xs) [] = inr (λ e. cc)
+same_text (x ∷ xs) (y ∷ ys) = elim (cases_eq x y) [
+  | inl first ↦ elim (same_text xs ys) [
+    | inl rest ↦ inl (cc)
+    | inr differ ↦ inr (λ e. let rest : xs ≡ ys = cc in differ rest)
+  ]
+  | inr differ ↦ inr (λ e. let first : x ≡ y = cc in differ first)
+]
+
+-- a number below this one, by trying each
+below : (Fits : ℕ → Type 0) (text_of : ℕ → List ℕ) (word : List ℕ) (n : ℕ) → ((x : ℕ) → Fits x ⊎ (Fits x → ⊥))
+    → ((x : ℕ) × Fits x × (word ≡ text_of x)) ⊎ ((x : ℕ) → Fits x → x < n → word ≢ text_of x)
+below Fits text_of word zero fits = inr (λ x h less. omega (arith, less))
+below Fits text_of word (suc n) fits = elim (below Fits text_of word n fits) [
+  | inl found ↦ inl found
+  | inr none ↦ at (fits n) (same_text word (text_of n)) none
+]
+  where
+    at : Fits n ⊎ (Fits n → ⊥) → (word ≡ text_of n) ⊎ (word ≡ text_of n → ⊥) → ((x : ℕ) → Fits x → x < n → word ≢ text_of x)
+        → ((x : ℕ) × Fits x × (word ≡ text_of x)) ⊎ ((x : ℕ) → Fits x → x < suc n → word ≢ text_of x)
+    at (inl h) (inl e) none = inl (n, h, e)
+    at (inr bad) e none = inr (λ x h less. elim (cases_eq x n) [
+      | inl same ↦ absurd (bad (subst Fits same h))
+      | inr differ ↦ none x h (omega (arith, less, differ))
+    ])
+    at (inl f) (inr other) none = inr (λ x h less. elim (cases_eq x n) [
+      | inl same ↦ λ e. other (e ∙ ap text_of same)
+      | inr differ ↦ none x h (omega (arith, less, differ))
+    ])
+
+both : {P Q : Type 0} → P ⊎ (P → ⊥) → Q ⊎ (Q → ⊥) → (P × Q) ⊎ (P × Q → ⊥)
+both (inl p) (inl q) = inl (p, q)
+both (inr bad) q = inr (λ h. bad h.0)
+both (inl p) (inr bad) = inr (λ h. bad h.1)
+
+at_most : (n m : ℕ) → (n ≤ m) ⊎ (n ≤ m → ⊥)
+at_most n m = elim (cases_lt m n) [ inl more ↦ inr (λ h. omega (arith, more, h)) | inr less ↦ inl less ]
+
+-- a number of which it is known that it is below another
+decide : (Fits : ℕ → Type 0) (text_of : ℕ → List ℕ) (n : ℕ) → ((x : ℕ) → Fits x ⊎ (Fits x → ⊥)) → ((x : ℕ) → Fits x → x < n) → (word : List ℕ) → Decides Fits text_of word
+decide Fits text_of n fits less word = elim (below Fits text_of word n fits) [
+  | inl found ↦ inl found
+  | inr none ↦ inr (λ x h. none x h (less x h))
+]
+
+clerk_decides : (word : List ℕ) → Decides IsClerk decimal word
+clerk_decides = decide IsClerk decimal 2 (λ x. cases_eq x 1) (λ x h. omega (arith, h))
+
+id_decides : (word : List ℕ) → Decides IsId decimal word
+id_decides = decide IsId decimal 4294967296 (λ x. both (at_most 1 x) (at_most x 4294967295)) (λ x h. omega (arith, h))
+
+age_decides : (word : List ℕ) → Decides IsIssueAge decimal word
+age_decides = decide IsIssueAge decimal 130 (λ x. at_most x 129) (λ x h. omega (arith, h))
+
+amount_decides : (word : List ℕ) → Decides IsAmount cents_text word
+amount_decides = decide IsAmount cents_text 10000000001 (λ x. both (at_most 1 x) (at_most x 10000000000)) (λ x h. omega (arith, h))
+
+reinstatement_decides : (word : List ℕ) → Decides IsReinstatement cents_text word
+reinstatement_decides = decide IsReinstatement cents_text 40000000001 (λ x. both (at_most 1 x) (at_most x 40000000000)) (λ x h. omega (arith, h))
+
+years_fit : (plan : Plan) (age x : ℕ) → AreYears plan age x ⊎ (AreYears plan age x → ⊥)
+years_fit Term age x = both (at_most 2 x) (at_most (age + x) 131)
+years_fit Whole age x = cases_eq x 0
+years_fit Endowment age x = both (at_most 2 x) (at_most (age + x) 131)
+years_fit Limited age x = both (at_most 2 x) (at_most (age + x) 131)
+
+years_few : (plan : Plan) (age x : ℕ) → AreYears plan age x → x < 132
+years_few Term age x h = omega (arith, h)
+years_few Whole age x h = omega (arith, h)
+years_few Endowment age x h = omega (arith, h)
+years_few Limited age x h = omega (arith, h)
+
+years_decide : (plan : Plan) (age : ℕ) (word : List ℕ) → Decides (AreYears plan age) decimal word
+years_decide plan age = decide (AreYears plan age) decimal 132 (years_fit plan age) (years_few plan age)
+
+plan_decides : (word : List ℕ) → Decides (λ (plan : Plan). ⊤) plan_word word
+plan_decides word = elim (same_text word (plan_word (plan_by (get_or word 0 0)))) [
+  | inl e ↦ inl (plan_by (get_or word 0 0), tt, e)
+  | inr other ↦ inr (λ plan h e. other (e ∙ ap plan_word (sym (ap (λ (w : List ℕ). plan_by (get_or w 0 0)) e ∙ plan_again plan))))
+]
+
+kind_decides : (word : List ℕ) → Decides (λ (k : Kind). ⊤) kind_word word
+kind_decides word = elim (same_text word (kind_word (kind_by (get_or word 0 0)))) [
+  | inl e ↦ inl (kind_by (get_or word 0 0), tt, e)
+  | inr other ↦ inr (λ k h e. other (e ∙ ap kind_word (sym (ap (λ (w : List ℕ). kind_by (get_or w 0 0)) e ∙ kind_again k))))
+]
+
+-- the n-th day after 1900-01-01
+abbrev day_after : ℕ → ℤ
+day_after n = pos n -ℤ pos 25567
+
+not_negative : (z : ℤ) → pos 0 ≤ℤ z → (n : ℕ) × (z ≡ pos n)
+not_negative (pos n) h = (n, refl)
+not_negative (negsuc n) h = absurd (omega (arith, ints))
+
+day_is : (day : ℤ) → IsCommandDay day → (n : ℕ) × (n < 109573) × (day ≡ day_after n)
+day_is day h =
+    let low : negsuc 25566 ≤ℤ day = h.0 in
+    let high : day ≤ℤ pos 84005 = h.1 in
+    let found = not_negative (day +ℤ pos 25567) (omega (arith, ints)) in
+    let same : day +ℤ pos 25567 ≡ pos found.0 = found.1 in
+    (found.0, omega (arith, ints), omega (arith, ints))
+
+day_decides : (word : List ℕ) → Decides IsCommandDay day_text word
+day_decides word = elim (below (λ n. n < 109573) (λ n. day_text (day_after n)) word 109573 (λ n. less n)) [
+  | inl found ↦
+      let n = found.0 in
+      let small : n < 109573 = found.1 in
+      inl (day_after n, (omega (arith, ints), omega (arith, ints)), found.2)
+  | inr none ↦ inr (λ day h e. let n = day_is day h in none n.0 n.1 n.1 (e ∙ ap day_text n.2))
+]
+  where
+    less : (n : ℕ) → (n < 109573) ⊎ (n < 109573 → ⊥)
+    less n = elim (cases_lt n 109573) [ inl h ↦ inl h | inr more ↦ inr (λ h. omega (arith, more, h)) ]
+
+-- a form by its first field and what may follow it
+judge : {X : Type 0} (Fits : X → Type 0) (text_of : X → List ℕ) (More : X → List (List ℕ) → Type 0) → ((word : List ℕ) → Decides Fits text_of word) → IsPossible (Then Fits text_of More)
+    → ((x : X) → Fits x → Carries Fits text_of More x) → ((x : X) → Fits x → (rest : List (List ℕ)) → Judges (More x) rest) → (fields : List (List ℕ)) → Judges (Then Fits text_of More) fields
+judge Fits text_of More decides possible carries more [] = inr (0, stops Fits text_of More possible.0 [] possible.1 (λ x h e. cc))
+judge {X} Fits text_of More decides possible carries more (word ∷ rest) = elim (decides word) [
+  | inl found ↦
+      let P : List ℕ → Type 0 = λ w. Judges (Then Fits text_of More) (w ∷ rest) in
+      subst P (sym found.2) (on found.0 found.1 (more found.0 found.1 rest))
+  | inr none ↦ inr (0, stops Fits text_of More possible.0 (word ∷ rest) possible.1 (λ x h e. none x h (let one : word ∷ [] ≡ text_of x ∷ [] = e in cc)))
+]
+  where
+    on : (x : X) → Fits x → Judges (More x) rest → Judges (Then Fits text_of More) (text_of x ∷ rest)
+    on x h (inl right) = inl (record { value = x; fits = h; rest = rest; spelled = refl; more = right })
+    on x h (inr bad) = inr (suc bad.0, goes_on Fits text_of More x rest bad.0 h (carries x h) bad.1)
+
+judge_end : (fields : List (List ℕ)) → Judges Ends fields
+judge_end [] = inl refl
+judge_end (word ∷ rest) = inr (
+  0,
+  record {
+    before = record { whole = []; right = refl; same = refl };
+    bad = λ other. let same : word ∷ [] ≡ [] = other.same ∙ ap (take 1) other.right in cc;
+  },
+)
+
+judge_amount : (More : List (List ℕ) → Type 0) → IsPossible More → ((rest : List (List ℕ)) → Judges More rest) → (fields : List (List ℕ)) → Judges (Amount More) fields
+judge_amount More possible more = judge IsAmount cents_text (λ cents. More) amount_decides (amount_possible More possible) (λ x h. carries_all IsAmount cents_text More x) (λ x h. more)
+
+judge_reinstatement : (fields : List (List ℕ)) → Judges Reinstatement fields
+judge_reinstatement = judge IsReinstatement cents_text (λ cents. Ends) reinstatement_decides reinstatement_possible (λ x h. carries_all IsReinstatement cents_text Ends x) (λ x h. judge_end)
+
+judge_day : (More : List (List ℕ) → Type 0) → IsPossible More → ((rest : List (List ℕ)) → Judges More rest) → (fields : List (List ℕ)) → Judges (Then IsCommandDay day_text (λ day. More)) fields
+judge_day More possible more = judge IsCommandDay day_text (λ day. More) day_decides (day_possible More possible) (λ x h. carries_all IsCommandDay day_text More x) (λ x h. more)
+
+judge_policy : (More : List (List ℕ) → Type 0) → IsPossible More → ((rest : List (List ℕ)) → Judges More rest) → (fields : List (List ℕ)) → Judges (PolicyAndDay More) fields
+judge_policy More possible more =
+    judge IsId decimal (λ id. Then IsCommandDay day_text (λ day. More)) id_decides (policy_possible More possible) (λ x h. carries_all IsId decimal (Then IsCommandDay day_text (λ day. More)) x)
+    (λ x h. judge_day More possible more)
+
+one_amount : (fields : List (List ℕ)) → Judges (Amount Ends) fields
+one_amount = judge_amount Ends end_possible judge_end
+
+two_amounts : (fields : List (List ℕ)) → Judges (Amount (Amount Ends)) fields
+two_amounts = judge_amount (Amount Ends) (amount_possible Ends end_possible) one_amount
+
+judge_years : (plan : Plan) (age : ℕ) → IsIssueAge age → (fields : List (List ℕ)) → Judges (YearsOn plan age) fields
+judge_years plan age h =
+    judge (AreYears plan age) decimal (λ years. Amount (Amount Ends)) (years_decide plan age) (years_possible plan age h) (λ x k. carries_all (AreYears plan age) decimal (Amount (Amount Ends)) x)
+    (λ x k. two_amounts)
+
+judge_age : (plan : Plan) (fields : List (List ℕ)) → Judges (AgeOn plan) fields
+judge_age plan = judge IsIssueAge decimal (λ age. YearsOn plan age) age_decides (age_possible plan) (age_carries plan) (judge_years plan)
+
+judge_plan : (fields : List (List ℕ)) → Judges PlanOn fields
+judge_plan = judge (λ (plan : Plan). ⊤) plan_word AgeOn plan_decides plan_possible (λ plan h. plan_carries plan) (λ plan h. judge_age plan)
+
+judge_kind : (k : Kind) (fields : List (List ℕ)) → Judges (form_of k) fields
+judge_kind kind.Issue = judge_policy PlanOn plan_possible judge_plan
+judge_kind kind.Premium = judge_policy (Amount Ends) (amount_possible Ends end_possible) one_amount
+judge_kind kind.Alter = judge_policy (Amount (Amount Ends)) (amount_possible (Amount Ends) (amount_possible Ends end_possible)) two_amounts
+judge_kind kind.Lapse = judge_policy Ends end_possible judge_end
+judge_kind kind.Reinstate = judge_policy Reinstatement reinstatement_possible judge_reinstatement
+judge_kind kind.Claim = judge_policy Ends end_possible judge_end
+judge_kind kind.Settle = judge_policy (Amount Ends) (amount_possible Ends end_possible) one_amount
+judge_kind kind.Mature = judge_policy Ends end_possible judge_end
+
+judge_row : (fields : List (List ℕ)) → Judges RowForm fields
+judge_row =
+    judge IsClerk decimal (λ clerk. Then (λ (k : Kind). ⊤) kind_word form_of) clerk_decides row_possible (λ x h. λ y fits same rest more. more)
+    (λ x h. judge (λ (k : Kind). ⊤) kind_word form_of kind_decides any_kind_possible (λ k t. kind_carries k) (λ k t. judge_kind k))
+
+-- all rows are lines', or a first one isn't
+record Stops (rows : List (List (List ℕ))) : Type 0 where
+  before : List (List (List ℕ))
+  faulty : List (List ℕ)
+  after : List (List (List ℕ))
+  split : rows ≡ before ++ faulty ∷ after
+  entries : List ClerkLine
+  right : AllZip IsRowOf before entries
+  field : ℕ
+  bad : IsFirstBadField faulty field
+
+judge_rows : (rows : List (List (List ℕ))) → ((entries : List ClerkLine) × AllZip IsRowOf rows entries) ⊎ Stops rows
+judge_rows [] = inl ([], tt)
+judge_rows (row ∷ rows) = on (judge_row row) (judge_rows rows)
+  where
+    on : Judges RowForm row → ((entries : List ClerkLine) × AllZip IsRowOf rows entries) ⊎ Stops rows → ((entries : List ClerkLine) × AllZip IsRowOf (row ∷ rows) entries) ⊎ Stops (row ∷ rows)
+    on (inr bad) rest = inr (record {
+      before = [];
+      faulty = row;
+      after = rows;
+      split = refl;
+      entries = [];
+      right = tt;
+      field = bad.0 + 1;
+      bad = bad_field row bad.0 (bad.0 + 1) refl bad.1;
+    })
+    on (inl right) (inl all) = let line = of_row_form row right in inl (by_first line.0 ∷ all.0, (line.1, all.1))
+    on (inl right) (inr s) = let line = of_row_form row right in inr (record {
+      before = row ∷ s.before;
+      faulty = s.faulty;
+      after = s.after;
+      split = ap (λ (xs : List (List (List ℕ))). row ∷ xs) s.split;
+      entries = by_first line.0 ∷ s.entries;
+      right = (line.1, s.right);
+      field = s.field;
+      bad = s.bad;
+    })
+
+pub judged : (bytes : List ℕ) → ((lanes : List Lane) × Reads bytes lanes) ⊎ ((row : ℕ) × ((field : ℕ) × IsFirstFault bytes row field))
+judged bytes = elim (judge_rows (rows_of bytes)) [
+  | inl all ↦ inl (lanes_of all.0, record { entries = all.0; rows = all.1; by_clerk = refl })
+  | inr s ↦ inr (
+    length s.before + 1,
+    (
+      s.field,
+      record {
+        before = s.before;
+        faulty = s.faulty;
+        after = s.after;
+        rows = s.split;
+        number = refl;
+        entries = s.entries;
+        right = s.right;
+        bad = s.bad;
+      },
+    ),
+  )
+]

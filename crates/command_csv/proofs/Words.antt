@@ -1,0 +1,41 @@
+-- A word stands for one plan, or for one kind
+use Rattle.std.proofs.Common.{◌≡◌, ℕ, List, get_or, refl, ap, sym, ◌∙◌}
+use Rattle.std.specs.Prelude.{if◌then◌else◌, ◌==◌}
+use Rattle.policy_types.specs.declared.command.Plan.{Plan}
+use Rattle.policy_types.specs.declared.command.Plan.TheVariants.{Term, Whole, Endowment, Limited}
+use Rattle.command_csv.specs.declared.kind.Kind.{Kind}
+use Rattle.command_csv.specs.declared.kind.Kind.TheVariants.{Issue, Premium, Alter, Lapse, Reinstate, Claim, Settle, Mature}
+use Rattle.command_csv.specs.Spelling.{plan_word}
+use Rattle.command_csv.specs.inside.Forms.{kind_word}
+
+-- the plan whose word begins with this letter
+abbrev pub plan_by : ℕ → Plan
+plan_by letter = if letter == 116 then Term else if letter == 119 then Whole else if letter == 101 then Endowment else Limited
+
+pub plan_again : (plan : Plan) → plan_by (get_or (plan_word plan) 0 0) ≡ plan
+plan_again Term = refl
+plan_again Whole = refl
+plan_again Endowment = refl
+plan_again Limited = refl
+
+pub plan_word_injective : (plan other : Plan) → plan_word plan ≡ plan_word other → plan ≡ other
+plan_word_injective plan other e = sym (plan_again plan) ∙ ap (λ (word : List ℕ). plan_by (get_or word 0 0)) e ∙ plan_again other
+
+-- the kind whose word begins with this letter
+abbrev pub kind_by : ℕ → Kind
+kind_by letter =
+    if letter == 105 then Issue else if letter == 112 then Premium else if letter == 97 then Alter else if letter == 108 then Lapse
+    else if letter == 114 then Reinstate else if letter == 99 then Claim else if letter == 115 then Settle else Mature
+
+pub kind_again : (kind : Kind) → kind_by (get_or (kind_word kind) 0 0) ≡ kind
+kind_again Issue = refl
+kind_again Premium = refl
+kind_again Alter = refl
+kind_again Lapse = refl
+kind_again Reinstate = refl
+kind_again Claim = refl
+kind_again Settle = refl
+kind_again Mature = refl
+
+pub kind_word_injective : (kind other : Kind) → kind_word kind ≡ kind_word other → kind ≡ other
+kind_word_injective kind other e = sym (kind_again kind) ∙ ap (λ (word : List ℕ). kind_by (get_or word 0 0)) e ∙ kind_again other

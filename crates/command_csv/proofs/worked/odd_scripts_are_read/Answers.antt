@@ -1,0 +1,20 @@
+use Rattle.std.proofs.Common.{refl, [], ◌∷◌, pos, arith, lit≤}
+use Rattle.std.specs.Fmt.{digits}
+use Rattle.std.proofs.lemmas.Int.{ints}
+use Rattle.csv.proofs.OnLiterals.{csv_on_literals}
+use Rattle.life_dates.specs.Calendar.{date_of, date_at, year_of, month_of, days_before, days_before_year, days_of_months}
+use Rattle.life_dates.specs.DayText.{day_text}
+use Rattle.policy_types.specs.declared.command.Command.TheVariants.{Lapse, Claim}
+use Rattle.policy_types.specs.declared.script.Line.TheVariants.{Post}
+use Rattle.command_csv.specs.Spelling.{by_first, row_fields}
+use Rattle.command_csv.proofs.WorkedScripts.{says, row_is}
+use Rattle.command_csv.proofs.worked.odd_scripts_are_read.Goals as goal
+
+pub returns : goal.returns
+unfolding csv_on_literals digits day_text date_of date_at year_of month_of days_before days_before_year days_of_months
+returns c =
+    let first = Lapse 7001 (pos 19025) in
+    let second = Claim 7001 (pos 19357) in
+    let third = Lapse 7002 (pos 19025) in
+    says _ (first ∷ second ∷ third ∷ []) (row_fields (by_first (Post first)) ∷ row_fields (by_first (Post second)) ∷ row_fields (by_first (Post third)) ∷ []) refl
+    (row_is first ((lit≤ tt, lit≤ tt), (omega (arith, ints), omega (arith, ints))), (row_is second ((lit≤ tt, lit≤ tt), (omega (arith, ints), omega (arith, ints))), (row_is third ((lit≤ tt, lit≤ tt), (omega (arith, ints), omega (arith, ints))), tt)))

@@ -1,0 +1,36 @@
+-- A row that is read field by field
+use Rattle.std.specs.Prelude.{◌≡◌, ◌≢◌, ℕ, ◌+◌, List, [], ◌∷◌, ◌++◌, length, drop, take}
+use Rattle.csv.specs.Records.{fields_of}
+use Rattle.command_csv.specs.declared.fields.Fields.{Fields}
+use Rattle.policy_types.specs.declared.command.Command.{Command}
+use Rattle.policy_types.specs.Valid.{IsValid}
+use Rattle.command_csv.specs.declared.kind.Kind.{Kind}
+use Rattle.command_csv.specs.Spelling.{command_fields}
+use Rattle.command_csv.specs.inside.Forms.{StopsAfter, kind_word}
+
+-- the fields that weren't asked for yet
+abbrev pub left_of : Fields → List (List ℕ)
+left_of fields = drop fields.asked (fields_of fields.row.now)
+
+-- the next field was asked for: it is this text, of what fits
+pub record Took (Fits : Type 0) (text : List ℕ) (old new : Fields) : Type 0 where
+  pub fits : Fits
+  pub spelled : left_of old ≡ text ∷ left_of new
+  pub counted : new.asked ≡ old.asked + 1
+
+-- the next field was asked for: it is missing, or the text of nothing that fits
+pub record Missed {X : Type 0} (Fits : X → Type 0) (text_of : X → List ℕ) (old new : Fields) : Type 0 where
+  pub none : (x : X) → Fits x → take 1 (left_of old) ≢ text_of x ∷ []
+  pub counted : new.asked ≡ old.asked + 1
+
+-- the field that was asked for last is the first that doesn't fit the form
+pub record StopsIn (Form : List (List ℕ) → Type 0) (old new : Fields) : Type 0 where
+  pub fitting : ℕ
+  pub number : new.asked ≡ old.asked + fitting + 1
+  pub bad : StopsAfter Form (left_of old) fitting
+
+-- the fields that were asked for are those of a valid command of the kind, behind the kind's word
+pub record Holds (kind : Kind) (old new : Fields) (command : Command) : Type 0 where
+  pub valid : IsValid command
+  pub spelled : kind_word kind ∷ left_of old ≡ command_fields command ++ left_of new
+  pub counted : new.asked ≡ length (command_fields command) + 1

@@ -1,0 +1,81 @@
+-- What may follow in a row from a field on
+use Rattle.std.specs.Prelude.{◌≡◌, ℕ, suc, List, [], ◌∷◌, take, codes, decimal, ⊤}
+use Rattle.policy_types.specs.declared.command.Plan.{Plan}
+use Rattle.policy_types.specs.Valid.{IsId, IsCommandDay, IsAmount, IsReinstatement, IsIssueAge, AreYears}
+use Rattle.life_dates.specs.DayText.{day_text}
+use Rattle.money_core.specs.CentsText.{cents_text}
+use Rattle.command_csv.specs.declared.kind.Kind.{Kind}
+use Rattle.command_csv.specs.declared.kind.Kind.TheVariants.{Issue, Premium, Alter, Lapse, Reinstate, Claim, Settle, Mature}
+use Rattle.command_csv.specs.Spelling.{plan_word}
+
+-- nothing
+abbrev pub Ends : List (List ℕ) → Type 0
+Ends fields = fields ≡ []
+
+-- a field that is the text of what fits, and then what may follow it
+pub record Then {X : Type 0} (Fits : X → Type 0) (text_of : X → List ℕ) (More : X → List (List ℕ) → Type 0) (fields : List (List ℕ)) : Type 0 where
+  pub value : X
+  pub fits : Fits value
+  pub rest : List (List ℕ)
+  pub spelled : fields ≡ text_of value ∷ rest
+  pub more : More value rest
+
+abbrev pub Amount : (List (List ℕ) → Type 0) → List (List ℕ) → Type 0
+Amount More = Then IsAmount cents_text (λ cents. More)
+
+abbrev pub Reinstatement : List (List ℕ) → Type 0
+Reinstatement = Then IsReinstatement cents_text (λ cents. Ends)
+
+-- the number of a policy, and a day
+abbrev pub PolicyAndDay : (List (List ℕ) → Type 0) → List (List ℕ) → Type 0
+PolicyAndDay More = Then IsId decimal (λ id. Then IsCommandDay day_text (λ day. More))
+
+-- what an issue holds behind the day: the years rest on the plan and the age
+abbrev pub YearsOn : Plan → ℕ → List (List ℕ) → Type 0
+YearsOn plan age = Then (AreYears plan age) decimal (λ years. Amount (Amount Ends))
+
+abbrev pub AgeOn : Plan → List (List ℕ) → Type 0
+AgeOn plan = Then IsIssueAge decimal (λ age. YearsOn plan age)
+
+abbrev pub PlanOn : List (List ℕ) → Type 0
+PlanOn = Then (λ plan. ⊤) plan_word AgeOn
+
+-- the word of a kind
+abbrev pub kind_word : Kind → List ℕ
+kind_word Issue = codes "issue"
+kind_word Premium = codes "premium"
+kind_word Alter = codes "alter"
+kind_word Lapse = codes "lapse"
+kind_word Reinstate = codes "reinstate"
+kind_word Claim = codes "claim"
+kind_word Settle = codes "settle"
+kind_word Mature = codes "mature"
+
+-- what follows the word of a kind
+abbrev pub form_of : Kind → List (List ℕ) → Type 0
+form_of Issue = PolicyAndDay PlanOn
+form_of Premium = PolicyAndDay (Amount Ends)
+form_of Alter = PolicyAndDay (Amount (Amount Ends))
+form_of Lapse = PolicyAndDay Ends
+form_of Reinstate = PolicyAndDay Reinstatement
+form_of Claim = PolicyAndDay Ends
+form_of Settle = PolicyAndDay (Amount Ends)
+form_of Mature = PolicyAndDay Ends
+
+-- clerk 1 is the only clerk
+abbrev pub IsClerk : ℕ → Type 0
+IsClerk clerk = clerk ≡ 1
+
+abbrev pub RowForm : List (List ℕ) → Type 0
+RowForm = Then IsClerk decimal (λ clerk. Then (λ kind. ⊤) kind_word form_of)
+
+-- the first fields, up to this place, are those of some list of the form
+pub record FitsIn (Form : List (List ℕ) → Type 0) (fields : List (List ℕ)) (place : ℕ) : Type 0 where
+  pub whole : List (List ℕ)
+  pub right : Form whole
+  pub same : take place fields ≡ take place whole
+
+-- so many fields fit, and one more don't
+pub record StopsAfter (Form : List (List ℕ) → Type 0) (fields : List (List ℕ)) (n : ℕ) : Type 0 where
+  pub before : FitsIn Form fields n
+  pub bad : ¬ FitsIn Form fields (suc n)

@@ -1,0 +1,34 @@
+ghost use Rattle.std.specs.Prelude.{◌≡◌, ◌≢◌, IfSome, IfNone};
+ghost use Rattle.command_csv.specs.inside.Forms.{kind_word};
+ghost use Rattle.command_csv.specs.declared.kind.Kind.{Kind as AKind};
+
+/// The kinds of posting.
+#[derive(Clone, Copy, PartialEq, Eq, Debug)]
+pub enum Kind {
+    Issue,
+    Premium,
+    Alter,
+    Lapse,
+    Reinstate,
+    Claim,
+    Settle,
+    Mature,
+}
+
+/// The kind of this word.
+pub fn kind_of(word: &[u8]) -> Option<Kind>
+    ensures some { IfSome result (λ kind. word.now ≡ kind_word kind) }
+    ensures none { IfNone result ((kind : AKind) → word.now ≢ kind_word kind) }
+{
+    match word {
+        b"issue" => Some(Kind::Issue),
+        b"premium" => Some(Kind::Premium),
+        b"alter" => Some(Kind::Alter),
+        b"lapse" => Some(Kind::Lapse),
+        b"reinstate" => Some(Kind::Reinstate),
+        b"claim" => Some(Kind::Claim),
+        b"settle" => Some(Kind::Settle),
+        b"mature" => Some(Kind::Mature),
+        _ => None,
+    }
+}

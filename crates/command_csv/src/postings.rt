@@ -1,0 +1,132 @@
+// The fields behind the kind of a posting.
+ghost use Rattle.std.specs.Prelude.{◌≡◌, IfSome, IfNone};
+ghost use Rattle.command_csv.specs.declared.kind.Kind.TheVariants.{Issue, Premium, Alter, Lapse, Reinstate, Claim, Settle, Mature};
+ghost use Rattle.command_csv.specs.inside.Forms.{form_of};
+ghost use Rattle.command_csv.specs.inside.Cursor.{Holds, StopsIn};
+
+use crate::fields::Fields;
+use crate::kind::Kind;
+use policy_types::Command;
+
+impl Fields<'_> {
+    /// The command of a kind, which stands behind the kind's word.
+    pub fn command(&mut self, kind: Kind) -> Option<Command>
+        requires head { self.old.asked ≡ 2 }
+        ensures some { IfSome result (Holds kind self.old self.new) }
+        ensures none { IfNone result (StopsIn (form_of kind) self.old self.new) }
+    {
+        match kind {
+            Kind::Issue => self.issue(),
+            Kind::Premium => self.premium(),
+            Kind::Alter => self.alter(),
+            Kind::Lapse => self.lapse(),
+            Kind::Reinstate => self.reinstate(),
+            Kind::Claim => self.claim(),
+            Kind::Settle => self.settle(),
+            Kind::Mature => self.mature(),
+        }
+    }
+
+    fn issue(&mut self) -> Option<Command>
+        requires head { self.old.asked ≡ 2 }
+        ensures some { IfSome result (Holds Issue self.old self.new) }
+        ensures none { IfNone result (StopsIn (form_of Issue) self.old self.new) }
+    {
+        let id = self.id()?;
+        let day = self.day()?;
+        let plan = self.plan()?;
+        let age = self.age()?;
+        let years = self.years(plan, age)?;
+        let amount = self.amount()?;
+        let premium = self.amount()?;
+        Some(Command::Issue {
+            id,
+            day,
+            plan,
+            age,
+            years,
+            amount,
+            premium,
+        })
+    }
+
+    fn premium(&mut self) -> Option<Command>
+        requires head { self.old.asked ≡ 2 }
+        ensures some { IfSome result (Holds Premium self.old self.new) }
+        ensures none { IfNone result (StopsIn (form_of Premium) self.old self.new) }
+    {
+        let id = self.id()?;
+        let day = self.day()?;
+        let amount = self.amount()?;
+        Some(Command::Premium { id, day, amount })
+    }
+
+    fn alter(&mut self) -> Option<Command>
+        requires head { self.old.asked ≡ 2 }
+        ensures some { IfSome result (Holds Alter self.old self.new) }
+        ensures none { IfNone result (StopsIn (form_of Alter) self.old self.new) }
+    {
+        let id = self.id()?;
+        let day = self.day()?;
+        let amount = self.amount()?;
+        let premium = self.amount()?;
+        Some(Command::Alter {
+            id,
+            day,
+            amount,
+            premium,
+        })
+    }
+
+    fn lapse(&mut self) -> Option<Command>
+        requires head { self.old.asked ≡ 2 }
+        ensures some { IfSome result (Holds Lapse self.old self.new) }
+        ensures none { IfNone result (StopsIn (form_of Lapse) self.old self.new) }
+    {
+        let id = self.id()?;
+        let day = self.day()?;
+        Some(Command::Lapse { id, day })
+    }
+
+    fn reinstate(&mut self) -> Option<Command>
+        requires head { self.old.asked ≡ 2 }
+        ensures some { IfSome result (Holds Reinstate self.old self.new) }
+        ensures none { IfNone result (StopsIn (form_of Reinstate) self.old self.new) }
+    {
+        let id = self.id()?;
+        let day = self.day()?;
+        let amount = self.reinstatement()?;
+        Some(Command::Reinstate { id, day, amount })
+    }
+
+    fn claim(&mut self) -> Option<Command>
+        requires head { self.old.asked ≡ 2 }
+        ensures some { IfSome result (Holds Claim self.old self.new) }
+        ensures none { IfNone result (StopsIn (form_of Claim) self.old self.new) }
+    {
+        let id = self.id()?;
+        let day = self.day()?;
+        Some(Command::Claim { id, day })
+    }
+
+    fn settle(&mut self) -> Option<Command>
+        requires head { self.old.asked ≡ 2 }
+        ensures some { IfSome result (Holds Settle self.old self.new) }
+        ensures none { IfNone result (StopsIn (form_of Settle) self.old self.new) }
+    {
+        let id = self.id()?;
+        let day = self.day()?;
+        let amount = self.amount()?;
+        Some(Command::Settle { id, day, amount })
+    }
+
+    fn mature(&mut self) -> Option<Command>
+        requires head { self.old.asked ≡ 2 }
+        ensures some { IfSome result (Holds Mature self.old self.new) }
+        ensures none { IfNone result (StopsIn (form_of Mature) self.old self.new) }
+    {
+        let id = self.id()?;
+        let day = self.day()?;
+        Some(Command::Mature { id, day })
+    }
+}

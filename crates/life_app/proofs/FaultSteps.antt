@@ -1,0 +1,65 @@
+-- Where a posting faulted the disk's count rose
+use Rattle.std.proofs.Common.{◌≡◌, ℕ, List, [], ◌∷◌, ◌++◌, refl, ap, sym, ◌∙◌, subst, Some, None, Option}
+use Rattle.std.specs.List.{AllByRecursion, cons_option, filter_map, last_or}
+use Rattle.std.specs.Option.{unwrap_or}
+use Rattle.std.proofs.lemmas.List.Elements.{filter_map-append}
+use Rattle.outside_io.specs.Faults.{Rose}
+use Rattle.policy_types.specs.declared.command.Command.{Command}
+use Rattle.policy_types.specs.declared.entry.Call.{Call}
+use Rattle.policy_types.specs.declared.entry.Call.TheVariants.{Post, Pin, PinAt, Read, Unpin, Trim}
+use Rattle.policy_types.specs.declared.entry.Reply.{Reply}
+use Rattle.policy_types.specs.declared.entry.Reply.TheVariants.{Accepted, Refused, Faulted, Pinned, PinRefused, Slice, Unpinned, Floor, Blank}
+use Rattle.policy_types.specs.declared.entry.Entry.{Entry}
+use Rattle.policy_machine.specs.History.{Opening, IsAbove, IsDue, IsLegalAfter, fault_of}
+use Rattle.office_state.specs.Images.{HasFaulted, faults_after}
+
+-- the numbers of the faults that were answered
+abbrev faults_met : List Entry → List ℕ
+faults_met history = filter_map (λ (entry : Entry). fault_of entry.reply) history
+
+-- the number of a fault that is due is above the count at the opening
+due_above : (opening : Opening) (before : List Entry) (caller count : ℕ) (call : Call) → IsDue opening before caller call (Faulted count)
+    → IsAbove opening.faults count
+due_above opening before caller count (Post command) due = due.1.0
+due_above opening before caller count Pin due = absurd due
+due_above opening before caller count (PinAt p) due = absurd due
+due_above opening before caller count (Read pin first) due = absurd due
+due_above opening before caller count (Unpin pin) due = absurd due
+due_above opening before caller count Trim due = absurd due
+
+one_above : (opening : Opening) (before : List Entry) (caller : ℕ) (call : Call) (reply : Reply) → IsDue opening before caller call reply
+    → (rest : List ℕ) → AllByRecursion (IsAbove opening.faults) rest
+    → AllByRecursion (IsAbove opening.faults) (cons_option (fault_of reply) rest)
+one_above opening before caller call (Faulted count) due rest above = (due_above opening before caller count call due, above)
+one_above opening before caller call (Accepted position) due rest above = above
+one_above opening before caller call (Refused refusal) due rest above = above
+one_above opening before caller call (Pinned position policies) due rest above = above
+one_above opening before caller call (PinRefused refusal) due rest above = above
+one_above opening before caller call (Slice policies) due rest above = above
+one_above opening before caller call Unpinned due rest above = above
+one_above opening before caller call (Floor floor) due rest above = above
+one_above opening before caller call Blank due rest above = above
+
+all_above : (opening : Opening) (before history : List Entry) → IsLegalAfter opening before history
+    → AllByRecursion (IsAbove opening.faults) (faults_met history)
+all_above opening before [] legal = tt
+all_above opening before (entry ∷ history) legal =
+    one_above opening before entry.caller entry.call entry.reply legal.0 (faults_met history)
+    (all_above opening (before ++ entry ∷ []) history legal.1)
+
+last_of : (P : ℕ → Type 0) (other : Option ℕ) (front : List ℕ) (n : ℕ) (rest : List ℕ) (least : ℕ)
+    → AllByRecursion P (front ++ n ∷ rest) → P (unwrap_or (last_or other (front ++ n ∷ rest)) least)
+last_of P other [] n [] least all = all.0
+last_of P other [] n (m ∷ rest) least all = last_of P (Some n) [] m rest least all.1
+last_of P other (first ∷ front) n rest least all = last_of P (Some first) front n rest least all.1
+
+pub rose_in : (opening : Opening) (history : List Entry) (command : Command) → IsLegalAfter opening [] history
+    → HasFaulted history command → Rose opening.faults (faults_after opening history)
+rose_in opening history command legal fault =
+    let before = fault.1.before in
+    let entry : Entry = record { caller = fault.1.caller; call = Post command; reply = Faulted fault.1.count } in
+    let met : faults_met history ≡ faults_met before ++ fault.1.count ∷ faults_met fault.0 =
+    ap faults_met fault.1.turns ∙ filter_map-append (λ (e : Entry). fault_of e.reply) before (entry ∷ fault.0) in
+    subst (λ (ns : List ℕ). Rose opening.faults (unwrap_or (last_or None ns) opening.faults)) (sym met)
+    (last_of (IsAbove opening.faults) None (faults_met before) fault.1.count (faults_met fault.0) opening.faults
+    (subst (AllByRecursion (IsAbove opening.faults)) met (all_above opening [] history legal)))

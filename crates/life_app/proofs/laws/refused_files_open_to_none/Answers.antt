@@ -1,5 +1,0 @@
-use Rattle.life_app.proofs.JournalLaws.{shown_opens_to_none}
-use Rattle.life_app.proofs.laws.refused_files_open_to_none.Goals as goal
-
-pub returns : goal.returns
-returns c = shown_opens_to_none

@@ -1,0 +1,214 @@
+-- What one more turn does to what is known of a history
+use Rattle.std.proofs.Common.{◌≡◌, ℕ, ◌≤◌, List, [], ◌∷◌, ◌++◌, length, refl, ap, sym, ◌∙◌, subst, Some, None, Option, Ok, Err, append-nil, append_assoc, arith, inl}
+use Rattle.std.specs.List.{AllByRecursion, filter_map, last_or}
+use Rattle.std.specs.Option.{unwrap_or}
+use Rattle.std.proofs.lemmas.List.Elements.{filter_map-append}
+use Rattle.std.proofs.lemmas.Bool.{cond-true, cond-false, eq-eqb, ne_eqb}
+use Rattle.outside_io.specs.Faults.{Rose}
+use Rattle.policy_types.specs.declared.command.Command.{Command}
+use Rattle.policy_types.specs.declared.policy.Policy.{Policy}
+use Rattle.policy_types.specs.declared.refusal.Refusal.{Refusal}
+use Rattle.policy_types.specs.declared.refusal.Refusal.TheVariants.{Full}
+use Rattle.policy_types.specs.declared.entry.Call.TheVariants.{Post}
+use Rattle.policy_types.specs.declared.entry.Reply.{Reply}
+use Rattle.policy_types.specs.declared.entry.Reply.TheVariants.{Accepted, Faulted}
+use Rattle.policy_types.specs.declared.entry.Entry.{Entry}
+use Rattle.policy_types.specs.Valid.{id_of}
+use Rattle.policy_machine.specs.Book.{policy_of}
+use Rattle.policy_machine.specs.Rules.{next}
+use Rattle.policy_machine.specs.History.{Opening, IsAbove, IsDue, IsFreshFault, IsLegalAfter, accepted_by, accepted_of, commands_after, fault_of, refusal_due}
+use Rattle.policy_machine.proofs.HistoryLemmas.{accepted_of-push}
+use Rattle.office_state.specs.Images.{HasFaulted, HasFaultedAt, HasFaultedBefore, HoldsOnce, IsOneMore, IsPending, faults_after}
+use Rattle.office_state.specs.Journals.{JournalBytes}
+
+-- a posting by a caller
+abbrev pub posting : ℕ → Command → Reply → Entry
+posting caller command reply = record { caller = caller; call = Post command; reply = reply }
+
+-- the numbers of the faults that were answered
+abbrev pub faults_met : List Entry → List ℕ
+faults_met history = filter_map (λ (entry : Entry). fault_of entry.reply) history
+
+-- a turn that accepts nothing leaves the commands
+pub commands-same : (opening : Opening) (history : List Entry) (entry : Entry) → accepted_of (entry ∷ []) ≡ []
+    → commands_after opening (history ++ entry ∷ []) ≡ commands_after opening history
+commands-same opening history entry none =
+    ap (λ cs. opening.commands ++ cs) (accepted_of-push history entry ∙ ap (λ cs. accepted_of history ++ cs) none ∙ append-nil (accepted_of history))
+
+pub commands-more : (opening : Opening) (history : List Entry) (caller : ℕ) (command : Command) (position : ℕ)
+    → commands_after opening (history ++ posting caller command (Accepted position) ∷ []) ≡ commands_after opening history ++ command ∷ []
+commands-more opening history caller command position =
+    ap (λ cs. opening.commands ++ cs) (accepted_of-push history (posting caller command (Accepted position)))
+    ∙ sym (append_assoc opening.commands (accepted_of history) (command ∷ []))
+
+faults-push : (history : List Entry) (entry : Entry) → faults_met (history ++ entry ∷ []) ≡ faults_met history ++ faults_met (entry ∷ [])
+faults-push history entry = filter_map-append (λ (e : Entry). fault_of e.reply) history (entry ∷ [])
+
+-- a turn without a fault leaves the numbers of the faults
+pub faults-same : (history : List Entry) (entry : Entry) → faults_met (entry ∷ []) ≡ []
+    → faults_met (history ++ entry ∷ []) ≡ faults_met history
+faults-same history entry none =
+    faults-push history entry ∙ ap (λ ns. faults_met history ++ ns) none ∙ append-nil (faults_met history)
+
+last_or-push : {X : Type 0} (other : Option X) (xs : List X) (x : X) → last_or other (xs ++ x ∷ []) ≡ Some x
+last_or-push other [] x = refl
+last_or-push other (y ∷ ys) x = last_or-push (Some y) ys x
+
+pub faults-more : (history : List Entry) (caller : ℕ) (command : Command) (count : ℕ)
+    → faults_met (history ++ posting caller command (Faulted count) ∷ []) ≡ faults_met history ++ count ∷ []
+faults-more history caller command count = faults-push history (posting caller command (Faulted count))
+
+pub faults_after-same : (opening : Opening) (history : List Entry) (entry : Entry) → faults_met (entry ∷ []) ≡ []
+    → faults_after opening (history ++ entry ∷ []) ≡ faults_after opening history
+faults_after-same opening history entry none =
+    ap (λ ns. unwrap_or (last_or None ns) opening.faults) (faults-same history entry none)
+
+pub faults_after-more : (opening : Opening) (history : List Entry) (caller : ℕ) (command : Command) (count : ℕ)
+    → faults_after opening (history ++ posting caller command (Faulted count) ∷ []) ≡ count
+faults_after-more opening history caller command count =
+    ap (λ ns. unwrap_or (last_or None ns) opening.faults) (faults-more history caller command count)
+    ∙ ap (λ last. unwrap_or last opening.faults) (last_or-push None (faults_met history) count)
+
+-- a count that rose after an earlier one rose above it too
+pub rose_since : (earlier before now : ℕ) → earlier ≤ before → Rose before now → Rose earlier now
+rose_since earlier before now passed rose = omega (arith, passed, rose)
+
+all_above : (before now : ℕ) (met : List ℕ) → AllByRecursion (λ n. n ≤ before) met → Rose before now
+    → AllByRecursion (λ n. IsAbove n now) met
+all_above before now [] up_to rose = tt
+all_above before now (n ∷ met) up_to rose = (rose_since n before now up_to.0 rose, all_above before now met up_to.1 rose)
+
+-- a fault's number is fresh where the disk's count rose in its turn
+pub is_fresh : (opening : Opening) (history : List Entry) (before now : ℕ) → opening.faults ≤ before
+    → AllByRecursion (λ n. n ≤ before) (faults_met history) → Rose before now → IsFreshFault opening history now
+is_fresh opening history before now opened met rose =
+    (rose_since opening.faults before now opened rose, all_above before now (faults_met history) met rose)
+
+pub all_up_to : (before now : ℕ) (met : List ℕ) → before ≤ now → AllByRecursion (λ n. n ≤ before) met → AllByRecursion (λ n. n ≤ now) met
+all_up_to before now [] later up_to = tt
+all_up_to before now (n ∷ met) later up_to = (omega (arith, later, up_to.0), all_up_to before now met later up_to.1)
+
+-- a command that the rules accept can be posted where there is room
+pub is_due : (commands : List Command) (command : Command) (policy : Policy)
+    → next (policy_of commands (id_of command)) command ≡ Ok policy → (length commands ≡ 4000000 → ⊥)
+    → refusal_due commands command ≡ None
+is_due commands command policy decided not_full =
+    rw decided (cond-false _ _ _ (ne_eqb (length commands) 4000000 not_full))
+
+pub is_full : (commands : List Command) (command : Command) (policy : Policy)
+    → next (policy_of commands (id_of command)) command ≡ Ok policy → length commands ≡ 4000000
+    → refusal_due commands command ≡ Some Full
+is_full commands command policy decided full =
+    rw decided (cond-true _ _ _ (eq-eqb (length commands) 4000000 full))
+
+pub is_refused : (commands : List Command) (command : Command) (refusal : Refusal)
+    → next (policy_of commands (id_of command)) command ≡ Err refusal → refusal_due commands command ≡ Some refusal
+is_refused commands command refusal decided = rw decided refl
+
+-- a posting that faulted did so in a longer history too
+faulted-push : (history : List Entry) (command : Command) (after : List Entry) (entry : Entry) → HasFaultedBefore history command after
+    → HasFaultedBefore (history ++ entry ∷ []) command (after ++ entry ∷ [])
+faulted-push history command after entry faulted = record {
+  before = faulted.before;
+  caller = faulted.caller;
+  count = faulted.count;
+  turns = ap (λ turns. turns ++ entry ∷ []) faulted.turns
+      ∙ append_assoc faulted.before (posting faulted.caller command (Faulted faulted.count) ∷ after) (entry ∷ []);
+}
+
+-- it is pending until a posting is accepted
+pub pending-push : (history : List Entry) (command : Command) (entry : Entry) → accepted_of (entry ∷ []) ≡ []
+    → IsPending history command → IsPending (history ++ entry ∷ []) command
+pending-push history command entry none pending = record {
+  after = pending.after ++ entry ∷ [];
+  faulted = faulted-push history command pending.after entry pending.faulted;
+  none = accepted_of-push pending.after entry ∙ ap (λ cs. cs ++ accepted_of (entry ∷ [])) pending.none ∙ none;
+}
+
+pub pending-now : (history : List Entry) (caller : ℕ) (command : Command) (count : ℕ)
+    → IsPending (history ++ posting caller command (Faulted count) ∷ []) command
+pending-now history caller command count = record {
+  after = [];
+  faulted = record { before = history; caller = caller; count = count; turns = refl };
+  none = refl;
+}
+
+one_more-push : (history : List Entry) (held more : List Command) (entry : Entry) → IsOneMore history held more
+    → IsOneMore (history ++ entry ∷ []) held more
+unfolding faulted-push
+one_more-push history held [] entry one = tt
+one_more-push history held (command ∷ []) entry one =
+    (one.0 ++ entry ∷ [], (faulted-push history command one.0 entry one.1.0, one.1.1))
+one_more-push history held (command ∷ other ∷ more) entry one = absurd one
+
+-- what an image held in a history it held in a longer one
+pub holds_once-push : (opening : Opening) (history : List Entry) (entry : Entry) (image : List ℕ)
+    → HoldsOnce opening history image → HoldsOnce opening (history ++ entry ∷ []) image
+holds_once-push opening history entry image holds = record {
+  held = holds.held;
+  rest = holds.rest ++ accepted_of (entry ∷ []);
+  more = holds.more;
+  front = accepted_of-push history entry ∙ ap (λ cs. cs ++ accepted_of (entry ∷ [])) holds.front
+      ∙ append_assoc holds.held holds.rest (accepted_of (entry ∷ []));
+  one = one_more-push history holds.held holds.more entry holds.one;
+  opens = holds.opens;
+}
+
+-- the journal of all commands so far
+pub holds_all : (opening : Opening) (history : List Entry) (image : List ℕ) → JournalBytes image (commands_after opening history)
+    → HoldsOnce opening history image
+holds_all opening history image bytes = record {
+  held = accepted_of history;
+  rest = [];
+  more = [];
+  front = sym (append-nil (accepted_of history));
+  one = tt;
+  opens = rw (append-nil (commands_after opening history)) (inl bytes);
+}
+
+-- nothing was accepted since a pending posting faulted
+faulted_at : (history : List Entry) (command : Command) → IsPending history command → HasFaultedAt history (accepted_of history) command
+faulted_at history command pending =
+    let f = pending.faulted in
+    let entry = posting f.caller command (Faulted f.count) in
+    let all : accepted_of history ≡ accepted_of f.before ++ accepted_of (entry ∷ pending.after) =
+    ap accepted_of f.turns ∙ filter_map-append (λ (e : Entry). accepted_by e.call e.reply) f.before (entry ∷ pending.after) in (
+      pending.after,
+      (f, sym (all ∙ ap (λ cs. accepted_of f.before ++ cs) pending.none ∙ append-nil (accepted_of f.before))),
+    )
+
+-- and that of one more, whose posting is pending
+pub holds_more : (opening : Opening) (history : List Entry) (command : Command) (image : List ℕ) → IsPending history command
+    → JournalBytes image (commands_after opening history ++ command ∷ []) → HoldsOnce opening history image
+holds_more opening history command image pending bytes = record {
+  held = accepted_of history;
+  rest = [];
+  more = command ∷ [];
+  front = sym (append-nil (accepted_of history));
+  one = faulted_at history command pending;
+  opens = inl bytes;
+}
+
+-- each turn of a legal history has its reply
+due_in : (opening : Opening) (done before : List Entry) (entry : Entry) (after : List Entry) → IsLegalAfter opening done (before ++ entry ∷ after)
+    → IsDue opening (done ++ before) entry.caller entry.call entry.reply
+due_in opening done [] entry after legal = rw append-nil legal.0
+due_in opening done (first ∷ before) entry after legal =
+    subst (λ turns. IsDue opening turns entry.caller entry.call entry.reply) (append_assoc done (first ∷ []) before)
+    (due_in opening (done ++ first ∷ []) before entry after legal.1)
+
+all_in : {X : Type 0} (P : X → Type 0) (xs ys : List X) (x : X) → AllByRecursion P (xs ++ x ∷ ys) → P x
+all_in P [] ys x all = all.0
+all_in P (first ∷ xs) ys x all = all_in P xs ys x all.1
+
+-- so a posting faulted only where the disk's count rose since the opening
+pub rose_in : (opening : Opening) (history : List Entry) (command : Command) (now : ℕ) → IsLegalAfter opening [] history
+    → AllByRecursion (λ n. n ≤ now) (faults_met history) → HasFaulted history command → Rose opening.faults now
+rose_in opening history command now legal met faulted =
+    let this = faulted.1 in
+    let entry = posting this.caller command (Faulted this.count) in
+    let due = due_in opening [] this.before entry faulted.0 (subst (λ turns. IsLegalAfter opening [] turns) this.turns legal) in
+    let numbers : faults_met history ≡ faults_met this.before ++ this.count ∷ faults_met faulted.0 =
+    ap faults_met this.turns ∙ filter_map-append (λ (e : Entry). fault_of e.reply) this.before (entry ∷ faulted.0) in
+    let up_to = all_in (λ n. n ≤ now) (faults_met this.before) (faults_met faulted.0) this.count (subst (AllByRecursion (λ n. n ≤ now)) numbers met) in
+    omega (arith, up_to, due.1.0)

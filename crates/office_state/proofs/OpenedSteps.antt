@@ -1,0 +1,159 @@
+-- The office of a journal that was started on a disk, and what is known where there is none
+use Rattle.std.proofs.Common.{◌≡◌, inl, inr, ℕ, ◌<◌, true, false, List, [], ◌++◌, length, ◌∙◌, ap, sym, subst, refl, append-nil, arith}
+use Rattle.outside_io.specs.declared.disks.Disk.{Ghosts}
+use Rattle.outside_io.specs.Faults.{Rose}
+use Rattle.policy_machine.specs.Accounts.{ledger_of}
+use Rattle.policy_machine.specs.Book.{book}
+use Rattle.policy_machine.specs.History.{Opening, opened_on}
+use Rattle.posting_journal.specs.Creation.{OpensToBodies}
+use Rattle.posting_journal.specs.States.{StandsFor as JournalStands, is_clean}
+use Rattle.posting_journal.specs.declared.journal.Journal.{Journal}
+use Rattle.office_state.specs.declared.faults.StartCause.{StartCause}
+use Rattle.office_state.specs.declared.faults.StartCause.TheVariants.{DiskFault, NotAJournal, BadRecord, NoMemory}
+use Rattle.office_state.specs.declared.state.OfficeState.{OfficeState}
+use Rattle.office_state.specs.Journals.{bodies_of, Opens, IsShown}
+use Rattle.office_state.specs.Opening.{HasOpened, HasNotOpened, TellsFault}
+use Rattle.office_state.specs.Standing.{LeavesSince, StandsFor}
+use Rattle.office_state.specs.States.{commands_of, disk_of}
+use Rattle.office_state.specs.inside.Holding.{JournalHolds}
+use Rattle.office_state.specs.inside.Replays.{HasStopped, IsStoppedAt, IsOfficeOf, HasNoOffice}
+use Rattle.office_state.proofs.ReplaySteps.{all_replayed, stopped_shown}
+use Rattle.office_state.proofs.OpeningSteps.{CountsNow, IsStarted, ReadsImage, opening_keeps, looked_on, holds_once, looked_alone, looked_ever, synced_images, opens_commands, started_later}
+use Rattle.office_state.proofs.KeepingSteps.{values-book}
+use Rattle.office_state.proofs.TurnSteps.{holds_now}
+
+-- the bodies that stop a replay are those of a journal, since there are some
+unfollowed : (bytes : List ℕ) (n : ℕ) (bodies : List (List ℕ)) → OpensToBodies bytes bodies → IsStoppedAt n bodies
+    → IsShown bytes (BadRecord n)
+unfollowed bytes n bodies (inl file) at = inr (stopped_shown bytes bodies n file at)
+unfollowed bytes n bodies (inr creation) at =
+    let within : n < 0 = subst (λ (bs : List (List ℕ)). n < length bs) creation.0 at.within in absurd (omega arith)
+
+module _ {D : Type 0} (g : Ghosts D) (old : D) (journal : Journal D g) (started : IsStarted old journal) where
+  faulted : (new : D) (cause : StartCause) → HasStopped journal new cause → TellsFault (g.faults old) (g.faults new) cause
+  faulted new (DiskFault count) stopped = (stopped.0, subst (λ n. Rose n (g.faults new)) started.quiet stopped.1)
+  faulted new NotAJournal stopped = absurd stopped
+  faulted new (BadRecord n) stopped = stopped.0 ∙ started.quiet
+  faulted new NoMemory stopped = stopped ∙ started.quiet
+
+  shown : (new : D) (cause : StartCause) → HasStopped journal new cause → g.honest old → IsShown (g.reads old) cause
+  shown new (DiskFault count) stopped honest = tt
+  shown new NotAJournal stopped honest = absurd stopped
+  shown new NoMemory stopped honest = tt
+  shown new (BadRecord n) stopped honest =
+      let opened = started.opened honest in
+      unfollowed (g.reads old) n opened.bodies opened.opened
+      (stopped.1 opened.bodies [] (started.honesty.0 honest) opened.stands)
+
+  -- a journal of which no office was made
+  pub no_office : CountsNow g → ReadsImage g → (new : D) (cause : StartCause) → HasNoOffice journal new cause → HasNotOpened g old new cause
+  no_office counts_now reads_image new cause none = record {
+    told = faulted new cause none.why;
+    shown = shown new cause none.why;
+    alone = looked_alone g old journal started counts_now reads_image new none.looked;
+  }
+
+  module _ (state : OfficeState D g) (made : IsOfficeOf journal old state) where
+    -- the state with what it was opened on in plain sight
+    abbrev known : OfficeState D g
+    known = record state { begun = record state.begun { value = old }; recovered = record state.recovered { value = state.books } }
+
+    abbrev opening : Opening
+    opening = opened_on (commands_of state) (g.faults old)
+
+    -- what the file opened to is what was replayed
+    same_bodies : (honest : g.honest old) → (started.opened honest).bodies ≡ bodies_of (commands_of state)
+    same_bodies honest =
+        let opened = started.opened honest in
+        all_replayed g journal state.journal state.books made.replayed opened.bodies [] (started.honesty.0 honest) opened.stands
+
+    opens_replayed : g.honest old → Opens (g.reads old) (commands_of state)
+    opens_replayed honest =
+        opens_commands (g.reads old) (commands_of state) state.books.kept.valid state.books.kept.accepted
+        (subst (OpensToBodies (g.reads old)) (same_bodies honest) (started.opened honest).opened)
+
+    clean : is_clean state.journal ≡ false → ⊥
+    clean unclean =
+        let was : is_clean journal ≡ true = started.clean in
+        let same : is_clean state.journal ≡ is_clean journal = made.stays.clean in cc
+
+    holds : g.honest old → JournalHolds state.journal opening []
+    holds honest =
+        let opened = started.opened honest in
+        let stands : JournalStands state.journal opened.bodies [] =
+        made.stays.stands opened.bodies [] (started.honesty.0 honest) opened.stands in
+        record {
+          last = [];
+          stands = simp append-nil (subst (λ (bodies : List (List ℕ)). JournalStands state.journal bodies []) (same_bodies honest) stands);
+          pending = λ (unclean : is_clean state.journal ≡ false). absurd (clean unclean);
+        }
+
+    honesty : (g.honest old → g.honest (disk_of state)) × (g.honest (disk_of state) → g.honest old)
+    honesty = (
+      λ honest. made.stays.disk.honesty.0 (started.honesty.0 honest),
+      λ honest. started.honesty.1 (made.stays.disk.honesty.1 honest),
+    )
+
+    module _ (counts_now : CountsNow g) where
+      leaves_since : g.honest old → LeavesSince g old (disk_of state) opening []
+      leaves_since honest =
+          let held = λ (image : List ℕ) (opening_image : _). holds_once image (commands_of state) (g.faults old)
+          (opening_keeps (g.reads old) image (commands_of state) (opens_replayed honest) opening_image) in
+          record {
+            since = λ (image : List ℕ) (left : g.left_since (disk_of state) (g.clock old) image).
+                elim (looked_ever g old journal started counts_now (disk_of state) honest made.stays.disk image left) [
+                  | inl before ↦ inl before
+                  | inr in_opening ↦ inr (held image in_opening)
+                ];
+            synced =
+                let at = synced_images g old journal started counts_now (disk_of state) honest made.stays.disk in (
+                  at.0,
+                  at.1,
+                  λ (image : List ℕ) (left : g.left_since (disk_of state) (g.clock at.0) image). held image (at.2 image left),
+                );
+          }
+
+      known_stands : StandsFor known []
+      known_stands =
+          let keeps = state.books.kept in
+          let quiet : g.faults (disk_of state) ≡ g.faults old = made.replayed.quiet ∙ started.quiet in
+          let all : commands_of state ≡ commands_of state ++ [] = sym (append-nil (commands_of state)) in
+          record {
+            history = record {
+              legal = record { opens = record { accepted = keeps.accepted; valid = keeps.valid; few = keeps.few }; due = tt };
+              counted = simp append-nil refl;
+            };
+            kept = all;
+            policies = values-book state.books.policies state.books.ledger (commands_of state) keeps ∙ ap book all;
+            ledger = keeps.booked ∙ ap ledger_of all;
+            honesty = honesty;
+            images_now = λ (honest : g.honest old). holds_now state.journal opening []
+                (simp append-nil keeps.valid) (simp append-nil keeps.accepted) (holds honest);
+            images_since = leaves_since;
+            fault_count = quiet;
+            inside = record {
+              later = λ (honest : g.honest old).
+                  let looks = made.stays.disk.looks (started.honesty.0 honest) in
+                  omega (arith, started_later g old journal started counts_now honest, looks.time.later);
+              opened = omega (arith, quiet);
+              met = tt;
+              journal = λ (honest : g.honest (disk_of state)). holds (honesty.1 honest);
+            };
+          }
+
+      known_opened : HasOpened old known
+      known_opened = record {
+        begun = refl;
+        stands = known_stands;
+        quiet = made.replayed.quiet ∙ started.quiet;
+        opened = opens_replayed;
+        honesty = honesty;
+        unwritten = λ (honest : g.honest old). looked_on g old journal started counts_now (disk_of state) honest made.stays.disk;
+      }
+
+      -- a journal of which an office was made
+      pub made_office : HasOpened old state
+      made_office =
+          subst (λ recovered. HasOpened old (record state { recovered = record state.recovered { value = recovered } })) (sym made.recovered)
+          (subst (λ begun. HasOpened old (record state { begun = record state.begun { value = begun }; recovered = record state.recovered { value = state.books } }))
+          (sym made.begun) known_opened)

@@ -1,0 +1,402 @@
+-- What one more turn does to an office
+use Rattle.std.proofs.Common.{◌≡◌, ◌⊎◌, ℕ, ◌+◌, ◌≤◌, Bool, true, false, List, [], ◌∷◌, ◌++◌, length, refl, ap, sym, ◌∙◌, subst, None, Ok, Err, Result, length-append, arith, inl, inr}
+use Rattle.std.proofs.lemmas.List.{map-append}
+use Rattle.std.specs.Prelude.{is_ok, OnOk, OnErr}
+use Rattle.std.specs.List.{AllByRecursion}
+use Rattle.outside_io.specs.declared.disks.Disk.{Ghosts}
+use Rattle.outside_io.specs.Faults.{Rose}
+use Rattle.policy_types.specs.declared.command.Command.{Command}
+use Rattle.policy_types.specs.declared.policy.Policy.{Policy}
+use Rattle.policy_types.specs.declared.entry.Reply.TheVariants.{Accepted, Faulted}
+use Rattle.policy_types.specs.declared.entry.Entry.{Entry}
+use Rattle.policy_types.specs.Valid.{IsValid, id_of}
+use Rattle.policy_machine.specs.Accounts.{ledger_of}
+use Rattle.policy_machine.specs.Book.{book, policy_of, IsAccepted}
+use Rattle.policy_machine.specs.Rules.{next}
+use Rattle.policy_machine.specs.History.{Opening, IsDue, IsLegal, accepted_of, commands_after, refusal_due}
+use Rattle.policy_machine.proofs.BookLemmas.{IsAccepted-push}
+use Rattle.policy_machine.proofs.HistoryLemmas.{IsLegalAfter-push}
+use Rattle.record_codec.specs.Spelling.{spelling_of}
+use Rattle.posting_journal.specs.Files.{IsJournal}
+use Rattle.posting_journal.specs.Runs.{Leaves}
+use Rattle.posting_journal.specs.States.{StandsFor as JournalStands, IsKept, count_of as records_in, disk_of as disk_under, is_clean}
+use Rattle.posting_journal.specs.declared.journal.Journal.{Journal}
+use Rattle.posting_journal.proofs.Written.{staged_either}
+use Rattle.office_state.specs.declared.books.Books.{Books}
+use Rattle.office_state.specs.declared.state.OfficeState.{OfficeState}
+use Rattle.office_state.specs.declared.answer.Answer.TheVariants.{Accepted as AcceptedAt, DiskFault}
+use Rattle.office_state.specs.Images.{HoldsNow, HoldsOnce, IsLeftBy}
+use Rattle.office_state.specs.Journals.{JournalBytes, bodies_of}
+use Rattle.office_state.specs.Posting.{CrashesIn}
+use Rattle.office_state.specs.Standing.{LeavesSince, StandsFor}
+use Rattle.office_state.specs.States.{begun_of, commands_of, disk_of, opening_of}
+use Rattle.office_state.specs.inside.Books.{commands_in}
+use Rattle.office_state.specs.inside.Holding.{IsLeftBehind, JournalHolds}
+use Rattle.office_state.specs.inside.Records.{Records}
+use Rattle.office_state.proofs.HistorySteps.{all_up_to, commands-more, commands-same, faults-same, faults_after-more, faults_after-same, faults_met, faults-more, holds_all, holds_more, holds_once-push, is_due, is_fresh, pending-now, pending-push, posting}
+use Rattle.office_state.proofs.KeepingSteps.{all-more, values-book}
+use Rattle.office_state.proofs.OpeningSteps.{synced_before}
+
+legal-push : (opening : Opening) (turns : List Entry) (entry : Entry) → IsLegal opening turns
+    → IsDue opening turns entry.caller entry.call entry.reply → IsLegal opening (turns ++ entry ∷ [])
+legal-push opening turns entry legal due =
+    record { opens = legal.opens; due = IsLegalAfter-push opening [] turns entry legal.due due }
+
+-- the file of commands' bodies is their journal
+journal_of : (image : List ℕ) (commands : List Command) → AllByRecursion IsValid commands → IsAccepted commands
+    → IsJournal image (bodies_of commands) → JournalBytes image commands
+journal_of image commands valid accepted records = record { records = records; valid = valid; accepted = accepted }
+
+journal_of_more : (image : List ℕ) (commands : List Command) (command : Command) → AllByRecursion IsValid commands → IsValid command
+    → IsAccepted (commands ++ command ∷ []) → IsJournal image (bodies_of commands ++ spelling_of command ∷ [])
+    → JournalBytes image (commands ++ command ∷ [])
+journal_of_more image commands command all valid accepted records = record {
+  records = rw (map-append spelling_of commands (command ∷ [])) records;
+  valid = all-more IsValid commands command all valid;
+  accepted = accepted;
+}
+
+-- a pending command stays pending while nothing is accepted
+left_still : (opening : Opening) (turns : List Entry) (entry : Entry) (body : List ℕ) → accepted_of (entry ∷ []) ≡ []
+    → IsLeftBehind opening turns body → IsLeftBehind opening (turns ++ entry ∷ []) body
+left_still opening turns entry body none left = record {
+  command = left.command;
+  pending = pending-push turns left.command entry none left.pending;
+  spelled = left.spelled;
+  valid = left.valid;
+  accepted = rw (commands-same opening turns entry none) left.accepted;
+}
+
+-- an image of a history is one of a longer history
+now_later : (opening : Opening) (turns : List Entry) (entry : Entry) (image : List ℕ) → HoldsNow opening turns image
+    → HoldsOnce opening (turns ++ entry ∷ []) image
+now_later opening turns entry image (inl all) = holds_once-push opening turns entry image (holds_all opening turns image all)
+now_later opening turns entry image (inr more) =
+    holds_once-push opening turns entry image (holds_more opening turns more.0 image more.1 more.2)
+
+module _ {D : Type 0} {g : Ghosts D} where
+  -- what a crash now leaves, of a journal that holds the commands of a history
+  pub holds_now : (journal : Journal D g) (opening : Opening) (turns : List Entry) → AllByRecursion IsValid (commands_after opening turns)
+      → IsAccepted (commands_after opening turns) → JournalHolds journal opening turns
+      → (image : List ℕ) → g.may_leave (disk_under journal) image → HoldsNow opening turns image
+  holds_now journal opening turns valid accepted holds image left = by (is_clean journal) refl (holds.stands.images image left)
+    where
+      by : (clean : Bool) → is_clean journal ≡ clean → IsKept clean (bodies_of (commands_after opening turns)) holds.last image
+          → HoldsNow opening turns image
+      by true is kept = inl (journal_of image (commands_after opening turns) valid accepted kept)
+      by false is kept =
+          let commands = commands_after opening turns in
+          let behind = holds.pending is in
+          elim (staged_either (bodies_of commands) holds.last image kept) [
+            | inl old ↦ inl (journal_of image commands valid accepted old)
+            | inr more ↦ inr (
+              behind.command,
+              behind.pending,
+              journal_of_more image commands behind.command valid behind.valid behind.accepted
+                  (subst (λ body. IsJournal image (bodies_of commands ++ body ∷ [])) behind.spelled more),
+            )
+          ]
+
+  -- the commands after the turns are those that the books keep
+  valid_after : (state : OfficeState D g) (turns : List Entry) → commands_of state ≡ commands_after (opening_of state) turns
+      → AllByRecursion IsValid (commands_after (opening_of state) turns)
+  valid_after state turns kept = subst (AllByRecursion IsValid) kept state.books.kept.valid
+
+  accepted_after : (state : OfficeState D g) (turns : List Entry) → commands_of state ≡ commands_after (opening_of state) turns
+      → IsAccepted (commands_after (opening_of state) turns)
+  accepted_after state turns kept = subst IsAccepted kept state.books.kept.accepted
+
+  -- what is known of the images since the opening goes on with a turn
+  since_on : (begun old new : D) (opening : Opening) (turns : List Entry) (entry : Entry) (P : List ℕ → Type 0)
+      → g.clock begun ≤ g.clock old → LeavesSince g begun old opening turns → Leaves g old new P
+      → ((image : List ℕ) → P image → HoldsOnce opening (turns ++ entry ∷ []) image)
+      → LeavesSince g begun new opening (turns ++ entry ∷ [])
+  since_on begun old new opening turns entry P later so_far moments holds = record {
+    since = λ (image : List ℕ) (left : g.left_since new (g.clock begun) image).
+        elim (moments.before (g.clock begun) image later left) [
+          | inl earlier ↦ elim (so_far.since image earlier) [
+            | inl before ↦ inl before
+            | inr held ↦ inr (holds_once-push opening turns entry image held)
+          ]
+          | inr now ↦ inr (holds image now)
+        ];
+    synced =
+        let mid = so_far.synced in (
+          mid.0,
+          synced_before g begun mid.0 old new mid.1 moments.later,
+          λ (image : List ℕ) (left : g.left_since new (g.clock mid.0) image).
+              elim (moments.before (g.clock mid.0) image mid.1.passed left) [
+                | inl earlier ↦ holds_once-push opening turns entry image (mid.2 image earlier)
+                | inr now ↦ holds image now
+              ],
+        );
+  }
+
+  since_still : (begun disk : D) (opening : Opening) (turns : List Entry) (entry : Entry) → LeavesSince g begun disk opening turns
+      → LeavesSince g begun disk opening (turns ++ entry ∷ [])
+  since_still begun disk opening turns entry so_far = record {
+    since = λ (image : List ℕ) (left : g.left_since disk (g.clock begun) image). elim (so_far.since image left) [
+      | inl before ↦ inl before
+      | inr held ↦ inr (holds_once-push opening turns entry image held)
+    ];
+    synced = (
+      so_far.synced.0,
+      so_far.synced.1,
+      λ (image : List ℕ) (left : g.left_since disk (g.clock so_far.synced.0) image).
+          holds_once-push opening turns entry image (so_far.synced.2 image left),
+    );
+  }
+
+  module _ (old : OfficeState D g) (turns : List Entry) (stands : StandsFor old turns) where
+    abbrev opening : Opening
+    opening = opening_of old
+
+    abbrev commands : List Command
+    commands = commands_after opening turns
+
+    -- a turn that leaves the journal and the commands
+    pub stands_still : (books : Books) (counted : records_in old.journal ≡ length (commands_in books)) (entry : Entry)
+        → commands_in books ≡ commands_of old → accepted_of (entry ∷ []) ≡ [] → faults_met (entry ∷ []) ≡ []
+        → IsDue opening turns entry.caller entry.call entry.reply
+        → StandsFor (record { journal = old.journal; books = books; begun = old.begun; recovered = old.recovered; counted = counted }) (turns ++ entry ∷ [])
+    stands_still books counted entry as_was none quiet due =
+        let same : commands_after opening (turns ++ entry ∷ []) ≡ commands = commands-same opening turns entry none in
+        let kept : commands_in books ≡ commands_after opening (turns ++ entry ∷ []) = as_was ∙ stands.kept ∙ sym same in
+        let holds : g.honest (disk_of old) → JournalHolds old.journal opening (turns ++ entry ∷ []) = λ honest.
+        let before = stands.inside.journal honest in record {
+          last = before.last;
+          stands = rw same before.stands;
+          pending = λ unclean. left_still opening turns entry before.last none (before.pending unclean);
+        } in
+        record {
+          history = record { legal = legal-push opening turns entry stands.history.legal due; counted = ap length kept };
+          kept = kept;
+          policies = values-book books.policies books.ledger (commands_in books) books.kept ∙ ap book kept;
+          ledger = books.kept.booked ∙ ap ledger_of kept;
+          honesty = stands.honesty;
+          images_now = λ (honest : g.honest (begun_of old)). holds_now old.journal opening (turns ++ entry ∷ [])
+              (subst (AllByRecursion IsValid) kept books.kept.valid) (subst IsAccepted kept books.kept.accepted)
+              (holds (stands.honesty.0 honest));
+          images_since = λ (honest : g.honest (begun_of old)).
+              since_still (begun_of old) (disk_of old) opening turns entry (stands.images_since honest);
+          fault_count = stands.fault_count ∙ sym (faults_after-same opening turns entry quiet);
+          inside = record {
+            later = stands.inside.later;
+            opened = stands.inside.opened;
+            met = rw (faults-same turns entry quiet) stands.inside.met;
+            journal = holds;
+          };
+        }
+
+    -- it stands for the same turns with other books of the same commands
+    pub stands_with : (books : Books) (counted : records_in old.journal ≡ length (commands_in books)) → commands_in books ≡ commands_of old
+        → StandsFor (record { journal = old.journal; books = books; begun = old.begun; recovered = old.recovered; counted = counted }) turns
+    stands_with books counted as_was =
+        let kept : commands_in books ≡ commands = as_was ∙ stands.kept in
+        record {
+          history = record { legal = stands.history.legal; counted = ap length kept };
+          kept = kept;
+          policies = values-book books.policies books.ledger (commands_in books) books.kept ∙ ap book kept;
+          ledger = books.kept.booked ∙ ap ledger_of kept;
+          honesty = stands.honesty;
+          images_now = stands.images_now;
+          images_since = stands.images_since;
+          fault_count = stands.fault_count;
+          inside = stands.inside;
+        }
+
+    -- an image while a record of the command is made: without it, with it, or with that of an earlier fault
+    during : (honest : g.honest (disk_of old)) (command : Command) (image : List ℕ) → IsValid command → IsAccepted (commands ++ command ∷ [])
+        → IsJournal image (bodies_of commands) ⊎ IsJournal image (bodies_of commands ++ spelling_of command ∷ [])
+        ⊎ ((is_clean old.journal ≡ false) × IsJournal image (bodies_of commands ++ (stands.inside.journal honest).last ∷ []))
+        → HoldsNow opening turns image ⊎ JournalBytes image (commands ++ command ∷ [])
+    during honest command image valid accepted held =
+        let all = valid_after old turns stands.kept in
+        elim held [
+          | inl without ↦ inl (inl (journal_of image commands all (accepted_after old turns stands.kept) without))
+          | inr other ↦ elim other [
+            | inl more ↦ inr (journal_of_more image commands command all valid accepted more)
+            | inr earlier ↦
+                let behind = (stands.inside.journal honest).pending earlier.0 in
+                inl (inr (
+                  behind.command,
+                  behind.pending,
+                  journal_of_more image commands behind.command all behind.valid behind.accepted
+                      (subst (λ body. IsJournal image (bodies_of commands ++ body ∷ [])) behind.spelled earlier.1),
+                ))
+          ]
+        ]
+
+    module _ {T E : Type 0} (command : Command) (policy : Policy) (journal : Journal D g) (result : Result T E) (valid : IsValid command)
+        (decided : next (policy_of (commands_of old) (id_of command)) command ≡ Ok policy)
+        (records : (bodies : List (List ℕ)) (last : List ℕ) → g.honest (disk_of old) → JournalStands old.journal bodies last
+        → Records old.journal journal bodies last (spelling_of command) result) where
+      decided' : next (policy_of commands (id_of command)) command ≡ Ok policy
+      decided' = subst (λ cs. next (policy_of cs (id_of command)) command ≡ Ok policy) stands.kept decided
+
+      accepted : IsAccepted (commands ++ command ∷ [])
+      accepted = IsAccepted-push commands command (accepted_after old turns stands.kept) (ap is_ok decided')
+
+      recorded : (honest : g.honest (disk_of old))
+          → Records old.journal journal (bodies_of commands) (stands.inside.journal honest).last (spelling_of command) result
+      recorded honest = let before = stands.inside.journal honest in records (bodies_of commands) before.last honest before.stands
+
+      moments : (honest : g.honest (disk_of old)) → Leaves g (disk_of old) (disk_under journal)
+          (λ image. HoldsNow opening turns image ⊎ JournalBytes image (commands ++ command ∷ []))
+      moments honest =
+          let m = (recorded honest).moments in record {
+            later = m.later;
+            each = λ image left. during honest command image valid accepted (m.each image left);
+            before = λ moment image passed left. elim (m.before moment image passed left) [
+              | inl earlier ↦ inl earlier
+              | inr now ↦ inr (during honest command image valid accepted now)
+            ];
+          }
+
+      since_more : (entry : Entry) → g.honest (begun_of old)
+          → ((image : List ℕ) → JournalBytes image (commands ++ command ∷ []) → HoldsOnce opening (turns ++ entry ∷ []) image)
+          → LeavesSince g (begun_of old) (disk_under journal) opening (turns ++ entry ∷ [])
+      since_more entry honest holds =
+          since_on (begun_of old) (disk_of old) (disk_under journal) opening turns entry
+          (λ image. HoldsNow opening turns image ⊎ JournalBytes image (commands ++ command ∷ [])) (stands.inside.later honest)
+          (stands.images_since honest) (moments (stands.honesty.0 honest))
+          (λ image held. elim held [ inl now ↦ now_later opening turns entry image now | inr more ↦ holds image more ])
+
+      -- a crash in a posting in which the disk failed
+      pub crash_faulted : (count : ℕ) → g.honest (disk_of old)
+          → CrashesIn g (disk_of old) (disk_under journal) opening turns command (DiskFault count)
+      crash_faulted count honest = record { during = moments honest; accepted = λ no. absurd no }
+
+      module _ (value : T) (ok : result ≡ Ok value) where
+        done : (honest : g.honest (disk_of old)) → JournalStands journal (bodies_of commands ++ spelling_of command ∷ []) []
+            × (is_clean journal ≡ false → ⊥)
+        done honest =
+            subst (λ r. OnOk r (JournalStands journal (bodies_of commands ++ spelling_of command ∷ []) [] × (is_clean journal ≡ false → ⊥)))
+            ok (recorded honest).done
+
+        -- a crash in one that was accepted, and after it
+        pub crash_accepted : (count : ℕ) → g.honest (disk_of old)
+            → CrashesIn g (disk_of old) (disk_under journal) opening turns command (AcceptedAt count)
+        crash_accepted count honest = record {
+          during = moments honest;
+          accepted = λ yes image left. with_record (done honest) image left;
+        }
+          where
+            with_record : JournalStands journal (bodies_of commands ++ spelling_of command ∷ []) [] × (is_clean journal ≡ false → ⊥)
+                → (image : List ℕ) → g.may_leave (disk_under journal) image → JournalBytes image (commands ++ command ∷ [])
+            with_record held image left = by (is_clean journal) refl (held.0.images image left)
+              where
+                by : (clean : Bool) → is_clean journal ≡ clean → IsKept clean (bodies_of commands ++ spelling_of command ∷ []) [] image
+                    → JournalBytes image (commands ++ command ∷ [])
+                by true is file = journal_of_more image commands command (valid_after old turns stands.kept) valid accepted file
+                by false is file = absurd (held.1 is)
+
+      module _ (honesty : (g.honest (disk_of old) → g.honest (disk_under journal)) × (g.honest (disk_under journal) → g.honest (disk_of old))) where
+        -- a posting that was accepted
+        module _ (books : Books) (counted : records_in journal ≡ length (commands_in books)) (count : ℕ) (value : T)
+            (quiet : g.faults (disk_under journal) ≡ g.faults (disk_of old)) (more : commands_in books ≡ commands_of old ++ command ∷ [])
+            (few : length (commands_of old) ≡ 4000000 → ⊥) (ok : result ≡ Ok value) (position : count ≡ length (commands_in books)) where
+          pub stands_accepted : (caller : ℕ)
+              → StandsFor (record { journal = journal; books = books; begun = old.begun; recovered = old.recovered; counted = counted })
+              (turns ++ posting caller command (Accepted count) ∷ [])
+          stands_accepted caller =
+              let entry = posting caller command (Accepted count) in
+              let grown : commands_after opening (turns ++ entry ∷ []) ≡ commands ++ command ∷ [] = commands-more opening turns caller command count in
+              let kept : commands_in books ≡ commands_after opening (turns ++ entry ∷ []) =
+              more ∙ ap (λ cs. cs ++ command ∷ []) stands.kept ∙ sym grown in
+              let due : refusal_due commands command ≡ None = is_due commands command policy decided' (λ full. few (ap length stands.kept ∙ full)) in
+              let at : count ≡ length commands + 1 = position ∙ ap length (kept ∙ grown) ∙ length-append commands (command ∷ []) in
+              let holds : g.honest (disk_of old) → JournalHolds journal opening (turns ++ entry ∷ []) = λ honest. record {
+                last = [];
+                stands = rw (grown, map-append spelling_of commands (command ∷ [])) (done value ok honest).0;
+                pending = λ unclean. absurd ((done value ok honest).1 unclean);
+              } in
+              record {
+                history = record { legal = legal-push opening turns entry stands.history.legal (due, at); counted = ap length kept };
+                kept = kept;
+                policies = values-book books.policies books.ledger (commands_in books) books.kept ∙ ap book kept;
+                ledger = books.kept.booked ∙ ap ledger_of kept;
+                honesty = (λ honest. honesty.0 (stands.honesty.0 honest), λ honest. stands.honesty.1 (honesty.1 honest));
+                images_now = λ (honest : g.honest (begun_of old)). holds_now journal opening (turns ++ entry ∷ [])
+                    (subst (AllByRecursion IsValid) kept books.kept.valid) (subst IsAccepted kept books.kept.accepted)
+                    (holds (stands.honesty.0 honest));
+                images_since = λ (honest : g.honest (begun_of old)). since_more entry honest
+                    (λ image file. holds_all opening (turns ++ entry ∷ []) image (rw grown file));
+                fault_count = quiet ∙ stands.fault_count ∙ sym (faults_after-same opening turns entry refl);
+                inside = record {
+                  later = λ (honest : g.honest (begun_of old)).
+                      omega (arith, stands.inside.later honest, (moments (stands.honesty.0 honest)).later);
+                  opened = rw quiet stands.inside.opened;
+                  met = rw (faults-same turns entry refl, quiet) stands.inside.met;
+                  journal = λ honest. holds (honesty.1 honest);
+                };
+              }
+
+        -- a posting in which the disk failed
+        module _ (counted : records_in journal ≡ length (commands_of old)) (count : ℕ) (error : E)
+            (few : length (commands_of old) ≡ 4000000 → ⊥) (told : count ≡ g.faults (disk_under journal))
+            (later : g.faults (disk_of old) ≤ g.faults (disk_under journal)) (rose : Rose (g.faults (disk_of old)) (g.faults (disk_under journal)))
+            (err : result ≡ Err error) where
+          pub stands_faulted : (caller : ℕ)
+              → StandsFor (record { journal = journal; books = old.books; begun = old.begun; recovered = old.recovered; counted = counted })
+              (turns ++ posting caller command (Faulted count) ∷ [])
+          stands_faulted caller =
+              let entry = posting caller command (Faulted count) in
+              let same : commands_after opening (turns ++ entry ∷ []) ≡ commands = commands-same opening turns entry refl in
+              let kept : commands_of old ≡ commands_after opening (turns ++ entry ∷ []) = stands.kept ∙ sym same in
+              let due : refusal_due commands command ≡ None = is_due commands command policy decided' (λ full. few (ap length stands.kept ∙ full)) in
+              let fresh = is_fresh opening turns (g.faults (disk_of old)) count stands.inside.opened stands.inside.met (rw told rose) in
+              let failed = λ (honest : g.honest (disk_of old)).
+              subst (λ r. OnErr r ((left : List ℕ) × JournalStands journal (bodies_of commands) left
+              × (is_clean journal ≡ false → (left ≡ spelling_of command) ⊎ ((is_clean old.journal ≡ false)
+              × (left ≡ (stands.inside.journal honest).last)))))
+              err (recorded honest).failed in
+              let holds : g.honest (disk_of old) → JournalHolds journal opening (turns ++ entry ∷ []) = λ honest.
+              record {
+                last = (failed honest).0;
+                stands = rw same (failed honest).1;
+                pending = λ unclean. elim ((failed honest).2 unclean) [
+                  | inl this ↦ record {
+                    command = command;
+                    pending = pending-now turns caller command count;
+                    spelled = this;
+                    valid = valid;
+                    accepted = rw same accepted;
+                  }
+                  | inr earlier ↦ subst (IsLeftBehind opening (turns ++ entry ∷ [])) (sym earlier.1)
+                      (left_still opening turns entry (stands.inside.journal honest).last refl ((stands.inside.journal honest).pending earlier.0))
+                ];
+              } in
+              record {
+                history = record { legal = legal-push opening turns entry stands.history.legal (due, fresh); counted = ap length kept };
+                kept = kept;
+                policies = values-book old.books.policies old.books.ledger (commands_in old.books) old.books.kept ∙ ap book kept;
+                ledger = old.books.kept.booked ∙ ap ledger_of kept;
+                honesty = (λ honest. honesty.0 (stands.honesty.0 honest), λ honest. stands.honesty.1 (honesty.1 honest));
+                images_now = λ (honest : g.honest (begun_of old)). holds_now journal opening (turns ++ entry ∷ [])
+                    (valid_after old (turns ++ entry ∷ []) kept) (accepted_after old (turns ++ entry ∷ []) kept)
+                    (holds (stands.honesty.0 honest));
+                images_since = λ (honest : g.honest (begun_of old)). since_more entry honest
+                    (λ image file. holds_more opening (turns ++ entry ∷ []) command image (pending-now turns caller command count) (rw same file));
+                fault_count = sym told ∙ sym (faults_after-more opening turns caller command count);
+                inside = record {
+                  later = λ (honest : g.honest (begun_of old)).
+                      omega (arith, stands.inside.later honest, (moments (stands.honesty.0 honest)).later);
+                  opened = omega (arith, later, stands.inside.opened);
+                  met = rw (faults-more turns caller command count)
+                      (all-more (λ n. n ≤ g.faults (disk_under journal)) (faults_met turns) count
+                      (all_up_to (g.faults (disk_of old)) (g.faults (disk_under journal)) (faults_met turns) later stands.inside.met) (omega (arith, told)));
+                  journal = λ honest. holds (honesty.1 honest);
+                };
+              }
+
+  -- the disk that an office leaves
+  pub left_by : (state : OfficeState D g) (turns : List Entry) → StandsFor state turns
+      → IsLeftBy g (begun_of state) (disk_of state) (opening_of state) turns
+  left_by state turns stands = record {
+    honesty = stands.honesty;
+    faults = stands.fault_count;
+    now = stands.images_now;
+    since = λ honest. (stands.images_since honest).since;
+    synced = λ honest. (stands.images_since honest).synced;
+  }

@@ -1,0 +1,45 @@
+use Rattle.std.proofs.Common.{◌≡◌, ℕ, List, refl, ap, sym, ◌∙◌, subst, Ok, length}
+use Rattle.policy_types.specs.declared.entry.Entry.{Entry}
+use Rattle.policy_types.specs.declared.entry.Reply.TheVariants.{Refused}
+use Rattle.policy_types.specs.declared.refusal.Refusal.TheVariants.{Full}
+use Rattle.policy_types.specs.Valid.{id_of}
+use Rattle.policy_machine.specs.Book.{policy_of}
+use Rattle.policy_machine.specs.Rules.{next}
+use Rattle.policy_machine.specs.History.{commands_after}
+use Rattle.office_state.specs.Standing.{StandsFor}
+use Rattle.office_state.specs.States.{opening_of}
+use Rattle.office_state.proofs.HistorySteps.{is_full, posting}
+use Rattle.office_state.proofs.TurnSteps.{crash_accepted, crash_faulted, stands_accepted, stands_faulted, stands_still}
+use Rattle.office_state.proofs.state.OfficeState.accept.Goals as goal
+
+pub returns-then-count-eq-MOST_COMMANDS-clause-stands : goal.returns-then-count-eq-MOST_COMMANDS-clause-stands
+returns-then-count-eq-MOST_COMMANDS-clause-stands g c = λ (history : List Entry) (caller : ℕ) (stands : StandsFor c.args.self.now history).
+    let old = c.args.self.now in
+    let command = c.args.command.now in
+    let decided = subst (λ cs. next (policy_of cs (id_of command)) command ≡ Ok c.args.policy) stands.kept c.requires.accepted in
+    let full = sym (ap length stands.kept) ∙ sym c.count.ensures ∙ c.if-count-eq-MOST_COMMANDS.true in
+    stands_still old history stands old.books old.counted (posting caller command (Refused Full)) refl refl refl
+    (is_full (commands_after (opening_of old) history) command c.args.policy decided full)
+
+pub returns-in-Ok-clause-stands : goal.returns-in-Ok-clause-stands
+returns-in-Ok-clause-stands g c = λ (history : List Entry) (caller : ℕ) (stands : StandsFor c.args.self.now history).
+    stands_accepted c.args.self.now history stands c.args.command.now c.args.policy c.record.new.journal c.record.result c.requires.valid
+    c.requires.accepted (rw c.encode.ensures at c.record.ensures.records) c.record.ensures.disk.honesty c.keep.new.self _ c.count-in-Ok.result c.in-Ok.field-0
+    c.in-Ok.ensures.disk.quiet c.keep.ensures.commands (λ full. c.if-count-eq-MOST_COMMANDS.false (c.count.ensures ∙ full)) c.in-Ok.is c.count-in-Ok.ensures caller
+
+pub returns-in-Ok-clause-crash : goal.returns-in-Ok-clause-crash
+returns-in-Ok-clause-crash g c = λ (history : List Entry) (stands : StandsFor c.args.self.now history).
+    crash_accepted c.args.self.now history stands c.args.command.now c.args.policy c.record.new.journal c.record.result c.requires.valid
+    c.requires.accepted (rw c.encode.ensures at c.record.ensures.records) c.in-Ok.field-0 c.in-Ok.is c.count-in-Ok.result
+
+pub returns-in-Err-clause-stands : goal.returns-in-Err-clause-stands
+returns-in-Err-clause-stands g c = λ (history : List Entry) (caller : ℕ) (stands : StandsFor c.args.self.now history).
+    stands_faulted c.args.self.now history stands c.args.command.now c.args.policy c.record.new.journal c.record.result c.requires.valid
+    c.requires.accepted (rw c.encode.ensures at c.record.ensures.records) c.record.ensures.disk.honesty _ c.in-Err.fault.count c.in-Err.fault
+    (λ full. c.if-count-eq-MOST_COMMANDS.false (c.count.ensures ∙ full)) c.in-Err.ensures.disk.fault.0 c.record.ensures.disk.later c.in-Err.ensures.disk.fault.1
+    c.in-Err.is caller
+
+pub returns-in-Err-clause-crash : goal.returns-in-Err-clause-crash
+returns-in-Err-clause-crash g c = λ (history : List Entry) (stands : StandsFor c.args.self.now history).
+    crash_faulted c.args.self.now history stands c.args.command.now c.args.policy c.record.new.journal c.record.result c.requires.valid
+    c.requires.accepted (rw c.encode.ensures at c.record.ensures.records) c.in-Err.fault.count

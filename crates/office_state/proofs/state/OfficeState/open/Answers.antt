@@ -1,0 +1,43 @@
+-- What start tells of the disk, and what the replay tells of the journal.
+use Rattle.std.proofs.Common.{subst}
+use Rattle.std.proofs.lemmas.Result.{MatchResult-weaker}
+use Rattle.office_state.specs.inside.Replays.{IsOfficeOf}
+use Rattle.office_state.proofs.OpeningSteps.{IsStarted, not_started}
+use Rattle.office_state.proofs.OpenedSteps.{no_office, made_office}
+use Rattle.office_state.proofs.state.OfficeState.open.Goals as goal
+
+pub returns-in-Ok-clause-opened : goal.returns-in-Ok-clause-opened
+returns-in-Ok-clause-opened g c =
+    let start = c.in-Ok.ensures in
+    let started : IsStarted {g = g.D.Disk} c.args.disk c.in-Ok.journal = record {
+      quiet = start.quiet;
+      clean = start.clean;
+      honesty = start.honesty;
+      opened = start.opened;
+      opens = start.opens;
+    } in
+    MatchResult-weaker c.office_of.result c.office_of.ensures.opened
+    (λ state made. made_office g.D.Disk c.args.disk c.in-Ok.journal started state
+    (subst (λ begun. IsOfficeOf c.in-Ok.journal begun state) c.of-begun.ensures made) g.met.D.Disk.counts_now)
+    (λ fault u. u)
+
+pub returns-in-Ok-clause-refused : goal.returns-in-Ok-clause-refused
+returns-in-Ok-clause-refused g c =
+    let start = c.in-Ok.ensures in
+    let started : IsStarted {g = g.D.Disk} c.args.disk c.in-Ok.journal = record {
+      quiet = start.quiet;
+      clean = start.clean;
+      honesty = start.honesty;
+      opened = start.opened;
+      opens = start.opens;
+    } in
+    let left = no_office g.D.Disk c.args.disk c.in-Ok.journal started g.met.D.Disk.counts_now g.met.D.Disk.reads_as_image in
+    MatchResult-weaker c.office_of.result c.office_of.ensures.none (λ state u. u)
+    (λ fault none. left fault.disk fault.cause none)
+
+pub returns-in-Err-clause-refused : goal.returns-in-Err-clause-refused
+returns-in-Err-clause-refused g c =
+    let start = c.in-Err.ensures in
+    rw c.cause_of.ensures
+    (not_started g.D.Disk c.args.disk g.met.D.Disk.reads_as_image c.in-Err.fault.disk c.in-Err.fault.cause start.told start.honesty
+    start.refused start.opens)

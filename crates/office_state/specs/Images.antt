@@ -1,0 +1,95 @@
+-- What the images of a disk hold, on which an office was opened
+use Rattle.std.specs.Prelude.{◌≡◌, ◌⊎◌, ◌↔◌, ℕ, List, [], ◌∷◌, ◌++◌, None}
+use Rattle.std.specs.List.{filter_map, last_or}
+use Rattle.std.specs.Option.{unwrap_or}
+use Rattle.outside_io.specs.declared.disks.Disk.{Ghosts}
+use Rattle.policy_types.specs.declared.command.Command.{Command}
+use Rattle.policy_types.specs.declared.entry.Call.TheVariants.{Post}
+use Rattle.policy_types.specs.declared.entry.Reply.TheVariants.{Faulted}
+use Rattle.policy_types.specs.declared.entry.Entry.{Entry}
+use Rattle.policy_machine.specs.History.{Opening, accepted_of, commands_after, fault_of}
+use Rattle.posting_journal.specs.Creation.{IsUnfinished}
+use Rattle.posting_journal.specs.Opening.{IsSynced}
+use Rattle.posting_journal.specs.Runs.{LooksOn}
+use Rattle.office_state.specs.Journals.{JournalBytes, Opens}
+
+-- a posting of the command met a fault of the disk, and after it came these turns
+pub record HasFaultedBefore (history : List Entry) (command : Command) (after : List Entry) : Type 0 where
+  pub before : List Entry
+  pub caller : ℕ
+  pub count : ℕ
+  pub turns : history ≡ before ++ (record { caller = caller; call = Post command; reply = Faulted count }) ∷ after
+
+abbrev pub HasFaulted : List Entry → Command → Type 0
+HasFaulted history command = (after : List Entry) × HasFaultedBefore history command after
+
+-- and no posting was accepted since
+pub record IsPending (history : List Entry) (command : Command) : Type 0 where
+  pub after : List Entry
+  pub faulted : HasFaultedBefore history command after
+  pub none : accepted_of after ≡ []
+
+-- What a crash after the history leaves is the journal of the commands after it, or of those and one more, whose
+-- posting faulted with none accepted since.
+abbrev pub HoldsNow : Opening → List Entry → List ℕ → Type 0
+HoldsNow opening history image =
+    JournalBytes image (commands_after opening history)
+    ⊎ ((command : Command) × IsPending history command
+    × JournalBytes image (commands_after opening history ++ command ∷ []))
+
+-- a posting of the command met a fault when just these were accepted
+abbrev pub HasFaultedAt : List Entry → List Command → Command → Type 0
+HasFaultedAt history held command =
+    (after : List Entry) × ((faulted : HasFaultedBefore history command after) × (accepted_of faulted.before ≡ held))
+
+-- no command more, or one whose posting faulted then
+abbrev pub IsOneMore : List Entry → List Command → List Command → Type 0
+IsOneMore history held [] = Unit {0}
+IsOneMore history held (command ∷ []) = HasFaultedAt history held command
+IsOneMore _ _ _ = ⊥
+
+-- What a crash during the history leaves holds the commands of the opening, then a front of those that were accepted,
+-- then at most one more, whose posting faulted when just these were.
+pub record HoldsOnce (opening : Opening) (history : List Entry) (image : List ℕ) : Type 0 where
+  pub held : List Command
+  pub rest : List Command
+  pub more : List Command
+  pub front : accepted_of history ≡ held ++ rest
+  pub one : IsOneMore history held more
+  pub opens : Opens image (opening.commands ++ held ++ more)
+
+-- a crash at any moment since that one leaves such an image
+abbrev pub HoldsSince : {D : Type 0} → Ghosts D → D → ℕ → Opening → List Entry → Type 0
+HoldsSince g disk moment opening history =
+    (image : List ℕ) → g.left_since disk moment image → HoldsOnce opening history image
+
+-- the disk's count of faults after the history: that of the last posting that faulted, else that of the opening
+abbrev pub faults_after : Opening → List Entry → ℕ
+faults_after opening history =
+    unwrap_or (last_or None (filter_map (λ (entry : Entry). fault_of entry.reply) history)) opening.faults
+
+-- The disk on which an office was opened, and what became of it in the history. Since the opening began a crash leaves
+-- what it might have left before, or an image of the history; since the end of a sync the second alone.
+pub record IsLeftBy {D : Type 0} (g : Ghosts D) (old new : D) (opening : Opening) (history : List Entry) : Type 0 where
+  pub honesty : (g.honest old) ↔ (g.honest new)
+  pub faults : g.faults new ≡ faults_after opening history
+  pub now : g.honest old → (image : List ℕ) → g.may_leave new image → HoldsNow opening history image
+  pub since : g.honest old → (image : List ℕ) → g.left_since new (g.clock old) image
+      → g.may_leave old image ⊎ HoldsOnce opening history image
+  pub synced : g.honest old → (mid : D) × IsSynced g old mid new × HoldsSince g new (g.clock mid) opening history
+
+-- the file opens to some commands, and so does the image
+abbrev pub OpensAlike : List ℕ → List ℕ → Type 0
+OpensAlike bytes image = (commands : List Command) × Opens bytes commands × Opens image commands
+
+-- A disk on which no office ran. Since the call a crash leaves what it might have left before, or what opens to the
+-- commands to which the file opened. Either the disk was only looked at, or since the end of a sync a crash leaves what
+-- was read before the call, or what opens alike. No file but an unfinished creation is written to.
+pub record IsLeftAlone {D : Type 0} (g : Ghosts D) (old new : D) : Type 0 where
+  pub honesty : (g.honest old) ↔ (g.honest new)
+  pub unwritten : g.honest old → ¬ IsUnfinished (g.reads old) → LooksOn g old new
+  pub since : g.honest old → (image : List ℕ) → g.left_since new (g.clock old) image
+      → g.may_leave old image ⊎ OpensAlike (g.reads old) image
+  pub synced : g.honest old → LooksOn g old new
+      ⊎ ((mid : D) × IsSynced g old mid new × ((image : List ℕ) → g.left_since new (g.clock mid) image
+      → (image ≡ g.reads old) ⊎ OpensAlike (g.reads old) image))

@@ -1,0 +1,66 @@
+-- The journal of a list of commands, as a whole file
+use Rattle.std.specs.Prelude.{◌≡◌, ◌⊎◌, ℕ, List, [], ◌∷◌, ◌++◌, length, map, IsOk}
+use Rattle.std.specs.List.{AllByRecursion}
+use Rattle.policy_types.specs.declared.command.Command.{Command}
+use Rattle.policy_types.specs.Valid.{IsValid, id_of}
+use Rattle.policy_machine.specs.Rules.{next}
+use Rattle.policy_machine.specs.Book.{policy_of, IsAccepted}
+use Rattle.record_codec.specs.Spelling.{spelling_of}
+use Rattle.posting_journal.specs.Files.{IsJournal}
+use Rattle.posting_journal.specs.Creation.{IsUnfinished, IsForeign, IsBadAt}
+use Rattle.office_state.specs.declared.faults.StartCause.{StartCause}
+use Rattle.office_state.specs.declared.faults.StartCause.TheVariants.{DiskFault, NotAJournal, BadRecord, NoMemory}
+
+-- the bodies of the commands' records
+abbrev pub bodies_of : List Command → List (List ℕ)
+bodies_of commands = map spelling_of commands
+
+-- The file is the journal of these commands: they are valid, they are accepted one after the other, and its records
+-- spell just them.
+pub record JournalBytes (bytes : List ℕ) (commands : List Command) : Type 0 where
+  pub records : IsJournal bytes (bodies_of commands)
+  pub valid : AllByRecursion IsValid commands
+  pub accepted : IsAccepted commands
+
+-- the file opens to these commands: it is their journal, or there are none and its creation hasn't ended
+abbrev pub Opens : List ℕ → List Command → Type 0
+Opens bytes commands = JournalBytes bytes commands ⊎ ((commands ≡ []) × IsUnfinished bytes)
+
+-- there are no commands to which it opens
+abbrev pub OpensToNone : List ℕ → Type 0
+OpensToNone bytes = (commands : List Command) → Opens bytes commands → ⊥
+
+-- the command can stand behind these in a journal
+pub record CanFollow (commands : List Command) (command : Command) : Type 0 where
+  pub valid : IsValid command
+  pub accepted : IsOk (next (policy_of commands (id_of command)) command)
+
+-- the body spells no command that can follow these
+abbrev pub IsUnspelled : List ℕ → List Command → Type 0
+IsUnspelled body commands = (command : Command) → body ≡ spelling_of command → CanFollow commands command → ⊥
+
+-- The records before record n are those of commands, one accepted after the other, and its own body spells none that
+-- can follow them.
+pub record IsUnfollowed (bytes : List ℕ) (n : ℕ) : Type 0 where
+  pub commands : List Command
+  pub body : List ℕ
+  pub rest : List (List ℕ)
+  pub counted : length commands ≡ n
+  pub records : IsJournal bytes (bodies_of commands ++ body ∷ rest)
+  pub valid : AllByRecursion IsValid commands
+  pub accepted : IsAccepted commands
+  pub none : IsUnspelled body commands
+
+-- the file was refused for what its bytes are
+abbrev pub IsOfTheFile : StartCause → Type 0
+IsOfTheFile NotAJournal = Unit {0}
+IsOfTheFile (BadRecord n) = Unit {0}
+IsOfTheFile (DiskFault count) = ⊥
+IsOfTheFile NoMemory = ⊥
+
+-- what the bytes show of a file that wasn't opened
+abbrev pub IsShown : List ℕ → StartCause → Type 0
+IsShown bytes NotAJournal = IsForeign bytes
+IsShown bytes (BadRecord n) = IsBadAt bytes n ⊎ IsUnfollowed bytes n
+IsShown bytes (DiskFault count) = Unit {0}
+IsShown bytes NoMemory = Unit {0}

@@ -1,0 +1,34 @@
+-- What opening an office does
+use Rattle.std.specs.Prelude.{◌≡◌, ◌↔◌, ℕ, []}
+use Rattle.outside_io.specs.declared.disks.Disk.{Ghosts}
+use Rattle.outside_io.specs.Faults.{Rose}
+use Rattle.posting_journal.specs.Creation.{IsUnfinished}
+use Rattle.posting_journal.specs.Runs.{LooksOn}
+use Rattle.office_state.specs.declared.faults.StartCause.{StartCause}
+use Rattle.office_state.specs.declared.faults.StartCause.TheVariants.{DiskFault}
+use Rattle.office_state.specs.declared.state.OfficeState.{OfficeState}
+use Rattle.office_state.specs.Journals.{Opens, IsShown}
+use Rattle.office_state.specs.Images.{IsLeftAlone}
+use Rattle.office_state.specs.States.{begun_of, disk_of, opening_of}
+use Rattle.office_state.specs.Standing.{StandsFor}
+
+-- The office is that of the commands to which the disk's file opened, and stands for no turns yet. The disk didn't
+-- fail. No file but an unfinished creation was written to.
+pub record HasOpened {D : Type 0} {g : Ghosts D} (old : D) (state : OfficeState D g) : Type 0 where
+  pub begun : begun_of state ≡ old
+  pub stands : StandsFor state []
+  pub quiet : g.faults (disk_of state) ≡ g.faults old
+  pub opened : g.honest old → Opens (g.reads old) (opening_of state).commands
+  pub honesty : (g.honest old) ↔ (g.honest (disk_of state))
+  pub unwritten : g.honest old → ¬ IsUnfinished (g.reads old) → LooksOn g old (disk_of state)
+
+-- a fault of the disk has its count, which rose; any other cause leaves the count
+abbrev pub TellsFault : ℕ → ℕ → StartCause → Type 0
+TellsFault before now (DiskFault count) = (count ≡ now) × Rose before now
+TellsFault before now cause = now ≡ before
+
+-- No office was opened, since the disk failed, or for what the bytes show, or for want of memory.
+pub record HasNotOpened {D : Type 0} (g : Ghosts D) (old new : D) (cause : StartCause) : Type 0 where
+  pub told : TellsFault (g.faults old) (g.faults new) cause
+  pub shown : g.honest old → IsShown (g.reads old) cause
+  pub alone : IsLeftAlone g old new

@@ -1,0 +1,48 @@
+-- What posting a command does
+use Rattle.std.specs.Prelude.{◌⊎◌, ℕ, List, [], ◌∷◌, ◌++◌}
+use Rattle.outside_io.specs.declared.disks.Disk.{Ghosts}
+use Rattle.policy_types.specs.declared.command.Command.{Command}
+use Rattle.policy_types.specs.declared.entry.Call.TheVariants.{Post}
+use Rattle.policy_types.specs.declared.entry.Reply.{Reply}
+use Rattle.policy_types.specs.declared.entry.Reply.TheVariants.{Accepted, Refused, Faulted, Blank}
+use Rattle.policy_types.specs.declared.entry.Entry.{Entry}
+use Rattle.policy_machine.specs.History.{Opening, commands_after}
+use Rattle.posting_journal.specs.Runs.{Leaves}
+use Rattle.office_state.specs.declared.answer.Answer.{Answer}
+use Rattle.office_state.specs.declared.answer.Answer.TheVariants.{Accepted as AcceptedAt, Refused as RefusedFor, DiskFault, NoMemory}
+use Rattle.office_state.specs.Journals.{JournalBytes}
+use Rattle.office_state.specs.Images.{HoldsNow}
+
+-- the reply of an answer's turn; one that lacked memory is blank
+abbrev pub reply_of : Answer → Reply
+reply_of (AcceptedAt position) = Accepted position
+reply_of (RefusedFor refusal) = Refused refusal
+reply_of (DiskFault count) = Faulted count
+reply_of NoMemory = Blank
+
+-- the turn in which a caller's posting is answered
+abbrev pub turn_of : ℕ → Command → Answer → Entry
+turn_of caller command answer = record { caller = caller; call = Post command; reply = reply_of answer }
+
+abbrev pub HasNoMemory : Answer → Type 0
+HasNoMemory NoMemory = Unit {0}
+HasNoMemory _ = ⊥
+
+-- the answers that come before anything is written
+abbrev pub IsBeforeWriting : Answer → Type 0
+IsBeforeWriting (RefusedFor refusal) = Unit {0}
+IsBeforeWriting NoMemory = Unit {0}
+IsBeforeWriting _ = ⊥
+
+abbrev pub IsAcceptance : Answer → Type 0
+IsAcceptance (AcceptedAt position) = Unit {0}
+IsAcceptance _ = ⊥
+
+-- Crash in a posting. At each moment since it began an image holds the commands from before, or these and the posted
+-- one, or these and one whose posting faulted earlier and is pending. Once it is accepted each image holds it.
+pub record CrashesIn {D : Type 0} (g : Ghosts D) (old new : D) (opening : Opening) (turns : List Entry)
+    (command : Command) (answer : Answer) : Type 0 where
+  pub during : Leaves g old new (λ image. HoldsNow opening turns image
+      ⊎ JournalBytes image (commands_after opening turns ++ command ∷ []))
+  pub accepted : IsAcceptance answer → (image : List ℕ) → g.may_leave new image
+      → JournalBytes image (commands_after opening turns ++ command ∷ [])

@@ -1,0 +1,38 @@
+-- The office stands for the history of its turns
+use Rattle.std.specs.Prelude.{◌≡◌, ◌⊎◌, ◌↔◌, ℕ, List, length}
+use Rattle.outside_io.specs.declared.disks.Disk.{Ghosts}
+use Rattle.policy_types.specs.declared.entry.Entry.{Entry}
+use Rattle.policy_machine.specs.Accounts.{ledger_of}
+use Rattle.policy_machine.specs.Book.{book}
+use Rattle.policy_machine.specs.History.{Opening, IsLegal, commands_after}
+use Rattle.posting_journal.specs.Opening.{IsSynced}
+use Rattle.office_state.specs.declared.state.OfficeState.{OfficeState}
+use Rattle.office_state.specs.Images.{HoldsNow, HoldsOnce, HoldsSince, faults_after}
+use Rattle.office_state.specs.States.{balances_of, begun_of, commands_of, count_of, disk_of, opening_of, policies_of}
+use Rattle.office_state.specs.inside.Holding.{Holds}
+
+-- the turns are a legal history from the opening on, and the count is that of the commands after it
+pub record IsHistory {D : Type 0} {g : Ghosts D} (state : OfficeState D g) (turns : List Entry) : Type 0 where
+  pub legal : IsLegal (opening_of state) turns
+  pub counted : count_of state ≡ length (commands_after (opening_of state) turns)
+
+-- Since the opening began a crash leaves what it might have left before, or an image of the history; since the end of
+-- a sync in the opening the second alone.
+pub record LeavesSince {D : Type 0} (g : Ghosts D) (begun now : D) (opening : Opening) (turns : List Entry) : Type 0 where
+  pub since : (image : List ℕ) → g.left_since now (g.clock begun) image → g.may_leave begun image
+      ⊎ HoldsOnce opening turns image
+  pub synced : (mid : D) × IsSynced g begun mid now × HoldsSince g now (g.clock mid) opening turns
+
+pub record StandsFor {D : Type 0} {g : Ghosts D} (state : OfficeState D g) (turns : List Entry) : Type 0 where
+  pub history : IsHistory state turns
+  pub kept : commands_of state ≡ commands_after (opening_of state) turns
+  pub policies : policies_of state ≡ book (commands_after (opening_of state) turns)
+  pub ledger : balances_of state ≡ ledger_of (commands_after (opening_of state) turns)
+  pub honesty : (g.honest (begun_of state)) ↔ (g.honest (disk_of state))
+  -- what a crash now leaves
+  pub images_now : g.honest (begun_of state) → (image : List ℕ) → g.may_leave (disk_of state) image
+      → HoldsNow (opening_of state) turns image
+  -- what a crash at some moment since the opening began might have left
+  pub images_since : g.honest (begun_of state) → LeavesSince g (begun_of state) (disk_of state) (opening_of state) turns
+  pub fault_count : g.faults (disk_of state) ≡ faults_after (opening_of state) turns
+  pub inside : Holds (begun_of state) state.journal (opening_of state) turns

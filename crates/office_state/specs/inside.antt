@@ -1,0 +1,5 @@
+pub mod Keeping
+pub mod Books
+pub mod Records
+pub mod Replays
+pub mod Holding

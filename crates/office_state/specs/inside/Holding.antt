@@ -1,0 +1,39 @@
+-- What has to hold of an office's journal and disk from one turn to the next
+use Rattle.std.specs.Prelude.{◌≡◌, ℕ, ◌≤◌, false, List, [], ◌∷◌, ◌++◌}
+use Rattle.std.specs.List.{AllByRecursion, filter_map}
+use Rattle.outside_io.specs.declared.disks.Disk.{Ghosts}
+use Rattle.policy_types.specs.declared.command.Command.{Command}
+use Rattle.policy_types.specs.declared.entry.Entry.{Entry}
+use Rattle.policy_types.specs.Valid.{IsValid}
+use Rattle.policy_machine.specs.Book.{IsAccepted}
+use Rattle.policy_machine.specs.History.{Opening, commands_after, fault_of}
+use Rattle.record_codec.specs.Spelling.{spelling_of}
+use Rattle.posting_journal.specs.States.{StandsFor, disk_of, is_clean}
+use Rattle.posting_journal.specs.declared.journal.Journal.{Journal}
+use Rattle.office_state.specs.Images.{IsPending}
+use Rattle.office_state.specs.Journals.{bodies_of}
+
+-- a fault left this body behind the commands' records, and the posting of its command is pending
+pub record IsLeftBehind (opening : Opening) (turns : List Entry) (body : List ℕ) : Type 0 where
+  pub command : Command
+  pub pending : IsPending turns command
+  pub spelled : body ≡ spelling_of command
+  pub valid : IsValid command
+  pub accepted : IsAccepted (commands_after opening turns ++ command ∷ [])
+
+-- The journal holds the commands. Where a fault left it unclean, that of the fault may stand behind them.
+pub record JournalHolds {D : Type 0} {g : Ghosts D} (journal : Journal D g) (opening : Opening) (turns : List Entry)
+    : Type 0 where
+  pub last : List ℕ
+  pub stands : StandsFor journal (bodies_of (commands_after opening turns)) last
+  pub pending : is_clean journal ≡ false → IsLeftBehind opening turns last
+
+-- what a turn needs to know beside what is promised
+pub record Holds {D : Type 0} {g : Ghosts D} (begun : D) (under : Journal D g) (opening : Opening) (turns : List Entry)
+    : Type 0 where
+  pub later : g.honest begun → g.clock begun ≤ g.clock (disk_of under)
+  -- no fault was answered with a number above the disk's count
+  pub opened : opening.faults ≤ g.faults (disk_of under)
+  pub met : AllByRecursion (λ n. n ≤ g.faults (disk_of under))
+      (filter_map (λ (entry : Entry). fault_of entry.reply) turns)
+  pub journal : g.honest (disk_of under) → JournalHolds under opening turns

@@ -1,0 +1,74 @@
+// An office is opened on a disk: its journal is opened, and each record is decided anew, in order.
+ghost use Rattle.std.specs.Prelude.{◌≡◌, ◌↔◌, IfOk, IfErr};
+ghost use Rattle.office_state.specs.Opening.{HasOpened, HasNotOpened};
+ghost use Rattle.office_state.specs.inside.Replays.{IsOfficeOf, HasNoOffice, as_cause};
+
+use crate::books::Books;
+use crate::faults::{StartCause, StartFault};
+use crate::replaying::replay;
+use crate::state::OfficeState;
+use outside_io::Disk;
+use posting_journal::{Journal, JournalCause};
+use std::alloc::Global;
+use std::snapshot::Snapshot;
+
+impl<D: Disk> OfficeState<D> {
+    /// The office of the disk's journal. Over any file but an unfinished creation nothing is written.
+    pub fn open(alloc: Global, disk: D) -> Result<OfficeState<D>, StartFault<D>>
+        ensures opened { IfOk result (λ state. HasOpened disk state) }
+        ensures refused { IfErr result (λ fault. HasNotOpened D.Disk disk fault.disk fault.cause) }
+    {
+        let begun = Snapshot::of(&disk);
+        match Journal::start(disk) {
+            Ok(journal) => office_of(alloc, journal, begun),
+            Err(fault) => Err(StartFault {
+                cause: cause_of(fault.cause),
+                disk: fault.disk,
+            }),
+        }
+    }
+}
+
+// The same cause.
+fn cause_of(cause: JournalCause) -> StartCause
+    ensures { result ≡ as_cause cause }
+{
+    match cause {
+        JournalCause::DiskFault(count) => StartCause::DiskFault(count),
+        JournalCause::NotAJournal => StartCause::NotAJournal,
+        JournalCause::BadRecord(n) => StartCause::BadRecord(n),
+    }
+}
+
+// The office of a journal that was opened.
+fn office_of<D: Disk>(
+    alloc: Global,
+    journal: Journal<D>,
+    begun: Snapshot<D>,
+) -> Result<OfficeState<D>, StartFault<D>>
+    ensures opened { IfOk result (λ state. IsOfficeOf journal begun.value state) }
+    ensures none { IfErr result (λ fault. HasNoOffice journal fault.disk fault.cause) }
+{
+    let mut journal = journal;
+    let Ok(mut books) = Books::with_capacity(alloc, journal.count() as usize) else {
+        return Err(StartFault {
+            cause: StartCause::NoMemory,
+            disk: journal.release(),
+        });
+    };
+    match replay(&mut journal, &mut books) {
+        Ok(()) => {
+            let recovered = Snapshot::of(&books);
+            Ok(OfficeState {
+                journal,
+                books,
+                begun,
+                recovered,
+            })
+        }
+        Err(cause) => Err(StartFault {
+            cause,
+            disk: journal.release(),
+        }),
+    }
+}

@@ -1,0 +1,59 @@
+// What is read of an office, and how it ends.
+ghost use Rattle.std.specs.Prelude.{◌≡◌, ◌<◌, ◌≤◌, Some, List, length, take, slice_get};
+ghost use Rattle.policy_types.specs.declared.entry.Entry.{Entry};
+ghost use Rattle.money_ledgers.specs.Balances.{balances};
+ghost use Rattle.policy_machine.specs.Accounts.{ledger_of};
+ghost use Rattle.policy_machine.specs.Book.{book};
+ghost use Rattle.office_state.specs.Images.{IsLeftBy};
+ghost use Rattle.office_state.specs.Standing.{StandsFor};
+ghost use Rattle.office_state.specs.States.{begun_of, commands_of, count_of, disk_of, opening_of};
+
+use crate::state::OfficeState;
+use money_ledgers::Ledger;
+use outside_io::Disk;
+use policy_types::Policy;
+
+impl<D: Disk> OfficeState<D> {
+    /// How many commands are accepted.
+    pub fn count(&self) -> u32
+        ensures { result ≡ count_of self.now }
+    {
+        self.books.count()
+    }
+
+    /// The balances that the accepted commands leave.
+    pub fn ledger(&self) -> Ledger
+        ensures { balances result ≡ ledger_of (commands_of self.now) }
+    {
+        self.books.ledger()
+    }
+
+    /// How many policies there are after the first `p` accepted commands.
+    pub fn policies(&self, p: u32) -> u32
+        requires { p ≤ count_of self.now }
+        ensures { result ≡ length (book (take p (commands_of self.now))) }
+    {
+        self.books.policies(p)
+    }
+
+    /// The policy of this index, in order of issue, after the first `p` accepted commands.
+    pub fn policy(&self, index: u32, p: u32) -> Policy
+        requires position { p ≤ count_of self.now }
+        requires within { index < length (book (take p (commands_of self.now))) }
+        ensures { slice_get (book (take p (commands_of self.now))) index ≡ Some result }
+    {
+        self.books.policy(index, p)
+    }
+
+    /// Gives back the disk, and the ledger.
+    pub fn close(self) -> (D, Ledger)
+        ensures disk { result.0 ≡ disk_of self }
+        ensures ledger { balances result.1 ≡ ledger_of (commands_of self) }
+        ensures left { (history : List Entry) → StandsFor self history
+            → IsLeftBy D.Disk (begun_of self) result.0 (opening_of self) history }
+    {
+        let ledger = self.books.ledger();
+        let OfficeState { journal, .. } = self;
+        (journal.release(), ledger)
+    }
+}

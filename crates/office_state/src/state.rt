@@ -1,0 +1,19 @@
+// The office.
+ghost use Rattle.std.specs.Prelude.{◌≡◌, length};
+ghost use Rattle.posting_journal.specs.States.{count_of};
+
+use crate::books::Books;
+use outside_io::Disk;
+use posting_journal::Journal;
+use std::snapshot::Snapshot;
+
+/// An office on its disk: each accepted command stands in its journal, and all of them are kept in memory.
+#[derive(Drop)]
+pub struct OfficeState<D: Disk> {
+    pub(crate) journal: Journal<D>,
+    pub(crate) books: Books,
+    // What it was opened on, for contracts alone: the disk as it was handed in, and the books of its journal.
+    pub(crate) begun: Snapshot<D>,
+    pub(crate) recovered: Snapshot<Books>,
+    ghost counted: { count_of journal ≡ length books.commands.items },
+}

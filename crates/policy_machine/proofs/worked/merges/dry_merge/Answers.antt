@@ -1,0 +1,42 @@
+use Rattle.std.proofs.Common.{refl, arith, pos, [], ◌∷◌}
+use Rattle.std.specs.List.{IsDistinct}
+use Rattle.life_dates.specs.Anniversary.{anniversary_of}
+use Rattle.life_dates.specs.Calendar.{day_number, date_of, date_at, year_of, month_of, days_before, days_before_year, days_of_months}
+use Rattle.policy_types.specs.declared.entry.Call.TheVariants.{Post, Pin, Unpin, Trim}
+use Rattle.policy_types.specs.declared.entry.Reply.TheVariants.{Accepted, Pinned, Unpinned, Floor}
+use Rattle.policy_machine.specs.Worked.Cases.{policy_issue, premium_on, turn}
+use Rattle.policy_machine.proofs.worked.merges.dry_merge.Goals as goal
+
+pub returns-clause-legal : goal.returns-clause-legal
+unfolding anniversary_of day_number date_of date_at year_of month_of days_before days_before_year days_of_months
+returns-clause-legal c =
+    let pin = turn 5 Pin (Pinned 1 1) in (
+      (refl, refl),
+      (
+        (omega arith, refl, refl),
+        (
+          (refl, refl),
+          (
+            refl,
+            (((1, 1), refl, (pin, refl, refl)), tt),
+          ),
+        ),
+      ),
+    )
+
+pub returns-clause-merge : goal.returns-clause-merge
+unfolding IsDistinct
+returns-clause-merge c =
+    let issue = turn 5 (Post policy_issue) (Accepted 1) in
+    let pin = turn 5 Pin (Pinned 1 1) in
+    let premium = turn 6 (Post (premium_on (pos 18262))) (Accepted 2) in
+    let trim = turn 6 Trim (Floor 1) in
+    let unpin = turn 5 (Unpin 1) Unpinned in
+    record {
+      distinct = ((refl, tt), (tt, tt));
+      theirs = ((0, omega arith, refl), ((0, omega arith, refl), ((1, omega arith, refl), ((1, omega arith, refl), ((0, omega arith, refl), tt)))));
+      answers = (
+        ((0, issue) ∷ [], ((1, pin) ∷ (4, unpin) ∷ [], refl, refl, ((1, pin) ∷ (4, unpin) ∷ [], ([], refl, (refl, (0, refl, λ not_dry. absurd (not_dry (0, omega arith, refl)))), refl)))),
+        (((2, premium) ∷ [], ((3, trim) ∷ [], refl, refl, ((3, trim) ∷ [], ([], refl, refl, refl)))), tt),
+      );
+    }

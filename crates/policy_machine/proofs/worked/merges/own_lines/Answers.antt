@@ -1,0 +1,8 @@
+use Rattle.std.proofs.Common.{refl}
+use Rattle.std.specs.List.{IsDistinct}
+use Rattle.std.proofs.lemmas.Bool.{eqb-false}
+use Rattle.policy_machine.proofs.worked.merges.own_lines.Goals as goal
+
+pub returns-clause-shared : goal.returns-clause-shared
+unfolding IsDistinct
+returns-clause-shared c = λ merge. eqb-false 6 6 merge.distinct.0.0 refl

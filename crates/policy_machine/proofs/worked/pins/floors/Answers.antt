@@ -1,0 +1,62 @@
+use Rattle.std.proofs.Common.{refl, arith}
+use Rattle.life_dates.specs.Anniversary.{anniversary_of}
+use Rattle.life_dates.specs.Calendar.{day_number, date_of, date_at, year_of, month_of, days_before, days_before_year, days_of_months}
+use Rattle.policy_types.specs.declared.entry.Call.TheVariants.{PinAt}
+use Rattle.policy_types.specs.declared.entry.Reply.TheVariants.{Pinned}
+use Rattle.policy_machine.specs.Worked.Cases.{turn}
+use Rattle.policy_machine.proofs.worked.pins.floors.Goals as goal
+
+pub returns : goal.returns
+unfolding anniversary_of day_number date_of date_at year_of month_of days_before days_before_year days_of_months
+returns c =
+    let first = turn 2 (PinAt 0) (Pinned 0 0) in
+    let second = turn 2 (PinAt 2) (Pinned 2 1) in
+    let third = turn 2 (PinAt 3) (Pinned 3 2) in (
+      (refl, refl),
+      (
+        (omega arith, omega arith, omega arith, refl, refl),
+        (
+          ((0, 0), refl, (first, refl, refl)),
+          (
+            (refl, refl),
+            (
+              refl,
+              (
+                (omega arith, omega arith, refl),
+                (
+                  (omega arith, omega arith, omega arith, refl, refl),
+                  (
+                    (omega arith, refl),
+                    (
+                      (refl, refl),
+                      (
+                        (omega arith, omega arith, omega arith, refl, refl),
+                        (
+                          refl,
+                          (
+                            ((2, 1), refl, (second, refl, refl), omega arith, refl),
+                            (
+                              ((2, 1), refl, (second, refl, refl)),
+                              (
+                                refl,
+                                (
+                                  (omega arith, omega arith, refl),
+                                  (
+                                    ((3, 2), refl, (third, refl, refl)),
+                                    (refl, tt),
+                                  ),
+                                ),
+                              ),
+                            ),
+                          ),
+                        ),
+                      ),
+                    ),
+                  ),
+                ),
+              ),
+            ),
+          ),
+        ),
+      ),
+    )

@@ -1,0 +1,79 @@
+-- Worked cases of claims and their settlement. Where a refusal is due, reasons that come after it in order apply as well
+use Rattle.std.specs.Prelude.{[], ◌∷◌, pos}
+use Rattle.policy_types.specs.declared.command.Command.TheVariants.{Claim, Settle}
+use Rattle.policy_types.specs.declared.policy.Status.TheVariants.{InForce, Lapsed, Claimed, Settled}
+use Rattle.policy_types.specs.declared.refusal.Refusal.TheVariants.{Unknown, BeforeLast, WrongStatus, TermOver, GraceOver, OverSettled}
+use Rattle.policy_types.specs.declared.entry.Reply.TheVariants.{Accepted, Refused}
+use Rattle.policy_machine.specs.History.{IsLegalAfter}
+use Rattle.policy_machine.specs.Worked.Cases.{Accepts, Refuses, Leaves, policy_issue, policy_with, premium_on, unpaid, paid_once, paid_up, lapsed_once, claimed, empty_office, posting}
+
+-- after a death on 2020-06-01 the amount is paid out in parts, and no more than is outstanding
+abbrev pub ClaimAndSettle : Type 0
+ClaimAndSettle = IsLegalAfter empty_office []
+    (posting policy_issue (Accepted 1)
+    ∷ posting (premium_on (pos 18262)) (Accepted 2)
+    ∷ posting (Claim 7001 (pos 18414)) (Accepted 3)
+    ∷ posting (Settle 7001 (pos 18444) 40000) (Accepted 4)
+    ∷ posting (Settle 7001 (pos 18445) 60001) (Refused (OverSettled 60000)) ∷ [])
+
+-- there is no policy, or one of another number
+abbrev pub ClaimUnknown : Type 0
+ClaimUnknown = Refuses [] (Claim 7001 (pos 18262)) Unknown × Refuses unpaid (Claim 7002 (pos 18262)) Unknown
+
+-- the day before the lapse, though the policy has lapsed
+abbrev pub ClaimBeforeLast : Type 0
+ClaimBeforeLast = Refuses lapsed_once (Claim 7001 (pos 18659)) (BeforeLast (pos 18660))
+
+-- a lapsed policy on the day its term ends
+abbrev pub ClaimWrongStatus : Type 0
+ClaimWrongStatus = Refuses lapsed_once (Claim 7001 (pos 19358)) (WrongStatus Lapsed)
+
+-- a death on 2023-01-01 is after the term, though the grace of the second premium is over too; on the day before it
+-- is in it
+abbrev pub ClaimTermOver : Type 0
+ClaimTermOver = Refuses paid_once (Claim 7001 (pos 19358)) (TermOver (pos 19358))
+    × Refuses paid_up (Claim 7001 (pos 19358)) (TermOver (pos 19358))
+    × Accepts paid_up (Claim 7001 (pos 19357))
+
+-- the days of grace end on 2021-02-01
+abbrev pub ClaimGraceOver : Type 0
+ClaimGraceOver = Accepts paid_once (Claim 7001 (pos 18659))
+    × Refuses paid_once (Claim 7001 (pos 18660)) (GraceOver (pos 18628))
+
+-- a death on 2020-06-01
+abbrev pub ClaimedOnce : Type 0
+ClaimedOnce = Leaves claimed (policy_with (pos 18414) 1 Claimed 100000 ∷ [])
+
+-- there is no policy, or one of another number
+abbrev pub SettleUnknown : Type 0
+SettleUnknown = Refuses [] (Settle 7001 (pos 18414) 100000) Unknown × Refuses claimed (Settle 7002 (pos 18414) 100000) Unknown
+
+-- the day before the death, though the amount is too much; the day before the last of a policy that is in force
+abbrev pub SettleBeforeLast : Type 0
+SettleBeforeLast = Refuses claimed (Settle 7001 (pos 18413) 100001) (BeforeLast (pos 18414))
+    × Refuses unpaid (Settle 7001 (pos 18261) 1) (BeforeLast (pos 18262))
+
+-- nothing is settled of a policy in force, of a lapsed one, or of one that is settled
+abbrev pub SettleWrongStatus : Type 0
+SettleWrongStatus = Refuses unpaid (Settle 7001 (pos 18262) 1) (WrongStatus InForce)
+    × Refuses lapsed_once (Settle 7001 (pos 18660) 1) (WrongStatus Lapsed)
+    × Refuses (policy_issue ∷ Claim 7001 (pos 18262) ∷ Settle 7001 (pos 18262) 100000 ∷ [])
+    (Settle 7001 (pos 18262) 1) (WrongStatus Settled)
+
+-- a cent more than the amount
+abbrev pub SettleOverSettled : Type 0
+SettleOverSettled = Refuses claimed (Settle 7001 (pos 18414) 100001) (OverSettled 100000)
+    × Accepts claimed (Settle 7001 (pos 18414) 100000)
+
+-- a part is settled on 2020-07-01
+abbrev pub SettledInPart : Type 0
+SettledInPart = Leaves (policy_issue ∷ premium_on (pos 18262) ∷ Claim 7001 (pos 18414) ∷ Settle 7001 (pos 18444) 40000 ∷ [])
+    (policy_with (pos 18444) 1 Claimed 60000 ∷ [])
+
+-- and the rest on 2020-07-02
+abbrev pub SettledInFull : Type 0
+SettledInFull =
+    Leaves
+    (policy_issue ∷ premium_on (pos 18262) ∷ Claim 7001 (pos 18414)
+    ∷ Settle 7001 (pos 18444) 40000 ∷ Settle 7001 (pos 18445) 60000 ∷ [])
+    (policy_with (pos 18445) 1 Settled 0 ∷ [])

@@ -1,0 +1,28 @@
+// Laws of the balances that a list of commands leaves, for callers.
+ghost use Rattle.std.specs.Prelude.{◌≡◌, ◌*◌, [], ◌∷◌, ◌++◌, pos, List, Ok, length};
+ghost use Rattle.std.specs.List.{AllByRecursion};
+ghost use Rattle.policy_types.specs.declared.command.Command.{Command};
+ghost use Rattle.policy_types.specs.declared.policy.Policy.{Policy};
+ghost use Rattle.policy_types.specs.Accounts.{booking_of, added, sum_of, AreWithin};
+ghost use Rattle.policy_types.specs.Valid.{IsValid, id_of};
+ghost use Rattle.policy_machine.specs.Accounts.{ledger_of};
+ghost use Rattle.policy_machine.specs.Book.{policy_of};
+ghost use Rattle.policy_machine.specs.Rules.{next};
+
+/// One more accepted command moves each balance by what it books.
+pub fn ledgers_grow_by_a_booking()
+    ensures { (commands : List Command) (command : Command) (after : Policy)
+        → next (policy_of commands (id_of command)) command ≡ Ok after
+        → ledger_of (commands ++ command ∷ []) ≡ added (ledger_of commands) (booking_of command after) }
+{}
+
+/// The four balances add up to 0.
+pub fn ledgers_add_up()
+    ensures { (commands : List Command) → sum_of (ledger_of commands) ≡ pos 0 }
+{}
+
+/// No command moves a balance by more than 4 * 10^10 cents.
+pub fn ledgers_stay_within()
+    ensures { (commands : List Command) → AllByRecursion IsValid commands
+        → AreWithin (40000000000 * length commands) (ledger_of commands) }
+{}

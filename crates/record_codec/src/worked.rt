@@ -1,0 +1,32 @@
+//! Worked bodies, each a theorem over the definitions alone.
+
+ghost use Rattle.record_codec.specs.Worked.{FirstIssue, StrayByteSpellsNothing, PremiumPaid, Altered, LapsedEarly, ReinstatedAtMost, Claimed, SettledInPart, MaturedOnTheLastDay};
+
+/// The body of the first issue, with its plan, age and years.
+pub fn first_issue()
+    ensures { FirstIssue }
+{}
+
+/// A payment stands where an issue has its amount.
+pub fn payments()
+    ensures premium { PremiumPaid }
+    ensures reinstatement { ReinstatedAtMost }
+    ensures settlement { SettledInPart }
+{}
+
+/// An alteration has an amount and a premium, and neither plan nor age nor years.
+pub fn altered()
+    ensures { Altered }
+{}
+
+/// The other kinds have a day alone, in two's complement.
+pub fn days_alone()
+    ensures lapse { LapsedEarly }
+    ensures claim { Claimed }
+    ensures maturity { MaturedOnTheLastDay }
+{}
+
+/// A body with a byte too much spells no command.
+pub fn stray_byte()
+    ensures { StrayByteSpellsNothing }
+{}

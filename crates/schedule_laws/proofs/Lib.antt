@@ -1,0 +1,3 @@
+pub mod OneReply
+pub mod Payable
+pub mod ReadsTogether

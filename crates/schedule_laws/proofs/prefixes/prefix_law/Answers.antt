@@ -1,0 +1,14 @@
+use Rattle.std.proofs.Common.{[], ap, ◌∙◌, subst}
+use Rattle.std.proofs.lemmas.List.Elements.{filter_map-append}
+use Rattle.policy_machine.specs.History.{IsLegalAfter, accepted_by, accepted_of}
+use Rattle.policy_machine.proofs.HistoryGrowth.{IsLegalAfter-front}
+use Rattle.schedule_laws.proofs.prefixes.prefix_law.Goals as goal
+
+pub returns : goal.returns
+returns c = λ opening seen history front legal. (
+  record {
+    opens = legal.opens;
+    due = IsLegalAfter-front opening [] seen front.0 (subst (IsLegalAfter opening []) front.1 legal.due);
+  },
+  (accepted_of front.0, ap accepted_of front.1 ∙ filter_map-append (λ e. accepted_by e.call e.reply) seen front.0),
+)

@@ -1,0 +1,5 @@
+pub mod Prefixes
+pub mod PinnedReads
+pub mod Growth
+pub mod Balances
+pub mod Replies

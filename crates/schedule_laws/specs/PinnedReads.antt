@@ -1,0 +1,60 @@
+-- What a pin holds: the book at its position, whatever stands between its reads
+use Rattle.std.specs.Prelude.{◌≡◌, ℕ, ◌*◌, ◌≤◌, List, [], length, map, take, drop, slice_get, Some}
+use Rattle.std.specs.List.{AllByRecursion, flat_map}
+use Rattle.policy_types.specs.declared.policy.Policy.{Policy}
+use Rattle.policy_types.specs.declared.entry.Call.TheVariants.{Read}
+use Rattle.policy_types.specs.declared.entry.Reply.{Reply}
+use Rattle.policy_types.specs.declared.entry.Reply.TheVariants.{Pinned, Slice as Policies}
+use Rattle.policy_types.specs.declared.entry.Entry.{Entry}
+use Rattle.policy_machine.specs.Book.{book}
+use Rattle.policy_machine.specs.History.{Opening, IsLegal, commands_after, floor_of, live_pin, policies_per_read}
+use Rattle.policy_machine.specs.Merge.{reads_of}
+
+-- the book after the first commands of a history's
+abbrev pub book_at : Opening → List Entry → ℕ → List Policy
+book_at opening history position = book (take position (commands_after opening history))
+
+-- what a live pin holds is still to be had: its position lies from the floor up to the count of commands, and its
+-- policies are those of the book there
+abbrev pub LivePinLaw : Type 0
+LivePinLaw = (opening : Opening) (history : List Entry) (pin position policies : ℕ) → IsLegal opening history
+    → live_pin history pin ≡ Some (position, policies)
+    → (floor_of history ≤ position) × (position ≤ length (commands_after opening history))
+    × (policies ≡ length (book_at opening history position))
+
+-- the turn at this place took a pin
+abbrev pub IsPinnedAt : List Entry → ℕ → ℕ → ℕ → Type 0
+IsPinnedAt history pin position policies =
+    (entry : Entry) × (slice_get history pin ≡ Some entry) × (entry.reply ≡ Pinned position policies)
+
+-- the turn stands somewhere in the history
+abbrev pub StandsIn : List Entry → Entry → Type 0
+StandsIn history entry = (place : ℕ) × (slice_get history place ≡ Some entry)
+
+-- the policies that a read answered
+abbrev pub policies_in : Reply → List Policy
+policies_in (Policies policies) = policies
+policies_in _ = []
+
+-- a read of a pin, wherever it stands, has the policies from its first on in the book at the pin's position
+abbrev pub ReadLaw : Type 0
+ReadLaw = (opening : Opening) (history : List Entry) (pin position policies first : ℕ) (read : Entry)
+    → IsLegal opening history → IsPinnedAt history pin position policies
+    → StandsIn history read → read.call ≡ Read pin first
+    → policies_in read.reply ≡ take policies_per_read (drop first (book_at opening history position))
+
+-- the first k reads of a pin, put together, are the first 256 k policies of that book
+abbrev pub PinnedReadLaw : Type 0
+PinnedReadLaw = (opening : Opening) (history : List Entry) (pin position policies k : ℕ) (reads : List Entry)
+    → IsLegal opening history → IsPinnedAt history pin position policies
+    → AllByRecursion (StandsIn history) reads
+    → map (λ read. read.call) reads ≡ take k (reads_of pin policies)
+    → flat_map (λ read. policies_in read.reply) reads ≡ take (policies_per_read * k) (book_at opening history position)
+
+-- all reads of a pin, put together, are that book
+abbrev pub WholePinnedReadLaw : Type 0
+WholePinnedReadLaw = (opening : Opening) (history : List Entry) (pin position policies : ℕ) (reads : List Entry)
+    → IsLegal opening history → IsPinnedAt history pin position policies
+    → AllByRecursion (StandsIn history) reads
+    → map (λ read. read.call) reads ≡ reads_of pin policies
+    → flat_map (λ read. policies_in read.reply) reads ≡ book_at opening history position

@@ -1,0 +1,13 @@
+-- What a caller has seen of a legal history is legal
+use Rattle.std.specs.Prelude.{◌≡◌, List, ◌++◌}
+use Rattle.policy_types.specs.declared.entry.Entry.{Entry}
+use Rattle.policy_machine.specs.History.{Opening, IsLegal, accepted_of}
+
+-- the whole begins with the front
+abbrev pub IsFrontOf : {X : Type 0} → List X → List X → Type 0
+IsFrontOf {X} front whole = (rest : List X) × (whole ≡ front ++ rest)
+
+-- a front of a legal history is legal, and its accepted commands are a front of the history's
+abbrev pub PrefixLaw : Type 0
+PrefixLaw = (opening : Opening) (seen history : List Entry) → IsFrontOf seen history → IsLegal opening history
+    → IsLegal opening seen × IsFrontOf (accepted_of seen) (accepted_of history)

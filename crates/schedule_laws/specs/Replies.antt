@@ -1,0 +1,50 @@
+-- Every call has a reply that is due, and but for faults and want of memory only one
+use Rattle.std.specs.Prelude.{◌≡◌, ℕ, ◌≤◌, List, Some}
+use Rattle.policy_types.specs.declared.command.Command.{Command}
+use Rattle.policy_types.specs.declared.refusal.Refusal.{Refusal}
+use Rattle.policy_types.specs.declared.entry.Call.{Call}
+use Rattle.policy_types.specs.declared.entry.Call.TheVariants.{Post, Read, Unpin}
+use Rattle.policy_types.specs.declared.entry.Reply.{Reply}
+use Rattle.policy_types.specs.declared.entry.Reply.TheVariants.{Accepted, Refused, Faulted}
+use Rattle.policy_types.specs.declared.entry.Entry.{Entry}
+use Rattle.policy_machine.specs.History.{Opening, IsDue, IsOwnPin, live_pin}
+
+-- a call that posts nothing
+abbrev pub PostsNothing : Call → Type 0
+PostsNothing (Post command) = ⊥
+PostsNothing _ = Unit {0}
+
+-- after the same turns such a call of the same caller has one reply at most
+abbrev pub OneReplyLaw : Type 0
+OneReplyLaw = (opening : Opening) (before : List Entry) (caller : ℕ) (call : Call) (one other : Reply) → PostsNothing call
+    → IsDue opening before caller call one → IsDue opening before caller call other → one ≡ other
+
+-- a posting is accepted at one position
+abbrev pub OnePositionLaw : Type 0
+OnePositionLaw = (opening : Opening) (before : List Entry) (caller : ℕ) (command : Command) (one other : ℕ)
+    → IsDue opening before caller (Post command) (Accepted one)
+    → IsDue opening before caller (Post command) (Accepted other) → one ≡ other
+
+-- or refused for one reason
+abbrev pub OneRefusalLaw : Type 0
+OneRefusalLaw = (opening : Opening) (before : List Entry) (caller : ℕ) (command : Command) (one other : Refusal)
+    → IsDue opening before caller (Post command) (Refused one)
+    → IsDue opening before caller (Post command) (Refused other) → one ≡ other
+
+-- and where it is refused, it is neither accepted nor answered by a fault
+abbrev pub RefusedOrNotLaw : Type 0
+RefusedOrNotLaw = (opening : Opening) (before : List Entry) (caller : ℕ) (command : Command) (refusal : Refusal) (n : ℕ)
+    → IsDue opening before caller (Post command) (Refused refusal)
+    → (IsDue opening before caller (Post command) (Accepted n) → ⊥) × (IsDue opening before caller (Post command) (Faulted n) → ⊥)
+
+-- what a call needs: a read or an unpin a live pin of its own caller, and a read no index past its policies
+abbrev pub MayCall : List Entry → ℕ → Call → Type 0
+MayCall before caller (Read pin first) =
+    (held : ℕ × ℕ) × (live_pin before pin ≡ Some held) × IsOwnPin before caller pin × (first ≤ held.1)
+MayCall before caller (Unpin pin) = (held : ℕ × ℕ) × (live_pin before pin ≡ Some held) × IsOwnPin before caller pin
+MayCall before caller _ = Unit {0}
+
+-- every such call has a reply
+abbrev pub SomeReplyLaw : Type 0
+SomeReplyLaw = (opening : Opening) (before : List Entry) (caller : ℕ) (call : Call) → MayCall before caller call
+    → (reply : Reply) × IsDue opening before caller call reply

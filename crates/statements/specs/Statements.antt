@@ -1,0 +1,70 @@
+-- The texts of statements and balances
+use Rattle.std.specs.Prelude.{ℕ, ℤ, ◌≤◌, List, [], ◌∷◌, ◌++◌, codes, decimal}
+use Rattle.std.specs.List.{flat_map}
+use Rattle.policy_types.specs.declared.command.Command.{Command}
+use Rattle.policy_types.specs.declared.command.Command.TheVariants.{Issue, Premium, Alter, Lapse, Reinstate, Claim, Settle, Mature}
+use Rattle.policy_types.specs.declared.command.Plan.{Plan}
+use Rattle.policy_types.specs.declared.policy.Policy.{Policy}
+use Rattle.policy_types.specs.Accounts.{Booking}
+use Rattle.policy_types.specs.Valid.{day_of}
+use Rattle.life_dates.specs.DayText.{day_text}
+use Rattle.money_core.specs.CentsText.{cents_text, signed_cents_text}
+use Rattle.statements.specs.Words.{kind_word, plan_word, status_word}
+use Rattle.statements.specs.Lines.{line_of}
+
+-- the terms of a policy's insurance
+abbrev pub insurance_fields : (plan : Plan) (age years amount premium : ℕ) → List (List ℕ)
+insurance_fields plan age years amount premium =
+    plan_word plan ∷ decimal age ∷ decimal years ∷ cents_text amount ∷ cents_text premium ∷ []
+
+-- what a command holds beside its kind, its policy's number and its day
+abbrev pub term_fields : Command → List (List ℕ)
+term_fields (Issue id day plan age years amount premium) = insurance_fields plan age years amount premium
+term_fields (Premium id day amount) = cents_text amount ∷ []
+term_fields (Alter id day amount premium) = cents_text amount ∷ cents_text premium ∷ []
+term_fields (Lapse id day) = []
+term_fields (Reinstate id day amount) = cents_text amount ∷ []
+term_fields (Claim id day) = []
+term_fields (Settle id day amount) = cents_text amount ∷ []
+term_fields (Mature id day) = []
+
+-- the line of an accepted command, with its number among all of them
+unfoldable pub entry_text : ℕ → Command → List ℕ
+entry_text position command =
+    line_of (codes "entry")
+    (decimal position ∷ kind_word command ∷ day_text (day_of command) ∷ term_fields command)
+
+-- when a policy was issued, how many premiums were paid, and what is still to be paid out
+abbrev pub progress_fields : Policy → List (List ℕ)
+progress_fields p = day_text p.issued ∷ decimal p.paid ∷ cents_text p.outstanding ∷ []
+
+-- the line of a policy as it is
+unfoldable pub policy_text : Policy → List ℕ
+policy_text p =
+    line_of (codes "policy")
+    (decimal p.id ∷ status_word p.status ∷ insurance_fields p.plan p.age p.years p.amount p.premium
+    ++ progress_fields p)
+
+-- a policy's commands, in order, and then what they made of it
+abbrev pub statement_text : List (ℕ × Command) → Policy → List ℕ
+statement_text entries policy =
+    flat_map (λ (entry : ℕ × Command). entry_text entry.0 entry.1) entries ++ policy_text policy
+
+-- the line of one account
+unfoldable pub account_text : List ℕ → ℤ → List ℕ
+account_text account balance = line_of (codes "balance") (account ∷ signed_cents_text balance ∷ [])
+
+-- the line of the number of accepted commands
+unfoldable pub count_text : ℕ → List ℕ
+count_text count = line_of (codes "count") (decimal count ∷ [])
+
+-- the four balances, and how many commands were accepted
+abbrev pub balance_text : Booking → ℕ → List ℕ
+balance_text ledger count =
+    account_text (codes "cash") ledger.cash ++ account_text (codes "premiums") ledger.premiums
+    ++ account_text (codes "incurred") ledger.incurred ++ account_text (codes "payable") ledger.payable
+    ++ count_text count
+
+-- a policy's amounts, none above 100,000,000.00
+abbrev pub AreAmounts : Policy → Type 0
+AreAmounts p = (p.amount ≤ 10000000000) × (p.premium ≤ 10000000000) × (p.outstanding ≤ 10000000000)

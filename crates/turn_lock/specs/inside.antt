@@ -1,0 +1,4 @@
+pub mod Seats
+pub mod Rule
+pub mod Steps
+pub mod Places

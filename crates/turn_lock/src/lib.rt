@@ -1,0 +1,20 @@
+//! A lock by tickets round a value that stands for a history of turns. Each turn is one entry of the history, and each
+//! caller's pass knows, in contracts alone, which entries it has seen and made.
+#![tactic(auto)]
+
+mod pass;
+mod plays;
+mod seats;
+mod stands;
+mod steps;
+mod turn;
+mod turnstile;
+mod waiting;
+
+pub use pass::Pass;
+pub use stands::Stands;
+pub use turn::{Turn, Turned};
+pub use turnstile::{NoRoom, Turnstile};
+
+#[cfg(test)]
+mod tests;

@@ -1,0 +1,175 @@
+ghost use Rattle.std.specs.Prelude.{◌≡◌, ℕ, ◌≤◌, List, [], ◌∷◌, length, Some, None, IfOk, IfErr};
+ghost use Rattle.policy_types.specs.declared.entry.Entry.{Entry};
+ghost use Rattle.turn_lock.specs.Passes.{IsLent};
+ghost use Rattle.turn_lock.specs.declared.seats.Stage.TheVariants.{Inside};
+ghost use Rattle.turn_lock.specs.inside.Seats.{SeatFacts, handed_on};
+ghost use Rattle.turn_lock.specs.inside.Places.{IsBoard, IsNow};
+
+use crate::pass::Pass;
+use crate::seats::{Board, Place, SharedBoard, VALUE};
+use crate::stands::Stands;
+use crate::steps::{draw, hand_on, join, name, split};
+use crate::turn::{Turn, Turned};
+use crate::waiting::{wait, wake};
+use atomic_table::{Refused, Table};
+use std::alloc::Global;
+use std::marker::{Brand, Model};
+use std::snapshot::Snapshot;
+use std::sync::Wait;
+
+/// A lock by tickets round a value. Contracts see which turnstile it is.
+pub struct Turnstile<T: Stands> {
+    board: Board<T>,
+}
+
+impl<T: Stands> Model for Turnstile<T> {
+    ghost use Rattle.turn_lock.specs.Passes.{TableId};
+    ghost use Rattle.turn_lock.specs.inside.Places.{IsBoard};
+
+    ghost Value = { TableId };
+
+    ghost view = { λ t. t.board.shared.table_id };
+
+    ghost invariant = { λ t. IsBoard t.board.shared.table_id };
+}
+
+/// There was no memory. The value comes back.
+#[derive(Drop)]
+pub struct NoRoom<T> {
+    pub value: T,
+}
+
+impl<T: Stands> Turnstile<T> {
+    ghost use Rattle.turn_lock.specs.Passes.{PassFacts, all_shares, IsFirst, Enters, Leaves, TakesTurn, OwnsAll};
+
+    /// A turnstile round this value, and its first pass, which has all turns and all shares.
+    pub fn new(alloc: Global, value: T) -> Result<(Turnstile<T>, Pass<T>), NoRoom<T>>
+        requires { T.stands value [] }
+        ensures ok { IfOk result (λ made. IsFirst (T.opening value) made.1 × (made.1.turnstile ≡ made.0)) }
+        ensures facts { IfOk result (λ made. PassFacts T.legal made.1) }
+        ensures err { IfErr result (λ refused. refused.value ≡ value) }
+    {
+        let first = Snapshot::of(&value);
+        let mut slots = Vec::new(alloc);
+        if let Err(failed) = slots.push(Some(value)) {
+            slots.destroy_empty();
+            return Err(NoRoom {
+                value: failed.value.unwrap(),
+            });
+        }
+        match Table::new(alloc, &[0, 0, 1], slots, &first) {
+            Ok((board, place)) => {
+                let pass = Pass {
+                    place,
+                    caller: 0,
+                    left: 1 << 62,
+                    shares: 1 << 32,
+                };
+                Ok((Turnstile { board }, pass))
+            }
+            Err(Refused { mut slots }) => {
+                let value = slots.pop().unwrap().unwrap();
+                slots.destroy_empty();
+                Err(NoRoom { value })
+            }
+        }
+    }
+
+    /// A new pass for another caller, with half of what this one has. It waits for nobody and takes no memory.
+    pub fn enter(&self, pass: &mut Pass<T>) -> Pass<T>
+        requires ours { pass.old.turnstile ≡ self.now }
+        requires room { (3 ≤ pass.old.left) × (2 ≤ pass.old.shares) }
+        ensures enters { Enters pass.old pass.new result }
+        ensures facts { PassFacts T.legal result }
+    {
+        let shared = &self.board.shared;
+        let mut place = split(shared, &mut pass.place);
+        let caller = name(shared, &mut place);
+        let left = (pass.left - 1) / 2;
+        let shares = pass.shares / 2;
+        pass.left -= left + 1;
+        pass.shares -= shares;
+        Pass {
+            place,
+            caller,
+            left,
+            shares,
+        }
+    }
+
+    /// Takes another pass back, with all that it has. It waits for nobody and takes no memory.
+    pub fn leave(&self, gone: Pass<T>, pass: &mut Pass<T>)
+        requires ours { (gone.turnstile ≡ self.now) × (pass.old.turnstile ≡ self.now) }
+        ensures leaves { Leaves gone pass.old pass.new }
+        ensures facts { PassFacts T.legal pass.new }
+    {
+        let left = gone.left();
+        let shares = gone.shares();
+        join(&self.board.shared, &mut pass.place, gone.into_place());
+        pass.left += left;
+        pass.shares += shares;
+    }
+
+    /// Takes a turn: waits until all that drew a ticket before are served, runs the call on the value, and hands on.
+    /// It takes no memory of its own.
+    pub fn turn<C: Turn<T>, R: Wait>(
+        &self,
+        rt: &R,
+        pass: &mut Pass<T>,
+        call: C,
+    ) -> Turned<C::Answer>
+        requires ours { pass.old.turnstile ≡ self.now }
+        requires left { 1 ≤ pass.old.left }
+        requires needs { C.needs call pass.old.caller pass.old.seen pass.old.made }
+        ensures turn { TakesTurn result.turn (C.entry call pass.old.caller result.answer) pass.old pass.new }
+        ensures facts { PassFacts T.legal pass.new }
+    {
+        let shared = &self.board.shared;
+        let ticket = draw(shared, &mut pass.place);
+        let value = wait(rt, shared, &mut pass.place, ticket);
+        let turned = serve(shared, &mut pass.place, value, call, pass.caller);
+        pass.left -= 1;
+        turned
+    }
+
+    /// The value, where the pass has all shares: every other pass was taken back into it, and what it has seen is the whole
+    /// history. It waits for nobody.
+    pub fn close(self, pass: Pass<T>) -> T
+        requires ours { pass.turnstile ≡ self }
+        requires all { pass.shares ≡ all_shares }
+        ensures stood { T.stands result pass.seen }
+        ensures opened { pass.opening ≡ Some (T.opening result) }
+        ensures whole { OwnsAll pass }
+        ensures facts { PassFacts T.legal pass }
+    {
+        let Turnstile { board } = self;
+        let mut closed = board.close_with(pass.into_place());
+        let value = closed.take(VALUE).unwrap();
+        closed.free();
+        value
+    }
+}
+
+/// Runs the call on the value that is out with the seat, hands on, and wakes who waits.
+fn serve<T: Stands, C: Turn<T>>(
+    board: &SharedBoard<T>,
+    place: &mut Place<T>,
+    mut value: T,
+    call: C,
+    caller: u64,
+) -> Turned<C::Answer>
+    requires ours { IsBoard board.now.table_id × (place.old.table_id ≡ board.now.table_id) }
+    requires inside { ((ticket : ℕ) × (place.old.me.0.stage ≡ Inside ticket)) × (place.old.me.1 ≡ (0, None) ∷ []) }
+    requires caller { caller ≡ place.old.me.0.number }
+    requires lent { (seen : List Entry) × IsLent T.stands (C.needs call) value caller place.old.me.0.seen seen place.old.me.0.made }
+    requires opened { place.old.me.0.opened ≡ Some (T.opening value) }
+    ensures now { IsNow place.old place.new (handed_on place.old.me.0 (C.entry call caller result.answer), []) }
+    ensures place { result.turn ≡ length place.old.me.0.seen }
+    ensures facts { SeatFacts T.legal place.new.me.0 }
+{
+    let asked = Snapshot::of(&call);
+    let answer = call.run(&mut value, caller);
+    let turn = hand_on::<T, Brand, C>(board, place, value, &asked, caller, &answer);
+    wake(board, turn);
+    Turned { turn, answer }
+}

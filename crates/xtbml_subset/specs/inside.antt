@@ -1,0 +1,9 @@
+-- What the reader finds on its way.
+pub mod Machine
+pub mod Reading
+pub mod Tokens
+pub mod Walk
+pub mod Elements
+pub mod Searches
+pub mod Views
+pub mod Rows
