@@ -144,5 +144,16 @@ judge $? 8 wanted
 "$root/life" run <nine.csv >out
 judge $? 0 again
 
+# the whole life of two policies; then its journal is read, and its balances added up, without the program
+life_of=$root/examples/whole-life
+begin "whole life"
+"$root/life" run <"$life_of.csv" >out
+judge $? 0 "$life_of.transcript"
+
+go_on "journal read without the program"
+grep -e '^balance,' -e '^count,' "$life_of.state" >wanted
+python3 "$root/examples/read_journal.py" journal.life | grep -e '^balance,' -e '^count,' >out
+judge 0 0 wanted
+
 [ "$failed" = 0 ] && echo "program: the program runs as a user runs it"
 exit "$failed"
