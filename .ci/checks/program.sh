@@ -150,6 +150,19 @@ begin "whole life"
 "$root/life" run <"$life_of.csv" >out
 judge $? 0 "$life_of.transcript"
 
+go_on "state"
+"$root/life" state </dev/null >out
+judge $? 0 "$life_of.state"
+
+go_on "state of one policy"
+"$root/life" state 7101 </dev/null >out
+judge $? 0 "$life_of-7101.state"
+
+go_on "state of no policy"
+echo "unknown,7103" >wanted
+"$root/life" state 7103 </dev/null >out
+judge $? 0 wanted
+
 go_on "journal read without the program"
 grep -e '^balance,' -e '^count,' "$life_of.state" >wanted
 python3 "$root/examples/read_journal.py" journal.life | grep -e '^balance,' -e '^count,' >out
