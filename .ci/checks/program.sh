@@ -168,5 +168,19 @@ grep -e '^balance,' -e '^count,' "$life_of.state" >wanted
 python3 "$root/examples/read_journal.py" journal.life | grep -e '^balance,' -e '^count,' >out
 judge 0 0 wanted
 
+office_of=$root/examples/small-office
+begin "small office"
+"$root/life" run <"$office_of.csv" >out
+judge $? 0 "$office_of.transcript"
+
+go_on "state of the small office"
+"$root/life" state </dev/null >out
+judge $? 0 "$office_of.state"
+
+go_on "small office read without the program"
+grep -e '^balance,' -e '^count,' "$office_of.state" >wanted
+python3 "$root/examples/read_journal.py" journal.life | grep -e '^balance,' -e '^count,' >out
+judge 0 0 wanted
+
 [ "$failed" = 0 ] && echo "program: the program runs as a user runs it"
 exit "$failed"
