@@ -1,7 +1,8 @@
 #!/usr/bin/env python3
-"""Lists every record of a `journal.life`, and adds up the balances of the four accounts.
+"""Lists every record of a `journal.life`, and adds up the balances of the four accounts; or, with `--ledger`, prints what
+the records book as transactions in the plain text format of the programs `ledger` and `hledger`.
 
-usage: python3 examples/read_journal.py journal.life     (python3 and its standard library)
+usage: python3 examples/read_journal.py [--ledger] journal.life     (python3 and its standard library)
 
 Written from docs/FORMATS.md alone, so that the program can be checked without it: it takes the records as they stand
 and decides nothing anew. It ends with status 1 and says why where the file isn't a journal.
@@ -56,37 +57,59 @@ def line(position, body):
     return ",".join(parts)
 
 
-def book(balances, policies, body):
-    """What one record books; `policies` has each policy's plan and amount as they are by then."""
+def bookings(policies, body):
+    """What one record books on which accounts; `policies` has each policy's plan and amount as they are by then."""
     kind, number, _, amount, _ = fields(body)
     if kind == "issue":
         policies[number] = [PLANS[body[1]], amount]
     elif kind == "alter":
         policies[number][1] = amount
     elif kind in ("premium", "reinstate"):
-        balances["cash"] += amount
-        balances["premiums"] -= amount
+        return [("cash", amount), ("premiums", -amount)]
     elif kind == "settle":
-        balances["cash"] -= amount
-        balances["payable"] += amount
+        return [("cash", -amount), ("payable", amount)]
     elif kind == "claim" or (kind == "mature" and policies[number][0] != "term"):
-        balances["incurred"] += policies[number][1]
-        balances["payable"] -= policies[number][1]
+        return [("incurred", policies[number][1]), ("payable", -policies[number][1])]
+    return []
 
 
-def main():
-    if len(sys.argv) != 2:
-        sys.exit("usage: python3 examples/read_journal.py journal.life")
-    with open(sys.argv[1], "rb") as file:
-        found = bodies(file.read())
+def list_records(found):
     balances = dict(cash=0, premiums=0, incurred=0, payable=0)
     policies = {}
     for position, body in enumerate(found, 1):
         print(line(position, body))
-        book(balances, policies, body)
+        for account, cents in bookings(policies, body):
+            balances[account] += cents
     for account, balance in balances.items():
         print(f"balance,{account},{money(balance)}")
     print(f"count,{len(found)}")
+
+
+def print_transactions(found):
+    policies = {}
+    for body in found:
+        booked = bookings(policies, body)
+        if booked:
+            kind, number, day, _, _ = fields(body)
+            print(f"{day} {kind} {number}")
+            for account, cents in booked:
+                print(f"    {account}  {money(cents)}")
+            print()
+
+
+def main():
+    words = sys.argv[1:]
+    as_ledger = words[:1] == ["--ledger"]
+    if as_ledger:
+        words = words[1:]
+    if len(words) != 1:
+        sys.exit("usage: python3 examples/read_journal.py [--ledger] journal.life")
+    with open(words[0], "rb") as file:
+        found = bodies(file.read())
+    if as_ledger:
+        print_transactions(found)
+    else:
+        list_records(found)
 
 
 main()
