@@ -144,5 +144,43 @@ judge $? 8 wanted
 "$root/life" run <nine.csv >out
 judge $? 0 again
 
+# the whole life of two policies; then its journal is read, and its balances added up, without the program
+life_of=$root/examples/whole-life
+begin "whole life"
+"$root/life" run <"$life_of.csv" >out
+judge $? 0 "$life_of.transcript"
+
+go_on "state"
+"$root/life" state </dev/null >out
+judge $? 0 "$life_of.state"
+
+go_on "state of one policy"
+"$root/life" state 7101 </dev/null >out
+judge $? 0 "$life_of-7101.state"
+
+go_on "state of no policy"
+echo "unknown,7103" >wanted
+"$root/life" state 7103 </dev/null >out
+judge $? 0 wanted
+
+go_on "journal read without the program"
+grep -e '^balance,' -e '^count,' "$life_of.state" >wanted
+python3 "$root/examples/read_journal.py" journal.life | grep -e '^balance,' -e '^count,' >out
+judge 0 0 wanted
+
+office_of=$root/examples/small-office
+begin "small office"
+"$root/life" run <"$office_of.csv" >out
+judge $? 0 "$office_of.transcript"
+
+go_on "state of the small office"
+"$root/life" state </dev/null >out
+judge $? 0 "$office_of.state"
+
+go_on "small office read without the program"
+grep -e '^balance,' -e '^count,' "$office_of.state" >wanted
+python3 "$root/examples/read_journal.py" journal.life | grep -e '^balance,' -e '^count,' >out
+judge 0 0 wanted
+
 [ "$failed" = 0 ] && echo "program: the program runs as a user runs it"
 exit "$failed"

@@ -1,0 +1,40 @@
+#!/bin/sh
+# The balances of the small office beside those of plain text accounting: what its records book is handed as transactions
+# to `ledger` and to `hledger`, where they are installed, and their balances are those that `state` prints.
+root=$(cd "$(dirname "$0")/../.." && pwd) || exit 2
+work=$(mktemp -d) || exit 2
+trap 'rm -rf "$work"' EXIT
+cd "$work" || exit 2
+"$root/life" run <"$root/examples/small-office.csv" >transcript || exit 2
+"$root/life" state </dev/null >state || exit 2
+python3 "$root/examples/read_journal.py" --ledger journal.life >transactions || exit 1
+sed -n 's/^balance,//p' state | sort >wanted
+
+# lines of an account and its balance, however the program writes them, as those of `state`
+as_state() {
+    python3 -c '
+import decimal, sys
+for line in sys.stdin:
+    account, balance = line.replace(chr(34), "").strip().split(",")
+    if account != "account":
+        print(f"{account},{decimal.Decimal(balance):.2f}")
+' | sort
+}
+
+tried=
+if command -v ledger >/dev/null; then
+    ledger -f transactions balance --flat --no-total --empty \
+        --balance-format '%(account),%(quantity(display_total))\n' | as_state >found
+    cmp -s wanted found || { echo "accounting: ledger has other balances:" >&2; cat found >&2; exit 1; }
+    tried="$tried ledger"
+fi
+if command -v hledger >/dev/null; then
+    hledger -f transactions balance -N --flat -E -O csv | as_state >found
+    cmp -s wanted found || { echo "accounting: hledger has other balances:" >&2; cat found >&2; exit 1; }
+    tried="$tried hledger"
+fi
+if [ -n "$tried" ]; then
+    echo "accounting: the balances are those of$tried"
+else
+    echo "accounting: skipped, since neither ledger nor hledger is installed"
+fi
