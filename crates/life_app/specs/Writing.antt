@@ -21,11 +21,11 @@ between faults tells old new =
 abbrev pub WroteAll : Stream → List ℕ → Type 0
 WroteAll output bytes = Appends output.before output.after bytes
 
--- a front of them was, and not all, since the output failed
+-- a front of the bytes was written, and not all of them, since the output failed
 abbrev pub WrotePart : Stream → List ℕ → Type 0
 WrotePart output bytes = Rose output.faults_before output.faults_after × AppendsPart output.before output.after bytes
 
--- nothing of them was, since memory was refused
+-- nothing of the bytes was written, since memory was refused
 abbrev pub WroteNothing : Stream → List ℕ → Type 0
 WroteNothing output bytes = Appends output.before output.after []
 
@@ -33,6 +33,6 @@ WroteNothing output bytes = Appends output.before output.after []
 abbrev pub WroteOrFailed : Stream → List ℕ → Type 0
 WroteOrFailed output bytes = WroteAll output bytes ⊎ WrotePart output bytes
 
--- the one line that was to be written; where that failed, a front of it
+-- one line was written, or a front of it where the output failed
 abbrev pub WroteLine : Stream → List ℕ → Type 0
 WroteLine output line = WroteOrFailed output (line ++ 10 ∷ [])

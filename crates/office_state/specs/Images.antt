@@ -23,7 +23,7 @@ pub record HasFaultedBefore (history : List Entry) (command : Command) (after : 
 abbrev pub HasFaulted : List Entry → Command → Type 0
 HasFaulted history command = (after : List Entry) × HasFaultedBefore history command after
 
--- and no posting was accepted since
+-- a posting of the command met a fault of the disk, and no posting was accepted after it
 pub record IsPending (history : List Entry) (command : Command) : Type 0 where
   pub after : List Entry
   pub faulted : HasFaultedBefore history command after

@@ -19,7 +19,7 @@ use Rattle.office_state.specs.declared.state.OfficeState.{OfficeState}
 use Rattle.office_state.specs.Journals.{IsUnspelled, bodies_of}
 use Rattle.office_state.specs.inside.Books.{commands_in}
 
--- why there is no journal, as why there is no office
+-- the cause for which a journal isn't opened, as that for which no office is
 abbrev pub as_cause : JournalCause → StartCause
 as_cause (FaultyDisk count) = DiskFault count
 as_cause IsNoJournal = NotAJournal
@@ -30,7 +30,7 @@ pub record IsLookedAt {D : Type 0} (g : Ghosts D) (old new : D) : Type 0 where
   pub honesty : (g.honest old) ↔ (g.honest new)
   pub looks : g.honest old → LooksOn g old new
 
--- so was that of a journal, which stays what it was
+-- a journal whose disk was only looked at is what it was
 pub record StaysAs {D : Type 0} {g : Ghosts D} (old new : Journal D g) : Type 0 where
   pub counted : count_of new ≡ count_of old
   pub clean : is_clean new ≡ is_clean old
@@ -95,7 +95,7 @@ pub record IsOfficeOf {D : Type 0} {g : Ghosts D} (journal : Journal D g) (disk 
   pub recovered : state.recovered.value ≡ state.books
   pub begun : state.begun.value ≡ disk
 
--- there is none
+-- a journal's records make no office, for a cause
 pub record HasNoOffice {D : Type 0} {g : Ghosts D} (journal : Journal D g) (disk : D) (cause : StartCause) : Type 0 where
   pub looked : IsLookedAt g (disk_of journal) disk
   pub why : HasStopped journal disk cause
