@@ -1,4 +1,6 @@
 // Whole runs, over devices in memory. Texts, statuses and files are written by hand from the formats.
+ghost use Rattle.std.specs.Prelude.{◌≤◌, vec_len};
+
 use crate::{Ended, life};
 use memory_disk::MemoryDisk;
 use outside_io::{BytesSink, BytesSource, MapShelf, OpenGate};
@@ -345,18 +347,20 @@ fn files_are_opened_or_refused(rt: HostRuntime) -> Result<(), AllocError> {
     Ok(())
 }
 
-// An auditor without room for any command, who counts the calls to it.
+// An auditor who counts the calls to it.
 #[derive(Drop)]
 struct Uncalled {
     calls: Arc<AtomicU32>,
+    heard: Vec<Command>,
+    ghost few: { vec_len heard ≤ 4000000 },
 }
 
 impl Watcher for Uncalled {
-    ghost use Rattle.std.specs.Prelude.{[], false};
+    ghost use Rattle.std.specs.Prelude.{false, ◌-◌, vec_capacity, vec_len};
 
-    ghost noted = { λ w. [] };
+    ghost noted = { λ w. w.heard.items };
 
-    ghost spare = { λ w. 0 };
+    ghost spare = { λ w. vec_capacity w.heard - vec_len w.heard };
 
     ghost stops = { λ w h. false };
 
@@ -364,19 +368,25 @@ impl Watcher for Uncalled {
 
     fn ready(&mut self) -> Result<(), NoMemory> {
         self.calls.fetch_add(1, Ordering::SeqCst);
-        Err(NoMemory)
+        match self.heard.reserve(1) {
+            Ok(()) => Ok(()),
+            Err(_) => Err(NoMemory),
+        }
     }
 
     fn note(&mut self, position: u32, command: &Command) -> Attention {
         let _ = position;
-        let _ = command;
         self.calls.fetch_add(1, Ordering::SeqCst);
+        self.heard.push_reserved(*command);
         Attention::More
     }
 
     fn report(&self) -> Report {
         self.calls.fetch_add(1, Ordering::SeqCst);
-        Report { seen: 0, tally: 0 }
+        Report {
+            seen: self.heard.len() as u32,
+            tally: 0,
+        }
     }
 }
 
@@ -389,6 +399,7 @@ fn a_watcher_is_let_go_and_never_called(rt: HostRuntime) -> Result<(), AllocErro
         alloc,
         Uncalled {
             calls: calls.clone()?,
+            heard: Vec::new(alloc),
         },
     )?;
     watchers.push(one)?;
