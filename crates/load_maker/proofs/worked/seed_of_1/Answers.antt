@@ -1,0 +1,11 @@
+use Rattle.std.proofs.Common.{refl}
+use Rattle.std.specs.Fmt.{digits}
+use Rattle.life_dates.specs.Calendar.{date_of, date_at, year_of, month_of, days_before_year, days_of_months}
+use Rattle.life_dates.specs.DayText.{day_text}
+use Rattle.load_maker.specs.Generator.{policy_drawn, number_after}
+use Rattle.load_maker.specs.GeneratedScript.{row_text, rows_of, generated_text}
+use Rattle.load_maker.proofs.worked.seed_of_1.Goals as goal
+
+pub returns-clause-rows : goal.returns-clause-rows
+unfolding generated_text number_after rows_of row_text policy_drawn day_text date_of date_at year_of month_of days_before_year days_of_months digits
+returns-clause-rows c = refl

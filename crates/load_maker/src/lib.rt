@@ -1,0 +1,12 @@
+//! Scripts made by a generator: so many policies, each issued and its first premium paid on the day of issue.
+#![tactic(auto)]
+
+mod generator;
+mod rows;
+mod script;
+#[cfg(test)]
+mod tests;
+mod worked;
+
+pub use script::make_script;
+pub use worked::seed_of_1;

@@ -1,0 +1,83 @@
+// The rows of a policy.
+ghost use Rattle.std.specs.Prelude.{◌≡◌, ◌++◌, ◌∷◌, [], ◌≤◌, pos, ◌≤ℤ◌, OnOk, decimal};
+ghost use Rattle.policy_types.specs.declared.command.Command.TheVariants.{Issue, Premium};
+ghost use Rattle.life_dates.specs.DayText.{day_text};
+ghost use Rattle.statements.specs.Lines.{behind_commas};
+ghost use Rattle.statements.specs.Statements.{insurance_fields};
+ghost use Rattle.load_maker.specs.GeneratedScript.{row_text, rows_of};
+
+use crate::generator::Drawn;
+use itoa::Buffer;
+use policy_types::NoMemory;
+use statements::{LineWriter, plan_word};
+
+// Adds the row that issues a policy, and the row of its first premium.
+#[tactic(auto, unfolding(crate::specs::GeneratedScript::rows_of))]
+pub fn write_rows(lines: &mut LineWriter, lane: u8, id: u32, policy: &Drawn) -> Result<(), NoMemory>
+    requires amount { policy.now.amount ≤ 100000000 }
+    requires premium { policy.now.premium ≤ 2000000 }
+    requires issued { (pos 10957 ≤ℤ policy.now.issued) × (policy.now.issued ≤ℤ pos 14606) }
+    ensures { OnOk result (lines.new ≡ lines.old ++ rows_of lane id policy.now) }
+{
+    write_issue(lines, lane, id, policy)?;
+    write_premium(lines, lane, id, policy)
+}
+
+// Adds the row that issues a policy.
+#[tactic(auto, unfolding(crate::specs::GeneratedScript::row_text))]
+fn write_issue(lines: &mut LineWriter, lane: u8, id: u32, policy: &Drawn) -> Result<(), NoMemory>
+    requires amount { policy.now.amount ≤ 100000000 }
+    requires premium { policy.now.premium ≤ 2000000 }
+    requires issued { (pos 10957 ≤ℤ policy.now.issued) × (policy.now.issued ≤ℤ pos 14606) }
+    ensures { let p = policy.now in OnOk result (lines.new
+        ≡ lines.old ++ row_text lane (Issue id p.issued p.plan p.age p.years p.amount p.premium)) }
+{
+    write_start(lines, lane, "issue", id, policy.issued)?;
+    write_insurance(lines, policy)?;
+    lines.end()
+}
+
+// Adds the terms of a policy's insurance.
+fn write_insurance(lines: &mut LineWriter, policy: &Drawn) -> Result<(), NoMemory>
+    requires { (policy.now.amount ≤ 100000000) × (policy.now.premium ≤ 2000000) }
+    ensures { let p = policy.now in OnOk result (lines.new
+        ≡ lines.old ++ behind_commas (insurance_fields p.plan p.age p.years p.amount p.premium)) }
+{
+    lines.word(plan_word(policy.plan))?;
+    lines.number(policy.age as u32)?;
+    lines.number(policy.years as u32)?;
+    lines.cents(policy.amount as i64)?;
+    lines.cents(policy.premium as i64)
+}
+
+// Adds the row of a policy's first premium.
+#[tactic(auto, unfolding(crate::specs::GeneratedScript::row_text))]
+fn write_premium(lines: &mut LineWriter, lane: u8, id: u32, policy: &Drawn) -> Result<(), NoMemory>
+    requires premium { policy.now.premium ≤ 2000000 }
+    requires issued { (pos 10957 ≤ℤ policy.now.issued) × (policy.now.issued ≤ℤ pos 14606) }
+    ensures { let p = policy.now in OnOk result (lines.new
+        ≡ lines.old ++ row_text lane (Premium id p.issued p.premium)) }
+{
+    write_start(lines, lane, "premium", id, policy.issued)?;
+    lines.cents(policy.premium as i64)?;
+    lines.end()
+}
+
+// Begins a row with its lane, its kind, the policy's number and the day.
+fn write_start(
+    lines: &mut LineWriter,
+    lane: u8,
+    kind: &str,
+    id: u32,
+    day: i32,
+) -> Result<(), NoMemory>
+    requires { (pos 10957 ≤ℤ day) × (day ≤ℤ pos 14606) }
+    ensures { OnOk result (lines.new
+        ≡ lines.old ++ decimal lane ++ behind_commas (kind.now ∷ decimal id ∷ day_text day ∷ [])) }
+{
+    let mut buffer = Buffer::new();
+    lines.first(buffer.format(lane))?;
+    lines.word(kind)?;
+    lines.number(id)?;
+    lines.day(day)
+}
