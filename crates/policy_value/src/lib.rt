@@ -1,0 +1,14 @@
+//! What a policy is worth on a day by a basis: its row in a valuation.
+#![tactic(auto)]
+
+mod cache;
+
+#[cfg(test)]
+mod tests;
+mod valuing;
+mod worth;
+
+pub use cache::ColumnCache;
+pub use plan_benefits::NotValued;
+pub use worth::{Row, Rows, Worth};
+pub use valuing::row;

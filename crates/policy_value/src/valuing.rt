@@ -1,0 +1,96 @@
+ghost use Rattle.std.specs.Prelude.{◌≡◌, ◌≤◌, ◌≤ℤ◌, ◌↔◌, ℕ, Ok, IsTrue};
+ghost use Rattle.basis_book.specs.Dated.{Dated, IsPicked};
+ghost use Rattle.policy_types.specs.Valid.{IsIssue};
+ghost use Rattle.plan_benefits.specs.Shapes.{shape_of};
+ghost use Rattle.rate_table.specs.declared.shape.Shape.{Shape as AShape};
+ghost use Rattle.policy_value.specs.Rows.{IsInsured, IsValueOf, IsReserveOf, IsWithin, RowOf, IsExact};
+
+use crate::cache::{ColumnCache, priced};
+use crate::worth::{Row, Worth};
+use basis_book::Basis;
+use crvm_reserve::reserve_bounds;
+use life_dates::completed;
+use plan_benefits::{NotValued, shape};
+use policy_types::{Policy, Status};
+use rate_table::RateTable;
+
+/// The row of a policy in a valuation on a day, in days since 1970-01-01.
+///
+/// A policy that isn't in force, or is issued after the day, has the reserve 0.
+pub fn row(policy: &Policy, basis: &Basis, on: i32, cache: &mut ColumnCache) -> Row
+    requires sound { IsIssue policy.now.id policy.now.issued policy.now.plan policy.now.age policy.now.years
+        policy.now.amount policy.now.premium }
+    ensures row { RowOf policy.now basis.now on result }
+    ensures exact { IsInsured policy.now on → (index : ℕ) → (entry : Dated)
+        → IsPicked basis.now policy.now.issued index entry
+        → IsExact policy.now entry.table entry.bp result.t result.worth }
+    ensures most { IsWithin policy.now.amount result.worth }
+{
+    let (t, worth) = if is_insured(policy, on) {
+        value_by_basis(policy, basis, on, cache)
+    } else {
+        (0, Worth::Bounds { lo: 0, hi: 0 })
+    };
+    Row {
+        id: policy.id,
+        status: policy.status,
+        t,
+        worth,
+    }
+}
+
+/// Whether a policy is in force and issued by the day.
+fn is_insured(policy: &Policy, on: i32) -> bool
+    ensures { IsTrue result ↔ IsInsured policy.now on }
+{
+    policy.status == Status::InForce && policy.issued <= on
+}
+
+/// The year and the worth of an insured policy by the basis of its day of issue.
+fn value_by_basis(
+    policy: &Policy,
+    basis: &Basis,
+    on: i32,
+    cache: &mut ColumnCache,
+) -> (u8, Worth)
+    requires sound { IsIssue policy.now.id policy.now.issued policy.now.plan policy.now.age policy.now.years
+        policy.now.amount policy.now.premium }
+    requires issued { policy.now.issued ≤ℤ on }
+    ensures value { IsValueOf policy.now basis.now on result.0 result.1 }
+    ensures exact { (index : ℕ) → (entry : Dated) → IsPicked basis.now policy.now.issued index entry
+        → IsExact policy.now entry.table entry.bp result.0 result.1 }
+    ensures most { IsWithin policy.now.amount result.1 }
+{
+    match basis.pick(policy.issued) {
+        Some((_, table, bp)) => value_by_table(policy, table, bp, on, cache),
+        None => (0, Worth::Word(NotValued::NoBasis)),
+    }
+}
+
+/// The year and the worth of an insured policy by a table, at an interest in basis points.
+fn value_by_table(
+    policy: &Policy,
+    table: &RateTable,
+    bp: u16,
+    on: i32,
+    cache: &mut ColumnCache,
+) -> (u8, Worth)
+    requires sound { IsIssue policy.now.id policy.now.issued policy.now.plan policy.now.age policy.now.years
+        policy.now.amount policy.now.premium }
+    requires issued { policy.now.issued ≤ℤ on }
+    requires interest { bp ≤ 2000 }
+    ensures value { IsReserveOf policy.now table.now bp on
+        (shape_of policy.now.plan policy.now.age policy.now.years table.now) result.0 result.1 }
+    ensures exact { IsExact policy.now table.now bp result.0 result.1 }
+    ensures most { IsWithin policy.now.amount result.1 }
+{
+    match shape(policy.plan, policy.age, policy.years, table) {
+        Ok(shape) => {
+            let t = completed(policy.issued, on).min(shape.n);
+            let (columns, premium) = priced(table, &shape, bp, cache);
+            let (lo, hi) = reserve_bounds(&columns, &premium, policy.amount, t);
+            (t, Worth::Bounds { lo, hi })
+        }
+        Err(word) => (0, Worth::Word(word)),
+    }
+}
