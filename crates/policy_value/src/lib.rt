@@ -2,7 +2,6 @@
 #![tactic(auto)]
 
 mod cache;
-
 #[cfg(test)]
 mod tests;
 mod valuing;
@@ -10,5 +9,5 @@ mod worth;
 
 pub use cache::ColumnCache;
 pub use plan_benefits::NotValued;
-pub use worth::{Row, Rows, Worth};
 pub use valuing::row;
+pub use worth::{Row, Rows, Worth};

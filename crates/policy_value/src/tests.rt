@@ -8,10 +8,13 @@ use std::test::Fail;
 
 /// 2020-01-01, on which all the policies are issued.
 const ISSUED: i32 = 18_262;
-/// The days before the first anniversary, of the first three, and of the second in leap years.
+/// The day before the first anniversary, and the first three.
 const DAY_BEFORE: i32 = 18_627;
+
 const ONE_YEAR: i32 = 18_628;
+
 const TWO_YEARS: i32 = 18_993;
+
 const THREE_YEARS: i32 = 19_358;
 
 /// The rates 0.1, 0.2, 0.25, `fourth` and 1 of the ages 0 to 4, in units of 10^-9.
@@ -93,12 +96,17 @@ fn row_by(alloc: Global, file: &[u8], policy: &Policy, on: i32) -> Result<Row, F
 }
 
 const FLAT: &[u8] = b"1900-01-01,q.xml,0";
+
 const AT_FIVE: &[u8] = b"1900-01-01,q.xml,500";
 /// The table changes after the day of issue.
 const CHANGED: &[u8] = b"1900-01-01,q.xml,0\n2020-01-02,q.xml,500";
+
 const FROM_THE_DAY: &[u8] = b"1900-01-01,q.xml,0\n2020-01-01,q.xml,500";
+
 const AFTER_ISSUE: &[u8] = b"2020-01-02,q.xml,0";
+
 const HIGH: &[u8] = b"1900-01-01,high.xml,0";
+
 const LATE: &[u8] = b"1900-01-01,late.xml,0";
 
 #[test]
@@ -136,12 +144,30 @@ fn reserves(rt: HostRuntime) -> Result<(), Fail> {
             TWO_YEARS,
             (2, 2_702, 2_703),
         ),
-        ("basis of the day", FROM_THE_DAY, term, TWO_YEARS, (2, 2_702, 2_703)),
-        ("basis of later issues", CHANGED, term, TWO_YEARS, (2, 2_777, 2_778)),
+        (
+            "basis of the day",
+            FROM_THE_DAY,
+            term,
+            TWO_YEARS,
+            (2, 2_702, 2_703),
+        ),
+        (
+            "basis of later issues",
+            CHANGED,
+            term,
+            TWO_YEARS,
+            (2, 2_777, 2_778),
+        ),
         ("limited", FLAT, limited, ONE_YEAR, (1, 33_138, 33_139)),
         ("limited", FLAT, limited, TWO_YEARS, (2, 100_000, 100_000)),
         ("whole at age 3", FLAT, whole, ONE_YEAR, (1, 0, 0)),
-        ("whole at age 3", FLAT, whole, TWO_YEARS, (2, 100_000, 100_000)),
+        (
+            "whole at age 3",
+            FLAT,
+            whole,
+            TWO_YEARS,
+            (2, 100_000, 100_000),
+        ),
     ] {
         let (t, lo, hi) = expected;
         let found = row_by(rt.alloc(), file, &policy, on)?;
@@ -159,13 +185,62 @@ fn reserves(rt: HostRuntime) -> Result<(), Fail> {
 #[test]
 fn words(rt: HostRuntime) -> Result<(), Fail> {
     for (name, file, plan, age, years, word) in [
-        ("nothing named", b"".as_slice(), Plan::Term, 0, 3, NotValued::NoBasis),
-        ("named a day late", AFTER_ISSUE, Plan::Whole, 4, 0, NotValued::NoBasis),
-        ("below the table", LATE, Plan::Endowment, 0, 60, NotValued::BelowTable),
-        ("one year left", FLAT, Plan::Whole, 4, 0, NotValued::PastTable),
-        ("six years of five", FLAT, Plan::Term, 0, 6, NotValued::PastTable),
-        ("past a high rate", HIGH, Plan::Term, 3, 3, NotValued::PastTable),
-        ("above one half", HIGH, Plan::Whole, 3, 0, NotValued::RateHigh),
+        (
+            "nothing named",
+            b"".as_slice(),
+            Plan::Term,
+            0,
+            3,
+            NotValued::NoBasis,
+        ),
+        (
+            "named a day late",
+            AFTER_ISSUE,
+            Plan::Whole,
+            4,
+            0,
+            NotValued::NoBasis,
+        ),
+        (
+            "below the table",
+            LATE,
+            Plan::Endowment,
+            0,
+            60,
+            NotValued::BelowTable,
+        ),
+        (
+            "one year left",
+            FLAT,
+            Plan::Whole,
+            4,
+            0,
+            NotValued::PastTable,
+        ),
+        (
+            "six years of five",
+            FLAT,
+            Plan::Term,
+            0,
+            6,
+            NotValued::PastTable,
+        ),
+        (
+            "past a high rate",
+            HIGH,
+            Plan::Term,
+            3,
+            3,
+            NotValued::PastTable,
+        ),
+        (
+            "above one half",
+            HIGH,
+            Plan::Whole,
+            3,
+            0,
+            NotValued::RateHigh,
+        ),
     ] {
         let policy = policy(plan, age, years);
         let found = row_by(rt.alloc(), file, &policy, TWO_YEARS)?;

@@ -47,12 +47,7 @@ fn is_insured(policy: &Policy, on: i32) -> bool
 }
 
 /// The year and the worth of an insured policy by the basis of its day of issue.
-fn value_by_basis(
-    policy: &Policy,
-    basis: &Basis,
-    on: i32,
-    cache: &mut ColumnCache,
-) -> (u8, Worth)
+fn value_by_basis(policy: &Policy, basis: &Basis, on: i32, cache: &mut ColumnCache) -> (u8, Worth)
     requires sound { IsIssue policy.now.id policy.now.issued policy.now.plan policy.now.age policy.now.years
         policy.now.amount policy.now.premium }
     requires issued { policy.now.issued ≤ℤ on }

@@ -1,4 +1,4 @@
-use Rattle.std.proofs.Common.{rules, ◌≡◌}
+use Rattle.std.proofs.Common.{rules}
 use Rattle.policy_value.proofs.valuing.row.Goals as goal
 use Rattle.policy_value.proofs.valuing.row.Goals.{then-is_insured, else-is_insured}
 
