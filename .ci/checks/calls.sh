@@ -2,6 +2,8 @@
 # The calls that the program makes on a real file, recorded by strace: just those that the journal allows, in order and
 # number. A sync that is left out, or made too late, is seen here and by no proof.
 root=$(cd "$(dirname "$0")/../.." && pwd) || exit 2
+# where it is missing and this may install it, it is installed
+command -v strace >/dev/null || { apt-get update -qq && apt-get install -y -qq strace; } >/dev/null 2>&1
 command -v strace >/dev/null || {
     echo "calls: strace is needed to record the program's calls" >&2
     exit 1
