@@ -16,21 +16,21 @@ complain() {
 # the program with the descriptors closed that are named
 run_with_closed() {
     case $1 in
-        none) "$program" run <"$script" >out 2>err ;;
-        input) "$program" run <&- >out 2>err ;;
-        output) "$program" run <"$script" >&- 2>err ;;
-        error) "$program" run <"$script" >out 2>&- ;;
-        input-output) "$program" run <&- >&- 2>err ;;
-        input-error) "$program" run <&- >out 2>&- ;;
-        output-error) "$program" run <"$script" >&- 2>&- ;;
-        all) "$program" run <&- >&- 2>&- ;;
+        none) "$runner" run <"$script" >out 2>err ;;
+        input) "$runner" run <&- >out 2>err ;;
+        output) "$runner" run <"$script" >&- 2>err ;;
+        error) "$runner" run <"$script" >out 2>&- ;;
+        input-output) "$runner" run <&- >&- 2>err ;;
+        input-error) "$runner" run <&- >out 2>&- ;;
+        output-error) "$runner" run <"$script" >&- 2>&- ;;
+        all) "$runner" run <&- >&- 2>&- ;;
     esac
 }
 
 # a case: what is closed, the file before, the status, what is printed, the file afterwards
 judge() {
-    name="$1, $2"
-    folder=$work/$1-$2
+    name="$1, $2, ${runner##*/}"
+    folder=$work/$1-$2-${runner##*/}
     mkdir "$folder" && cd "$folder" || exit 2
     [ "$2" = fresh ] || cp "$work/$2" journal.life
     : >out
@@ -54,8 +54,11 @@ mkdir "$work/made" && (cd "$work/made" && "$program" run <"$script" >"$work/tran
 cp "$work/made/journal.life" "$work/journal"
 sed 's/accepted,[0-9]*/refused,taken/' "$work/transcript" >"$work/taken"
 
+# the program itself, and the launcher, whose own commands must not take such a place either
 while read -r closed before status printed after; do
-    judge "$closed" "$before" "$status" "$work/$printed" "$([ "$after" = none ] && echo none || echo "$work/$after")"
+    for runner in "$program" "$root/life"; do
+        judge "$closed" "$before" "$status" "$work/$printed" "$([ "$after" = none ] && echo none || echo "$work/$after")"
+    done
 done <<'CASES'
 none fresh 0 transcript journal
 none journal 0 taken journal
