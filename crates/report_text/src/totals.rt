@@ -24,6 +24,7 @@ impl Totals {
         ensures lower { result.lower ≡ lower_sum rows.now }
         ensures upper { result.upper ≡ upper_sum rows.now }
         ensures unvalued { result.unvalued ≡ unvalued_count rows.now }
+        ensures most { (result.lower ≤ 80000000000000000) × (result.upper ≤ 80000000000000000) }
     {
         let mut totals = Totals {
             lower: 0,
