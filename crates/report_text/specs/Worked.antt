@@ -8,15 +8,15 @@ use Rattle.report_text.specs.Block.{row_text, total_text, block_text}
 
 -- an endowment after a year
 abbrev pub valued : Row
-valued = record { id = 7001; status = InForce; t = 1; worth = Bounds 12722 12723; }
+valued = record { id = 7001; status = InForce; t = 1; worth = Bounds 12722 12723 }
 
 -- a policy whose cover goes on after the table
 abbrev pub past_the_table : Row
-past_the_table = record { id = 7002; status = InForce; t = 0; worth = Word PastTable; }
+past_the_table = record { id = 7002; status = InForce; t = 0; worth = Word PastTable }
 
 -- a lapsed policy
 abbrev pub lapsed : Row
-lapsed = record { id = 7003; status = Lapsed; t = 0; worth = Bounds 0 0; }
+lapsed = record { id = 7003; status = Lapsed; t = 0; worth = Bounds 0 0 }
 
 -- the row of each
 abbrev pub WorkedRows : Type 0
