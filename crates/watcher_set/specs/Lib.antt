@@ -1,0 +1,4 @@
+pub mod Noted
+pub mod Premiums
+pub mod Told
+pub mod Watchers

@@ -1,0 +1,4 @@
+use std::rt::HostRuntime;
+
+#[test]
+fn nothing() {}

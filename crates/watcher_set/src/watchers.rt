@@ -1,0 +1,55 @@
+ghost use Rattle.std.specs.Prelude.{◌≡◌, ◌≤◌, List, [], ◌∷◌, ◌++◌, length, map};
+ghost use Rattle.std.specs.List.{AllByRecursion, AllZip};
+ghost use Rattle.watcher_set.specs.Told.{HasRoom, IsTold, auditor_of};
+
+use crate::boxed::Boxed;
+use crate::place::Place;
+use crate::reports::Reports;
+use crate::rounds::{note_all, ready_all, reports_of_all};
+use crate::watching::Watching;
+use arrayvec::ArrayVec;
+use policy_types::{Command, NoMemory, Watcher};
+use std::snapshot::Snapshot;
+
+/// Auditors that were handed in as boxes: at most 16.
+#[derive(Drop)]
+pub struct Watchers {
+    handed: Snapshot<Vec<Box<dyn Watcher + Send>>>,
+    places: ArrayVec<Place<Boxed>, 16>,
+}
+
+impl Watchers {
+    /// Nobody was told of anything.
+    pub fn new(boxes: Vec<Box<dyn Watcher + Send>>) -> Watchers
+        requires few { length boxes.items ≤ 16 }
+        requires fresh { AllByRecursion (λ b. noted b ≡ []) boxes.items }
+    {
+        let handed = Snapshot::of(&boxes);
+        let mut places: ArrayVec<Place<Boxed>, 16> = ArrayVec::new();
+        for watcher in boxes {
+            places.push(Place::Listening(Boxed { watcher }));
+        }
+        Watchers { handed, places }
+    }
+}
+
+impl Watching for Watchers {
+    ghost handed = { λ it. map (λ b. record { stops = (Watcher-box b).stops b.value; number = (Watcher-box b).number b.value }) it.handed.value.items };
+
+    ghost told = { λ it commands. AllZip (IsTold ⟦<Boxed as Watcher>⟧ commands)
+        (map (λ b. record { stops = (Watcher-box b).stops b.value; number = (Watcher-box b).number b.value }) it.handed.value.items) it.places.items };
+
+    ghost has_room = { λ it. AllByRecursion (HasRoom ⟦<Boxed as Watcher>⟧) it.places.items };
+
+    fn ready(&mut self) -> Result<(), NoMemory> {
+        ready_all(self.places.as_mut_slice())
+    }
+
+    fn note(&mut self, position: u32, command: &Command) {
+        note_all(self.places.as_mut_slice(), position, command);
+    }
+
+    fn finish(self) -> Reports {
+        reports_of_all(self.places.as_slice())
+    }
+}
