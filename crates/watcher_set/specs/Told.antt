@@ -1,5 +1,6 @@
 -- What has become of the auditors that were handed in, each at its place
 use Rattle.std.specs.Prelude.{◌≡◌, ℕ, ◌<◌, ◌≤◌, ◌+◌, true, false, List, [], ◌∷◌, ◌++◌, length, map, ◌↔◌, IsTrue, if◌then◌else◌}
+use Rattle.std.specs.List.{AllByRecursion, AllZip}
 use Rattle.policy_types.specs.declared.command.Command.{Command}
 use Rattle.policy_types.specs.declared.watcher.Report.{Report}
 use Rattle.policy_types.specs.declared.watcher.Watcher.{Ghosts}
@@ -29,10 +30,17 @@ module _ {B : Type 0} (g : Ghosts B) where
   IsTold commands auditor (Listening watcher) = Listens auditor commands watcher
   IsTold commands auditor (Reported report) = HasReported auditor commands report
 
+  -- each of them, at its own place
+  abbrev pub AreTold : List Command → List Auditor → List (Place B) → Type 0
+  AreTold commands auditors places = AllZip (IsTold commands) auditors places
+
   -- there is room for one command more, if it goes on
   abbrev pub HasRoom : Place B → Type 0
   HasRoom (Listening watcher) = 1 ≤ g.spare watcher
   HasRoom (Reported report) = Unit {0}
+
+  abbrev pub HaveRoom : List (Place B) → Type 0
+  HaveRoom places = AllByRecursion HasRoom places
 
   -- fewer commands are noted than there may be, if it goes on
   abbrev pub MayBeTold : Place B → Type 0

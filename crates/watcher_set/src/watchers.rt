@@ -1,6 +1,6 @@
 ghost use Rattle.std.specs.Prelude.{◌≡◌, ◌≤◌, List, [], ◌∷◌, ◌++◌, length, map};
-ghost use Rattle.std.specs.List.{AllByRecursion, AllZip};
-ghost use Rattle.watcher_set.specs.Told.{HasRoom, IsTold, auditor_of};
+ghost use Rattle.std.specs.List.{AllByRecursion};
+ghost use Rattle.watcher_set.specs.Told.{AreTold, HaveRoom};
 
 use crate::boxed::Boxed;
 use crate::place::Place;
@@ -22,7 +22,7 @@ impl Watchers {
     /// Nobody was told of anything.
     pub fn new(boxes: Vec<Box<dyn Watcher + Send>>) -> Watchers
         requires few { length boxes.items ≤ 16 }
-        requires fresh { AllByRecursion (λ b. noted b ≡ []) boxes.items }
+        requires fresh { AllByRecursion (λ b. (Watcher-box b).noted b.value ≡ []) boxes.items }
     {
         let handed = Snapshot::of(&boxes);
         let mut places: ArrayVec<Place<Boxed>, 16> = ArrayVec::new();
@@ -36,10 +36,19 @@ impl Watchers {
 impl Watching for Watchers {
     ghost handed = { λ it. map (λ b. record { stops = (Watcher-box b).stops b.value; number = (Watcher-box b).number b.value }) it.handed.value.items };
 
-    ghost told = { λ it commands. AllZip (IsTold ⟦<Boxed as Watcher>⟧ commands)
-        (map (λ b. record { stops = (Watcher-box b).stops b.value; number = (Watcher-box b).number b.value }) it.handed.value.items) it.places.items };
+    ghost told = { λ it commands. AreTold (record {
+        noted = λ b. (Watcher-box b.watcher).noted b.watcher.value;
+        spare = λ b. (Watcher-box b.watcher).spare b.watcher.value;
+        stops = λ b. (Watcher-box b.watcher).stops b.watcher.value;
+        number = λ b. (Watcher-box b.watcher).number b.watcher.value;
+    }) commands (map (λ b. record { stops = (Watcher-box b).stops b.value; number = (Watcher-box b).number b.value }) it.handed.value.items) it.places.items };
 
-    ghost has_room = { λ it. AllByRecursion (HasRoom ⟦<Boxed as Watcher>⟧) it.places.items };
+    ghost has_room = { λ it. HaveRoom (record {
+        noted = λ b. (Watcher-box b.watcher).noted b.watcher.value;
+        spare = λ b. (Watcher-box b.watcher).spare b.watcher.value;
+        stops = λ b. (Watcher-box b.watcher).stops b.watcher.value;
+        number = λ b. (Watcher-box b.watcher).number b.watcher.value;
+    }) it.places.items };
 
     fn ready(&mut self) -> Result<(), NoMemory> {
         ready_all(self.places.as_mut_slice())

@@ -1,0 +1,7 @@
+use Rattle.policy_types.specs.declared.watcher.Watcher.{Ghosts}
+use Rattle.watcher_set.specs.Told.{Hears}
+use Rattle.watcher_set.proofs.Halfway.{Halfway}
+use Rattle.watcher_set.proofs.rounds.note_all.Given as goal
+
+abbrev pub invariant-loop-place : goal.invariant-loop-place
+invariant-loop-place g l = Halfway (Hears g.B.Watcher l.command) l.place-index l.initial.places l.places
