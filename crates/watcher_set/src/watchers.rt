@@ -19,10 +19,12 @@ pub struct Watchers {
 }
 
 impl Watchers {
-    /// Nobody was told of anything.
+    /// Nobody was told of anything yet.
     pub fn new(boxes: Vec<Box<dyn Watcher + Send>>) -> Watchers
         requires few { length boxes.items ≤ 16 }
         requires fresh { AllByRecursion (λ b. (Watcher-box b).noted b.value ≡ []) boxes.items }
+        ensures handed { ⟦<Watchers as Watching>⟧.handed result ≡ map (λ b. record { stops = (Watcher-box b).stops b.value; number = (Watcher-box b).number b.value }) boxes.items }
+        ensures told { ⟦<Watchers as Watching>⟧.told result [] }
     {
         let handed = Snapshot::of(&boxes);
         let mut places: ArrayVec<Place<Boxed>, 16> = ArrayVec::new();
