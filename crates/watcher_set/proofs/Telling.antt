@@ -85,39 +85,52 @@ module _ {B : Type 0} (g : Ghosts B) where
       subst (λ list. length list < most_commands) (sym told.noted) few
   one_few commands few auditor (Reported report) told = tt
 
-  -- no round has come yet
-  pub AreTold-fresh : (watchers : List B) → AllByRecursion (λ watcher. g.noted watcher ≡ []) watchers
-      → AreTold g [] (map (auditor_of g) watchers) (map Listening watchers)
-  AreTold-fresh [] fresh = tt
-  AreTold-fresh (watcher ∷ watchers) fresh =
+  all_fresh : {C : Type 0} (watcher_in : C → B) (boxes : List C)
+      → AllByRecursion (λ box. g.noted (watcher_in box) ≡ []) boxes
+      → AllZip (IsTold g []) (map (λ box. auditor_of g (watcher_in box)) boxes)
+        (map (λ box. Listening (watcher_in box)) boxes)
+  all_fresh watcher_in [] fresh = tt
+  all_fresh watcher_in (box ∷ boxes) fresh =
       (record { noted = fresh.0; goes_on = refl; stops = λ list. refl; number = λ list. refl },
-        AreTold-fresh watchers fresh.1)
+        all_fresh watcher_in boxes fresh.1)
+
+  -- no round has come yet, and each has noted nothing
+  pub AreTold-fresh : {C : Type 0} (watcher_in : C → B) (boxes : List C)
+      → AllByRecursion (λ box. g.noted (watcher_in box) ≡ []) boxes
+      → AreTold g [] (map (λ box. auditor_of g (watcher_in box)) boxes) (map (λ box. Listening (watcher_in box)) boxes)
+  AreTold-fresh watcher_in boxes fresh = record { each = all_fresh watcher_in boxes fresh }
 
   -- a round that readies
   pub AreTold-still : (commands : List Command) (auditors : List Auditor) (old new : List (Place B))
       → AreTold g commands auditors old → AllZip (Stays g) old new → AreTold g commands auditors new
-  AreTold-still commands auditors old new told stay =
-      AllZip-then (IsTold g commands) (Stays g) (IsTold g commands) (one_still commands) auditors old new told stay
+  AreTold-still commands auditors old new told stay = record {
+    each = AllZip-then (IsTold g commands) (Stays g) (IsTold g commands) (one_still commands) auditors old new told.each stay;
+  }
 
   -- a round that tells
   pub AreTold-more : (commands : List Command) (command : Command) (auditors : List Auditor) (old new : List (Place B))
       → AreTold g commands auditors old → AllZip (Hears g command) old new
       → AreTold g (commands ++ command ∷ []) auditors new
-  AreTold-more commands command auditors old new told hear =
-      AllZip-then (IsTold g commands) (Hears g command) (IsTold g (commands ++ command ∷ [])) (one_more commands command)
-        auditors old new told hear
+  AreTold-more commands command auditors old new told hear = record {
+    each = AllZip-then (IsTold g commands) (Hears g command) (IsTold g (commands ++ command ∷ []))
+      (one_more commands command) auditors old new told.each hear;
+  }
 
   -- fewer commands were told than there may be, so each has noted fewer
   pub AreTold-few : (commands : List Command) (auditors : List Auditor) (places : List (Place B))
       → AreTold g commands auditors places → length commands < most_commands → AllByRecursion (MayBeTold g) places
   AreTold-few commands auditors places told few =
-      AllByRecursion-from_zip (IsTold g commands) (MayBeTold g) (one_few commands few) auditors places told
+      AllByRecursion-from_zip (IsTold g commands) (MayBeTold g) (one_few commands few) auditors places told.each
+
+  all_reports : (commands : List Command) (auditors : List Auditor) (places : List (Place B))
+      → AllZip (IsTold g commands) auditors places → map (report_at g) places ≡ reports_of auditors commands
+  all_reports commands [] [] told = refl
+  all_reports commands [] (place ∷ places) told = absurd told
+  all_reports commands (auditor ∷ auditors) [] told = absurd told
+  all_reports commands (auditor ∷ auditors) (place ∷ places) told =
+      λ i. one_report commands auditor place told.0 i ∷ all_reports commands auditors places told.1 i
 
   -- the reports
   pub AreTold-reports : (commands : List Command) (auditors : List Auditor) (places : List (Place B))
       → AreTold g commands auditors places → map (report_at g) places ≡ reports_of auditors commands
-  AreTold-reports commands [] [] told = refl
-  AreTold-reports commands [] (place ∷ places) told = absurd told
-  AreTold-reports commands (auditor ∷ auditors) [] told = absurd told
-  AreTold-reports commands (auditor ∷ auditors) (place ∷ places) told =
-      λ i. one_report commands auditor place told.0 i ∷ AreTold-reports commands auditors places told.1 i
+  AreTold-reports commands auditors places told = all_reports commands auditors places told.each

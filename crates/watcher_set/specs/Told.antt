@@ -31,8 +31,8 @@ module _ {B : Type 0} (g : Ghosts B) where
   IsTold commands auditor (Reported report) = HasReported auditor commands report
 
   -- each of them, at its own place
-  abbrev pub AreTold : List Command → List Auditor → List (Place B) → Type 0
-  AreTold commands auditors places = AllZip (IsTold commands) auditors places
+  pub record AreTold (commands : List Command) (auditors : List Auditor) (places : List (Place B)) : Type 0 where
+    pub each : AllZip (IsTold commands) auditors places
 
   -- there is room for one command more, if it goes on
   abbrev pub HasRoom : Place B → Type 0
