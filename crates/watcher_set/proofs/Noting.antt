@@ -1,8 +1,8 @@
 -- What one command more changes in what an auditor notes
-use Rattle.std.proofs.Common.{◌≡◌, Bool, true, false, List, [], ◌∷◌, ◌++◌, refl, ap, ◌∙◌, sym}
+use Rattle.std.proofs.Common.{◌≡◌, ℕ, zero, suc, ◌<◌, Bool, true, false, List, [], ◌∷◌, ◌++◌, length, take, refl, ap, inl, inr, lit<, arith}
 use Rattle.std.specs.Prelude.{◌||◌, if◌then◌else◌}
 use Rattle.policy_types.specs.declared.command.Command.{Command}
-use Rattle.watcher_set.specs.Noted.{noted_of, is_done}
+use Rattle.watcher_set.specs.Noted.{noted_of, is_done, IsNoted}
 
 neither : (a b : Bool) → (a || b) ≡ false → (a ≡ false) × (b ≡ false)
 neither true b h = absurd (cc)
@@ -60,4 +60,39 @@ pub noted_of-stays : (stops : List Command → Bool) (commands : List Command) (
 noted_of-stays stops [] command h = absurd (cc)
 noted_of-stays stops (first ∷ later) command h =
     ap (λ list. first ∷ list)
-      (rest_same (stops (first ∷ [])) _ _ _ h (noted_of-stays (λ list. stops (first ∷ list)) later command))
+    (rest_same (stops (first ∷ [])) _ _ _ h (noted_of-stays (λ list. stops (first ∷ list)) later command))
+
+early : (stops : List Command → Bool) (first : Command) (noted : List Command) → stops (first ∷ []) ≡ false
+    → ((count : ℕ) → 0 < count → count < length noted → stops (first ∷ take count noted) ≡ false)
+    → (count : ℕ) → 0 < count → count < length (first ∷ noted) → stops (take count (first ∷ noted)) ≡ false
+early stops first noted said later zero some less = absurd (omega arith)
+early stops first noted said later (suc zero) some less = said
+early stops first noted said later (suc (suc count)) some less = later (suc count) (omega arith) (omega arith)
+
+-- by recursion and by places it is the same
+noted_first : (stops : List Command → Bool) (first : Command) (later : List Command) (answer : Bool)
+    → stops (first ∷ []) ≡ answer → IsNoted (λ list. stops (first ∷ list)) later (noted_of (λ list. stops (first ∷ list)) later)
+    → IsNoted stops (first ∷ later)
+    (first ∷ (if answer then [] else noted_of (λ list. stops (first ∷ list)) later))
+noted_first stops first later true said by_rest = record {
+  rest = later;
+  begins = refl;
+  goes_on = λ count some less. absurd (omega arith);
+  ends = inl (lit< tt, said);
+}
+noted_first stops first later false said by_rest = record {
+  rest = by_rest.rest;
+  begins = ap (λ list. first ∷ list) by_rest.begins;
+  goes_on = early stops first _ said by_rest.goes_on;
+  ends = elim by_rest.ends [ inl done ↦ inl (omega arith, done.1) | inr none ↦ inr none ];
+}
+
+pub IsNoted-noted_of : (stops : List Command → Bool) (commands : List Command) → IsNoted stops commands (noted_of stops commands)
+IsNoted-noted_of stops [] = record {
+  rest = [];
+  begins = refl;
+  goes_on = λ count some less. absurd (omega arith);
+  ends = inr refl;
+}
+IsNoted-noted_of stops (first ∷ later) =
+    noted_first stops first later (stops (first ∷ [])) refl (IsNoted-noted_of (λ list. stops (first ∷ list)) later)

@@ -8,7 +8,8 @@ use Rattle.policy_types.specs.Limits.{most_commands}
 use Rattle.watcher_set.specs.Noted.{Auditor, noted_of, is_done, report_of, reports_of}
 use Rattle.watcher_set.specs.declared.place.Place.{Place}
 use Rattle.watcher_set.specs.declared.place.Place.TheVariants.{Listening, Reported}
-use Rattle.watcher_set.specs.Told.{auditor_of, IsTold, Listens, HasReported, MayBeTold, HasRoom, Stays, Hears, report_at, AreTold, HaveRoom}
+use Rattle.watcher_set.specs.Told.{auditor_of, IsTold, Listens, HasReported, HasRoom, AreTold}
+use Rattle.watcher_set.specs.inside.Calls.{MayBeTold, Stays, Hears, report_at}
 use Rattle.watcher_set.proofs.Halfway.{AllByRecursion-from_zip, AllZip-then}
 use Rattle.watcher_set.proofs.Noting.{noted_all, is_done-more, noted_of-more, is_done-stays, noted_of-stays}
 
@@ -62,21 +63,21 @@ module _ {B : Type 0} (g : Ghosts B) where
   one_more commands command auditor (Listening old) (Reported report) told hears = record {
     done = says commands command auditor old true told hears.0;
     left = hears.1 ∙ report_same _ _ (g.number old) auditor.number
-      (ap (λ list. list ++ command ∷ []) told.noted ∙ sym (noted_of-more auditor.stops commands command told.goes_on))
-      told.number;
+        (ap (λ list. list ++ command ∷ []) told.noted ∙ sym (noted_of-more auditor.stops commands command told.goes_on))
+        told.number;
   }
   one_more commands command auditor (Reported old) (Listening new) told hears = absurd hears
   one_more commands command auditor (Reported old) (Reported new) told hears = record {
     done = is_done-stays auditor.stops commands command told.done;
     left = hears ∙ told.left ∙ report_same _ _ auditor.number auditor.number
-      (sym (noted_of-stays auditor.stops commands command told.done)) (λ list. refl);
+        (sym (noted_of-stays auditor.stops commands command told.done)) (λ list. refl);
   }
 
   one_report : (commands : List Command) (auditor : Auditor) (place : Place B) → IsTold g commands auditor place
       → report_at g place ≡ report_of commands auditor
   one_report commands auditor (Listening watcher) told =
       report_same (g.noted watcher) (noted_of auditor.stops commands) (g.number watcher) auditor.number
-        (told.noted ∙ sym (noted_all auditor.stops commands told.goes_on)) told.number
+      (told.noted ∙ sym (noted_all auditor.stops commands told.goes_on)) told.number
   one_report commands auditor (Reported report) told = told.left
 
   one_few : (commands : List Command) → length commands < most_commands → (auditor : Auditor) (place : Place B)
@@ -88,11 +89,12 @@ module _ {B : Type 0} (g : Ghosts B) where
   all_fresh : {C : Type 0} (watcher_in : C → B) (boxes : List C)
       → AllByRecursion (λ box. g.noted (watcher_in box) ≡ []) boxes
       → AllZip (IsTold g []) (map (λ box. auditor_of g (watcher_in box)) boxes)
-        (map (λ box. Listening (watcher_in box)) boxes)
+      (map (λ box. Listening (watcher_in box)) boxes)
   all_fresh watcher_in [] fresh = tt
-  all_fresh watcher_in (box ∷ boxes) fresh =
-      (record { noted = fresh.0; goes_on = refl; stops = λ list. refl; number = λ list. refl },
-        all_fresh watcher_in boxes fresh.1)
+  all_fresh watcher_in (box ∷ boxes) fresh = (
+    record { noted = fresh.0; goes_on = refl; stops = λ list. refl; number = λ list. refl },
+    all_fresh watcher_in boxes fresh.1,
+  )
 
   -- no round has come yet, and each has noted nothing
   pub AreTold-fresh : {C : Type 0} (watcher_in : C → B) (boxes : List C)
@@ -113,7 +115,7 @@ module _ {B : Type 0} (g : Ghosts B) where
       → AreTold g (commands ++ command ∷ []) auditors new
   AreTold-more commands command auditors old new told hear = record {
     each = AllZip-then (IsTold g commands) (Hears g command) (IsTold g (commands ++ command ∷ []))
-      (one_more commands command) auditors old new told.each hear;
+        (one_more commands command) auditors old new told.each hear;
   }
 
   -- fewer commands were told than there may be, so each has noted fewer

@@ -1,5 +1,5 @@
 -- What an auditor notes of the commands that it is told of, and the report that it gives of them
-use Rattle.std.specs.Prelude.{ℕ, Bool, true, false, ◌||◌, List, [], ◌∷◌, length, map, if◌then◌else◌}
+use Rattle.std.specs.Prelude.{◌≡◌, ◌⊎◌, ℕ, ◌<◌, Bool, true, false, ◌||◌, List, [], ◌∷◌, ◌++◌, length, map, take, if◌then◌else◌}
 use Rattle.policy_types.specs.declared.command.Command.{Command}
 use Rattle.policy_types.specs.declared.watcher.Report.{Report}
 
@@ -18,6 +18,14 @@ noted_of stops (command ∷ later) =
 abbrev pub is_done : (List Command → Bool) → List Command → Bool
 is_done stops [] = false
 is_done stops (command ∷ later) = stops (command ∷ []) || is_done (λ list. stops (command ∷ list)) later
+
+-- The same by places: what is noted is a beginning of the commands. No shorter beginning but the empty one is a list at which
+-- the test says done; and it ends at such a list, or with the last command
+pub record IsNoted (stops : List Command → Bool) (commands noted : List Command) : Type 0 where
+  pub rest : List Command
+  pub begins : commands ≡ noted ++ rest
+  pub goes_on : (count : ℕ) → 0 < count → count < length noted → stops (take count noted) ≡ false
+  pub ends : ((0 < length noted) × (stops noted ≡ true)) ⊎ (rest ≡ [])
 
 -- the report that it gives of what it noted
 abbrev pub report_of : List Command → Auditor → Report

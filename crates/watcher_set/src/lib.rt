@@ -4,18 +4,20 @@
 mod boxed;
 mod counting;
 mod empty;
+mod laws;
 mod place;
 mod premiums;
 mod reports;
 mod rounds;
-mod watchers;
-mod watching;
 #[cfg(test)]
 mod tests;
+mod watchers;
+mod watching;
 
 pub use counting::CountWatcher;
 pub use empty::NoWatchers;
+pub use laws::noted_to_the_first_end;
 pub use premiums::PremiumWatcher;
-pub use reports::Reports;
+pub use reports::{MOST_WATCHERS, Reports};
 pub use watchers::Watchers;
 pub use watching::Watching;

@@ -1,7 +1,8 @@
 ghost use Rattle.std.specs.Prelude.{◌≡◌, ◌<◌, ◌≤◌, List, [], ◌∷◌, ◌++◌, length, OnOk};
 ghost use Rattle.policy_types.specs.declared.command.Command.{Command as ACommand};
 ghost use Rattle.policy_types.specs.Valid.{IsValid};
-ghost use Rattle.watcher_set.specs.Told.{HasRoom, MayBeTold, Stays, Hears, report_at};
+ghost use Rattle.watcher_set.specs.Told.{HasRoom};
+ghost use Rattle.watcher_set.specs.inside.Calls.{MayBeTold, Stays, Hears, report_at};
 
 use policy_types::{Attention, Command, NoMemory, Report, Watcher};
 

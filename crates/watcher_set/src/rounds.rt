@@ -2,6 +2,7 @@ ghost use Rattle.std.specs.Prelude.{◌≡◌, ◌≤◌, ◌<◌, List, [], ◌
 ghost use Rattle.policy_types.specs.declared.command.Command.{Command as ACommand};
 ghost use Rattle.policy_types.specs.Limits.{most_commands};
 ghost use Rattle.policy_types.specs.Valid.{IsValid};
+ghost use Rattle.watcher_set.specs.Limits.{most_watchers};
 ghost use Rattle.watcher_set.specs.Noted.{Auditor, reports_of};
 ghost use Rattle.watcher_set.specs.Told.{AreTold, HaveRoom};
 
@@ -37,7 +38,7 @@ pub(crate) fn note_all<B: Watcher>(places: &mut [Place<B>], position: u32, comma
 
 /// The reports of all places, in order.
 pub(crate) fn reports_of_all<B: Watcher>(places: &[Place<B>]) -> Reports
-    requires { length places.now ≤ 16 }
+    requires { length places.now ≤ most_watchers }
     ensures { (commands : List ACommand) (auditors : List Auditor) → AreTold B.Watcher commands auditors places.now
         → result ≡ reports_of auditors commands }
 {

@@ -1,10 +1,11 @@
 ghost use Rattle.std.specs.Prelude.{◌≡◌, ◌≤◌, List, [], ◌∷◌, ◌++◌, length, map};
 ghost use Rattle.std.specs.List.{AllByRecursion};
+ghost use Rattle.watcher_set.specs.Limits.{most_watchers};
 ghost use Rattle.watcher_set.specs.Told.{AreTold, HaveRoom};
 
 use crate::boxed::Boxed;
 use crate::place::Place;
-use crate::reports::Reports;
+use crate::reports::{MOST_WATCHERS, Reports};
 use crate::rounds::{note_all, ready_all, reports_of_all};
 use crate::watching::Watching;
 use arrayvec::ArrayVec;
@@ -15,19 +16,19 @@ use std::snapshot::Snapshot;
 #[derive(Drop)]
 pub struct Watchers {
     handed: Snapshot<Vec<Box<dyn Watcher + Send>>>,
-    places: ArrayVec<Place<Boxed>, 16>,
+    places: ArrayVec<Place<Boxed>, MOST_WATCHERS>,
 }
 
 impl Watchers {
     /// Nobody was told of anything yet.
     pub fn new(boxes: Vec<Box<dyn Watcher + Send>>) -> Watchers
-        requires few { length boxes.items ≤ 16 }
+        requires few { length boxes.items ≤ most_watchers }
         requires fresh { AllByRecursion (λ b. (Watcher-box b).noted b.value ≡ []) boxes.items }
         ensures handed { ⟦<Watchers as Watching>⟧.handed result ≡ map (λ b. record { stops = (Watcher-box b).stops b.value; number = (Watcher-box b).number b.value }) boxes.items }
         ensures told { ⟦<Watchers as Watching>⟧.told result [] }
     {
         let handed = Snapshot::of(&boxes);
-        let mut places: ArrayVec<Place<Boxed>, 16> = ArrayVec::new();
+        let mut places: ArrayVec<Place<Boxed>, MOST_WATCHERS> = ArrayVec::new();
         for watcher in boxes {
             places.push(Place::Listening(Boxed { watcher }));
         }
@@ -39,17 +40,17 @@ impl Watching for Watchers {
     ghost handed = { λ it. map (λ b. record { stops = (Watcher-box b).stops b.value; number = (Watcher-box b).number b.value }) it.handed.value.items };
 
     ghost told = { λ it commands. AreTold (record {
-        noted = λ b. (Watcher-box b.watcher).noted b.watcher.value;
-        spare = λ b. (Watcher-box b.watcher).spare b.watcher.value;
-        stops = λ b. (Watcher-box b.watcher).stops b.watcher.value;
-        number = λ b. (Watcher-box b.watcher).number b.watcher.value;
+      noted = λ b. (Watcher-box b.watcher).noted b.watcher.value;
+      spare = λ b. (Watcher-box b.watcher).spare b.watcher.value;
+      stops = λ b. (Watcher-box b.watcher).stops b.watcher.value;
+      number = λ b. (Watcher-box b.watcher).number b.watcher.value;
     }) commands (map (λ b. record { stops = (Watcher-box b).stops b.value; number = (Watcher-box b).number b.value }) it.handed.value.items) it.places.items };
 
     ghost has_room = { λ it. HaveRoom (record {
-        noted = λ b. (Watcher-box b.watcher).noted b.watcher.value;
-        spare = λ b. (Watcher-box b.watcher).spare b.watcher.value;
-        stops = λ b. (Watcher-box b.watcher).stops b.watcher.value;
-        number = λ b. (Watcher-box b.watcher).number b.watcher.value;
+      noted = λ b. (Watcher-box b.watcher).noted b.watcher.value;
+      spare = λ b. (Watcher-box b.watcher).spare b.watcher.value;
+      stops = λ b. (Watcher-box b.watcher).stops b.watcher.value;
+      number = λ b. (Watcher-box b.watcher).number b.watcher.value;
     }) it.places.items };
 
     fn ready(&mut self) -> Result<(), NoMemory> {

@@ -13,5 +13,5 @@ returns-clause-told g c =
     let none = c.in-None.ensures.steps in
     let empty = nothing_left (into_iter_items at.watcher-iterator) (sym at.invariant.2 ∙ none.0) in
     let all = sym (append-nil at.yielded) ∙ rw empty at at.invariant.0
-      ∙ c.into_iter-watcher-iterator.ensures.into_iter_gives.0 in
+    ∙ c.into_iter-watcher-iterator.ensures.into_iter_gives.0 in
     rw (c.of-handed.ensures, at.invariant.1, all) (AreTold-fresh _ (λ box. record { watcher = box }) c.args.boxes.items c.requires.fresh)

@@ -10,5 +10,5 @@ note_all-requires-clause-few g c =
 pub returns-clause-told : goal.returns-clause-told
 returns-clause-told g c commands told =
     let same = items-with_items c.args.self.now.places c.note_all.new.places
-      (c.note_all.auto.places ∙ ap length c.as_mut_slice.ensures.value) in
+    (c.note_all.auto.places ∙ ap length c.as_mut_slice.ensures.value) in
     rw same (c.note_all.ensures commands _ (rw c.as_mut_slice.ensures.value told))
