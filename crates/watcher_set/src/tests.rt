@@ -1,8 +1,8 @@
 // Reports of sets of auditors, expected by hand.
-ghost use Rattle.std.specs.Prelude.{◌≡◌, []};
-ghost use Rattle.watcher_set.specs.Watchers.{counted};
+ghost use Rattle.std.specs.Prelude.{◌≡◌, [], length, IsTrue};
+ghost use Rattle.std.specs.List.{AllByRecursion};
 
-use crate::{CountWatcher, NoWatchers, PremiumWatcher, Reports, Watchers, Watching};
+use crate::{CountWatcher, MOST_WATCHERS, NoWatchers, PremiumWatcher, Reports, Watchers, Watching};
 use policy_types::{Attention, Command, NoMemory, Plan, Report, Watcher};
 use std::process::Abort;
 use std::sync::Arc;
@@ -49,6 +49,24 @@ fn issue(id: u32) -> Command {
         amount: 100_000,
         premium: 40_000,
     }
+}
+
+fn seen_by(watcher: &Box<dyn Watcher + Send>) -> u32
+    ensures { result ≡ length ((Watcher-box watcher.now).noted watcher.now.value) }
+{
+    watcher.report().seen
+}
+
+// Whether each has noted nothing.
+fn are_fresh(boxes: &[Box<dyn Watcher + Send>]) -> bool
+    ensures { IsTrue result → AllByRecursion (λ b. (Watcher-box b).noted b.value ≡ []) boxes.now }
+{
+    for watcher in boxes {
+        if seen_by(watcher) != 0 {
+            return false;
+        }
+    }
+    true
 }
 
 // Tells the set of the commands. After each the token has as many owners as are expected.
@@ -164,6 +182,7 @@ fn none_and_sixteen(rt: HostRuntime) -> Result<(), Fail> {
     for limit in 1..17 {
         boxes.push(Box::new(alloc, CountWatcher::new(alloc, limit))?)?;
     }
+    assert!(rt; boxes.len() == MOST_WATCHERS && are_fresh(&boxes));
     let reports = told(&rt, Watchers::new(boxes), &commands, &token, &[])?;
     assert_eq!(rt; reports.as_slice().len(), 16);
     for (place, report) in reports.as_slice().iter().enumerate() {
