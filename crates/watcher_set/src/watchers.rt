@@ -20,11 +20,12 @@ pub struct Watchers {
 }
 
 impl Watchers {
-    /// Nobody was told of anything yet.
+    /// Auditors who have noted nothing: nobody was told of anything yet.
     pub fn new(boxes: Vec<Box<dyn Watcher + Send>>) -> Watchers
         requires few { length boxes.items ≤ most_watchers }
-        requires fresh { AllByRecursion (λ b. (Watcher-box b).noted b.value ≡ []) boxes.items }
-        ensures handed { ⟦<Watchers as Watching>⟧.handed result ≡ map (λ b. record { stops = (Watcher-box b).stops b.value; number = (Watcher-box b).number b.value }) boxes.items }
+        requires fresh { AllByRecursion (λ b. noted b ≡ []) boxes.items }
+        ensures handed { ⟦<Watchers as Watching>⟧.handed result
+            ≡ map (λ b. record { stops = stops b; number = number b }) boxes.items }
         ensures told { ⟦<Watchers as Watching>⟧.told result [] }
     {
         let handed = Snapshot::of(&boxes);
@@ -37,21 +38,29 @@ impl Watchers {
 }
 
 impl Watching for Watchers {
-    ghost handed = { λ it. map (λ b. record { stops = (Watcher-box b).stops b.value; number = (Watcher-box b).number b.value }) it.handed.value.items };
+    ghost handed = { λ it. map (λ b. record { stops = (Watcher-box b).stops b.value; number = (Watcher-box b).number b.value })
+        it.handed.value.items };
 
-    ghost told = { λ it commands. AreTold (record {
-      noted = λ b. (Watcher-box b.watcher).noted b.watcher.value;
-      spare = λ b. (Watcher-box b.watcher).spare b.watcher.value;
-      stops = λ b. (Watcher-box b.watcher).stops b.watcher.value;
-      number = λ b. (Watcher-box b.watcher).number b.watcher.value;
-    }) commands (map (λ b. record { stops = (Watcher-box b).stops b.value; number = (Watcher-box b).number b.value }) it.handed.value.items) it.places.items };
+    ghost told = { λ it commands. AreTold
+        (record {
+          noted = λ b. (Watcher-box b.watcher).noted b.watcher.value;
+          spare = λ b. (Watcher-box b.watcher).spare b.watcher.value;
+          stops = λ b. (Watcher-box b.watcher).stops b.watcher.value;
+          number = λ b. (Watcher-box b.watcher).number b.watcher.value;
+        })
+        commands
+        (map (λ b. record { stops = (Watcher-box b).stops b.value; number = (Watcher-box b).number b.value })
+        it.handed.value.items)
+        it.places.items };
 
-    ghost has_room = { λ it. HaveRoom (record {
-      noted = λ b. (Watcher-box b.watcher).noted b.watcher.value;
-      spare = λ b. (Watcher-box b.watcher).spare b.watcher.value;
-      stops = λ b. (Watcher-box b.watcher).stops b.watcher.value;
-      number = λ b. (Watcher-box b.watcher).number b.watcher.value;
-    }) it.places.items };
+    ghost has_room = { λ it. HaveRoom
+        (record {
+          noted = λ b. (Watcher-box b.watcher).noted b.watcher.value;
+          spare = λ b. (Watcher-box b.watcher).spare b.watcher.value;
+          stops = λ b. (Watcher-box b.watcher).stops b.watcher.value;
+          number = λ b. (Watcher-box b.watcher).number b.watcher.value;
+        })
+        it.places.items };
 
     fn ready(&mut self) -> Result<(), NoMemory> {
         ready_all(self.places.as_mut_slice())

@@ -1,5 +1,4 @@
-use Rattle.std.proofs.Common.{◌≡◌, ◌+◌, suc, subst, sym, add-one, length, slice_set, arith}
-use Rattle.std.specs.List.{AllZip}
+use Rattle.std.proofs.Common.{subst, sym, add-one, slice_set, arith}
 use Rattle.watcher_set.specs.Told.{HasRoom}
 use Rattle.watcher_set.specs.inside.Calls.{MayBeTold, Hears}
 use Rattle.watcher_set.proofs.Halfway.{Halfway, Halfway-step, Halfway-later, AllZip-from_end}

@@ -1,4 +1,3 @@
-use Rattle.policy_types.specs.declared.watcher.Watcher.{Ghosts}
 use Rattle.watcher_set.specs.inside.Calls.{Hears}
 use Rattle.watcher_set.proofs.Halfway.{Halfway}
 use Rattle.watcher_set.proofs.rounds.note_all.Given as goal

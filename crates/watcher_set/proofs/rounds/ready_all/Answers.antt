@@ -1,4 +1,4 @@
-use Rattle.std.proofs.Common.{◌≡◌, ◌+◌, suc, subst, sym, add-one, length, slice_set, arith}
+use Rattle.std.proofs.Common.{suc, subst, sym, add-one, slice_set, arith}
 use Rattle.watcher_set.specs.Told.{HasRoom}
 use Rattle.watcher_set.specs.inside.Calls.{Stays}
 use Rattle.watcher_set.proofs.Halfway.{Halfway, Halfway-step, Halfway-weaker, AllZip-from_end, AllZip-from_halfway, AllByRecursion-from_zip}
