@@ -1,0 +1,3 @@
+pub mod Halfway
+pub mod Noting
+pub mod Telling

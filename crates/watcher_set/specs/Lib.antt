@@ -1,0 +1,6 @@
+pub mod Limits
+pub mod Noted
+pub mod Premiums
+pub mod Told
+pub mod Watchers
+pub mod inside

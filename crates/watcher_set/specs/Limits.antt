@@ -1,0 +1,5 @@
+-- How many auditors there may be
+use Rattle.std.specs.Prelude.{ℕ}
+
+abbrev pub most_watchers : ℕ
+most_watchers = 16

@@ -1,0 +1,42 @@
+-- What has become of the auditors that were handed in, each at its place
+use Rattle.std.specs.Prelude.{◌≡◌, ◌≤◌, true, false, List}
+use Rattle.std.specs.List.{AllByRecursion, AllZip}
+use Rattle.policy_types.specs.declared.command.Command.{Command}
+use Rattle.policy_types.specs.declared.watcher.Report.{Report}
+use Rattle.policy_types.specs.declared.watcher.Watcher.{Ghosts}
+use Rattle.watcher_set.specs.Noted.{Auditor, is_done, report_of}
+use Rattle.watcher_set.specs.declared.place.Place.{Place}
+use Rattle.watcher_set.specs.declared.place.Place.TheVariants.{Listening, Reported}
+
+module _ {B : Type 0} (g : Ghosts B) where
+  -- an auditor's test and its number, as they are now
+  abbrev pub auditor_of : B → Auditor
+  auditor_of watcher = record { stops = g.stops watcher; number = g.number watcher }
+
+  -- one that goes on has noted all commands, at none of which it was done; its test and its number are what they were
+  pub record Listens (auditor : Auditor) (commands : List Command) (watcher : B) : Type 0 where
+    pub noted : g.noted watcher ≡ commands
+    pub goes_on : is_done auditor.stops commands ≡ false
+    pub stops : (list : List Command) → g.stops watcher list ≡ auditor.stops list
+    pub number : (list : List Command) → g.number watcher list ≡ auditor.number list
+
+  -- one that was done is gone, and left the report of what it noted till then
+  pub record HasReported (auditor : Auditor) (commands : List Command) (report : Report) : Type 0 where
+    pub done : is_done auditor.stops commands ≡ true
+    pub left : report ≡ report_of commands auditor
+
+  abbrev pub IsTold : List Command → Auditor → Place B → Type 0
+  IsTold commands auditor (Listening watcher) = Listens auditor commands watcher
+  IsTold commands auditor (Reported report) = HasReported auditor commands report
+
+  -- all of them, each at its own place
+  pub record AreTold (commands : List Command) (auditors : List Auditor) (places : List (Place B)) : Type 0 where
+    pub each : AllZip (IsTold commands) auditors places
+
+  -- there is room for one command more, if it goes on
+  abbrev pub HasRoom : Place B → Type 0
+  HasRoom (Listening watcher) = 1 ≤ g.spare watcher
+  HasRoom (Reported report) = Unit {0}
+
+  abbrev pub HaveRoom : List (Place B) → Type 0
+  HaveRoom places = AllByRecursion HasRoom places

@@ -1,0 +1,27 @@
+ghost use Rattle.std.specs.Prelude.{[]};
+
+use crate::reports::Reports;
+use crate::watching::Watching;
+use policy_types::{Command, NoMemory};
+
+/// The set without auditors.
+#[derive(Drop)]
+pub struct NoWatchers;
+
+impl Watching for NoWatchers {
+    ghost handed = { λ _. [] };
+
+    ghost told = { λ _ _. Unit {0} };
+
+    ghost has_room = { λ _. Unit {0} };
+
+    fn ready(&mut self) -> Result<(), NoMemory> {
+        Ok(())
+    }
+
+    fn note(&mut self, _position: u32, _command: &Command) {}
+
+    fn finish(self) -> Reports {
+        Reports::none()
+    }
+}

@@ -1,0 +1,59 @@
+ghost use Rattle.std.specs.Prelude.{◌≡◌, ◌<◌, ◌≤◌, List, [], ◌∷◌, ◌++◌, length, OnOk};
+ghost use Rattle.policy_types.specs.declared.command.Command.{Command as ACommand};
+ghost use Rattle.policy_types.specs.Valid.{IsValid};
+ghost use Rattle.watcher_set.specs.Told.{HasRoom};
+ghost use Rattle.watcher_set.specs.inside.Calls.{MayBeTold, Stays, Hears, report_at};
+
+use policy_types::{Attention, Command, NoMemory, Report, Watcher};
+
+/// The place of an auditor: itself while it goes on, then its report.
+#[derive(Drop)]
+pub enum Place<B> {
+    Listening(B),
+    Reported(Report),
+}
+
+impl<B> Default for Place<B> {
+    fn default() -> Place<B> {
+        Place::Reported(Report { seen: 0, tally: 0 })
+    }
+}
+
+/// Readies the auditor, if it goes on.
+pub(crate) fn ready_place<B: Watcher>(place: &mut Place<B>) -> Result<(), NoMemory>
+    ensures stays { Stays B.Watcher place.old place.new }
+    ensures ok { OnOk result (HasRoom B.Watcher place.new) }
+{
+    match place {
+        Place::Listening(watcher) => watcher.ready(),
+        Place::Reported(_) => Ok(()),
+    }
+}
+
+/// Tells the auditor, if it goes on. One that is then done gives its report and is dropped.
+pub(crate) fn note_place<B: Watcher>(place: &mut Place<B>, position: u32, command: &Command)
+    requires room { HasRoom B.Watcher place.old }
+    requires few { MayBeTold B.Watcher place.old }
+    requires valid { IsValid command.now }
+    ensures { Hears B.Watcher command.now place.old place.new }
+{
+    let Place::Listening(watcher) = place else {
+        return;
+    };
+    match watcher.note(position, command) {
+        Attention::More => {}
+        Attention::Done => {
+            *place = Place::Reported(watcher.report());
+        }
+    }
+}
+
+/// The report: the one that was kept, or else the one that the auditor gives now.
+pub(crate) fn report_of<B: Watcher>(place: &Place<B>) -> Report
+    ensures { result ≡ report_at B.Watcher place.now }
+{
+    match place {
+        Place::Listening(watcher) => watcher.report(),
+        Place::Reported(report) => *report,
+    }
+}

@@ -1,0 +1,50 @@
+ghost use Rattle.std.specs.Prelude.{◌≡◌, ◌≤◌, ◌<◌, List, [], ◌∷◌, ◌++◌, length, OnOk};
+ghost use Rattle.policy_types.specs.declared.command.Command.{Command as ACommand};
+ghost use Rattle.policy_types.specs.Limits.{most_commands};
+ghost use Rattle.policy_types.specs.Valid.{IsValid};
+ghost use Rattle.watcher_set.specs.Limits.{most_watchers};
+ghost use Rattle.watcher_set.specs.Noted.{Auditor, reports_of};
+ghost use Rattle.watcher_set.specs.Told.{AreTold, HaveRoom};
+
+use crate::place::{Place, note_place, ready_place, report_of};
+use crate::reports::Reports;
+use policy_types::{Command, NoMemory, Watcher};
+
+/// Readies each auditor that goes on.
+pub(crate) fn ready_all<B: Watcher>(places: &mut [Place<B>]) -> Result<(), NoMemory>
+    ensures told { (commands : List ACommand) (auditors : List Auditor) → AreTold B.Watcher commands auditors places.old
+        → AreTold B.Watcher commands auditors places.new }
+    ensures ok { OnOk result (HaveRoom B.Watcher places.new) }
+{
+    for place in places.iter_mut() {
+        ready_place(place)?;
+    }
+    Ok(())
+}
+
+/// Tells each auditor that goes on.
+pub(crate) fn note_all<B: Watcher>(places: &mut [Place<B>], position: u32, command: &Command)
+    requires room { HaveRoom B.Watcher places.old }
+    requires valid { IsValid command.now }
+    requires few { (commands : List ACommand) × (auditors : List Auditor)
+        × AreTold B.Watcher commands auditors places.old × length commands < most_commands }
+    ensures { (commands : List ACommand) (auditors : List Auditor) → AreTold B.Watcher commands auditors places.old
+        → AreTold B.Watcher (commands ++ command.now ∷ []) auditors places.new }
+{
+    for place in places.iter_mut() {
+        note_place(place, position, command);
+    }
+}
+
+/// The reports of all places, in order.
+pub(crate) fn reports_of_all<B: Watcher>(places: &[Place<B>]) -> Reports
+    requires { length places.now ≤ most_watchers }
+    ensures { (commands : List ACommand) (auditors : List Auditor) → AreTold B.Watcher commands auditors places.now
+        → result ≡ reports_of auditors commands }
+{
+    let mut reports = Reports::none();
+    for place in places {
+        reports.push(report_of(place));
+    }
+    reports
+}

@@ -1,0 +1,38 @@
+ghost use Rattle.std.specs.Prelude.{◌≡◌, ℕ, ◌<◌, List, [], ◌∷◌, ◌++◌, length, OnOk};
+ghost use Rattle.policy_types.specs.declared.command.Command.{Command as ACommand};
+ghost use Rattle.policy_types.specs.Limits.{most_commands};
+ghost use Rattle.policy_types.specs.Valid.{IsValid};
+ghost use Rattle.watcher_set.specs.Noted.{Auditor, reports_of};
+
+use crate::reports::Reports;
+use policy_types::{Command, NoMemory};
+
+/// A set of auditors, who are told of each accepted command.
+pub trait Watching {
+    /// The auditors as they were handed in, in their order.
+    ghost handed: { Self → List Auditor };
+
+    /// It was told of these commands, in this order, since it was handed in.
+    ghost told: { Self → List ACommand → Type 0 };
+
+    /// Each auditor that is left has room for one command.
+    ghost has_room: { Self → Type 0 };
+
+    /// Makes room for one command. For want of memory nobody was told of anything.
+    fn ready(&mut self) -> Result<(), NoMemory>
+        ensures handed { handed self.new ≡ handed self.old }
+        ensures told { (commands : List ACommand) → told self.old commands → told self.new commands }
+        ensures ok { OnOk result (has_room self.new) };
+
+    /// Tells each auditor that is left of the command at this position of the accepted list. It takes no memory.
+    fn note(&mut self, position: u32, command: &Command)
+        requires room { has_room self.old }
+        requires valid { IsValid command.now }
+        requires few { (commands : List ACommand) × told self.old commands × length commands < most_commands }
+        ensures handed { handed self.new ≡ handed self.old }
+        ensures told { (commands : List ACommand) → told self.old commands → told self.new (commands ++ command.now ∷ []) };
+
+    /// The reports, in the order in which the auditors were handed in.
+    fn finish(self) -> Reports
+        ensures { (commands : List ACommand) → told self commands → result ≡ reports_of (handed self) commands };
+}
