@@ -31,6 +31,21 @@ pub fn fetch_basis<H: Shelf>(
     ensures later { H.faults shelf.old ≤ H.faults shelf.new }
     ensures stays { H.files shelf.new ≡ H.files shelf.old }
 {
+    fetch_parts(alloc, name, shelf)
+}
+
+// The basis file and its tables.
+fn fetch_parts<H: Shelf>(
+    alloc: Global,
+    name: &Name,
+    shelf: &mut H,
+) -> Result<Basis, NoBasis>
+    ensures basis { IfSome (H.files shelf.old) (λ at. IfOk result (IsBasis at name.now)) }
+    ensures bad { IfSome (H.files shelf.old) (λ at. IfErr result (IfBad (IsFirstBad at name.now))) }
+    ensures failed { IsErrOf result NoBasis.ReadFault → Rose (H.faults shelf.old) (H.faults shelf.new) }
+    ensures later { H.faults shelf.old ≤ H.faults shelf.new }
+    ensures stays { H.files shelf.new ≡ H.files shelf.old }
+{
     let rows = fetch_rows(alloc, name, shelf)?;
     let tables = fetch_tables(alloc, rows.as_slice(), shelf)?;
     let Ok(basis) = Basis::of(rows, tables) else {
