@@ -1,5 +1,6 @@
 -- What an auditor notes of the commands that it is told of, and the report that it gives of them
-use Rattle.std.specs.Prelude.{◌≡◌, ◌⊎◌, ℕ, ◌<◌, Bool, true, false, ◌||◌, List, [], ◌∷◌, ◌++◌, length, map, take, if◌then◌else◌}
+use Rattle.std.specs.Prelude.{◌≡◌, ◌⊎◌, ℕ, ◌<◌, Bool, true, false, ◌||◌, if◌then◌else◌}
+use Rattle.std.specs.Prelude.{List, [], ◌∷◌, ◌++◌, length, map, take}
 use Rattle.policy_types.specs.declared.command.Command.{Command}
 use Rattle.policy_types.specs.declared.watcher.Report.{Report}
 
@@ -19,8 +20,8 @@ abbrev pub is_done : (List Command → Bool) → List Command → Bool
 is_done stops [] = false
 is_done stops (command ∷ later) = stops (command ∷ []) || is_done (λ list. stops (command ∷ list)) later
 
--- The same by places: what is noted is a beginning of the commands. No shorter beginning but the empty one is a list at which
--- the test says done; and it ends at such a list, or with the last command
+-- The same by places: what is noted is a beginning of the commands. The test says done at none that is shorter, the empty one
+-- aside, and it does so at what is noted, or no command is left
 pub record IsNoted (stops : List Command → Bool) (commands noted : List Command) : Type 0 where
   pub rest : List Command
   pub begins : commands ≡ noted ++ rest

@@ -2,7 +2,8 @@
 use Rattle.std.specs.Prelude.{ℕ, List}
 use Rattle.std.specs.List.{sum_by}
 use Rattle.policy_types.specs.declared.command.Command.{Command}
-use Rattle.policy_types.specs.declared.command.Command.TheVariants.{Issue, Premium, Alter, Lapse, Reinstate, Claim, Settle, Mature}
+use Rattle.policy_types.specs.declared.command.Command.TheVariants.{Issue, Premium, Alter, Lapse}
+use Rattle.policy_types.specs.declared.command.Command.TheVariants.{Reinstate, Claim, Settle, Mature}
 
 -- a premium when it is due, and those that are made up to put a policy in force again
 abbrev pub paid_by : Command → ℕ

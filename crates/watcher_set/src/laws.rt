@@ -4,5 +4,6 @@ ghost use Rattle.watcher_set.specs.Noted.{noted_of, IsNoted};
 
 /// What an auditor notes are the commands up to and with the first at which it is done.
 pub fn noted_to_the_first_end()
-    ensures { (stops : List Command → Bool) (commands : List Command) → IsNoted stops commands (noted_of stops commands) }
+    ensures { (stops : List Command → Bool) (commands : List Command)
+        → IsNoted stops commands (noted_of stops commands) }
 {}

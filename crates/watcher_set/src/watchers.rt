@@ -38,7 +38,8 @@ impl Watchers {
 }
 
 impl Watching for Watchers {
-    ghost handed = { λ it. map (λ b. record { stops = (Watcher-box b).stops b.value; number = (Watcher-box b).number b.value })
+    ghost handed = { λ it. map
+        (λ b. record { stops = (Watcher-box b).stops b.value; number = (Watcher-box b).number b.value })
         it.handed.value.items };
 
     ghost told = { λ it commands. AreTold

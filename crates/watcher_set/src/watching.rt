@@ -30,7 +30,8 @@ pub trait Watching {
         requires valid { IsValid command.now }
         requires few { (commands : List ACommand) × told self.old commands × length commands < most_commands }
         ensures handed { handed self.new ≡ handed self.old }
-        ensures told { (commands : List ACommand) → told self.old commands → told self.new (commands ++ command.now ∷ []) };
+        ensures told { (commands : List ACommand) → told self.old commands
+            → told self.new (commands ++ command.now ∷ []) };
 
     /// The reports, in the order in which the auditors were handed in.
     fn finish(self) -> Reports

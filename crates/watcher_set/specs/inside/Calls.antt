@@ -31,7 +31,8 @@ module _ {B : Type 0} (g : Ghosts B) where
   -- it notes the command; where it is then done it leaves its report
   abbrev pub Hears : Command → Place B → Place B → Type 0
   Hears command (Listening old) (Listening new) =
-      (g.noted new ≡ g.noted old ++ command ∷ []) × (g.stops old (g.noted old ++ command ∷ []) ≡ false) × SameAuditor old new
+      (g.noted new ≡ g.noted old ++ command ∷ []) × (g.stops old (g.noted old ++ command ∷ []) ≡ false)
+      × SameAuditor old new
   Hears command (Listening old) (Reported report) =
       (g.stops old (g.noted old ++ command ∷ []) ≡ true) × (report ≡ report_by old (g.noted old ++ command ∷ []))
   Hears command (Reported old) (Reported new) = new ≡ old
