@@ -1,3 +1,4 @@
 pub mod Causes
+pub mod Lexing
 pub mod Tables
 pub mod Turns

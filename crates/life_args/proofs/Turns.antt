@@ -9,6 +9,7 @@ use Rattle.clap.specs.Kinds.{Kinds, or_else}
 use Rattle.clap.specs.declared.error.kind.ErrorKind.{ErrorKind}
 use Rattle.clap.specs.declared.error.kind.ErrorKind.TheVariants.{UnknownArgument, InvalidValue}
 use Rattle.clap.proofs.WalkLemmas.{bundle_ends}
+use Rattle.life_args.proofs.Lexing.{IsPlain}
 use Rattle.life_args.proofs.Causes.{or_else_nil, and_false}
 use Rattle.life_args.proofs.Tables.{Argument, named, placed, rule, rules, name_of, own, short_found}
 
@@ -21,12 +22,6 @@ leaf name all = record (new_shape name) {
   disable_help_subcommand = true;
   is_built = true;
 }
-
--- the word is read as a value where one may stand
-pub record IsPlain (word : Text) : Type 0 where
-  pub no_hyphens : bytes_eq word (45 ∷ 45 ∷ []) ≡ false
-  pub no_long : long_of word ≡ None
-  pub no_short : (short_of word ≡ None) ⊎ ((flags : Text) × (short_of word ≡ Some flags) × (slice_get (chars flags) 0 ≡ None))
 
 -- what is pending: nothing, an option that waits for its value, or a value
 abbrev pub Pending : Type 0
