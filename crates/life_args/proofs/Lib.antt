@@ -2,3 +2,4 @@ pub mod Causes
 pub mod Lexing
 pub mod Tables
 pub mod Turns
+pub mod Walks

@@ -13,7 +13,7 @@ pub data Piece : Type 0 where
 abbrev pub piece_words : Piece → List (List ℕ)
 piece_words (bare value) = value ∷ []
 piece_words (apart name value) = (codes "--" ++ name) ∷ value ∷ []
-piece_words (joined name value) = (codes "--" ++ name ++ codes "=" ++ value) ∷ []
+piece_words (joined name value) = (codes "--" ++ (name ++ (codes "=" ++ value))) ∷ []
 
 -- the words that the pieces spell
 abbrev pub spelled : List Piece → List (List ℕ)
