@@ -3,3 +3,4 @@ pub mod Lexing
 pub mod Tables
 pub mod Turns
 pub mod Walks
+pub mod Repeats

@@ -29,7 +29,7 @@ bare_values (joined name value ∷ pieces) = bare_values pieces
 
 -- the values that an option of one name gets here, where it has the other name
 abbrev pub value_under : List ℕ → List ℕ → List ℕ → List (List ℕ) → List (List ℕ)
-value_under name other value values = cond (bytes_eq name other) (value ∷ values) values
+value_under name other value values = cond (bytes_eq other name) (value ∷ values) values
 
 -- the values of the option of this name
 abbrev pub option_values : List ℕ → List Piece → List (List ℕ)
