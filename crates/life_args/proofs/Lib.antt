@@ -4,3 +4,4 @@ pub mod Tables
 pub mod Turns
 pub mod Walks
 pub mod Repeats
+pub mod Lines
