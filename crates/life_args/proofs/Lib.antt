@@ -5,3 +5,5 @@ pub mod Turns
 pub mod Walks
 pub mod Repeats
 pub mod Lines
+pub mod Texts
+pub mod Modes
