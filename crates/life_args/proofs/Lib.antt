@@ -7,3 +7,4 @@ pub mod Repeats
 pub mod Lines
 pub mod Texts
 pub mod Modes
+pub mod Once
