@@ -40,6 +40,10 @@ day_given o text bytes found r is same some exact answer =
     let here = subst (λ (x : Result ℤ WordsFault). Gives (IsDayIn (Some bytes)) x) (sym answer) (day_in bytes found some exact) in
     subst (λ (x : Option Text). Gives (IsDayIn x) r) given here
 
+pub day_is_day : (given : Option Text) (day : ℤ) → IsDayIn given day → IsDay day
+day_is_day None day said = absurd said
+day_is_day (Some value) day said = said.0
+
 -- ---- what is asked of a mode's words is asked of that mode
 
 run_only : (words : List Text) (mode : Mode) → AreWords (codes "run" ∷ words) mode → (basis : List ℕ) × IsRun words basis

@@ -10,3 +10,4 @@ pub mod Texts
 pub mod Modes
 pub mod Once
 pub mod Answering
+pub mod Hyphens
