@@ -1,6 +1,9 @@
 -- What each mode's reader answers
-use Rattle.std.proofs.Common.{◌≡◌, ◌≢◌, ◌∙◌, ℕ, ap, sym, refl, subst, List, [], ◌∷◌, Option, Some, None, Result, Ok, Err, IsErrAnd, IfSome, option_map, ok_or, codes, ℤ}
+use Rattle.std.proofs.Common.{◌≡◌, ◌≢◌, ◌≤◌, ◌∙◌, ℕ, arith, bytes_eq, drop, get_or, length, map, string_bytes, String, take, ◌-◌, ap₂, IfOk, IfErr, true, ap, sym, refl, subst, List, [], ◌∷◌, Option, Some, None, Result, Ok, Err, IsErrAnd, IfSome, option_map, ok_or, codes, ℤ}
 use Rattle.std.specs.Borrow.{Bor}
+use Rattle.std.specs.Global.{Global}
+use Rattle.std.proofs.lemmas.List.{take_all}
+use Rattle.std.proofs.lemmas.Slice.Eq.{bytes_eq-Decides}
 use Rattle.clap.specs.Words.{App, Text, fault_of, first_value, first_of, found_of, matches_of, rows_of}
 use Rattle.clap.specs.declared.parser.matches.ArgMatches.{ArgMatches}
 use Rattle.clap.proofs.WalkLemmas.{first_value-rows}
@@ -12,7 +15,7 @@ use Rattle.life_args.specs.declared.fault.WordsFault.TheVariants.{Usage, NoMemor
 use Rattle.life_args.specs.declared.mode.Mode.{Mode}
 use Rattle.life_args.specs.declared.mode.Mode.TheVariants.{Run, Value, State}
 use Rattle.life_args.specs.Values.{IsPositionOr, AreWorkersOr, IsBasisOr, IsPolicyOr}
-use Rattle.life_args.specs.Words.{AreWords, IsRun, IsValue, IsState}
+use Rattle.life_args.specs.Words.{AreWords, AskFor, AskForNothing, IsFaultOf, IsRun, IsValue, IsState}
 use Rattle.life_args.specs.inside.Commands.{Gives, HasHyphens, IsDayIn, Takes, run_app, value_app, state_app}
 use Rattle.life_args.proofs.Modes.{ValuesSay, differ, run_says, run_reads, value_says, value_reads, state_says, state_reads}
 use Rattle.life_args.proofs.Texts.{text_of_day, day_of_text}
@@ -43,6 +46,39 @@ day_given o text bytes found r is same some exact answer =
 pub day_is_day : (given : Option Text) (day : ℤ) → IsDayIn given day → IsDay day
 day_is_day None day said = absurd said
 day_is_day (Some value) day said = said.0
+
+-- no words of a mode are `--`
+hyphens_refused : (word : Text) (words : List Text) (mode : Mode) → AreWords (word ∷ words) mode → HasHyphens words → ⊥
+hyphens_refused word words (Run basis) are has = (run_reads words basis are.1).2 has
+hyphens_refused word words (Value on position workers basis) are has = (value_reads words on position workers basis are.1).2 has
+hyphens_refused word words (State id) are has = (state_reads words id are.1).2 has
+
+-- the words behind the first
+abbrev pub behind : List (String Global) → List (String Global)
+behind words = take (length words - 1) (drop 1 words)
+
+split_words : (words : List (String Global)) (first : String Global) → 1 ≤ length words → first ≡ get_or words 0 first → string_bytes first ∷ map string_bytes (behind words) ≡ map string_bytes words
+split_words [] first some is = absurd (omega arith)
+split_words (word ∷ words) first some is =
+    let all : take (length (word ∷ words) - 1) words ≡ words = take_all (length (word ∷ words) - 1) words (omega arith) in
+    ap₂ (λ (w : String Global) (ws : List (String Global)). string_bytes w ∷ map string_bytes ws) is all
+
+pub hyphens_ask_nothing : (words : List (String Global)) (first : String Global) → 1 ≤ length words → first ≡ get_or words 0 first → HasHyphens (map string_bytes (behind words)) → AskForNothing words
+hyphens_ask_nothing words first some is has mode asked =
+    hyphens_refused (string_bytes first) (map string_bytes (behind words)) mode (subst (λ (ws : List Text). AreWords ws mode) (sym (split_words words first some is)) asked) has
+
+-- the answer to the words behind a mode's name is that to the words
+pub answered : (words : List (String Global)) (first : String Global) (name : Text) (r : Result Mode WordsFault) → 1 ≤ length words → first ≡ get_or words 0 first
+    → bytes_eq (string_bytes first) name ≡ true → Gives (AreWords (name ∷ map string_bytes (behind words))) r → IfOk r (AskFor words) × IfErr r (IsFaultOf words)
+answered words first name r some is same given =
+    let all : name ∷ map string_bytes (behind words) ≡ map string_bytes words =
+    ap (λ (n : Text). n ∷ map string_bytes (behind words)) (sym ((bytes_eq-Decides (string_bytes first) name).0 same)) ∙ split_words words first some is in
+    go r (subst (λ (ws : List Text). Gives (AreWords ws) r) all given)
+  where
+    go : (x : Result Mode WordsFault) → Gives (AreWords (map string_bytes words)) x → IfOk x (AskFor words) × IfErr x (IsFaultOf words)
+    go (Ok mode) h = (h, tt)
+    go (Err Usage) h = (tt, h)
+    go (Err NoMemory) h = (tt, tt)
 
 -- ---- what is asked of a mode's words is asked of that mode
 
@@ -83,7 +119,7 @@ untaken app words NoMemory takes is = cc
 
 module _ (app : App) (words : List Text) (is : app ≡ run_app) where
   run_taken : (basis : List ℕ) → IsRun words basis → (fault_of app words ≡ []) × IsBasisOr (first_of (codes "basis") (matches_of app words)) basis
-  run_taken basis asked = subst (λ (a : App). (fault_of a words ≡ []) × IsBasisOr (first_of (codes "basis") (matches_of a words)) basis) (sym is) (run_reads words basis asked)
+  run_taken basis asked = subst (λ (a : App). (fault_of a words ≡ []) × IsBasisOr (first_of (codes "basis") (matches_of a words)) basis) (sym is) (let read = run_reads words basis asked in (read.0, read.1))
 
   pub run_untaken : (fault : WordsFault) → Takes app words (Err fault) → Gives (AreWords (codes "run" ∷ words)) (Err fault)
   run_untaken fault takes = refused (AreWords (codes "run" ∷ words)) fault (λ usage mode are. let asked = run_only words mode are in untaken app words fault takes usage (run_taken asked.0 asked.1).0)
@@ -105,7 +141,7 @@ module _ (app : App) (words : List Text) (is : app ≡ run_app) where
 
 module _ (app : App) (words : List Text) (is : app ≡ state_app) where
   state_taken : (id : Option ℕ) → IsState words id → (fault_of app words ≡ []) × IsPolicyOr (first_of (codes "id") (matches_of app words)) id
-  state_taken id asked = subst (λ (a : App). (fault_of a words ≡ []) × IsPolicyOr (first_of (codes "id") (matches_of a words)) id) (sym is) (state_reads words id asked)
+  state_taken id asked = subst (λ (a : App). (fault_of a words ≡ []) × IsPolicyOr (first_of (codes "id") (matches_of a words)) id) (sym is) (let read = state_reads words id asked in (read.0, read.1))
 
   pub state_untaken : (fault : WordsFault) → Takes app words (Err fault) → Gives (AreWords (codes "state" ∷ words)) (Err fault)
   state_untaken fault takes = refused (AreWords (codes "state" ∷ words)) fault (λ usage mode are. let asked = state_only words mode are in untaken app words fault takes usage (state_taken asked.0 asked.1).0)
@@ -128,7 +164,7 @@ module _ (app : App) (words : List Text) (is : app ≡ state_app) where
 module _ (app : App) (words : List Text) (is : app ≡ value_app) where
   value_taken : (on : ℤ) (position : At) (workers : ℕ) (basis : List ℕ) → IsValue words on position workers basis → (fault_of app words ≡ []) × ValuesSay (matches_of app words) on position workers basis
   value_taken on position workers basis asked =
-      subst (λ (a : App). (fault_of a words ≡ []) × ValuesSay (matches_of a words) on position workers basis) (sym is) (value_reads words on position workers basis asked)
+      subst (λ (a : App). (fault_of a words ≡ []) × ValuesSay (matches_of a words) on position workers basis) (sym is) (let read = value_reads words on position workers basis asked in (read.0, read.1))
 
   pub value_untaken : (fault : WordsFault) → Takes app words (Err fault) → Gives (AreWords (codes "value" ∷ words)) (Err fault)
   value_untaken fault takes = refused (AreWords (codes "value" ∷ words)) fault (λ usage mode are.
