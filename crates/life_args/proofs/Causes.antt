@@ -1,5 +1,5 @@
 -- Lists of kinds of error, one after the other
-use Rattle.std.proofs.Common.{◌≡◌, ◌≢◌, Bool, true, false, ◌&&◌, List, [], ◌∷◌, refl}
+use Rattle.std.proofs.Common.{◌≡◌, Bool, true, false, ◌&&◌, [], ◌∷◌, refl}
 use Rattle.clap.specs.Kinds.{Kinds, or_else}
 
 pub or_else_nil : (a : Kinds) → or_else a [] ≡ a

@@ -1,5 +1,5 @@
 -- Whether a word is `--`, word by word
-use Rattle.std.proofs.Common.{◌≡◌, ◌∙◌, ◌+◌, ◌<◌, ◌≤◌, ◌↔◌, ℕ, zero, suc, Bool, true, false, List, [], ◌∷◌, length, get_or, drop, map, add-one, sym, subst, arith, inl, inr, bytes_eq, codes, string_bytes, String, true≢false}
+use Rattle.std.proofs.Common.{◌≡◌, ◌∙◌, ◌+◌, ◌<◌, ◌≤◌, ◌↔◌, ℕ, zero, suc, true, false, List, [], ◌∷◌, length, get_or, drop, map, sym, subst, arith, inl, inr, bytes_eq, codes, string_bytes, String, true≢false}
 use Rattle.std.specs.Global.{Global}
 use Rattle.std.proofs.lemmas.Slice.Eq.{bytes_eq-Decides}
 use Rattle.life_args.specs.inside.Commands.{HasHyphens}
@@ -14,10 +14,13 @@ hyphens_here (w ∷ words) (suc i) word lt is e = hyphens_here words i word (ome
 
 hyphens_next : (words : List (String Global)) (i : ℕ) (word : String Global) → i < length words → word ≡ get_or words i word → bytes_eq (string_bytes word) (codes "--") ≡ false → Later words i ↔ Later words (suc i)
 hyphens_next [] i word lt is e = absurd (omega arith)
-hyphens_next (w ∷ words) zero word lt is e = (λ h. elim h [
-  | inl here ↦ absurd (true≢false (sym ((bytes_eq-Decides (string_bytes word) (codes "--")).1 (subst (λ (x : String Global). string_bytes x ≡ codes "--") (sym is) here)) ∙ e))
-  | inr later ↦ later
-], λ later. inr later)
+hyphens_next (w ∷ words) zero word lt is e = (
+  λ h. elim h [
+    | inl here ↦ absurd (true≢false (sym ((bytes_eq-Decides (string_bytes word) (codes "--")).1 (subst (λ (x : String Global). string_bytes x ≡ codes "--") (sym is) here)) ∙ e))
+    | inr later ↦ later
+  ],
+  λ later. inr later,
+)
 hyphens_next (w ∷ words) (suc i) word lt is e = hyphens_next words i word (omega arith) is e
 
 pub hyphens_later : (words : List (String Global)) (i : ℕ) (word : String Global) → i < length words → word ≡ get_or words i word → bytes_eq (string_bytes word) (codes "--") ≡ false

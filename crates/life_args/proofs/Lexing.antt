@@ -1,9 +1,7 @@
 -- What a word looks like
-use Rattle.std.proofs.Common.{◌≡◌, ◌≢◌, ◌⊎◌, ◌+◌, ◌==◌, ◌||◌, ◌<◌, ◌≤◌, ℕ, zero, suc, Bool, true, false, cond, List, [], ◌∷◌, ◌++◌, length, get_or, Option, Some, None, option_and_then, refl, sym, ap, ◌∙◌, subst, arith, inl, inr, bytes_eq, slice_get, chars, true≢false}
-use Rattle.std.specs.List.{list_any}
+use Rattle.std.proofs.Common.{◌≡◌, ◌≢◌, ◌⊎◌, ◌==◌, ◌||◌, ◌<◌, ℕ, zero, suc, Bool, true, false, List, [], ◌∷◌, ◌++◌, length, Option, Some, None, refl, sym, ap, ◌∙◌, subst, arith, inl, inr, bytes_eq, slice_get, chars, true≢false}
 use Rattle.std.proofs.lemmas.Bool.Decides.{nat_tests}
-use Rattle.std.proofs.lemmas.Grind.{common_steps}
-use Rattle.clap.specs.Lexer.{has_byte, long_of, long_of_rest, name_and_value, short_of, short_of_rest, strip_byte}
+use Rattle.clap.specs.Lexer.{has_byte, long_of, name_and_value, short_of}
 use Rattle.clap.specs.Walk.{Text}
 use Rattle.clap.proofs.CutLemmas.{Lacks}
 use Rattle.clap.proofs.LexerLemmas.{name_and_value-at, name_and_value-without}

@@ -1,21 +1,21 @@
 -- What a command without subcommands makes of words, by their pieces
-use Rattle.std.proofs.Common.{◌≡◌, ◌≢◌, ◌⊎◌, ◌+◌, ◌<◌, ◌≤◌, ◌&&◌, ◌||◌, ℕ, zero, suc, Bool, true, false, cond, not, fold, List, [], ◌∷◌, ◌++◌, length, map, Option, Some, None, is_some, option_and_then, slice_get, refl, sym, ap, ap₂, ◌∙◌, subst, arith, inl, inr, bytes_eq, true≢false}
+use Rattle.std.proofs.Common.{◌≡◌, ◌⊎◌, ◌≤◌, ◌&&◌, ◌||◌, Bool, true, false, cond, not, fold, List, [], ◌∷◌, length, Option, Some, None, is_some, refl, sym, ap, ap₂, ◌∙◌, subst, arith, inl, inr, bytes_eq, true≢false}
 use Rattle.std.specs.Prelude.{⊤}
 use Rattle.std.specs.List.{list_any}
 use Rattle.std.proofs.lemmas.Slice.Eq.{bytes_eq-Decides}
-use Rattle.clap.specs.Walk.{Row, Rule, Text, Walk, Held, idle, walked, settled, finished, with_default, has_row, is_empty, rows_after, first_of, nothing_held, walk_from}
-use Rattle.clap.specs.Simple.{App, Shape, entered}
+use Rattle.clap.specs.Walk.{Row, Rule, Text, Walk, idle, walked, settled, finished, with_default, has_row, rows_after, nothing_held}
+use Rattle.clap.specs.Simple.{App, entered}
 use Rattle.clap.specs.Takes.{is_given}
 use Rattle.clap.specs.Kinds.{Kinds, or_else, check_kinds}
 use Rattle.clap.specs.Faults.{built_fault, walk_fault, settle_fault, defaults_fault, default_fault, given_default_fault, check_fault, entered_fault}
-use Rattle.life_args.specs.Pieces.{Piece, bare, apart, joined, spelled, bare_values, option_values, value_under, IsAmong, HasOnly, AtMostOne}
+use Rattle.life_args.specs.Pieces.{Piece, bare, apart, joined, spelled, bare_values, option_values, value_under, IsAmong, HasOnly}
 use Rattle.life_args.specs.inside.Commands.{HasHyphens}
 use Rattle.life_args.proofs.Causes.{none_first, none_second}
 use Rattle.life_args.proofs.Lexing.{IsPlain}
 use Rattle.life_args.proofs.Tables.{Argument, named, placed, rule, rules, options, own}
 use Rattle.life_args.proofs.Turns.{held, leaf, stand}
-use Rattle.life_args.proofs.Walks.{Use, puts, repeats, uses, ArePlain, AreOptionNames, HasPlaces, Walks, walks, Spells, pieces_of, no_hyphens_in, ends, owed, now}
-use Rattle.life_args.proofs.Repeats.{found, values_for, IsFound, found_after, AreOnce, none_repeated, option_uses, no_option, place_uses}
+use Rattle.life_args.proofs.Walks.{Use, puts, repeats, uses, ArePlain, AreOptionNames, HasPlaces, Walks, walks, pieces_of, no_hyphens_in}
+use Rattle.life_args.proofs.Repeats.{found, values_for, IsFound, found_after, AreOnce, none_repeated, option_uses, no_option, place_uses, place_once, AreApart}
 
 -- ---- no argument has a default
 
@@ -63,9 +63,10 @@ plain_own name value values each = (subst (λ (b : Bool). EachPlain (cond b (val
 pub are_plain : (all : List Text) (pieces : List Piece) → HasOnly all pieces → EachPlain (bare_values pieces) → ((name : Text) → IsAmong all name → EachPlain (option_values name pieces)) → ArePlain pieces
 are_plain all [] only alone each = tt
 are_plain all (bare value ∷ pieces) only alone each = (alone.0, are_plain all pieces only alone.1 each)
-are_plain all (apart one value ∷ pieces) only alone each =
-    (plain_own one value (option_values one pieces) (each one only.0),
-    are_plain all pieces only.1 alone (λ name among. plain_under name one value (option_values name pieces) (each name among)))
+are_plain all (apart one value ∷ pieces) only alone each = (
+  plain_own one value (option_values one pieces) (each one only.0),
+  are_plain all pieces only.1 alone (λ name among. plain_under name one value (option_values name pieces) (each name among)),
+)
 are_plain all (joined one value ∷ pieces) only alone each =
     are_plain all pieces only.1 alone (λ name among. plain_under name one value (option_values name pieces) (each name among))
 
@@ -89,37 +90,22 @@ options_once all pieces only once name = elim (among_or_out all name) [
   | inr out ↦ let none : length (option_values name pieces) ≡ 0 = ap length (no_option all name pieces only out) in omega arith
 ]
 
--- the places: none, or one
-abbrev pub places : Option Text → List Text
-places None = []
-places (Some name) = name ∷ []
+-- no place has an option's name
+abbrev pub AreOthers : List Text → List Text → Type 0
+AreOthers all [] = ⊤
+AreOthers all (name ∷ left) = (IsAmong all name → ⊥) × AreOthers all left
 
-abbrev pub IsOther : List Text → Option Text → Type 0
-IsOther all None = ⊤
-IsOther all (Some name) = IsAmong all name → ⊥
+other_names : (all left : List Text) (name : Text) → AreOthers all left → IsAmong left name → IsAmong all name → ⊥
+other_names all [] name others among = absurd among
+other_names all (one ∷ left) name others (inl is) = λ h. others.0 (subst (IsAmong all) is h)
+other_names all (one ∷ left) name others (inr more) = other_names all left name others.1 more
 
-uses_once : (all : List Text) (place : Option Text) (pieces : List Piece) → IsOther all place → HasOnly all pieces → length (bare_values pieces) ≤ length (places place)
-    → ((name : Text) → IsAmong all name → length (option_values name pieces) ≤ 1) → (name : Text) → length (values_for name (uses (places place) pieces)) ≤ 1
-uses_once all None pieces other only few once name =
-    let h = options_once all pieces only once name in
-    let e : length (values_for name (uses [] pieces)) ≡ length (option_values name pieces) = ap length (option_uses name [] pieces (λ among. among)) in
-    omega arith
-uses_once all (Some one) pieces other only few once name = go (bytes_eq name one) refl
-  where
-    go : (b : Bool) → bytes_eq name one ≡ b → length (values_for name (uses (one ∷ []) pieces)) ≤ 1
-    go true e =
-        let same : name ≡ one = (bytes_eq-Decides name one).0 e in
-        let is : length (values_for one (uses (one ∷ []) pieces)) ≡ length (bare_values pieces) = ap length (place_uses all one pieces only other few) in
-        let h : length (values_for one (uses (one ∷ []) pieces)) ≤ 1 = omega arith in
-        subst (λ (n : Text). length (values_for n (uses (one ∷ []) pieces)) ≤ 1) (sym same) h
-    go false e =
-        let h = options_once all pieces only once name in
-        let is : length (values_for name (uses (one ∷ []) pieces)) ≡ length (option_values name pieces) =
-        ap length (option_uses name (one ∷ []) pieces (λ among. elim among [
-          | inl same ↦ true≢false (sym ((bytes_eq-Decides name one).1 same) ∙ e)
-          | inr more ↦ more
-        ])) in
-        omega arith
+uses_once : (all left : List Text) (pieces : List Piece) → AreOthers all left → AreApart left → HasOnly all pieces
+    → ((name : Text) → IsAmong all name → length (option_values name pieces) ≤ 1) → (name : Text) → length (values_for name (uses left pieces)) ≤ 1
+uses_once all left pieces others apart_all only once name = elim (among_or_out left name) [
+  | inl among ↦ subst (λ vs. length vs ≤ 1) (sym (place_uses all name left pieces only (other_names all left name others among))) (place_once name left (bare_values pieces) apart_all)
+  | inr out ↦ subst (λ vs. length vs ≤ 1) (sym (option_uses name left pieces out)) (options_once all pieces only once name)
+]
 
 -- ---- the whole
 
@@ -136,10 +122,7 @@ leaf_rows table words = rows_after (rules table) [] words
 abbrev pub FindsAll : List Use → List Row → Type 0
 FindsAll us rows = (name : Text) → IsFound (values_for name us) (found name rows)
 
-module _ (name : Text) (table : List Argument) (good : AreOptionNames (options table)) (place : Option Text) (at_places : HasPlaces table 1 (places place)) (other : IsOther (options table) place) where
-  abbrev left : List Text
-  left = places place
-
+module _ (name : Text) (table : List Argument) (good : AreOptionNames (options table)) (left : List Text) (at_places : HasPlaces table 1 left) (others : AreOthers (options table) left) (apart_all : AreApart left) where
   abbrev start : Walk
   start = stand [] None idle 1
 
@@ -202,7 +185,7 @@ module _ (name : Text) (table : List Argument) (good : AreOptionNames (options t
       let are = are_plain (options table) pieces only alone each in
       let w = walks name table good pieces [] None 1 left at_places only are few in
       let first : AreOnce (uses left pieces) [] = record {
-        once = uses_once (options table) place pieces other only few once;
+        once = uses_once (options table) left pieces others apart_all only once;
         fresh = λ one x some. nothing_found one x some;
       } in
       let none = none_repeated (uses left pieces) [] first in

@@ -1,5 +1,5 @@
 -- Words ask for one mode at most
-use Rattle.std.proofs.Common.{◌≡◌, ℕ, ◌<◌, ◌≤◌, ◌^◌, cond, Bool, true, false, List, [], ◌∷◌, Option, Some, None, refl, sym, ap, ◌∙◌, subst, arith, lit≤, ℤ, codes, decimal, map, string_bytes, String}
+use Rattle.std.proofs.Common.{◌≡◌, ℕ, ◌≤◌, cond, Bool, true, false, List, [], ◌∷◌, Option, Some, None, refl, sym, ap, ◌∙◌, subst, arith, lit≤, ℤ, codes, map, string_bytes, String}
 use Rattle.std.specs.Prelude.{◌==◌, ◌||◌}
 use Rattle.std.specs.Global.{Global}
 use Rattle.std.proofs.lemmas.Fmt.{decimal_injective}
@@ -8,7 +8,7 @@ use Rattle.clap.specs.Simple.{matches_of}
 use Rattle.policy_types.specs.declared.entry.At.{At}
 use Rattle.policy_types.specs.declared.entry.At.TheVariants.{Now, Position}
 use Rattle.life_dates.specs.Calendar.{IsDay, days_in_month, is_leap_year, day_number}
-use Rattle.life_dates.specs.DayText.{day_text, IsDayText}
+use Rattle.life_dates.specs.DayText.{day_text}
 use Rattle.life_dates.proofs.TextLemmas.{read_exact}
 use Rattle.life_args.specs.declared.mode.Mode.{Mode}
 use Rattle.life_args.specs.declared.mode.Mode.TheVariants.{Run, Value, State}
@@ -16,7 +16,7 @@ use Rattle.life_args.specs.Values.{IsPositionOr, AreWorkersOr, IsBasisOr, IsPoli
 use Rattle.life_args.specs.Words.{AreWords, AskFor}
 use Rattle.life_args.specs.inside.Commands.{IsDayIn, run_app, value_app, state_app}
 use Rattle.life_args.proofs.Texts.{text_of_day}
-use Rattle.life_args.proofs.Modes.{differ, ValuesSay, run_reads, value_reads, state_reads}
+use Rattle.life_args.proofs.Modes.{differ, run_reads, value_reads, state_reads}
 
 -- ---- a day's text is of one day
 

@@ -1,9 +1,9 @@
 -- What is found after uses of arguments, of which none is repeated
-use Rattle.std.proofs.Common.{◌≡◌, ◌≢◌, ◌⊎◌, ◌+◌, ◌<◌, ◌≤◌, ◌&&◌, ◌||◌, ℕ, zero, suc, Bool, true, false, cond, not, find, List, [], ◌∷◌, ◌++◌, length, map, Option, Some, None, is_some, refl, sym, ap, ap₂, ◌∙◌, subst, arith, inl, inr, bytes_eq, true≢false}
+use Rattle.std.proofs.Common.{◌≡◌, ◌⊎◌, ◌≤◌, ◌&&◌, Bool, true, false, cond, find, List, [], ◌∷◌, ◌++◌, length, Option, Some, None, is_some, refl, sym, ap, ap₂, ◌∙◌, subst, arith, inl, inr, bytes_eq}
 use Rattle.std.specs.Prelude.{⊤}
 use Rattle.std.proofs.lemmas.List.{append-nil}
 use Rattle.std.proofs.lemmas.Slice.Eq.{bytes_eq-Decides}
-use Rattle.clap.specs.Walk.{Row, Text, at_row, more_values, has_row, with_values, without}
+use Rattle.clap.specs.Walk.{Row, Text, at_row, more_values, has_row, with_values}
 use Rattle.clap.specs.Kinds.{Kinds, or_else}
 use Rattle.clap.specs.declared.error.kind.ErrorKind.TheVariants.{ArgumentConflict}
 use Rattle.clap.specs.declared.builder.value_parser.Reading.TheVariants.{AsWritten}
@@ -223,15 +223,42 @@ no_option all name (apart one value ∷ pieces) only out =
 no_option all name (joined one value ∷ pieces) only out =
     passed name one value (option_values name pieces) (λ is. out (subst (IsAmong all) is only.0)) ∙ no_option all name pieces only.1 out
 
--- those of the only place
-pub place_uses : (all : List Text) (name : Text) (pieces : List Piece) → HasOnly all pieces → (IsAmong all name → ⊥) → length (bare_values pieces) ≤ 1
-    → values_for name (uses (name ∷ []) pieces) ≡ bare_values pieces
-place_uses all name [] only out few = refl
-place_uses all name (bare value ∷ pieces) only out few =
-    let none : bare_values pieces ≡ [] = empty (bare_values pieces) (omega arith) in
-    ap (λ (b : Bool). cond b (value ∷ values_for name (uses [] pieces)) (values_for name (uses [] pieces))) (own name)
-    ∙ ap (λ vs. value ∷ vs) (option_uses name [] pieces (λ among. among) ∙ no_option all name pieces only out ∙ sym none)
-place_uses all name (apart one value ∷ pieces) only out few =
-    passed name one value (values_for name (uses (name ∷ []) pieces)) (λ is. out (subst (IsAmong all) is only.0)) ∙ place_uses all name pieces only.1 out few
-place_uses all name (joined one value ∷ pieces) only out few =
-    passed name one value (values_for name (uses (name ∷ []) pieces)) (λ is. out (subst (IsAmong all) is only.0)) ∙ place_uses all name pieces only.1 out few
+-- each place with its value
+abbrev pub pairs : List Text → List Text → List Use
+pairs [] values = []
+pairs (name ∷ left) [] = []
+pairs (name ∷ left) (value ∷ values) = (name, value) ∷ pairs left values
+
+-- those of a place
+pub place_uses : (all : List Text) (name : Text) (left : List Text) (pieces : List Piece) → HasOnly all pieces → (IsAmong all name → ⊥)
+    → values_for name (uses left pieces) ≡ values_for name (pairs left (bare_values pieces))
+place_uses all name [] pieces only out = option_uses name [] pieces (λ among. among) ∙ no_option all name pieces only out
+place_uses all name (one ∷ left) [] only out = refl
+place_uses all name (one ∷ left) (bare value ∷ pieces) only out = ap (value_under name one value) (place_uses all name left pieces only out)
+place_uses all name (one ∷ left) (apart other value ∷ pieces) only out =
+    passed name other value (values_for name (uses (one ∷ left) pieces)) (λ is. out (subst (IsAmong all) is only.0)) ∙ place_uses all name (one ∷ left) pieces only.1 out
+place_uses all name (one ∷ left) (joined other value ∷ pieces) only out =
+    passed name other value (values_for name (uses (one ∷ left) pieces)) (λ is. out (subst (IsAmong all) is only.0)) ∙ place_uses all name (one ∷ left) pieces only.1 out
+
+-- no two places have one name
+abbrev pub AreApart : List Text → Type 0
+AreApart [] = ⊤
+AreApart (name ∷ left) = (IsAmong left name → ⊥) × AreApart left
+
+no_place : (name : Text) (left values : List Text) → (IsAmong left name → ⊥) → values_for name (pairs left values) ≡ []
+no_place name [] values out = refl
+no_place name (one ∷ left) [] out = refl
+no_place name (one ∷ left) (value ∷ values) out =
+    passed name one value (values_for name (pairs left values)) (λ is. out (inl (sym is))) ∙ no_place name left values (λ more. out (inr more))
+
+pub place_once : (name : Text) (left values : List Text) → AreApart left → length (values_for name (pairs left values)) ≤ 1
+place_once name [] values apart_all = omega arith
+place_once name (one ∷ left) [] apart_all = omega arith
+place_once name (one ∷ left) (value ∷ values) apart_all = go (bytes_eq one name) refl (place_once name left values apart_all.1)
+  where
+    go : (b : Bool) → bytes_eq one name ≡ b → length (values_for name (pairs left values)) ≤ 1 → length (values_for name (pairs (one ∷ left) (value ∷ values))) ≤ 1
+    go true e rest =
+        let same : one ≡ name = (bytes_eq-Decides one name).0 e in
+        let none : values_for name (pairs left values) ≡ [] = no_place name left values (λ among. apart_all.0 (subst (IsAmong left) (sym same) among)) in
+        rw (e, none) (omega arith)
+    go false e rest = rw e rest

@@ -1,10 +1,10 @@
 -- A command's arguments as a table: values that stand alone at their places, and options
-use Rattle.std.proofs.Common.{◌≡◌, ◌⊎◌, ◌+◌, ◌==◌, ℕ, Bool, true, false, cond, List, [], ◌∷◌, map, Option, Some, None, refl, sym, ap, ◌∙◌, inl, inr, find, bytes_eq, true≢false, is_some, not, ◌&&◌}
+use Rattle.std.proofs.Common.{◌≡◌, ◌⊎◌, ℕ, Bool, true, false, List, [], ◌∷◌, map, Some, None, refl, sym, ap, ◌∙◌, inl, inr, bytes_eq, true≢false}
 use Rattle.std.proofs.lemmas.Slice.Eq.{bytes_eq-Decides}
-use Rattle.clap.specs.Walk.{Row, Rule, Text, arg_by_id, arg_by_index, arg_by_long, arg_by_short, has_row, used, with_values, without}
+use Rattle.clap.specs.Walk.{Row, Rule, Text, arg_by_id, arg_by_long, arg_by_short, used, with_values, without}
 use Rattle.clap.specs.Simple.{filled, with_index}
 use Rattle.clap.specs.Faults.{repeat_fault, use_fault}
-use Rattle.clap.specs.Kinds.{Kinds, or_else}
+use Rattle.clap.specs.Kinds.{Kinds}
 use Rattle.clap.specs.declared.builder.value_parser.Reading.TheVariants.{AsWritten}
 use Rattle.clap.specs.declared.parser.matches.ValueSource.TheVariants.{CommandLine}
 use Rattle.life_args.specs.Pieces.{IsAmong}
@@ -78,10 +78,13 @@ long_found (named other ∷ rest) name = go (bytes_eq other name) refl (long_fou
         let is = same other name e in
         inl (rw e (ap (λ (n : Text). Some (rule (named n))) is), inl (sym is))
     go false e (inl h) = inl (rw e h.0, inr h.1)
-    go false e (inr h) = inr (rw e h.0, λ among. elim among [
-      | inl is ↦ true≢false (sym (own other) ∙ ap (bytes_eq other) (sym is) ∙ e)
-      | inr more ↦ h.1 more
-    ])
+    go false e (inr h) = inr (
+      rw e h.0,
+      λ among. elim among [
+        | inl is ↦ true≢false (sym (own other) ∙ ap (bytes_eq other) (sym is) ∙ e)
+        | inr more ↦ h.1 more
+      ],
+    )
 
 pub short_found : (table : List Argument) (x : ℕ) → arg_by_short (rules table) x ≡ None
 short_found [] x = refl

@@ -1,5 +1,5 @@
 -- Values as texts
-use Rattle.std.proofs.Common.{◌≡◌, ◌≢◌, ◌⊎◌, ◌+◌, ◌==◌, ◌<◌, ◌≤◌, ◌^◌, ◌/◌, ℕ, zero, suc, Bool, true, false, List, [], ◌∷◌, ◌++◌, length, get_or, Option, Some, None, option_and_then, slice_get, refl, sym, ap, ◌∙◌, subst, arith, inl, inr, decimal, eq-zero-or-pos, ℤ}
+use Rattle.std.proofs.Common.{◌≡◌, ◌≢◌, ◌+◌, ◌==◌, ◌<◌, ◌≤◌, ◌^◌, ℕ, false, List, [], ◌∷◌, length, get_or, Option, Some, option_and_then, slice_get, sym, ap, subst, arith, inl, inr, decimal, eq-zero-or-pos, ℤ}
 use Rattle.std.proofs.lemmas.Bool.Decides.{nat_tests}
 use Rattle.std.proofs.lemmas.Fmt.{decimal_digit, decimal_nonempty, first_decimal}
 use Rattle.clap.specs.Walk.{Row, Text}
@@ -10,7 +10,7 @@ use Rattle.life_dates.proofs.TextLemmas.{IsDayText-day_text, day_text-only}
 use Rattle.basis_book.specs.Name.{IsName}
 use Rattle.life_args.specs.Pieces.{AtMostOne}
 use Rattle.life_args.proofs.Lexing.{IsPlain, no_hyphen}
-use Rattle.life_args.proofs.Repeats.{IsFound, row}
+use Rattle.life_args.proofs.Repeats.{IsFound}
 use Rattle.life_args.proofs.Lines.{EachPlain}
 
 -- a text that begins with another byte than a hyphen

@@ -1,8 +1,8 @@
 -- One word of clap's walk
-use Rattle.std.proofs.Common.{◌≡◌, ◌⊎◌, ◌+◌, ◌==◌, ◌≤◌, ◌<◌, min, ℕ, zero, suc, Bool, true, false, cond, List, [], ◌∷◌, ◌++◌, length, drop, map, Option, Some, None, refl, sym, ap, ap₂, ◌∙◌, subst, arith, inl, inr, bytes_eq, slice_get, chars, codes, encode_utf8, nat_lt}
+use Rattle.std.proofs.Common.{◌≡◌, ◌+◌, ◌<◌, min, ℕ, zero, suc, Bool, true, false, cond, List, [], ◌∷◌, length, drop, Option, Some, None, refl, sym, ap, ap₂, ◌∙◌, arith, inl, inr, bytes_eq, slice_get, chars, encode_utf8, nat_lt}
 use Rattle.std.specs.Option.{option_map_or}
 use Rattle.clap.specs.Lexer.{long_of, short_of, usize_max}
-use Rattle.clap.specs.Walk.{Held, Names, Row, Rule, Step, Text, Waiting, Walk, idle, option, positional, next, trailing, value, plain, subcommand_met, settled, settled_rows, used_by_id, used, walked, arg_by_id, arg_by_index, arg_by_long, arg_by_short, is_pending, word_met, plain_word, option_word, pushed, after_step, after_flag, to_positional, subcommand_or_other, long_or_other, long_word, short_or_plain, long_met, bundle, Outcome}
+use Rattle.clap.specs.Walk.{Held, Row, Rule, Step, Text, Waiting, Walk, idle, option, positional, next, trailing, plain, subcommand_met, settled, settled_rows, used, walked, arg_by_id, arg_by_index, arg_by_long, arg_by_short, is_pending, word_met, plain_word, option_word, pushed, after_step, after_flag, to_positional, subcommand_or_other, long_or_other, long_word, short_or_plain, long_met, Outcome}
 use Rattle.clap.specs.Simple.{Shape, new_shape}
 use Rattle.clap.specs.Faults.{settle_fault, turn_fault, use_fault, flags_fault, word_fault, other_fault, step_fault, stray_fault, positional_fault, flag_word_fault, bundle_fault, bundle_step_fault, long_fault, short_fault}
 use Rattle.clap.specs.Kinds.{Kinds, or_else}
@@ -169,10 +169,13 @@ module _ (name : Text) (table : List Argument) where
   pub short_turn : (rows : List Row) (pending : Pending) (waiting : Waiting) (p : ℕ) (word flags : Text) (x : ℕ)
       → bytes_eq word (45 ∷ 45 ∷ []) ≡ false → long_of word ≡ None → short_of word ≡ Some flags → 0 < length flags → slice_get (chars flags) 0 ≡ Some x
       → (k : ErrorKind) × (ks : Kinds) × (turn_fault s [] (stand rows pending waiting p) word ≡ k ∷ ks)
-  short_turn rows pending waiting p word flags x no_hyphens no_long is some first =
-      (UnknownArgument, [], turn_is rows pending waiting p word _ _ refl
-      (fault_of_word waiting word (held rows pending) no_hyphens ∙ ap (λ o. flag_word_fault c false o word (held rows pending)) no_long
-      ∙ ap (λ o. option_map_or (λ f. bundle_fault c false f (held rows pending)) o []) is ∙ bundled (length flags) some))
+  short_turn rows pending waiting p word flags x no_hyphens no_long is some first = (
+    UnknownArgument,
+    [],
+    turn_is rows pending waiting p word _ _ refl
+        (fault_of_word waiting word (held rows pending) no_hyphens ∙ ap (λ o. flag_word_fault c false o word (held rows pending)) no_long
+        ∙ ap (λ o. option_map_or (λ f. bundle_fault c false f (held rows pending)) o []) is ∙ bundled (length flags) some),
+  )
     where
       bundled : (n : ℕ) → 0 < n → flags_fault c false n flags 0 (held rows pending) ≡ UnknownArgument ∷ []
       bundled zero h = absurd (omega arith)
@@ -243,9 +246,12 @@ module _ (name : Text) (table : List Argument) where
   pub wanting_turn : (rows : List Row) (p : ℕ) (word other name_of_word : Text) (given : Option Text) (a : Argument) → bytes_eq word (45 ∷ 45 ∷ []) ≡ false
       → long_of word ≡ Some (name_of_word, given) → arg_by_long c name_of_word ≡ Some (rule (named name_of_word)) → arg_by_id c other ≡ Some (rule a)
       → (k : ErrorKind) × (ks : Kinds) × (turn_fault s [] (stand rows (Some (other, [])) (option other) p) word ≡ k ∷ ks)
-  wanting_turn rows p word other here given a no_hyphens is found known =
-      (InvalidValue, [], turn_is rows (Some (other, [])) (option other) p word _ _ refl
-      (long_faults (option other) word here given rows (Some (other, [])) no_hyphens is ∙ ap (λ o. long_fault c false o given (held rows (Some (other, [])))) found ∙ stops given))
+  wanting_turn rows p word other here given a no_hyphens is found known = (
+    InvalidValue,
+    [],
+    turn_is rows (Some (other, [])) (option other) p word _ _ refl
+        (long_faults (option other) word here given rows (Some (other, [])) no_hyphens is ∙ ap (λ o. long_fault c false o given (held rows (Some (other, [])))) found ∙ stops given),
+  )
     where
       stops : (o : Option Text) → long_fault c false (Some (rule (named here))) o (held rows (Some (other, []))) ≡ InvalidValue ∷ []
       stops None = unfilled rows other a known

@@ -1,9 +1,9 @@
 -- clap's walk over the words that pieces spell, and the pieces of the words that it takes
-use Rattle.std.proofs.Common.{◌≡◌, ◌≢◌, ◌⊎◌, ◌+◌, ◌<◌, ◌≤◌, ℕ, zero, suc, Bool, true, false, fold, List, [], ◌∷◌, ◌++◌, length, map, Option, Some, None, refl, sym, ap, ap₂, ◌∙◌, subst, arith, inl, inr, bytes_eq, codes, true≢false}
+use Rattle.std.proofs.Common.{◌≡◌, ◌≢◌, ◌⊎◌, ◌+◌, ◌<◌, ◌≤◌, ℕ, false, fold, List, [], ◌∷◌, ◌++◌, length, Option, Some, None, refl, sym, ap, ap₂, ◌∙◌, subst, arith, inl, inr, bytes_eq, true≢false}
 use Rattle.std.proofs.lemmas.Slice.Eq.{bytes_eq-Decides}
 use Rattle.std.specs.Prelude.{⊤}
 use Rattle.std.specs.Option.{option_map_or}
-use Rattle.clap.specs.Walk.{Row, Rule, Text, Waiting, Walk, idle, option, settled_rows, walked, arg_by_id, arg_by_index, arg_by_long, used_by_id, used}
+use Rattle.clap.specs.Walk.{Row, Rule, Text, Walk, idle, option, settled_rows, walked, arg_by_id, arg_by_index, arg_by_long, used_by_id, used}
 use Rattle.clap.specs.Simple.{Shape}
 use Rattle.clap.specs.Faults.{settle_fault, turn_fault, walk_fault, use_fault}
 use Rattle.clap.specs.Kinds.{Kinds, or_else}
@@ -11,7 +11,7 @@ use Rattle.clap.specs.declared.error.kind.ErrorKind.{ErrorKind}
 use Rattle.life_args.specs.Pieces.{Piece, bare, apart, joined, spelled, bare_values, IsAmong, HasOnly}
 use Rattle.life_args.specs.inside.Commands.{HasHyphens}
 use Rattle.life_args.proofs.Causes.{or_else_nil, or_else_assoc, none_first, none_second}
-use Rattle.life_args.proofs.Lexing.{IsPlain, IsNamed, IsShort, IsOptionName, Seen, seen, apart_named, joined_named, hyphens, short, plain}
+use Rattle.life_args.proofs.Lexing.{IsPlain, IsNamed, IsOptionName, Seen, seen, apart_named, joined_named, hyphens, short, plain}
 use Rattle.life_args.proofs.Lexing.{apart as seen_apart, joined as seen_joined}
 use Rattle.life_args.proofs.Tables.{Argument, named, placed, rule, rules, name_of, options, names, put, again, used_is, fault_is, long_found, id_found}
 use Rattle.life_args.proofs.Turns.{Pending, held, leaf, stand, bare_turn, bare_walk, stray_turn, unknown_turn, short_turn, open_turn, open_walk, value_turn, value_walk, joined_turn, joined_walk, unfilled, wanting_turn}
@@ -149,11 +149,12 @@ module _ (name : Text) (table : List Argument) (good : AreOptionNames (options t
       → (ends w words ≡ stand rest.rows_after rest.pending_after idle rest.place_after)
       × (now rest.rows_after rest.pending_after ≡ puts ((one, value) ∷ uses left pieces) (now rows pending))
       × (or_else (walk_fault s [] w words) (owed rest.rows_after rest.pending_after) ≡ or_else (owed rows pending) (repeats ((one, value) ∷ uses left pieces) (now rows pending)))
-  use_pending rows pending p q left pieces w words one value among walk fault rest =
-      (walk ∙ rest.ends_at,
-      rest.settled ∙ ap (puts (uses left pieces)) (settles (now rows pending) one value among),
-      fault (owed rest.rows_after rest.pending_after) ∙ ap (or_else (owed rows pending)) (rest.faults
-      ∙ ap₂ (λ (k : Kinds) (r : List Row). or_else k (repeats (uses left pieces) r)) (owes (now rows pending) one value among) (settles (now rows pending) one value among)))
+  use_pending rows pending p q left pieces w words one value among walk fault rest = (
+    walk ∙ rest.ends_at,
+    rest.settled ∙ ap (puts (uses left pieces)) (settles (now rows pending) one value among),
+    fault (owed rest.rows_after rest.pending_after) ∙ ap (or_else (owed rows pending)) (rest.faults
+        ∙ ap₂ (λ (k : Kinds) (r : List Row). or_else k (repeats (uses left pieces) r)) (owes (now rows pending) one value among) (settles (now rows pending) one value among)),
+  )
 
   pub walks : (pieces : List Piece) (rows : List Row) (pending : Pending) (p : ℕ) (left : List Text) → HasPlaces table p left → HasOnly (options table) pieces → ArePlain pieces
       → length (bare_values pieces) ≤ length left → Walks rows pending p left pieces
@@ -293,10 +294,11 @@ module _ (name : Text) (table : List Argument) (good : AreOptionNames (options t
 
   both : (words : List Text) → (HasHyphens words → ⊥) → Idle words × Wanting words
   unfolding walk_fault
-  both [] free =
-      (λ rows pending p left places taken. record { pieces = []; spells = refl; only = tt; are = tt; few = omega arith },
-      λ rows p left one places among taken. let found = known one (option_among table one among) in
-      let none : _ ≡ [] = sym (unfilled name table rows one found.0 found.1) ∙ taken in absurd (cc))
+  both [] free = (
+    λ rows pending p left places taken. record { pieces = []; spells = refl; only = tt; are = tt; few = omega arith },
+    λ rows p left one places among taken. let found = known one (option_among table one among) in
+        let none : _ ≡ [] = sym (unfilled name table rows one found.0 found.1) ∙ taken in absurd (cc),
+  )
   both (word ∷ words) free =
       let rest = both words (λ h. free (inr h)) in
       (idle_word word words (λ is. free (inl is)) rest.0 rest.1, wanting_word word words (λ is. free (inl is)) rest.0)

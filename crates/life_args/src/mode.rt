@@ -20,5 +20,7 @@ pub enum Mode {
         basis: Name,
     },
     /// To write all policies and the balances, or the entries of the policy of this number.
-    State { id: Option<u32> },
+    State {
+        id: Option<u32>,
+    },
 }

@@ -2,7 +2,7 @@ use Rattle.std.proofs.Common.{◌≡◌, ◌∙◌, ap, codes, false, true}
 use Rattle.std.proofs.lemmas.Result.{IfOk-weaker}
 use Rattle.clap.specs.Words.{App, Rule, app_of, rule_of, with_rule}
 use Rattle.clap.specs.declared.builder.arg.Arg.{Arg}
-use Rattle.life_args.specs.inside.Commands.{command_app, option_rule, required_rule, value_rule, value_app}
+use Rattle.life_args.specs.inside.Commands.{command_app, option_rule, required_rule, value_app}
 use Rattle.life_args.proofs.Adding.{adds}
 use Rattle.life_args.proofs.commands.value_command.Goals as goal
 

@@ -1,4 +1,4 @@
-use Rattle.std.proofs.Common.{◌∙◌, ap, codes, map, option_map, string_bytes, true, ◌∷◌}
+use Rattle.std.proofs.Common.{◌∙◌, ap, codes, map, option_map, string_bytes, ◌∷◌}
 use Rattle.clap.specs.Words.{app_of, is_simple_and_free}
 use Rattle.life_args.specs.Words.{AreWords}
 use Rattle.life_args.proofs.Answering.{handed_on, run_untaken, run_basis, run_is}

@@ -1,4 +1,4 @@
-use Rattle.std.proofs.Common.{◌≡◌, ◌∙◌, ℕ, ap, arith, codes, map, of_z, Option, option_map, string_bytes, subst, sym, to_z, true, w32, List, ◌∷◌, ℤ}
+use Rattle.std.proofs.Common.{◌≡◌, ◌∙◌, ℕ, ap, arith, codes, map, of_z, Option, option_map, string_bytes, subst, sym, to_z, w32, List, ◌∷◌, ℤ}
 use Rattle.std.proofs.lemmas.Int.{ints}
 use Rattle.clap.specs.Words.{app_of, is_simple_and_free}
 use Rattle.life_args.specs.declared.mode.Mode.TheVariants.{Value}
