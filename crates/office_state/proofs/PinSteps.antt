@@ -76,7 +76,7 @@ module _ (turns : List Entry) (entry : Entry) where
       ∙ ap pin_in here in
       ap (λ found. held_in (length turns) found (live_pin more (length turns))) here ∙ ap (held_in (length turns) (Some entry)) live
 
-range_more : (from len : ℕ) → range_with_len from (len + 1) ≡ range_with_len from len ++ (from + len) ∷ []
+range_more : (from len : ℕ) → range_with_len from (suc len) ≡ range_with_len from len ++ (from + len) ∷ []
 range_more from zero = let same : from ≡ from + zero = omega arith in ap (λ n. n ∷ []) same
 range_more from (suc len) =
     let same : from + 1 + len ≡ from + suc len = omega arith in
@@ -134,12 +134,15 @@ module _ (turns : List Entry) (entry : Entry) where
       let all = turns ++ entry ∷ [] in
       let n = length turns in
       let earlier = λ (place : ℕ). cond (gives_up place entry.call) None (held_at turns place) in
-      ap (λ len. filter_map (held_at all) (range_with_len 0 len)) (length-append turns (entry ∷ []))
-      ∙ ap (filter_map (held_at all)) (range_more 0 n)
+      let many : length all ≡ suc n = omega (arith, length-append turns (entry ∷ [])) in
+      let last : range_with_len 0 (suc n) ≡ range_with_len 0 n ++ n ∷ [] =
+      let same : 0 + n ≡ n = omega arith in range_more 0 n ∙ ap (λ k. range_with_len 0 n ++ k ∷ []) same in
+      ap (λ len. filter_map (held_at all) (range_with_len 0 len)) many
+      ∙ ap (filter_map (held_at all)) last
       ∙ filter_map-append (held_at all) (range_with_len 0 n) (n ∷ [])
       ∙ ap (λ last. filter_map (held_at all) (range_with_len 0 n) ++ cons_option last []) (held_last turns entry)
       ∙ ap (λ front. front ++ cons_option (held_in n (Some entry) (pin_of entry.reply)) [])
-      (agree_on (held_at all) earlier 0 n (held_earlier turns entry) ∙ given_up_of turns entry.call (range_with_len 0 n))
+      (agree_on (held_at all) earlier 0 n (λ place within. held_earlier turns entry place (omega (arith, within))) ∙ given_up_of turns entry.call (range_with_len 0 n))
 
   all_still : (quiet : (n : ℕ) → gives_up n entry.call ≡ false) (pins : List Held) → still_held entry.call pins ≡ pins
   all_still quiet [] = refl
@@ -197,12 +200,13 @@ held_parts turns place held is = by (slice_get turns place) (live_pin turns plac
 
 among_lookups : {Y : Type 0} (f : ℕ → Option Y) (ks : List ℕ) (y : Y) → Contains (filter_map f ks) y → (k : ℕ) × (f k ≡ Some y)
 among_lookups f [] y among = absurd (omega (arith, among.1))
-among_lookups {Y} f (k ∷ ks) y among = by (f k) refl among
+among_lookups {Y} f (k ∷ ks) y among = by (f k) refl (among_lookups f ks y) among
   where
-    by : (o : Option Y) → f k ≡ o → Contains (cons_option o (filter_map f ks)) y → (k : ℕ) × (f k ≡ Some y)
-    by None none c = among_lookups f ks y c
-    by (Some x) some (zero, within, at) = (k, some ∙ ap Some at)
-    by (Some x) some (suc i, within, at) = among_lookups f ks y (i, omega (arith, within), at)
+    by : (o : Option Y) → f k ≡ o → (Contains (filter_map f ks) y → (k : ℕ) × (f k ≡ Some y))
+        → Contains (cons_option o (filter_map f ks)) y → (k : ℕ) × (f k ≡ Some y)
+    by None none rest c = rest c
+    by (Some x) some rest (zero, within, at) = (k, some ∙ ap Some at)
+    by (Some x) some rest (suc i, within, at) = rest (i, omega (arith, within), at)
 
 -- it is live, and was taken by its caller
 pub among_held : (turns : List Entry) (held : Held) → Contains (pins_held turns) held → HeldParts turns held.number held
@@ -222,11 +226,13 @@ first_of (Some x) ys y is = (0, omega arith, same_Some x y is)
 among_range : {Y : Type 0} (f : ℕ → Option Y) (k : ℕ) (y : Y) → f k ≡ Some y → (from len : ℕ) → from ≤ k → k < from + len
     → Contains (filter_map f (range_with_len from len)) y
 among_range f k y found from zero low high = absurd (omega (arith, low, high))
-among_range {Y} f k y found from (suc len) low high = by (grind arith)
+among_range {Y} f k y found from (suc len) low high =
+    by (grind arith) (λ later. among_range f k y found (from + 1) len later (omega (arith, high)))
   where
-    by : (from ≡ k) ⊎ (from + 1 ≤ k) → Contains (filter_map f (range_with_len from (suc len))) y
-    by (inl here) = first_of (f from) (filter_map f (range_with_len (from + 1) len)) y (ap f here ∙ found)
-    by (inr later) = behind (f from) (filter_map f (range_with_len (from + 1) len)) y (among_range f k y found (from + 1) len later (omega (arith, high)))
+    by : (from ≡ k) ⊎ (from + 1 ≤ k) → (from + 1 ≤ k → Contains (filter_map f (range_with_len (from + 1) len)) y)
+        → Contains (filter_map f (range_with_len from (suc len))) y
+    by (inl here) rest = first_of (f from) (filter_map f (range_with_len (from + 1) len)) y (ap f here ∙ found)
+    by (inr later) rest = behind (f from) (filter_map f (range_with_len (from + 1) len)) y (rest later)
 
 -- a live pin is among those that are held
 pub live_among : (turns : List Entry) (pin : ℕ) (entry : Entry) (position policies : ℕ) → slice_get turns pin ≡ Some entry

@@ -14,6 +14,7 @@ use Rattle.policy_types.specs.declared.entry.Entry.{Entry}
 use Rattle.policy_machine.specs.Book.{book}
 use Rattle.policy_machine.specs.History.{Opening, IsDue, IsOwnPin, accepted_of, commands_after, floor_of, floor_set, gives_up, least_or, live_pin, live_positions, most_pins, pin_of}
 use Rattle.policy_machine.proofs.HistoryGrowth.{PinsHold-legal, floor_of-kept, floor_of-set, least-count}
+use Rattle.posting_journal.specs.States.{count_of as records_in}
 use Rattle.office_state.specs.declared.held.Held.{Held}
 use Rattle.office_state.specs.declared.held.PinInfo.{PinInfo}
 use Rattle.office_state.specs.declared.state.OfficeState.{OfficeState}
@@ -37,7 +38,8 @@ least_of : (count : ℕ) (ns : List ℕ) → least_or count ns ≤ count → fol
 least_of count [] few = refl
 least_of count (n ∷ ns) few = fold_least count n count ns ∙ omega (arith, few)
 
-module _ {D : Type 0} {g : Ghosts D} (old : OfficeState D g) (turns : List Entry) (stands : StandsFor old turns) where
+module _ {D : Type 0} {g : Ghosts D} (old : OfficeState D g) (turns : List Entry) (stands : StandsFor old turns)
+    (counted : records_in old.journal ≡ length (commands_of old)) where
   abbrev opening : Opening
   opening = opening_of old
 
@@ -51,14 +53,14 @@ module _ {D : Type 0} {g : Ghosts D} (old : OfficeState D g) (turns : List Entry
     floor = floor;
     begun = old.begun;
     recovered = old.recovered;
-    counted = old.counted;
+    counted = counted;
   }
 
   step : (entry : Entry) → accepted_of (entry ∷ []) ≡ [] → faults_met (entry ∷ []) ≡ [] → IsDue opening turns entry.caller entry.call entry.reply
       → (pins : ArrayVec Held) → pins.items ≡ pins_held (turns ++ entry ∷ []) → (floor : ℕ) → floor ≡ floor_of (turns ++ entry ∷ [])
       → StandsFor (after pins floor) (turns ++ entry ∷ [])
   step entry none quiet due pins pinned floor floored =
-      stands_still old turns stands old.books old.counted entry refl none quiet due pins pinned floor floored
+      stands_still old turns stands old.books counted entry refl none quiet due pins pinned floor floored
 
   floor_still : (entry : Entry) → floor_set entry.reply ≡ None → old.floor ≡ floor_of (turns ++ entry ∷ [])
   floor_still entry none = stands.floor ∙ sym (floor_of-kept turns entry none)
@@ -208,9 +210,10 @@ module _ {D : Type 0} {g : Ghosts D} (old : OfficeState D g) (turns : List Entry
       ) in
       step entry refl refl due old.pins (pins_still entry old.pins (λ n. refl) refl refl) old.floor (floor_still entry refl)
 
+module _ {D : Type 0} {g : Ghosts D} (state : OfficeState D g) (turns : List Entry) (stands : StandsFor state turns) where
   -- what a caller of a history knows of its pin is what a read and an unpin of it need
   pub held_by_caller : (caller pin : ℕ) (held : ℕ × ℕ) → live_pin turns pin ≡ Some held → IsOwnPin turns caller pin
-      → IsHeldBy (pins_of old) caller pin
+      → IsHeldBy (pins_of state) caller pin
   held_by_caller caller pin held live own =
       let this : Held = record { number = pin; caller = own.0.caller; position = held.0; policies = held.1 } in
       record {
@@ -221,6 +224,6 @@ module _ {D : Type 0} {g : Ghosts D} (old : OfficeState D g) (turns : List Entry
       }
 
   pub may_read : (caller pin first : ℕ) (held : ℕ × ℕ) → live_pin turns pin ≡ Some held → IsOwnPin turns caller pin → first ≤ held.1
-      → MayRead (pins_of old) caller pin first
+      → MayRead (pins_of state) caller pin first
   unfolding held_by_caller
   may_read caller pin first held live own within = record { own = held_by_caller caller pin held live own; within = within }

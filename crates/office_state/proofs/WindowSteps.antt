@@ -75,7 +75,8 @@ id_at commands i policy at =
     ∙ ap (option_map (λ (p : Policy). p.id)) at
 
 put_end : (policies : List Policy) (policy : Policy) → policies ++ policy ∷ [] ≡ put policies (length policies) policy
-put_end policies policy = sym (cond-false _ _ _ (grind arith))
+put_end policies policy =
+    let behind : nat_lt (length policies) (length policies) ≡ false = grind arith in sym (cond-false _ _ _ behind)
 
 set_middle : {X : Type 0} (front back : List X) (x y : X) → set (front ++ x ∷ back) (length front) y ≡ front ++ y ∷ back
 set_middle [] back x y = refl
@@ -323,3 +324,12 @@ window_more commands command index first change = by (nat_lt index first) refl
         ≡ take 256 (drop first (book (commands ++ command ∷ [])))
     by true below = sym (put_below (book commands) index change.policy first (grind arith) change.within) ∙ now
     by false from = by_place (nat_le 256 (index - first)) refl (grind arith)
+
+-- what is put into a window that the index lies in
+pub changed_is : (command : Command) (index first : ℕ) (window : List Policy) (policy : Policy) → first ≤ index → index - first < 256
+    → next (slice_get window (index - first)) command ≡ Ok policy
+    → changed_by command index first window ≡ put window (index - first) policy
+changed_is command index first window policy from short decided =
+    let above : nat_lt index first ≡ false = grind arith in
+    let inside : nat_le 256 (index - first) ≡ false = grind arith in
+    cond-false _ _ _ above ∙ cond-false _ _ _ inside ∙ ap (decided_at window (index - first)) decided
