@@ -1,13 +1,14 @@
 -- What one more accepted command does to a part of the policies
-use Rattle.std.proofs.Common.{◌≡◌, ℕ, zero, suc, ◌+◌, ◌-◌, ◌<◌, ◌≤◌, get_or, nat_lt, nat_le, nat_eq, min, Bool, true, false, true≢false, cond, ◌⊎◌, inl, inr, List, [], ◌∷◌, ◌++◌, length, take, drop, map, set, slice_get, refl, sym, ap, ◌∙◌, subst, append_assoc, append-nil, None, Some, Option, Ok, Err, Result, IsOk, IsSome, IfSome, filter_map, eqb-true, eq-eqb, arith}
+use Rattle.std.proofs.Common.{◌≡◌, ℕ, zero, suc, ◌+◌, ◌-◌, ◌<◌, ◌≤◌, get_or, nat_lt, nat_le, nat_eq, min, Bool, true, false, true≢false, cond, ◌⊎◌, inl, inr, List, [], ◌∷◌, ◌++◌, length, take, drop, map, set, slice_get, refl, sym, ap, ◌∙◌, subst, append_assoc, append-nil, None, Some, Option, Ok, Err, Result, IsOk, IsSome, IfSome, Bor, filter_map, eqb-true, eq-eqb, arith}
 use Rattle.std.specs.Prelude.{is_some}
-use Rattle.std.specs.Option.{option_map}
+use Rattle.std.specs.Option.{option_copied, option_map}
+use Rattle.std.specs.Slice.{IsItemAt}
 use Rattle.std.specs.List.{AllByRecursion, IsDistinct}
-use Rattle.std.proofs.lemmas.List.{length-append, length-drop, length-set, length-take, drop-append-le, drop-set-add, drop-set-lt, drop_all, take-append-drop, take-append-le, take-set-le, take_all, take_more}
+use Rattle.std.proofs.lemmas.List.{length-append, length-drop, length-set, length-take, drop-append-le, drop-set-add, drop-set-lt, drop_all, take-append-drop, take-append-le, take-set-le, take_all, take_min, take_more, take-take, get_or-drop, get_or-take}
 use Rattle.std.proofs.lemmas.List.Elements.{filter_map-append}
 use Rattle.std.proofs.lemmas.Bool.{cond-true, cond-false}
 use Rattle.std.proofs.lemmas.Map.Keys.{IsDistinct-head, IsDistinct-tail}
-use Rattle.std.proofs.lemmas.Option.{none-some, same_Some, slice_get-map, slice_get_past, slice_get_within}
+use Rattle.std.proofs.lemmas.Option.{get_or_from_slice_get, slice_get_read, none-some, same_Some, slice_get-map, slice_get_past, slice_get_within}
 use Rattle.indexmap.specs.IndexMap.{IndexMap, get, values}
 use Rattle.policy_types.specs.declared.command.Command.{Command}
 use Rattle.policy_types.specs.declared.policy.Policy.{Policy}
@@ -21,7 +22,7 @@ use Rattle.policy_machine.proofs.HistoryGrowth.{slice_get-front, slice_get-middl
 use Rattle.money_ledgers.specs.declared.ledger.Ledger.{Ledger}
 use Rattle.office_state.specs.inside.Keeping.{Keeps}
 use Rattle.office_state.specs.inside.Windows.{changed_by, decided_at, put}
-use Rattle.office_state.proofs.BookSteps.{Known, accepted-take, issues-new, known_by, known_now}
+use Rattle.office_state.proofs.BookSteps.{Known, accepted-take, issues-new, known_by, known_now, none_some}
 use Rattle.office_state.proofs.KeepingSteps.{values-book}
 
 -- a number that all of these differ from isn't among them
@@ -333,3 +334,85 @@ changed_is command index first window policy from short decided =
     let above : nat_lt index first ≡ false = grind arith in
     let inside : nat_le 256 (index - first) ≡ false = grind arith in
     cond-false _ _ _ above ∙ cond-false _ _ _ inside ∙ ap (decided_at window (index - first)) decided
+
+-- what stands in a window for an index from its first on has what the policy of that number has
+pub window_has : (P : Policy → Type 0) (commands : List Command) (command : Command) (index first : ℕ) → Changes commands command index
+    → first ≤ index → IfSome (policy_of commands (id_of command)) P
+    → IfSome (slice_get (take 256 (drop first (book commands))) (index - first)) P
+window_has P commands command index first change from has = by (nat_le 256 (index - first)) refl
+  where
+    by : (b : Bool) → nat_le 256 (index - first) ≡ b → IfSome (slice_get (take 256 (drop first (book commands))) (index - first)) P
+    by true past =
+        let behind : 256 ≤ index - first = grind (arith, past) in
+        let short : length (take 256 (drop first (book commands))) ≤ index - first =
+        omega (arith, behind, length-take 256 (drop first (book commands))) in
+        subst (λ o. IfSome o P) (sym (slice_get_past (take 256 (drop first (book commands))) (index - first) short)) tt
+    by false inside =
+        subst (λ o. IfSome o P) (sym (get_part first index (book commands) from (grind arith) ∙ change.finds)) has
+
+-- a pass over the first commands, whose policies are kept by their numbers
+module _ {S : Type 0} (policies : IndexMap ℕ Policy S) (ledger : Ledger) (commands : List Command) (keeps : Keeps policies ledger commands)
+    (p i : ℕ) (d : Command) (within : i < length (take p commands)) where
+  abbrev pub so_far : List Command
+  so_far = take i (take p commands)
+
+  abbrev pub this : Command
+  this = get_or (take p commands) i d
+
+  few : length (take p commands) ≡ min p (length commands)
+  few = length-take p commands
+
+  same_front : so_far ≡ take i commands
+  same_front = take-take i p commands (omega (arith, within, few))
+
+  same_this : this ≡ get_or commands i d
+  same_this = get_or-take p commands i d (omega (arith, within, few))
+
+  pub known_this : Known commands (id_of this)
+  known_this =
+      subst (λ command. Known commands (id_of command)) (sym same_this)
+      (known_in_all commands i d keeps.accepted (omega (arith, within, few)))
+
+  -- the index that is found for a command's number
+  pub changes_this : (index : ℕ) → slice_get (values policies) index ≡ get nat_eq policies (id_of this) → Changes so_far this index
+  changes_this index at =
+      let issued = issued_index policies ledger commands keeps index (id_of this) known_this at in
+      subst (λ front. Changes front this index) (sym same_front)
+      (subst (λ command. Changes (take i commands) command index) (sym same_this)
+      (changes commands i d index keeps.accepted (omega (arith, within, few))
+      (subst (λ command. slice_get (filter_map issue_id commands) index ≡ Some (id_of command)) same_this issued)))
+
+  -- a number that is named has a policy
+  pub found_this : get nat_eq policies (id_of this) ≡ None → ⊥
+  found_this none = none_some (policy_of commands (id_of this)) (sym (keeps.found (id_of this)) ∙ none) known_this
+
+-- one policy more is copied
+pub copy_more : (policies : List Policy) (first index : ℕ) (policy : Policy) → first ≤ index → slice_get policies index ≡ Some policy
+    → take (index - first) (drop first policies) ++ policy ∷ [] ≡ take (index + 1 - first) (drop first policies)
+copy_more policies first index policy from at =
+    let rest = drop first policies in
+    let within : index < length policies = slice_get_within policies index policy at in
+    let inside : index - first < length rest = omega (arith, length-drop first policies, within, from) in
+    let place : first + (index - first) ≡ index = omega (arith, from) in
+    let here : get_or rest (index - first) policy ≡ policy =
+    get_or-drop first policies (index - first) policy ∙ ap (λ n. get_or policies n policy) place
+    ∙ get_or_from_slice_get policies index policy policy at in
+    let next_place : index - first + 1 ≡ index + 1 - first = omega (arith, from) in
+    ap (λ x. take (index - first) rest ++ x ∷ []) (sym here)
+    ∙ sym (take_more rest (index - first) policy inside) ∙ ap (λ n. take n rest) next_place
+
+-- all of them are
+pub copied_all : (policies : List Policy) (first many : ℕ) → many ≡ min (length policies) (first + 256) - first
+    → take many (drop first policies) ≡ take 256 (drop first policies)
+copied_all policies first many all =
+    let rest = drop first policies in
+    let least : many ≡ min 256 (length rest) = omega (arith, all, length-drop first policies) in
+    ap (λ n. take n rest) least ∙ take_min 256 rest
+
+-- what is got of a list
+pub item_copied : (policies : List Policy) (i : ℕ) (item : Option (Bor Policy)) → IsItemAt policies i item
+    → option_copied item ≡ slice_get policies i
+item_copied policies i None item =
+    let past : length policies ≤ i = grind (arith, item.0) in sym (slice_get_past policies i past)
+item_copied policies i (Some policy) item =
+    let within : i < length policies = grind (arith, item.0) in sym (slice_get_read policies (length policies) i policy.now refl within item.1)
