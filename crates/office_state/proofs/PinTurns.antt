@@ -196,7 +196,7 @@ module _ {D : Type 0} {g : Ghosts D} (old : OfficeState D g) (turns : List Entry
       → StandsFor (after old.pins old.floor) (turns ++ read_turn caller pin first policies ∷ [])
   stands_read caller pin first held policies may among number filled =
       let entry = read_turn caller pin first policies in
-      let own = may.own in
+      let own : IsHeldBy (pins_of old) caller pin = record { held = may.held; among = may.among; number = may.number; holder = may.holder } in
       let live = held_live own.held pin own.among own.number in
       let position : held.position ≡ own.held.position =
       ap (λ (p : ℕ × ℕ). p.0) (same_Some _ _ (sym (held_live held pin among number) ∙ live)) in
@@ -225,5 +225,12 @@ module _ {D : Type 0} {g : Ghosts D} (state : OfficeState D g) (turns : List Ent
 
   pub may_read : (caller pin first : ℕ) (held : ℕ × ℕ) → live_pin turns pin ≡ Some held → IsOwnPin turns caller pin → first ≤ held.1
       → MayRead (pins_of state) caller pin first
-  unfolding held_by_caller
-  may_read caller pin first held live own within = record { own = held_by_caller caller pin held live own; within = within }
+  may_read caller pin first held live own within =
+      let this : Held = record { number = pin; caller = own.0.caller; position = held.0; policies = held.1 } in
+      record {
+        held = this;
+        among = subst (λ pins. Contains pins this) (sym stands.pins) (live_among turns pin own.0 held.0 held.1 own.1 live);
+        number = refl;
+        holder = own.2;
+        within = within;
+      }

@@ -10,7 +10,7 @@ use std::alloc::{AllocError, Global};
 
 type Office = OfficeState<MemoryDisk>;
 
-// No call that is answered takes more turns than there may be.
+// An office is asked only while it answered fewer turns.
 const MOST_TURNS: u64 = 1 << 62;
 
 // 2020-01-01
