@@ -1,5 +1,5 @@
 -- The turns that pin a position, read it, give it up or raise the floor
-use Rattle.std.proofs.Common.{◌≡◌, ℕ, ◌+◌, ◌<◌, ◌≤◌, ◌==◌, Bool, true, false, not, List, [], ◌∷◌, ◌++◌, length, take, drop, map, min, slice_get, filter, refl, sym, ap, ◌∙◌, subst, Some, None, Ok, Err, Result, arith}
+use Rattle.std.proofs.Common.{◌≡◌, ℕ, ◌+◌, ◌<◌, ◌≤◌, ◌==◌, false, not, List, [], ◌∷◌, ◌++◌, length, take, drop, map, min, slice_get, filter, refl, sym, ap, ◌∙◌, subst, Some, None, Ok, Err, Result, arith}
 use Rattle.std.specs.Prelude.{MatchResult}
 use Rattle.std.specs.List.{Contains, fold}
 use Rattle.std.proofs.lemmas.List.{length-map, take_all}
@@ -24,7 +24,7 @@ use Rattle.office_state.specs.States.{commands_of, opening_of, pins_of}
 use Rattle.office_state.specs.Turning.{pin_turn, pin_at_turn, read_turn, unpin_turn, trim_turn}
 use Rattle.office_state.specs.inside.Pinning.{HasTaken, IsFull}
 use Rattle.office_state.proofs.HistorySteps.{faults_met}
-use Rattle.office_state.proofs.PinSteps.{HeldParts, among_held, live_among, pins_held-fewer, pins_held-more, pins_held-same, positions_held}
+use Rattle.office_state.proofs.PinSteps.{among_held, live_among, pins_held-fewer, pins_held-more, pins_held-same, positions_held}
 use Rattle.office_state.proofs.TurnSteps.{stands_still}
 
 -- the least of a number and others, from the front on
