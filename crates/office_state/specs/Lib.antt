@@ -1,7 +1,9 @@
 pub mod Journals
 pub mod Images
+pub mod Pins
 pub mod States
 pub mod Standing
 pub mod Opening
 pub mod Posting
+pub mod Turning
 pub mod inside

@@ -4,11 +4,12 @@ use Rattle.outside_io.specs.declared.disks.Disk.{Ghosts}
 use Rattle.policy_types.specs.declared.entry.Entry.{Entry}
 use Rattle.policy_machine.specs.Accounts.{ledger_of}
 use Rattle.policy_machine.specs.Book.{book}
-use Rattle.policy_machine.specs.History.{Opening, IsLegal, commands_after}
+use Rattle.policy_machine.specs.History.{Opening, IsLegal, commands_after, floor_of}
 use Rattle.posting_journal.specs.Opening.{IsSynced}
 use Rattle.office_state.specs.declared.state.OfficeState.{OfficeState}
 use Rattle.office_state.specs.Images.{HoldsNow, HoldsOnce, HoldsSince, faults_after}
-use Rattle.office_state.specs.States.{balances_of, begun_of, commands_of, count_of, disk_of, opening_of, policies_of}
+use Rattle.office_state.specs.Pins.{pins_held}
+use Rattle.office_state.specs.States.{balances_of, begun_of, commands_of, count_of, disk_of, floor_kept, opening_of, pins_of, policies_of, turns_of}
 use Rattle.office_state.specs.inside.Holding.{Holds}
 
 -- the turns are a legal history from the opening on, and the count is that of the commands after it
@@ -28,6 +29,9 @@ pub record StandsFor {D : Type 0} {g : Ghosts D} (state : OfficeState D g) (turn
   pub kept : commands_of state ≡ commands_after (opening_of state) turns
   pub policies : policies_of state ≡ book (commands_after (opening_of state) turns)
   pub ledger : balances_of state ≡ ledger_of (commands_after (opening_of state) turns)
+  pub turned : turns_of state ≡ length turns
+  pub pins : pins_of state ≡ pins_held turns
+  pub floor : floor_kept state ≡ floor_of turns
   pub honesty : (g.honest (begun_of state)) ↔ (g.honest (disk_of state))
   -- what a crash now leaves
   pub images_now : g.honest (begun_of state) → (image : List ℕ) → g.may_leave (disk_of state) image

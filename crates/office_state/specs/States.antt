@@ -6,6 +6,7 @@ use Rattle.policy_types.specs.declared.policy.Policy.{Policy}
 use Rattle.policy_types.specs.Accounts.{Booking}
 use Rattle.policy_machine.specs.History.{Opening, opened_on}
 use Rattle.posting_journal.specs.States.{disk_of as disk_under}
+use Rattle.office_state.specs.declared.held.Held.{Held}
 use Rattle.office_state.specs.declared.state.OfficeState.{OfficeState}
 use Rattle.office_state.specs.inside.Books.{balances_in, commands_in, policies_in, room_in}
 
@@ -36,6 +37,18 @@ module _ {D : Type 0} {g : Ghosts D} where
   -- how many postings can't lack memory
   abbrev pub room_of : OfficeState D g → ℕ
   room_of state = room_in state.books
+
+  -- how many turns it answered
+  abbrev pub turns_of : OfficeState D g → ℕ
+  turns_of state = state.turns
+
+  -- the live pins, in order of their numbers
+  abbrev pub pins_of : OfficeState D g → List Held
+  pins_of state = state.pins.items
+
+  -- the position before which nothing need be kept
+  abbrev pub floor_kept : OfficeState D g → ℕ
+  floor_kept state = state.floor
 
   -- the disk on which it was opened, as it was handed in
   abbrev pub begun_of : OfficeState D g → D

@@ -3,3 +3,6 @@ pub mod Books
 pub mod Records
 pub mod Replays
 pub mod Holding
+pub mod Pinning
+pub mod Windows
+pub mod Turns

@@ -2,11 +2,14 @@
 #![tactic(auto)]
 
 mod answer;
+mod batches;
 mod books;
 mod faults;
 mod folding;
+mod held;
 mod laws;
 mod opening;
+mod pins;
 mod posting;
 mod reading;
 mod recording;
@@ -14,8 +17,12 @@ mod replaying;
 mod state;
 #[cfg(test)]
 mod tests;
+mod trimming;
+mod windows;
 
 pub use answer::Answer;
+pub use batches::Batch;
 pub use faults::{StartCause, StartFault};
+pub use held::{Held, PinInfo};
 pub use laws::{one_cause_of_refusal, one_list_of_commands, refused_files_open_to_none};
 pub use state::OfficeState;

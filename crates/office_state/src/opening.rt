@@ -7,6 +7,7 @@ use crate::books::Books;
 use crate::faults::{StartCause, StartFault};
 use crate::replaying::replay;
 use crate::state::OfficeState;
+use arrayvec::ArrayVec;
 use outside_io::Disk;
 use posting_journal::{Journal, JournalCause};
 use std::alloc::Global;
@@ -62,6 +63,9 @@ fn office_of<D: Disk>(
             Ok(OfficeState {
                 journal,
                 books,
+                turns: 0,
+                pins: ArrayVec::new(),
+                floor: 0,
                 begun,
                 recovered,
             })

@@ -6,7 +6,7 @@ ghost use Rattle.policy_machine.specs.Accounts.{ledger_of};
 ghost use Rattle.policy_machine.specs.Book.{book};
 ghost use Rattle.office_state.specs.Images.{IsLeftBy};
 ghost use Rattle.office_state.specs.Standing.{StandsFor};
-ghost use Rattle.office_state.specs.States.{begun_of, commands_of, count_of, disk_of, opening_of};
+ghost use Rattle.office_state.specs.States.{begun_of, commands_of, count_of, disk_of, opening_of, turns_of};
 
 use crate::state::OfficeState;
 use money_ledgers::Ledger;
@@ -19,6 +19,14 @@ impl<D: Disk> OfficeState<D> {
         ensures { result ≡ count_of self.now }
     {
         self.books.count()
+    }
+
+    /// How many turns were answered.
+    pub fn turns(&self) -> u64
+        ensures kept { result ≡ turns_of self.now }
+        ensures all { (history : List Entry) → StandsFor self.now history → result ≡ length history }
+    {
+        self.turns
     }
 
     /// The balances that the accepted commands leave.

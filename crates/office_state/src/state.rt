@@ -3,6 +3,7 @@ ghost use Rattle.std.specs.Prelude.{◌≡◌, length};
 ghost use Rattle.posting_journal.specs.States.{count_of};
 
 use crate::books::Books;
+use crate::held::Pins;
 use outside_io::Disk;
 use posting_journal::Journal;
 use std::snapshot::Snapshot;
@@ -12,6 +13,11 @@ use std::snapshot::Snapshot;
 pub struct OfficeState<D: Disk> {
     pub(crate) journal: Journal<D>,
     pub(crate) books: Books,
+    // How many turns it answered.
+    pub(crate) turns: u64,
+    pub(crate) pins: Pins,
+    // The position before which nothing need be kept.
+    pub(crate) floor: u32,
     // What it was opened on, for contracts alone: the disk as it was handed in, and the books of its journal.
     pub(crate) begun: Snapshot<D>,
     pub(crate) recovered: Snapshot<Books>,

@@ -1,0 +1,86 @@
+// The policies of a pinned position are read, a batch at a time.
+ghost use Rattle.std.specs.Prelude.{◌≡◌, ◌^◌, ◌<◌, ◌++◌, [], ◌∷◌, IfOk, IfSome, IfNone, List};
+ghost use Rattle.std.specs.List.{Contains};
+ghost use Rattle.policy_types.specs.declared.entry.Entry.{Entry};
+ghost use Rattle.office_state.specs.Pins.{MayRead};
+ghost use Rattle.office_state.specs.Standing.{StandsFor};
+ghost use Rattle.office_state.specs.States.{disk_of, opened_of, pins_of, room_of, turns_of};
+ghost use Rattle.office_state.specs.Turning.{read_turn};
+ghost use Rattle.office_state.specs.declared.held.Held.{Held as AHeld};
+
+use crate::held::Held;
+use crate::state::OfficeState;
+use crate::windows::POLICIES_PER_READ;
+use outside_io::Disk;
+use policy_types::{NoMemory, Policy};
+use std::alloc::Global;
+use std::marker::Model;
+
+/// Policies in order of issue, with room for 256. Contracts see it as their list.
+#[derive(Drop)]
+pub struct Batch {
+    policies: Vec<Policy>,
+}
+
+impl Model for Batch {
+    ghost use Rattle.std.specs.Prelude.{List, ◌≤◌, vec_capacity};
+    ghost use Rattle.policy_types.specs.declared.policy.Policy.{Policy};
+
+    ghost Value = { List Policy };
+
+    ghost view = { λ b. b.policies.items };
+
+    ghost invariant = { λ b. 256 ≤ vec_capacity b.policies };
+}
+
+impl Batch {
+    /// Takes the memory for 256 policies, and holds none yet.
+    pub fn new(alloc: Global) -> Result<Batch, NoMemory>
+        ensures { IfOk result (λ batch. batch ≡ []) }
+    {
+        match Vec::with_capacity(alloc, POLICIES_PER_READ) {
+            Ok(policies) => Ok(Batch { policies }),
+            Err(_) => Err(NoMemory),
+        }
+    }
+
+    pub fn policies(&self) -> &[Policy]
+        ensures { result.now ≡ self.now }
+    {
+        self.policies.as_slice()
+    }
+}
+
+impl<D: Disk> OfficeState<D> {
+    /// The live pin of this number, if there is one.
+    pub fn held(&self, pin: u64) -> Option<Held>
+        ensures found { IfSome result (λ held. Contains (pins_of self.now) held × (held.number ≡ pin)) }
+        ensures none { IfNone result ((held : AHeld) → Contains (pins_of self.now) held → held.number ≡ pin → ⊥) }
+    {
+        for held in self.pins.as_slice() {
+            if held.number == pin {
+                return Some(*held);
+            }
+        }
+        None
+    }
+
+    /// Fills the batch with the policies at a pin's position, in order of issue, from the index `first` on and 256 of
+    /// them at most. The caller holds the pin, and `first` is at most its policies.
+    pub fn read(&mut self, caller: u64, pin: u64, first: u32, batch: &mut Batch)
+        requires turns { turns_of self.old < 2 ^ 62 }
+        requires held { MayRead (pins_of self.old) caller pin first }
+        ensures opened { opened_of self.new ≡ opened_of self.old }
+        ensures disk { disk_of self.new ≡ disk_of self.old }
+        ensures room { room_of self.new ≡ room_of self.old }
+        ensures stands { (history : List Entry) → StandsFor self.old history
+            → StandsFor self.new (history ++ read_turn caller pin first batch.new ∷ []) }
+    {
+        let _ = caller;
+        let Some(held) = self.held(pin) else {
+            unreachable!()
+        };
+        self.books.fill(first, held.position, &mut batch.policies);
+        self.turns += 1;
+    }
+}
