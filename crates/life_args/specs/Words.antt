@@ -1,0 +1,57 @@
+-- The words of the program's commands
+use Rattle.std.specs.Prelude.{◌≡◌, ℕ, ⊤, List, [], ◌∷◌, map, codes, string_bytes, String, Option, ℤ}
+use Rattle.std.specs.Global.{Global}
+use Rattle.policy_types.specs.declared.entry.At.{At}
+use Rattle.life_args.specs.declared.fault.WordsFault.{WordsFault}
+use Rattle.life_args.specs.declared.fault.WordsFault.TheVariants.{Usage, NoMemory}
+use Rattle.life_args.specs.declared.mode.Mode.{Mode}
+use Rattle.life_args.specs.declared.mode.Mode.TheVariants.{Run, Value, State}
+use Rattle.life_args.specs.Pieces.{Piece, spelled, bare_values, option_values, HasOnly, AtMostOne}
+use Rattle.life_args.specs.Values.{IsDayValue, IsPositionOr, AreWorkersOr, IsBasisOr, IsPolicyOr}
+
+-- `run [--basis NAME]`: the words behind `run`
+pub record IsRun (words : List (List ℕ)) (basis : List ℕ) : Type 0 where
+  pub pieces : List Piece
+  pub spells : words ≡ spelled pieces
+  pub only : HasOnly (codes "basis" ∷ []) pieces
+  pub alone : bare_values pieces ≡ []
+  pub basis_is : AtMostOne (option_values (codes "basis") pieces) (λ given. IsBasisOr given basis)
+
+-- `value ON [--at P] [--workers N] [--basis NAME]`: the words behind `value`, options anywhere among them
+pub record IsValue (words : List (List ℕ)) (on : ℤ) (position : At) (workers : ℕ) (basis : List ℕ) : Type 0 where
+  pub pieces : List Piece
+  pub spells : words ≡ spelled pieces
+  pub only : HasOnly (codes "at" ∷ codes "workers" ∷ codes "basis" ∷ []) pieces
+  pub day : List ℕ
+  pub alone : bare_values pieces ≡ day ∷ []
+  pub day_is : IsDayValue day on
+  pub position_is : AtMostOne (option_values (codes "at") pieces) (λ given. IsPositionOr given position)
+  pub workers_are : AtMostOne (option_values (codes "workers") pieces) (λ given. AreWorkersOr given workers)
+  pub basis_is : AtMostOne (option_values (codes "basis") pieces) (λ given. IsBasisOr given basis)
+
+-- `state [ID]`: the words behind `state`
+pub record IsState (words : List (List ℕ)) (id : Option ℕ) : Type 0 where
+  pub pieces : List Piece
+  pub spells : words ≡ spelled pieces
+  pub only : HasOnly [] pieces
+  pub id_is : AtMostOne (bare_values pieces) (λ given. IsPolicyOr given id)
+
+-- the first word is the mode's name, and those behind it are the mode's
+abbrev pub AreWords : List (List ℕ) → Mode → Type 0
+AreWords [] mode = ⊥
+AreWords (word ∷ words) (Run basis) = (word ≡ codes "run") × IsRun words basis
+AreWords (word ∷ words) (Value on position workers basis) = (word ≡ codes "value") × IsValue words on position workers basis
+AreWords (word ∷ words) (State id) = (word ≡ codes "state") × IsState words id
+
+-- the words ask for this
+abbrev pub AskFor : List (String Global) → Mode → Type 0
+AskFor words mode = AreWords (map string_bytes words) mode
+
+-- the words are of no command
+abbrev pub AskForNothing : List (String Global) → Type 0
+AskForNothing words = (mode : Mode) → AskFor words mode → ⊥
+
+-- the cause of a fault. Memory may always be refused.
+abbrev pub IsFaultOf : List (String Global) → WordsFault → Type 0
+IsFaultOf words Usage = AskForNothing words
+IsFaultOf words NoMemory = ⊤

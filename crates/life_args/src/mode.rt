@@ -1,0 +1,24 @@
+use basis_book::Name;
+use policy_types::At;
+
+/// What the words ask for.
+#[derive(Drop)]
+pub enum Mode {
+    /// To run the script on the input.
+    Run {
+        /// The name of the basis file.
+        basis: Name,
+    },
+    /// To value the policies on a day.
+    Value {
+        /// The day, in days since 1970-01-01.
+        on: i32,
+        /// The position of the journal.
+        at: At,
+        workers: u8,
+        /// The name of the basis file.
+        basis: Name,
+    },
+    /// To write all policies and the balances, or the entries of the policy of this number.
+    State { id: Option<u32> },
+}
