@@ -1,0 +1,6 @@
+pub mod Files
+pub mod Bases
+pub mod FirstBad
+pub mod Answers
+pub mod Lines
+pub mod inside

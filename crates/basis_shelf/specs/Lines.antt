@@ -1,0 +1,24 @@
+-- The line that tells of a bad file.
+use Rattle.std.specs.Prelude.{ℕ, List, [], ◌∷◌, codes, decimal}
+use Rattle.statements.specs.Lines.{line_of}
+use Rattle.basis_shelf.specs.declared.fault.BadBasis.{BadBasis}
+use Rattle.basis_shelf.specs.declared.fault.BasisWord.{BasisWord}
+use Rattle.basis_shelf.specs.declared.fault.BasisWord.TheVariants.{Absent, TooLong, BadRow, NotRising, TooManyRows, NotDocument, NoTable, Select, Scaled, BadAge, AgeGap, BadRate}
+
+abbrev pub basis_word : BasisWord → List ℕ
+basis_word Absent = codes "absent"
+basis_word TooLong = codes "toolong"
+basis_word BadRow = codes "badrow"
+basis_word NotRising = codes "notrising"
+basis_word TooManyRows = codes "toomanyrows"
+basis_word NotDocument = codes "notdocument"
+basis_word NoTable = codes "notable"
+basis_word Select = codes "select"
+basis_word Scaled = codes "scaled"
+basis_word BadAge = codes "badage"
+basis_word AgeGap = codes "agegap"
+basis_word BadRate = codes "badrate"
+
+-- the file's name, the place and the word
+unfoldable pub bad_basis_text : BadBasis → List ℕ
+bad_basis_text bad = line_of (codes "badbasis") (bad.name ∷ decimal bad.place ∷ basis_word bad.word ∷ [])

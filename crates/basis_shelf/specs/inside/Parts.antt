@@ -1,0 +1,66 @@
+-- What the parts of the fetching answer.
+use Rattle.std.specs.Prelude.{◌≡◌, ℕ, ⊤, ◌⊎◌, List, Option, Some, IsSome, IfSome}
+use Rattle.rate_table.specs.Rates.{Rates}
+use Rattle.basis_book.specs.declared.fault.BasisFault.{BasisFault}
+use Rattle.basis_book.specs.declared.fault.BasisFault.TheVariants as fault
+use Rattle.xtbml_subset.specs.declared.fault.TableFault.{TableFault}
+use Rattle.xtbml_subset.specs.declared.fault.TableFault.TheVariants as table
+use Rattle.xtbml_subset.specs.declared.fault.TableKind.{TableKind}
+use Rattle.xtbml_subset.specs.declared.fault.TableKind.TheVariants as kind
+use Rattle.basis_shelf.specs.declared.fault.BadBasis.{BadBasis}
+use Rattle.basis_shelf.specs.declared.fault.BasisWord.{BasisWord}
+use Rattle.basis_shelf.specs.declared.fault.BasisWord.TheVariants.{Absent, TooLong, BadRow, NotRising, TooManyRows, NotDocument, NoTable, Select, Scaled, BadAge, AgeGap, BadRate}
+use Rattle.basis_shelf.specs.declared.fault.NoBasis.{NoBasis}
+use Rattle.basis_shelf.specs.declared.fault.NoBasis.TheVariants.{Bad, ReadFault, NoMemory}
+use Rattle.basis_shelf.specs.Files.{IsAbsent, IsTooLong}
+use Rattle.basis_shelf.specs.Bases.{IsTable}
+use Rattle.basis_shelf.specs.FirstBad.{IsBadBook, IsBadTable}
+
+-- a file is told as bad, unless memory was refused
+abbrev pub IsTold : List ℕ → ℕ → BasisWord → NoBasis → Type 0
+IsTold name place word (Bad bad) = bad ≡ record { name = name; place = place; word = word }
+IsTold name place word ReadFault = ⊥
+IsTold name place word NoMemory = ⊤
+
+-- a file is told as absent or too long, at this place
+abbrev pub IsUnread : (List ℕ → Option (List ℕ)) → List ℕ → ℕ → BadBasis → Type 0
+IsUnread files name place bad =
+    (bad.name ≡ name) × (bad.place ≡ place)
+    × (((bad.word ≡ Absent) × IsAbsent files name) ⊎ ((bad.word ≡ TooLong) × IsTooLong files name))
+
+-- the basis file of this name is told as bad
+abbrev pub IsBadBookFile : (List ℕ → Option (List ℕ)) → List ℕ → BadBasis → Type 0
+IsBadBookFile files name bad = (bad.name ≡ name) × IsBadBook files name bad.word bad.place
+
+-- a table file, which the row of this number names first, is told as bad
+abbrev pub IsBadTableFile : (List ℕ → Option (List ℕ)) → List ℕ → ℕ → BadBasis → Type 0
+IsBadTableFile files name number bad = (bad.name ≡ name) × IsBadTable files name number bad.word bad.place
+
+-- the fault of a basis file is told
+abbrev pub TellsRows : List ℕ → BasisFault → NoBasis → Type 0
+TellsRows name fault.TooManyRows told = IsTold name 1001 TooManyRows told
+TellsRows name (fault.BadBasisRow row) told = IsTold name row BadRow told
+TellsRows name (fault.NotRising row) told = IsTold name row NotRising told
+TellsRows name fault.NoMemory told = told ≡ NoMemory
+
+abbrev pub word_of : TableKind → BasisWord
+word_of kind.NotDocument = NotDocument
+word_of kind.NoTable = NoTable
+word_of kind.Select = Select
+word_of kind.Scaled = Scaled
+word_of kind.BadAge = BadAge
+word_of kind.AgeGap = AgeGap
+word_of kind.BadRate = BadRate
+
+-- the fault of a table file is told
+abbrev pub TellsTable : List ℕ → TableFault → NoBasis → Type 0
+TellsTable name (table.Bad at what) told = IsTold name at (word_of what) told
+TellsTable name table.NoMemory told = told ≡ NoMemory
+
+-- each table is that of its name
+abbrev pub AreTables : (List ℕ → Option (List ℕ)) → (List ℕ → Option Rates) → Type 0
+AreTables files tables = (name : List ℕ) → IfSome (tables name) (IsTable files name)
+
+-- the names that had a table have one
+abbrev pub KeepsKnown : (List ℕ → Option Rates) → (List ℕ → Option Rates) → Type 0
+KeepsKnown before now = (name : List ℕ) → IsSome (before name) → IsSome (now name)

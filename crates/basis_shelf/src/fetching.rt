@@ -1,0 +1,40 @@
+ghost use Rattle.std.specs.Prelude.{◌≡◌, ◌≤◌, List, Result, IfOk, IfErr, IfSome, IsErrOf};
+ghost use Rattle.outside_io.specs.Faults.{Rose};
+ghost use Rattle.basis_book.specs.Dated.{Dated};
+ghost use Rattle.basis_shelf.specs.declared.fault.BadBasis.{BadBasis as ABadBasis};
+ghost use Rattle.basis_shelf.specs.Bases.{IsBasis};
+ghost use Rattle.basis_shelf.specs.FirstBad.{IsFirstBad};
+ghost use Rattle.basis_shelf.specs.Answers.{Gives, IfBad, IsDue};
+
+use crate::fault::NoBasis;
+use crate::rows::fetch_rows;
+use crate::tables::fetch_tables;
+use basis_book::{Basis, Name};
+use outside_io::Shelf;
+use std::alloc::Global;
+
+/// The basis whose file has this name on the shelf.
+///
+/// The basis file is fetched and judged whole. Then each table is fetched and read once for each name, in the order of
+/// the first rows that name them; the first file that is absent, too long or refused is the answer.
+pub fn fetch_basis<H: Shelf>(
+    alloc: Global,
+    name: &Name,
+    shelf: &mut H,
+) -> Result<Basis, NoBasis>
+    ensures basis { IfSome (H.files shelf.old) (λ at. IfOk result (IsBasis at name.now)) }
+    ensures bad { IfSome (H.files shelf.old) (λ at. IfErr result (IfBad (IsFirstBad at name.now))) }
+    // Whatever answer is due is given, unless the shelf fails or memory is refused.
+    ensures due { IfSome (H.files shelf.old) (λ at. (answer : Result (List Dated) ABadBasis)
+        → IsDue at name.now answer → Gives result answer) }
+    ensures failed { IsErrOf result NoBasis.ReadFault → Rose (H.faults shelf.old) (H.faults shelf.new) }
+    ensures later { H.faults shelf.old ≤ H.faults shelf.new }
+    ensures stays { H.files shelf.new ≡ H.files shelf.old }
+{
+    let rows = fetch_rows(alloc, name, shelf)?;
+    let tables = fetch_tables(alloc, rows.as_slice(), shelf)?;
+    let Ok(basis) = Basis::of(rows, tables) else {
+        unreachable!()
+    };
+    Ok(basis)
+}

@@ -1,0 +1,17 @@
+//! Fetches a basis from a shelf: the basis file, and each table that it names.
+#![tactic(auto)]
+
+mod fault;
+mod fetching;
+mod laws;
+mod rows;
+mod shelf_file;
+mod tables;
+mod telling;
+#[cfg(test)]
+mod tests;
+
+pub use fault::{BadBasis, BasisWord, NoBasis};
+pub use fetching::fetch_basis;
+pub use laws::{a_basis_has_one_answer, a_file_has_one_answer};
+pub use telling::bad_basis_line;

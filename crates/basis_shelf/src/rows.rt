@@ -1,0 +1,45 @@
+// The basis file.
+ghost use Rattle.std.specs.Prelude.{◌≡◌, ◌≤◌, List, IfOk, IfErr, IfSome, IsErrOf};
+ghost use Rattle.outside_io.specs.Faults.{Rose};
+ghost use Rattle.basis_book.specs.Dated.{AreBounded};
+ghost use Rattle.basis_shelf.specs.Bases.{AreRowsOf};
+ghost use Rattle.basis_shelf.specs.Answers.{IfBad};
+ghost use Rattle.basis_shelf.specs.inside.Parts.{IsBadBookFile, TellsRows};
+
+use crate::fault::{BasisWord, NoBasis};
+use crate::shelf_file::{bad_file, fetch_file};
+use basis_book::{BasisFault, BasisRows, Name, read_basis};
+use outside_io::Shelf;
+use std::alloc::Global;
+
+/// The rows of the basis file.
+pub fn fetch_rows<H: Shelf>(
+    alloc: Global,
+    name: &Name,
+    shelf: &mut H,
+) -> Result<BasisRows, NoBasis>
+    ensures rows { IfSome (H.files shelf.old) (λ at. IfOk result (AreRowsOf at name.now)) }
+    ensures bounded { IfOk result AreBounded }
+    ensures bad { IfSome (H.files shelf.old) (λ at. IfErr result (IfBad (IsBadBookFile at name.now))) }
+    ensures failed { IsErrOf result NoBasis.ReadFault → Rose (H.faults shelf.old) (H.faults shelf.new) }
+    ensures later { H.faults shelf.old ≤ H.faults shelf.new }
+    ensures stays { H.files shelf.new ≡ H.files shelf.old }
+{
+    let bytes = fetch_file(alloc, name, 0, shelf)?;
+    match read_basis(alloc, bytes.as_slice()) {
+        Ok(rows) => Ok(rows),
+        Err(fault) => Err(no_rows(alloc, name, fault)),
+    }
+}
+
+/// The answer that the basis file has a fault.
+fn no_rows(alloc: Global, name: &Name, fault: BasisFault) -> NoBasis
+    ensures { TellsRows name.now fault result }
+{
+    match fault {
+        BasisFault::TooManyRows => bad_file(alloc, name, 1_001, BasisWord::TooManyRows),
+        BasisFault::BadBasisRow(row) => bad_file(alloc, name, row, BasisWord::BadRow),
+        BasisFault::NotRising(row) => bad_file(alloc, name, row, BasisWord::NotRising),
+        BasisFault::NoMemory => NoBasis::NoMemory,
+    }
+}

@@ -1,0 +1,46 @@
+// One file of a shelf.
+ghost use Rattle.std.specs.Prelude.{◌≡◌, ◌≤◌, vec_len, IfOk, IfErr, IfSome, IsErrOf};
+ghost use Rattle.outside_io.specs.Faults.{Rose};
+ghost use Rattle.basis_shelf.specs.Files.{IsFile};
+ghost use Rattle.basis_shelf.specs.Answers.{IfBad};
+ghost use Rattle.basis_shelf.specs.inside.Parts.{IsTold, IsUnread};
+
+use crate::fault::{BadBasis, BasisWord, NoBasis};
+use basis_book::Name;
+use outside_io::{FetchFault, Shelf};
+use policy_types::NoMemory;
+use std::alloc::Global;
+
+/// The answer that a file is bad.
+pub fn bad_file(alloc: Global, name: &Name, place: u32, word: BasisWord) -> NoBasis
+    ensures { IsTold name.now place word result }
+{
+    match Name::of(alloc, name.text().as_bytes()) {
+        Ok(Some(name)) => NoBasis::Bad(BadBasis { name, place, word }),
+        Ok(None) => unreachable!(),
+        Err(NoMemory) => NoBasis::NoMemory,
+    }
+}
+
+/// The bytes of a file; where it is absent or too long, this is the place.
+pub fn fetch_file<H: Shelf>(
+    alloc: Global,
+    name: &Name,
+    place: u32,
+    shelf: &mut H,
+) -> Result<Vec<u8>, NoBasis>
+    ensures file { IfSome (H.files shelf.old) (λ at. IfOk result (λ bytes. IsFile at name.now bytes.items)) }
+    ensures within { IfOk result (λ bytes. vec_len bytes ≤ 4194304) }
+    ensures bad { IfSome (H.files shelf.old) (λ at. IfErr result (IfBad (IsUnread at name.now place))) }
+    ensures failed { IsErrOf result NoBasis.ReadFault → Rose (H.faults shelf.old) (H.faults shelf.new) }
+    ensures later { H.faults shelf.old ≤ H.faults shelf.new }
+    ensures stays { H.files shelf.new ≡ H.files shelf.old }
+{
+    match shelf.fetch(alloc, name.text()) {
+        Ok(bytes) => Ok(bytes),
+        Err(FetchFault::Absent) => Err(bad_file(alloc, name, place, BasisWord::Absent)),
+        Err(FetchFault::TooLong) => Err(bad_file(alloc, name, place, BasisWord::TooLong)),
+        Err(FetchFault::Failed) => Err(NoBasis::ReadFault),
+        Err(FetchFault::NoMemory) => Err(NoBasis::NoMemory),
+    }
+}

@@ -1,0 +1,114 @@
+// The tables that the rows of a basis file name.
+ghost use Rattle.std.specs.Prelude.{◌≡◌, ◌≤◌, ◌+◌, ◌<◌, ℕ, List, length, All, IsSome, IfOk, OnOk, IfErr, IfSome, IsErrOf};
+ghost use Rattle.indexmap.specs.IndexMap.{get_by_text};
+ghost use Rattle.outside_io.specs.Faults.{Rose};
+ghost use Rattle.basis_book.specs.declared.row.BasisRow.{BasisRow as ARow};
+ghost use Rattle.basis_shelf.specs.Bases.{IsTable};
+ghost use Rattle.basis_shelf.specs.FirstBad.{IsFirstBadRow};
+ghost use Rattle.basis_shelf.specs.Answers.{IfBad};
+ghost use Rattle.basis_shelf.specs.inside.Parts.{AreTables, IsBadTableFile, KeepsKnown, TellsTable, word_of};
+
+use crate::fault::{BasisWord, NoBasis};
+use crate::shelf_file::{bad_file, fetch_file};
+use basis_book::{BasisRow, Name};
+use indexmap::IndexMap;
+use outside_io::Shelf;
+use rate_table::RateTable;
+use std::alloc::Global;
+use xtbml_subset::{TableFault, TableKind, read_table};
+
+/// The tables that the rows name, each fetched once.
+pub fn fetch_tables<H: Shelf>(
+    alloc: Global,
+    rows: &[BasisRow],
+    shelf: &mut H,
+) -> Result<IndexMap<String, RateTable>, NoBasis>
+    requires { length rows.now ≤ 1000 }
+    ensures known { IfOk result (λ tables. All (λ row. IsSome (get_by_text tables row.table)) rows.now) }
+    ensures right { IfSome (H.files shelf.old) (λ at. IfOk result (λ tables. AreTables at (get_by_text tables))) }
+    ensures bad { IfSome (H.files shelf.old) (λ at. IfErr result (IfBad (IsFirstBadRow at rows.now))) }
+    ensures failed { IsErrOf result NoBasis.ReadFault → Rose (H.faults shelf.old) (H.faults shelf.new) }
+    ensures later { H.faults shelf.old ≤ H.faults shelf.new }
+    ensures stays { H.files shelf.new ≡ H.files shelf.old }
+{
+    let mut tables = IndexMap::new(alloc);
+    for (index, row) in rows.iter().enumerate() {
+        add_table(alloc, &mut tables, &row.table, index as u32 + 1, shelf)?;
+    }
+    Ok(tables)
+}
+
+/// Adds the table of a row, unless it is there.
+fn add_table<H: Shelf>(
+    alloc: Global,
+    tables: &mut IndexMap<String, RateTable>,
+    name: &Name,
+    number: u32,
+    shelf: &mut H,
+) -> Result<(), NoBasis>
+    ensures added { OnOk result (IsSome (get_by_text tables.new name.now)) }
+    ensures kept { OnOk result (KeepsKnown (get_by_text tables.old) (get_by_text tables.new)) }
+    ensures right { IfSome (H.files shelf.old) (λ at. AreTables at (get_by_text tables.old)
+        → OnOk result (AreTables at (get_by_text tables.new))) }
+    ensures bad { IfSome (H.files shelf.old) (λ at. IfErr result (IfBad (IsBadTableFile at name.now number))) }
+    ensures failed { IsErrOf result NoBasis.ReadFault → Rose (H.faults shelf.old) (H.faults shelf.new) }
+    ensures later { H.faults shelf.old ≤ H.faults shelf.new }
+    ensures stays { H.files shelf.new ≡ H.files shelf.old }
+{
+    if tables.contains_key(name.text()) {
+        return Ok(());
+    }
+    let table = fetch_table(alloc, name, number, shelf)?;
+    let Ok(key) = String::from_str(alloc, name.text()) else {
+        return Err(NoBasis::NoMemory);
+    };
+    match tables.insert(key, table) {
+        Ok(_) => Ok(()),
+        Err(_) => Err(NoBasis::NoMemory),
+    }
+}
+
+/// The table of this name, which the row of this number names first.
+fn fetch_table<H: Shelf>(
+    alloc: Global,
+    name: &Name,
+    number: u32,
+    shelf: &mut H,
+) -> Result<RateTable, NoBasis>
+    ensures table { IfSome (H.files shelf.old) (λ at. IfOk result (IsTable at name.now)) }
+    ensures bad { IfSome (H.files shelf.old) (λ at. IfErr result (IfBad (IsBadTableFile at name.now number))) }
+    ensures failed { IsErrOf result NoBasis.ReadFault → Rose (H.faults shelf.old) (H.faults shelf.new) }
+    ensures later { H.faults shelf.old ≤ H.faults shelf.new }
+    ensures stays { H.files shelf.new ≡ H.files shelf.old }
+{
+    let bytes = fetch_file(alloc, name, number, shelf)?;
+    match read_table(alloc, bytes.as_slice()) {
+        Ok(table) => Ok(table),
+        Err(fault) => Err(no_table(alloc, name, fault)),
+    }
+}
+
+/// The answer that a table file has a fault.
+fn no_table(alloc: Global, name: &Name, fault: TableFault) -> NoBasis
+    ensures { TellsTable name.now fault result }
+{
+    match fault {
+        TableFault::Bad { at, kind } => bad_file(alloc, name, at, word_of(kind)),
+        TableFault::NoMemory => NoBasis::NoMemory,
+    }
+}
+
+/// The word for what is wrong with a table file.
+fn word_of(kind: TableKind) -> BasisWord
+    ensures { result ≡ word_of kind }
+{
+    match kind {
+        TableKind::NotDocument => BasisWord::NotDocument,
+        TableKind::NoTable => BasisWord::NoTable,
+        TableKind::Select => BasisWord::Select,
+        TableKind::Scaled => BasisWord::Scaled,
+        TableKind::BadAge => BasisWord::BadAge,
+        TableKind::AgeGap => BasisWord::AgeGap,
+        TableKind::BadRate => BasisWord::BadRate,
+    }
+}

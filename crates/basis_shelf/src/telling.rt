@@ -1,0 +1,48 @@
+// The line of a bad file.
+ghost use Rattle.std.specs.Prelude.{◌≡◌, ◌++◌, IfOk, OnOk};
+ghost use Rattle.basis_shelf.specs.Lines as spec;
+
+use crate::fault::{BadBasis, BasisWord};
+use money_core::Text;
+use policy_types::NoMemory;
+use statements::LineWriter;
+use std::alloc::Global;
+
+/// The line of a bad file: `badbasis`, its name, the place and the word, with a line feed.
+pub fn bad_basis_line(alloc: Global, bad: &BadBasis) -> Result<Text, NoMemory>
+    ensures { IfOk result (λ text. text ≡ spec.bad_basis_text bad.now) }
+{
+    let mut lines = LineWriter::new(alloc);
+    write_bad_basis(&mut lines, bad)?;
+    Ok(lines.into_text())
+}
+
+#[tactic(auto, unfolding(crate::specs::Lines::bad_basis_text))]
+fn write_bad_basis(lines: &mut LineWriter, bad: &BadBasis) -> Result<(), NoMemory>
+    ensures { OnOk result (lines.new ≡ lines.old ++ spec.bad_basis_text bad.now) }
+{
+    lines.first("badbasis")?;
+    lines.word(bad.name.text())?;
+    lines.number(bad.place)?;
+    lines.word(basis_word(bad.word))?;
+    lines.end()
+}
+
+fn basis_word(word: BasisWord) -> &'static str
+    ensures { result.now ≡ spec.basis_word word }
+{
+    match word {
+        BasisWord::Absent => "absent",
+        BasisWord::TooLong => "toolong",
+        BasisWord::BadRow => "badrow",
+        BasisWord::NotRising => "notrising",
+        BasisWord::TooManyRows => "toomanyrows",
+        BasisWord::NotDocument => "notdocument",
+        BasisWord::NoTable => "notable",
+        BasisWord::Select => "select",
+        BasisWord::Scaled => "scaled",
+        BasisWord::BadAge => "badage",
+        BasisWord::AgeGap => "agegap",
+        BasisWord::BadRate => "badrate",
+    }
+}
