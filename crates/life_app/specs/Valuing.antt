@@ -1,5 +1,6 @@
 -- How `value` ends: what was written of the policies at a position of the disk's file, by the basis on the shelf
-use Rattle.std.specs.Prelude.{◌≡◌, ℕ, ◌<◌, ◌≤◌, ◌⊎◌, ℤ, List, [], ◌∷◌, ◌++◌, length, take, codes, decimal, Option, IfSome}
+use Rattle.std.specs.Prelude.{◌≡◌, ℕ, ◌<◌, ◌≤◌, ◌⊎◌, ℤ, List, [], ◌∷◌, ◌++◌, length, take, codes, decimal, Option, IfSome, String}
+use Rattle.std.specs.Global.{Global}
 use Rattle.std.specs.List.{AllZip}
 use Rattle.outside_io.specs.Faults.{Rose}
 use Rattle.outside_io.specs.declared.disks.Disk.{Ghosts}
@@ -20,14 +21,15 @@ use Rattle.report_text.specs.Block.{block_text}
 use Rattle.office_state.specs.Images.{IsLeftBy}
 use Rattle.office_state.specs.Journals.{Opens}
 use Rattle.life_app.specs.Stating.{EndsReadOnly}
+use Rattle.life_app.specs.Words.{AskForValue}
 use Rattle.life_app.specs.Writing.{Shelving, Stream, WroteLine, WroteOrFailed}
 use Rattle.life_app.specs.declared.ending.Ending.{Ending}
 use Rattle.life_app.specs.declared.ending.Ending.TheVariants.{Ahead, BadBasis as NoRightBasis, NoMemory, ReadFault}
 
--- how many commands count for the values: all of them, or as many as are asked for
-abbrev pub position_of : At → List Command → ℕ
-position_of Now commands = length commands
-position_of (Position p) commands = p
+-- after how many commands the policies are valued, where there are so many: all of them, or as many as are asked for
+abbrev pub position_of : At → ℕ → ℕ
+position_of Now count = count
+position_of (Position p) count = p
 
 -- the policy's row on the day by the basis; where the policy is insured then, its bounds enclose the exact reserve
 pub record IsRowOf (basis : List Dated) (on : ℤ) (policy : Policy) (row : Row) : Type 0 where
@@ -39,10 +41,10 @@ pub record IsRowOf (basis : List Dated) (on : ℤ) (policy : Policy) (row : Row)
 -- written
 pub record IsValuation (commands : List Command) (on : ℤ) (at : At) (basis : List Dated) (Wrote : List ℕ → Type 0)
     : Type 0 where
-  pub reached : position_of at commands ≤ length commands
+  pub reached : position_of at (length commands) ≤ length commands
   pub rows : List Row
-  pub each : AllZip (IsRowOf basis on) (book (take (position_of at commands) commands)) rows
-  pub wrote : Wrote (block_text 0 on (position_of at commands) rows)
+  pub each : AllZip (IsRowOf basis on) (book (take (position_of at (length commands)) commands)) rows
+  pub wrote : Wrote (block_text 0 on (position_of at (length commands)) rows)
 
 -- the policies of the disk's file were valued, and the disk holds its commands still
 pub record IsValued {D : Type 0} (g : Ghosts D) (old new : D) (on : ℤ) (at : At) (basis : List Dated)
@@ -54,7 +56,7 @@ pub record IsValued {D : Type 0} (g : Ghosts D) (old new : D) (on : ℤ) (at : A
 
 -- more commands are asked for than there are, and how many there are was written
 pub record IsBeyond (commands : List Command) (at : At) (output : Stream) : Type 0 where
-  pub ahead : length commands < position_of at commands
+  pub ahead : length commands < position_of at (length commands)
   pub line : WroteLine output (codes "refused,ahead," ++ decimal (length commands))
 
 -- so it is with the disk's file, and the disk holds its commands still
@@ -90,3 +92,19 @@ EndsNoBasis _ _ _ _ = ⊥
 abbrev pub EndsValue : {D : Type 0} → Ghosts D → D → D → ℤ → At → List ℕ → Shelving → Stream → Ending → Type 0
 EndsValue g old new on at name shelf output ending =
     EndsByBasis g old new on at name shelf output ending ⊎ ((new ≡ old) × EndsNoBasis name shelf output ending)
+
+-- the words ask for values by a basis of which a file is bad, and the first bad one is named
+abbrev pub HasBadFile : List (String Global) → Option (List ℕ → Option (List ℕ)) → Stream → Type 0
+HasBadFile words told output =
+    (on : ℤ) × ((at : At) × ((name : List ℕ) × ((bad : BadBasis) × AskForValue words on at name
+    × IfSome told (λ files. IsFirstBad files name bad) × WroteOrFailed output (bad_basis_text bad))))
+
+-- this bad file is named
+abbrev pub SaysBadFile : BadBasis → Stream → ℕ → Type 0
+SaysBadFile bad output status = (status ≡ 4) × WroteOrFailed output (bad_basis_text bad)
+
+-- the words ask for values after more commands than the disk's file opens to
+abbrev pub IsPastTheEnd : {D : Type 0} → Ghosts D → D → List (String Global) → Type 0
+IsPastTheEnd g disk words =
+    (on : ℤ) × ((p : ℕ) × ((name : List ℕ) × AskForValue words on (Position p) name
+    × (g.honest disk → (commands : List Command) × Opens (g.reads disk) commands × (length commands < p))))
