@@ -1,0 +1,22 @@
+use Rattle.std.proofs.Common.{refl}
+use Rattle.std.specs.Fmt.{digits}
+use Rattle.life_dates.specs.Calendar.{date_of, date_at, year_of, month_of, days_before_year, days_of_months}
+use Rattle.life_dates.specs.DayText.{day_text}
+use Rattle.report_text.specs.Block.{row_text, total_text, heading_text}
+use Rattle.report_text.proofs.worked.worked_valuations.Goals as goal
+
+pub returns-clause-rows : goal.returns-clause-rows
+unfolding row_text digits
+returns-clause-rows c = (refl, refl, refl)
+
+pub returns-clause-totals : goal.returns-clause-totals
+unfolding total_text digits
+returns-clause-totals c = (refl, refl, refl)
+
+pub returns-clause-none : goal.returns-clause-none
+unfolding heading_text total_text day_text date_of date_at year_of month_of days_before_year days_of_months digits
+returns-clause-none c = refl
+
+pub returns-clause-two : goal.returns-clause-two
+unfolding heading_text row_text total_text day_text date_of date_at year_of month_of days_before_year days_of_months digits
+returns-clause-two c = refl

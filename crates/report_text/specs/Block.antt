@@ -1,0 +1,81 @@
+-- The text of a valuation: a line that says what was valued, a row for each policy, and the total
+use Rattle.std.specs.Prelude.{ℕ, ◌≤◌, ⊤, Bool, true, false, List, [], ◌∷◌, ◌++◌, ℤ, codes, decimal, length}
+use Rattle.std.specs.List.{All, sum_by, count_by, flat_map}
+use Rattle.life_dates.specs.DayText.{day_text}
+use Rattle.money_core.specs.CentsText.{cents_text}
+use Rattle.statements.specs.Words.{status_word}
+use Rattle.statements.specs.Lines.{line_of}
+use Rattle.plan_benefits.specs.declared.fault.NotValued.{NotValued}
+use Rattle.plan_benefits.specs.declared.fault.NotValued.TheVariants.{NoBasis, BelowTable, PastTable, RateHigh}
+use Rattle.policy_value.specs.declared.worth.Row.{Row}
+use Rattle.policy_value.specs.declared.worth.Worth.{Worth}
+use Rattle.policy_value.specs.declared.worth.Worth.TheVariants.{Bounds, Word}
+
+-- why a policy has no reserve
+abbrev pub reason_word : NotValued → List ℕ
+reason_word NoBasis = codes "nobasis"
+reason_word BelowTable = codes "belowtable"
+reason_word PastTable = codes "pasttable"
+reason_word RateHigh = codes "ratehigh"
+
+-- the lower and the upper bound of a reserve, or why there are none
+abbrev pub worth_fields : Worth → List (List ℕ)
+worth_fields (Bounds lo hi) = cents_text lo ∷ cents_text hi ∷ []
+worth_fields (Word reason) = reason_word reason ∷ []
+
+-- the row of a policy: its number, its status, the years of its reserve, and what it is worth
+unfoldable pub row_text : Row → List ℕ
+row_text row =
+    line_of (codes "row") (decimal row.id ∷ status_word row.status ∷ decimal row.t ∷ worth_fields row.worth)
+
+-- what a row adds to the sum of the lower bounds, in cents; a row with a word adds nothing
+abbrev pub lower_bound : Worth → ℕ
+lower_bound (Bounds lo hi) = lo
+lower_bound (Word reason) = 0
+
+-- what a row adds to the sum of the upper bounds, in cents
+abbrev pub upper_bound : Worth → ℕ
+upper_bound (Bounds lo hi) = hi
+upper_bound (Word reason) = 0
+
+-- a row with a word has no value
+abbrev pub is_unvalued : Worth → Bool
+is_unvalued (Bounds lo hi) = false
+is_unvalued (Word reason) = true
+
+-- the sum of the lower bounds of all rows that have bounds
+abbrev pub lower_sum : List Row → ℕ
+lower_sum rows = sum_by (λ (row : Row). lower_bound row.worth) rows
+
+-- the sum of their upper bounds
+abbrev pub upper_sum : List Row → ℕ
+upper_sum rows = sum_by (λ (row : Row). upper_bound row.worth) rows
+
+-- how many rows have a word
+abbrev pub unvalued_count : List Row → ℕ
+unvalued_count rows = count_by (λ (row : Row). is_unvalued row.worth) rows
+
+-- the total: the sums of the bounds, and the number of rows without any
+unfoldable pub total_text : List Row → List ℕ
+total_text rows =
+    line_of (codes "total")
+    (cents_text (lower_sum rows) ∷ cents_text (upper_sum rows) ∷ decimal (unvalued_count rows) ∷ [])
+
+-- who asked, the day of the valuation, the position of the journal that is valued, and the number of policies
+unfoldable pub heading_text : (lane : ℕ) (on : ℤ) (position policies : ℕ) → List ℕ
+heading_text lane on position policies =
+    line_of (decimal lane) (codes "value" ∷ day_text on ∷ decimal position ∷ decimal policies ∷ [])
+
+-- the whole of a valuation
+abbrev pub block_text : (lane : ℕ) (on : ℤ) (position : ℕ) → List Row → List ℕ
+block_text lane on position rows =
+    heading_text lane on position (length rows) ++ flat_map row_text rows ++ total_text rows
+
+-- no bound is above 200,000,000.00
+abbrev pub IsSummable : Worth → Type 0
+IsSummable (Bounds lo hi) = (lo ≤ 20000000000) × (hi ≤ 20000000000)
+IsSummable (Word reason) = ⊤
+
+-- none of the rows has a bound above that
+abbrev pub AreSummable : List Row → Type 0
+AreSummable rows = All (λ (row : Row). IsSummable row.worth) rows

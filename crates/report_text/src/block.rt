@@ -1,0 +1,59 @@
+// The whole text of a valuation.
+ghost use Rattle.std.specs.Prelude.{◌≡◌, ◌≤◌, ◌++◌, length, IfOk, OnOk};
+ghost use Rattle.life_dates.specs.Calendar.{IsDay};
+ghost use Rattle.report_text.specs.Block.{heading_text, block_text, AreSummable};
+
+use crate::rows::write_row;
+use crate::totals::write_total;
+use itoa::Buffer;
+use money_core::Text;
+use policy_types::NoMemory;
+use policy_value::Rows;
+use statements::LineWriter;
+use std::alloc::Global;
+
+/// The whole of a valuation: a line like `1,value,2021-01-01,300,25`, with the lane that asked for it, its day,
+/// the position of the journal that is valued and the number of policies; then their rows and the total.
+///
+/// A valuation that no lane asked for has the lane 0.
+pub fn print_block(
+    alloc: Global,
+    lane: u8,
+    on: i32,
+    position: u32,
+    rows: &Rows,
+) -> Result<Text, NoMemory>
+    requires on { IsDay on }
+    requires few { length rows.now ≤ 4000000 }
+    requires bounded { AreSummable rows.now }
+    ensures { IfOk result (λ text. text ≡ block_text lane on position rows.now) }
+{
+    let mut lines = LineWriter::new(alloc);
+    write_heading(&mut lines, lane, on, position, rows.as_slice().len() as u32)?;
+    for row in rows.as_slice() {
+        write_row(&mut lines, row)?;
+    }
+    write_total(&mut lines, rows)?;
+    Ok(lines.into_text())
+}
+
+// Adds the line that says what was valued.
+#[tactic(auto, unfolding(crate::specs::Block::heading_text))]
+fn write_heading(
+    lines: &mut LineWriter,
+    lane: u8,
+    on: i32,
+    position: u32,
+    policies: u32,
+) -> Result<(), NoMemory>
+    requires { IsDay on }
+    ensures { OnOk result (lines.new ≡ lines.old ++ heading_text lane on position policies) }
+{
+    let mut buffer = Buffer::new();
+    lines.first(buffer.format(lane))?;
+    lines.word("value")?;
+    lines.day(on)?;
+    lines.number(position)?;
+    lines.number(policies)?;
+    lines.end()
+}

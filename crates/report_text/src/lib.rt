@@ -1,0 +1,14 @@
+//! The text of a valuation: a line that says what was valued, a row for each policy, and the total.
+#![tactic(auto)]
+
+mod block;
+mod rows;
+#[cfg(test)]
+mod tests;
+mod totals;
+mod worked;
+
+pub use block::print_block;
+pub use rows::print_row;
+pub use totals::{Totals, print_total};
+pub use worked::worked_valuations;

@@ -1,0 +1,62 @@
+// The rows of a valuation.
+ghost use Rattle.std.specs.Prelude.{◌≡◌, ◌++◌, IfOk, OnOk};
+ghost use Rattle.statements.specs.Lines.{behind_commas};
+ghost use Rattle.report_text.specs.Block as spec;
+ghost use Rattle.report_text.specs.Block.{row_text, worth_fields, IsSummable};
+
+use money_core::Text;
+use policy_types::NoMemory;
+use policy_value::{NotValued, Row, Worth};
+use statements::{LineWriter, status_word};
+use std::alloc::Global;
+
+/// The row of a policy, as `row,7001,inforce,1,127.22,127.23`, or with a word for why it has no value, as
+/// `row,7001,inforce,0,pasttable`. It ends with a line feed.
+pub fn print_row(alloc: Global, row: &Row) -> Result<Text, NoMemory>
+    requires { IsSummable row.now.worth }
+    ensures { IfOk result (λ text. text ≡ row_text row.now) }
+{
+    let mut lines = LineWriter::new(alloc);
+    write_row(&mut lines, row)?;
+    Ok(lines.into_text())
+}
+
+// Adds the row of a policy.
+#[tactic(auto, unfolding(crate::specs::Block::row_text))]
+pub fn write_row(lines: &mut LineWriter, row: &Row) -> Result<(), NoMemory>
+    requires { IsSummable row.now.worth }
+    ensures { OnOk result (lines.new ≡ lines.old ++ row_text row.now) }
+{
+    lines.first("row")?;
+    lines.number(row.id)?;
+    lines.word(status_word(row.status))?;
+    lines.number(row.t as u32)?;
+    write_worth(lines, row.worth)?;
+    lines.end()
+}
+
+// Adds the bounds, or the word.
+fn write_worth(lines: &mut LineWriter, worth: Worth) -> Result<(), NoMemory>
+    requires { IsSummable worth }
+    ensures { OnOk result (lines.new ≡ lines.old ++ behind_commas (worth_fields worth)) }
+{
+    match worth {
+        Worth::Bounds { lo, hi } => {
+            lines.cents(lo as i64)?;
+            lines.cents(hi as i64)
+        }
+        Worth::Word(reason) => lines.word(reason_word(reason)),
+    }
+}
+
+// The word for why a policy has no value.
+fn reason_word(reason: NotValued) -> &'static str
+    ensures { result.now ≡ spec.reason_word reason }
+{
+    match reason {
+        NotValued::NoBasis => "nobasis",
+        NotValued::BelowTable => "belowtable",
+        NotValued::PastTable => "pasttable",
+        NotValued::RateHigh => "ratehigh",
+    }
+}

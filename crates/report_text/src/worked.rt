@@ -1,0 +1,10 @@
+// Worked valuations, each a theorem over the definitions alone.
+ghost use Rattle.report_text.specs.Worked.{WorkedRows, WorkedTotals, NoPolicies, TwoPolicies};
+
+/// Rows, totals and whole valuations of a few policies.
+pub fn worked_valuations()
+    ensures rows { WorkedRows }
+    ensures totals { WorkedTotals }
+    ensures none { NoPolicies }
+    ensures two { TwoPolicies }
+{}
