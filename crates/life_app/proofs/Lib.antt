@@ -8,4 +8,5 @@ pub mod RunSteps
 pub mod LookSteps
 pub mod StateSteps
 pub mod ReadingSteps
+pub mod ValueSteps
 pub mod ProgramSteps

@@ -83,17 +83,6 @@ unread_refused input output NoMemory ends held = inr refl
 unread_refused input output InputFault ends held = absurd (held ends.0)
 unread_refused input output _ ends held = absurd ends
 
--- no words ask for a run and for books
-run_or_state : (words : List (String Global)) → AskFor words Run → AskFor words State → ⊥
-run_or_state [] run state = run
-run_or_state (word ∷ []) run state = let same : codes "run" ≡ codes "state" = sym run ∙ state in absurd (cc)
-run_or_state (word ∷ other ∷ words) run state = run
-
-run_or_state_of : (words : List (String Global)) (id : ℕ) → AskFor words Run → AskFor words (StateOf id) → ⊥
-run_or_state_of [] id run state = run
-run_or_state_of (word ∷ []) id run state = state.1
-run_or_state_of (word ∷ other ∷ words) id run state = run
-
 module _ {D : Type 0} (g : Ghosts D) (old new : D) where
   -- then the file opens to no commands
   opens_to_none : (output : Stream) → IsRefusedJournal g old new output → g.honest old → OpensToNone (g.reads old)
@@ -146,109 +135,157 @@ module _ {D : Type 0} (g : Ghosts D) (old new : D) where
   refused_at_opening lanes output WriteFault ends honest none disk_held = ran_nowhere _ _ _ ends.1 honest none
   refused_at_opening lanes output _ ends honest none disk_held = absurd ends
 
-  -- what `state` says of a file that opens to none, and of one that opens to some commands
-  books_as_before : (text_of : List Command → List ℕ) (output : Stream) (ending : Ending) → EndsState g old new text_of output ending
-      → g.honest old → OpensToNone (g.reads old) → g.reads new ≡ g.reads old
-  books_as_before text_of output Done ends honest none = absurd (none ends.commands (ends.opened honest))
-  books_as_before text_of output WriteFault ends honest none = absurd (none ends.1.commands (ends.1.opened honest))
-  books_as_before text_of output BadJournal ends honest none = (ends.alone.unwritten honest (finished (g.reads old) none)).facts.reads
-  books_as_before text_of output DiskFault ends honest none = (ends.2.unwritten honest (finished (g.reads old) none)).facts.reads
-  books_as_before text_of output NoMemory ends honest none = (ends.1.unwritten honest (finished (g.reads old) none)).facts.reads
-  books_as_before text_of output _ ends honest none = absurd ends
+  -- what a mode that only reads says of a file that opens to none, and of one that opens to some commands
+  module _ (Tells : (List ℕ → Type 0) → Type 0) (output : Stream) where
+    pub read_as_before : (ending : Ending) → EndsReadOnly g old new Tells output ending
+        → ((Wrote : List ℕ → Type 0) → Tells Wrote → ⊥) → g.honest old → OpensToNone (g.reads old) → g.reads new ≡ g.reads old
+    read_as_before Done ends never honest none = absurd (never (WroteAll output) ends)
+    read_as_before WriteFault ends never honest none = absurd (never (AppendsPart output.before output.after) ends.1)
+    read_as_before BadJournal ends never honest none = (ends.alone.unwritten honest (finished (g.reads old) none)).facts.reads
+    read_as_before DiskFault ends never honest none = (ends.2.unwritten honest (finished (g.reads old) none)).facts.reads
+    read_as_before NoMemory ends never honest none = (ends.1.unwritten honest (finished (g.reads old) none)).facts.reads
+    read_as_before _ ends never honest none = absurd ends
 
-  books_to_end : (text_of : List Command → List ℕ) (output : Stream) (ending : Ending) (commands : List Command)
-      → EndsState g old new text_of output ending → g.honest old → Opens (g.reads old) commands
-      → (Rose output.faults_before output.faults_after → ⊥) → (Rose (g.faults old) (g.faults new) → ⊥)
-      → (status_of ending ≡ 0) ⊎ (status_of ending ≡ 9)
-  books_to_end text_of output Done commands ends honest opens output_held disk_held = inl refl
-  books_to_end text_of output NoMemory commands ends honest opens output_held disk_held = inr refl
-  books_to_end text_of output WriteFault commands ends honest opens output_held disk_held = absurd (output_held ends.0)
-  books_to_end text_of output DiskFault commands ends honest opens output_held disk_held = absurd (disk_held ends.0)
-  books_to_end text_of output BadJournal commands ends honest opens output_held disk_held =
-      absurd (opens_to_none output ends honest commands opens)
-  books_to_end text_of output _ commands ends honest opens output_held disk_held = absurd ends
+    pub read_to_end : (ending : Ending) (commands : List Command)
+        → EndsReadOnly g old new Tells output ending → g.honest old → Opens (g.reads old) commands
+        → (Rose output.faults_before output.faults_after → ⊥) → (Rose (g.faults old) (g.faults new) → ⊥)
+        → (status_of ending ≡ 0) ⊎ (status_of ending ≡ 9)
+    read_to_end Done commands ends honest opens output_held disk_held = inl refl
+    read_to_end NoMemory commands ends honest opens output_held disk_held = inr refl
+    read_to_end WriteFault commands ends honest opens output_held disk_held = absurd (output_held ends.0)
+    read_to_end DiskFault commands ends honest opens output_held disk_held = absurd (disk_held ends.0)
+    read_to_end BadJournal commands ends honest opens output_held disk_held =
+        absurd (opens_to_none output ends honest commands opens)
+    read_to_end _ commands ends honest opens output_held disk_held = absurd ends
 
-  books_refused : (text_of : List Command → List ℕ) (output : Stream) (ending : Ending) → EndsState g old new text_of output ending
-      → g.honest old → OpensToNone (g.reads old) → (Rose (g.faults old) (g.faults new) → ⊥)
-      → (status_of ending ≡ 5) ⊎ (status_of ending ≡ 9)
-  books_refused text_of output BadJournal ends honest none disk_held = inl refl
-  books_refused text_of output NoMemory ends honest none disk_held = inr refl
-  books_refused text_of output DiskFault ends honest none disk_held = absurd (disk_held ends.0)
-  books_refused text_of output Done ends honest none disk_held = absurd (none ends.commands (ends.opened honest))
-  books_refused text_of output WriteFault ends honest none disk_held = absurd (none ends.1.commands (ends.1.opened honest))
-  books_refused text_of output _ ends honest none disk_held = absurd ends
+    pub read_refused : (ending : Ending) → EndsReadOnly g old new Tells output ending
+        → ((Wrote : List ℕ → Type 0) → Tells Wrote → ⊥) → (Rose (g.faults old) (g.faults new) → ⊥)
+        → (status_of ending ≡ 5) ⊎ (status_of ending ≡ 9)
+    read_refused BadJournal ends never disk_held = inl refl
+    read_refused NoMemory ends never disk_held = inr refl
+    read_refused DiskFault ends never disk_held = absurd (disk_held ends.0)
+    read_refused Done ends never disk_held = absurd (never (WroteAll output) ends)
+    read_refused WriteFault ends never disk_held = absurd (never (AppendsPart output.before output.after) ends.1)
+    read_refused _ ends never disk_held = absurd ends
 
-  module _ (words : List (String Global)) (input output : Stream) (InputStays : Type 0) where
-    -- the words `run` ran a script
-    run_ends : (ending : Ending) → Does g old new words input output InputStays ending → AskFor words Run
-        → EndsRun g old new input output ending
-    run_ends ending does run = elim does [
-      | inl (Run, asked, ends) ↦ ends
-      | inl (State, asked, ends) ↦ absurd (run_or_state words run asked)
-      | inl (StateOf id, asked, ends) ↦ absurd (run_or_state_of words id run asked)
-      | inr usage ↦ absurd (usage.0 Run run)
+  -- nothing is told of a file that opens to none
+  never_stated : (text_of : List Command → List ℕ) → g.honest old → OpensToNone (g.reads old)
+      → (Wrote : List ℕ → Type 0) → IsStated g old new text_of Wrote → ⊥
+  never_stated text_of honest none Wrote stated = none stated.commands (stated.opened honest)
+
+  module _ (words : List (String Global)) (input output : Stream) (shelf : Shelving) (InputStays ShelfStays : Type 0) where
+    unasked : (ending : Ending) → SaysUnasked words output ending → (mode : Mode) → AskFor words mode → status_of ending ≡ 9
+    unasked Usage says mode asked = absurd (says.0 mode asked)
+    unasked NoMemory says mode asked = refl
+    unasked _ says mode asked = absurd says
+
+    -- the mode that the words ask for ended so, or there was no memory to read them
+    pub as_asked : (ending : Ending) → Does g old new words input output shelf InputStays ShelfStays ending
+        → (mode : Mode) → AskFor words mode
+        → EndsMode g old new mode input output shelf InputStays ShelfStays ending ⊎ (status_of ending ≡ 9)
+    as_asked ending does mode asked = elim does [
+      | inl (other, asked_too, ends) ↦ inl (
+        subst (λ (m : Mode). EndsMode g old new m input output shelf InputStays ShelfStays ending)
+            (one_mode words other mode asked_too asked) ends
+      )
+      | inr none ↦ inr (unasked ending none.says mode asked)
     ]
 
-    -- the words `state` wrote books
-    state_ends : (ending : Ending) → Does g old new words input output InputStays ending → AskForState words
-        → (text_of : List Command → List ℕ) × EndsState g old new text_of output ending
-    state_ends ending does state = elim does [
-      | inl (Run, asked, ends) ↦ absurd (elim state [ inl all ↦ run_or_state words asked all | inr one ↦ run_or_state_of words one.0 asked one.1 ])
-      | inl (State, asked, ends) ↦ (books_text, ends.1)
-      | inl (StateOf id, asked, ends) ↦ (policy_account id, ends.1)
-      | inr usage ↦ absurd (elim state [ inl all ↦ usage.0 State all | inr one ↦ usage.0 (StateOf one.0) one.1 ])
+    -- words that ask for nothing
+    pub as_nothing : (ending : Ending) → Does g old new words input output shelf InputStays ShelfStays ending
+        → AskForNothing words → (status_of ending ≡ 2) ⊎ (status_of ending ≡ 9)
+    as_nothing ending does nothing = elim does [
+      | inl (mode, asked, ends) ↦ absurd (nothing mode asked)
+      | inr none ↦ said ending none.says
     ]
+      where
+        said : (ending : Ending) → SaysUnasked words output ending → (status_of ending ≡ 2) ⊎ (status_of ending ≡ 9)
+        said Usage says = inl refl
+        said NoMemory says = inr refl
+        said _ says = absurd says
 
-    module _ (ending : Ending) (does : Does g old new words input output InputStays ending) where
+    -- no mode ends as words of no command do
+    is_usage : (ending : Ending) → Does g old new words input output shelf InputStays ShelfStays ending → ending ≡ Usage
+        → AskForNothing words
+    is_usage Usage (inl (Run basis, asked, stays, inl read)) is = absurd read.ends
+    is_usage Usage (inl (Run basis, asked, stays, inr unread)) is = absurd unread.1
+    is_usage Usage (inl (Value on at workers name, asked, stays, ends)) is = absurd (never_usage ends)
+      where
+        never_usage : EndsValue g old new on at name shelf output Usage → ⊥
+        never_usage (inl by) = elim by.ends [ | inl read ↦ read | inr ahead ↦ usage_ahead ahead.0 ]
+        never_usage (inr none) = none.1
+    is_usage Usage (inl (State None, asked, stays, ends)) is = absurd ends.1
+    is_usage Usage (inl (State (Some id), asked, stays, ends)) is = absurd ends.1
+    is_usage Usage (inr none) is = none.says.0
+    is_usage Done does is = absurd (cc)
+
+    module _ (ending : Ending) (does : Does g old new words input output shelf InputStays ShelfStays ending) where
+      ran : AskForRun words → EndsRun g old new input output ending ⊎ (status_of ending ≡ 9)
+      ran asked = elim (as_asked ending does (Run asked.0) asked.1) [ | inl ends ↦ inl ends.1 | inr none ↦ inr none ]
+
       pub unopened : g.honest old → OpensToNone (g.reads old) → g.reads new ≡ g.reads old
       unopened honest none = elim does [
-        | inl (Run, asked, ends) ↦ elim ends [
-          | inl read ↦ reads_as_before read.lanes output ending read.ends honest none
-          | inr unread ↦ ap g.reads unread.0
-        ]
-        | inl (State, asked, ends) ↦ books_as_before books_text output ending ends.1 honest none
-        | inl (StateOf id, asked, ends) ↦ books_as_before (policy_account id) output ending ends.1 honest none
-        | inr usage ↦ ap g.reads usage.1.disk
+        | inl (Run basis, asked, stays, inl read) ↦ reads_as_before read.lanes output ending read.ends honest none
+        | inl (Run basis, asked, stays, inr unread) ↦ ap g.reads unread.0
+        | inl (Value on at workers name, asked, stays, ends) ↦ value_as_before g old new on at name shelf output ending ends honest none
+        | inl (State None, asked, stays, ends) ↦
+            read_as_before (IsStated g old new books_text) output ending ends.1 (never_stated books_text honest none) honest none
+        | inl (State (Some id), asked, stays, ends) ↦
+            read_as_before (IsStated g old new (policy_account id)) output ending ends.1 (never_stated (policy_account id) honest none) honest none
+        | inr unasked ↦ ap g.reads unasked.disk
       ]
 
       pub stated : (commands : List Command) → AskForState words → g.honest old → Opens (g.reads old) commands
           → (Rose output.faults_before output.faults_after → ⊥) → (Rose (g.faults old) (g.faults new) → ⊥)
           → (status_of ending ≡ 0) ⊎ (status_of ending ≡ 9)
-      stated commands state honest opens output_held disk_held =
-          let ends = state_ends ending does state in
-          books_to_end ends.0 output ending commands ends.1 honest opens output_held disk_held
+      stated commands (None, asked) honest opens output_held disk_held = elim (as_asked ending does (State None) asked) [
+        | inl ends ↦ read_to_end (IsStated g old new books_text) output ending commands ends.2 honest opens output_held disk_held
+        | inr none ↦ inr none
+      ]
+      stated commands (Some id, asked) honest opens output_held disk_held = elim (as_asked ending does (State (Some id)) asked) [
+        | inl ends ↦ read_to_end (IsStated g old new (policy_account id)) output ending commands ends.2 honest opens output_held disk_held
+        | inr none ↦ inr none
+      ]
 
-      pub unstated : AskForState words → g.honest old → OpensToNone (g.reads old) → (Rose (g.faults old) (g.faults new) → ⊥)
-          → (status_of ending ≡ 5) ⊎ (status_of ending ≡ 9)
-      unstated state honest none disk_held =
-          let ends = state_ends ending does state in
-          books_refused ends.0 output ending ends.1 honest none disk_held
+      pub unstated : AskForState words → g.honest old → OpensToNone (g.reads old)
+          → (Rose (g.faults old) (g.faults new) → ⊥) → (status_of ending ≡ 5) ⊎ (status_of ending ≡ 9)
+      unstated (None, asked) honest none disk_held = elim (as_asked ending does (State None) asked) [
+        | inl ends ↦ read_refused (IsStated g old new books_text) output ending ends.2 (never_stated books_text honest none) disk_held
+        | inr no ↦ inr no
+      ]
+      unstated (Some id, asked) honest none disk_held = elim (as_asked ending does (State (Some id)) asked) [
+        | inl ends ↦ read_refused (IsStated g old new (policy_account id)) output ending ends.2 (never_stated (policy_account id) honest none) disk_held
+        | inr no ↦ inr no
+      ]
 
-      pub complete : (bytes : List ℕ) (lanes : List Lane) (commands : List Command) → AskFor words Run
+      pub complete : (bytes : List ℕ) (lanes : List Lane) (commands : List Command) → AskForRun words
           → input.before ≡ Some bytes → length bytes ≤ 16777216 → Reads bytes lanes
           → g.honest old → Opens (g.reads old) commands → (Rose input.faults_before input.faults_after → ⊥)
           → (Rose output.faults_before output.faults_after → ⊥) → (Rose (g.faults old) (g.faults new) → ⊥)
           → (status_of ending ≡ 0) ⊎ (status_of ending ≡ 9)
       complete bytes lanes commands run told short reads honest opens input_held output_held disk_held =
-          elim (run_ends ending does run) [
-            | inl read ↦ ran_to_end read.lanes output ending commands read.ends honest opens output_held disk_held
-            | inr unread ↦ inr (unread_readable input output ending bytes lanes unread.1 told short reads input_held)
+          elim (ran run) [
+            | inl (inl read) ↦ ran_to_end read.lanes output ending commands read.ends honest opens output_held disk_held
+            | inl (inr unread) ↦ inr (unread_readable input output ending bytes lanes unread.1 told short reads input_held)
+            | inr none ↦ inr none
           ]
 
-      pub refused_exactly : (bytes : List ℕ) (lanes : List Lane) → AskFor words Run
+      pub refused_exactly : (bytes : List ℕ) (lanes : List Lane) → AskForRun words
           → input.before ≡ Some bytes → length bytes ≤ 16777216 → Reads bytes lanes
           → g.honest old → OpensToNone (g.reads old) → (Rose input.faults_before input.faults_after → ⊥)
           → (Rose (g.faults old) (g.faults new) → ⊥) → (status_of ending ≡ 5) ⊎ (status_of ending ≡ 9)
       refused_exactly bytes lanes run told short reads honest none input_held disk_held =
-          elim (run_ends ending does run) [
-            | inl read ↦ refused_at_opening read.lanes output ending read.ends honest none disk_held
-            | inr unread ↦ inr (unread_readable input output ending bytes lanes unread.1 told short reads input_held)
+          elim (ran run) [
+            | inl (inl read) ↦ refused_at_opening read.lanes output ending read.ends honest none disk_held
+            | inl (inr unread) ↦ inr (unread_readable input output ending bytes lanes unread.1 told short reads input_held)
+            | inr no ↦ inr no
           ]
 
-      pub script_refused : (bytes : List ℕ) → AskFor words Run → input.before ≡ Some bytes → IsUnreadable bytes
+      pub script_refused : (bytes : List ℕ) → AskForRun words → input.before ≡ Some bytes → IsUnreadable bytes
           → (Rose input.faults_before input.faults_after → ⊥) → (status_of ending ≡ 3) ⊎ (status_of ending ≡ 9)
       script_refused bytes run told unreadable held =
-          elim (run_ends ending does run) [
-            | inl read ↦ never_readable input.before bytes read.lanes read.read told unreadable
-            | inr unread ↦ unread_refused input output ending unread.1 held
+          elim (ran run) [
+            | inl (inl read) ↦ never_readable input.before bytes read.lanes read.read told unreadable
+            | inl (inr unread) ↦ unread_refused input output ending unread.1 held
+            | inr none ↦ inr none
           ]

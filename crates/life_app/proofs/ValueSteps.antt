@@ -2,7 +2,7 @@
 use Rattle.std.proofs.Common.{◌≡◌, ℕ, ◌+◌, ◌≤◌, ◌<◌, ℤ, List, [], ◌∷◌, ◌++◌, length, take, get_or, refl, ap, sym, ◌∙◌, subst, inl, inr, Option, Some, None, Result, Ok, Err, Vec, Global, arith}
 use Rattle.std.specs.Prelude.{IfOk, IfSome, slice_get}
 use Rattle.std.specs.List.{All, AllByRecursion, AllZip, cons_option, filter_map, map}
-use Rattle.std.proofs.lemmas.List.{take_more}
+use Rattle.std.proofs.lemmas.List.{length-map, length-take, take_more}
 use Rattle.std.proofs.lemmas.List.Elements.{All-from_recursion}
 use Rattle.std.proofs.lemmas.Option.{slice_get-get_or}
 use Rattle.outside_io.specs.Faults.{Rose}
@@ -84,7 +84,7 @@ issues_length (command ∷ commands) =
 pub book_length : (commands : List Command) → length (book commands) ≤ length commands
 book_length commands =
     let ids : length (map (λ (p : Policy). p.id) (book commands)) ≡ length (filter_map issue_id commands) = ap length (book-ids commands) in
-    let same : length (map (λ (p : Policy). p.id) (book commands)) ≡ length (book commands) = length-map (λ (p : Policy). p.id) (book commands) in
+    let same : length (map (λ (p : Policy). p.id) (book commands)) ≡ length (book commands) = length-map (book commands) (λ (p : Policy). p.id) in
     let few = issues_length commands in
     omega (arith, ids, same, few)
 
@@ -94,7 +94,7 @@ pub rows_few : (basis : List Dated) (on : ℤ) (commands : List Command) (positi
 rows_few basis on commands position most rows all few =
     let each = zip_length (IsRowOf basis on) (book (take position commands)) rows all in
     let policies = book_length (take position commands) in
-    let taken : length (take position commands) ≤ length commands = length-take-le position commands in
+    let taken = length-take position commands in
     omega (arith, each, policies, taken, few)
 
 -- the answer that there is no basis
