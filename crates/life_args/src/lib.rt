@@ -1,9 +1,17 @@
 //! What the program is asked to do, by the words of its command line.
 #![tactic(auto)]
 
+mod commands;
 mod fault;
+mod line;
 mod mode;
 mod reading;
+mod run;
+mod state;
+#[cfg(test)]
+mod tests;
+mod value;
+mod values;
 
 pub use fault::WordsFault;
 pub use mode::Mode;

@@ -1,0 +1,78 @@
+// What the values of a command line say.
+ghost use Rattle.std.specs.Prelude.{option_map};
+ghost use Rattle.life_args.specs.Values.{IsPositionOr, AreWorkersOr, IsBasisOr, IsPolicyOr};
+ghost use Rattle.life_args.specs.inside.Commands.{Gives, IsDayIn};
+
+use crate::fault::WordsFault;
+use basis_book::Name;
+use life_dates::parse_day;
+use money_core::parse_number;
+use policy_types::{At, NoMemory};
+use std::alloc::Global;
+
+/// The day of a valuation, in days since 1970-01-01.
+pub fn day_of(value: Option<&str>) -> Result<i32, WordsFault>
+    ensures { Gives (IsDayIn (option_map (λ text. text.now) value)) result }
+{
+    let Some(text) = value else {
+        return Err(WordsFault::Usage);
+    };
+    match parse_day(text.as_bytes()) {
+        Some(day) => Ok(day),
+        None => Err(WordsFault::Usage),
+    }
+}
+
+/// The position of a valuation: the end of the journal where none is given.
+pub fn position_or(value: Option<&str>) -> Result<At, WordsFault>
+    ensures { Gives (IsPositionOr (option_map (λ text. text.now) value)) result }
+{
+    let Some(text) = value else {
+        return Ok(At::Now);
+    };
+    match parse_number(text.as_bytes(), 4_000_000) {
+        Some(position) => Ok(At::Position(position as u32)),
+        None => Err(WordsFault::Usage),
+    }
+}
+
+/// The number of workers: 1 where none is given.
+pub fn workers_or(value: Option<&str>) -> Result<u8, WordsFault>
+    ensures { Gives (AreWorkersOr (option_map (λ text. text.now) value)) result }
+{
+    let Some(text) = value else {
+        return Ok(1);
+    };
+    match parse_number(text.as_bytes(), 64) {
+        None | Some(0) => Err(WordsFault::Usage),
+        Some(workers) => Ok(workers as u8),
+    }
+}
+
+/// The name of the basis file: `basis.csv` where none is given.
+pub fn basis_or(alloc: Global, value: Option<&str>) -> Result<Name, WordsFault>
+    ensures { Gives (IsBasisOr (option_map (λ text. text.now) value)) result }
+{
+    let text = match value {
+        Some(text) => text,
+        None => "basis.csv",
+    };
+    match Name::of(alloc, text.as_bytes()) {
+        Ok(Some(name)) => Ok(name),
+        Ok(None) => Err(WordsFault::Usage),
+        Err(NoMemory) => Err(WordsFault::NoMemory),
+    }
+}
+
+/// The number of the policy whose entries are asked for, if one is given.
+pub fn policy_or(value: Option<&str>) -> Result<Option<u32>, WordsFault>
+    ensures { Gives (IsPolicyOr (option_map (λ text. text.now) value)) result }
+{
+    let Some(text) = value else {
+        return Ok(None);
+    };
+    match parse_number(text.as_bytes(), 4_294_967_295) {
+        None | Some(0) => Err(WordsFault::Usage),
+        Some(id) => Ok(Some(id as u32)),
+    }
+}
