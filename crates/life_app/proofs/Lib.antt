@@ -9,4 +9,6 @@ pub mod LookSteps
 pub mod StateSteps
 pub mod ReadingSteps
 pub mod ValueSteps
+pub mod ReadOnlySteps
+pub mod ValueStatus
 pub mod ProgramSteps
