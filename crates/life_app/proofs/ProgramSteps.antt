@@ -1,6 +1,6 @@
 -- What the exit status tells of the words, the script, the basis and the file
 use Rattle.std.proofs.Common.{◌≡◌, ℕ, ◌≤◌, ◌<◌, ◌⊎◌, ℤ, List, [], ◌∷◌, length, refl, ap, sym, ◌∙◌, subst, inl, inr, Option, None, Some, String, Global, arith}
-use Rattle.std.specs.Prelude.{IfSome}
+use Rattle.std.specs.Prelude.{◌==◌, if◌then◌else◌, IfSome}
 use Rattle.std.proofs.lemmas.Bool.{cases_lt}
 use Rattle.outside_io.specs.declared.disks.Disk.{Ghosts}
 use Rattle.outside_io.specs.Faults.{Rose}
@@ -84,9 +84,34 @@ unread_refused input output NoMemory ends held = inr refl
 unread_refused input output InputFault ends held = absurd (held ends.0)
 unread_refused input output _ ends held = absurd ends
 
+abbrev ending_with : ℕ → Ending
+ending_with status =
+    if status == 0 then Done
+    else if status == 2 then Usage
+    else if status == 3 then BadScript
+    else if status == 4 then BadBasis
+    else if status == 5 then BadJournal
+    else if status == 6 then InputFault
+    else if status == 7 then WriteFault
+    else if status == 8 then DiskFault
+    else if status == 9 then NoMemory
+    else Ahead
+
+its_own : (ending : Ending) → ending_with (status_of ending) ≡ ending
+its_own Done = refl
+its_own Usage = refl
+its_own BadScript = refl
+its_own BadBasis = refl
+its_own BadJournal = refl
+its_own InputFault = refl
+its_own WriteFault = refl
+its_own DiskFault = refl
+its_own NoMemory = refl
+its_own Ahead = refl
+
 -- a status is that of one ending
 ending_at : (status : ℕ) (one ending : Ending) → status_of one ≡ status → status_of ending ≡ status → ending ≡ one
-ending_at status one ending is same = status_once ending one (same ∙ sym is)
+ending_at status one ending is same = sym (its_own ending) ∙ ap ending_with (same ∙ sym is) ∙ its_own one
 
 one_mode : (words : List (String Global)) (one other : Mode) → AskFor words one → AskFor words other → one ≡ other
 one_mode words one other asked too = ?
@@ -321,7 +346,7 @@ module _ {D : Type 0} (g : Ghosts D) (old new : D) where
           → (status_of ending ≡ 5) ⊎ (status_of ending ≡ 9)
       unvalued on at name files basis asked told is honest none shelf_held disk_held = elim (valued_so on at name asked) [
         | inl ends ↦ value_refused g old new on at output name shelf files told basis is shelf_held honest disk_held ending ends none
-        | inr no ↦ inr no
+        | inr without ↦ inr without
       ]
 
       pub stated : (commands : List Command) → AskForState words → g.honest old → Opens (g.reads old) commands
@@ -340,11 +365,11 @@ module _ {D : Type 0} (g : Ghosts D) (old new : D) where
           → (Rose (g.faults old) (g.faults new) → ⊥) → (status_of ending ≡ 5) ⊎ (status_of ending ≡ 9)
       unstated (None, asked) honest none disk_held = elim (as_asked ending does (State None) asked) [
         | inl ends ↦ read_refused g old new (IsStated g old new books_text) output ending ends.2 (never_stated books_text honest none) disk_held
-        | inr no ↦ inr no
+        | inr without ↦ inr without
       ]
       unstated (Some id, asked) honest none disk_held = elim (as_asked ending does (State (Some id)) asked) [
         | inl ends ↦ read_refused g old new (IsStated g old new (policy_account id)) output ending ends.2 (never_stated (policy_account id) honest none) disk_held
-        | inr no ↦ inr no
+        | inr without ↦ inr without
       ]
 
       pub complete : (bytes : List ℕ) (lanes : List Lane) (commands : List Command) → AskForRun words
@@ -367,7 +392,7 @@ module _ {D : Type 0} (g : Ghosts D) (old new : D) where
           elim (ran run) [
             | inl (inl read) ↦ refused_at_opening read.lanes output ending read.ends honest none disk_held
             | inl (inr unread) ↦ inr (unread_readable input output ending bytes lanes unread.1 told short reads input_held)
-            | inr no ↦ inr no
+            | inr without ↦ inr without
           ]
 
       pub script_refused : (bytes : List ℕ) → AskForRun words → input.before ≡ Some bytes → IsUnreadable bytes

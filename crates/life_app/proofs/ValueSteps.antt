@@ -1,9 +1,9 @@
 -- How `value` ends, by what its parts did
 use Rattle.std.proofs.Common.{◌≡◌, ℕ, ◌+◌, ◌≤◌, ◌<◌, ℤ, List, [], ◌∷◌, ◌++◌, length, take, get_or, refl, ap, sym, ◌∙◌, subst, inl, inr, Option, Some, None, Result, Ok, Err, Vec, Global, arith}
-use Rattle.std.specs.Prelude.{IfOk, IfSome, slice_get}
-use Rattle.std.specs.List.{All, AllByRecursion, AllZip, cons_option, filter_map, map}
+use Rattle.std.specs.Prelude.{IfOk, IfSome, map, slice_get}
+use Rattle.std.specs.List.{AllByRecursion, AllZip, cons_option, filter_map}
 use Rattle.std.proofs.lemmas.List.{length-map, length-take, take_more}
-use Rattle.std.proofs.lemmas.List.Elements.{All-from_recursion}
+use Rattle.std.proofs.lemmas.List.Elements.{All-from_recursion, All-push}
 use Rattle.std.proofs.lemmas.Option.{slice_get-get_or}
 use Rattle.outside_io.specs.Faults.{Rose}
 use Rattle.outside_io.specs.Streams.{AppendsPart}
@@ -24,8 +24,11 @@ use Rattle.basis_shelf.specs.Bases.{IsBasis}
 use Rattle.basis_shelf.specs.FirstBad.{IsFirstBad}
 use Rattle.basis_shelf.specs.declared.fault.NoBasis.{NoBasis}
 use Rattle.basis_shelf.specs.declared.fault.NoBasis.TheVariants.{Bad, ReadFault as ShelfFailed, NoMemory as NoRoom}
+use Rattle.policy_value.specs.Rows.{IsWithin}
 use Rattle.policy_value.specs.declared.worth.Row.{Row}
-use Rattle.report_text.specs.Block.{block_text}
+use Rattle.policy_value.specs.declared.worth.Worth.{Worth}
+use Rattle.policy_value.specs.declared.worth.Worth.TheVariants.{Bounds, Word}
+use Rattle.report_text.specs.Block.{AreSummable, IsSummable, block_text}
 use Rattle.office_state.specs.Images.{IsLeftAlone, IsLeftBy}
 use Rattle.office_state.specs.Journals.{Opens}
 use Rattle.office_state.proofs.BookSteps.{all-take}
@@ -45,6 +48,11 @@ policy_sound commands position index policy valid within here =
     let same : get_or policies index policy ≡ policy = (let found = slice_get-get_or policies index policy within in cc) in
     subst IsSound same (sound index policy within)
 
+-- bounds within an amount of insurance can be added up
+pub within_summable : (amount : ℕ) (worth : Worth) → amount ≤ 10000000000 → IsWithin amount worth → IsSummable worth
+within_summable amount (Bounds lo hi) most within = (omega (arith, most, within.0, within.1), omega (arith, most, within.1))
+within_summable amount (Word word) most within = tt
+
 zip_push : {A B : Type 0} (R : A → B → Type 0) (xs : List A) (ys : List B) (x : A) (y : B) → AllZip R xs ys → R x y
     → AllZip R (xs ++ x ∷ []) (ys ++ y ∷ [])
 zip_push R [] [] x y all one = (one, tt)
@@ -52,8 +60,7 @@ zip_push R [] (z ∷ ys) x y all one = absurd all
 zip_push R (z ∷ xs) [] x y all one = absurd all
 zip_push R (w ∷ xs) (z ∷ ys) x y all one = (all.0, zip_push R xs ys x y all.1 one)
 
--- one more row
-pub rows_more : (basis : List Dated) (on : ℤ) (policies : List Policy) (rows : List Row) (index : ℕ) (policy : Policy) (row : Row)
+rows_more : (basis : List Dated) (on : ℤ) (policies : List Policy) (rows : List Row) (index : ℕ) (policy : Policy) (row : Row)
     → index < length policies → slice_get policies index ≡ Some policy → AllZip (IsRowOf basis on) (take index policies) rows
     → IsRowOf basis on policy row → AllZip (IsRowOf basis on) (take (index + 1) policies) (rows ++ row ∷ [])
 rows_more basis on policies rows index policy row within here all one =
@@ -63,11 +70,23 @@ rows_more basis on policies rows index policy row within here all one =
     subst (λ ps. AllZip (IsRowOf basis on) ps (rows ++ row ∷ [])) (sym more)
     (zip_push (IsRowOf basis on) (take index policies) rows policy row all one)
 
+-- one row more, as the loop adds it
+pub row_added : (basis : List Dated) (on : ℤ) (policies : List Policy) (old new : List Row) (index : ℕ) (policy : Policy)
+    → index < length policies → slice_get policies index ≡ Some policy → AllZip (IsRowOf basis on) (take index policies) old
+    → AreSummable old
+    → (added : Row) × IsRowOf basis on policy added × IsSummable added.worth × (new ≡ old ++ added ∷ [])
+    → AllZip (IsRowOf basis on) (take (index + 1) policies) new × AreSummable new
+row_added basis on policies old new index policy within here each bounded added = (
+  subst (AllZip (IsRowOf basis on) (take (index + 1) policies)) (sym added.3)
+      (rows_more basis on policies old index policy added.0 within here each added.1),
+  subst AreSummable (sym added.3) (All-push (λ (row : Row). IsSummable row.worth) old added.0 bounded added.2),
+)
+
 zip_length : {A B : Type 0} (R : A → B → Type 0) (xs : List A) (ys : List B) → AllZip R xs ys → length ys ≡ length xs
 zip_length R [] [] all = refl
 zip_length R [] (z ∷ ys) all = absurd all
 zip_length R (z ∷ xs) [] all = absurd all
-zip_length R (w ∷ xs) (z ∷ ys) all = ap (λ n. n + 1) (zip_length R xs ys all.1)
+zip_length R (w ∷ xs) (z ∷ ys) all = let rest = zip_length R xs ys all.1 in omega (arith, rest)
 
 cons_length : (first : Option ℕ) (ids : List ℕ) → length (cons_option first ids) ≤ length ids + 1
 cons_length None ids = omega arith
@@ -88,7 +107,7 @@ book_length commands =
     let few = issues_length commands in
     omega (arith, ids, same, few)
 
--- so there are no more rows than the office holds commands
+-- so there are no more rows than commands
 pub rows_few : (basis : List Dated) (on : ℤ) (commands : List Command) (position most : ℕ) (rows : List Row)
     → AllZip (IsRowOf basis on) (book (take position commands)) rows → length commands ≤ most → length rows ≤ most
 rows_few basis on commands position most rows all few =
@@ -106,7 +125,9 @@ no_basis name shelf output BadBasis (Bad bad) first failed says = (bad, first, s
 no_basis name shelf output NoMemory (Bad bad) first failed says = says
 no_basis name shelf output ReadFault ShelfFailed first failed says = (failed refl, says)
 no_basis name shelf output NoMemory NoRoom first failed says = says
-no_basis name shelf output _ _ first failed says = absurd says
+no_basis name shelf output _ (Bad bad) first failed says = absurd says
+no_basis name shelf output _ ShelfFailed first failed says = absurd says
+no_basis name shelf output _ NoRoom first failed says = absurd says
 
 module _ (commands : List Command) (on : ℤ) (at : At) (basis : List Dated) (output : Stream) where
   -- more commands are asked for than there are

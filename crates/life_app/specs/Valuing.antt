@@ -33,7 +33,7 @@ position_of (Position p) count = p
 
 -- the policy's row on the day by the basis; where the policy is insured then, its bounds enclose the exact reserve
 pub record IsRowOf (basis : List Dated) (on : ℤ) (policy : Policy) (row : Row) : Type 0 where
-  pub row : RowOf policy basis on row
+  pub valued : RowOf policy basis on row
   pub exact : IsInsured policy on → (index : ℕ) → (entry : Dated) → IsPicked basis policy.issued index entry
       → IsExact policy entry.table entry.bp row.t row.worth
 

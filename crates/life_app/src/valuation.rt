@@ -1,5 +1,5 @@
 // The text of a valuation.
-ghost use Rattle.std.specs.Prelude.{◌≡◌, ◌≤◌, List, length, take, IfOk};
+ghost use Rattle.std.specs.Prelude.{◌≡◌, ◌≤◌, ◌++◌, List, [], ◌∷◌, length, take, IfOk, OnOk};
 ghost use Rattle.std.specs.List.{AllByRecursion, AllZip};
 ghost use Rattle.life_dates.specs.Calendar.{IsDay};
 ghost use Rattle.policy_types.specs.Limits.{most_commands};
@@ -66,19 +66,25 @@ fn rows_of<D: Disk>(
     let mut rows = Vec::new(alloc);
     for index in 0..office.policies(position) {
         let policy = office.policy(index, position);
-        let row = row_of(&policy, basis, on, &mut cache);
-        if rows.push(row).is_err() {
-            return Err(NoMemory);
-        }
+        add_row(&policy, basis, on, &mut cache, &mut rows)?;
     }
     Ok(Rows::new(rows))
 }
 
-// The row of a policy of the books.
-fn row_of(policy: &Policy, basis: &Basis, on: i32, cache: &mut ColumnCache) -> Row
+// Adds the row of a policy of the books.
+fn add_row(
+    policy: &Policy,
+    basis: &Basis,
+    on: i32,
+    cache: &mut ColumnCache,
+    rows: &mut Vec<Row>,
+) -> Result<(), NoMemory>
     requires { IsSound policy.now }
-    ensures row { IsRowOf basis.now on policy.now result }
-    ensures bounded { IsSummable result.worth }
+    ensures { OnOk result ((added : ARow) × IsRowOf basis.now on policy.now added × IsSummable added.worth
+        × (rows.new.items ≡ rows.old.items ++ added ∷ [])) }
 {
-    row(policy, basis, on, cache)
+    match rows.push(row(policy, basis, on, cache)) {
+        Ok(()) => Ok(()),
+        Err(_) => Err(NoMemory),
+    }
 }
