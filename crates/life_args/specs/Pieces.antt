@@ -13,7 +13,7 @@ pub data Piece : Type 0 where
 abbrev pub piece_words : Piece → List (List ℕ)
 piece_words (bare value) = value ∷ []
 piece_words (apart name value) = (codes "--" ++ name) ∷ value ∷ []
-piece_words (joined name value) = (codes "--" ++ name ++ codes "=" ++ value) ∷ []
+piece_words (joined name value) = (codes "--" ++ (name ++ (codes "=" ++ value))) ∷ []
 
 -- the words that the pieces spell
 abbrev pub spelled : List Piece → List (List ℕ)
@@ -29,7 +29,7 @@ bare_values (joined name value ∷ pieces) = bare_values pieces
 
 -- the values that an option of one name gets here, where it has the other name
 abbrev pub value_under : List ℕ → List ℕ → List ℕ → List (List ℕ) → List (List ℕ)
-value_under name other value values = cond (bytes_eq name other) (value ∷ values) values
+value_under name other value values = cond (bytes_eq other name) (value ∷ values) values
 
 -- the values of the option of this name
 abbrev pub option_values : List ℕ → List Piece → List (List ℕ)

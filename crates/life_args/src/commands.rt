@@ -1,5 +1,5 @@
 // The commands that `clap` reads, one for each mode. Their words are those behind the mode's name.
-ghost use Rattle.std.specs.Prelude.{◌≡◌, IfOk};
+ghost use Rattle.std.specs.Prelude.{◌≡◌, IfOk, false};
 ghost use Rattle.clap.specs.Words.{app_of, rule_of};
 ghost use Rattle.life_args.specs.inside.Commands.{option_rule, value_rule, command_app, run_app, value_app, state_app};
 

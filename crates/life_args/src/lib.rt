@@ -3,6 +3,7 @@
 
 mod commands;
 mod fault;
+mod laws;
 mod line;
 mod mode;
 mod reading;
@@ -14,5 +15,6 @@ mod value;
 mod values;
 
 pub use fault::WordsFault;
+pub use laws::words_ask_once;
 pub use mode::Mode;
 pub use reading::read_words;

@@ -12,7 +12,7 @@ pub fn read_line<'a>(
     words: &'a [String],
 ) -> Result<ArgMatches<'a>, WordsFault>
     requires { is_simple_and_free (app_of command) ≡ true }
-    ensures { Takes (app_of command) (map string_bytes words.entry.now) result }
+    ensures { Takes (app_of command.entry) (map string_bytes words.entry.now) result }
 {
     match command.try_get_matches_from(words) {
         Ok(matches) => Ok(matches),

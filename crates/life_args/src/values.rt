@@ -12,7 +12,7 @@ use std::alloc::Global;
 
 /// The day of a valuation, in days since 1970-01-01.
 pub fn day_of(value: Option<&str>) -> Result<i32, WordsFault>
-    ensures { Gives (IsDayIn (option_map (λ text. text.now) value)) result }
+    ensures { Gives (IsDayIn (option_map (λ text. text.now) value.entry)) result }
 {
     let Some(text) = value else {
         return Err(WordsFault::Usage);
@@ -25,7 +25,7 @@ pub fn day_of(value: Option<&str>) -> Result<i32, WordsFault>
 
 /// The position of a valuation: the end of the journal where none is given.
 pub fn position_or(value: Option<&str>) -> Result<At, WordsFault>
-    ensures { Gives (IsPositionOr (option_map (λ text. text.now) value)) result }
+    ensures { Gives (IsPositionOr (option_map (λ text. text.now) value.entry)) result }
 {
     let Some(text) = value else {
         return Ok(At::Now);
@@ -38,7 +38,7 @@ pub fn position_or(value: Option<&str>) -> Result<At, WordsFault>
 
 /// The number of workers: 1 where none is given.
 pub fn workers_or(value: Option<&str>) -> Result<u8, WordsFault>
-    ensures { Gives (AreWorkersOr (option_map (λ text. text.now) value)) result }
+    ensures { Gives (AreWorkersOr (option_map (λ text. text.now) value.entry)) result }
 {
     let Some(text) = value else {
         return Ok(1);
@@ -51,7 +51,7 @@ pub fn workers_or(value: Option<&str>) -> Result<u8, WordsFault>
 
 /// The name of the basis file: `basis.csv` where none is given.
 pub fn basis_or(alloc: Global, value: Option<&str>) -> Result<Name, WordsFault>
-    ensures { Gives (IsBasisOr (option_map (λ text. text.now) value)) result }
+    ensures { Gives (IsBasisOr (option_map (λ text. text.now) value.entry)) result }
 {
     let text = match value {
         Some(text) => text,
@@ -66,7 +66,7 @@ pub fn basis_or(alloc: Global, value: Option<&str>) -> Result<Name, WordsFault>
 
 /// The number of the policy whose entries are asked for, if one is given.
 pub fn policy_or(value: Option<&str>) -> Result<Option<u32>, WordsFault>
-    ensures { Gives (IsPolicyOr (option_map (λ text. text.now) value)) result }
+    ensures { Gives (IsPolicyOr (option_map (λ text. text.now) value.entry)) result }
 {
     let Some(text) = value else {
         return Ok(None);

@@ -1,0 +1,10 @@
+pub mod Causes
+pub mod Lexing
+pub mod Tables
+pub mod Turns
+pub mod Walks
+pub mod Repeats
+pub mod Lines
+pub mod Texts
+pub mod Modes
+pub mod Once

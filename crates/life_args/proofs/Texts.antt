@@ -1,0 +1,62 @@
+-- Values as texts
+use Rattle.std.proofs.Common.{◌≡◌, ◌≢◌, ◌⊎◌, ◌+◌, ◌==◌, ◌<◌, ◌≤◌, ◌^◌, ◌/◌, ℕ, zero, suc, Bool, true, false, List, [], ◌∷◌, ◌++◌, length, get_or, Option, Some, None, option_and_then, slice_get, refl, sym, ap, ◌∙◌, subst, arith, inl, inr, decimal, eq-zero-or-pos, ℤ}
+use Rattle.std.proofs.lemmas.Bool.Decides.{nat_tests}
+use Rattle.std.proofs.lemmas.Fmt.{decimal_digit, decimal_nonempty, first_decimal}
+use Rattle.clap.specs.Walk.{Row, Text}
+use Rattle.life_dates.specs.DayText.{day_text}
+use Rattle.basis_book.specs.Name.{IsName}
+use Rattle.life_args.specs.Pieces.{AtMostOne}
+use Rattle.life_args.proofs.Lexing.{IsPlain, no_hyphen}
+use Rattle.life_args.proofs.Repeats.{IsFound, row}
+use Rattle.life_args.proofs.Lines.{EachPlain}
+
+-- a text that begins with another byte than a hyphen
+begins : (text : Text) → 0 < length text → get_or text 0 0 ≢ 45 → IsPlain text
+begins [] some ne = absurd (omega arith)
+begins (x ∷ xs) some ne = let e : (x == 45) ≡ false = grind (arith, nat_tests) in no_hyphen x xs e
+
+first_of_decimal : (n : ℕ) → n < 2 ^ 64 → get_or (decimal n) 0 0 ≢ 45
+first_of_decimal n small = elim (eq-zero-or-pos n) [
+  | inl z ↦ let first : get_or (decimal n) 0 0 ≡ 48 + n = ap (λ t. get_or t 0 0) (decimal_digit n (omega arith)) in omega arith
+  | inr more ↦ let first : 48 < get_or (decimal n) 0 0 = first_decimal n more small in omega arith
+]
+
+pub plain_decimal : (text : Text) (n : ℕ) → n < 2 ^ 64 → text ≡ decimal n → IsPlain text
+plain_decimal text n small is = subst IsPlain (sym is) (begins (decimal n) (decimal_nonempty n small) (first_of_decimal n small))
+
+pub plain_day : (text : Text) (day : ℤ) → text ≡ day_text day → IsPlain text
+unfolding day_text
+plain_day text day is = subst IsPlain (sym is) (begins (day_text day) (omega arith) (omega arith))
+
+pub plain_name : (text : Text) → IsName text → IsPlain text
+plain_name text is = begins text (omega (arith, is.some)) first
+  where
+    first : get_or text 0 0 ≢ 45
+    first = elim is.first [
+      | inl letter ↦ elim letter [ inl digit ↦ omega (arith, digit) | inr large ↦ omega (arith, large) ]
+      | inr small ↦ omega (arith, small)
+    ]
+
+-- the first value of a row that was found
+abbrev pub first : Option Row → Option Text
+first o = option_and_then (λ (r : Row). slice_get r.values 0) o
+
+pub reads : (values : List Text) (P : Option Text → Type 0) (o : Option Row) → IsFound values o → AtMostOne values P → P (first o)
+reads [] P o is asked = subst (λ (x : Option Row). P (first x)) (sym is) asked
+reads (value ∷ []) P o is asked = subst (λ (x : Option Row). P (first x)) (sym is.1) asked
+reads (value ∷ other ∷ values) P o is asked = absurd is
+
+pub says : (values : List Text) (P : Option Text → Type 0) (o : Option Row) → IsFound values o → P (first o) → AtMostOne values P
+says [] P o is asked = subst (λ (x : Option Row). P (first x)) is asked
+says (value ∷ []) P o is asked = subst (λ (x : Option Row). P (first x)) is.1 asked
+says (value ∷ other ∷ values) P o is asked = absurd is
+
+pub plain_values : (values : List Text) (P : Option Text → Type 0) → AtMostOne values P → ((value : Text) → P (Some value) → IsPlain value) → EachPlain values
+plain_values [] P asked plain = tt
+plain_values (value ∷ []) P asked plain = (plain value asked, tt)
+plain_values (value ∷ other ∷ values) P asked plain = absurd asked
+
+pub at_most_one : (values : List Text) (P : Option Text → Type 0) → AtMostOne values P → length values ≤ 1
+at_most_one [] P asked = omega arith
+at_most_one (value ∷ []) P asked = omega arith
+at_most_one (value ∷ other ∷ values) P asked = absurd asked
