@@ -1,0 +1,4 @@
+pub mod OneTable
+pub mod OneBook
+pub mod OneBasis
+pub mod Fetched

@@ -17,16 +17,23 @@ use std::alloc::Global;
 ///
 /// The basis file is fetched and judged whole. Then each table is fetched and read once for each name, in the order of
 /// the first rows that name them; the first file that is absent, too long or refused is the answer.
-pub fn fetch_basis<H: Shelf>(
-    alloc: Global,
-    name: &Name,
-    shelf: &mut H,
-) -> Result<Basis, NoBasis>
+pub fn fetch_basis<H: Shelf>(alloc: Global, name: &Name, shelf: &mut H) -> Result<Basis, NoBasis>
     ensures basis { IfSome (H.files shelf.old) (λ at. IfOk result (IsBasis at name.now)) }
     ensures bad { IfSome (H.files shelf.old) (λ at. IfErr result (IfBad (IsFirstBad at name.now))) }
     // Whatever answer is due is given, unless the shelf fails or memory is refused.
     ensures due { IfSome (H.files shelf.old) (λ at. (answer : Result (List Dated) ABadBasis)
         → IsDue at name.now answer → Gives result answer) }
+    ensures failed { IsErrOf result NoBasis.ReadFault → Rose (H.faults shelf.old) (H.faults shelf.new) }
+    ensures later { H.faults shelf.old ≤ H.faults shelf.new }
+    ensures stays { H.files shelf.new ≡ H.files shelf.old }
+{
+    fetch_parts(alloc, name, shelf)
+}
+
+// The basis file and its tables.
+fn fetch_parts<H: Shelf>(alloc: Global, name: &Name, shelf: &mut H) -> Result<Basis, NoBasis>
+    ensures basis { IfSome (H.files shelf.old) (λ at. IfOk result (IsBasis at name.now)) }
+    ensures bad { IfSome (H.files shelf.old) (λ at. IfErr result (IfBad (IsFirstBad at name.now))) }
     ensures failed { IsErrOf result NoBasis.ReadFault → Rose (H.faults shelf.old) (H.faults shelf.new) }
     ensures later { H.faults shelf.old ≤ H.faults shelf.new }
     ensures stays { H.files shelf.new ≡ H.files shelf.old }

@@ -13,11 +13,7 @@ use outside_io::Shelf;
 use std::alloc::Global;
 
 /// The rows of the basis file.
-pub fn fetch_rows<H: Shelf>(
-    alloc: Global,
-    name: &Name,
-    shelf: &mut H,
-) -> Result<BasisRows, NoBasis>
+pub fn fetch_rows<H: Shelf>(alloc: Global, name: &Name, shelf: &mut H) -> Result<BasisRows, NoBasis>
     ensures rows { IfSome (H.files shelf.old) (λ at. IfOk result (AreRowsOf at name.now)) }
     ensures bounded { IfOk result AreBounded }
     ensures bad { IfSome (H.files shelf.old) (λ at. IfErr result (IfBad (IsBadBookFile at name.now))) }

@@ -1,0 +1,18 @@
+use Rattle.std.proofs.Common.{List, All, IsSome, subst}
+use Rattle.indexmap.specs.IndexMap.{get_by_text}
+use Rattle.basis_book.specs.declared.row.BasisRow.{BasisRow as ARow}
+use Rattle.basis_shelf.proofs.Fetched.{none_missing, basis_is}
+use Rattle.basis_shelf.proofs.fetching.fetch_parts.Goals as goal
+
+pub unreachable-requires : goal.unreachable-requires
+unreachable-requires g c =
+    let held = get_by_text c.in_ok-tables.tables in
+    let known = subst (λ (xs : List ARow). All (λ (r : ARow). IsSome (held r.table)) xs) c.as_slice.ensures c.in_ok-tables.ensures.known in
+    none_missing held c.in_ok-rows.rows c.in_default.field-0.0 known c.in_default.ensures.missing
+
+pub returns-clause-basis : goal.returns-clause-basis
+returns-clause-basis g c =
+    let held = get_by_text c.in_ok-tables.tables in
+    let known = subst (λ (xs : List ARow). All (λ (r : ARow). IsSome (held r.table)) xs) c.as_slice.ensures c.in_ok-tables.ensures.known in
+    let right = rw c.fetch_rows.ensures.stays at c.in_ok-tables.ensures.right in
+    basis_is (g.H.Shelf.files c.args.shelf.now) c.args.name.now held c.in_ok-rows.rows c.in-Ok.basis c.in-Ok.ensures.rows c.in_ok-rows.ensures.rows right known

@@ -1,0 +1,42 @@
+use Rattle.std.proofs.Common.{◌≡◌, ◌<◌, List, length, All, IsSome, take, sym, ◌∙◌, subst, arith}
+use Rattle.std.proofs.lemmas.List.{take_all}
+use Rattle.std.proofs.lemmas.List.Elements.{All-more, All-weaker}
+use Rattle.std.proofs.lemmas.Result.{err_from_is_err_and}
+use Rattle.indexmap.specs.IndexMap.{get_by_text}
+use Rattle.basis_book.specs.declared.row.BasisRow.{BasisRow as ARow}
+use Rattle.basis_shelf.proofs.Fetched.{row_is_bad, still_right}
+use Rattle.basis_shelf.proofs.tables.fetch_tables.Goals as goal
+
+pub returns-in_err-add_table-clause-bad : goal.returns-in_err-add_table-clause-bad
+returns-in_err-add_table-clause-bad g c =
+    let p = err_from_is_err_and c.from_residual.result c.from_residual.ensures.1 in
+    let held = get_by_text c.loop-index.tables in
+    let wrong = rw c.loop-index.invariant.stays at c.in_err-add_table.ensures.bad in
+    let within : c.loop-index.index < length c.args.rows.now = omega (arith, c.loop-index-test.true) in
+    rw (p.1, p.2)
+    (row_is_bad (g.H.Shelf.files c.args.shelf.now) c.args.rows.now c.loop-index.index c.index-rows-index.result held c.in_err-add_table.field-0.0 within c.index-rows-index.is
+    c.loop-index.invariant.known c.loop-index.invariant.right wrong)
+
+pub loop-index-preserved : goal.loop-index-preserved
+loop-index-preserved g c =
+    let rows = c.args.rows.now in
+    let row = c.index-rows-index.result in
+    let before = get_by_text c.loop-index.tables in
+    let now = get_by_text c.add_table.new.tables in
+    let was = λ (r : ARow). IsSome (before r.table) in
+    let known = λ (r : ARow). IsSome (now r.table) in
+    let within : c.loop-index.index < length rows = omega (arith, c.loop-index-test.true) in
+    let still = All-weaker was known (λ r some. c.in_ok-add_table.ensures.kept r.table some) (take c.loop-index.index rows) c.loop-index.invariant.known in
+    let right = rw c.loop-index.invariant.stays at c.in_ok-add_table.ensures.right in
+    record {
+      known = All-more known rows c.loop-index.index row within still (subst known c.index-rows-index.is c.in_ok-add_table.ensures.added);
+      right = still_right (g.H.Shelf.files c.args.shelf.now) before now right c.loop-index.invariant.right;
+      later = omega (arith, c.loop-index.invariant.later, c.add_table.ensures.later);
+      stays = c.add_table.ensures.stays ∙ c.loop-index.invariant.stays;
+    }
+
+pub returns-clause-known : goal.returns-clause-known
+returns-clause-known g c =
+    let held = get_by_text c.loop-index.tables in
+    let known = λ (r : ARow). IsSome (held r.table) in
+    subst (λ (xs : List ARow). All known xs) (take_all c.loop-index.index c.args.rows.now c.loop-index-test.false) c.loop-index.invariant.known
