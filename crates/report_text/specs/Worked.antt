@@ -1,5 +1,5 @@
 -- Small valuations, worked outside of this repository
-use Rattle.std.specs.Prelude.{◌≡◌, ℕ, List, [], ◌∷◌, ◌++◌, codes, pos}
+use Rattle.std.specs.Prelude.{◌≡◌, [], ◌∷◌, ◌++◌, codes, pos}
 use Rattle.policy_types.specs.declared.policy.Status.TheVariants.{InForce, Lapsed}
 use Rattle.plan_benefits.specs.declared.fault.NotValued.TheVariants.{PastTable}
 use Rattle.policy_value.specs.declared.worth.Row.{Row}

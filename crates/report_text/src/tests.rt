@@ -204,7 +204,8 @@ fn blocks(rt: HostRuntime) -> Result<(), Fail> {
     Ok(())
 }
 
-// The longest valuation, by its length, its first and its last lines.
+// The longest valuation, by its length, its first and its last lines. Built, it takes a second; `rt try` doesn't end it
+// within the minute that a test has.
 #[test]
 fn most_policies(rt: HostRuntime) -> Result<(), Fail> {
     let rows = copies(rt.alloc(), MOST_ROWS, valued(1, GREATEST, GREATEST))?;
