@@ -16,6 +16,7 @@ use Rattle.basis_shelf.specs.declared.fault.BadBasis.{BadBasis as ABadBasis}
 use Rattle.command_csv.specs.Reads.{Reads}
 use Rattle.command_csv.proofs.Faults.{fault_excludes}
 use Rattle.command_csv.proofs.Judging.{judged}
+use Rattle.life_args.proofs.Once.{words_ask_once}
 use Rattle.life_args.specs.Words.{AskFor, AskForNothing}
 use Rattle.life_args.specs.declared.mode.Mode.{Mode}
 use Rattle.life_args.specs.declared.mode.Mode.TheVariants.{Run, Value, State}
@@ -113,9 +114,6 @@ its_own Ahead = refl
 ending_at : (status : ℕ) (one ending : Ending) → status_of one ≡ status → status_of ending ≡ status → ending ≡ one
 ending_at status one ending is same = sym (its_own ending) ∙ ap ending_with (same ∙ sym is) ∙ its_own one
 
-one_mode : (words : List (String Global)) (one other : Mode) → AskFor words one → AskFor words other → one ≡ other
-one_mode words one other asked too = ?
-
 module _ {D : Type 0} (g : Ghosts D) (old new : D) where
   -- no run goes on over a file that opens to none
   ran_nowhere : {A : Type 0} (lanes : List Lane) (Wrote : List ℕ → Type 0) (Replies : List Entry → Type 0)
@@ -181,7 +179,7 @@ module _ {D : Type 0} (g : Ghosts D) (old new : D) where
     as_asked ending does mode asked = elim does [
       | inl (other, asked_too, ends) ↦ inl (
         subst (λ (m : Mode). EndsMode g old new m input output shelf InputStays ShelfStays ending)
-            (one_mode words other mode asked_too asked) ends
+            (words_ask_once words other mode asked_too asked) ends
       )
       | inr none ↦ inr (unasked ending none.says mode asked)
     ]

@@ -12,6 +12,7 @@ use Rattle.basis_shelf.specs.Bases.{IsBasis}
 use Rattle.basis_shelf.specs.FirstBad.{IsFirstBad}
 use Rattle.basis_shelf.specs.Lines.{bad_basis_text}
 use Rattle.basis_shelf.specs.declared.fault.BadBasis.{BadBasis as ABadBasis}
+use Rattle.basis_shelf.proofs.OneBasis.{basis_or_bad, one_first_bad}
 use Rattle.office_state.specs.Journals.{Opens, OpensToNone}
 use Rattle.office_state.proofs.JournalLaws.{opens_to_one}
 use Rattle.life_app.specs.declared.ending.Ending.{Ending}
@@ -21,15 +22,6 @@ use Rattle.life_app.specs.Status.{status_of}
 use Rattle.life_app.specs.Valuing.{EndsByBasis, EndsNoBasis, EndsValue, EndsValuing, IsAhead, IsValued, SaysBadFile, position_of}
 use Rattle.life_app.specs.Writing.{Shelving, Stream, WroteAll, WroteOrFailed}
 use Rattle.life_app.proofs.ReadOnlySteps.{opens_to_none, read_as_before, read_refused, read_to_end}
-
--- a basis isn't bad
-never_bad : {A : Type 0} (files : List ℕ → Option (List ℕ)) (name : List ℕ) (basis : List Dated) (bad : ABadBasis)
-    → IsBasis files name basis → IsFirstBad files name bad → A
-never_bad files name basis bad is first = ?
-
-one_bad : (files : List ℕ → Option (List ℕ)) (name : List ℕ) (one other : ABadBasis)
-    → IsFirstBad files name one → IsFirstBad files name other → one ≡ other
-one_bad files name one other is first = ?
 
 module _ {D : Type 0} (g : Ghosts D) (old new : D) (on : ℤ) (at : At) (output : Stream) where
   -- nothing is valued of a file that opens to no commands
@@ -106,8 +98,9 @@ module _ {D : Type 0} (g : Ghosts D) (old new : D) (on : ℤ) (at : At) (output 
       basis_refused : (ending : Ending) (basis : List Dated) → IsBasis files name basis → EndsNoBasis name shelf output ending
           → (Rose shelf.faults_before shelf.faults_after → ⊥) → status_of ending ≡ 9
       basis_refused BadBasis basis is ends shelf_held =
-          never_bad files name basis ends.0 is
-          (subst (λ (t : Option (List ℕ → Option (List ℕ))). IfSome t (λ fs. IsFirstBad fs name ends.0)) told ends.1)
+          absurd
+          (basis_or_bad files name basis ends.0 is
+          (subst (λ (t : Option (List ℕ → Option (List ℕ))). IfSome t (λ fs. IsFirstBad fs name ends.0)) told ends.1))
       basis_refused ReadFault basis is ends shelf_held = absurd (shelf_held ends.0)
       basis_refused NoMemory basis is ends shelf_held = refl
       basis_refused _ basis is ends shelf_held = absurd ends
@@ -118,7 +111,7 @@ module _ {D : Type 0} (g : Ghosts D) (old new : D) (on : ℤ) (at : At) (output 
           → SaysBadFile bad output (status_of ending) ⊎ (status_of ending ≡ 9)
       bad_refused BadBasis bad first ends shelf_held =
           let same : ends.0 ≡ bad =
-          one_bad files name ends.0 bad
+          one_first_bad files name ends.0 bad
           (subst (λ (t : Option (List ℕ → Option (List ℕ))). IfSome t (λ fs. IsFirstBad fs name ends.0)) told ends.1) first in
           inl (refl, subst (λ (b : ABadBasis). WroteOrFailed output (bad_basis_text b)) same ends.2)
       bad_refused ReadFault bad first ends shelf_held = absurd (shelf_held ends.0)
@@ -133,7 +126,7 @@ module _ {D : Type 0} (g : Ghosts D) (old new : D) (on : ℤ) (at : At) (output 
           → IsFirstBad files name bad → (Rose shelf.faults_before shelf.faults_after → ⊥)
           → SaysBadFile bad output (status_of ending) ⊎ (status_of ending ≡ 9)
       value_unfit ending bad ends first shelf_held = elim ends [
-        | inl by ↦ never_bad files name by.basis bad (has_basis ending by) first
+        | inl by ↦ absurd (basis_or_bad files name by.basis bad (has_basis ending by) first)
         | inr none ↦ bad_refused ending bad first none.1 shelf_held
       ]
 

@@ -1,8 +1,13 @@
 use Rattle.std.proofs.Common.{◌≡◌, w32, to_z, of_z}
 use Rattle.std.proofs.lemmas.Int.{to_z-of_z}
 use Rattle.office_state.specs.States.{commands_of}
-use Rattle.life_app.proofs.ValueSteps.{ends_written}
+use Rattle.life_app.proofs.ValueSteps.{ends_beyond, ends_written}
 use Rattle.life_app.proofs.value.value_office.Goals as goal
+
+pub returns-then-position-count : goal.returns-then-position-count
+returns-then-position-count g c =
+    ends_beyond (commands_of c.args.office.now) c.args.on c.args.at c.args.basis.now _ c.count-count.result c.position_of-position.result
+    c.refuse_position.result c.count-count.ensures c.position_of-position.ensures c.then-position-count.true c.refuse_position.ensures.says
 
 pub returns : goal.returns
 returns g c =
