@@ -178,9 +178,9 @@ module _ {D : Type 0} (g : Ghosts D) (old new : D) where
         → EndsMode g old new mode input output shelf InputStays ShelfStays ending ⊎ (status_of ending ≡ 9)
     as_asked ending does mode asked = elim does [
       | inl (other, asked_too, ends) ↦ inl (
-        subst (λ (m : Mode). EndsMode g old new m input output shelf InputStays ShelfStays ending)
-            (words_ask_once words other mode asked_too asked) ends
-      )
+          subst (λ (m : Mode). EndsMode g old new m input output shelf InputStays ShelfStays ending)
+          (words_ask_once words other mode asked_too asked) ends
+          )
       | inr none ↦ inr (unasked ending none.says mode asked)
     ]
 
@@ -199,9 +199,9 @@ module _ {D : Type 0} (g : Ghosts D) (old new : D) where
 
     -- no mode ends as words of no command do
     mode_usage : (mode : Mode) → EndsMode g old new mode input output shelf InputStays ShelfStays Usage → ⊥
-    mode_usage (Run basis) ends = elim ends.1 [ | inl read ↦ read.ends | inr unread ↦ unread.1 ]
+    mode_usage (Run basis) ends = elim ends.1 [ inl read ↦ read.ends | inr unread ↦ unread.1 ]
     mode_usage (Value on at workers name) ends = elim ends.1 [
-      | inl by ↦ elim by.ends [ | inl read ↦ read | inr ahead ↦ (let other : Usage ≡ Ahead = ahead.0 in absurd (cc)) ]
+      | inl by ↦ elim by.ends [ inl read ↦ read | inr ahead ↦ (let other : Usage ≡ Ahead = ahead.0 in absurd (cc)) ]
       | inr none ↦ none.1
     ]
     mode_usage (State None) ends = ends.2
@@ -216,9 +216,9 @@ module _ {D : Type 0} (g : Ghosts D) (old new : D) where
     -- 4 comes of a bad file of the basis
     mode_bad_file : (mode : Mode) → AskFor words mode → EndsMode g old new mode input output shelf InputStays ShelfStays BadBasis
         → HasBadFile words shelf.files output
-    mode_bad_file (Run basis) asked ends = elim ends.1 [ | inl read ↦ absurd read.ends | inr unread ↦ absurd unread.1 ]
+    mode_bad_file (Run basis) asked ends = elim ends.1 [ inl read ↦ absurd read.ends | inr unread ↦ absurd unread.1 ]
     mode_bad_file (Value on at workers name) asked ends = elim ends.1 [
-      | inl by ↦ elim by.ends [ | inl read ↦ absurd read | inr ahead ↦ (let other : BadBasis ≡ Ahead = ahead.0 in absurd (cc)) ]
+      | inl by ↦ elim by.ends [ inl read ↦ absurd read | inr ahead ↦ (let other : BadBasis ≡ Ahead = ahead.0 in absurd (cc)) ]
       | inr none ↦ (on, (at, (name, (none.1.0, (workers, asked), none.1.1, none.1.2))))
     ]
     mode_bad_file (State None) asked ends = absurd ends.2
@@ -239,9 +239,9 @@ module _ {D : Type 0} (g : Ghosts D) (old new : D) where
 
     mode_ahead : (mode : Mode) → AskFor words mode → EndsMode g old new mode input output shelf InputStays ShelfStays Ahead
         → IsPastTheEnd g old words
-    mode_ahead (Run basis) asked ends = elim ends.1 [ | inl read ↦ absurd read.ends | inr unread ↦ absurd unread.1 ]
+    mode_ahead (Run basis) asked ends = elim ends.1 [ inl read ↦ absurd read.ends | inr unread ↦ absurd unread.1 ]
     mode_ahead (Value on at workers name) asked ends = elim ends.1 [
-      | inl by ↦ elim by.ends [ | inl read ↦ absurd read | inr ahead ↦ ahead_only on at name (workers, asked) ahead.1 ]
+      | inl by ↦ elim by.ends [ inl read ↦ absurd read | inr ahead ↦ ahead_only on at name (workers, asked) ahead.1 ]
       | inr none ↦ absurd none.1
     ]
     mode_ahead (State None) asked ends = absurd ends.2
@@ -270,7 +270,7 @@ module _ {D : Type 0} (g : Ghosts D) (old new : D) where
 
     module _ (ending : Ending) (does : Does g old new words input output shelf InputStays ShelfStays ending) where
       ran : AskForRun words → EndsRun g old new input output ending ⊎ (status_of ending ≡ 9)
-      ran asked = elim (as_asked ending does (Run asked.0) asked.1) [ | inl ends ↦ inl ends.1 | inr none ↦ inr none ]
+      ran asked = elim (as_asked ending does (Run asked.0) asked.1) [ inl ends ↦ inl ends.1 | inr none ↦ inr none ]
 
       -- so each of these statuses comes of its ending alone
       by_usage : ending ≡ Usage → AskForNothing words

@@ -23,6 +23,8 @@ mod transcript;
 mod unvalued;
 mod valuation;
 mod value;
+#[cfg(test)]
+mod value_tests;
 pub mod worked;
 
 pub use ending::Ending;

@@ -7,7 +7,7 @@ use Rattle.life_app.proofs.value.value_office.Goals as goal
 pub returns-then-position-count : goal.returns-then-position-count
 returns-then-position-count g c =
     ends_beyond (commands_of c.args.office.now) c.args.on c.args.at c.args.basis.now _ c.count-count.result c.position_of-position.result
-    c.refuse_position.result c.count-count.ensures c.position_of-position.ensures c.then-position-count.true c.refuse_position.ensures.says
+    c.refuse_position.result c.count-count.ensures c.position_of-position.ensures c.if-position-count.true c.refuse_position.ensures.says
 
 pub returns : goal.returns
 returns g c =
