@@ -1,3 +1,4 @@
+pub mod Adding
 pub mod Causes
 pub mod Lexing
 pub mod Tables
@@ -8,3 +9,5 @@ pub mod Lines
 pub mod Texts
 pub mod Modes
 pub mod Once
+pub mod Answering
+pub mod Hyphens

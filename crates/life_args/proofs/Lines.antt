@@ -14,7 +14,7 @@ use Rattle.life_args.proofs.Causes.{none_first, none_second}
 use Rattle.life_args.proofs.Lexing.{IsPlain}
 use Rattle.life_args.proofs.Tables.{Argument, named, placed, rule, rules, options, own}
 use Rattle.life_args.proofs.Turns.{held, leaf, stand}
-use Rattle.life_args.proofs.Walks.{Use, puts, repeats, uses, ArePlain, AreOptionNames, HasPlaces, Walks, walks, Spells, pieces_of, ends, owed, now}
+use Rattle.life_args.proofs.Walks.{Use, puts, repeats, uses, ArePlain, AreOptionNames, HasPlaces, Walks, walks, Spells, pieces_of, no_hyphens_in, ends, owed, now}
 use Rattle.life_args.proofs.Repeats.{found, values_for, IsFound, found_after, AreOnce, none_repeated, option_uses, no_option, place_uses}
 
 -- ---- no argument has a default
@@ -197,7 +197,7 @@ module _ (name : Text) (table : List Argument) (good : AreOptionNames (options t
       → EachPlain (bare_values pieces) → ((one : Text) → IsAmong (options table) one → EachPlain (option_values one pieces))
       → ((one : Text) → IsAmong (options table) one → length (option_values one pieces) ≤ 1)
       → ((rows : List Row) → FindsAll (uses left pieces) rows → list_any (λ (a : Rule). a.required && not (is_given a.id rows)) (rules table) ≡ false)
-      → (leaf_fault name table (spelled pieces) ≡ []) × FindsAll (uses left pieces) (leaf_rows table (spelled pieces))
+      → (leaf_fault name table (spelled pieces) ≡ []) × FindsAll (uses left pieces) (leaf_rows table (spelled pieces)) × (HasHyphens (spelled pieces) → ⊥)
   pieces_taken pieces only few alone each once given =
       let are = are_plain (options table) pieces only alone each in
       let w = walks name table good pieces [] None 1 left at_places only are few in
@@ -219,7 +219,7 @@ module _ (name : Text) (table : List Argument) (good : AreOptionNames (options t
       λ one. subst (λ (rs : List Row). IsFound (values_for one (uses left pieces)) (found one rs)) (sym end_rows) (found_after one (uses left pieces) [] refl none) in
       let check : check_fault (leaf name (rules table)) (finished (rules table) (held w.rows_after w.pending_after)) false ≡ [] =
       ap (λ (b : Bool). check_kinds false false b) (given (finished (rules table) (held w.rows_after w.pending_after)) finds_end) in
-      (ap (level (spelled pieces)) w.ends_at ∙ ap₂ or_else walk (ap₂ or_else settle (ap₂ or_else defaults check)), finds)
+      (ap (level (spelled pieces)) w.ends_at ∙ ap₂ or_else walk (ap₂ or_else settle (ap₂ or_else defaults check)), finds, no_hyphens_in (options table) good pieces only are)
     where
       nothing_found : (one : Text) (x : Row) → found one [] ≡ Some x → values_for one (uses left pieces) ≡ []
       nothing_found one x some = let clash : ◌≡◌ {A = Option Row} None (Some x) = some in absurd (cc)

@@ -129,7 +129,7 @@ value_says words day position workers basis free taken said =
     }
 
 pub value_reads : (words : List Text) (day : ℤ) (position : At) (workers : ℕ) (basis : List ℕ) → IsValue words day position workers basis
-    → (fault_of value_app words ≡ []) × ValuesSay (matches_of value_app words) day position workers basis
+    → (fault_of value_app words ≡ []) × ValuesSay (matches_of value_app words) day position workers basis × (HasHyphens words → ⊥)
 value_reads words day position workers basis is =
     let few : length (bare_values is.pieces) ≤ 1 = subst (λ vs. length vs ≤ 1) (sym is.alone) (omega arith) in
     let taken = pieces_taken (codes "value") value_table value_names (Some on) value_places value_other is.pieces is.only few
@@ -142,8 +142,8 @@ value_reads words day position workers basis is =
       workers_are = reads (option_values workers_option is.pieces) (λ given. AreWorkersOr given workers) (found workers_option rows) (option_found (Some on) workers_option is.pieces rows (not_on workers_option refl) taken.1) is.workers_are;
       basis_is = reads (option_values basis_option is.pieces) (λ given. IsBasisOr given basis) (found basis_option rows) (option_found (Some on) basis_option is.pieces rows (not_on basis_option refl) taken.1) is.basis_is;
     } in
-    subst (λ (ws : List Text). (fault_of value_app ws ≡ []) × ValuesSay (matches_of value_app ws) day position workers basis) (sym is.spells)
-    (value_fault_is (spelled is.pieces) ∙ taken.0, subst (λ (rs : List Row). ValuesSay rs day position workers basis) (sym (value_rows_are (spelled is.pieces))) said)
+    subst (λ (ws : List Text). (fault_of value_app ws ≡ []) × ValuesSay (matches_of value_app ws) day position workers basis × (HasHyphens ws → ⊥)) (sym is.spells)
+    (value_fault_is (spelled is.pieces) ∙ taken.0, subst (λ (rs : List Row). ValuesSay rs day position workers basis) (sym (value_rows_are (spelled is.pieces))) said, taken.2)
   where
     plain : (one : Text) → IsAmong (options value_table) one → EachPlain (option_values one is.pieces)
     plain one (inl same) = subst (λ (n : Text). EachPlain (option_values n is.pieces)) (sym same) (plain_values (option_values at_option is.pieces) (λ given. IsPositionOr given position) is.position_is (plain_position position))
@@ -200,15 +200,16 @@ run_says words basis free taken said =
       basis_is = says (option_values basis_option read.pieces) (λ given. IsBasisOr given basis) (found basis_option rows) (option_found None basis_option read.pieces rows (λ among. among) read.finds) say;
     }
 
-pub run_reads : (words : List Text) (basis : List ℕ) → IsRun words basis → (fault_of run_app words ≡ []) × IsBasisOr (first_of (codes "basis") (matches_of run_app words)) basis
+pub run_reads : (words : List Text) (basis : List ℕ) → IsRun words basis
+    → (fault_of run_app words ≡ []) × IsBasisOr (first_of (codes "basis") (matches_of run_app words)) basis × (HasHyphens words → ⊥)
 run_reads words basis is =
     let few : length (bare_values is.pieces) ≤ 0 = subst (λ vs. length vs ≤ 0) (sym is.alone) (omega arith) in
     let taken = pieces_taken (codes "run") run_table run_names None refl tt is.pieces is.only few (subst EachPlain (sym is.alone) tt) plain once (λ rows finds. refl) in
     let rows = leaf_rows run_table (spelled is.pieces) in
     let said : IsBasisOr (first_of basis_option rows) basis =
     reads (option_values basis_option is.pieces) (λ given. IsBasisOr given basis) (found basis_option rows) (option_found None basis_option is.pieces rows (λ among. among) taken.1) is.basis_is in
-    subst (λ (ws : List Text). (fault_of run_app ws ≡ []) × IsBasisOr (first_of (codes "basis") (matches_of run_app ws)) basis) (sym is.spells)
-    (run_fault_is (spelled is.pieces) ∙ taken.0, subst (λ (rs : List Row). IsBasisOr (first_of basis_option rs) basis) (sym (run_rows_are (spelled is.pieces))) said)
+    subst (λ (ws : List Text). (fault_of run_app ws ≡ []) × IsBasisOr (first_of (codes "basis") (matches_of run_app ws)) basis × (HasHyphens ws → ⊥)) (sym is.spells)
+    (run_fault_is (spelled is.pieces) ∙ taken.0, subst (λ (rs : List Row). IsBasisOr (first_of basis_option rs) basis) (sym (run_rows_are (spelled is.pieces))) said, taken.2)
   where
     plain : (one : Text) → IsAmong (options run_table) one → EachPlain (option_values one is.pieces)
     plain one (inl same) = subst (λ (n : Text). EachPlain (option_values n is.pieces)) (sym same) (plain_values (option_values basis_option is.pieces) (λ given. IsBasisOr given basis) is.basis_is (plain_basis basis))
@@ -250,7 +251,8 @@ state_says words id free taken said =
       id_is = says (bare_values read.pieces) (λ given. IsPolicyOr given id) (found (codes "id") rows) (place_found [] (codes "id") read.pieces rows read.only (λ among. among) read.few read.finds) say;
     }
 
-pub state_reads : (words : List Text) (id : Option ℕ) → IsState words id → (fault_of state_app words ≡ []) × IsPolicyOr (first_of (codes "id") (matches_of state_app words)) id
+pub state_reads : (words : List Text) (id : Option ℕ) → IsState words id
+    → (fault_of state_app words ≡ []) × IsPolicyOr (first_of (codes "id") (matches_of state_app words)) id × (HasHyphens words → ⊥)
 state_reads words id is =
     let few = at_most_one (bare_values is.pieces) (λ given. IsPolicyOr given id) is.id_is in
     let taken = pieces_taken (codes "state") state_table tt (Some (codes "id")) state_places (λ among. among) is.pieces is.only few
@@ -258,5 +260,5 @@ state_reads words id is =
     let rows = leaf_rows state_table (spelled is.pieces) in
     let said : IsPolicyOr (first_of (codes "id") rows) id =
     reads (bare_values is.pieces) (λ given. IsPolicyOr given id) (found (codes "id") rows) (place_found [] (codes "id") is.pieces rows is.only (λ among. among) few taken.1) is.id_is in
-    subst (λ (ws : List Text). (fault_of state_app ws ≡ []) × IsPolicyOr (first_of (codes "id") (matches_of state_app ws)) id) (sym is.spells)
-    (state_fault_is (spelled is.pieces) ∙ taken.0, subst (λ (rs : List Row). IsPolicyOr (first_of (codes "id") rs) id) (sym (state_rows_are (spelled is.pieces))) said)
+    subst (λ (ws : List Text). (fault_of state_app ws ≡ []) × IsPolicyOr (first_of (codes "id") (matches_of state_app ws)) id × (HasHyphens ws → ⊥)) (sym is.spells)
+    (state_fault_is (spelled is.pieces) ∙ taken.0, subst (λ (rs : List Row). IsPolicyOr (first_of (codes "id") rs) id) (sym (state_rows_are (spelled is.pieces))) said, taken.2)

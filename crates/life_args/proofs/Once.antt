@@ -3,19 +3,19 @@ use Rattle.std.proofs.Common.{◌≡◌, ℕ, ◌<◌, ◌≤◌, ◌^◌, cond,
 use Rattle.std.specs.Prelude.{◌==◌, ◌||◌}
 use Rattle.std.specs.Global.{Global}
 use Rattle.std.proofs.lemmas.Fmt.{decimal_injective}
-use Rattle.std.proofs.lemmas.Int.{ints}
 use Rattle.clap.specs.Walk.{Row, Text, first_of}
 use Rattle.clap.specs.Simple.{matches_of}
 use Rattle.policy_types.specs.declared.entry.At.{At}
 use Rattle.policy_types.specs.declared.entry.At.TheVariants.{Now, Position}
-use Rattle.life_dates.specs.Calendar.{IsDay, IsTermDay, days_in_month, is_leap_year, day_number}
+use Rattle.life_dates.specs.Calendar.{IsDay, days_in_month, is_leap_year, day_number}
 use Rattle.life_dates.specs.DayText.{day_text, IsDayText}
-use Rattle.life_dates.proofs.TextLemmas.{IsDayText-day_text, read_exact}
+use Rattle.life_dates.proofs.TextLemmas.{read_exact}
 use Rattle.life_args.specs.declared.mode.Mode.{Mode}
 use Rattle.life_args.specs.declared.mode.Mode.TheVariants.{Run, Value, State}
 use Rattle.life_args.specs.Values.{IsPositionOr, AreWorkersOr, IsBasisOr, IsPolicyOr}
 use Rattle.life_args.specs.Words.{AreWords, AskFor}
 use Rattle.life_args.specs.inside.Commands.{IsDayIn, run_app, value_app, state_app}
+use Rattle.life_args.proofs.Texts.{text_of_day}
 use Rattle.life_args.proofs.Modes.{differ, ValuesSay, run_reads, value_reads, state_reads}
 
 -- ---- a day's text is of one day
@@ -31,14 +31,11 @@ days_at_most year month =
     let other = chosen_at_most short 30 31 (lit≤ tt) (lit≤ tt) in
     chosen_at_most (month == 2) (cond (is_leap_year year) 29 28) (cond short 30 31) february other
 
-term_day : (day : ℤ) → IsDay day → IsTermDay day
-term_day day is = (is.0, omega (arith, ints))
-
 same_day : (a b : ℤ) → IsDay a → IsDay b → day_text a ≡ day_text b → a ≡ b
 same_day a b a_in b_in e =
     let P : ℤ → Type 0 = λ day. IsDay day in
-    let first = IsDayText-day_text a (term_day a a_in) in
-    let other = subst (λ (text : List ℕ). IsDayText text b) (sym e) (IsDayText-day_text b (term_day b b_in)) in
+    let first = text_of_day (day_text a) a a_in refl in
+    let other = text_of_day (day_text a) b b_in e in
     let found = read_exact (Some (day_number first.date)) first.date (day_text a) first.is_date.year_high (omega (arith, first.is_date.month_high)) (omega (arith, first.is_date.day_high, days_at_most first.date.year first.date.month))
     ((first.is_date, subst P (sym first.is_number) a_in), refl) first.is_text b b_in other in
     let same : day_number first.date ≡ b = cc in

@@ -3,7 +3,10 @@ use Rattle.std.proofs.Common.{◌≡◌, ◌≢◌, ◌⊎◌, ◌+◌, ◌==◌
 use Rattle.std.proofs.lemmas.Bool.Decides.{nat_tests}
 use Rattle.std.proofs.lemmas.Fmt.{decimal_digit, decimal_nonempty, first_decimal}
 use Rattle.clap.specs.Walk.{Row, Text}
-use Rattle.life_dates.specs.DayText.{day_text}
+use Rattle.std.proofs.lemmas.Int.{ints}
+use Rattle.life_dates.specs.Calendar.{IsDay, IsTermDay}
+use Rattle.life_dates.specs.DayText.{day_text, IsDayText}
+use Rattle.life_dates.proofs.TextLemmas.{IsDayText-day_text, day_text-only}
 use Rattle.basis_book.specs.Name.{IsName}
 use Rattle.life_args.specs.Pieces.{AtMostOne}
 use Rattle.life_args.proofs.Lexing.{IsPlain, no_hyphen}
@@ -36,6 +39,16 @@ plain_name text is = begins text (omega (arith, is.some)) first
       | inl letter ↦ elim letter [ inl digit ↦ omega (arith, digit) | inr large ↦ omega (arith, large) ]
       | inr small ↦ omega (arith, small)
     ]
+
+term_day : (day : ℤ) → IsDay day → IsTermDay day
+term_day day is = (is.0, omega (arith, ints))
+
+-- a day's text is a text of the day, and its only one
+pub text_of_day : (text : Text) (day : ℤ) → IsDay day → text ≡ day_text day → IsDayText text day
+text_of_day text day is e = subst (λ (t : Text). IsDayText t day) (sym e) (IsDayText-day_text day (term_day day is))
+
+pub day_of_text : (text : Text) (day : ℤ) → IsDay day → IsDayText text day → text ≡ day_text day
+day_of_text text day is said = day_text-only text day (term_day day is) said
 
 -- the first value of a row that was found
 abbrev pub first : Option Row → Option Text

@@ -1,5 +1,6 @@
 -- clap's walk over the words that pieces spell, and the pieces of the words that it takes
-use Rattle.std.proofs.Common.{◌≡◌, ◌≢◌, ◌⊎◌, ◌+◌, ◌<◌, ◌≤◌, ℕ, zero, suc, Bool, true, false, fold, List, [], ◌∷◌, ◌++◌, length, map, Option, Some, None, refl, sym, ap, ap₂, ◌∙◌, subst, arith, inl, inr, codes}
+use Rattle.std.proofs.Common.{◌≡◌, ◌≢◌, ◌⊎◌, ◌+◌, ◌<◌, ◌≤◌, ℕ, zero, suc, Bool, true, false, fold, List, [], ◌∷◌, ◌++◌, length, map, Option, Some, None, refl, sym, ap, ap₂, ◌∙◌, subst, arith, inl, inr, bytes_eq, codes, true≢false}
+use Rattle.std.proofs.lemmas.Slice.Eq.{bytes_eq-Decides}
 use Rattle.std.specs.Prelude.{⊤}
 use Rattle.std.specs.Option.{option_map_or}
 use Rattle.clap.specs.Walk.{Row, Rule, Text, Waiting, Walk, idle, option, settled_rows, walked, arg_by_id, arg_by_index, arg_by_long, used_by_id, used}
@@ -54,11 +55,25 @@ option_name [] h name among = absurd among
 option_name (one ∷ rest) h name (inl is) = subst IsOptionName (sym is) h.0
 option_name (one ∷ rest) h name (inr more) = option_name rest h.1 name more
 
+both_hyphens : (word : Text) → bytes_eq word (45 ∷ 45 ∷ []) ≡ false → word ≡ 45 ∷ 45 ∷ [] → ⊥
+both_hyphens word other is = true≢false (sym ((bytes_eq-Decides word (45 ∷ 45 ∷ [])).1 is) ∙ other)
+
 pub option_among : (table : List Argument) (name : Text) → IsAmong (options table) name → IsAmong (names table) name
 option_among [] name among = absurd among
 option_among (named one ∷ rest) name (inl is) = inl is
 option_among (named one ∷ rest) name (inr more) = inr (option_among rest name more)
 option_among (placed one i required ∷ rest) name among = inr (option_among rest name among)
+
+-- none of their words is `--`
+pub no_hyphens_in : (all : List Text) → AreOptionNames all → (pieces : List Piece) → HasOnly all pieces → ArePlain pieces → HasHyphens (spelled pieces) → ⊥
+no_hyphens_in all good [] only are has = has
+no_hyphens_in all good (bare value ∷ pieces) only are (inl is) = both_hyphens value are.0.no_hyphens is
+no_hyphens_in all good (bare value ∷ pieces) only are (inr more) = no_hyphens_in all good pieces only are.1 more
+no_hyphens_in all good (apart one value ∷ pieces) only are (inl is) = both_hyphens (45 ∷ 45 ∷ one) (apart_named one (option_name all good one only.0)).no_hyphens is
+no_hyphens_in all good (apart one value ∷ pieces) only are (inr (inl is)) = both_hyphens value are.0.no_hyphens is
+no_hyphens_in all good (apart one value ∷ pieces) only are (inr (inr more)) = no_hyphens_in all good pieces only.1 are.1 more
+no_hyphens_in all good (joined one value ∷ pieces) only are (inl is) = both_hyphens (45 ∷ 45 ∷ (one ++ 61 ∷ value)) (joined_named one value (option_name all good one only.0)).no_hyphens is
+no_hyphens_in all good (joined one value ∷ pieces) only are (inr more) = no_hyphens_in all good pieces only.1 are more
 
 -- from place p on the table has these places
 pub record IsPlace (table : List Argument) (p : ℕ) (name : Text) : Type 0 where

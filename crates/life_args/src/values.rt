@@ -1,5 +1,5 @@
 // What the values of a command line say.
-ghost use Rattle.std.specs.Prelude.{option_map};
+ghost use Rattle.std.specs.Prelude.{◌≡◌, ◌≢◌, ◌≤◌, ℕ, IfSome, IfNone, decimal, option_map};
 ghost use Rattle.life_args.specs.Values.{IsPositionOr, AreWorkersOr, IsBasisOr, IsPolicyOr};
 ghost use Rattle.life_args.specs.inside.Commands.{Gives, IsDayIn};
 
@@ -17,10 +17,7 @@ pub fn day_of(value: Option<&str>) -> Result<i32, WordsFault>
     let Some(text) = value else {
         return Err(WordsFault::Usage);
     };
-    match parse_day(text.as_bytes()) {
-        Some(day) => Ok(day),
-        None => Err(WordsFault::Usage),
-    }
+    parse_day(text.as_bytes()).ok_or(WordsFault::Usage)
 }
 
 /// The position of a valuation: the end of the journal where none is given.
@@ -43,9 +40,9 @@ pub fn workers_or(value: Option<&str>) -> Result<u8, WordsFault>
     let Some(text) = value else {
         return Ok(1);
     };
-    match parse_number(text.as_bytes(), 64) {
-        None | Some(0) => Err(WordsFault::Usage),
+    match parse_count(text, 64) {
         Some(workers) => Ok(workers as u8),
+        None => Err(WordsFault::Usage),
     }
 }
 
@@ -71,8 +68,19 @@ pub fn policy_or(value: Option<&str>) -> Result<Option<u32>, WordsFault>
     let Some(text) = value else {
         return Ok(None);
     };
-    match parse_number(text.as_bytes(), 4_294_967_295) {
-        None | Some(0) => Err(WordsFault::Usage),
+    match parse_count(text, 4_294_967_295) {
         Some(id) => Ok(Some(id as u32)),
+        None => Err(WordsFault::Usage),
+    }
+}
+
+// A number from 1 to `most`.
+fn parse_count(text: &str, most: u64) -> Option<u64>
+    ensures some { IfSome result (λ n. (1 ≤ n) × (n ≤ most) × (text.now ≡ decimal n)) }
+    ensures none { IfNone result ((n : ℕ) → 1 ≤ n → n ≤ most → text.now ≢ decimal n) }
+{
+    match parse_number(text.as_bytes(), most)? {
+        0 => None,
+        number => Some(number),
     }
 }
