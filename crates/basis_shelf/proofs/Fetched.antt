@@ -1,5 +1,5 @@
 -- What was fetched so far, where the shelf tells its files.
-use Rattle.std.proofs.Common.{◌≡◌, ℕ, ◌+◌, ◌<◌, inl, inr, Bool, true, false, cond, List, [], ◌∷◌, ◌++◌, length, map, take, drop, get_or, All, Option, Some, None, IsSome, IfSome, unwrap_or, Result, Ok, Err, IfOk, IfErr, refl, sym, ap, ◌∙◌, subst, arith}
+use Rattle.std.proofs.Common.{◌≡◌, ℕ, ◌+◌, ◌<◌, Bool, true, false, cond, List, [], ◌∷◌, ◌++◌, length, map, take, drop, get_or, All, Option, Some, None, IsSome, IfSome, unwrap_or, Result, Ok, Err, IfOk, IfErr, refl, sym, ap, ◌∙◌, subst, arith}
 use Rattle.std.specs.List.{AllZip}
 use Rattle.std.specs.Bool.{Decides}
 use Rattle.std.proofs.lemmas.List.{take-append-drop, drop_more, length-take-le}
@@ -13,7 +13,7 @@ use Rattle.basis_shelf.specs.declared.fault.NoBasis.TheVariants.{Bad, ReadFault,
 use Rattle.basis_shelf.specs.Bases.{IsTable, HasTable, AreRowsOf, IsEntry, IsBasis}
 use Rattle.basis_shelf.specs.FirstBad.{IsBadTable, IsFirstBadRow, IsFirstBad}
 use Rattle.basis_shelf.specs.Answers.{IsDue, Gives, IfBad}
-use Rattle.basis_shelf.specs.inside.Parts.{IsBadBookFile, IsBadTableFile, AreTables, KeepsKnown}
+use Rattle.basis_shelf.specs.inside.Parts.{IsBadTableFile, AreTables}
 use Rattle.basis_shelf.proofs.OneBasis.{one_answer, at_cut}
 
 -- ---- one table more

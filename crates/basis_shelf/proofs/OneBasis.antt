@@ -1,5 +1,5 @@
 -- A name has one basis, or one first bad file.
-use Rattle.std.proofs.Common.{◌≡◌, ℕ, ◌+◌, ◌⊎◌, inl, inr, List, [], ◌∷◌, ◌++◌, length, All, ℤ, Option, Result, Ok, Err, refl, sym, ap, ◌∙◌, subst}
+use Rattle.std.proofs.Common.{◌≡◌, ℕ, ◌+◌, inl, inr, List, [], ◌∷◌, ◌++◌, length, All, ℤ, Option, Result, Ok, Err, refl, sym, ap, ◌∙◌, subst}
 use Rattle.std.specs.List.{AllZip}
 use Rattle.std.proofs.lemmas.List.Elements.{All-head, All-tail}
 use Rattle.rate_table.specs.Rates.{Rates}
@@ -8,8 +8,8 @@ use Rattle.basis_book.specs.Dated.{Dated}
 use Rattle.basis_book.proofs.ListCuts.{compare_cuts}
 use Rattle.basis_shelf.specs.declared.fault.BadBasis.{BadBasis}
 use Rattle.basis_shelf.specs.declared.fault.BasisWord.{BasisWord}
-use Rattle.basis_shelf.specs.Bases.{HasTable, AreRowsOf, IsEntry, IsBasis}
-use Rattle.basis_shelf.specs.FirstBad.{IsBadTable, IsBadBook, IsFirstBadRow, IsFirstBad}
+use Rattle.basis_shelf.specs.Bases.{HasTable, IsEntry, IsBasis}
+use Rattle.basis_shelf.specs.FirstBad.{IsBadTable, IsFirstBadRow, IsFirstBad}
 use Rattle.basis_shelf.specs.Answers.{IsDue}
 use Rattle.basis_shelf.proofs.OneTable.{one_table, one_bad_table, table_or_bad}
 use Rattle.basis_shelf.proofs.OneBook.{one_rows, one_bad_book, rows_or_bad}

@@ -1,4 +1,4 @@
-use Rattle.std.proofs.Common.{◌≡◌, ◌<◌, List, length, All, IsSome, take, sym, ◌∙◌, subst, arith}
+use Rattle.std.proofs.Common.{◌<◌, List, length, All, IsSome, take, ◌∙◌, subst, arith}
 use Rattle.std.proofs.lemmas.List.{take_all}
 use Rattle.std.proofs.lemmas.List.Elements.{All-more, All-weaker}
 use Rattle.std.proofs.lemmas.Result.{err_from_is_err_and}
