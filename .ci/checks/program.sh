@@ -293,5 +293,18 @@ echo "diskfault" >wanted
 "$root/life" value 2021-01-01 </dev/null >out
 judge $? 8 wanted
 
+# every row of a book by table G, worked out anew in exact fractions without the program
+begin "values of the small office"
+"$root/life" run <"$office_of.csv" >out
+cp "$root/examples/basis.csv" "$root/examples/q.xml" "$root/examples/g.xml" .
+for day in 2021-01-19 2022-01-20 2023-03-15 2024-03-03 2024-03-12 2060-01-01; do
+    "$root/life" value "$day" </dev/null >block || complain "value on $day ended with $?"
+    python3 -B "$root/examples/check_values.py" journal.life basis.csv block >out || complain "on $day: $(cat out)"
+done
+for position in 0 1 7 19 30; do
+    "$root/life" value 2024-06-30 --at "$position" </dev/null >block || complain "value at $position ended with $?"
+    python3 -B "$root/examples/check_values.py" journal.life basis.csv block >out || complain "at $position: $(cat out)"
+done
+
 [ "$failed" = 0 ] && echo "program: the program runs as a user runs it"
 exit "$failed"
