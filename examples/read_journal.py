@@ -112,4 +112,5 @@ def main():
         list_records(found)
 
 
-main()
+if __name__ == "__main__":
+    main()

@@ -8,4 +8,7 @@ pub mod RunSteps
 pub mod LookSteps
 pub mod StateSteps
 pub mod ReadingSteps
+pub mod ValueSteps
+pub mod ReadOnlySteps
+pub mod ValueStatus
 pub mod ProgramSteps

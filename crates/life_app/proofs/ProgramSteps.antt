@@ -1,31 +1,40 @@
--- What the exit status tells of the words, the script and the file
-use Rattle.std.proofs.Common.{◌≡◌, ℕ, ◌≤◌, ◌⊎◌, List, [], ◌∷◌, length, refl, ap, sym, ◌∙◌, subst, inl, inr, Option, Some, String, Global, arith, codes}
-use Rattle.std.specs.Prelude.{IfSome}
+-- What the exit status tells of the words, the script, the basis and the file
+use Rattle.std.proofs.Common.{◌≡◌, ℕ, ◌≤◌, ◌<◌, ◌⊎◌, ℤ, List, [], ◌∷◌, length, refl, ap, sym, ◌∙◌, subst, inl, inr, Option, None, Some, String, Global, arith}
+use Rattle.std.specs.Prelude.{◌==◌, if◌then◌else◌, IfSome}
 use Rattle.std.proofs.lemmas.Bool.{cases_lt}
 use Rattle.outside_io.specs.declared.disks.Disk.{Ghosts}
 use Rattle.outside_io.specs.Faults.{Rose}
 use Rattle.policy_types.specs.declared.command.Command.{Command}
+use Rattle.policy_types.specs.declared.entry.At.{At}
+use Rattle.policy_types.specs.declared.entry.At.TheVariants.{Now, Position}
 use Rattle.policy_types.specs.declared.entry.Entry.{Entry}
 use Rattle.policy_types.specs.declared.script.Lane.{Lane}
+use Rattle.basis_book.specs.Dated.{Dated}
+use Rattle.basis_shelf.specs.Bases.{IsBasis}
+use Rattle.basis_shelf.specs.FirstBad.{IsFirstBad}
+use Rattle.basis_shelf.specs.declared.fault.BadBasis.{BadBasis as ABadBasis}
 use Rattle.command_csv.specs.Reads.{Reads}
 use Rattle.command_csv.proofs.Faults.{fault_excludes}
 use Rattle.command_csv.proofs.Judging.{judged}
-use Rattle.life_app.specs.declared.ending.Ending.{Ending}
-use Rattle.life_app.specs.declared.ending.Ending.TheVariants.{Done, Usage, BadScript, BadJournal, ReadFault as InputFault, WriteFault, DiskFault, NoMemory}
-use Rattle.office_state.specs.declared.faults.StartCause.{StartCause}
-use Rattle.office_state.specs.declared.faults.StartCause.TheVariants.{DiskFault as FaultyDisk, NotAJournal, BadRecord, NoMemory as NoRoom}
-use Rattle.life_app.specs.declared.words.Mode.TheVariants.{Run, State, StateOf}
-use Rattle.office_state.specs.Journals.{IsOfTheFile, Opens, OpensToNone}
-use Rattle.life_app.specs.Books.{books_text, policy_account}
-use Rattle.life_app.specs.Obeys.{Does, EndsRun}
-use Rattle.life_app.specs.Stating.{EndsState}
-use Rattle.life_app.specs.Outcome.{EndsScript, IsRefusedJournal, IsRunOf, SaysWhy}
-use Rattle.life_app.specs.Script.{EndsUnread, IsReadAs, IsReadable, IsRefused, IsUnreadable}
-use Rattle.life_app.specs.Writing.{Stream}
-use Rattle.life_app.specs.Status.{status_of}
-use Rattle.life_app.specs.Words.{AskFor, AskForState}
-use Rattle.office_state.proofs.JournalLaws.{shown_opens_to_none}
+use Rattle.life_args.proofs.Once.{words_ask_once}
+use Rattle.life_args.specs.Words.{AskFor, AskForNothing}
+use Rattle.life_args.specs.declared.mode.Mode.{Mode}
+use Rattle.life_args.specs.declared.mode.Mode.TheVariants.{Run, Value, State}
+use Rattle.office_state.specs.Journals.{Opens, OpensToNone}
 use Rattle.office_state.proofs.OpeningSteps.{finished}
+use Rattle.life_app.specs.declared.ending.Ending.{Ending}
+use Rattle.life_app.specs.declared.ending.Ending.TheVariants.{Done, Usage, BadScript, BadBasis, BadJournal, ReadFault as InputFault, WriteFault, DiskFault, NoMemory, Ahead}
+use Rattle.life_app.specs.Books.{books_text, policy_account}
+use Rattle.life_app.specs.Obeys.{Does, EndsMode, EndsRun, SaysUnasked}
+use Rattle.life_app.specs.Outcome.{EndsScript, IsRunOf}
+use Rattle.life_app.specs.Script.{EndsUnread, IsReadAs, IsReadable, IsRefused, IsUnreadable}
+use Rattle.life_app.specs.Stating.{IsStated}
+use Rattle.life_app.specs.Status.{status_of}
+use Rattle.life_app.specs.Valuing.{EndsValue, HasBadFile, IsAhead, IsPastTheEnd, SaysBadFile, position_of}
+use Rattle.life_app.specs.Words.{AskForRun, AskForState, AskForValue}
+use Rattle.life_app.specs.Writing.{Shelving, Stream}
+use Rattle.life_app.proofs.ReadOnlySteps.{opens_to_none, read_as_before, read_refused, read_to_end}
+use Rattle.life_app.proofs.ValueStatus.{value_as_before, value_beyond, value_refused, value_to_end, value_unfit}
 
 -- no script is refused that can be read
 not_refused : (bytes : List ℕ) (lanes : List Lane) (output : Stream) → length bytes ≤ 16777216 → Reads bytes lanes
@@ -58,13 +67,6 @@ read_or_refused bytes = elim (cases_lt 16777216 (length bytes)) [
 pub not_both : (bytes : List ℕ) → IsReadable (Some bytes) → IsUnreadable bytes → ⊥
 not_both bytes readable unreadable = never_readable (Some bytes) bytes readable.0 readable.1 refl unreadable
 
--- a file is refused as a journal for what its bytes are
-of_the_file : (cause : StartCause) (output : Stream) → SaysWhy cause output → IsOfTheFile cause
-of_the_file NotAJournal output said = tt
-of_the_file (BadRecord n) output said = tt
-of_the_file (FaultyDisk count) output said = said
-of_the_file NoRoom output said = said
-
 -- a script that can be read isn't refused where the input doesn't fail
 unread_readable : (input output : Stream) (ending : Ending) (bytes : List ℕ) (lanes : List Lane)
     → EndsUnread input output ending → input.before ≡ Some bytes → length bytes ≤ 16777216 → Reads bytes lanes
@@ -83,23 +85,36 @@ unread_refused input output NoMemory ends held = inr refl
 unread_refused input output InputFault ends held = absurd (held ends.0)
 unread_refused input output _ ends held = absurd ends
 
--- no words ask for a run and for books
-run_or_state : (words : List (String Global)) → AskFor words Run → AskFor words State → ⊥
-run_or_state [] run state = run
-run_or_state (word ∷ []) run state = let same : codes "run" ≡ codes "state" = sym run ∙ state in absurd (cc)
-run_or_state (word ∷ other ∷ words) run state = run
+abbrev ending_with : ℕ → Ending
+ending_with status =
+    if status == 0 then Done
+    else if status == 2 then Usage
+    else if status == 3 then BadScript
+    else if status == 4 then BadBasis
+    else if status == 5 then BadJournal
+    else if status == 6 then InputFault
+    else if status == 7 then WriteFault
+    else if status == 8 then DiskFault
+    else if status == 9 then NoMemory
+    else Ahead
 
-run_or_state_of : (words : List (String Global)) (id : ℕ) → AskFor words Run → AskFor words (StateOf id) → ⊥
-run_or_state_of [] id run state = run
-run_or_state_of (word ∷ []) id run state = state.1
-run_or_state_of (word ∷ other ∷ words) id run state = run
+its_own : (ending : Ending) → ending_with (status_of ending) ≡ ending
+its_own Done = refl
+its_own Usage = refl
+its_own BadScript = refl
+its_own BadBasis = refl
+its_own BadJournal = refl
+its_own InputFault = refl
+its_own WriteFault = refl
+its_own DiskFault = refl
+its_own NoMemory = refl
+its_own Ahead = refl
+
+-- a status is that of one ending
+ending_at : (status : ℕ) (one ending : Ending) → status_of one ≡ status → status_of ending ≡ status → ending ≡ one
+ending_at status one ending is same = sym (its_own ending) ∙ ap ending_with (same ∙ sym is) ∙ its_own one
 
 module _ {D : Type 0} (g : Ghosts D) (old new : D) where
-  -- then the file opens to no commands
-  opens_to_none : (output : Stream) → IsRefusedJournal g old new output → g.honest old → OpensToNone (g.reads old)
-  opens_to_none output refused honest =
-      shown_opens_to_none (g.reads old) refused.cause (of_the_file refused.cause output refused.line) (refused.shown honest)
-
   -- no run goes on over a file that opens to none
   ran_nowhere : {A : Type 0} (lanes : List Lane) (Wrote : List ℕ → Type 0) (Replies : List Entry → Type 0)
       → IsRunOf g old new lanes Wrote Replies → g.honest old → OpensToNone (g.reads old) → A
@@ -133,7 +148,7 @@ module _ {D : Type 0} (g : Ghosts D) (old new : D) where
   ran_to_end lanes output WriteFault commands ends honest opens output_held disk_held = absurd (output_held ends.0)
   ran_to_end lanes output DiskFault commands ends honest opens output_held disk_held = absurd (disk_held ends.0)
   ran_to_end lanes output BadJournal commands ends honest opens output_held disk_held =
-      absurd (opens_to_none output ends honest commands opens)
+      absurd (opens_to_none g old new output ends honest commands opens)
   ran_to_end lanes output _ commands ends honest opens output_held disk_held = absurd ends
 
   refused_at_opening : (lanes : List Lane) (output : Stream) (ending : Ending) → EndsScript g old new lanes output ending
@@ -146,109 +161,243 @@ module _ {D : Type 0} (g : Ghosts D) (old new : D) where
   refused_at_opening lanes output WriteFault ends honest none disk_held = ran_nowhere _ _ _ ends.1 honest none
   refused_at_opening lanes output _ ends honest none disk_held = absurd ends
 
-  -- what `state` says of a file that opens to none, and of one that opens to some commands
-  books_as_before : (text_of : List Command → List ℕ) (output : Stream) (ending : Ending) → EndsState g old new text_of output ending
-      → g.honest old → OpensToNone (g.reads old) → g.reads new ≡ g.reads old
-  books_as_before text_of output Done ends honest none = absurd (none ends.commands (ends.opened honest))
-  books_as_before text_of output WriteFault ends honest none = absurd (none ends.1.commands (ends.1.opened honest))
-  books_as_before text_of output BadJournal ends honest none = (ends.alone.unwritten honest (finished (g.reads old) none)).facts.reads
-  books_as_before text_of output DiskFault ends honest none = (ends.2.unwritten honest (finished (g.reads old) none)).facts.reads
-  books_as_before text_of output NoMemory ends honest none = (ends.1.unwritten honest (finished (g.reads old) none)).facts.reads
-  books_as_before text_of output _ ends honest none = absurd ends
+  -- nothing is told of a file that opens to none
+  never_stated : (text_of : List Command → List ℕ) → g.honest old → OpensToNone (g.reads old)
+      → (Wrote : List ℕ → Type 0) → IsStated g old new text_of Wrote → ⊥
+  never_stated text_of honest none Wrote stated = none stated.commands (stated.opened honest)
 
-  books_to_end : (text_of : List Command → List ℕ) (output : Stream) (ending : Ending) (commands : List Command)
-      → EndsState g old new text_of output ending → g.honest old → Opens (g.reads old) commands
-      → (Rose output.faults_before output.faults_after → ⊥) → (Rose (g.faults old) (g.faults new) → ⊥)
-      → (status_of ending ≡ 0) ⊎ (status_of ending ≡ 9)
-  books_to_end text_of output Done commands ends honest opens output_held disk_held = inl refl
-  books_to_end text_of output NoMemory commands ends honest opens output_held disk_held = inr refl
-  books_to_end text_of output WriteFault commands ends honest opens output_held disk_held = absurd (output_held ends.0)
-  books_to_end text_of output DiskFault commands ends honest opens output_held disk_held = absurd (disk_held ends.0)
-  books_to_end text_of output BadJournal commands ends honest opens output_held disk_held =
-      absurd (opens_to_none output ends honest commands opens)
-  books_to_end text_of output _ commands ends honest opens output_held disk_held = absurd ends
+  module _ (words : List (String Global)) (input output : Stream) (shelf : Shelving) (InputStays ShelfStays : Type 0) where
+    unasked : (ending : Ending) → SaysUnasked words output ending → (mode : Mode) → AskFor words mode → status_of ending ≡ 9
+    unasked Usage says mode asked = absurd (says.0 mode asked)
+    unasked NoMemory says mode asked = refl
+    unasked _ says mode asked = absurd says
 
-  books_refused : (text_of : List Command → List ℕ) (output : Stream) (ending : Ending) → EndsState g old new text_of output ending
-      → g.honest old → OpensToNone (g.reads old) → (Rose (g.faults old) (g.faults new) → ⊥)
-      → (status_of ending ≡ 5) ⊎ (status_of ending ≡ 9)
-  books_refused text_of output BadJournal ends honest none disk_held = inl refl
-  books_refused text_of output NoMemory ends honest none disk_held = inr refl
-  books_refused text_of output DiskFault ends honest none disk_held = absurd (disk_held ends.0)
-  books_refused text_of output Done ends honest none disk_held = absurd (none ends.commands (ends.opened honest))
-  books_refused text_of output WriteFault ends honest none disk_held = absurd (none ends.1.commands (ends.1.opened honest))
-  books_refused text_of output _ ends honest none disk_held = absurd ends
-
-  module _ (words : List (String Global)) (input output : Stream) (InputStays : Type 0) where
-    -- the words `run` ran a script
-    run_ends : (ending : Ending) → Does g old new words input output InputStays ending → AskFor words Run
-        → EndsRun g old new input output ending
-    run_ends ending does run = elim does [
-      | inl (Run, asked, ends) ↦ ends
-      | inl (State, asked, ends) ↦ absurd (run_or_state words run asked)
-      | inl (StateOf id, asked, ends) ↦ absurd (run_or_state_of words id run asked)
-      | inr usage ↦ absurd (usage.0 Run run)
+    -- the mode that the words ask for ended so, or there was no memory to read them
+    pub as_asked : (ending : Ending) → Does g old new words input output shelf InputStays ShelfStays ending
+        → (mode : Mode) → AskFor words mode
+        → EndsMode g old new mode input output shelf InputStays ShelfStays ending ⊎ (status_of ending ≡ 9)
+    as_asked ending does mode asked = elim does [
+      | inl (other, asked_too, ends) ↦ inl (
+          subst (λ (m : Mode). EndsMode g old new m input output shelf InputStays ShelfStays ending)
+          (words_ask_once words other mode asked_too asked) ends
+          )
+      | inr none ↦ inr (unasked ending none.says mode asked)
     ]
 
-    -- the words `state` wrote books
-    state_ends : (ending : Ending) → Does g old new words input output InputStays ending → AskForState words
-        → (text_of : List Command → List ℕ) × EndsState g old new text_of output ending
-    state_ends ending does state = elim does [
-      | inl (Run, asked, ends) ↦ absurd (elim state [ inl all ↦ run_or_state words asked all | inr one ↦ run_or_state_of words one.0 asked one.1 ])
-      | inl (State, asked, ends) ↦ (books_text, ends.1)
-      | inl (StateOf id, asked, ends) ↦ (policy_account id, ends.1)
-      | inr usage ↦ absurd (elim state [ inl all ↦ usage.0 State all | inr one ↦ usage.0 (StateOf one.0) one.1 ])
+    -- words that ask for nothing
+    pub as_nothing : (ending : Ending) → Does g old new words input output shelf InputStays ShelfStays ending
+        → AskForNothing words → (status_of ending ≡ 2) ⊎ (status_of ending ≡ 9)
+    as_nothing ending does nothing = elim does [
+      | inl (mode, asked, ends) ↦ absurd (nothing mode asked)
+      | inr none ↦ said ending none.says
+    ]
+      where
+        said : (ending : Ending) → SaysUnasked words output ending → (status_of ending ≡ 2) ⊎ (status_of ending ≡ 9)
+        said Usage says = inl refl
+        said NoMemory says = inr refl
+        said _ says = absurd says
+
+    -- no mode ends as words of no command do
+    mode_usage : (mode : Mode) → EndsMode g old new mode input output shelf InputStays ShelfStays Usage → ⊥
+    mode_usage (Run basis) ends = elim ends.1 [ inl read ↦ read.ends | inr unread ↦ unread.1 ]
+    mode_usage (Value on at workers name) ends = elim ends.1 [
+      | inl by ↦ elim by.ends [ inl read ↦ read | inr ahead ↦ (let other : Usage ≡ Ahead = ahead.0 in absurd (cc)) ]
+      | inr none ↦ none.1
+    ]
+    mode_usage (State None) ends = ends.2
+    mode_usage (State (Some id)) ends = ends.2
+
+    usage_only : Does g old new words input output shelf InputStays ShelfStays Usage → AskForNothing words
+    usage_only does = elim does [
+      | inl (mode, asked, ends) ↦ absurd (mode_usage mode ends)
+      | inr none ↦ none.says.0
     ]
 
-    module _ (ending : Ending) (does : Does g old new words input output InputStays ending) where
+    -- 4 comes of a bad file of the basis
+    mode_bad_file : (mode : Mode) → AskFor words mode → EndsMode g old new mode input output shelf InputStays ShelfStays BadBasis
+        → HasBadFile words shelf.files output
+    mode_bad_file (Run basis) asked ends = elim ends.1 [ inl read ↦ absurd read.ends | inr unread ↦ absurd unread.1 ]
+    mode_bad_file (Value on at workers name) asked ends = elim ends.1 [
+      | inl by ↦ elim by.ends [ inl read ↦ absurd read | inr ahead ↦ (let other : BadBasis ≡ Ahead = ahead.0 in absurd (cc)) ]
+      | inr none ↦ (on, (at, (name, (none.1.0, (workers, asked), none.1.1, none.1.2))))
+    ]
+    mode_bad_file (State None) asked ends = absurd ends.2
+    mode_bad_file (State (Some id)) asked ends = absurd ends.2
+
+    bad_file_only : Does g old new words input output shelf InputStays ShelfStays BadBasis → HasBadFile words shelf.files output
+    bad_file_only does = elim does [
+      | inl (mode, asked, ends) ↦ mode_bad_file mode asked ends
+      | inr none ↦ absurd none.says
+    ]
+
+    -- 10 comes of a position above the count
+    ahead_only : (on : ℤ) (at : At) (name : List ℕ) → AskForValue words on at name → IsAhead g old new at output
+        → IsPastTheEnd g old words
+    ahead_only on Now name asked ahead = absurd (omega (arith, ahead.beyond.ahead))
+    ahead_only on (Position p) name asked ahead =
+        (on, (p, (name, asked, λ honest. (ahead.commands, ahead.opened honest, ahead.beyond.ahead))))
+
+    mode_ahead : (mode : Mode) → AskFor words mode → EndsMode g old new mode input output shelf InputStays ShelfStays Ahead
+        → IsPastTheEnd g old words
+    mode_ahead (Run basis) asked ends = elim ends.1 [ inl read ↦ absurd read.ends | inr unread ↦ absurd unread.1 ]
+    mode_ahead (Value on at workers name) asked ends = elim ends.1 [
+      | inl by ↦ elim by.ends [ inl read ↦ absurd read | inr ahead ↦ ahead_only on at name (workers, asked) ahead.1 ]
+      | inr none ↦ absurd none.1
+    ]
+    mode_ahead (State None) asked ends = absurd ends.2
+    mode_ahead (State (Some id)) asked ends = absurd ends.2
+
+    past_the_end_only : Does g old new words input output shelf InputStays ShelfStays Ahead → IsPastTheEnd g old words
+    past_the_end_only does = elim does [
+      | inl (mode, asked, ends) ↦ mode_ahead mode asked ends
+      | inr none ↦ absurd none.says
+    ]
+
+    -- how a mode leaves a file that opens to none
+    mode_as_before : (mode : Mode) (ending : Ending) → EndsMode g old new mode input output shelf InputStays ShelfStays ending
+        → g.honest old → OpensToNone (g.reads old) → g.reads new ≡ g.reads old
+    mode_as_before (Run basis) ending ends honest none = elim ends.1 [
+      | inl read ↦ reads_as_before read.lanes output ending read.ends honest none
+      | inr unread ↦ ap g.reads unread.0
+    ]
+    mode_as_before (Value on at workers name) ending ends honest none =
+        value_as_before g old new on at output name shelf ending ends.1 honest none
+    mode_as_before (State None) ending ends honest none =
+        read_as_before g old new (IsStated g old new books_text) output ending ends.2 (never_stated books_text honest none) honest none
+    mode_as_before (State (Some id)) ending ends honest none =
+        read_as_before g old new (IsStated g old new (policy_account id)) output ending ends.2 (never_stated (policy_account id) honest none)
+        honest none
+
+    module _ (ending : Ending) (does : Does g old new words input output shelf InputStays ShelfStays ending) where
+      ran : AskForRun words → EndsRun g old new input output ending ⊎ (status_of ending ≡ 9)
+      ran asked = elim (as_asked ending does (Run asked.0) asked.1) [ inl ends ↦ inl ends.1 | inr none ↦ inr none ]
+
+      -- so each of these statuses comes of its ending alone
+      by_usage : ending ≡ Usage → AskForNothing words
+      by_usage is = usage_only (subst (Does g old new words input output shelf InputStays ShelfStays) is does)
+
+      by_bad_file : ending ≡ BadBasis → HasBadFile words shelf.files output
+      by_bad_file is = bad_file_only (subst (Does g old new words input output shelf InputStays ShelfStays) is does)
+
+      by_ahead : ending ≡ Ahead → IsPastTheEnd g old words
+      by_ahead is = past_the_end_only (subst (Does g old new words input output shelf InputStays ShelfStays) is does)
+
+      pub usage : status_of ending ≡ 2 → AskForNothing words
+      usage status = by_usage (ending_at 2 Usage ending refl status)
+
+      pub bad_file : status_of ending ≡ 4 → HasBadFile words shelf.files output
+      bad_file status = by_bad_file (ending_at 4 BadBasis ending refl status)
+
+      pub past_the_end : status_of ending ≡ 10 → IsPastTheEnd g old words
+      past_the_end status = by_ahead (ending_at 10 Ahead ending refl status)
+
       pub unopened : g.honest old → OpensToNone (g.reads old) → g.reads new ≡ g.reads old
       unopened honest none = elim does [
-        | inl (Run, asked, ends) ↦ elim ends [
-          | inl read ↦ reads_as_before read.lanes output ending read.ends honest none
-          | inr unread ↦ ap g.reads unread.0
-        ]
-        | inl (State, asked, ends) ↦ books_as_before books_text output ending ends.1 honest none
-        | inl (StateOf id, asked, ends) ↦ books_as_before (policy_account id) output ending ends.1 honest none
-        | inr usage ↦ ap g.reads usage.1.disk
+        | inl (mode, asked, ends) ↦ mode_as_before mode ending ends honest none
+        | inr unasked ↦ ap g.reads unasked.disk
+      ]
+
+      -- the words ask for a valuation, which ended so, or there was no memory to read them
+      valued_so : (on : ℤ) (at : At) (name : List ℕ) → AskForValue words on at name
+          → EndsValue g old new on at name shelf output ending ⊎ (status_of ending ≡ 9)
+      valued_so on at name asked = elim (as_asked ending does (Value on at asked.0 name) asked.1) [
+        | inl ends ↦ inl ends.1
+        | inr none ↦ inr none
+      ]
+
+      pub unfit : (on : ℤ) (at : At) (name : List ℕ) (bad : ABadBasis) (files : List ℕ → Option (List ℕ)) → AskForValue words on at name
+          → shelf.files ≡ Some files → IsFirstBad files name bad → (Rose shelf.faults_before shelf.faults_after → ⊥)
+          → SaysBadFile bad output (status_of ending) ⊎ (status_of ending ≡ 9)
+      unfit on at name bad files asked told first shelf_held = elim (valued_so on at name asked) [
+        | inl ends ↦ value_unfit g old new on at output name shelf files told ending bad ends first shelf_held
+        | inr none ↦ inr none
+      ]
+
+      pub valued : (on : ℤ) (at : At) (name : List ℕ) (files : List ℕ → Option (List ℕ)) (basis : List Dated) (commands : List Command)
+          → AskForValue words on at name → shelf.files ≡ Some files → IsBasis files name basis
+          → g.honest old → Opens (g.reads old) commands → position_of at (length commands) ≤ length commands
+          → (Rose shelf.faults_before shelf.faults_after → ⊥) → (Rose output.faults_before output.faults_after → ⊥)
+          → (Rose (g.faults old) (g.faults new) → ⊥) → (status_of ending ≡ 0) ⊎ (status_of ending ≡ 9)
+      valued on at name files basis commands asked told is honest opens reached shelf_held output_held disk_held =
+          elim (valued_so on at name asked) [
+            | inl ends ↦ value_to_end g old new on at output name shelf files told basis is shelf_held honest disk_held ending commands ends opens
+                reached output_held
+            | inr none ↦ inr none
+          ]
+
+      pub ahead : (on : ℤ) (p : ℕ) (name : List ℕ) (files : List ℕ → Option (List ℕ)) (basis : List Dated) (commands : List Command)
+          → AskForValue words on (Position p) name → shelf.files ≡ Some files → IsBasis files name basis
+          → g.honest old → Opens (g.reads old) commands → length commands < p
+          → (Rose shelf.faults_before shelf.faults_after → ⊥) → (Rose (g.faults old) (g.faults new) → ⊥)
+          → (status_of ending ≡ 10) ⊎ (status_of ending ≡ 9)
+      ahead on p name files basis commands asked told is honest opens past shelf_held disk_held =
+          elim (valued_so on (Position p) name asked) [
+            | inl ends ↦ value_beyond g old new on (Position p) output name shelf files told basis is shelf_held honest disk_held ending commands
+                ends opens past
+            | inr none ↦ inr none
+          ]
+
+      pub unvalued : (on : ℤ) (at : At) (name : List ℕ) (files : List ℕ → Option (List ℕ)) (basis : List Dated)
+          → AskForValue words on at name → shelf.files ≡ Some files → IsBasis files name basis
+          → g.honest old → OpensToNone (g.reads old)
+          → (Rose shelf.faults_before shelf.faults_after → ⊥) → (Rose (g.faults old) (g.faults new) → ⊥)
+          → (status_of ending ≡ 5) ⊎ (status_of ending ≡ 9)
+      unvalued on at name files basis asked told is honest none shelf_held disk_held = elim (valued_so on at name asked) [
+        | inl ends ↦ value_refused g old new on at output name shelf files told basis is shelf_held honest disk_held ending ends none
+        | inr without ↦ inr without
       ]
 
       pub stated : (commands : List Command) → AskForState words → g.honest old → Opens (g.reads old) commands
           → (Rose output.faults_before output.faults_after → ⊥) → (Rose (g.faults old) (g.faults new) → ⊥)
           → (status_of ending ≡ 0) ⊎ (status_of ending ≡ 9)
-      stated commands state honest opens output_held disk_held =
-          let ends = state_ends ending does state in
-          books_to_end ends.0 output ending commands ends.1 honest opens output_held disk_held
+      stated commands (None, asked) honest opens output_held disk_held = elim (as_asked ending does (State None) asked) [
+        | inl ends ↦ read_to_end g old new (IsStated g old new books_text) output ending commands ends.2 honest opens output_held disk_held
+        | inr none ↦ inr none
+      ]
+      stated commands (Some id, asked) honest opens output_held disk_held = elim (as_asked ending does (State (Some id)) asked) [
+        | inl ends ↦ read_to_end g old new (IsStated g old new (policy_account id)) output ending commands ends.2 honest opens output_held disk_held
+        | inr none ↦ inr none
+      ]
 
-      pub unstated : AskForState words → g.honest old → OpensToNone (g.reads old) → (Rose (g.faults old) (g.faults new) → ⊥)
-          → (status_of ending ≡ 5) ⊎ (status_of ending ≡ 9)
-      unstated state honest none disk_held =
-          let ends = state_ends ending does state in
-          books_refused ends.0 output ending ends.1 honest none disk_held
+      pub unstated : AskForState words → g.honest old → OpensToNone (g.reads old)
+          → (Rose (g.faults old) (g.faults new) → ⊥) → (status_of ending ≡ 5) ⊎ (status_of ending ≡ 9)
+      unstated (None, asked) honest none disk_held = elim (as_asked ending does (State None) asked) [
+        | inl ends ↦ read_refused g old new (IsStated g old new books_text) output ending ends.2 (never_stated books_text honest none) disk_held
+        | inr without ↦ inr without
+      ]
+      unstated (Some id, asked) honest none disk_held = elim (as_asked ending does (State (Some id)) asked) [
+        | inl ends ↦ read_refused g old new (IsStated g old new (policy_account id)) output ending ends.2 (never_stated (policy_account id) honest none) disk_held
+        | inr without ↦ inr without
+      ]
 
-      pub complete : (bytes : List ℕ) (lanes : List Lane) (commands : List Command) → AskFor words Run
+      pub complete : (bytes : List ℕ) (lanes : List Lane) (commands : List Command) → AskForRun words
           → input.before ≡ Some bytes → length bytes ≤ 16777216 → Reads bytes lanes
           → g.honest old → Opens (g.reads old) commands → (Rose input.faults_before input.faults_after → ⊥)
           → (Rose output.faults_before output.faults_after → ⊥) → (Rose (g.faults old) (g.faults new) → ⊥)
           → (status_of ending ≡ 0) ⊎ (status_of ending ≡ 9)
       complete bytes lanes commands run told short reads honest opens input_held output_held disk_held =
-          elim (run_ends ending does run) [
-            | inl read ↦ ran_to_end read.lanes output ending commands read.ends honest opens output_held disk_held
-            | inr unread ↦ inr (unread_readable input output ending bytes lanes unread.1 told short reads input_held)
+          elim (ran run) [
+            | inl (inl read) ↦ ran_to_end read.lanes output ending commands read.ends honest opens output_held disk_held
+            | inl (inr unread) ↦ inr (unread_readable input output ending bytes lanes unread.1 told short reads input_held)
+            | inr none ↦ inr none
           ]
 
-      pub refused_exactly : (bytes : List ℕ) (lanes : List Lane) → AskFor words Run
+      pub refused_exactly : (bytes : List ℕ) (lanes : List Lane) → AskForRun words
           → input.before ≡ Some bytes → length bytes ≤ 16777216 → Reads bytes lanes
           → g.honest old → OpensToNone (g.reads old) → (Rose input.faults_before input.faults_after → ⊥)
           → (Rose (g.faults old) (g.faults new) → ⊥) → (status_of ending ≡ 5) ⊎ (status_of ending ≡ 9)
       refused_exactly bytes lanes run told short reads honest none input_held disk_held =
-          elim (run_ends ending does run) [
-            | inl read ↦ refused_at_opening read.lanes output ending read.ends honest none disk_held
-            | inr unread ↦ inr (unread_readable input output ending bytes lanes unread.1 told short reads input_held)
+          elim (ran run) [
+            | inl (inl read) ↦ refused_at_opening read.lanes output ending read.ends honest none disk_held
+            | inl (inr unread) ↦ inr (unread_readable input output ending bytes lanes unread.1 told short reads input_held)
+            | inr without ↦ inr without
           ]
 
-      pub script_refused : (bytes : List ℕ) → AskFor words Run → input.before ≡ Some bytes → IsUnreadable bytes
+      pub script_refused : (bytes : List ℕ) → AskForRun words → input.before ≡ Some bytes → IsUnreadable bytes
           → (Rose input.faults_before input.faults_after → ⊥) → (status_of ending ≡ 3) ⊎ (status_of ending ≡ 9)
       script_refused bytes run told unreadable held =
-          elim (run_ends ending does run) [
-            | inl read ↦ never_readable input.before bytes read.lanes read.read told unreadable
-            | inr unread ↦ unread_refused input output ending unread.1 held
+          elim (ran run) [
+            | inl (inl read) ↦ never_readable input.before bytes read.lanes read.read told unreadable
+            | inl (inr unread) ↦ unread_refused input output ending unread.1 held
+            | inr none ↦ inr none
           ]

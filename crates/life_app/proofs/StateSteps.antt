@@ -33,7 +33,7 @@ use Rattle.life_app.specs.declared.ending.Ending.TheVariants.{Done, Usage, BadSc
 use Rattle.life_app.specs.declared.rereading.Account.{Account}
 use Rattle.life_app.specs.Books.{account_text, entries_of, policy_account}
 use Rattle.life_app.specs.Outcome.{SaysWhy}
-use Rattle.life_app.specs.Stating.{EndsState, IsStated}
+use Rattle.life_app.specs.Stating.{EndsReadOnly, EndsState, IsStated}
 use Rattle.life_app.specs.Writing.{Stream, WroteAll}
 use Rattle.life_app.specs.inside.Parts.{EndsText, SaysUnopened}
 use Rattle.life_app.specs.inside.Rereading.{EndsReading, HasNotRead, HasRead, IsAccounted}
@@ -73,9 +73,10 @@ module _ {D : Type 0} (g : Ghosts D) (old disk : D) (text_of : List Command → 
   ends_text commands _ (Ok text) opened left alone same ends = absurd ends
   ends_text commands _ (Err lack) opened left alone same ends = absurd ends
 
-  -- one that wasn't
+-- one that wasn't opened
+module _ {D : Type 0} (g : Ghosts D) (old disk : D) (Tells : (List ℕ → Type 0) → Type 0) (output : Stream) where
   pub ends_refused : (cause : StartCause) (ending : Ending) → HasNotOpened g old disk cause → SaysUnopened cause output ending
-      → EndsState g old disk text_of output ending
+      → EndsReadOnly g old disk Tells output ending
   ends_refused (FaultyDisk count) DiskFault not said = (not.told.1, said, not.alone)
   ends_refused NotAJournal BadJournal not said = record { cause = NotAJournal; line = said; shown = not.shown; quiet = not.told; alone = not.alone }
   ends_refused (BadRecord n) BadJournal not said = record { cause = BadRecord n; line = said; shown = not.shown; quiet = not.told; alone = not.alone }
@@ -164,17 +165,6 @@ module _ {D : Type 0} (g : Ghosts D) (counts_now : CountsNow g) (reads_image : R
   )
   ends_reading NoMemory ends = (ends.0, read_alone ends.1 ends.3, ends.2 ∙ left.faults)
   ends_reading _ ends = absurd ends
-
--- the policies of valid commands are sound, each of them
-pub sound_at : (commands : List Command) (index count : ℕ) (policy : Policy) → AllByRecursion IsValid commands → count ≡ length commands
-    → index < length (book (take count commands)) → slice_get (book (take count commands)) index ≡ Some policy → IsSound policy
-sound_at commands index count policy valid all within here =
-    let policies : book (take count commands) ≡ book commands = ap (λ n. book (take n commands)) all ∙ ap book (take-length commands) in
-    let sound = All-from_recursion IsSound (book commands) (book-sound commands valid) in
-    let inside : index < length (book commands) = subst (λ (ps : List Policy). index < length ps) policies within in
-    let there : slice_get (book commands) index ≡ Some policy = subst (λ (ps : List Policy). slice_get ps index ≡ Some policy) policies here in
-    let same : get_or (book commands) index policy ≡ policy = (let found = slice_get-get_or (book commands) index policy inside in cc) in
-    subst IsSound same (sound index policy inside)
 
 -- one more line
 pub lines_more : (commands : List Command) (index count : ℕ) (policy : Policy) (text : List ℕ) → count ≡ length commands

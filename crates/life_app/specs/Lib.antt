@@ -7,6 +7,7 @@ pub mod Script
 pub mod Outcome
 pub mod Books
 pub mod Stating
+pub mod Valuing
 pub mod Obeys
 pub mod Crashes
 pub mod Worked

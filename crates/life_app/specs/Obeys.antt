@@ -1,5 +1,5 @@
 -- What the program does at its words, over its devices, and the status with which it ends
-use Rattle.std.specs.Prelude.{◌≡◌, ℕ, ◌⊎◌, List, codes, String}
+use Rattle.std.specs.Prelude.{◌≡◌, ℕ, ◌⊎◌, List, codes, Option, Some, None, String}
 use Rattle.std.specs.Global.{Global}
 use Rattle.std.specs.Io.KnownBytes.{IsAtEnd}
 use Rattle.outside_io.specs.declared.disks.Disk.{Ghosts}
@@ -9,12 +9,13 @@ use Rattle.life_app.specs.Outcome.{EndsScript}
 use Rattle.life_app.specs.Script.{EndsUnread, IsReadAs}
 use Rattle.life_app.specs.Stating.{EndsState}
 use Rattle.life_app.specs.Status.{status_of}
-use Rattle.life_app.specs.Words.{AskFor, AskForNothing}
-use Rattle.life_app.specs.Writing.{Stream, WroteLine}
+use Rattle.life_app.specs.Valuing.{EndsValue}
+use Rattle.life_app.specs.Writing.{Shelving, Stream, WroteLine}
 use Rattle.life_app.specs.declared.ending.Ending.{Ending}
-use Rattle.life_app.specs.declared.ending.Ending.TheVariants.{Usage}
-use Rattle.life_app.specs.declared.words.Mode.{Mode}
-use Rattle.life_app.specs.declared.words.Mode.TheVariants.{Run, State, StateOf}
+use Rattle.life_app.specs.declared.ending.Ending.TheVariants.{Usage, NoMemory}
+use Rattle.life_args.specs.Words.{AskFor, AskForNothing}
+use Rattle.life_args.specs.declared.mode.Mode.{Mode}
+use Rattle.life_args.specs.declared.mode.Mode.TheVariants.{Run, Value, State}
 
 -- the input was read to its end as a script, whose run ended so
 pub record EndsRead {D : Type 0} (g : Ghosts D) (old new : D) (input output : Stream) (ending : Ending) : Type 0 where
@@ -28,29 +29,42 @@ abbrev pub EndsRun : {D : Type 0} → Ghosts D → D → D → Stream → Stream
 EndsRun g old new input output ending =
     EndsRead g old new input output ending ⊎ ((new ≡ old) × EndsUnread input output ending)
 
--- how each mode ends; `state` reads no input
-abbrev pub EndsMode : {D : Type 0} → Ghosts D → D → D → Mode → Stream → Stream → Type 0 → Ending → Type 0
-EndsMode g old new Run input output InputStays ending = EndsRun g old new input output ending
-EndsMode g old new State input output InputStays ending = InputStays × EndsState g old new books_text output ending
-EndsMode g old new (StateOf id) input output InputStays ending =
-    InputStays × EndsState g old new (policy_account id) output ending
+-- how each mode ends; `run` alone reads the input, and `value` alone the shelf
+abbrev pub EndsMode : {D : Type 0} → Ghosts D → D → D → Mode → Stream → Stream → Shelving → (InputStays ShelfStays : Type 0)
+    → Ending → Type 0
+EndsMode g old new (Run basis) input output shelf InputStays ShelfStays ending =
+    ShelfStays × EndsRun g old new input output ending
+EndsMode g old new (Value on at workers basis) input output shelf InputStays ShelfStays ending =
+    InputStays × EndsValue g old new on at basis shelf output ending
+EndsMode g old new (State None) input output shelf InputStays ShelfStays ending =
+    InputStays × ShelfStays × EndsState g old new books_text output ending
+EndsMode g old new (State (Some id)) input output shelf InputStays ShelfStays ending =
+    InputStays × ShelfStays × EndsState g old new (policy_account id) output ending
 
--- words of no command touch nothing
-pub record EndsUsage {D : Type 0} (old new : D) (output : Stream) (InputStays : Type 0) (ending : Ending) : Type 0 where
-  pub is : ending ≡ Usage
+-- why the words weren't obeyed, in a line: they ask for nothing, or there was no memory to read them
+abbrev pub SaysUnasked : List (String Global) → Stream → Ending → Type 0
+SaysUnasked words output Usage = AskForNothing words × WroteLine output (codes "usage")
+SaysUnasked words output NoMemory = WroteLine output (codes "nomemory")
+SaysUnasked _ _ _ = ⊥
+
+-- then nothing is touched
+pub record EndsUnasked {D : Type 0} (old new : D) (words : List (String Global)) (output : Stream)
+    (InputStays ShelfStays : Type 0) (ending : Ending) : Type 0 where
   pub disk : new ≡ old
   pub input : InputStays
-  pub line : WroteLine output (codes "usage")
+  pub shelf : ShelfStays
+  pub says : SaysUnasked words output ending
 
--- the words ask for a mode, which ended so, or for nothing
-abbrev pub Does : {D : Type 0} → Ghosts D → D → D → List (String Global) → Stream → Stream → Type 0 → Ending → Type 0
-Does g old new words input output InputStays ending =
-    ((mode : Mode) × AskFor words mode × EndsMode g old new mode input output InputStays ending)
-    ⊎ (AskForNothing words × EndsUsage old new output InputStays ending)
+-- the words ask for a mode, which ended so, or weren't obeyed
+abbrev pub Does : {D : Type 0} → Ghosts D → D → D → List (String Global) → Stream → Stream → Shelving
+    → (InputStays ShelfStays : Type 0) → Ending → Type 0
+Does g old new words input output shelf InputStays ShelfStays ending =
+    ((mode : Mode) × AskFor words mode × EndsMode g old new mode input output shelf InputStays ShelfStays ending)
+    ⊎ EndsUnasked old new words output InputStays ShelfStays ending
 
 -- the program did what the words ask for, and the status is that of the ending
 pub record Obeys {D : Type 0} (g : Ghosts D) (old new : D) (words : List (String Global)) (input output : Stream)
-    (InputStays : Type 0) (status : ℕ) : Type 0 where
+    (shelf : Shelving) (InputStays ShelfStays : Type 0) (status : ℕ) : Type 0 where
   pub ending : Ending
   pub exits : status ≡ status_of ending
-  pub does : Does g old new words input output InputStays ending
+  pub does : Does g old new words input output shelf InputStays ShelfStays ending

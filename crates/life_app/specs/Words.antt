@@ -1,34 +1,18 @@
--- The words of the program's commands
-use Rattle.std.specs.Prelude.{◌≡◌, ◌⊎◌, ℕ, ◌≤◌, List, [], ◌∷◌, codes, decimal, string_bytes, String}
+-- What the program's words ask for, by the kind of command
+use Rattle.std.specs.Prelude.{ℕ, ℤ, List, Option, String}
 use Rattle.std.specs.Global.{Global}
-use Rattle.life_app.specs.declared.words.Mode.{Mode}
-use Rattle.life_app.specs.declared.words.Mode.TheVariants.{Run, State, StateOf}
+use Rattle.policy_types.specs.declared.entry.At.{At}
+use Rattle.life_args.specs.Words.{AskFor}
+use Rattle.life_args.specs.declared.mode.Mode.TheVariants.{Run, Value, State}
 
--- the only word is this
-abbrev pub IsWord : List (String Global) → List ℕ → Type 0
-IsWord [] text = ⊥
-IsWord (word ∷ []) text = string_bytes word ≡ text
-IsWord (word ∷ other ∷ words) text = ⊥
-
--- the words are these two
-abbrev pub AreWords : List (String Global) → List ℕ → List ℕ → Type 0
-AreWords (word ∷ other ∷ []) text more = (string_bytes word ≡ text) × (string_bytes other ≡ more)
-AreWords _ text more = ⊥
-
--- a policy's number
-abbrev pub IsNumber : ℕ → Type 0
-IsNumber id = (1 ≤ id) × (id ≤ 4294967295)
-
--- `run`, `state`, or `state` and a policy's number, which is written without leading zeros
-abbrev pub AskFor : List (String Global) → Mode → Type 0
-AskFor words Run = IsWord words (codes "run")
-AskFor words State = IsWord words (codes "state")
-AskFor words (StateOf id) = IsNumber id × AreWords words (codes "state") (decimal id)
+-- the words ask to run a script
+abbrev pub AskForRun : List (String Global) → Type 0
+AskForRun words = (basis : List ℕ) × AskFor words (Run basis)
 
 -- the words ask for `state`, of all policies or of one
 abbrev pub AskForState : List (String Global) → Type 0
-AskForState words = AskFor words State ⊎ ((id : ℕ) × AskFor words (StateOf id))
+AskForState words = (id : Option ℕ) × AskFor words (State id)
 
--- the words are of no command
-abbrev pub AskForNothing : List (String Global) → Type 0
-AskForNothing words = (mode : Mode) → AskFor words mode → ⊥
+-- the words ask for the values on a day, at a position, by the basis of this name
+abbrev pub AskForValue : List (String Global) → ℤ → At → List ℕ → Type 0
+AskForValue words on at name = (workers : ℕ) × AskFor words (Value on at workers name)

@@ -1,4 +1,4 @@
--- What a run reads and writes
+-- What the program reads and writes
 use Rattle.std.specs.Prelude.{ℕ, ◌⊎◌, List, [], ◌∷◌, ◌++◌, Option}
 use Rattle.std.specs.Io.KnownBytes.{Appends}
 use Rattle.outside_io.specs.Faults.{Rose}
@@ -36,3 +36,14 @@ WroteOrFailed output bytes = WroteAll output bytes ⊎ WrotePart output bytes
 -- one line was written, or a front of it where the output failed
 abbrev pub WroteLine : Stream → List ℕ → Type 0
 WroteLine output line = WroteOrFailed output (line ++ 10 ∷ [])
+
+-- a shelf at two moments: its count of faults, and where it tells them the files that it has, by their names
+pub record Shelving : Type 0 where
+  pub faults_before : ℕ
+  pub faults_after : ℕ
+  pub files : Option (List ℕ → Option (List ℕ))
+
+-- a shelf between two moments
+abbrev pub shelf_between : {Device : Type 0} → (Device → ℕ) → (Device → Option (List ℕ → Option (List ℕ))) → Device → Device
+    → Shelving
+shelf_between faults files old new = record { faults_before = faults old; faults_after = faults new; files = files old }

@@ -1,3 +1,4 @@
 pub mod Turns
 pub mod Parts
 pub mod Rereading
+pub mod Valued

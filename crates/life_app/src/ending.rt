@@ -9,9 +9,11 @@ pub enum Ending {
     Usage,
     /// The script is too long, or a row of it is no line.
     BadScript,
+    /// A file of the basis is absent, too long or refused.
+    BadBasis,
     /// The disk's file is no journal.
     BadJournal,
-    /// The input failed.
+    /// The input failed, or the shelf.
     ReadFault,
     /// The output failed.
     WriteFault,
@@ -19,6 +21,8 @@ pub enum Ending {
     DiskFault,
     /// Memory was refused.
     NoMemory,
+    /// There are fewer commands than were to be valued.
+    Ahead,
 }
 
 impl Ending {
@@ -32,11 +36,13 @@ impl Ending {
             Ending::Done => 0,
             Ending::Usage => 2,
             Ending::BadScript => 3,
+            Ending::BadBasis => 4,
             Ending::BadJournal => 5,
             Ending::ReadFault => 6,
             Ending::WriteFault => 7,
             Ending::DiskFault => 8,
             Ending::NoMemory => 9,
+            Ending::Ahead => 10,
         }
     }
 }

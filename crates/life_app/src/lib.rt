@@ -20,7 +20,11 @@ mod state_tests;
 #[cfg(test)]
 mod tests;
 mod transcript;
-mod words;
+mod unvalued;
+mod valuation;
+mod value;
+#[cfg(test)]
+mod value_tests;
 pub mod worked;
 
 pub use ending::Ending;
@@ -28,4 +32,3 @@ pub use laws::{
     crashes_of_a_run, crashes_of_an_opening, runs_after_a_crash, scripts_are_read_or_refused,
 };
 pub use program::{Ended, life};
-pub use words::Mode;

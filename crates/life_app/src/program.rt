@@ -1,22 +1,31 @@
 // The top call: all that the program does, over any devices.
-ghost use Rattle.std.specs.Prelude.{◌≡◌, ◌≤◌, ◌⊎◌, ◌↔◌, ℕ, List, Some, length};
+ghost use Rattle.std.specs.Prelude.{◌≡◌, ◌≤◌, ◌<◌, ◌⊎◌, ℕ, ℤ, List, Option, Some, IfSome, length};
 ghost use Rattle.outside_io.specs.Faults.{Rose};
 ghost use Rattle.policy_types.specs.declared.command.Command.{Command as ACommand};
+ghost use Rattle.policy_types.specs.declared.entry.At.{At as AnAt};
+ghost use Rattle.policy_types.specs.declared.entry.At.TheVariants.{Position};
 ghost use Rattle.policy_types.specs.declared.script.Lane.{Lane as ALane};
+ghost use Rattle.basis_book.specs.Dated.{Dated as AnEntry};
+ghost use Rattle.basis_shelf.specs.declared.fault.BadBasis.{BadBasis as ABadBasis};
+ghost use Rattle.basis_shelf.specs.Bases.{IsBasis};
+ghost use Rattle.basis_shelf.specs.FirstBad.{IsFirstBad};
 ghost use Rattle.command_csv.specs.Reads.{Reads};
+ghost use Rattle.life_args.specs.Words.{AskForNothing};
 ghost use Rattle.office_state.specs.Journals.{Opens, OpensToNone};
 ghost use Rattle.life_app.specs.Obeys.{Does, Obeys};
 ghost use Rattle.life_app.specs.Script.{IsUnreadable};
-ghost use Rattle.life_app.specs.Words.{AskFor, AskForNothing, AskForState};
-ghost use Rattle.life_app.specs.Writing.{between};
-ghost use Rattle.life_app.specs.declared.words.Mode.TheVariants.{Run};
+ghost use Rattle.life_app.specs.Valuing.{HasBadFile, IsPastTheEnd, SaysBadFile, position_of};
+ghost use Rattle.life_app.specs.Words.{AskForRun, AskForState, AskForValue};
+ghost use Rattle.life_app.specs.Writing.{between, shelf_between};
+ghost use Rattle.life_app.specs.inside.Valued.{SaysNoMode};
 
 use crate::account::account;
 use crate::ending::Ending;
 use crate::refusing::say;
 use crate::run::{Finished, run};
 use crate::state::state;
-use crate::words::{Mode, mode_of};
+use crate::value::value;
+use life_args::{Mode, WordsFault, read_words};
 use outside_io::{Disk, Gate, Shelf, Sink, Source};
 use policy_types::Watcher;
 use std::alloc::Global;
@@ -28,7 +37,8 @@ pub struct Ended<D> {
 }
 
 /// Does what the words ask for. The words `run` read a script from the input to its end, open the office on the disk,
-/// post each line, and write the transcript; the shelf, the watchers and the gate aren't used yet.
+/// post each line, and write the transcript; `value` fetches a basis from the shelf, opens the office and writes what
+/// each policy is worth. The watchers and the gate aren't used yet.
 pub fn life<S: Source, K: Sink, H: Shelf, D: Disk + Send, G: Gate + Sync>(
     alloc: Global,
     words: &[String],
@@ -40,29 +50,40 @@ pub fn life<S: Source, K: Sink, H: Shelf, D: Disk + Send, G: Gate + Sync>(
     gate: &G,
 ) -> Ended<D>
     ensures obeys { Obeys D.Disk disk result.disk words.now (between S.faults S.left input.old input.new)
-        (between K.faults K.written output.old output.new) (input.new ≡ input.old) result.status }
-    ensures shelf { shelf.new ≡ shelf.old }
+        (between K.faults K.written output.old output.new)
+        (shelf_between H.faults H.files shelf.old shelf.new)
+        (input.new ≡ input.old) (shelf.new ≡ shelf.old) result.status }
+    ensures shelf { H.files shelf.new ≡ H.files shelf.old }
 
-    // 2 exactly where the words aren't of a command.
-    ensures usage { (result.status ≡ 2) ↔ AskForNothing words.now }
+    // 2 exactly where the words aren't of a command, but for want of memory.
+    ensures usage { result.status ≡ 2 → AskForNothing words.now }
+    ensures unasked { AskForNothing words.now → (result.status ≡ 2) ⊎ (result.status ≡ 9) }
 
     // A script that is too long, or has a row that is no line, is refused with 3, but for want of memory.
-    ensures unreadable { (bytes : List ℕ) → AskFor words.now Run → S.left input.old ≡ Some bytes → IsUnreadable bytes
+    ensures unreadable { (bytes : List ℕ) → AskForRun words.now → S.left input.old ≡ Some bytes → IsUnreadable bytes
         → (Rose (S.faults input.old) (S.faults input.new) → ⊥) → (result.status ≡ 3) ⊎ (result.status ≡ 9) }
+
+    // 4 exactly where a basis is needed and a file of it is bad, the first of which is named, but for want of memory.
+    ensures bad_file { result.status ≡ 4 → HasBadFile words.now (H.files shelf.old)
+        (between K.faults K.written output.old output.new) }
+    ensures unfit { (on : ℤ) (at : AnAt) (name : List ℕ) (bad : ABadBasis) (files : List ℕ → Option (List ℕ))
+        → AskForValue words.now on at name → H.files shelf.old ≡ Some files → IsFirstBad files name bad
+        → (Rose (H.faults shelf.old) (H.faults shelf.new) → ⊥)
+        → SaysBadFile bad (between K.faults K.written output.old output.new) result.status ⊎ (result.status ≡ 9) }
 
     // A file that opens to no commands reads as before, however the run ends.
     ensures unopened { D.honest disk → OpensToNone (D.reads disk) → D.reads result.disk ≡ D.reads disk }
 
     // A script that can be read, on devices that don't fail, is run to its end where the disk's file opens to some
     // commands, and is refused with 5 where it opens to none, but for want of memory.
-    ensures complete { (bytes : List ℕ) (lanes : List ALane) (commands : List ACommand) → AskFor words.now Run
+    ensures complete { (bytes : List ℕ) (lanes : List ALane) (commands : List ACommand) → AskForRun words.now
         → S.left input.old ≡ Some bytes → length bytes ≤ 16777216 → Reads bytes lanes
         → D.honest disk → Opens (D.reads disk) commands
         → (Rose (S.faults input.old) (S.faults input.new) → ⊥)
         → (Rose (K.faults output.old) (K.faults output.new) → ⊥)
         → (Rose (D.faults disk) (D.faults result.disk) → ⊥)
         → (result.status ≡ 0) ⊎ (result.status ≡ 9) }
-    ensures refused { (bytes : List ℕ) (lanes : List ALane) → AskFor words.now Run
+    ensures refused { (bytes : List ℕ) (lanes : List ALane) → AskForRun words.now
         → S.left input.old ≡ Some bytes → length bytes ≤ 16777216 → Reads bytes lanes
         → D.honest disk → OpensToNone (D.reads disk)
         → (Rose (S.faults input.old) (S.faults input.new) → ⊥)
@@ -78,37 +99,79 @@ pub fn life<S: Source, K: Sink, H: Shelf, D: Disk + Send, G: Gate + Sync>(
     ensures unstated { AskForState words.now → D.honest disk → OpensToNone (D.reads disk)
         → (Rose (D.faults disk) (D.faults result.disk) → ⊥)
         → (result.status ≡ 5) ⊎ (result.status ≡ 9) }
+
+    // Where the shelf has a basis, the policies of a file that opens to some commands are valued, on devices that don't
+    // fail, but for want of memory; 10 comes exactly where more commands are asked for than there are.
+    ensures valued { (on : ℤ) (at : AnAt) (name : List ℕ) (files : List ℕ → Option (List ℕ)) (basis : List AnEntry)
+        (commands : List ACommand) → AskForValue words.now on at name
+        → H.files shelf.old ≡ Some files → IsBasis files name basis
+        → D.honest disk → Opens (D.reads disk) commands → position_of at (length commands) ≤ length commands
+        → (Rose (H.faults shelf.old) (H.faults shelf.new) → ⊥)
+        → (Rose (K.faults output.old) (K.faults output.new) → ⊥)
+        → (Rose (D.faults disk) (D.faults result.disk) → ⊥)
+        → (result.status ≡ 0) ⊎ (result.status ≡ 9) }
+    ensures past_the_end { result.status ≡ 10 → IsPastTheEnd D.Disk disk words.now }
+    ensures ahead { (on : ℤ) (p : ℕ) (name : List ℕ) (files : List ℕ → Option (List ℕ)) (basis : List AnEntry)
+        (commands : List ACommand) → AskForValue words.now on (Position p) name
+        → H.files shelf.old ≡ Some files → IsBasis files name basis
+        → D.honest disk → Opens (D.reads disk) commands → length commands < p
+        → (Rose (H.faults shelf.old) (H.faults shelf.new) → ⊥)
+        → (Rose (D.faults disk) (D.faults result.disk) → ⊥)
+        → (result.status ≡ 10) ⊎ (result.status ≡ 9) }
+    ensures unvalued { (on : ℤ) (at : AnAt) (name : List ℕ) (files : List ℕ → Option (List ℕ)) (basis : List AnEntry)
+        → AskForValue words.now on at name → H.files shelf.old ≡ Some files → IsBasis files name basis
+        → D.honest disk → OpensToNone (D.reads disk)
+        → (Rose (H.faults shelf.old) (H.faults shelf.new) → ⊥)
+        → (Rose (D.faults disk) (D.faults result.disk) → ⊥)
+        → (result.status ≡ 5) ⊎ (result.status ≡ 9) }
 {
-    let _ = shelf;
     let _ = gate;
     drop(watchers);
-    let finished = obey(alloc, words, input, output, disk);
+    let finished = obey(alloc, words, input, output, shelf, disk);
     Ended {
         status: finished.ending.status(),
         disk: finished.disk,
     }
 }
 
-fn obey<S: Source, K: Sink, D: Disk>(
+fn obey<S: Source, K: Sink, H: Shelf, D: Disk>(
     alloc: Global,
     words: &[String],
     input: &mut S,
     output: &mut K,
+    shelf: &mut H,
     disk: D,
 ) -> Finished<D>
-    ensures { Does D.Disk disk result.disk words.now (between S.faults S.left input.old input.new)
-        (between K.faults K.written output.old output.new) (input.new ≡ input.old) result.ending }
+    ensures does { Does D.Disk disk result.disk words.now (between S.faults S.left input.old input.new)
+        (between K.faults K.written output.old output.new)
+        (shelf_between H.faults H.files shelf.old shelf.new)
+        (input.new ≡ input.old) (shelf.new ≡ shelf.old) result.ending }
+    ensures files { H.files shelf.new ≡ H.files shelf.old }
 {
-    let Some(mode) = mode_of(words) else {
-        say(output, b"usage\n");
-        return Finished {
-            ending: Ending::Usage,
+    match read_words(alloc, words) {
+        Ok(Mode::Run { .. }) => run(alloc, input, output, disk),
+        Ok(Mode::Value { on, at, basis, .. }) => value(alloc, on, at, &basis, shelf, output, disk),
+        Ok(Mode::State { id: None }) => state(alloc, output, disk),
+        Ok(Mode::State { id: Some(id) }) => account(alloc, id, output, disk),
+        Err(fault) => Finished {
+            ending: refuse_words(fault, output),
             disk,
-        };
-    };
-    match mode {
-        Mode::Run => run(alloc, input, output, disk),
-        Mode::State => state(alloc, output, disk),
-        Mode::StateOf(id) => account(alloc, id, output, disk),
+        },
+    }
+}
+
+// Says why the words aren't obeyed.
+fn refuse_words<K: Sink>(fault: WordsFault, output: &mut K) -> Ending
+    ensures { SaysNoMode fault (between K.faults K.written output.old output.new) result }
+{
+    match fault {
+        WordsFault::Usage => {
+            say(output, b"usage\n");
+            Ending::Usage
+        }
+        WordsFault::NoMemory => {
+            say(output, b"nomemory\n");
+            Ending::NoMemory
+        }
     }
 }

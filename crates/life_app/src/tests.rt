@@ -118,7 +118,7 @@ pub(crate) struct Finished {
     pub disk: MemoryDisk,
 }
 
-// Runs a script over these devices.
+// Does what the words ask for, over these devices and an empty shelf.
 fn run_over(
     alloc: Global,
     words: &[String],
@@ -127,13 +127,35 @@ fn run_over(
     failing_writes: &[u64],
     disk: MemoryDisk,
 ) -> Result<Finished, AllocError> {
+    let shelf = MapShelf::new(BTreeMap::new(alloc), Vec::new(alloc));
+    run_beside(
+        alloc,
+        words,
+        script,
+        failing_reads,
+        failing_writes,
+        shelf,
+        disk,
+    )
+}
+
+// Does what the words ask for, over these devices.
+fn run_beside(
+    alloc: Global,
+    words: &[String],
+    script: &[&str],
+    failing_reads: &[u64],
+    failing_writes: &[u64],
+    shelf: MapShelf,
+    disk: MemoryDisk,
+) -> Result<Finished, AllocError> {
+    let mut shelf = shelf;
     let mut bytes = Vec::new(alloc);
     for piece in script {
         bytes.extend_from_slice(piece.as_bytes())?;
     }
     let mut input = BytesSource::new(bytes, Vec::from_slice(alloc, failing_reads)?);
     let mut output = BytesSink::new(alloc, Vec::from_slice(alloc, failing_writes)?);
-    let mut shelf = MapShelf::new(BTreeMap::new(alloc), Vec::new(alloc));
     let Ended { status, disk } = life(
         alloc,
         words,
@@ -168,6 +190,18 @@ pub(crate) fn run_words(
 ) -> Result<Finished, AllocError> {
     let words = words_of(alloc, words)?;
     run_over(alloc, &words, script, &[], &[], disk)
+}
+
+// The same beside a shelf, with an output that fails at these calls.
+pub(crate) fn run_with(
+    alloc: Global,
+    words: &[&str],
+    failing_writes: &[u64],
+    shelf: MapShelf,
+    disk: MemoryDisk,
+) -> Result<Finished, AllocError> {
+    let words = words_of(alloc, words)?;
+    run_beside(alloc, &words, &[], &[], failing_writes, shelf, disk)
 }
 
 // Runs a script over a disk.

@@ -1,6 +1,7 @@
 use Rattle.std.proofs.Common.{[]}
 use Rattle.office_state.specs.States.{opening_of}
 use Rattle.life_app.specs.Books.{policy_account}
+use Rattle.life_app.specs.Stating.{IsStated}
 use Rattle.life_app.proofs.RunSteps.{opened_alone, opened_left}
 use Rattle.life_app.proofs.StateSteps.{ends_reading, ends_refused}
 use Rattle.life_app.proofs.account.account.Goals as goal
@@ -17,5 +18,5 @@ returns-in-Ok g c =
 
 pub returns-in-Err : goal.returns-in-Err
 returns-in-Err g c =
-    ends_refused g.D.Disk c.args.disk c.in-Err.fault.disk (policy_account c.args.id) _ c.in-Err.fault.cause c.refuse_journal.result
+    ends_refused g.D.Disk c.args.disk c.in-Err.fault.disk (IsStated g.D.Disk c.args.disk c.in-Err.fault.disk (policy_account c.args.id)) _ c.in-Err.fault.cause c.refuse_journal.result
     c.in-Err.ensures.refused c.refuse_journal.ensures.says

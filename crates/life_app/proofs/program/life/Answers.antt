@@ -1,21 +1,45 @@
-use Rattle.std.proofs.Common.{◌∙◌}
-use Rattle.life_app.proofs.ProgramSteps.{complete, refused_exactly, script_refused, stated, unopened, unstated}
+use Rattle.std.proofs.Common.{◌∙◌, sym}
+use Rattle.life_app.proofs.ProgramSteps as step
 use Rattle.life_app.proofs.program.life.Goals as goal
 
 pub returns-clause-unreadable : goal.returns-clause-unreadable
-returns-clause-unreadable g c = rw c.status.ensures (script_refused g.D.Disk c.args.disk c.obey-finished.result.disk c.args.words.now _ _ _ c.obey-finished.result.ending c.obey-finished.ensures)
+returns-clause-unreadable g c = rw c.status.ensures (step.script_refused g.D.Disk c.args.disk c.obey-finished.result.disk c.args.words.now _ _ _ _ _ c.obey-finished.result.ending c.obey-finished.ensures.does)
 
 pub returns-clause-unopened : goal.returns-clause-unopened
-returns-clause-unopened g c = unopened g.D.Disk c.args.disk c.obey-finished.result.disk c.args.words.now _ _ _ c.obey-finished.result.ending c.obey-finished.ensures
+returns-clause-unopened g c = step.unopened g.D.Disk c.args.disk c.obey-finished.result.disk c.args.words.now _ _ _ _ _ c.obey-finished.result.ending c.obey-finished.ensures.does
 
 pub returns-clause-complete : goal.returns-clause-complete
-returns-clause-complete g c = rw c.status.ensures (complete g.D.Disk c.args.disk c.obey-finished.result.disk c.args.words.now _ _ _ c.obey-finished.result.ending c.obey-finished.ensures)
+returns-clause-complete g c = rw c.status.ensures (step.complete g.D.Disk c.args.disk c.obey-finished.result.disk c.args.words.now _ _ _ _ _ c.obey-finished.result.ending c.obey-finished.ensures.does)
 
 pub returns-clause-refused : goal.returns-clause-refused
-returns-clause-refused g c = rw c.status.ensures (refused_exactly g.D.Disk c.args.disk c.obey-finished.result.disk c.args.words.now _ _ _ c.obey-finished.result.ending c.obey-finished.ensures)
+returns-clause-refused g c = rw c.status.ensures (step.refused_exactly g.D.Disk c.args.disk c.obey-finished.result.disk c.args.words.now _ _ _ _ _ c.obey-finished.result.ending c.obey-finished.ensures.does)
 
 pub returns-clause-stated : goal.returns-clause-stated
-returns-clause-stated g c = rw c.status.ensures (stated g.D.Disk c.args.disk c.obey-finished.result.disk c.args.words.now _ _ _ c.obey-finished.result.ending c.obey-finished.ensures)
+returns-clause-stated g c = rw c.status.ensures (step.stated g.D.Disk c.args.disk c.obey-finished.result.disk c.args.words.now _ _ _ _ _ c.obey-finished.result.ending c.obey-finished.ensures.does)
 
 pub returns-clause-unstated : goal.returns-clause-unstated
-returns-clause-unstated g c = rw c.status.ensures (unstated g.D.Disk c.args.disk c.obey-finished.result.disk c.args.words.now _ _ _ c.obey-finished.result.ending c.obey-finished.ensures)
+returns-clause-unstated g c = rw c.status.ensures (step.unstated g.D.Disk c.args.disk c.obey-finished.result.disk c.args.words.now _ _ _ _ _ c.obey-finished.result.ending c.obey-finished.ensures.does)
+
+pub returns-clause-usage : goal.returns-clause-usage
+returns-clause-usage g c = λ status. step.usage g.D.Disk c.args.disk c.obey-finished.result.disk c.args.words.now _ _ _ _ _ c.obey-finished.result.ending c.obey-finished.ensures.does (sym c.status.ensures ∙ status)
+
+pub returns-clause-unasked : goal.returns-clause-unasked
+returns-clause-unasked g c = rw c.status.ensures (step.as_nothing g.D.Disk c.args.disk c.obey-finished.result.disk c.args.words.now _ _ _ _ _ c.obey-finished.result.ending c.obey-finished.ensures.does)
+
+pub returns-clause-bad_file : goal.returns-clause-bad_file
+returns-clause-bad_file g c = λ status. step.bad_file g.D.Disk c.args.disk c.obey-finished.result.disk c.args.words.now _ _ _ _ _ c.obey-finished.result.ending c.obey-finished.ensures.does (sym c.status.ensures ∙ status)
+
+pub returns-clause-unfit : goal.returns-clause-unfit
+returns-clause-unfit g c = rw c.status.ensures (step.unfit g.D.Disk c.args.disk c.obey-finished.result.disk c.args.words.now _ _ _ _ _ c.obey-finished.result.ending c.obey-finished.ensures.does)
+
+pub returns-clause-valued : goal.returns-clause-valued
+returns-clause-valued g c = rw c.status.ensures (step.valued g.D.Disk c.args.disk c.obey-finished.result.disk c.args.words.now _ _ _ _ _ c.obey-finished.result.ending c.obey-finished.ensures.does)
+
+pub returns-clause-past_the_end : goal.returns-clause-past_the_end
+returns-clause-past_the_end g c = λ status. step.past_the_end g.D.Disk c.args.disk c.obey-finished.result.disk c.args.words.now _ _ _ _ _ c.obey-finished.result.ending c.obey-finished.ensures.does (sym c.status.ensures ∙ status)
+
+pub returns-clause-ahead : goal.returns-clause-ahead
+returns-clause-ahead g c = rw c.status.ensures (step.ahead g.D.Disk c.args.disk c.obey-finished.result.disk c.args.words.now _ _ _ _ _ c.obey-finished.result.ending c.obey-finished.ensures.does)
+
+pub returns-clause-unvalued : goal.returns-clause-unvalued
+returns-clause-unvalued g c = rw c.status.ensures (step.unvalued g.D.Disk c.args.disk c.obey-finished.result.disk c.args.words.now _ _ _ _ _ c.obey-finished.result.ending c.obey-finished.ensures.does)

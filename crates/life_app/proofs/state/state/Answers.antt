@@ -2,6 +2,7 @@ use Rattle.std.proofs.Common.{◌≡◌, ◌∙◌, [], append-nil}
 use Rattle.std.proofs.lemmas.Result.{MatchResult-weaker}
 use Rattle.office_state.specs.States.{commands_of, opening_of}
 use Rattle.life_app.specs.Books.{books_text}
+use Rattle.life_app.specs.Stating.{IsStated}
 use Rattle.life_app.proofs.AnswerSteps.{open_first}
 use Rattle.life_app.proofs.RunSteps.{opened_alone, opened_left}
 use Rattle.life_app.proofs.StateSteps.{ends_refused, ends_text}
@@ -19,5 +20,5 @@ returns-in-Ok g c =
 
 pub returns-in-Err : goal.returns-in-Err
 returns-in-Err g c =
-    ends_refused g.D.Disk c.args.disk c.in-Err.fault.disk books_text _ c.in-Err.fault.cause c.refuse_journal.result
+    ends_refused g.D.Disk c.args.disk c.in-Err.fault.disk (IsStated g.D.Disk c.args.disk c.in-Err.fault.disk books_text) _ c.in-Err.fault.cause c.refuse_journal.result
     c.in-Err.ensures.refused c.refuse_journal.ensures.says

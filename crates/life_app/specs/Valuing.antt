@@ -1,0 +1,110 @@
+-- How `value` ends: what was written of the policies at a position of the disk's file, by the basis on the shelf
+use Rattle.std.specs.Prelude.{◌≡◌, ℕ, ◌<◌, ◌≤◌, ◌⊎◌, ℤ, List, [], ◌∷◌, ◌++◌, length, take, codes, decimal, Option, IfSome, String}
+use Rattle.std.specs.Global.{Global}
+use Rattle.std.specs.List.{AllZip}
+use Rattle.outside_io.specs.Faults.{Rose}
+use Rattle.outside_io.specs.declared.disks.Disk.{Ghosts}
+use Rattle.policy_types.specs.declared.command.Command.{Command}
+use Rattle.policy_types.specs.declared.policy.Policy.{Policy}
+use Rattle.policy_types.specs.declared.entry.At.{At}
+use Rattle.policy_types.specs.declared.entry.At.TheVariants.{Now, Position}
+use Rattle.policy_machine.specs.Book.{book}
+use Rattle.policy_machine.specs.History.{opened_on}
+use Rattle.basis_book.specs.Dated.{Dated, IsPicked}
+use Rattle.basis_shelf.specs.Bases.{IsBasis}
+use Rattle.basis_shelf.specs.FirstBad.{IsFirstBad}
+use Rattle.basis_shelf.specs.Lines.{bad_basis_text}
+use Rattle.basis_shelf.specs.declared.fault.BadBasis.{BadBasis}
+use Rattle.policy_value.specs.Rows.{IsExact, IsInsured, RowOf}
+use Rattle.policy_value.specs.declared.worth.Row.{Row}
+use Rattle.report_text.specs.Block.{block_text}
+use Rattle.office_state.specs.Images.{IsLeftBy}
+use Rattle.office_state.specs.Journals.{Opens}
+use Rattle.life_app.specs.Stating.{EndsReadOnly}
+use Rattle.life_app.specs.Words.{AskForValue}
+use Rattle.life_app.specs.Writing.{Shelving, Stream, WroteLine, WroteOrFailed}
+use Rattle.life_app.specs.declared.ending.Ending.{Ending}
+use Rattle.life_app.specs.declared.ending.Ending.TheVariants.{Ahead, BadBasis as NoRightBasis, NoMemory, ReadFault}
+
+-- after how many commands the policies are valued, where there are so many: all of them, or as many as are asked for
+abbrev pub position_of : At → ℕ → ℕ
+position_of Now count = count
+position_of (Position p) count = p
+
+-- the policy's row on the day by the basis; where the policy is insured then, its bounds enclose the exact reserve
+pub record IsRowOf (basis : List Dated) (on : ℤ) (policy : Policy) (row : Row) : Type 0 where
+  pub valued : RowOf policy basis on row
+  pub exact : IsInsured policy on → (index : ℕ) → (entry : Dated) → IsPicked basis policy.issued index entry
+      → IsExact policy entry.table entry.bp row.t row.worth
+
+-- there are as many commands as are asked for, and of the policies that these leave, each with its row, the text was
+-- written
+pub record IsValuation (commands : List Command) (on : ℤ) (at : At) (basis : List Dated) (Wrote : List ℕ → Type 0)
+    : Type 0 where
+  pub reached : position_of at (length commands) ≤ length commands
+  pub rows : List Row
+  pub each : AllZip (IsRowOf basis on) (book (take (position_of at (length commands)) commands)) rows
+  pub wrote : Wrote (block_text 0 on (position_of at (length commands)) rows)
+
+-- the policies of the disk's file were valued, and the disk holds its commands still
+pub record IsValued {D : Type 0} (g : Ghosts D) (old new : D) (on : ℤ) (at : At) (basis : List Dated)
+    (Wrote : List ℕ → Type 0) : Type 0 where
+  pub commands : List Command
+  pub opened : g.honest old → Opens (g.reads old) commands
+  pub valuation : IsValuation commands on at basis Wrote
+  pub disk : IsLeftBy g old new (opened_on commands (g.faults old)) []
+
+-- more commands are asked for than there are, and how many there are was written
+pub record IsBeyond (commands : List Command) (at : At) (output : Stream) : Type 0 where
+  pub ahead : length commands < position_of at (length commands)
+  pub line : WroteLine output (codes "refused,ahead," ++ decimal (length commands))
+
+-- so it is with the disk's file, and the disk holds its commands still
+pub record IsAhead {D : Type 0} (g : Ghosts D) (old new : D) (at : At) (output : Stream) : Type 0 where
+  pub commands : List Command
+  pub opened : g.honest old → Opens (g.reads old) commands
+  pub beyond : IsBeyond commands at output
+  pub disk : IsLeftBy g old new (opened_on commands (g.faults old)) []
+
+-- how `value` ends by a basis
+abbrev pub EndsValuing : {D : Type 0} → Ghosts D → D → D → ℤ → At → List Dated → Stream → Ending → Type 0
+EndsValuing g old new on at basis output ending =
+    EndsReadOnly g old new (IsValued g old new on at basis) output ending
+    ⊎ ((ending ≡ Ahead) × IsAhead g old new at output)
+
+-- the shelf has this basis under the name, and `value` ended so by it
+pub record EndsByBasis {D : Type 0} (g : Ghosts D) (old new : D) (on : ℤ) (at : At) (name : List ℕ) (shelf : Shelving)
+    (output : Stream) (ending : Ending) : Type 0 where
+  pub basis : List Dated
+  pub is : IfSome shelf.files (λ files. IsBasis files name basis)
+  pub ends : EndsValuing g old new on at basis output ending
+
+-- how `value` ends without a basis: the first bad file is named, or the shelf failed, or memory was refused
+abbrev pub EndsNoBasis : List ℕ → Shelving → Stream → Ending → Type 0
+EndsNoBasis name shelf output NoRightBasis =
+    (bad : BadBasis) × IfSome shelf.files (λ files. IsFirstBad files name bad) × WroteOrFailed output (bad_basis_text bad)
+EndsNoBasis name shelf output ReadFault =
+    Rose shelf.faults_before shelf.faults_after × WroteLine output (codes "readfault")
+EndsNoBasis name shelf output NoMemory = WroteLine output (codes "nomemory")
+EndsNoBasis _ _ _ _ = ⊥
+
+-- how `value` ends; without a basis the disk isn't touched
+abbrev pub EndsValue : {D : Type 0} → Ghosts D → D → D → ℤ → At → List ℕ → Shelving → Stream → Ending → Type 0
+EndsValue g old new on at name shelf output ending =
+    EndsByBasis g old new on at name shelf output ending ⊎ ((new ≡ old) × EndsNoBasis name shelf output ending)
+
+-- the words ask for values by a basis of which a file is bad, and the first bad one is named
+abbrev pub HasBadFile : List (String Global) → Option (List ℕ → Option (List ℕ)) → Stream → Type 0
+HasBadFile words told output =
+    (on : ℤ) × ((at : At) × ((name : List ℕ) × ((bad : BadBasis) × AskForValue words on at name
+    × IfSome told (λ files. IsFirstBad files name bad) × WroteOrFailed output (bad_basis_text bad))))
+
+-- this bad file is named
+abbrev pub SaysBadFile : BadBasis → Stream → ℕ → Type 0
+SaysBadFile bad output status = (status ≡ 4) × WroteOrFailed output (bad_basis_text bad)
+
+-- the words ask for values after more commands than the disk's file opens to
+abbrev pub IsPastTheEnd : {D : Type 0} → Ghosts D → D → List (String Global) → Type 0
+IsPastTheEnd g disk words =
+    (on : ℤ) × ((p : ℕ) × ((name : List ℕ) × AskForValue words on (Position p) name
+    × (g.honest disk → (commands : List Command) × Opens (g.reads disk) commands × (length commands < p))))

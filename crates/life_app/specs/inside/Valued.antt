@@ -1,0 +1,46 @@
+-- How the parts of `value` end
+use Rattle.std.specs.Prelude.{ℕ, ℤ, List, ◌++◌, codes, decimal}
+use Rattle.outside_io.specs.Faults.{Rose}
+use Rattle.outside_io.specs.Streams.{AppendsPart}
+use Rattle.policy_types.specs.declared.command.Command.{Command}
+use Rattle.policy_types.specs.declared.entry.At.{At}
+use Rattle.basis_book.specs.Dated.{Dated}
+use Rattle.basis_shelf.specs.Lines.{bad_basis_text}
+use Rattle.basis_shelf.specs.declared.fault.NoBasis.{NoBasis}
+use Rattle.basis_shelf.specs.declared.fault.NoBasis.TheVariants.{Bad, ReadFault, NoMemory as NoRoom}
+use Rattle.life_args.specs.declared.fault.WordsFault.{WordsFault}
+use Rattle.life_args.specs.declared.fault.WordsFault.TheVariants.{Usage as BadWords, NoMemory as NoWords}
+use Rattle.life_app.specs.Valuing.{IsBeyond, IsValuation}
+use Rattle.life_app.specs.Writing.{Stream, WroteAll, WroteLine, WroteOrFailed}
+use Rattle.life_app.specs.declared.ending.Ending.{Ending}
+use Rattle.life_app.specs.declared.ending.Ending.TheVariants.{Ahead, BadBasis, Done, NoMemory, ReadFault as ShelfFault, Usage, WriteFault}
+
+-- the line that says why the words aren't obeyed
+abbrev pub SaysNoMode : WordsFault → Stream → Ending → Type 0
+SaysNoMode BadWords output Usage = WroteLine output (codes "usage")
+SaysNoMode NoWords output NoMemory = WroteLine output (codes "nomemory")
+SaysNoMode _ _ _ = ⊥
+
+-- the line that says why there is no basis
+abbrev pub SaysNoBasis : NoBasis → Stream → Ending → Type 0
+SaysNoBasis (Bad bad) output BadBasis = WroteOrFailed output (bad_basis_text bad)
+SaysNoBasis (Bad bad) output NoMemory = WroteLine output (codes "nomemory")
+SaysNoBasis ReadFault output ShelfFault = WroteLine output (codes "readfault")
+SaysNoBasis NoRoom output NoMemory = WroteLine output (codes "nomemory")
+SaysNoBasis _ _ _ = ⊥
+
+-- the line that says how many commands there are
+abbrev pub SaysAhead : ℕ → Stream → Ending → Type 0
+SaysAhead count output Ahead = WroteLine output (codes "refused,ahead," ++ decimal count)
+SaysAhead count output NoMemory = WroteLine output (codes "nomemory")
+SaysAhead count output _ = ⊥
+
+-- how the values of these commands' policies are written
+abbrev pub EndsValued : List Command → ℤ → At → List Dated → Stream → Ending → Type 0
+EndsValued commands on at basis output Done = IsValuation commands on at basis (WroteAll output)
+EndsValued commands on at basis output WriteFault =
+    Rose output.faults_before output.faults_after
+    × IsValuation commands on at basis (AppendsPart output.before output.after)
+EndsValued commands on at basis output Ahead = IsBeyond commands at output
+EndsValued commands on at basis output NoMemory = WroteLine output (codes "nomemory")
+EndsValued commands on at basis output _ = ⊥
