@@ -159,8 +159,9 @@ impl<D: Disk> OfficeCalls<D> for Office<D> {
         rt: &R,
         pass: &mut OfficePass<D>,
     ) -> Turned<Result<Pin, PinRefusal>> {
+        let caller = pass.caller();
         let Turned { turn, answer } = self.turn(rt, pass, PinNewest);
-        pin_taken(turn, pass.caller(), answer)
+        pin_taken(turn, caller, answer)
     }
 
     fn pin_at<R: Wait>(
@@ -169,8 +170,9 @@ impl<D: Disk> OfficeCalls<D> for Office<D> {
         pass: &mut OfficePass<D>,
         p: u32,
     ) -> Turned<Result<Pin, PinRefusal>> {
+        let caller = pass.caller();
         let Turned { turn, answer } = self.turn(rt, pass, PinPosition { position: p });
-        pin_taken(turn, pass.caller(), answer)
+        pin_taken(turn, caller, answer)
     }
 
     fn read<R: Wait>(
