@@ -1,5 +1,5 @@
 use Rattle.shared_office.proofs.Starting.{closed}
-use Rattle.shared_office.proofs.calls.OfficeOfficeCalls.close.Goals as goal
+use Rattle.shared_office.proofs.calls.close.Goals as goal
 
 pub returns-clause-closed : goal.returns-clause-closed
 returns-clause-closed g c =
