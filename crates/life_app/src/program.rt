@@ -20,6 +20,8 @@ use crate::words::{Mode, mode_of};
 use outside_io::{Disk, Gate, Shelf, Sink, Source};
 use policy_types::Watcher;
 use std::alloc::Global;
+use std::sync::Wait;
+use std::thread::Threads;
 
 /// What the program leaves: its exit status, and the disk.
 pub struct Ended<D> {
@@ -29,7 +31,15 @@ pub struct Ended<D> {
 
 /// Does what the words ask for. The words `run` read a script from the input to its end, open the office on the disk,
 /// post each line, and write the transcript; the shelf, the watchers and the gate aren't used yet.
-pub fn life<S: Source, K: Sink, H: Shelf, D: Disk + Send, G: Gate + Sync>(
+pub fn life<
+    R: Threads + Wait + Sync,
+    S: Source,
+    K: Sink,
+    H: Shelf,
+    D: Disk + Send,
+    G: Gate + Sync,
+>(
+    rt: &R,
     alloc: Global,
     words: &[String],
     input: &mut S,
@@ -82,14 +92,15 @@ pub fn life<S: Source, K: Sink, H: Shelf, D: Disk + Send, G: Gate + Sync>(
     let _ = shelf;
     let _ = gate;
     drop(watchers);
-    let finished = obey(alloc, words, input, output, disk);
+    let finished = obey(rt, alloc, words, input, output, disk);
     Ended {
         status: finished.ending.status(),
         disk: finished.disk,
     }
 }
 
-fn obey<S: Source, K: Sink, D: Disk>(
+fn obey<R: Wait, S: Source, K: Sink, D: Disk>(
+    rt: &R,
     alloc: Global,
     words: &[String],
     input: &mut S,
@@ -107,7 +118,7 @@ fn obey<S: Source, K: Sink, D: Disk>(
         };
     };
     match mode {
-        Mode::Run => run(alloc, input, output, disk),
+        Mode::Run => run(rt, alloc, input, output, disk),
         Mode::State => state(alloc, output, disk),
         Mode::StateOf(id) => account(alloc, id, output, disk),
     }
