@@ -46,7 +46,7 @@ kept-known (Some p) (Ok after) known = refl
 kept-known (Some p) (Err refusal) known = refl
 kept-known None result known = absurd (cc)
 
-known_by : (commands : List Command) (command : Command) (id : ℕ) (own : Bool) → (id_of command == id) ≡ own → Known commands id
+pub known_by : (commands : List Command) (command : Command) (id : ℕ) (own : Bool) → (id_of command == id) ≡ own → Known commands id
     → Known (commands ++ command ∷ []) id
 known_by commands command id true own known =
     rw (policy_of-push_own commands command id own) (kept-known (policy_of commands id) (next (policy_of commands id) command) known)
@@ -59,7 +59,7 @@ all_known commands command (id ∷ ids) all =
     (known_by commands command id (id_of command == id) refl all.0, all_known commands command ids all.1)
 
 -- the number that a command names is known once it is accepted
-known_now : (commands : List Command) (command : Command) → IsOk (next (policy_of commands (id_of command)) command)
+pub known_now : (commands : List Command) (command : Command) → IsOk (next (policy_of commands (id_of command)) command)
     → Known (commands ++ command ∷ []) (id_of command)
 known_now commands command accepted =
     rw (policy_of-push_own commands command (id_of command) (eq-eqb (id_of command) (id_of command) refl))

@@ -4,5 +4,8 @@ pub mod KeepingSteps
 pub mod ReplaySteps
 pub mod OpeningSteps
 pub mod OpenedSteps
+pub mod PinSteps
 pub mod HistorySteps
 pub mod TurnSteps
+pub mod PinTurns
+pub mod WindowSteps

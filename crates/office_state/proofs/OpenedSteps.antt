@@ -126,6 +126,9 @@ module _ {D : Type 0} (g : Ghosts D) (old : D) (journal : Journal D g) (started 
             kept = all;
             policies = values-book state.books.policies state.books.ledger (commands_of state) keeps ∙ ap book all;
             ledger = keeps.booked ∙ ap ledger_of all;
+            turned = made.turns;
+            pins = made.pins;
+            floor = made.floor;
             honesty = honesty;
             images_now = λ (honest : g.honest old). holds_now state.journal opening []
                 (simp append-nil keeps.valid) (simp append-nil keeps.accepted) (holds honest);

@@ -7,14 +7,16 @@ use Rattle.outside_io.specs.declared.disks.Disk.{Ghosts}
 use Rattle.outside_io.specs.Faults.{Rose}
 use Rattle.policy_types.specs.declared.command.Command.{Command}
 use Rattle.policy_types.specs.declared.policy.Policy.{Policy}
+use Rattle.policy_types.specs.declared.entry.Reply.{Reply}
 use Rattle.policy_types.specs.declared.entry.Reply.TheVariants.{Accepted, Faulted}
 use Rattle.policy_types.specs.declared.entry.Entry.{Entry}
 use Rattle.policy_types.specs.Valid.{IsValid, id_of}
 use Rattle.policy_machine.specs.Accounts.{ledger_of}
 use Rattle.policy_machine.specs.Book.{book, policy_of, IsAccepted}
 use Rattle.policy_machine.specs.Rules.{next}
-use Rattle.policy_machine.specs.History.{Opening, IsDue, IsLegal, accepted_of, commands_after, refusal_due}
+use Rattle.policy_machine.specs.History.{Opening, IsDue, IsLegal, accepted_of, commands_after, floor_of, floor_set, pin_of, refusal_due}
 use Rattle.policy_machine.proofs.BookLemmas.{IsAccepted-push}
+use Rattle.policy_machine.proofs.HistoryGrowth.{floor_of-kept}
 use Rattle.policy_machine.proofs.HistoryLemmas.{IsLegalAfter-push}
 use Rattle.record_codec.specs.Spelling.{spelling_of}
 use Rattle.posting_journal.specs.Files.{IsJournal}
@@ -22,11 +24,14 @@ use Rattle.posting_journal.specs.Runs.{Leaves}
 use Rattle.posting_journal.specs.States.{StandsFor as JournalStands, IsKept, count_of as records_in, disk_of as disk_under, is_clean}
 use Rattle.posting_journal.specs.declared.journal.Journal.{Journal}
 use Rattle.posting_journal.proofs.Written.{staged_either}
+use Rattle.arrayvec.specs.ArrayVec.{ArrayVec}
 use Rattle.office_state.specs.declared.books.Books.{Books}
+use Rattle.office_state.specs.declared.held.Held.{Held}
 use Rattle.office_state.specs.declared.state.OfficeState.{OfficeState}
 use Rattle.office_state.specs.declared.answer.Answer.TheVariants.{Accepted as AcceptedAt, DiskFault}
 use Rattle.office_state.specs.Images.{HoldsNow, HoldsOnce, IsLeftBy}
 use Rattle.office_state.specs.Journals.{JournalBytes, bodies_of}
+use Rattle.office_state.specs.Pins.{pins_held}
 use Rattle.office_state.specs.Posting.{CrashesIn}
 use Rattle.office_state.specs.Standing.{LeavesSince, StandsFor}
 use Rattle.office_state.specs.States.{begun_of, commands_of, disk_of, opening_of}
@@ -36,11 +41,25 @@ use Rattle.office_state.specs.inside.Records.{Records}
 use Rattle.office_state.proofs.HistorySteps.{all_up_to, commands-more, commands-same, faults-same, faults_after-more, faults_after-same, faults_met, faults-more, holds_all, holds_more, holds_once-push, is_due, is_fresh, pending-now, pending-push, posting}
 use Rattle.office_state.proofs.KeepingSteps.{all-more, values-book}
 use Rattle.office_state.proofs.OpeningSteps.{synced_before}
+use Rattle.office_state.proofs.PinSteps.{pins_held-same}
 
 legal-push : (opening : Opening) (turns : List Entry) (entry : Entry) → IsLegal opening turns
     → IsDue opening turns entry.caller entry.call entry.reply → IsLegal opening (turns ++ entry ∷ [])
 legal-push opening turns entry legal due =
     record { opens = legal.opens; due = IsLegalAfter-push opening [] turns entry legal.due due }
+
+-- a turn more is counted
+turned_more : (count : ℕ) (turns : List Entry) (entry : Entry) → count ≡ length turns → count + 1 ≡ length (turns ++ entry ∷ [])
+turned_more count turns entry same = ap (λ n. n + 1) same ∙ sym (length-append turns (entry ∷ []))
+
+-- a posting leaves the pins and the floor
+pub posted_pins : (turns : List Entry) (caller : ℕ) (command : Command) (reply : Reply) → pin_of reply ≡ None
+    → pins_held turns ≡ pins_held (turns ++ posting caller command reply ∷ [])
+posted_pins turns caller command reply none = sym (pins_held-same turns (posting caller command reply) (λ n. refl) none)
+
+pub posted_floor : (turns : List Entry) (caller : ℕ) (command : Command) (reply : Reply) → floor_set reply ≡ None
+    → floor_of turns ≡ floor_of (turns ++ posting caller command reply ∷ [])
+posted_floor turns caller command reply none = sym (floor_of-kept turns (posting caller command reply) none)
 
 -- the file of commands' bodies is their journal
 journal_of : (image : List ℕ) (commands : List Command) → AllByRecursion IsValid commands → IsAccepted commands
@@ -158,8 +177,11 @@ module _ {D : Type 0} {g : Ghosts D} where
     pub stands_still : (books : Books) (counted : records_in old.journal ≡ length (commands_in books)) (entry : Entry)
         → commands_in books ≡ commands_of old → accepted_of (entry ∷ []) ≡ [] → faults_met (entry ∷ []) ≡ []
         → IsDue opening turns entry.caller entry.call entry.reply
-        → StandsFor (record { journal = old.journal; books = books; begun = old.begun; recovered = old.recovered; counted = counted }) (turns ++ entry ∷ [])
-    stands_still books counted entry as_was none quiet due =
+        → (pins : ArrayVec Held) → pins.items ≡ pins_held (turns ++ entry ∷ [])
+        → (floor : ℕ) → floor ≡ floor_of (turns ++ entry ∷ [])
+        → StandsFor (record { journal = old.journal; books = books; turns = old.turns + 1; pins = pins; floor = floor; begun = old.begun; recovered = old.recovered; counted = counted })
+        (turns ++ entry ∷ [])
+    stands_still books counted entry as_was none quiet due pins pinned floor floored =
         let same : commands_after opening (turns ++ entry ∷ []) ≡ commands = commands-same opening turns entry none in
         let kept : commands_in books ≡ commands_after opening (turns ++ entry ∷ []) = as_was ∙ stands.kept ∙ sym same in
         let holds : g.honest (disk_of old) → JournalHolds old.journal opening (turns ++ entry ∷ []) = λ honest.
@@ -173,6 +195,9 @@ module _ {D : Type 0} {g : Ghosts D} where
           kept = kept;
           policies = values-book books.policies books.ledger (commands_in books) books.kept ∙ ap book kept;
           ledger = books.kept.booked ∙ ap ledger_of kept;
+          turned = turned_more old.turns turns entry stands.turned;
+          pins = pinned;
+          floor = floored;
           honesty = stands.honesty;
           images_now = λ (honest : g.honest (begun_of old)). holds_now old.journal opening (turns ++ entry ∷ [])
               (subst (AllByRecursion IsValid) kept books.kept.valid) (subst IsAccepted kept books.kept.accepted)
@@ -190,7 +215,7 @@ module _ {D : Type 0} {g : Ghosts D} where
 
     -- it stands for the same turns with other books of the same commands
     pub stands_with : (books : Books) (counted : records_in old.journal ≡ length (commands_in books)) → commands_in books ≡ commands_of old
-        → StandsFor (record { journal = old.journal; books = books; begun = old.begun; recovered = old.recovered; counted = counted }) turns
+        → StandsFor (record { journal = old.journal; books = books; turns = old.turns; pins = old.pins; floor = old.floor; begun = old.begun; recovered = old.recovered; counted = counted }) turns
     stands_with books counted as_was =
         let kept : commands_in books ≡ commands = as_was ∙ stands.kept in
         record {
@@ -198,6 +223,9 @@ module _ {D : Type 0} {g : Ghosts D} where
           kept = kept;
           policies = values-book books.policies books.ledger (commands_in books) books.kept ∙ ap book kept;
           ledger = books.kept.booked ∙ ap ledger_of kept;
+          turned = stands.turned;
+          pins = stands.pins;
+          floor = stands.floor;
           honesty = stands.honesty;
           images_now = stands.images_now;
           images_since = stands.images_since;
@@ -297,7 +325,7 @@ module _ {D : Type 0} {g : Ghosts D} where
             (quiet : g.faults (disk_under journal) ≡ g.faults (disk_of old)) (more : commands_in books ≡ commands_of old ++ command ∷ [])
             (few : length (commands_of old) ≡ 4000000 → ⊥) (ok : result ≡ Ok value) (position : count ≡ length (commands_in books)) where
           pub stands_accepted : (caller : ℕ)
-              → StandsFor (record { journal = journal; books = books; begun = old.begun; recovered = old.recovered; counted = counted })
+              → StandsFor (record { journal = journal; books = books; turns = old.turns + 1; pins = old.pins; floor = old.floor; begun = old.begun; recovered = old.recovered; counted = counted })
               (turns ++ posting caller command (Accepted count) ∷ [])
           stands_accepted caller =
               let entry = posting caller command (Accepted count) in
@@ -316,6 +344,9 @@ module _ {D : Type 0} {g : Ghosts D} where
                 kept = kept;
                 policies = values-book books.policies books.ledger (commands_in books) books.kept ∙ ap book kept;
                 ledger = books.kept.booked ∙ ap ledger_of kept;
+                turned = turned_more old.turns turns entry stands.turned;
+                pins = stands.pins ∙ posted_pins turns caller command (Accepted count) refl;
+                floor = stands.floor ∙ posted_floor turns caller command (Accepted count) refl;
                 honesty = (λ honest. honesty.0 (stands.honesty.0 honest), λ honest. stands.honesty.1 (honesty.1 honest));
                 images_now = λ (honest : g.honest (begun_of old)). holds_now journal opening (turns ++ entry ∷ [])
                     (subst (AllByRecursion IsValid) kept books.kept.valid) (subst IsAccepted kept books.kept.accepted)
@@ -338,7 +369,7 @@ module _ {D : Type 0} {g : Ghosts D} where
             (later : g.faults (disk_of old) ≤ g.faults (disk_under journal)) (rose : Rose (g.faults (disk_of old)) (g.faults (disk_under journal)))
             (err : result ≡ Err error) where
           pub stands_faulted : (caller : ℕ)
-              → StandsFor (record { journal = journal; books = old.books; begun = old.begun; recovered = old.recovered; counted = counted })
+              → StandsFor (record { journal = journal; books = old.books; turns = old.turns + 1; pins = old.pins; floor = old.floor; begun = old.begun; recovered = old.recovered; counted = counted })
               (turns ++ posting caller command (Faulted count) ∷ [])
           stands_faulted caller =
               let entry = posting caller command (Faulted count) in
@@ -372,6 +403,9 @@ module _ {D : Type 0} {g : Ghosts D} where
                 kept = kept;
                 policies = values-book old.books.policies old.books.ledger (commands_in old.books) old.books.kept ∙ ap book kept;
                 ledger = old.books.kept.booked ∙ ap ledger_of kept;
+                turned = turned_more old.turns turns entry stands.turned;
+                pins = stands.pins ∙ posted_pins turns caller command (Faulted count) refl;
+                floor = stands.floor ∙ posted_floor turns caller command (Faulted count) refl;
                 honesty = (λ honest. honesty.0 (stands.honesty.0 honest), λ honest. stands.honesty.1 (honesty.1 honest));
                 images_now = λ (honest : g.honest (begun_of old)). holds_now journal opening (turns ++ entry ∷ [])
                     (valid_after old (turns ++ entry ∷ []) kept) (accepted_after old (turns ++ entry ∷ []) kept)

@@ -23,7 +23,7 @@ pub record IsHeldBy (pins : List Held) (caller pin : ℕ) : Type 0 where
   pub held : Held
   pub among : Contains pins held
   pub number : held.number ≡ pin
-  pub caller : held.caller ≡ caller
+  pub holder : held.caller ≡ caller
 
 -- and has policies up to an index
 pub record MayRead (pins : List Held) (caller pin first : ℕ) : Type 0 where

@@ -1,5 +1,5 @@
 // Positions are pinned, and pins are given up.
-ghost use Rattle.std.specs.Prelude.{◌≡◌, ◌+◌, ◌^◌, ◌<◌, ◌≤◌, ◌==◌, ◌++◌, [], ◌∷◌, not, OnOk, List, length, take, filter, MatchResult};
+ghost use Rattle.std.specs.Prelude.{◌≡◌, ◌+◌, ◌^◌, ◌<◌, ◌≤◌, ◌==◌, ◌++◌, [], ◌∷◌, not, IfOk, List, length, take, filter, MatchResult};
 ghost use Rattle.policy_types.specs.declared.entry.Entry.{Entry};
 ghost use Rattle.policy_machine.specs.Book.{book};
 ghost use Rattle.office_state.specs.Pins.{IsHeldBy};
@@ -23,7 +23,7 @@ impl<D: Disk> OfficeState<D> {
         ensures opened { opened_of self.new ≡ opened_of self.old }
         ensures disk { disk_of self.new ≡ disk_of self.old }
         ensures room { room_of self.new ≡ room_of self.old }
-        ensures number { OnOk result (λ info. info.number ≡ turns_of self.old) }
+        ensures number { IfOk result (λ info. info.number ≡ turns_of self.old) }
         ensures stands { (history : List Entry) → StandsFor self.old history
             → StandsFor self.new (history ++ pin_turn caller result ∷ []) }
     {
@@ -39,7 +39,7 @@ impl<D: Disk> OfficeState<D> {
         ensures opened { opened_of self.new ≡ opened_of self.old }
         ensures disk { disk_of self.new ≡ disk_of self.old }
         ensures room { room_of self.new ≡ room_of self.old }
-        ensures number { OnOk result (λ info. info.number ≡ turns_of self.old) }
+        ensures number { IfOk result (λ info. info.number ≡ turns_of self.old) }
         ensures stands { (history : List Entry) → StandsFor self.old history
             → StandsFor self.new (history ++ pin_at_turn caller p result ∷ []) }
     {
@@ -104,7 +104,7 @@ fn hold(
 
 // The pins but that of a number.
 fn without(pins: &Pins, number: u64) -> Pins
-    ensures { result.items ≡ filter (λ held. not (held.number == number)) pins.now.items }
+    ensures { result.items ≡ filter (λ held. not (number == held.number)) pins.now.items }
 {
     let mut others = ArrayVec::new();
     for held in pins.as_slice() {

@@ -1,5 +1,5 @@
 // A part of the policies that the first commands leave.
-ghost use Rattle.std.specs.Prelude.{◌≡◌, ◌-◌, ◌≤◌, ◌<◌, IfSome, slice_get, take, drop, vec_capacity};
+ghost use Rattle.std.specs.Prelude.{◌≡◌, ◌-◌, ◌^◌, ◌≤◌, ◌<◌, [], IfSome, length, slice_get, take, drop, vec_capacity};
 ghost use Rattle.policy_types.specs.Valid.{IsValid, id_of};
 ghost use Rattle.policy_machine.specs.Book.{book};
 ghost use Rattle.policy_machine.specs.Rules.{IsSound};

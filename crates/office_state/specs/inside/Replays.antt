@@ -92,6 +92,9 @@ HasStopped journal disk NotAJournal = ⊥
 pub record IsOfficeOf {D : Type 0} {g : Ghosts D} (journal : Journal D g) (disk : D) (state : OfficeState D g) : Type 0 where
   pub stays : StaysAs journal state.journal
   pub replayed : AreReplayed journal state.journal state.books (count_of journal)
+  pub turns : state.turns ≡ 0
+  pub pins : state.pins.items ≡ []
+  pub floor : state.floor ≡ 0
   pub recovered : state.recovered.value ≡ state.books
   pub begun : state.begun.value ≡ disk
 

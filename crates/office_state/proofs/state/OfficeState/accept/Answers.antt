@@ -9,7 +9,7 @@ use Rattle.policy_machine.specs.History.{commands_after}
 use Rattle.office_state.specs.Standing.{StandsFor}
 use Rattle.office_state.specs.States.{opening_of}
 use Rattle.office_state.proofs.HistorySteps.{is_full, posting}
-use Rattle.office_state.proofs.TurnSteps.{crash_accepted, crash_faulted, stands_accepted, stands_faulted, stands_still}
+use Rattle.office_state.proofs.TurnSteps.{crash_accepted, crash_faulted, posted_floor, posted_pins, stands_accepted, stands_faulted, stands_still}
 use Rattle.office_state.proofs.state.OfficeState.accept.Goals as goal
 
 pub returns-then-count-eq-MOST_COMMANDS-clause-stands : goal.returns-then-count-eq-MOST_COMMANDS-clause-stands
@@ -20,6 +20,8 @@ returns-then-count-eq-MOST_COMMANDS-clause-stands g c = λ (history : List Entry
     let full = sym (ap length stands.kept) ∙ sym c.count.ensures ∙ c.if-count-eq-MOST_COMMANDS.true in
     stands_still old history stands old.books old.counted (posting caller command (Refused Full)) refl refl refl
     (is_full (commands_after (opening_of old) history) command c.args.policy decided full)
+    old.pins (stands.pins ∙ posted_pins history caller command (Refused Full) refl)
+    old.floor (stands.floor ∙ posted_floor history caller command (Refused Full) refl)
 
 pub returns-in-Ok-clause-stands : goal.returns-in-Ok-clause-stands
 returns-in-Ok-clause-stands g c = λ (history : List Entry) (caller : ℕ) (stands : StandsFor c.args.self.now history).

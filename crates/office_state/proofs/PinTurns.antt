@@ -1,0 +1,229 @@
+-- The turns that pin a position, read it, give it up or raise the floor
+use Rattle.std.proofs.Common.{◌≡◌, ℕ, ◌+◌, ◌<◌, ◌≤◌, ◌==◌, Bool, true, false, not, List, [], ◌∷◌, ◌++◌, length, take, drop, map, min, slice_get, filter, refl, sym, ap, ◌∙◌, subst, Some, None, Ok, Err, Result, arith}
+use Rattle.std.specs.Prelude.{MatchResult}
+use Rattle.std.specs.List.{Contains, fold}
+use Rattle.std.proofs.lemmas.List.{length-map, take_all}
+use Rattle.std.proofs.lemmas.Option.{same_Some}
+use Rattle.outside_io.specs.declared.disks.Disk.{Ghosts}
+use Rattle.arrayvec.specs.ArrayVec.{ArrayVec}
+use Rattle.policy_types.specs.declared.policy.Policy.{Policy}
+use Rattle.policy_types.specs.declared.entry.Reply.TheVariants.{Pinned}
+use Rattle.policy_types.specs.declared.entry.PinRefusal.{PinRefusal}
+use Rattle.policy_types.specs.declared.entry.PinRefusal.TheVariants.{Ahead, Trimmed, PinsFull}
+use Rattle.policy_types.specs.declared.entry.Entry.{Entry}
+use Rattle.policy_machine.specs.Book.{book}
+use Rattle.policy_machine.specs.History.{Opening, IsDue, IsOwnPin, accepted_of, commands_after, floor_of, floor_set, gives_up, least_or, live_pin, live_positions, most_pins, pin_of}
+use Rattle.policy_machine.proofs.HistoryGrowth.{PinsHold-legal, floor_of-kept, floor_of-set, least-count}
+use Rattle.posting_journal.specs.States.{count_of as records_in}
+use Rattle.office_state.specs.declared.held.Held.{Held}
+use Rattle.office_state.specs.declared.held.PinInfo.{PinInfo}
+use Rattle.office_state.specs.declared.state.OfficeState.{OfficeState}
+use Rattle.office_state.specs.Pins.{IsHeldBy, MayRead, pins_held}
+use Rattle.office_state.specs.Standing.{StandsFor}
+use Rattle.office_state.specs.States.{commands_of, opening_of, pins_of}
+use Rattle.office_state.specs.Turning.{pin_turn, pin_at_turn, read_turn, unpin_turn, trim_turn}
+use Rattle.office_state.specs.inside.Pinning.{HasTaken, IsFull}
+use Rattle.office_state.proofs.HistorySteps.{faults_met}
+use Rattle.office_state.proofs.PinSteps.{HeldParts, among_held, live_among, pins_held-fewer, pins_held-more, pins_held-same, positions_held}
+use Rattle.office_state.proofs.TurnSteps.{stands_still}
+
+-- the least of a number and others, from the front on
+fold_least : (a n other : ℕ) (ns : List ℕ) → fold min a (n ∷ ns) ≡ min a (least_or other (n ∷ ns))
+fold_least a n other [] = refl
+fold_least a n other (m ∷ ns) =
+    let rest : fold min (min a n) (m ∷ ns) ≡ min (min a n) (least_or other (m ∷ ns)) = fold_least (min a n) m other ns in
+    rest ∙ omega arith
+
+least_of : (count : ℕ) (ns : List ℕ) → least_or count ns ≤ count → fold min count ns ≡ least_or count ns
+least_of count [] few = refl
+least_of count (n ∷ ns) few = fold_least count n count ns ∙ omega (arith, few)
+
+module _ {D : Type 0} {g : Ghosts D} (old : OfficeState D g) (turns : List Entry) (stands : StandsFor old turns)
+    (counted : records_in old.journal ≡ length (commands_of old)) where
+  abbrev opening : Opening
+  opening = opening_of old
+
+  -- the state after a turn that leaves journal and books
+  abbrev after : ArrayVec Held → ℕ → OfficeState D g
+  after pins floor = record {
+    journal = old.journal;
+    books = old.books;
+    turns = old.turns + 1;
+    pins = pins;
+    floor = floor;
+    begun = old.begun;
+    recovered = old.recovered;
+    counted = counted;
+  }
+
+  step : (entry : Entry) → accepted_of (entry ∷ []) ≡ [] → faults_met (entry ∷ []) ≡ [] → IsDue opening turns entry.caller entry.call entry.reply
+      → (pins : ArrayVec Held) → pins.items ≡ pins_held (turns ++ entry ∷ []) → (floor : ℕ) → floor ≡ floor_of (turns ++ entry ∷ [])
+      → StandsFor (after pins floor) (turns ++ entry ∷ [])
+  step entry none quiet due pins pinned floor floored =
+      stands_still old turns stands old.books counted entry refl none quiet due pins pinned floor floored
+
+  floor_still : (entry : Entry) → floor_set entry.reply ≡ None → old.floor ≡ floor_of (turns ++ entry ∷ [])
+  floor_still entry none = stands.floor ∙ sym (floor_of-kept turns entry none)
+
+  pins_still : (entry : Entry) (pins : ArrayVec Held) → ((n : ℕ) → gives_up n entry.call ≡ false) → pin_of entry.reply ≡ None
+      → pins.items ≡ old.pins.items → pins.items ≡ pins_held (turns ++ entry ∷ [])
+  pins_still entry pins quiet none same = same ∙ stands.pins ∙ sym (pins_held-same turns entry quiet none)
+
+  pins_taken : (entry : Entry) (pins : ArrayVec Held) (policies : List Policy) (position : ℕ) (info : PinInfo)
+      → ((n : ℕ) → gives_up n entry.call ≡ false) → entry.reply ≡ Pinned info.position info.policies
+      → HasTaken old.pins.items pins.items policies old.turns entry.caller position info
+      → pins.items ≡ pins_held (turns ++ entry ∷ [])
+  pins_taken entry pins policies position info quiet replied taken =
+      taken.more
+      ∙ ap (λ held. held ++ (record { number = old.turns; caller = entry.caller; position = position; policies = length policies }) ∷ []) stands.pins
+      ∙ ap (λ n. pins_held turns ++ (record { number = n; caller = entry.caller; position = position; policies = length policies }) ∷ []) stands.turned
+      ∙ ap (λ (i : PinInfo). pins_held turns ++ (record { number = length turns; caller = entry.caller; position = i.position; policies = i.policies }) ∷ []) (sym taken.told)
+      ∙ sym (pins_held-more turns entry quiet info.position info.policies (ap pin_of replied))
+
+  live_many : length (live_positions turns) ≡ length old.pins.items
+  live_many =
+      ap length (sym (positions_held turns)) ∙ length-map (pins_held turns) (λ (held : Held). held.position) ∙ ap length (sym stands.pins)
+
+  abbrev Taking : ArrayVec Held → ℕ → ℕ → Result PinInfo PinRefusal → Type 0
+  Taking pins caller position result = MatchResult result
+      (λ info. HasTaken old.pins.items pins.items (book (take position (commands_of old))) old.turns caller position info)
+      (λ refusal. IsFull old.pins.items pins.items refusal)
+
+  -- all commands are pinned
+  pub stands_pin : (caller position : ℕ) (pins : ArrayVec Held) (result : Result PinInfo PinRefusal) → position ≡ length (commands_of old)
+      → Taking pins caller position result → StandsFor (after pins old.floor) (turns ++ pin_turn caller result ∷ [])
+  stands_pin caller position pins (Ok info) all taken =
+      let entry = pin_turn caller (Ok info) in
+      let few : length (live_positions turns) < most_pins = omega (arith, live_many, taken.few) in
+      let whole : take position (commands_of old) ≡ commands_after opening turns = take_all position (commands_of old) (omega (arith, all)) ∙ stands.kept in
+      let due : IsDue opening turns entry.caller entry.call entry.reply = (
+        few,
+        ap (λ (i : PinInfo). i.position) taken.told ∙ all ∙ ap length stands.kept,
+        ap (λ (i : PinInfo). i.policies) taken.told ∙ ap (λ commands. length (book commands)) whole,
+      ) in
+      step entry refl refl due pins (pins_taken entry pins (book (take position (commands_of old))) position info (λ n. refl) refl taken)
+      old.floor (floor_still entry refl)
+  stands_pin caller position pins (Err refusal) all full =
+      let entry = pin_turn caller (Err refusal) in
+      let many : most_pins ≤ length (live_positions turns) = omega (arith, live_many, full.full) in
+      step entry refl refl (subst (λ r. IsDue opening turns caller entry.call (pin_turn caller (Err r)).reply) (sym full.told) many)
+      pins (pins_still entry pins (λ n. refl) refl full.stay) old.floor (floor_still entry refl)
+
+  -- a position is pinned that is neither ahead nor trimmed
+  pub stands_pin_at : (caller p : ℕ) (pins : ArrayVec Held) (result : Result PinInfo PinRefusal) → p ≤ length (commands_of old) → old.floor ≤ p
+      → Taking pins caller p result → StandsFor (after pins old.floor) (turns ++ pin_at_turn caller p result ∷ [])
+  stands_pin_at caller p pins (Ok info) reached kept taken =
+      let entry = pin_at_turn caller p (Ok info) in
+      let few : length (live_positions turns) < most_pins = omega (arith, live_many, taken.few) in
+      let due : IsDue opening turns entry.caller entry.call entry.reply = (
+        omega (arith, reached, ap length stands.kept),
+        omega (arith, kept, stands.floor),
+        few,
+        ap (λ (i : PinInfo). i.position) taken.told,
+        ap (λ (i : PinInfo). i.policies) taken.told ∙ ap (λ commands. length (book (take p commands))) stands.kept,
+      ) in
+      step entry refl refl due pins (pins_taken entry pins (book (take p (commands_of old))) p info (λ n. refl) refl taken)
+      old.floor (floor_still entry refl)
+  stands_pin_at caller p pins (Err refusal) reached kept full =
+      let entry = pin_at_turn caller p (Err refusal) in
+      let due : IsDue opening turns caller entry.call (pin_at_turn caller p (Err PinsFull)).reply = (
+        omega (arith, reached, ap length stands.kept),
+        omega (arith, kept, stands.floor),
+        omega (arith, live_many, full.full),
+      ) in
+      step entry refl refl (subst (λ r. IsDue opening turns caller entry.call (pin_at_turn caller p (Err r)).reply) (sym full.told) due)
+      pins (pins_still entry pins (λ n. refl) refl full.stay) old.floor (floor_still entry refl)
+
+  -- one that is ahead
+  pub stands_ahead : (caller p count : ℕ) → count ≡ length (commands_of old) → count < p
+      → StandsFor (after old.pins old.floor) (turns ++ pin_at_turn caller p (Err (Ahead count)) ∷ [])
+  stands_ahead caller p count counted ahead =
+      let entry = pin_at_turn caller p (Err (Ahead count)) in
+      let due : IsDue opening turns entry.caller entry.call entry.reply =
+      (omega (arith, counted, ahead, ap length stands.kept), counted ∙ ap length stands.kept) in
+      step entry refl refl due old.pins (pins_still entry old.pins (λ n. refl) refl refl) old.floor (floor_still entry refl)
+
+  -- one that lies below the floor
+  pub stands_trimmed : (caller p : ℕ) → p ≤ length (commands_of old) → p < old.floor
+      → StandsFor (after old.pins old.floor) (turns ++ pin_at_turn caller p (Err (Trimmed old.floor)) ∷ [])
+  stands_trimmed caller p reached below =
+      let entry = pin_at_turn caller p (Err (Trimmed old.floor)) in
+      let due : IsDue opening turns entry.caller entry.call entry.reply =
+      (omega (arith, reached, ap length stands.kept), omega (arith, below, stands.floor), stands.floor) in
+      step entry refl refl due old.pins (pins_still entry old.pins (λ n. refl) refl refl) old.floor (floor_still entry refl)
+
+  -- a pin that is held is live
+  held_live : (held : Held) (pin : ℕ) → Contains (pins_of old) held → held.number ≡ pin → live_pin turns pin ≡ Some (held.position, held.policies)
+  held_live held pin among number =
+      subst (λ place. live_pin turns place ≡ Some (held.position, held.policies)) number
+      (among_held turns held (subst (λ pins. Contains pins held) stands.pins among)).live
+
+  -- and its caller's own
+  held_own : (caller pin : ℕ) → IsHeldBy (pins_of old) caller pin → IsOwnPin turns caller pin
+  held_own caller pin own =
+      let parts = among_held turns own.held (subst (λ pins. Contains pins own.held) stands.pins own.among) in
+      (parts.entry, subst (λ place. slice_get turns place ≡ Some parts.entry) own.number parts.found, parts.caller ∙ own.holder)
+
+  -- a pin is given up
+  pub stands_unpinned : (caller pin : ℕ) (pins : ArrayVec Held) → pins.items ≡ filter (λ (held : Held). not (pin == held.number)) old.pins.items
+      → IsHeldBy (pins_of old) caller pin → StandsFor (after pins old.floor) (turns ++ unpin_turn caller pin ∷ [])
+  stands_unpinned caller pin pins fewer own =
+      let entry = unpin_turn caller pin in
+      let due : IsDue opening turns entry.caller entry.call entry.reply =
+      ((own.held.position, own.held.policies), held_live own.held pin own.among own.number, held_own caller pin own) in
+      step entry refl refl due pins
+      (fewer ∙ ap (filter (λ (held : Held). not (pin == held.number))) stands.pins ∙ sym (pins_held-fewer turns entry refl))
+      old.floor (floor_still entry refl)
+
+  -- the floor is raised
+  pub stands_floor : (caller floor : ℕ) → floor ≡ fold min (length (commands_of old)) (map (λ (held : Held). held.position) old.pins.items)
+      → StandsFor (after old.pins floor) (turns ++ trim_turn caller floor ∷ [])
+  stands_floor caller floor least =
+      let entry = trim_turn caller floor in
+      let count = length (commands_after opening turns) in
+      let few : least_or count (live_positions turns) ≤ count =
+      least-count turns count (λ pin position policies live. ((PinsHold-legal opening turns stands.history.legal.due).pins_in pin position policies live).1) in
+      let due : IsDue opening turns entry.caller entry.call entry.reply =
+      least ∙ ap (λ n. fold min n (map (λ (held : Held). held.position) old.pins.items)) (ap length stands.kept)
+      ∙ ap (λ pins. fold min count (map (λ (held : Held). held.position) pins)) stands.pins
+      ∙ ap (fold min count) (positions_held turns) ∙ least_of count (live_positions turns) few in
+      step entry refl refl due old.pins (pins_still entry old.pins (λ n. refl) refl refl) floor (sym (floor_of-set turns entry floor refl))
+
+  -- a batch is read
+  pub stands_read : (caller pin first : ℕ) (held : Held) (policies : List Policy) → MayRead (pins_of old) caller pin first
+      → Contains (pins_of old) held → held.number ≡ pin
+      → policies ≡ take 256 (drop first (book (take held.position (commands_of old))))
+      → StandsFor (after old.pins old.floor) (turns ++ read_turn caller pin first policies ∷ [])
+  stands_read caller pin first held policies may among number filled =
+      let entry = read_turn caller pin first policies in
+      let own = may.own in
+      let live = held_live own.held pin own.among own.number in
+      let position : held.position ≡ own.held.position =
+      ap (λ (p : ℕ × ℕ). p.0) (same_Some _ _ (sym (held_live held pin among number) ∙ live)) in
+      let due : IsDue opening turns entry.caller entry.call entry.reply = (
+        (own.held.position, own.held.policies),
+        live,
+        held_own caller pin own,
+        may.within,
+        filled ∙ ap (λ p. take 256 (drop first (book (take p (commands_of old))))) position
+            ∙ ap (λ commands. take 256 (drop first (book (take own.held.position commands)))) stands.kept,
+      ) in
+      step entry refl refl due old.pins (pins_still entry old.pins (λ n. refl) refl refl) old.floor (floor_still entry refl)
+
+module _ {D : Type 0} {g : Ghosts D} (state : OfficeState D g) (turns : List Entry) (stands : StandsFor state turns) where
+  -- what a caller of a history knows of its pin is what a read and an unpin of it need
+  pub held_by_caller : (caller pin : ℕ) (held : ℕ × ℕ) → live_pin turns pin ≡ Some held → IsOwnPin turns caller pin
+      → IsHeldBy (pins_of state) caller pin
+  held_by_caller caller pin held live own =
+      let this : Held = record { number = pin; caller = own.0.caller; position = held.0; policies = held.1 } in
+      record {
+        held = this;
+        among = subst (λ pins. Contains pins this) (sym stands.pins) (live_among turns pin own.0 held.0 held.1 own.1 live);
+        number = refl;
+        holder = own.2;
+      }
+
+  pub may_read : (caller pin first : ℕ) (held : ℕ × ℕ) → live_pin turns pin ≡ Some held → IsOwnPin turns caller pin → first ≤ held.1
+      → MayRead (pins_of state) caller pin first
+  unfolding held_by_caller
+  may_read caller pin first held live own within = record { own = held_by_caller caller pin held live own; within = within }

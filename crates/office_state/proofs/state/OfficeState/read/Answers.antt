@@ -1,0 +1,10 @@
+use Rattle.std.proofs.Common.{List}
+use Rattle.policy_types.specs.declared.entry.Entry.{Entry}
+use Rattle.office_state.specs.Standing.{StandsFor}
+use Rattle.office_state.proofs.PinTurns.{stands_read}
+use Rattle.office_state.proofs.state.OfficeState.read.Goals as goal
+
+pub returns-clause-stands : goal.returns-clause-stands
+returns-clause-stands g c = λ (history : List Entry) (stands : StandsFor c.args.self.now history).
+    stands_read c.args.self.now history stands _ c.args.caller c.args.pin c.args.first c.in-Some.held c.fill.new.window.items c.requires.held
+    c.in-Some.ensures.found.0 c.in-Some.ensures.found.1 c.fill.ensures.policies

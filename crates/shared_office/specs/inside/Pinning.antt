@@ -1,0 +1,11 @@
+-- What a pass learns of a pin's turn
+use Rattle.std.specs.Prelude.{◌≡◌, ℕ, Ok, Err, Result}
+use Rattle.policy_types.specs.declared.entry.PinRefusal.{PinRefusal}
+use Rattle.office_state.specs.declared.held.Held.{Held}
+use Rattle.office_state.specs.declared.held.PinInfo.{PinInfo}
+
+-- the pin of a caller by what the state told of it, with the place of its turn for its number
+abbrev pub pin_told : ℕ → ℕ → Result PinInfo PinRefusal → Result Held PinRefusal
+pin_told turn caller (Ok info) =
+    Ok (record { number = turn; caller = caller; position = info.position; policies = info.policies })
+pin_told turn caller (Err refusal) = Err refusal

@@ -1,0 +1,262 @@
+// The calls of an office, each through a shared reference and a caller's pass.
+ghost use Rattle.std.specs.Prelude.{◌≡◌, ◌≤◌, ℕ, IfOk, IfErr};
+ghost use Rattle.money_ledgers.specs.Balances.{balances};
+ghost use Rattle.policy_types.specs.Valid.{IsValid};
+ghost use Rattle.policy_types.specs.declared.entry.Call.TheVariants.{Pin as PinCall, PinAt};
+ghost use Rattle.office_state.specs.Opening.{HasNotOpened, HasOpened};
+ghost use Rattle.office_state.specs.States.{room_of};
+ghost use Rattle.office_state.specs.Posting.{turn_of};
+ghost use Rattle.office_state.specs.Turning.{read_turn, trim_turn, unpin_turn};
+ghost use Rattle.turn_lock.specs.Passes.{PassFacts, TableId, TakesTurn, all_shares};
+ghost use Rattle.shared_office.specs.Offices.{IsOfficeHistory};
+ghost use Rattle.shared_office.specs.Pins.{HoldsPin, KeepsOtherPins, KeepsPins, pinning_turn};
+ghost use Rattle.shared_office.specs.Starting.{HasClosed, HasStarted};
+ghost use Rattle.shared_office.specs.inside.Pinning.{pin_told};
+
+use crate::batch::Batch;
+use crate::pin::Pin;
+use crate::state::SharedState;
+use crate::turns::{PinNewest, PinPosition, Post, ReadPart, Trim, Unpin};
+use money_ledgers::Ledger;
+use office_state::{Answer, Held, OfficeState, PinInfo, StartCause, StartFault};
+use outside_io::Disk;
+use policy_types::{Command, PinRefusal};
+use std::alloc::Global;
+use std::sync::Wait;
+use turn_lock::{NoRoom, Pass, Turned, Turnstile};
+
+/// An office that several callers share. `enter` and `leave` are the lock's own.
+pub type Office<D> = Turnstile<SharedState<D>>;
+
+/// One caller's right to take turns at an office.
+pub type OfficePass<D> = Pass<SharedState<D>>;
+
+/// The calls of an office. Each but `start` and `close` takes one turn of the caller's pass.
+pub trait OfficeCalls<D: Disk> {
+    // Which office it is.
+    ghost office: { Self → TableId };
+
+    /// The office of the disk's journal, with room for so many postings, and its first pass.
+    fn start(
+        alloc: Global,
+        disk: D,
+        postings: usize,
+    ) -> Result<(Self, OfficePass<D>), StartFault<D>>
+        ensures started { IfOk result (λ made. HasStarted D.Disk disk postings made.1
+            × (made.1.turnstile ≡ office made.0) × PassFacts IsOfficeHistory made.1) }
+        ensures refused { IfErr result (λ fault. HasNotOpened D.Disk disk fault.disk fault.cause) };
+
+    /// Posts a command.
+    fn post<R: Wait>(
+        &self,
+        rt: &R,
+        pass: &mut OfficePass<D>,
+        command: &Command,
+    ) -> Turned<Answer>
+        requires ours { pass.old.turnstile ≡ office self.now }
+        requires left { 1 ≤ pass.old.left }
+        requires valid { IsValid command.now }
+        ensures turn { TakesTurn result.turn (turn_of pass.old.caller command.now result.answer) pass.old pass.new }
+        ensures facts { PassFacts IsOfficeHistory pass.new }
+        ensures pins { KeepsPins pass.old pass.new };
+
+    /// Pins the newest position. It is refused only where as many pins are live as may be.
+    fn pin<R: Wait>(
+        &self,
+        rt: &R,
+        pass: &mut OfficePass<D>,
+    ) -> Turned<Result<Pin, PinRefusal>>
+        requires ours { pass.old.turnstile ≡ office self.now }
+        requires left { 1 ≤ pass.old.left }
+        ensures turn { TakesTurn result.turn (pinning_turn pass.old.caller PinCall result.answer) pass.old pass.new }
+        ensures facts { PassFacts IsOfficeHistory pass.new }
+        ensures held { IfOk result.answer (λ pin. (pin.number ≡ result.turn) × HoldsPin pass.new pin) }
+        ensures pins { KeepsPins pass.old pass.new };
+
+    /// Pins the position after `p` commands.
+    fn pin_at<R: Wait>(
+        &self,
+        rt: &R,
+        pass: &mut OfficePass<D>,
+        p: u32,
+    ) -> Turned<Result<Pin, PinRefusal>>
+        requires ours { pass.old.turnstile ≡ office self.now }
+        requires left { 1 ≤ pass.old.left }
+        ensures turn { TakesTurn result.turn (pinning_turn pass.old.caller (PinAt p) result.answer) pass.old pass.new }
+        ensures facts { PassFacts IsOfficeHistory pass.new }
+        ensures held { IfOk result.answer (λ pin. (pin.number ≡ result.turn) × HoldsPin pass.new pin) }
+        ensures pins { KeepsPins pass.old pass.new };
+
+    /// Fills the batch with the policies at a pin's position, in order of issue, from the index `first` on and 256 of
+    /// them at most, and gives the turn.
+    fn read<R: Wait>(
+        &self,
+        rt: &R,
+        pass: &mut OfficePass<D>,
+        pin: &Pin,
+        first: u32,
+        batch: &mut Batch,
+    ) -> u64
+        requires ours { pass.old.turnstile ≡ office self.now }
+        requires left { 1 ≤ pass.old.left }
+        requires held { HoldsPin pass.old pin.now }
+        requires within { first ≤ pin.now.policies }
+        ensures turn { TakesTurn result (read_turn pass.old.caller pin.now.number first batch.new) pass.old pass.new }
+        ensures facts { PassFacts IsOfficeHistory pass.new }
+        ensures pins { KeepsPins pass.old pass.new };
+
+    /// Gives a pin up, and gives the turn. The pass keeps its other pins.
+    fn unpin<R: Wait>(&self, rt: &R, pass: &mut OfficePass<D>, pin: Pin) -> u64
+        requires ours { pass.old.turnstile ≡ office self.now }
+        requires left { 1 ≤ pass.old.left }
+        requires held { HoldsPin pass.old pin }
+        ensures turn { TakesTurn result (unpin_turn pass.old.caller pin.number) pass.old pass.new }
+        ensures facts { PassFacts IsOfficeHistory pass.new }
+        ensures pins { KeepsOtherPins pin.number pass.old pass.new };
+
+    /// Raises the floor to the least position of a live pin, or to the count where none is live, and gives it.
+    fn trim<R: Wait>(&self, rt: &R, pass: &mut OfficePass<D>) -> Turned<u32>
+        requires ours { pass.old.turnstile ≡ office self.now }
+        requires left { 1 ≤ pass.old.left }
+        ensures turn { TakesTurn result.turn (trim_turn pass.old.caller result.answer) pass.old pass.new }
+        ensures facts { PassFacts IsOfficeHistory pass.new }
+        ensures pins { KeepsPins pass.old pass.new };
+
+    /// Gives back the disk, and the ledger. The pass has all shares.
+    fn close(self, pass: OfficePass<D>) -> (D, Ledger)
+        requires ours { pass.turnstile ≡ office self }
+        requires all { pass.shares ≡ all_shares }
+        ensures closed { HasClosed D.Disk pass result.0 (balances result.1) }
+        ensures facts { PassFacts IsOfficeHistory pass };
+}
+
+impl<D: Disk> OfficeCalls<D> for Office<D> {
+    ghost office = { λ office. office };
+
+    fn start(
+        alloc: Global,
+        disk: D,
+        postings: usize,
+    ) -> Result<(Office<D>, OfficePass<D>), StartFault<D>> {
+        let shared = opened(alloc, disk, postings)?;
+        match Turnstile::new(alloc, shared) {
+            Ok(made) => Ok(made),
+            Err(NoRoom { value }) => Err(without_memory(value.into_state())),
+        }
+    }
+
+    fn post<R: Wait>(
+        &self,
+        rt: &R,
+        pass: &mut OfficePass<D>,
+        command: &Command,
+    ) -> Turned<Answer> {
+        self.turn(rt, pass, Post { command })
+    }
+
+    fn pin<R: Wait>(
+        &self,
+        rt: &R,
+        pass: &mut OfficePass<D>,
+    ) -> Turned<Result<Pin, PinRefusal>> {
+        let Turned { turn, answer } = self.turn(rt, pass, PinNewest);
+        pin_taken(turn, pass.caller(), answer)
+    }
+
+    fn pin_at<R: Wait>(
+        &self,
+        rt: &R,
+        pass: &mut OfficePass<D>,
+        p: u32,
+    ) -> Turned<Result<Pin, PinRefusal>> {
+        let Turned { turn, answer } = self.turn(rt, pass, PinPosition { position: p });
+        pin_taken(turn, pass.caller(), answer)
+    }
+
+    fn read<R: Wait>(
+        &self,
+        rt: &R,
+        pass: &mut OfficePass<D>,
+        pin: &Pin,
+        first: u32,
+        batch: &mut Batch,
+    ) -> u64 {
+        let Some(taken) = batch.filled.take() else {
+            unreachable!()
+        };
+        let part = ReadPart {
+            pin: pin.held(),
+            first,
+            batch: taken,
+        };
+        let Turned { turn, answer } = self.turn(rt, pass, part);
+        batch.filled = Some(answer);
+        turn
+    }
+
+    fn unpin<R: Wait>(&self, rt: &R, pass: &mut OfficePass<D>, pin: Pin) -> u64 {
+        let held = pin.held();
+        pin.spend();
+        self.turn(rt, pass, Unpin { pin: held }).turn
+    }
+
+    fn trim<R: Wait>(&self, rt: &R, pass: &mut OfficePass<D>) -> Turned<u32> {
+        self.turn(rt, pass, Trim)
+    }
+
+    fn close(self, pass: OfficePass<D>) -> (D, Ledger)
+        requires ours { pass.turnstile ≡ self }
+        requires all { pass.shares ≡ all_shares }
+        ensures closed { HasClosed D.Disk pass result.0 (balances result.1) }
+        ensures facts { PassFacts IsOfficeHistory pass }
+    {
+        Turnstile::close(self, pass).into_state().close()
+    }
+}
+
+// The state of the disk's journal, with room for so many postings.
+fn opened<D: Disk>(alloc: Global, disk: D, postings: usize) -> Result<SharedState<D>, StartFault<D>>
+    ensures opened { IfOk result (λ shared. HasOpened disk shared.state × (shared.room ≡ postings)
+        × (postings ≤ room_of shared.state)) }
+    ensures refused { IfErr result (λ fault. HasNotOpened D.Disk disk fault.disk fault.cause) }
+{
+    let mut state = OfficeState::open(alloc, disk)?;
+    if state.reserve(postings).is_err() {
+        return Err(without_memory(state));
+    }
+    Ok(SharedState {
+        state,
+        room: postings,
+    })
+}
+
+// The disk of an office for which there was no memory.
+fn without_memory<D: Disk>(state: OfficeState<D>) -> StartFault<D>
+    ensures { (old : D) → HasOpened old state → HasNotOpened D.Disk old result.disk result.cause }
+{
+    let (disk, _) = state.close();
+    StartFault {
+        cause: StartCause::NoMemory,
+        disk,
+    }
+}
+
+// A pin's turn, and the pin in its caller's hands.
+fn pin_taken(
+    turn: u64,
+    caller: u64,
+    answer: Result<PinInfo, PinRefusal>,
+) -> Turned<Result<Pin, PinRefusal>>
+    ensures { (result.turn ≡ turn) × (result.answer ≡ pin_told turn caller answer) }
+{
+    let answer = match answer {
+        Ok(info) => Ok(Pin::of(Held {
+            number: turn,
+            caller,
+            position: info.position,
+            policies: info.policies,
+        })),
+        Err(refusal) => Err(refusal),
+    };
+    Turned { turn, answer }
+}

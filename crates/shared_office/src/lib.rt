@@ -1,0 +1,17 @@
+//! An office that several callers share: each call is one turn of one legal history, and each caller's pass knows which
+//! turns it has seen and which it made.
+#![tactic(auto)]
+
+mod batch;
+mod calls;
+mod pin;
+mod state;
+mod turns;
+#[cfg(test)]
+mod tests;
+
+pub use batch::Batch;
+pub use calls::{Office, OfficeCalls, OfficePass};
+pub use office_state::{Answer, StartCause, StartFault};
+pub use pin::Pin;
+pub use state::{OpenedOn, SharedState};
