@@ -6,7 +6,7 @@ ghost use Rattle.life_app.specs.inside.Turns.{HasPosted, is_faulted, line_turn, 
 
 use outside_io::Disk;
 use policy_types::Line;
-use shared_office::{Answer, Office, OfficePass, post};
+use shared_office::{Answer, Office, OfficeCalls, OfficePass};
 use std::sync::Wait;
 
 /// Answers all lines by turns of this pass. There is room for all answers.
@@ -46,7 +46,7 @@ fn answer_line<R: Wait, D: Disk>(
     let Line::Post(command) = line else {
         unreachable!()
     };
-    post(office, rt, pass, command).answer
+    office.post(rt, pass, command).answer
 }
 
 /// Whether the disk failed in one of the postings.

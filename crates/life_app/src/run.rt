@@ -20,7 +20,7 @@ use crate::refusing::{refuse, refuse_journal, say};
 use crate::transcript::transcript;
 use outside_io::{Disk, Sink, Source, write_all};
 use policy_types::{Lane, Line, Script};
-use shared_office::{Answer, Office, OfficePass, close, start};
+use shared_office::{Answer, Office, OfficeCalls, OfficePass, close};
 use std::alloc::Global;
 use std::sync::Wait;
 
@@ -70,7 +70,7 @@ fn run_script<R: Wait, K: Sink, D: Disk>(
             disk,
         };
     };
-    match start(alloc, disk, lines.len()) {
+    match Office::start(alloc, disk, lines.len()) {
         Ok((office, pass)) => run_office(rt, alloc, lines, office, pass, answers, output),
         Err(fault) => Finished {
             ending: refuse_journal(alloc, fault.cause, output),
