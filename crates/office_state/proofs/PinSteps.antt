@@ -1,6 +1,6 @@
 -- What one more turn does to the live pins of a history, and what is known of one of them
-use Rattle.std.proofs.Common.{◌≡◌, ℕ, zero, suc, ◌+◌, ◌<◌, ◌≤◌, ◌==◌, Bool, true, false, not, cond, ◌||◌, ◌⊎◌, inl, inr, List, [], ◌∷◌, ◌++◌, length, take, drop, slice_get, map, filter, refl, sym, ap, ◌∙◌, subst, append-nil, None, Some, Option, filter_map, arith}
-use Rattle.std.specs.List.{AllByRecursion, Contains, cons_option, list_any, range_with_len}
+use Rattle.std.proofs.Common.{◌≡◌, ℕ, zero, suc, ◌+◌, ◌<◌, ◌≤◌, Bool, true, false, not, cond, ◌||◌, ◌⊎◌, inl, inr, List, [], ◌∷◌, ◌++◌, length, drop, slice_get, map, filter, refl, sym, ap, ◌∙◌, subst, append-nil, None, Some, Option, filter_map, arith}
+use Rattle.std.specs.List.{Contains, cons_option, list_any, range_with_len}
 use Rattle.std.specs.Option.{option_map}
 use Rattle.std.proofs.lemmas.Option.{none-some, same_Some, slice_get_within}
 use Rattle.std.proofs.lemmas.List.{drop-append-le, drop_all, length-append}
@@ -8,7 +8,7 @@ use Rattle.std.proofs.lemmas.List.Folds.{list_any-append}
 use Rattle.std.proofs.lemmas.List.Elements.{filter_map-append}
 use Rattle.policy_types.specs.declared.entry.Call.{Call}
 use Rattle.policy_types.specs.declared.entry.Entry.{Entry}
-use Rattle.policy_machine.specs.History.{IsOwnPin, gives_up, live_pin, live_positions, pin_of, pinned_position}
+use Rattle.policy_machine.specs.History.{gives_up, live_pin, live_positions, pin_of, pinned_position}
 use Rattle.policy_machine.proofs.HistoryGrowth.{live_parts, slice_get-front, slice_get-middle}
 use Rattle.office_state.specs.declared.held.Held.{Held}
 use Rattle.office_state.specs.Pins.{held_at, held_in, pins_held}

@@ -1,5 +1,5 @@
 -- The turns that pin a position, read it, give it up or raise the floor
-use Rattle.std.proofs.Common.{◌≡◌, ℕ, ◌+◌, ◌<◌, ◌≤◌, ◌==◌, Bool, true, false, not, List, [], ◌∷◌, ◌++◌, length, take, drop, map, min, slice_get, filter, refl, sym, ap, ◌∙◌, subst, Some, None, Ok, Err, Result, arith}
+use Rattle.std.proofs.Common.{◌≡◌, ℕ, ◌+◌, ◌<◌, ◌≤◌, ◌==◌, false, not, List, [], ◌∷◌, ◌++◌, length, take, drop, map, min, slice_get, filter, refl, sym, ap, ◌∙◌, subst, Some, None, Ok, Err, Result, arith}
 use Rattle.std.specs.Prelude.{MatchResult}
 use Rattle.std.specs.List.{Contains, fold}
 use Rattle.std.proofs.lemmas.List.{length-map, take_all}
@@ -24,7 +24,7 @@ use Rattle.office_state.specs.States.{commands_of, opening_of, pins_of}
 use Rattle.office_state.specs.Turning.{pin_turn, pin_at_turn, read_turn, unpin_turn, trim_turn}
 use Rattle.office_state.specs.inside.Pinning.{HasTaken, IsFull}
 use Rattle.office_state.proofs.HistorySteps.{faults_met}
-use Rattle.office_state.proofs.PinSteps.{HeldParts, among_held, live_among, pins_held-fewer, pins_held-more, pins_held-same, positions_held}
+use Rattle.office_state.proofs.PinSteps.{among_held, live_among, pins_held-fewer, pins_held-more, pins_held-same, positions_held}
 use Rattle.office_state.proofs.TurnSteps.{stands_still}
 
 -- the least of a number and others, from the front on
@@ -196,7 +196,7 @@ module _ {D : Type 0} {g : Ghosts D} (old : OfficeState D g) (turns : List Entry
       → StandsFor (after old.pins old.floor) (turns ++ read_turn caller pin first policies ∷ [])
   stands_read caller pin first held policies may among number filled =
       let entry = read_turn caller pin first policies in
-      let own = may.own in
+      let own : IsHeldBy (pins_of old) caller pin = record { held = may.held; among = may.among; number = may.number; holder = may.holder } in
       let live = held_live own.held pin own.among own.number in
       let position : held.position ≡ own.held.position =
       ap (λ (p : ℕ × ℕ). p.0) (same_Some _ _ (sym (held_live held pin among number) ∙ live)) in
@@ -225,5 +225,12 @@ module _ {D : Type 0} {g : Ghosts D} (state : OfficeState D g) (turns : List Ent
 
   pub may_read : (caller pin first : ℕ) (held : ℕ × ℕ) → live_pin turns pin ≡ Some held → IsOwnPin turns caller pin → first ≤ held.1
       → MayRead (pins_of state) caller pin first
-  unfolding held_by_caller
-  may_read caller pin first held live own within = record { own = held_by_caller caller pin held live own; within = within }
+  may_read caller pin first held live own within =
+      let this : Held = record { number = pin; caller = own.0.caller; position = held.0; policies = held.1 } in
+      record {
+        held = this;
+        among = subst (λ pins. Contains pins this) (sym stands.pins) (live_among turns pin own.0 held.0 held.1 own.1 live);
+        number = refl;
+        holder = own.2;
+        within = within;
+      }

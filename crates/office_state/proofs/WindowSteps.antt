@@ -1,10 +1,9 @@
 -- What one more accepted command does to a part of the policies
-use Rattle.std.proofs.Common.{◌≡◌, ℕ, zero, suc, ◌+◌, ◌-◌, ◌<◌, ◌≤◌, get_or, nat_lt, nat_le, nat_eq, min, Bool, true, false, true≢false, cond, ◌⊎◌, inl, inr, List, [], ◌∷◌, ◌++◌, length, take, drop, map, set, slice_get, refl, sym, ap, ◌∙◌, subst, append_assoc, append-nil, None, Some, Option, Ok, Err, Result, IsOk, IsSome, IfSome, Bor, filter_map, eqb-true, eq-eqb, arith}
-use Rattle.std.specs.Prelude.{is_some}
+use Rattle.std.proofs.Common.{◌≡◌, ℕ, zero, suc, ◌+◌, ◌-◌, ◌<◌, ◌≤◌, get_or, nat_lt, nat_le, nat_eq, min, Bool, true, false, true≢false, cond, List, [], ◌∷◌, ◌++◌, length, take, drop, set, slice_get, refl, sym, ap, ◌∙◌, subst, append_assoc, append-nil, None, Some, Option, Ok, IsOk, IsSome, IfSome, Bor, filter_map, eq-eqb, arith}
 use Rattle.std.specs.Option.{option_copied, option_map}
 use Rattle.std.specs.Slice.{IsItemAt}
 use Rattle.std.specs.List.{AllByRecursion, IsDistinct}
-use Rattle.std.proofs.lemmas.List.{length-append, length-drop, length-set, length-take, drop-append-le, drop-set-add, drop-set-lt, drop_all, take-append-drop, take-append-le, take-set-le, take_all, take_min, take_more, take-take, get_or-drop, get_or-take}
+use Rattle.std.proofs.lemmas.List.{length-append, length-drop, length-take, drop-append-le, drop-set-add, drop-set-lt, drop_all, take-append-drop, take-append-le, take-set-le, take_all, take_min, take_more, take-take, get_or-drop, get_or-take}
 use Rattle.std.proofs.lemmas.List.Elements.{filter_map-append}
 use Rattle.std.proofs.lemmas.Bool.{cond-true, cond-false}
 use Rattle.std.proofs.lemmas.Map.Keys.{IsDistinct-head, IsDistinct-tail}
@@ -12,7 +11,6 @@ use Rattle.std.proofs.lemmas.Option.{get_or_from_slice_get, slice_get_read, none
 use Rattle.indexmap.specs.IndexMap.{IndexMap, get, values}
 use Rattle.policy_types.specs.declared.command.Command.{Command}
 use Rattle.policy_types.specs.declared.policy.Policy.{Policy}
-use Rattle.policy_types.specs.declared.refusal.Refusal.{Refusal}
 use Rattle.policy_types.specs.Valid.{id_of}
 use Rattle.policy_machine.specs.Rules.{next}
 use Rattle.policy_machine.specs.Book.{book, policy_of, issue_id, kept, IsAccepted, IsAcceptedAfter}

@@ -25,7 +25,10 @@ pub record IsHeldBy (pins : List Held) (caller pin : ℕ) : Type 0 where
   pub number : held.number ≡ pin
   pub holder : held.caller ≡ caller
 
--- and has policies up to an index
+-- it has policies up to an index too
 pub record MayRead (pins : List Held) (caller pin first : ℕ) : Type 0 where
-  pub own : IsHeldBy pins caller pin
-  pub within : first ≤ own.held.policies
+  pub held : Held
+  pub among : Contains pins held
+  pub number : held.number ≡ pin
+  pub holder : held.caller ≡ caller
+  pub within : first ≤ held.policies

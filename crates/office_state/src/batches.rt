@@ -10,13 +10,11 @@ ghost use Rattle.office_state.specs.declared.held.Held.{Held as AHeld};
 
 use crate::held::Held;
 use crate::state::OfficeState;
+use crate::windows::POLICIES_PER_READ;
 use outside_io::Disk;
 use policy_types::{NoMemory, Policy};
 use std::alloc::Global;
 use std::marker::Model;
-
-/// The most policies that one read gives.
-const POLICIES_PER_READ: usize = 256;
 
 /// Policies in order of issue, with room for 256. Contracts see it as their list.
 #[derive(Drop)]

@@ -29,7 +29,13 @@ impl<D: Disk> OfficeState<D> {
     {
         let number = self.turns;
         self.turns += 1;
-        hold(&mut self.pins, &self.books, number, caller, self.books.count())
+        hold(
+            &mut self.pins,
+            &self.books,
+            number,
+            caller,
+            self.books.count(),
+        )
     }
 
     /// Pins the first `p` accepted commands. It is answered first whether there are so many, then whether they are
@@ -82,7 +88,7 @@ fn hold(
     requires { position ≤ length (commands_in books.now) }
     ensures { MatchResult result
         (λ info. HasTaken pins.old.items pins.new.items (book (take position (commands_in books.now))) number caller
-            position info)
+        position info)
         (λ refusal. IsFull pins.old.items pins.new.items refusal) }
 {
     if pins.is_full() {

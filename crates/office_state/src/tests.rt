@@ -10,7 +10,7 @@ use std::alloc::{AllocError, Global};
 
 type Office = OfficeState<MemoryDisk>;
 
-// No call that is answered takes more turns than there may be.
+// An office is asked only while it answered fewer turns.
 const MOST_TURNS: u64 = 1 << 62;
 
 // 2020-01-01
@@ -459,7 +459,12 @@ fn positions_that_are_pinned(rt: HostRuntime) -> Result<(), AllocError> {
     Ok(())
 }
 
-// Sixteen pins are taken, and the next only once one of them was given up.
+// What may go from one thread to another.
+fn sent<T: Send>(value: T) -> T {
+    value
+}
+
+// Sixteen pins are taken, and the next only once one of them was given up. The office may go to another thread between.
 #[test]
 fn seventeen_pins(rt: HostRuntime) -> Result<(), AllocError> {
     let alloc = rt.alloc();
@@ -469,6 +474,7 @@ fn seventeen_pins(rt: HostRuntime) -> Result<(), AllocError> {
     for number in 0..16 {
         assert!(rt; pins_so(&mut office, Pinning::Now(pinned(number, 0, 0))));
     }
+    let mut office = sent(office);
     let rows = [
         Pinning::Now(Err(PinRefusal::PinsFull)),
         Pinning::At(1, Err(PinRefusal::Ahead(0))),

@@ -10,8 +10,8 @@ use crate::books::Books;
 use policy_machine::decide;
 use policy_types::{Command, Policy};
 
-/// The most policies in a window.
-const WINDOW: usize = 256;
+/// The most policies that one read gives.
+pub(crate) const POLICIES_PER_READ: usize = 256;
 
 impl Books {
     /// Fills the window with the policies after the first `p` commands, in order of issue, from the index `first` on
@@ -37,7 +37,7 @@ impl Books {
         ensures policies { window.new.items ≡ take 256 (drop first (book (commands_in self.now))) }
         ensures room { vec_capacity window.new ≡ vec_capacity window.old }
     {
-        for index in first..self.policies.len().min(first + WINDOW) {
+        for index in first..self.policies.len().min(first + POLICIES_PER_READ) {
             let Some((_, policy)) = self.policies.get_index(index) else {
                 unreachable!()
             };
@@ -72,7 +72,7 @@ fn apply(command: &Command, index: usize, first: usize, window: &mut Vec<Policy>
     ensures policies { window.new.items ≡ changed_by command.now index first window.old.items }
     ensures room { vec_capacity window.new ≡ vec_capacity window.old }
 {
-    if index < first || WINDOW <= index - first {
+    if index < first || POLICIES_PER_READ <= index - first {
         return;
     }
     let at = index - first;

@@ -197,7 +197,7 @@ module _ {D : Type 0} {g : Ghosts D} (state : OfficeState D g) (history seen mad
     (stood : StandsFor state history) (begins : StartsWith history seen) (own : entries_of history caller ≡ made)
     (holds : HasMadePin pin caller seen made) where
   -- the state knows it as the caller's
-  pub held_by : IsHeldBy (pins_of state) caller pin.number
+  abbrev pub held_by : IsHeldBy (pins_of state) caller pin.number
   held_by =
       let is = live (opening_of state) history seen made caller pin stood.history.legal begins own holds in
       record {
@@ -291,15 +291,11 @@ module _ {D : Type 0} (turn : ℕ) (call : Call) (old new : Holding (OfficeOpeni
   in_hands (Ok info) takes = (refl, took info takes)
   in_hands (Err refusal) takes = tt
 
-  pub given : (told : Result PinInfo PinRefusal) (answer : Result Held PinRefusal) → answer ≡ pin_told turn old.caller told
+  pub given : (told : Result PinInfo PinRefusal) (place caller : ℕ) (answer : Result Held PinRefusal) → place ≡ turn
+      → caller ≡ old.caller → answer ≡ pin_told turn caller told
       → TakesTurn turn (record { caller = old.caller; call = call; reply = pin_reply told }) old new
-      → IfOk answer (λ pin. (pin.number ≡ turn) × HoldsPin new pin)
-  given told answer is takes =
-      subst (λ (a : Result Held PinRefusal). IfOk a (λ pin. (pin.number ≡ turn) × HoldsPin new pin)) (sym is) (in_hands told takes)
-
-  pub pinning : (told : Result PinInfo PinRefusal) (answer : Result Held PinRefusal) → answer ≡ pin_told turn old.caller told
-      → TakesTurn turn (record { caller = old.caller; call = call; reply = pin_reply told }) old new
-      → TakesTurn turn (pinning_turn old.caller call answer) old new
-  pinning told answer is takes =
-      subst (λ (reply : Reply). TakesTurn turn (record { caller = old.caller; call = call; reply = reply }) old new)
-      (told_alike turn old.caller told ∙ ap pinned_reply (sym is)) takes
+      → IfOk answer (λ pin. (pin.number ≡ place) × HoldsPin new pin)
+  given told place caller answer same own is takes =
+      subst (λ (n : ℕ). IfOk answer (λ pin. (pin.number ≡ n) × HoldsPin new pin)) (sym same)
+      (subst (λ (a : Result Held PinRefusal). IfOk a (λ pin. (pin.number ≡ turn) × HoldsPin new pin))
+      (sym (is ∙ ap (λ n. pin_told turn n told) own)) (in_hands told takes))

@@ -1,8 +1,10 @@
 -- An office that was opened and closed without a turn leaves the disk alone
-use Rattle.std.proofs.Common.{ℕ, ◌↔◌, ◌≡◌, ◌⊎◌, inl, inr, List, [], ◌∷◌, ◌++◌, refl, sym, ap, ◌∙◌, subst, append_assoc, append-nil, cc}
+use Rattle.std.proofs.Common.{ℕ, ◌↔◌, ◌≡◌, ◌⊎◌, inl, inr, List, [], ◌∷◌, ◌++◌, refl, sym, ap, ◌∙◌, subst, append_assoc, append-nil, Some}
 use Rattle.outside_io.specs.declared.disks.Disk.{Ghosts}
+use Rattle.policy_types.specs.Accounts.{Booking}
 use Rattle.policy_types.specs.declared.command.Command.{Command}
 use Rattle.policy_types.specs.declared.entry.Entry.{Entry}
+use Rattle.policy_machine.specs.Accounts.{ledger_of}
 use Rattle.policy_machine.specs.History.{Opening, opened_on}
 use Rattle.posting_journal.specs.Runs.{LooksOn}
 use Rattle.office_state.specs.declared.faults.StartCause.TheVariants.{NoMemory}
@@ -11,7 +13,12 @@ use Rattle.office_state.specs.Images.{HoldsOnce, IsLeftAlone, IsLeftBy, IsOneMor
 use Rattle.office_state.specs.Journals.{Opens}
 use Rattle.office_state.specs.Opening.{HasNotOpened, HasOpened}
 use Rattle.office_state.specs.Standing.{StandsFor}
-use Rattle.office_state.specs.States.{begun_of, disk_of, opened_of, opening_of}
+use Rattle.office_state.specs.States.{begun_of, commands_of, disk_of, opened_of, opening_of}
+use Rattle.turn_lock.specs.Passes.{Holding, OwnsAll}
+use Rattle.shared_office.specs.Offices.{OfficeOpening}
+use Rattle.shared_office.specs.Starting.{HasClosed}
+use Rattle.shared_office.specs.declared.state.SharedState.{SharedState}
+use Rattle.shared_office.specs.inside.Standing.{SharedStandsFor, opening_on}
 
 -- with no turns none is accepted, and none faulted
 none_held : (held rest more : List Command) → [] ≡ held ++ rest → IsOneMore [] held more → held ++ more ≡ []
@@ -67,4 +74,18 @@ module _ {D : Type 0} (g : Ghosts D) (old : D) (office : OfficeState D g) (opene
     opened = λ honest. subst (λ (opening : Opening). Opens (g.reads old) opening.commands) (sym (ap (λ o. o.opening) same)) (opened.opened honest);
     honesty = subst (λ (d : D). (g.honest old) ↔ (g.honest d)) (sym disk) opened.honesty;
     unwritten = λ honest finished. subst (λ (d : D). LooksOn g old d) (sym disk) (opened.unwritten honest finished);
+  }
+
+module _ {D : Type 0} (g : Ghosts D) (shared : SharedState D g) (pass : Holding (OfficeOpening D)) (stood : SharedStandsFor shared pass.seen)
+    (opened : pass.opening ≡ Some (opening_on shared)) (whole : OwnsAll pass) where
+  -- the state was taken out and closed
+  pub closed : (state : OfficeState D g) (disk : D) (booked : Booking) → state ≡ shared.state
+      → ((history : List Entry) → StandsFor state history → IsLeftBy g (begun_of state) disk (opening_of state) history)
+      → booked ≡ ledger_of (commands_of state) → HasClosed g pass disk booked
+  closed state disk booked same left ledger = record {
+    opening = opening_on shared;
+    opened = opened;
+    whole = whole;
+    disk = subst (λ (s : OfficeState D g). StandsFor s pass.seen → IsLeftBy g (begun_of s) disk (opening_of s) pass.seen) same (left pass.seen) stood.state;
+    ledger = ledger ∙ ap (λ (s : OfficeState D g). ledger_of (commands_of s)) same ∙ ap ledger_of stood.state.kept;
   }

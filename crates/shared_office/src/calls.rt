@@ -31,7 +31,7 @@ pub type Office<D> = Turnstile<SharedState<D>>;
 /// One caller's right to take turns at an office.
 pub type OfficePass<D> = Pass<SharedState<D>>;
 
-/// The calls of an office. Each but `start` and `close` takes one turn of the caller's pass.
+/// The calls of an office that is open. Each but `start` takes one turn of the caller's pass.
 pub trait OfficeCalls<D: Disk> {
     // Which office it is.
     ghost office: { Self → TableId };
@@ -121,13 +121,6 @@ pub trait OfficeCalls<D: Disk> {
         ensures turn { TakesTurn result.turn (trim_turn pass.old.caller result.answer) pass.old pass.new }
         ensures facts { PassFacts IsOfficeHistory pass.new }
         ensures pins { KeepsPins pass.old pass.new };
-
-    /// Gives back the disk, and the ledger. The pass has all shares.
-    fn close(self, pass: OfficePass<D>) -> (D, Ledger)
-        requires ours { pass.turnstile ≡ office self }
-        requires all { pass.shares ≡ all_shares }
-        ensures closed { HasClosed D.Disk pass result.0 (balances result.1) }
-        ensures facts { PassFacts IsOfficeHistory pass };
 }
 
 impl<D: Disk> OfficeCalls<D> for Office<D> {
@@ -159,8 +152,9 @@ impl<D: Disk> OfficeCalls<D> for Office<D> {
         rt: &R,
         pass: &mut OfficePass<D>,
     ) -> Turned<Result<Pin, PinRefusal>> {
+        let caller = pass.caller();
         let Turned { turn, answer } = self.turn(rt, pass, PinNewest);
-        pin_taken(turn, pass.caller(), answer)
+        pin_taken(turn, caller, answer)
     }
 
     fn pin_at<R: Wait>(
@@ -169,8 +163,9 @@ impl<D: Disk> OfficeCalls<D> for Office<D> {
         pass: &mut OfficePass<D>,
         p: u32,
     ) -> Turned<Result<Pin, PinRefusal>> {
+        let caller = pass.caller();
         let Turned { turn, answer } = self.turn(rt, pass, PinPosition { position: p });
-        pin_taken(turn, pass.caller(), answer)
+        pin_taken(turn, caller, answer)
     }
 
     fn read<R: Wait>(
@@ -203,15 +198,16 @@ impl<D: Disk> OfficeCalls<D> for Office<D> {
     fn trim<R: Wait>(&self, rt: &R, pass: &mut OfficePass<D>) -> Turned<u32> {
         self.turn(rt, pass, Trim)
     }
+}
 
-    fn close(self, pass: OfficePass<D>) -> (D, Ledger)
-        requires ours { pass.turnstile ≡ self }
-        requires all { pass.shares ≡ all_shares }
-        ensures closed { HasClosed D.Disk pass result.0 (balances result.1) }
-        ensures facts { PassFacts IsOfficeHistory pass }
-    {
-        Turnstile::close(self, pass).into_state().close()
-    }
+/// Gives back the disk, and the ledger. The pass has all shares.
+pub fn close<D: Disk>(office: Office<D>, pass: OfficePass<D>) -> (D, Ledger)
+    requires ours { pass.turnstile ≡ office }
+    requires all { pass.shares ≡ all_shares }
+    ensures closed { HasClosed D.Disk pass result.0 (balances result.1) }
+    ensures facts { PassFacts IsOfficeHistory pass }
+{
+    office.close(pass).into_state().close()
 }
 
 // The state of the disk's journal, with room for so many postings.

@@ -11,7 +11,7 @@ mod turns;
 mod tests;
 
 pub use batch::Batch;
-pub use calls::{Office, OfficeCalls, OfficePass};
+pub use calls::{Office, OfficeCalls, OfficePass, close};
 pub use office_state::{Answer, StartCause, StartFault};
 pub use pin::Pin;
 pub use state::{OpenedOn, SharedState};

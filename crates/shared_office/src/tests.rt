@@ -1,40 +1,119 @@
-ghost use Rattle.std.specs.Prelude.{◌≡◌, ◌≤◌, IfOk};
-ghost use Rattle.policy_types.specs.Valid.{IsValid};
+// Two callers on one office.
+ghost use Rattle.std.specs.Prelude.{◌≡◌, ◌≤◌};
 ghost use denote.Param.Send.{IsSync};
 
-use crate::{Office, OfficeCalls, OfficePass};
+use crate::{Office, OfficeCalls, OfficePass, close};
+use memory_disk::MemoryDisk;
+use office_state::OfficeState;
 use outside_io::Disk;
-use policy_types::Command;
+use policy_types::{Command, Plan};
+use std::alloc::{AllocError, Global};
 use std::sync::Wait;
 use std::thread::{Threads, join};
 
-fn two<D: Disk + Send, R: Threads + Wait + Sync>(
+// An endowment of 1000.00 for three years at age 0, with an annual premium of 400.00, issued on 2020-01-01.
+fn issue(id: u32) -> Command {
+    Command::Issue {
+        id,
+        day: 18262,
+        plan: Plan::Endowment,
+        age: 0,
+        years: 3,
+        amount: 100_000,
+        premium: 40_000,
+    }
+}
+
+// One caller issues the policies from `first` to `last`.
+fn issues<D: Disk, R: Wait>(
     rt: &R,
     office: &Office<D>,
-    one: OfficePass<D>,
-    other: OfficePass<D>,
-    command: &Command,
-) -> (OfficePass<D>, OfficePass<D>)
-    requires { (one.turnstile ≡ office.now) × (other.turnstile ≡ office.now) × (1 ≤ one.left) × (1 ≤ other.left) × IsValid command.now }
-    ensures { (result.0.turnstile ≡ office.now) × (result.1.turnstile ≡ office.now) }
+    pass: &mut OfficePass<D>,
+    first: u32,
+    last: u32,
+)
+    requires { pass.old.turnstile ≡ office.now }
+    ensures { (pass.new.turnstile ≡ pass.old.turnstile) × (pass.new.shares ≡ pass.old.shares) }
 {
-    join(
+    for id in first..=last {
+        let command = issue(id);
+        if pass.left() == 0 || !command.is_valid() {
+            return;
+        }
+        office.post(rt, pass, &command);
+    }
+}
+
+// Two callers issue a hundred policies each at the same time.
+fn two_hundred<D: Disk + Send, R: Threads + Wait + Sync>(
+    rt: &R,
+    office: &Office<D>,
+    mut pass: OfficePass<D>,
+) -> OfficePass<D>
+    requires { (pass.turnstile ≡ office.now) × (3 ≤ pass.left) × (2 ≤ pass.shares) }
+    ensures { (result.turnstile ≡ pass.turnstile) × (result.shares ≡ pass.shares) }
+{
+    let mut other = office.enter(&mut pass);
+    let (mut pass, other) = join(
         rt,
         move || -> OfficePass<D>
-            requires { IsSync R.row × (one.turnstile ≡ office.now) × (1 ≤ one.left) × IsValid command.now }
-            ensures { result.turnstile ≡ one.turnstile }
+            requires { IsSync R.row × (pass.turnstile ≡ office.now) }
+            ensures { (result.turnstile ≡ pass.turnstile) × (result.shares ≡ pass.shares) }
         {
-            let mut one = one;
-            office.post(rt, &mut one, command);
-            one
+            issues(rt, office, &mut pass, 1, 100);
+            pass
         },
         move || -> OfficePass<D>
-            requires { IsSync R.row × (other.turnstile ≡ office.now) × (1 ≤ other.left) × IsValid command.now }
-            ensures { result.turnstile ≡ other.turnstile }
+            requires { IsSync R.row × (other.turnstile ≡ office.now) }
+            ensures { (result.turnstile ≡ other.turnstile) × (result.shares ≡ other.shares) }
         {
-            let mut other = other;
-            office.post(rt, &mut other, command);
+            issues(rt, office, &mut other, 101, 200);
             other
         },
-    )
+    );
+    office.leave(other, &mut pass);
+    pass
+}
+
+// The numbers of the disk's policies, in order of issue.
+fn numbers(alloc: Global, disk: MemoryDisk) -> Result<Vec<u32>, AllocError> {
+    let mut ids = Vec::new(alloc);
+    if let Ok(state) = OfficeState::open(alloc, disk) {
+        let count = state.count();
+        for index in 0..state.policies(count) {
+            ids.push(state.policy(index, count).id)?;
+        }
+    }
+    Ok(ids)
+}
+
+// Whether these are those from `first` to `last`, in order, among others.
+fn stand_in_order(ids: &[u32], first: u32, last: u32) -> bool {
+    let mut next = first;
+    for id in ids {
+        if first <= *id && *id <= last {
+            if *id != next {
+                return false;
+            }
+            next = next.saturating_add(1);
+        }
+    }
+    next == last.saturating_add(1)
+}
+
+#[test]
+fn each_callers_postings_in_its_order(rt: HostRuntime) -> Result<(), AllocError> {
+    let alloc = rt.alloc();
+    let empty = MemoryDisk::new(alloc, Vec::new(alloc), Vec::new(alloc));
+    let Ok((office, pass)) = Office::start(alloc, empty, 200) else {
+        panic!(rt; "no office");
+    };
+    let pass = two_hundred(&rt, &office, pass);
+    let (disk, ledger) = close(office, pass);
+    assert_eq!(rt; ledger.cash, 0);
+    let ids = numbers(alloc, disk)?;
+    assert_eq!(rt; ids.len(), 200);
+    assert!(rt; stand_in_order(ids.as_slice(), 1, 100));
+    assert!(rt; stand_in_order(ids.as_slice(), 101, 200));
+    Ok(())
 }

@@ -8,7 +8,7 @@ use Rattle.office_state.proofs.windows.apply.Goals as goal
 pub returns-then-at-len-clause-policies : goal.returns-then-at-len-clause-policies
 returns-then-at-len-clause-policies c =
     let from : c.args.first ≤ c.args.index = omega (arith, c.if-index-first.false) in
-    let short : c.args.index - c.args.first < 256 = omega (arith, c.if-index-first-ge-WINDOW.false) in
+    let short : c.args.index - c.args.first < 256 = omega (arith, c.if-index-first-ge-POLICIES_PER_READ.false) in
     let decided : next (slice_get c.args.window.now.items (c.args.index - c.args.first)) c.args.command.now ≡ Ok c.in-Ok.policy =
     ap (λ found. next found c.args.command.now) (sym (item_copied c.args.window.now.items (c.args.index - c.args.first) c.get.result
     (subst (λ items. IsItemAt items (c.args.index - c.args.first) c.get.result) c.deref.ensures.value c.get.ensures.lookup)))
@@ -20,7 +20,7 @@ returns-then-at-len-clause-policies c =
 pub returns-else-at-len-clause-policies : goal.returns-else-at-len-clause-policies
 returns-else-at-len-clause-policies c =
     let from : c.args.first ≤ c.args.index = omega (arith, c.if-index-first.false) in
-    let short : c.args.index - c.args.first < 256 = omega (arith, c.if-index-first-ge-WINDOW.false) in
+    let short : c.args.index - c.args.first < 256 = omega (arith, c.if-index-first-ge-POLICIES_PER_READ.false) in
     let decided : next (slice_get c.args.window.now.items (c.args.index - c.args.first)) c.args.command.now ≡ Ok c.in-Ok.policy =
     ap (λ found. next found c.args.command.now) (sym (item_copied c.args.window.now.items (c.args.index - c.args.first) c.get.result
     (subst (λ items. IsItemAt items (c.args.index - c.args.first) c.get.result) c.deref.ensures.value c.get.ensures.lookup)))

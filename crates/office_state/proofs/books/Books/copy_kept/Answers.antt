@@ -29,7 +29,14 @@ returns-clause-policies c =
     let so_far = c.loop-index.invariant in
     let books = c.args.self.now in
     let all : c.loop-index.index - c.args.first ≡ min (length (values books.policies)) (c.args.first + 256) - c.args.first =
-    omega (arith, so_far.within, so_far.from, c.loop-index-test.false, c.min-index-end.ensures, c.len.ensures.len,
-    length-map books.policies.entries (λ (entry : ℕ × Policy). entry.1)) in
+    omega (
+      arith,
+      so_far.within,
+      so_far.from,
+      c.loop-index-test.false,
+      c.min-index-end.ensures,
+      c.len.ensures.len,
+      length-map books.policies.entries (λ (entry : ℕ × Policy). entry.1),
+    ) in
     so_far.copied ∙ copied_all (values books.policies) c.args.first (c.loop-index.index - c.args.first) all
     ∙ ap (λ these. take 256 (drop c.args.first these)) (values-book books.policies books.ledger (commands_in books) books.kept)
