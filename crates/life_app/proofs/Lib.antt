@@ -4,6 +4,8 @@ pub mod FaultSteps
 pub mod TextSteps
 pub mod MergeSteps
 pub mod CrashLaws
+pub mod LaneSteps
+pub mod OfficeSteps
 pub mod RunSteps
 pub mod LookSteps
 pub mod StateSteps

@@ -135,97 +135,97 @@ has_a_fault caller (PostLine command ∷ lines) (NoMemory ∷ answers) right eac
 has_a_fault caller (Value on at workers ∷ lines) (answer ∷ answers) right each some = absurd right.0
 has_a_fault caller (Trim ∷ lines) (answer ∷ answers) right each some = absurd right.0
 
--- the callers of the lanes: clerk 1 alone, where there is a line
-abbrev pub callers_of : List Line → List ℕ
-callers_of [] = []
-callers_of (line ∷ lines) = 1 ∷ []
+-- the callers of the lanes: this one alone, where there is a line
+abbrev pub callers_of : ℕ → List Line → List ℕ
+callers_of caller [] = []
+callers_of caller (line ∷ lines) = caller ∷ []
 
-pub is_merge : (lines : List Line) (answers : List Answer) → AllByRecursion IsScriptLine lines
-    → length answers ≡ length lines → IsMerge (turns_made 1 lines answers) (lane_of 1 lines) (callers_of lines) []
+pub is_merge : (caller : ℕ) (lines : List Line) (answers : List Answer) → AllByRecursion IsScriptLine lines
+    → length answers ≡ length lines → IsMerge (turns_made caller lines answers) (lane_of 1 lines) (callers_of caller lines) []
 unfolding IsDistinct
-is_merge [] answers right each = record { distinct = tt; theirs = tt; answers = tt }
-is_merge (line ∷ lines) answers right each =
-    let history = turns_made 1 (line ∷ lines) answers in
-    let theirs = are_theirs 1 (line ∷ lines) answers in
+is_merge caller [] answers right each = record { distinct = tt; theirs = tt; answers = tt }
+is_merge caller (line ∷ lines) answers right each =
+    let history = turns_made caller (line ∷ lines) answers in
+    let theirs = are_theirs caller (line ∷ lines) answers in
     record {
       distinct = (tt, tt);
-      theirs = contained 1 history theirs;
-      answers = (rw (all_turns 1 0 history theirs) (answered_lines 1 0 (line ∷ lines) answers right each), tt);
+      theirs = contained caller history theirs;
+      answers = (rw (all_turns caller 0 history theirs) (answered_lines caller 0 (line ∷ lines) answers right each), tt);
     }
 
 -- the lines beside their answers, one turn each, from a place on
-abbrev pub answered_from : ℕ → List Line → List Answer → List AnsweredLine
-answered_from n (line ∷ lines) (answer ∷ answers) =
-    (record { clerk = 1; line = line; first = (n, line_turn 1 line answer); rest = [] }) ∷ answered_from (n + 1) lines answers
-answered_from n _ _ = []
+abbrev pub answered_from : ℕ → ℕ → List Line → List Answer → List AnsweredLine
+answered_from caller n (line ∷ lines) (answer ∷ answers) =
+    (record { clerk = 1; line = line; first = (n, line_turn caller line answer); rest = [] }) ∷ answered_from caller (n + 1) lines answers
+answered_from caller n _ _ = []
 
-are_rising : (n : ℕ) (lines : List Line) (answers : List Answer)
-    → AreRising (map (λ (one : AnsweredLine). one.first.0) (answered_from n lines answers))
-are_rising n [] answers = tt
-are_rising n (line ∷ lines) [] = tt
-are_rising n (line ∷ []) (answer ∷ answers) = tt
-are_rising n (line ∷ other ∷ lines) (answer ∷ []) = tt
-are_rising n (line ∷ other ∷ lines) (answer ∷ next ∷ answers) =
-    (omega arith, are_rising (n + 1) (other ∷ lines) (next ∷ answers))
+are_rising : (caller n : ℕ) (lines : List Line) (answers : List Answer)
+    → AreRising (map (λ (one : AnsweredLine). one.first.0) (answered_from caller n lines answers))
+are_rising caller n [] answers = tt
+are_rising caller n (line ∷ lines) [] = tt
+are_rising caller n (line ∷ []) (answer ∷ answers) = tt
+are_rising caller n (line ∷ other ∷ lines) (answer ∷ []) = tt
+are_rising caller n (line ∷ other ∷ lines) (answer ∷ next ∷ answers) =
+    (omega arith, are_rising caller (n + 1) (other ∷ lines) (next ∷ answers))
 
-are_clerks : (n : ℕ) (lines : List Line) (answers : List Answer)
-    → AllByRecursion (λ (one : AnsweredLine). Contains (1 ∷ []) one.clerk) (answered_from n lines answers)
-are_clerks n [] answers = tt
-are_clerks n (line ∷ lines) [] = tt
-are_clerks n (line ∷ lines) (answer ∷ answers) = ((0, lit< tt, refl), are_clerks (n + 1) lines answers)
+are_clerks : (caller n : ℕ) (lines : List Line) (answers : List Answer)
+    → AllByRecursion (λ (one : AnsweredLine). Contains (1 ∷ []) one.clerk) (answered_from caller n lines answers)
+are_clerks caller n [] answers = tt
+are_clerks caller n (line ∷ lines) [] = tt
+are_clerks caller n (line ∷ lines) (answer ∷ answers) = ((0, lit< tt, refl), are_clerks caller (n + 1) lines answers)
 
-are_turns : (n : ℕ) (lines : List Line) (answers : List Answer) → AllByRecursion IsScriptLine lines
-    → AllByRecursion (λ (one : AnsweredLine). AnswersLine [] one.line (turns_in one)) (answered_from n lines answers)
-are_turns n [] answers right = tt
-are_turns n (line ∷ lines) [] right = tt
-are_turns n (PostLine command ∷ lines) (answer ∷ answers) right = (refl, are_turns (n + 1) lines answers right.1)
-are_turns n (Value on at workers ∷ lines) (answer ∷ answers) right = absurd right.0
-are_turns n (Trim ∷ lines) (answer ∷ answers) right = absurd right.0
+are_turns : (caller n : ℕ) (lines : List Line) (answers : List Answer) → AllByRecursion IsScriptLine lines
+    → AllByRecursion (λ (one : AnsweredLine). AnswersLine [] one.line (turns_in one)) (answered_from caller n lines answers)
+are_turns caller n [] answers right = tt
+are_turns caller n (line ∷ lines) [] right = tt
+are_turns caller n (PostLine command ∷ lines) (answer ∷ answers) right = (refl, are_turns caller (n + 1) lines answers right.1)
+are_turns caller n (Value on at workers ∷ lines) (answer ∷ answers) right = absurd right.0
+are_turns caller n (Trim ∷ lines) (answer ∷ answers) right = absurd right.0
 
 -- all of them are clerk 1's
-all_by : (n : ℕ) (lines : List Line) (answers : List Answer)
-    → lines_by 1 (answered_from n lines answers) ≡ answered_from n lines answers
-all_by n [] answers = refl
-all_by n (line ∷ lines) [] = refl
-all_by n (line ∷ lines) (answer ∷ answers) = ap (λ later. (record { clerk = 1; line = line; first = (n, line_turn 1 line answer); rest = [] }) ∷ later) (all_by (n + 1) lines answers)
+all_by : (caller n : ℕ) (lines : List Line) (answers : List Answer)
+    → lines_by 1 (answered_from caller n lines answers) ≡ answered_from caller n lines answers
+all_by caller n [] answers = refl
+all_by caller n (line ∷ lines) [] = refl
+all_by caller n (line ∷ lines) (answer ∷ answers) = ap (λ later. (record { clerk = 1; line = line; first = (n, line_turn caller line answer); rest = [] }) ∷ later) (all_by caller (n + 1) lines answers)
 
-all_lines : (n : ℕ) (lines : List Line) (answers : List Answer) → length answers ≡ length lines
-    → map (λ (one : AnsweredLine). one.line) (answered_from n lines answers) ≡ lines
-all_lines n [] answers each = refl
-all_lines n (line ∷ lines) [] each = absurd (omega arith)
-all_lines n (line ∷ lines) (answer ∷ answers) each = ap (λ later. line ∷ later) (all_lines (n + 1) lines answers (omega (arith, each)))
+all_lines : (caller n : ℕ) (lines : List Line) (answers : List Answer) → length answers ≡ length lines
+    → map (λ (one : AnsweredLine). one.line) (answered_from caller n lines answers) ≡ lines
+all_lines caller n [] answers each = refl
+all_lines caller n (line ∷ lines) [] each = absurd (omega arith)
+all_lines caller n (line ∷ lines) (answer ∷ answers) each = ap (λ later. line ∷ later) (all_lines caller (n + 1) lines answers (omega (arith, each)))
 
-all_theirs : (n : ℕ) (lines : List Line) (answers : List Answer)
-    → flat_map turns_in (answered_from n lines answers) ≡ enumerate_from n (turns_made 1 lines answers)
-all_theirs n [] answers = refl
-all_theirs n (line ∷ lines) [] = refl
-all_theirs n (line ∷ lines) (answer ∷ answers) = ap (λ later. (n, line_turn 1 line answer) ∷ later) (all_theirs (n + 1) lines answers)
+all_theirs : (caller n : ℕ) (lines : List Line) (answers : List Answer)
+    → flat_map turns_in (answered_from caller n lines answers) ≡ enumerate_from n (turns_made caller lines answers)
+all_theirs caller n [] answers = refl
+all_theirs caller n (line ∷ lines) [] = refl
+all_theirs caller n (line ∷ lines) (answer ∷ answers) = ap (λ later. (n, line_turn caller line answer) ∷ later) (all_theirs caller (n + 1) lines answers)
 
 -- they are the lines of the run
-pub are_lines_of : (lines : List Line) (answers : List Answer) → AllByRecursion IsScriptLine lines
+pub are_lines_of : (caller : ℕ) (lines : List Line) (answers : List Answer) → AllByRecursion IsScriptLine lines
     → length answers ≡ length lines
-    → AreLinesOf (answered_from 0 lines answers) (turns_made 1 lines answers) (lane_of 1 lines) (callers_of lines) []
-are_lines_of [] answers right each = record { rising = tt; clerks = tt; turns = tt; each = tt }
-are_lines_of (line ∷ lines) answers right each =
-    let history = turns_made 1 (line ∷ lines) answers in
+    → AreLinesOf (answered_from caller 0 lines answers) (turns_made caller lines answers) (lane_of 1 lines) (callers_of caller lines) []
+are_lines_of caller [] answers right each = record { rising = tt; clerks = tt; turns = tt; each = tt }
+are_lines_of caller (line ∷ lines) answers right each =
+    let history = turns_made caller (line ∷ lines) answers in
     record {
-      rising = are_rising 0 (line ∷ lines) answers;
-      clerks = are_clerks 0 (line ∷ lines) answers;
-      turns = are_turns 0 (line ∷ lines) answers right;
+      rising = are_rising caller 0 (line ∷ lines) answers;
+      clerks = are_clerks caller 0 (line ∷ lines) answers;
+      turns = are_turns caller 0 (line ∷ lines) answers right;
       each = (
-        ap (map (λ (one : AnsweredLine). one.line)) (all_by 0 (line ∷ lines) answers) ∙ all_lines 0 (line ∷ lines) answers each,
-        ap (flat_map turns_in) (all_by 0 (line ∷ lines) answers) ∙ all_theirs 0 (line ∷ lines) answers
-            ∙ sym (all_turns 1 0 history (are_theirs 1 (line ∷ lines) answers)),
+        ap (map (λ (one : AnsweredLine). one.line)) (all_by caller 0 (line ∷ lines) answers) ∙ all_lines caller 0 (line ∷ lines) answers each,
+        ap (flat_map turns_in) (all_by caller 0 (line ∷ lines) answers) ∙ all_theirs caller 0 (line ∷ lines) answers
+            ∙ sym (all_turns caller 0 history (are_theirs caller (line ∷ lines) answers)),
         tt,
       );
     }
 
 -- and the transcript is their text
-pub text_of_lines : (n : ℕ) (lines : List Line) (answers : List Answer) → AllByRecursion IsScriptLine lines
-    → transcript_text (answered_from n lines answers) ≡ lines_text 1 lines answers
-text_of_lines n [] answers right = refl
-text_of_lines n (line ∷ lines) [] right = refl
-text_of_lines n (PostLine command ∷ lines) (answer ∷ answers) right =
-    ap (λ later. line_text 1 (PostLine command) (reply_of answer) ++ later) (text_of_lines (n + 1) lines answers right.1)
-text_of_lines n (Value on at workers ∷ lines) (answer ∷ answers) right = absurd right.0
-text_of_lines n (Trim ∷ lines) (answer ∷ answers) right = absurd right.0
+pub text_of_lines : (caller n : ℕ) (lines : List Line) (answers : List Answer) → AllByRecursion IsScriptLine lines
+    → transcript_text (answered_from caller n lines answers) ≡ lines_text 1 lines answers
+text_of_lines caller n [] answers right = refl
+text_of_lines caller n (line ∷ lines) [] right = refl
+text_of_lines caller n (PostLine command ∷ lines) (answer ∷ answers) right =
+    ap (λ later. line_text 1 (PostLine command) (reply_of answer) ++ later) (text_of_lines caller (n + 1) lines answers right.1)
+text_of_lines caller n (Value on at workers ∷ lines) (answer ∷ answers) right = absurd right.0
+text_of_lines caller n (Trim ∷ lines) (answer ∷ answers) right = absurd right.0

@@ -23,7 +23,10 @@ use Rattle.office_state.specs.declared.state.OfficeState.{OfficeState}
 use Rattle.office_state.specs.Images.{HoldsOnce, IsLeftAlone, IsLeftBy}
 use Rattle.office_state.specs.Journals.{Opens}
 use Rattle.office_state.specs.Opening.{HasNotOpened, HasOpened}
-use Rattle.office_state.specs.States.{Opened, begun_of, disk_of, opened_of, opening_of}
+use Rattle.office_state.specs.States.{begun_of, disk_of, opening_of}
+use Rattle.shared_office.specs.Offices.{OfficeOpening}
+use Rattle.shared_office.specs.Starting.{HasStarted}
+use Rattle.turn_lock.specs.Passes.{Holding}
 use Rattle.life_app.specs.declared.ending.Ending.{Ending}
 use Rattle.life_app.specs.declared.ending.Ending.TheVariants.{Done, Usage, BadScript, BadJournal, ReadFault as InputFault, WriteFault, DiskFault, NoMemory}
 use Rattle.life_app.specs.declared.intake.Unread.{Unread}
@@ -32,10 +35,11 @@ use Rattle.life_app.specs.Obeys.{EndsRun}
 use Rattle.life_app.specs.Outcome.{AreTried, AreAnswered, EndsScript, HaveAFault, IsRunOf}
 use Rattle.life_app.specs.Script.{EndsUnread, IsReadAs, IsRefused, most_script_bytes}
 use Rattle.life_app.specs.Writing.{Stream, WroteAll, WroteNothing}
-use Rattle.life_app.specs.inside.Parts.{AnswersAll, AreLanes, EndsLines, EndsOffice, SaysUnopened, SaysUnread, lines_text}
+use Rattle.life_app.specs.inside.Parts.{AnswersAll, AreLanes, EndsLines, SaysUnopened, SaysUnread, lines_text}
 use Rattle.life_app.specs.inside.Turns.{IsTold, is_faulted, turns_made}
 use Rattle.life_app.proofs.CrashLaws.{opens_as_begun}
 use Rattle.life_app.proofs.FaultSteps.{rose_in}
+use Rattle.life_app.proofs.LaneSteps.{few_lines}
 use Rattle.life_app.proofs.MergeSteps.{all_answered, all_tried, answered_from, are_lines_of, callers_of, has_a_fault, is_merge, text_of_lines}
 
 -- an output that isn't touched had nothing written to it
@@ -56,12 +60,17 @@ ends_as_answered lines answers output ending is wrote =
     subst (EndsLines lines answers output) (sym is) (as_answered lines answers output (list_any is_faulted answers) refl wrote)
 
 -- the lanes of a script that was read, and the lines that are shown of them
-pub are_lanes : (lanes : List Lane) (shown : List Line) → (bytes : List ℕ) × Reads bytes lanes
+pub are_lanes : (lanes : List Lane) (shown : List Line)
+    → (bytes : List ℕ) × Reads bytes lanes × (length bytes ≤ most_script_bytes)
     → ((lines : List Line) → lanes ≡ lane_of 1 lines → shown ≡ lines) → AreLanes lanes shown
 are_lanes lanes shown read same =
     let one = one_lane read.0 lanes read.1 in
     let shown_is : shown ≡ one.0 = same one.0 one.1 in
-    record { one = rw shown_is one.1; right = rw shown_is one.2 }
+    record {
+      one = rw shown_is one.1;
+      right = rw shown_is one.2;
+      few = rw shown_is (few_lines read.0 lanes one.0 read.1 one.1 read.2);
+    }
 
 -- an office that was opened and made no turn leaves the disk alone
 pub left_alone : {D : Type 0} (g : Ghosts D) (old new : D) (commands : List Command) → (g.honest old → Opens (g.reads old) commands)
@@ -87,20 +96,20 @@ module _ {D : Type 0} (g : Ghosts D) (old disk : D) (lanes : List Lane) (lines :
   -- the answers make a run, of which this was written
   run_of : (ending : Ending) (Wrote : List ℕ → Type 0) (Replies : List Entry → Type 0)
       (ran : AnswersAll g old disk (opened_on commands (g.faults old)) lines output ending)
-      → Wrote (lines_text 1 lines ran.answers) → Replies (turns_made 1 lines ran.answers) → IsRunOf g old disk lanes Wrote Replies
+      → Wrote (lines_text 1 lines ran.answers) → Replies (turns_made ran.caller lines ran.answers) → IsRunOf g old disk lanes Wrote Replies
   run_of ending Wrote Replies ran wrote replies =
       subst (λ (ls : List Lane). IsRunOf g old disk ls Wrote Replies) (sym are.one)
       (record {
         commands = commands;
-        callers = callers_of lines;
+        callers = callers_of ran.caller lines;
         dry = [];
-        history = turns_made 1 lines ran.answers;
-        answered = answered_from 0 lines ran.answers;
+        history = turns_made ran.caller lines ran.answers;
+        answered = answered_from ran.caller 0 lines ran.answers;
         opened = opened;
-        merge = is_merge lines ran.answers right ran.each;
+        merge = is_merge ran.caller lines ran.answers right ran.each;
         legal = ran.legal;
-        lines = are_lines_of lines ran.answers right ran.each;
-        wrote = subst Wrote (sym (text_of_lines 0 lines ran.answers right)) wrote;
+        lines = are_lines_of ran.caller lines ran.answers right ran.each;
+        wrote = subst Wrote (sym (text_of_lines ran.caller 0 lines ran.answers right)) wrote;
         replies = replies;
         disk = ran.left;
       })
@@ -110,22 +119,22 @@ module _ {D : Type 0} (g : Ghosts D) (old disk : D) (lanes : List Lane) (lines :
       → EndsScript g old disk lanes output ending
   ends_answered Done ran =
       run_of Done (WroteAll output) AreAnswered ran ran.ends.1
-      (all_answered 1 lines ran.answers right (recursion_from_All IsTold ran.answers ran.told) ran.ends.0)
+      (all_answered ran.caller lines ran.answers right (recursion_from_All IsTold ran.answers ran.told) ran.ends.0)
   ends_answered WriteFault ran = (
     ran.ends.0,
     run_of WriteFault (AppendsPart output.before output.after) AreTried ran ran.ends.1
-        (all_tried 1 lines ran.answers right (recursion_from_All IsTold ran.answers ran.told)),
+        (all_tried ran.caller lines ran.answers right (recursion_from_All IsTold ran.answers ran.told)),
   )
   ends_answered DiskFault ran =
-      let fault = has_a_fault 1 lines ran.answers right ran.each ran.ends.0 in
-      let tried = all_tried 1 lines ran.answers right (recursion_from_All IsTold ran.answers ran.told) in
-      let rose = rose_in (opened_on commands (g.faults old)) (turns_made 1 lines ran.answers) fault.0 ran.legal.due fault.1 in (
+      let fault = has_a_fault ran.caller lines ran.answers right ran.each ran.ends.0 in
+      let tried = all_tried ran.caller lines ran.answers right (recursion_from_All IsTold ran.answers ran.told) in
+      let rose = rose_in (opened_on commands (g.faults old)) (turns_made ran.caller lines ran.answers) fault.0 ran.legal.due fault.1 in (
         subst (Rose (g.faults old)) (sym ran.left.faults) rose,
         inr (run_of DiskFault (WroteAll output) HaveAFault ran ran.ends.1 (tried, fault)),
       )
   ends_answered NoMemory ran =
       inr (run_of NoMemory (WroteNothing output) AreTried ran ran.ends
-      (all_tried 1 lines ran.answers right (recursion_from_All IsTold ran.answers ran.told)))
+      (all_tried ran.caller lines ran.answers right (recursion_from_All IsTold ran.answers ran.told)))
   ends_answered _ ran = absurd ran.ends
 
 -- an office that was opened and closed
@@ -141,31 +150,17 @@ opened_alone g old disk office opened same left =
     (λ honest finished. subst (λ d. LooksOn g old d) (sym same) (opened.unwritten honest finished))
     (opened_left g old disk office opened left)
 
--- it ends its script's run
-pub ends_office : {D : Type 0} (g : Ghosts D) (old disk : D) (office : OfficeState D g) (lanes : List Lane) (lines : List Line)
-    (output : Stream) (ending : Ending) → HasOpened old office → AreLanes lanes lines
-    → EndsOffice g office disk lines output ending → EndsScript g old disk lanes output ending
-ends_office {D = D} g old disk office lanes lines output ending opened are ends =
-    let commands = (opening_of office).commands in
-    elim ends [
-      | inl ran ↦ ends_answered g old disk lanes lines output commands opened.opened are ending
-          (subst (λ (begun : D). AnswersAll g begun disk (opened_on commands (g.faults begun)) lines output ending) opened.begun ran)
-      | inr none ↦
-          let alone = opened_alone g old disk office opened none.2 none.3 in
-          subst (EndsScript g old disk lanes output) (sym none.0)
-          (inl (none.1, inr (alone, (opened_left g old disk office opened none.3).faults)))
-    ]
-
--- making room changes nothing of what an office was opened on
-pub reserved_left : {D : Type 0} (g : Ghosts D) (old new : OfficeState D g) (disk : D) (turns : List Entry) → opened_of new ≡ opened_of old
-    → IsLeftBy g (begun_of new) disk (opening_of new) turns → IsLeftBy g (begun_of old) disk (opening_of old) turns
-reserved_left {D = D} g old new disk turns same left = subst (λ (o : Opened D). IsLeftBy g o.begun disk o.opening turns) same left
-
-pub reserved_answers : {D : Type 0} (g : Ghosts D) (old new : OfficeState D g) (disk : D) (lines : List Line) (output : Stream) (ending : Ending)
-    → opened_of new ≡ opened_of old → AnswersAll g (begun_of new) disk (opening_of new) lines output ending
-    → AnswersAll g (begun_of old) disk (opening_of old) lines output ending
-reserved_answers {D = D} g old new disk lines output ending same ran =
-    subst (λ (o : Opened D). AnswersAll g o.begun disk o.opening lines output ending) same ran
+-- the lines that an office answered end their script's run
+pub ends_office : {D : Type 0} (g : Ghosts D) (old disk : D) (postings : ℕ) (pass : Holding (OfficeOpening D)) (lanes : List Lane) (lines : List Line)
+    (output : Stream) (ending : Ending) → HasStarted g old postings pass → AreLanes lanes lines
+    → ((opened : OfficeOpening D) → pass.opening ≡ Some opened
+    → AnswersAll g opened.begun disk opened.opening lines output ending)
+    → EndsScript g old disk lanes output ending
+ends_office g old disk postings pass lanes lines output ending started are ends =
+    let commands = started.opening.commands in
+    ends_answered g old disk lanes lines output commands started.opened are ending
+    (subst (λ (faults : ℕ). AnswersAll g old disk (opened_on commands faults) lines output ending) started.faults
+    (ends (record { opening = started.opening; begun = old; room = postings }) started.first.opened))
 
 refused_long : (told : Option (List ℕ)) (output : Stream) → IfSome told (λ t. most_script_bytes < length t)
     → SaysUnread TooLong output BadScript → IfSome told (λ t. IsRefused t output)

@@ -3,6 +3,8 @@
 use crate::tests::{Finished, run_on};
 use memory_disk::{DiskCall, MemoryDisk};
 use std::alloc::{AllocError, Global};
+use std::sync::Wait;
+use std::thread::Threads;
 
 const FIRST: &str = "1,issue,1,2020-01-01,endowment,0,3,1000.00,400.00\n";
 
@@ -75,11 +77,11 @@ fn each_failing_call_is_answered(rt: HostRuntime) -> Result<(), AllocError> {
             Vec::new(alloc),
             Vec::from_slice(alloc, &[case.call])?,
         );
-        let ran = run_on(alloc, &[FIRST, SECOND], disk)?;
+        let ran = run_on(&rt, alloc, &[FIRST, SECOND], disk)?;
         assert!(rt; wrote(&ran, 8, case.written));
         let left = Vec::from_slice(alloc, ran.disk.bytes())?;
         let again = MemoryDisk::new(alloc, left, Vec::new(alloc));
-        assert!(rt; wrote(&run_on(alloc, &[FIRST, SECOND], again)?, 0, case.then));
+        assert!(rt; wrote(&run_on(&rt, alloc, &[FIRST, SECOND], again)?, 0, case.then));
     }
     Ok(())
 }
@@ -89,11 +91,11 @@ fn each_failing_call_is_answered(rt: HostRuntime) -> Result<(), AllocError> {
 fn each_failing_call_of_a_reopening_is_answered(rt: HostRuntime) -> Result<(), AllocError> {
     let alloc = rt.alloc();
     let empty = MemoryDisk::new(alloc, Vec::new(alloc), Vec::new(alloc));
-    let first = run_on(alloc, &[FIRST], empty)?;
+    let first = run_on(&rt, alloc, &[FIRST], empty)?;
     for call in [1, 2, 3, 4, 5, 6] {
         let file = Vec::from_slice(alloc, first.disk.bytes())?;
         let disk = MemoryDisk::new(alloc, file, Vec::from_slice(alloc, &[call])?);
-        let ran = run_on(alloc, &[SECOND], disk)?;
+        let ran = run_on(&rt, alloc, &[SECOND], disk)?;
         assert!(rt; wrote(&ran, 8, "diskfault\n"));
         assert!(rt; ran.disk.bytes() == first.disk.bytes());
     }
@@ -110,13 +112,13 @@ fn a_run_goes_on_after_a_fault(rt: HostRuntime) -> Result<(), AllocError> {
         "1,issue,5,2020-01-01,endowment,0,3,1000.00,400.00\n1,issue,6,2020-01-01,endowment,0,3,1000.00,400.00\n",
     ];
     let disk = MemoryDisk::new(alloc, Vec::new(alloc), Vec::from_slice(alloc, &[29])?);
-    let ran = run_on(alloc, &script, disk)?;
+    let ran = run_on(&rt, alloc, &script, disk)?;
     let written =
         "1,issue,1,accepted,1\n1,issue,2,accepted,2\n1,issue,3,accepted,3\n1,issue,4,accepted,4\n\
         1,issue,5,fault\n1,issue,6,accepted,5\n";
     assert!(rt; wrote(&ran, 8, written));
     let left = Vec::from_slice(alloc, ran.disk.bytes())?;
-    let again = run_on(
+    let again = run_on( &rt,
         alloc,
         &script,
         MemoryDisk::new(alloc, left, Vec::new(alloc)),
@@ -133,7 +135,7 @@ fn a_run_goes_on_after_a_fault(rt: HostRuntime) -> Result<(), AllocError> {
 fn each_crash_leaves_what_was_acknowledged(rt: HostRuntime) -> Result<(), AllocError> {
     let alloc = rt.alloc();
     let texts = [BOTH_ACCEPTED, FIRST_TAKEN, BOTH_TAKEN];
-    let ran = run_on(
+    let ran = run_on( &rt,
         alloc,
         &[FIRST, SECOND],
         MemoryDisk::new(alloc, Vec::new(alloc), Vec::new(alloc)),
@@ -143,7 +145,7 @@ fn each_crash_leaves_what_was_acknowledged(rt: HostRuntime) -> Result<(), AllocE
         let acknowledged = moment.saturating_sub(CREATION_CALLS) / POSTING_CALLS;
         for keep in [0, 1, 16, 17, 32, 64, 65] {
             let image = ran.disk.image(alloc, moment, keep)?;
-            let again = run_on(
+            let again = run_on( &rt,
                 alloc,
                 &[FIRST, SECOND],
                 MemoryDisk::new(alloc, image, Vec::new(alloc)),
@@ -198,7 +200,8 @@ fn write(at: u64, many: usize) -> Wanted {
 }
 
 // A file, the calls that are to fail, a script, and all calls of its run.
-fn calls_are(
+fn calls_are<R: Threads + Wait + Sync>(
+    rt: &R,
     alloc: Global,
     file: &[u8],
     failing: &[u64],
@@ -207,7 +210,7 @@ fn calls_are(
 ) -> Result<bool, AllocError> {
     let failing = Vec::from_slice(alloc, failing)?;
     let disk = MemoryDisk::new(alloc, Vec::from_slice(alloc, file)?, failing);
-    let ran = run_on(alloc, script, disk)?;
+    let ran = run_on(rt, alloc, script, disk)?;
     Ok(are_calls(ran.disk.calls(), wanted))
 }
 
@@ -230,7 +233,7 @@ fn no_call_is_made_beyond_those_of_the_journal(rt: HostRuntime) -> Result<(), Al
         write(17, 1),
         SYNC,
     ];
-    assert!(rt; calls_are(alloc, &[], &[], &[FIRST, FIRST], &creation)?);
+    assert!(rt; calls_are(&rt, alloc, &[], &[], &[FIRST, FIRST], &creation)?);
     // A creation that was begun: its first step isn't made again.
     let begun = [
         SYNC,
@@ -241,10 +244,10 @@ fn no_call_is_made_beyond_those_of_the_journal(rt: HostRuntime) -> Result<(), Al
         write(0, 1),
         SYNC,
     ];
-    assert!(rt; calls_are(alloc, &[0; 10], &[], &[], &begun)?);
+    assert!(rt; calls_are(&rt, alloc, &[0; 10], &[], &[], &begun)?);
     // A journal of one record, and a posting behind it.
     let empty = MemoryDisk::new(alloc, Vec::new(alloc), Vec::new(alloc));
-    let one = run_on(alloc, &[FIRST], empty)?;
+    let one = run_on(&rt, alloc, &[FIRST], empty)?;
     let reopening = [
         SYNC,
         LENGTH,
@@ -257,7 +260,7 @@ fn no_call_is_made_beyond_those_of_the_journal(rt: HostRuntime) -> Result<(), Al
         write(82, 1),
         SYNC,
     ];
-    assert!(rt; calls_are(alloc, one.disk.bytes(), &[], &[FIRST, SECOND], &reopening)?);
+    assert!(rt; calls_are(&rt, alloc, one.disk.bytes(), &[], &[FIRST, SECOND], &reopening)?);
     // The gate's write fails: before the next record the gate is closed.
     let repairing = [
         SYNC,
@@ -276,6 +279,6 @@ fn no_call_is_made_beyond_those_of_the_journal(rt: HostRuntime) -> Result<(), Al
         write(82, 1),
         SYNC,
     ];
-    assert!(rt; calls_are(alloc, one.disk.bytes(), &[9], &[SECOND, THIRD], &repairing)?);
+    assert!(rt; calls_are(&rt, alloc, one.disk.bytes(), &[9], &[SECOND, THIRD], &repairing)?);
     Ok(())
 }

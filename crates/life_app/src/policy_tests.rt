@@ -3,6 +3,8 @@
 use crate::tests::run_on;
 use memory_disk::MemoryDisk;
 use std::alloc::{AllocError, Global};
+use std::sync::Wait;
+use std::thread::Threads;
 
 // An endowment of three years with its first, second and third premium.
 const POLICY: &str = "1,issue,7001,2020-01-01,endowment,0,3,1000.00,400.00\n";
@@ -130,7 +132,7 @@ fn refusals_are_told_with_their_values(rt: HostRuntime) -> Result<(), AllocError
         ),
     ];
     for life in lives.iter() {
-        assert!(rt; is_lived(alloc, life)?);
+        assert!(rt; is_lived(&rt, alloc, life)?);
     }
     Ok(())
 }
@@ -201,15 +203,15 @@ fn lives_are_told_to_their_end(rt: HostRuntime) -> Result<(), AllocError> {
         ),
     ];
     for life in lives.iter() {
-        assert!(rt; is_lived(alloc, life)?);
+        assert!(rt; is_lived(&rt, alloc, life)?);
     }
     Ok(())
 }
 
 // Whether the script is answered so on an empty disk.
-fn is_lived(alloc: Global, life: &Life) -> Result<bool, AllocError> {
+fn is_lived<R: Threads + Wait + Sync>(rt: &R, alloc: Global, life: &Life) -> Result<bool, AllocError> {
     let disk = MemoryDisk::new(alloc, Vec::new(alloc), Vec::new(alloc));
-    let ran = run_on(alloc, life.script, disk)?;
+    let ran = run_on(rt, alloc, life.script, disk)?;
     let mut text = Vec::from_slice(alloc, life.first.as_bytes())?;
     text.extend_from_slice(life.then.as_bytes())?;
     Ok(ran.status == 0 && ran.output.bytes() == text.as_slice())

@@ -29,6 +29,8 @@ use life_args::{Mode, WordsFault, read_words};
 use outside_io::{Disk, Gate, Shelf, Sink, Source};
 use policy_types::Watcher;
 use std::alloc::Global;
+use std::sync::Wait;
+use std::thread::Threads;
 
 /// What the program leaves: its exit status, and the disk.
 pub struct Ended<D> {
@@ -39,7 +41,15 @@ pub struct Ended<D> {
 /// Does what the words ask for. The words `run` read a script from the input to its end, open the office on the disk,
 /// post each line, and write the transcript; `value` fetches a basis from the shelf, opens the office and writes what
 /// each policy is worth. The watchers and the gate aren't used yet.
-pub fn life<S: Source, K: Sink, H: Shelf, D: Disk + Send, G: Gate + Sync>(
+pub fn life<
+    R: Threads + Wait + Sync,
+    S: Source,
+    K: Sink,
+    H: Shelf,
+    D: Disk + Send,
+    G: Gate + Sync,
+>(
+    rt: &R,
     alloc: Global,
     words: &[String],
     input: &mut S,
@@ -127,14 +137,15 @@ pub fn life<S: Source, K: Sink, H: Shelf, D: Disk + Send, G: Gate + Sync>(
 {
     let _ = gate;
     drop(watchers);
-    let finished = obey(alloc, words, input, output, shelf, disk);
+    let finished = obey(rt, alloc, words, input, output, shelf, disk);
     Ended {
         status: finished.ending.status(),
         disk: finished.disk,
     }
 }
 
-fn obey<S: Source, K: Sink, H: Shelf, D: Disk>(
+fn obey<R: Wait, S: Source, K: Sink, H: Shelf, D: Disk>(
+    rt: &R,
     alloc: Global,
     words: &[String],
     input: &mut S,
@@ -149,7 +160,7 @@ fn obey<S: Source, K: Sink, H: Shelf, D: Disk>(
     ensures files { H.files shelf.new ≡ H.files shelf.old }
 {
     match read_words(alloc, words) {
-        Ok(Mode::Run { .. }) => run(alloc, input, output, disk),
+        Ok(Mode::Run { .. }) => run(rt, alloc, input, output, disk),
         Ok(Mode::Value { on, at, basis, .. }) => value(alloc, on, at, &basis, shelf, output, disk),
         Ok(Mode::State { id: None }) => state(alloc, output, disk),
         Ok(Mode::State { id: Some(id) }) => account(alloc, id, output, disk),

@@ -1,15 +1,16 @@
-// A run of a script: the office is opened, the script's lines are answered, then the transcript is written.
-ghost use Rattle.std.specs.Prelude.{◌≡◌, ◌≤◌, ℕ, List, [], All, if◌then◌else◌, length, vec_capacity};
+// A run of a script: the office is opened, the script's lines are posted by a caller of their own, the office is closed,
+// then the transcript is written.
+ghost use Rattle.std.specs.Prelude.{◌≡◌, ◌≤◌, ℕ, List, [], Some, All, if◌then◌else◌, length, vec_capacity};
 ghost use Rattle.std.specs.List.{list_any};
 ghost use Rattle.policy_types.specs.declared.script.Line.{Line as ALine};
 ghost use Rattle.command_csv.specs.Reads.{IsScriptLine, Reads, lane_of};
-ghost use Rattle.office_state.specs.Standing.{StandsFor};
-ghost use Rattle.office_state.specs.States.{begun_of, opening_of, room_of};
+ghost use Rattle.shared_office.specs.Offices.{OfficeOpening};
 ghost use Rattle.life_app.specs.Obeys.{EndsRun};
 ghost use Rattle.life_app.specs.Outcome.{EndsScript};
+ghost use Rattle.life_app.specs.Script.{most_script_bytes};
 ghost use Rattle.life_app.specs.Writing.{between};
-ghost use Rattle.life_app.specs.inside.Parts.{AnswersAll, AreLanes, EndsLines, EndsOffice};
-ghost use Rattle.life_app.specs.inside.Turns.{IsTold, is_faulted};
+ghost use Rattle.life_app.specs.inside.Parts.{AnswersAll, AreFew, AreLanes, EndsLines};
+ghost use Rattle.life_app.specs.inside.Turns.{IsFirstFor, IsTold, is_faulted};
 ghost use Rattle.life_app.specs.declared.ending.Ending.TheVariants.{DiskFault, Done};
 
 use crate::answers::{answer_lines, any_faulted};
@@ -17,10 +18,11 @@ use crate::ending::Ending;
 use crate::intake::read_lanes;
 use crate::refusing::{refuse, refuse_journal, say};
 use crate::transcript::transcript;
-use office_state::{Answer, OfficeState};
 use outside_io::{Disk, Sink, Source, write_all};
 use policy_types::{Lane, Line, Script};
+use shared_office::{Answer, Office, OfficeCalls, OfficePass, close};
 use std::alloc::Global;
+use std::sync::Wait;
 
 /// What a run leaves: how it ended, and the disk.
 #[derive(Drop)]
@@ -30,7 +32,8 @@ pub struct Finished<D> {
 }
 
 /// Reads a script, opens the office on the disk, answers the script's lines, and writes the transcript.
-pub fn run<S: Source, K: Sink, D: Disk>(
+pub fn run<R: Wait, S: Source, K: Sink, D: Disk>(
+    rt: &R,
     alloc: Global,
     input: &mut S,
     output: &mut K,
@@ -40,7 +43,7 @@ pub fn run<S: Source, K: Sink, D: Disk>(
         (between K.faults K.written output.old output.new) result.ending }
 {
     match read_lanes(alloc, input) {
-        Ok(script) => run_script(alloc, &script, output, disk),
+        Ok(script) => run_script(rt, alloc, &script, output, disk),
         Err(unread) => Finished {
             ending: refuse(alloc, unread, output),
             disk,
@@ -48,13 +51,14 @@ pub fn run<S: Source, K: Sink, D: Disk>(
     }
 }
 
-fn run_script<K: Sink, D: Disk>(
+fn run_script<R: Wait, K: Sink, D: Disk>(
+    rt: &R,
     alloc: Global,
     script: &Script,
     output: &mut K,
     disk: D,
 ) -> Finished<D>
-    requires read { (bytes : List ℕ) × Reads bytes script.now }
+    requires read { (bytes : List ℕ) × Reads bytes script.now × (length bytes ≤ most_script_bytes) }
     ensures ends { EndsScript D.Disk disk result.disk script.now
         (between K.faults K.written output.old output.new) result.ending }
 {
@@ -66,8 +70,8 @@ fn run_script<K: Sink, D: Disk>(
             disk,
         };
     };
-    match OfficeState::open(alloc, disk) {
-        Ok(office) => run_office(alloc, lines, office, answers, output),
+    match Office::start(alloc, disk, lines.len()) {
+        Ok((office, pass)) => run_office(rt, alloc, lines, office, pass, answers, output),
         Err(fault) => Finished {
             ending: refuse_journal(alloc, fault.cause, output),
             disk: fault.disk,
@@ -75,54 +79,33 @@ fn run_script<K: Sink, D: Disk>(
     }
 }
 
-// Answers the lines where there is memory for all of them, then writes the transcript.
-fn run_office<K: Sink, D: Disk>(
+// Posts the lines by a pass of their own, closes the office, and writes the transcript.
+fn run_office<R: Wait, K: Sink, D: Disk>(
+    rt: &R,
     alloc: Global,
     lines: &[Line],
-    office: OfficeState<D>,
+    office: Office<D>,
+    pass: OfficePass<D>,
     answers: Vec<Answer>,
     output: &mut K,
 ) -> Finished<D>
     requires right { All IsScriptLine lines.now }
-    requires stands { StandsFor office [] }
+    requires few { AreFew lines.now }
+    requires ours { pass.turnstile ≡ office }
+    requires first { IsFirstFor (length lines.now) pass }
     requires unanswered { answers.items ≡ [] }
     requires answers_room { length lines.now ≤ vec_capacity answers }
-    ensures ends { EndsOffice D.Disk office result.disk lines.now
+    ensures all { (opened : OfficeOpening D) → pass.opening ≡ Some opened
+        → AnswersAll D.Disk opened.begun result.disk opened.opening lines.now
         (between K.faults K.written output.old output.new) result.ending }
 {
-    let mut office = office;
-    if office.reserve(lines.len()).is_err() {
-        say(output, b"nomemory\n");
-        let (disk, _) = office.close();
-        return Finished {
-            ending: Ending::NoMemory,
-            disk,
-        };
-    }
-    run_lines(alloc, lines, office, answers, output)
-}
-
-// Answers the lines, then writes the transcript.
-fn run_lines<K: Sink, D: Disk>(
-    alloc: Global,
-    lines: &[Line],
-    office: OfficeState<D>,
-    answers: Vec<Answer>,
-    output: &mut K,
-) -> Finished<D>
-    requires right { All IsScriptLine lines.now }
-    requires stands { StandsFor office [] }
-    requires unanswered { answers.items ≡ [] }
-    requires room { length lines.now ≤ room_of office }
-    requires answers_room { length lines.now ≤ vec_capacity answers }
-    ensures all { AnswersAll D.Disk (begun_of office) result.disk (opening_of office) lines.now
-        (between K.faults K.written output.old output.new) result.ending }
-{
-    let mut office = office;
+    let mut pass = pass;
     let mut answers = answers;
-    answer_lines(lines, &mut office, &mut answers);
+    let mut lane = office.enter(&mut pass);
+    answer_lines(rt, lines, &office, &mut lane, &mut answers);
+    office.leave(lane, &mut pass);
+    let (disk, _) = close(office, pass);
     let ending = write_transcript(alloc, lines, &answers, output);
-    let (disk, _) = office.close();
     Finished { ending, disk }
 }
 
@@ -159,7 +142,7 @@ fn ending_of(answers: &[Answer]) -> Ending
 
 // The lines of the only lane, if there is one.
 fn lines_of(script: &Script) -> &[Line]
-    requires { (bytes : List ℕ) × Reads bytes script.now }
+    requires { (bytes : List ℕ) × Reads bytes script.now × (length bytes ≤ most_script_bytes) }
     ensures { AreLanes script.now result.now }
 {
     first_lines(script.as_slice())

@@ -2,6 +2,8 @@
 use crate::tests::{Finished, run_words};
 use memory_disk::MemoryDisk;
 use std::alloc::{AllocError, Global};
+use std::sync::Wait;
+use std::thread::Threads;
 
 const CLAIMED: &[&str] = &[
     "1,issue,7001,2020-01-01,endowment,0,3,1000.00,400.00\n",
@@ -60,12 +62,12 @@ fn read_of(
     }
 }
 
-fn holds(alloc: Global, case: &Reading) -> Result<bool, AllocError> {
+fn holds<R: Threads + Wait + Sync>(rt: &R, alloc: Global, case: &Reading) -> Result<bool, AllocError> {
     let empty = MemoryDisk::new(alloc, Vec::new(alloc), Vec::new(alloc));
-    let ran = run_words(alloc, &["run"], case.script, empty)?;
+    let ran = run_words(rt, alloc, &["run"], case.script, empty)?;
     let file = Vec::from_slice(alloc, ran.disk.bytes())?;
     let disk = MemoryDisk::new(alloc, file, Vec::new(alloc));
-    let read = run_words(alloc, case.words, &["7"], disk)?;
+    let read = run_words(rt, alloc, case.words, &["7"], disk)?;
     Ok(ends(&read, case.status, case.written) && read.disk.bytes() == ran.disk.bytes())
 }
 
@@ -92,7 +94,7 @@ fn books_and_accounts_are_written(rt: HostRuntime) -> Result<(), AllocError> {
         read_of(CLAIMED, &["State"], 2, "usage\n"),
     ];
     for case in cases.iter() {
-        assert!(rt; holds(rt.alloc(), case)?);
+        assert!(rt; holds(&rt, rt.alloc(), case)?);
     }
     Ok(())
 }
@@ -102,12 +104,12 @@ fn books_and_accounts_are_written(rt: HostRuntime) -> Result<(), AllocError> {
 fn journals_are_created_or_refused(rt: HostRuntime) -> Result<(), AllocError> {
     let alloc = rt.alloc();
     let empty = MemoryDisk::new(alloc, Vec::new(alloc), Vec::new(alloc));
-    let created = run_words(alloc, &["state"], &[], empty)?;
+    let created = run_words(&rt, alloc, &["state"], &[], empty)?;
     assert!(rt; ends(&created, 0, NO_BOOKS));
     assert!(rt; created.disk.bytes().len() == 18);
     for words in [&["state"] as &[&str], &["state", "1"]] {
         let foreign = MemoryDisk::new(alloc, Vec::from_slice(alloc, &[65; 18])?, Vec::new(alloc));
-        let read = run_words(alloc, words, &[], foreign)?;
+        let read = run_words(&rt, alloc, words, &[], foreign)?;
         assert!(rt; ends(&read, 5, "badjournal,notajournal\n"));
         assert!(rt; read.disk.bytes() == [65; 18].as_slice());
     }
@@ -120,11 +122,11 @@ fn failing_calls_are_answered(rt: HostRuntime) -> Result<(), AllocError> {
     let alloc = rt.alloc();
     let empty = MemoryDisk::new(alloc, Vec::new(alloc), Vec::new(alloc));
     let first = "1,issue,1,2020-01-01,endowment,0,3,1000.00,400.00\n";
-    let ran = run_words(alloc, &["run"], &[first], empty)?;
+    let ran = run_words(&rt, alloc, &["run"], &[first], empty)?;
     for call in 1..=13 {
         let file = Vec::from_slice(alloc, ran.disk.bytes())?;
         let disk = MemoryDisk::new(alloc, file, Vec::from_slice(alloc, &[call])?);
-        let read = run_words(alloc, &["state", "1"], &[], disk)?;
+        let read = run_words(&rt, alloc, &["state", "1"], &[], disk)?;
         assert!(rt; (read.status == 8) == (call <= 12));
         assert!(rt; call == 13 || read.output.bytes() == b"diskfault\n".as_slice());
         assert!(rt; read.disk.bytes() == ran.disk.bytes());

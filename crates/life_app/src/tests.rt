@@ -8,7 +8,9 @@ use policy_types::{Attention, Command, NoMemory, Report, Watcher};
 use std::alloc::{AllocError, Global};
 use std::collections::BTreeMap;
 use std::sync::Arc;
+use std::sync::Wait;
 use std::sync::atomic::{AtomicU32, Ordering};
+use std::thread::Threads;
 
 const POLICY: &str = "1,issue,7001,2020-01-01,endowment,0,3,1000.00,400.00\n";
 
@@ -119,7 +121,8 @@ pub(crate) struct Finished {
 }
 
 // Does what the words ask for, over these devices and an empty shelf.
-fn run_over(
+fn run_over<R: Threads + Wait + Sync>(
+    rt: &R,
     alloc: Global,
     words: &[String],
     script: &[&str],
@@ -129,6 +132,7 @@ fn run_over(
 ) -> Result<Finished, AllocError> {
     let shelf = MapShelf::new(BTreeMap::new(alloc), Vec::new(alloc));
     run_beside(
+        rt,
         alloc,
         words,
         script,
@@ -140,7 +144,8 @@ fn run_over(
 }
 
 // Does what the words ask for, over these devices.
-fn run_beside(
+fn run_beside<R: Threads + Wait + Sync>(
+    rt: &R,
     alloc: Global,
     words: &[String],
     script: &[&str],
@@ -157,6 +162,7 @@ fn run_beside(
     let mut input = BytesSource::new(bytes, Vec::from_slice(alloc, failing_reads)?);
     let mut output = BytesSink::new(alloc, Vec::from_slice(alloc, failing_writes)?);
     let Ended { status, disk } = life(
+        rt,
         alloc,
         words,
         &mut input,
@@ -182,18 +188,20 @@ fn words_of(alloc: Global, words: &[&str]) -> Result<Vec<String>, AllocError> {
 }
 
 // Does what the words ask for over a disk; the other devices don't fail.
-pub(crate) fn run_words(
+pub(crate) fn run_words<R: Threads + Wait + Sync>(
+    rt: &R,
     alloc: Global,
     words: &[&str],
     script: &[&str],
     disk: MemoryDisk,
 ) -> Result<Finished, AllocError> {
     let words = words_of(alloc, words)?;
-    run_over(alloc, &words, script, &[], &[], disk)
+    run_over(rt, alloc, &words, script, &[], &[], disk)
 }
 
 // The same beside a shelf, with an output that fails at these calls.
-pub(crate) fn run_with(
+pub(crate) fn run_with<R: Threads + Wait + Sync>(
+    rt: &R,
     alloc: Global,
     words: &[&str],
     failing_writes: &[u64],
@@ -201,24 +209,25 @@ pub(crate) fn run_with(
     disk: MemoryDisk,
 ) -> Result<Finished, AllocError> {
     let words = words_of(alloc, words)?;
-    run_beside(alloc, &words, &[], &[], failing_writes, shelf, disk)
+    run_beside(rt, alloc, &words, &[], &[], failing_writes, shelf, disk)
 }
 
 // Runs a script over a disk.
-pub(crate) fn run_on(
+pub(crate) fn run_on<R: Threads + Wait + Sync>(
+    rt: &R,
     alloc: Global,
     script: &[&str],
     disk: MemoryDisk,
 ) -> Result<Finished, AllocError> {
-    run_words(alloc, &["run"], script, disk)
+    run_words(rt, alloc, &["run"], script, disk)
 }
 
 // Whether the case ends as it must. A run that reads no script calls no disk.
-fn holds(alloc: Global, case: &Case) -> Result<bool, AllocError> {
+fn holds<R: Threads + Wait + Sync>(rt: &R, alloc: Global, case: &Case) -> Result<bool, AllocError> {
     let failing = Vec::from_slice(alloc, case.failing_calls)?;
     let disk = MemoryDisk::new(alloc, bytes_of(alloc, case.file)?, failing);
     let words = words_of(alloc, case.words)?;
-    let ran = run_over(
+    let ran = run_over( rt,
         alloc,
         &words,
         case.script,
@@ -298,7 +307,7 @@ fn runs_end_as_they_must(rt: HostRuntime) -> Result<(), AllocError> {
         },
     ];
     for case in cases.iter() {
-        assert!(rt; holds(rt.alloc(), case)?);
+        assert!(rt; holds(&rt, rt.alloc(), case)?);
     }
     Ok(())
 }
@@ -376,7 +385,7 @@ fn files_are_opened_or_refused(rt: HostRuntime) -> Result<(), AllocError> {
         ),
     ];
     for case in cases.iter() {
-        assert!(rt; holds(rt.alloc(), case)?);
+        assert!(rt; holds(&rt, rt.alloc(), case)?);
     }
     Ok(())
 }
@@ -443,7 +452,7 @@ fn a_watcher_is_let_go_and_never_called(rt: HostRuntime) -> Result<(), AllocErro
     let mut output = BytesSink::new(alloc, Vec::new(alloc));
     let mut shelf = MapShelf::new(BTreeMap::new(alloc), Vec::new(alloc));
     let disk = MemoryDisk::new(alloc, Vec::new(alloc), Vec::new(alloc));
-    let Ended { status, disk: _ } = life(
+    let Ended { status, disk: _ } = life( &rt,
         alloc,
         &words,
         &mut input,

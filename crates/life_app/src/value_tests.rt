@@ -5,6 +5,8 @@ use memory_disk::MemoryDisk;
 use outside_io::MapShelf;
 use std::alloc::{AllocError, Global};
 use std::collections::BTreeMap;
+use std::sync::Wait;
+use std::thread::Threads;
 
 const ENDOWMENT: &str = "1,issue,7001,2020-01-01,endowment,0,3,1000.00,400.00\n";
 
@@ -93,14 +95,15 @@ fn add(
 }
 
 // The journal that the case's script leaves.
-fn journal_of(alloc: Global, case: &Case) -> Result<Vec<u8>, AllocError> {
+fn journal_of<R: Threads + Wait + Sync>(rt: &R, alloc: Global, case: &Case) -> Result<Vec<u8>, AllocError> {
     let empty = MemoryDisk::new(alloc, Vec::new(alloc), Vec::new(alloc));
-    let ran = run_on(alloc, case.script, empty)?;
+    let ran = run_on(rt, alloc, case.script, empty)?;
     Vec::from_slice(alloc, ran.disk.bytes())
 }
 
 // The valuation of that journal, over devices that fail at these calls.
-fn value_over(
+fn value_over<R: Threads + Wait + Sync>(
+    rt: &R,
     alloc: Global,
     case: &Case,
     failing_fetches: &[u64],
@@ -108,15 +111,15 @@ fn value_over(
     failing_calls: &[u64],
 ) -> Result<Finished, AllocError> {
     let failing = Vec::from_slice(alloc, failing_calls)?;
-    let disk = MemoryDisk::new(alloc, journal_of(alloc, case)?, failing);
+    let disk = MemoryDisk::new(alloc, journal_of(rt, alloc, case)?, failing);
     let shelf = shelf_of(alloc, case, failing_fetches)?;
-    run_with(alloc, case.words, failing_writes, shelf, disk)
+    run_with(rt, alloc, case.words, failing_writes, shelf, disk)
 }
 
 // Whether the case ends and writes as it must, and leaves the journal. At 2, 4 and 6 the disk isn't even called.
-fn holds(alloc: Global, case: &Case) -> Result<bool, AllocError> {
-    let read = value_over(alloc, case, &[], &[], &[])?;
-    let journal = journal_of(alloc, case)?;
+fn holds<R: Threads + Wait + Sync>(rt: &R, alloc: Global, case: &Case) -> Result<bool, AllocError> {
+    let read = value_over(rt, alloc, case, &[], &[], &[])?;
+    let journal = journal_of(rt, alloc, case)?;
     let untouched = read.disk.calls().is_empty() == matches!(case.status, 2 | 4 | 6);
     Ok(
         ends(&read, case.status, case.written)
@@ -237,7 +240,7 @@ fn policies_are_valued(rt: HostRuntime) -> Result<(), AllocError> {
         },
     ];
     for case in cases.iter() {
-        assert!(rt; holds(rt.alloc(), case)?);
+        assert!(rt; holds(&rt, rt.alloc(), case)?);
     }
     Ok(())
 }
@@ -306,7 +309,7 @@ fn positions_are_valued(rt: HostRuntime) -> Result<(), AllocError> {
         ),
     ];
     for case in cases.iter() {
-        assert!(rt; holds(rt.alloc(), case)?);
+        assert!(rt; holds(&rt, rt.alloc(), case)?);
     }
     Ok(())
 }
@@ -342,7 +345,7 @@ fn words_are_refused(rt: HostRuntime) -> Result<(), AllocError> {
         unasked(&["value", "-h"]),
     ];
     for case in cases.iter() {
-        assert!(rt; holds(rt.alloc(), case)?);
+        assert!(rt; holds(&rt, rt.alloc(), case)?);
     }
     Ok(())
 }
@@ -396,7 +399,7 @@ fn bases_are_refused(rt: HostRuntime) -> Result<(), AllocError> {
         },
     ];
     for case in cases.iter() {
-        assert!(rt; holds(rt.alloc(), case)?);
+        assert!(rt; holds(&rt, rt.alloc(), case)?);
     }
     Ok(())
 }
@@ -417,7 +420,7 @@ fn long_files_are_refused(rt: HostRuntime) -> Result<(), AllocError> {
         )?;
         let foreign = MemoryDisk::new(alloc, Vec::from_slice(alloc, &[65; 18])?, Vec::new(alloc));
         let shelf = MapShelf::new(files, Vec::new(alloc));
-        let read = run_with(alloc, &["value", "2021-01-01"], &[], shelf, foreign)?;
+        let read = run_with(&rt, alloc, &["value", "2021-01-01"], &[], shelf, foreign)?;
         assert!(rt; ends(&read, 4, written));
         assert!(rt; read.disk.calls().is_empty());
     }
@@ -432,7 +435,7 @@ fn failing_devices_are_answered(rt: HostRuntime) -> Result<(), AllocError> {
         "0,value,2021-01-01,1,1\nrow,7001,inforce,1,127.22,127.23\ntotal,127.22,127.23,0\n";
     let case = valued(&[ENDOWMENT], FLAT, &["value", "2021-01-01"], written);
     for call in 1..=3 {
-        let read = value_over(alloc, &case, &[call], &[], &[])?;
+        let read = value_over(&rt, alloc, &case, &[call], &[], &[])?;
         if call == 3 {
             assert!(rt; ends(&read, 0, written));
         } else {
@@ -441,16 +444,16 @@ fn failing_devices_are_answered(rt: HostRuntime) -> Result<(), AllocError> {
         }
     }
     for call in 1..=7 {
-        let read = value_over(alloc, &case, &[], &[], &[call])?;
+        let read = value_over(&rt, alloc, &case, &[], &[], &[call])?;
         if call == 7 {
             assert!(rt; ends(&read, 0, written));
         } else {
             assert!(rt; ends(&read, 8, "diskfault\n"));
         }
-        assert!(rt; read.disk.bytes() == journal_of(alloc, &case)?.as_slice());
+        assert!(rt; read.disk.bytes() == journal_of(&rt, alloc, &case)?.as_slice());
     }
     for call in 1..=2 {
-        let read = value_over(alloc, &case, &[], &[call], &[])?;
+        let read = value_over(&rt, alloc, &case, &[], &[call], &[])?;
         if call == 2 {
             assert!(rt; ends(&read, 0, written));
         } else {
@@ -458,7 +461,7 @@ fn failing_devices_are_answered(rt: HostRuntime) -> Result<(), AllocError> {
         }
     }
     let bad = unfit(Some(FLAT), None, "");
-    let read = value_over(alloc, &bad, &[], &[1], &[])?;
+    let read = value_over(&rt, alloc, &bad, &[], &[1], &[])?;
     assert!(rt; ends(&read, 4, ""));
     Ok(())
 }
@@ -468,7 +471,7 @@ fn journals_are_created_or_refused(rt: HostRuntime) -> Result<(), AllocError> {
     let alloc = rt.alloc();
     let case = valued(&[], FLAT, &["value", "2021-01-01"], NOBODY);
     let empty = MemoryDisk::new(alloc, Vec::new(alloc), Vec::new(alloc));
-    let created = run_with(alloc, case.words, &[], shelf_of(alloc, &case, &[])?, empty)?;
+    let created = run_with(&rt, alloc, case.words, &[], shelf_of(alloc, &case, &[])?, empty)?;
     assert!(rt; ends(&created, 0, NOBODY));
     assert!(rt; created.disk.bytes().len() == 18);
     for words in [
@@ -476,7 +479,7 @@ fn journals_are_created_or_refused(rt: HostRuntime) -> Result<(), AllocError> {
         &["value", "2021-01-01", "--at", "2"],
     ] {
         let foreign = MemoryDisk::new(alloc, Vec::from_slice(alloc, &[65; 18])?, Vec::new(alloc));
-        let read = run_with(alloc, words, &[], shelf_of(alloc, &case, &[])?, foreign)?;
+        let read = run_with(&rt, alloc, words, &[], shelf_of(alloc, &case, &[])?, foreign)?;
         assert!(rt; ends(&read, 5, "badjournal,notajournal\n"));
         assert!(rt; read.disk.bytes() == [65; 18].as_slice());
     }

@@ -30,6 +30,7 @@ fn main(rt: HostRuntime) -> ExitCode {
     let mut shelf = FolderShelf::new(rt);
     let disk = FileDisk::at(rt, JOURNAL);
     let Ended { status, disk } = life(
+        &rt,
         alloc,
         &words,
         &mut input,

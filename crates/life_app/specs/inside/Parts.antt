@@ -1,5 +1,5 @@
 -- How the parts of a run end
-use Rattle.std.specs.Prelude.{◌≡◌, ◌⊎◌, ℕ, List, [], ◌∷◌, ◌++◌, true, false, length, codes}
+use Rattle.std.specs.Prelude.{◌≡◌, ◌≤◌, ◌+◌, ℕ, List, [], ◌∷◌, ◌++◌, true, false, length, codes}
 use Rattle.std.specs.Prelude.{Result, Ok, Err, Vec}
 use Rattle.std.specs.Global.{Global}
 use Rattle.std.specs.List.{All, list_any}
@@ -11,9 +11,7 @@ use Rattle.outside_io.specs.Streams.{AppendsPart}
 use Rattle.policy_types.specs.declared.script.Line.{Line}
 use Rattle.policy_types.specs.declared.script.Lane.{Lane}
 use Rattle.command_csv.specs.Reads.{IsScriptLine, lane_of}
-use Rattle.office_state.specs.declared.state.OfficeState.{OfficeState}
 use Rattle.office_state.specs.Images.{IsLeftBy}
-use Rattle.office_state.specs.States.{begun_of, disk_of, opening_of}
 use Rattle.life_app.specs.inside.Turns.{IsTold, is_faulted, turns_made}
 use Rattle.life_app.specs.Transcript.{line_text}
 use Rattle.office_state.specs.declared.answer.Answer.{Answer}
@@ -26,12 +24,17 @@ use Rattle.life_app.specs.declared.intake.Unread.{Unread}
 use Rattle.life_app.specs.declared.intake.Unread.TheVariants.{TooLong, BadRow, ReadFault, NoMemory as OutOfMemory}
 use Rattle.life_app.specs.Writing.{Stream, WroteAll, WroteNothing, WroteLine}
 use Rattle.life_app.specs.Outcome.{bad_record_text}
-use Rattle.life_app.specs.Script.{bad_row_text}
+use Rattle.life_app.specs.Script.{bad_row_text, most_script_bytes}
+
+-- not more lines than a script has bytes, and one
+abbrev pub AreFew : List Line → Type 0
+AreFew lines = length lines ≤ most_script_bytes + 1
 
 -- the lanes of a script are clerk 1's lines
 pub record AreLanes (lanes : List Lane) (lines : List Line) : Type 0 where
   pub one : lanes ≡ lane_of 1 lines
   pub right : All IsScriptLine lines
+  pub few : AreFew lines
 
 -- the text of a clerk's lines and their answers
 abbrev pub lines_text : ℕ → List Line → List Answer → List ℕ
@@ -67,22 +70,17 @@ EndsLines lines answers output WriteFault =
 EndsLines lines answers output NoMemory = WroteNothing output (lines_text 1 lines answers)
 EndsLines lines answers output _ = ⊥
 
--- The lines were answered and their text written: the turns are a legal history of the office from its opening on.
+-- The lines were answered by the turns of one caller, and their text written: these turns are the whole history of the
+-- office from its opening on, which is legal.
 pub record AnswersAll {D : Type 0} (g : Ghosts D) (begun disk : D) (opening : Opening) (lines : List Line)
     (output : Stream) (ending : Ending) : Type 0 where
+  pub caller : ℕ
   pub answers : List Answer
   pub each : length answers ≡ length lines
   pub told : All IsTold answers
-  pub legal : IsLegal opening (turns_made 1 lines answers)
-  pub left : IsLeftBy g begun disk opening (turns_made 1 lines answers)
+  pub legal : IsLegal opening (turns_made caller lines answers)
+  pub left : IsLeftBy g begun disk opening (turns_made caller lines answers)
   pub ends : EndsLines lines answers output ending
-
--- How a run ends that opened the office: its lines were answered, or there was no memory for all of them, and none was.
-abbrev pub EndsOffice : {D : Type 0} (g : Ghosts D) → OfficeState D g → D → List Line → Stream → Ending → Type 0
-EndsOffice g office disk lines output ending =
-    AnswersAll g (begun_of office) disk (opening_of office) lines output ending
-    ⊎ ((ending ≡ NoMemory) × WroteLine output (codes "nomemory") × (disk ≡ disk_of office)
-    × IsLeftBy g (begun_of office) disk (opening_of office) [])
 
 -- How a text is written: whole, or a front of it, or a line in its place where there was no memory for it.
 abbrev pub EndsText : Result (Vec ℕ Global) Lack → Stream → Ending → Type 0

@@ -1,7 +1,5 @@
 -- The turns of a clerk's answered lines
-use Rattle.std.specs.Prelude.{ℕ, ◌<◌, ◌^◌, Bool, true, false, List, [], ◌∷◌}
-use Rattle.std.specs.List.{AllByRecursion}
-use Rattle.outside_io.specs.declared.disks.Disk.{Ghosts}
+use Rattle.std.specs.Prelude.{◌≡◌, ℕ, ◌+◌, ◌<◌, ◌^◌, Bool, true, false, List, [], ◌∷◌, ◌++◌, length}
 use Rattle.policy_types.specs.declared.refusal.Refusal.{Refusal}
 use Rattle.policy_types.specs.declared.refusal.Refusal.TheVariants.{Taken, Unknown, BeforeLast, WrongStatus, TermOver, NothingDue, TooEarly, GraceOver, NotInArrears, TooLate, WrongAmount, NotAReduction, NotMatured, OverSettled, Full}
 use Rattle.policy_types.specs.declared.entry.Call.TheVariants.{Trim as TrimCall}
@@ -9,14 +7,12 @@ use Rattle.policy_types.specs.declared.entry.Reply.TheVariants.{Blank}
 use Rattle.policy_types.specs.declared.entry.Entry.{Entry}
 use Rattle.policy_types.specs.declared.script.Line.{Line}
 use Rattle.policy_types.specs.declared.script.Line.TheVariants.{Post as PostLine}
-use Rattle.policy_types.specs.Valid.{IsValid}
 use Rattle.life_dates.specs.Calendar.{IsTermDay}
 use Rattle.office_state.specs.declared.answer.Answer.{Answer}
 use Rattle.office_state.specs.declared.answer.Answer.TheVariants.{Accepted, Refused, DiskFault, NoMemory}
-use Rattle.office_state.specs.declared.state.OfficeState.{OfficeState}
 use Rattle.office_state.specs.Posting.{turn_of}
-use Rattle.office_state.specs.Standing.{StandsFor}
-use Rattle.office_state.specs.States.{commands_of}
+use Rattle.shared_office.specs.Offices.{OfficeOpening}
+use Rattle.turn_lock.specs.Passes.{Holding, IsFirst}
 
 abbrev pub is_faulted : Answer → Bool
 is_faulted (DiskFault count) = true
@@ -57,8 +53,16 @@ abbrev pub turns_made : ℕ → List Line → List Answer → List Entry
 turns_made caller (line ∷ lines) (answer ∷ answers) = line_turn caller line answer ∷ turns_made caller lines answers
 turns_made caller _ _ = []
 
--- an office after some turns, all of whose commands are valid
-pub record IsOpen {D : Type 0} {g : Ghosts D} (office : OfficeState D g) : Type 0 where
-  pub turns : List Entry
-  pub stands : StandsFor office turns
-  pub valid : AllByRecursion IsValid (commands_of office)
+-- the first pass of an office that has room for so many postings
+abbrev pub IsFirstFor : {D : Type 0} → ℕ → Holding (OfficeOpening D) → Type 0
+IsFirstFor {D} postings pass = (opened : OfficeOpening D) × (opened.room ≡ postings) × IsFirst opened pass
+
+-- what turns of its own do to a pass: it made these entries more, for each of which it has one turn less left
+pub record HasPosted {Opening : Type 0} (old new : Holding Opening) (entries : List Entry) : Type 0 where
+  pub turnstile : new.turnstile ≡ old.turnstile
+  pub opening : new.opening ≡ old.opening
+  pub caller : new.caller ≡ old.caller
+  pub shares : new.shares ≡ old.shares
+  pub ended : new.ended ≡ old.ended
+  pub left : new.left + length entries ≡ old.left
+  pub made : new.made ≡ old.made ++ entries

@@ -1,17 +1,18 @@
-use Rattle.std.proofs.Common.{[], inr, refl, ◌∙◌}
-use Rattle.life_app.proofs.RunSteps.{reserved_left}
+use Rattle.life_app.proofs.OfficeSteps.{all_told, answers_all}
 use Rattle.life_app.proofs.run.run_office.Goals as goal
 
-pub returns-then-is_err : goal.returns-then-is_err
-returns-then-is_err g c = record {
-  ends = inr (
-    refl,
-    c.say.ensures.wrote,
-    c.close-disk.ensures.disk ∙ c.reserve.ensures.disk,
-    reserved_left g.D.Disk c.args.office c.reserve.new.self c.close-disk.result.0 [] c.reserve.ensures.opened
-        (c.close-disk.ensures.left [] (c.reserve.ensures.stands [] c.requires.stands)),
-  );
-}
+pub write_transcript-ending-requires-clause-told : goal.write_transcript-ending-requires-clause-told
+write_transcript-ending-requires-clause-told g c =
+    rw c.deref.ensures.value (all_told g.D.Disk c.args.pass c.enter-lane.new.pass c.enter-lane.result c.answer_lines.new.pass c.leave.new.pass
+    c.args.lines.now c.answer_lines.new.answers.items c.close-disk.result.0 _ c.requires.first c.enter-lane.ensures.enters
+    c.answer_lines.ensures.posted c.leave.ensures.leaves c.close-disk.ensures.facts c.close-disk.ensures.closed c.requires.right
+    c.answer_lines.ensures.all)
 
-pub run_lines-requires-clause-stands : goal.run_lines-requires-clause-stands
-run_lines-requires-clause-stands g c = c.reserve.ensures.stands [] c.requires.stands
+pub returns : goal.returns
+returns g c = record {
+  all = answers_all g.D.Disk c.args.pass c.enter-lane.new.pass c.enter-lane.result c.answer_lines.new.pass c.leave.new.pass
+      c.args.lines.now c.answer_lines.new.answers.items c.close-disk.result.0 _ c.requires.first c.enter-lane.ensures.enters
+      c.answer_lines.ensures.posted c.leave.ensures.leaves c.close-disk.ensures.facts c.close-disk.ensures.closed c.requires.right
+      c.answer_lines.ensures.all _ c.write_transcript-ending.result
+      (rw c.deref.ensures.value at c.write_transcript-ending.ensures.ends);
+}
