@@ -301,7 +301,7 @@ for day in 2021-01-19 2022-01-20 2023-03-15 2024-03-03 2024-03-12 2060-01-01; do
     "$root/life" value "$day" </dev/null >block || complain "value on $day ended with $?"
     python3 -B "$root/examples/check_values.py" journal.life basis.csv block >out || complain "on $day: $(cat out)"
 done
-for position in 0 1 7 19 30; do
+for position in 0 1 7 19 27; do
     "$root/life" value 2024-06-30 --at "$position" </dev/null >block || complain "value at $position ended with $?"
     python3 -B "$root/examples/check_values.py" journal.life basis.csv block >out || complain "at $position: $(cat out)"
 done
