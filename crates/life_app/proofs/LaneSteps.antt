@@ -1,5 +1,5 @@
 -- What the turns of one caller do to its pass, and the whole history where no other caller took one
-use Rattle.std.proofs.Common.{◌≡◌, ℕ, zero, suc, ◌+◌, ◌-◌, ◌*◌, ◌≤◌, ◌<◌, ◌==◌, List, [], ◌∷◌, ◌++◌, length, map, Option, Some, None, refl, ap, sym, ◌∙◌, subst, cond, Bool, true, false, arith, append-nil, append_assoc, length-append, inl, inr}
+use Rattle.std.proofs.Common.{◌≡◌, ℕ, zero, suc, ◌+◌, ◌-◌, ◌≤◌, ◌==◌, List, [], ◌∷◌, ◌++◌, length, map, Option, Some, None, refl, ap, sym, ◌∙◌, subst, Bool, true, false, arith, append-nil, append_assoc, length-append, inl, inr}
 use Rattle.std.specs.List.{AllByRecursion, AllZip, Contains}
 use Rattle.std.proofs.lemmas.Bool.{cond-true, cond-false, eq-eqb, false≢true}
 use Rattle.std.proofs.lemmas.List.Elements.{Contains-push_cases}
@@ -12,7 +12,7 @@ use Rattle.policy_types.specs.declared.script.Line.{Line}
 use Rattle.policy_types.specs.declared.script.Lane.{Lane}
 use Rattle.command_csv.specs.Reads.{IsRowOf, Reads, lane_of, lanes_of}
 use Rattle.command_csv.specs.Rows.{rows_of}
-use Rattle.command_csv.specs.Spelling.{ClerkLine, by_first}
+use Rattle.command_csv.specs.Spelling.{ClerkLine}
 use Rattle.command_csv.proofs.Clerks.{entries_of_first, lanes_of_first}
 use Rattle.command_csv.proofs.Records.{mark_shortens}
 use Rattle.turn_lock.specs.History.{entries_of}

@@ -7,7 +7,6 @@ use Rattle.policy_types.specs.declared.entry.Entry.{Entry}
 use Rattle.office_state.specs.Images.{HasFaulted}
 use Rattle.policy_types.specs.declared.script.Line.{Line}
 use Rattle.policy_types.specs.declared.script.Line.TheVariants.{Post as PostLine, Value, Trim}
-use Rattle.policy_types.specs.declared.script.Lane.{Lane}
 use Rattle.policy_machine.specs.Merge.{AnswersLine, AnswersLines, Placed, IsMerge}
 use Rattle.command_csv.specs.Reads.{IsScriptLine, lane_of}
 use Rattle.office_state.specs.declared.answer.Answer.{Answer}

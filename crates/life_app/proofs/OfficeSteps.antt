@@ -1,5 +1,5 @@
 -- What the closing of an office tells of the lines that were posted
-use Rattle.std.proofs.Common.{◌≡◌, ℕ, List, [], length, Some, refl, ap, sym, ◌∙◌, subst, arith, append-nil}
+use Rattle.std.proofs.Common.{◌≡◌, List, [], length, Some, sym, ◌∙◌, subst, arith, append-nil}
 use Rattle.std.specs.List.{All, AllByRecursion}
 use Rattle.std.proofs.lemmas.List.Elements.{All-from_recursion, recursion_from_All}
 use Rattle.outside_io.specs.declared.disks.Disk.{Ghosts}
@@ -12,7 +12,7 @@ use Rattle.office_state.specs.Images.{IsLeftBy}
 use Rattle.office_state.specs.declared.answer.Answer.{Answer}
 use Rattle.shared_office.specs.Offices.{IsOfficeHistory, OfficeOpening}
 use Rattle.shared_office.specs.Starting.{HasClosed}
-use Rattle.turn_lock.specs.Passes.{Enters, Holding, IsFirst, Leaves, PassFacts}
+use Rattle.turn_lock.specs.Passes.{Enters, Holding, Leaves, PassFacts}
 use Rattle.life_app.specs.declared.ending.Ending.{Ending}
 use Rattle.life_app.specs.Writing.{Stream}
 use Rattle.life_app.specs.inside.Parts.{AnswersAll, EndsLines}

@@ -1,5 +1,5 @@
 -- How a run ends, by what its parts did
-use Rattle.std.proofs.Common.{◌≡◌, ℕ, ◌≤◌, ◌<◌, Bool, true, false, List, [], ◌∷◌, ◌++◌, length, refl, sym, subst, ap, ◌∙◌, inl, inr, Option, Some, None, append-nil}
+use Rattle.std.proofs.Common.{◌≡◌, ℕ, ◌≤◌, ◌<◌, Bool, true, false, List, [], length, refl, sym, subst, inl, inr, Option, Some, None, append-nil}
 use Rattle.std.specs.Prelude.{IfSome, if◌then◌else◌}
 use Rattle.std.specs.List.{AllByRecursion, list_any}
 use Rattle.std.specs.Io.KnownBytes.{Appends, IsAtEnd}
@@ -11,7 +11,7 @@ use Rattle.policy_types.specs.declared.command.Command.{Command}
 use Rattle.policy_types.specs.declared.script.Line.{Line}
 use Rattle.policy_types.specs.declared.script.Lane.{Lane}
 use Rattle.policy_types.specs.declared.entry.Entry.{Entry}
-use Rattle.policy_machine.specs.History.{Opening, opened_on}
+use Rattle.policy_machine.specs.History.{opened_on}
 use Rattle.posting_journal.specs.Creation.{IsUnfinished}
 use Rattle.posting_journal.specs.Runs.{LooksOn}
 use Rattle.command_csv.specs.Reads.{IsScriptLine, IsFirstFault, Reads, lane_of}
@@ -20,7 +20,7 @@ use Rattle.office_state.specs.declared.answer.Answer.{Answer}
 use Rattle.office_state.specs.declared.faults.StartCause.{StartCause}
 use Rattle.office_state.specs.declared.faults.StartCause.TheVariants.{DiskFault as FaultyDisk, NotAJournal, BadRecord, NoMemory as NoRoom}
 use Rattle.office_state.specs.declared.state.OfficeState.{OfficeState}
-use Rattle.office_state.specs.Images.{HoldsOnce, IsLeftAlone, IsLeftBy}
+use Rattle.office_state.specs.Images.{IsLeftAlone, IsLeftBy}
 use Rattle.office_state.specs.Journals.{Opens}
 use Rattle.office_state.specs.Opening.{HasNotOpened, HasOpened}
 use Rattle.office_state.specs.States.{begun_of, disk_of, opening_of}
@@ -28,7 +28,7 @@ use Rattle.shared_office.specs.Offices.{OfficeOpening}
 use Rattle.shared_office.specs.Starting.{HasStarted}
 use Rattle.turn_lock.specs.Passes.{Holding}
 use Rattle.life_app.specs.declared.ending.Ending.{Ending}
-use Rattle.life_app.specs.declared.ending.Ending.TheVariants.{Done, Usage, BadScript, BadJournal, ReadFault as InputFault, WriteFault, DiskFault, NoMemory}
+use Rattle.life_app.specs.declared.ending.Ending.TheVariants.{Done, BadScript, BadJournal, ReadFault as InputFault, WriteFault, DiskFault, NoMemory}
 use Rattle.life_app.specs.declared.intake.Unread.{Unread}
 use Rattle.life_app.specs.declared.intake.Unread.TheVariants.{TooLong, BadRow, ReadFault, NoMemory as OutOfMemory}
 use Rattle.life_app.specs.Obeys.{EndsRun}

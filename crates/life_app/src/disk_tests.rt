@@ -118,7 +118,8 @@ fn a_run_goes_on_after_a_fault(rt: HostRuntime) -> Result<(), AllocError> {
         1,issue,5,fault\n1,issue,6,accepted,5\n";
     assert!(rt; wrote(&ran, 8, written));
     let left = Vec::from_slice(alloc, ran.disk.bytes())?;
-    let again = run_on( &rt,
+    let again = run_on(
+        &rt,
         alloc,
         &script,
         MemoryDisk::new(alloc, left, Vec::new(alloc)),
@@ -135,7 +136,8 @@ fn a_run_goes_on_after_a_fault(rt: HostRuntime) -> Result<(), AllocError> {
 fn each_crash_leaves_what_was_acknowledged(rt: HostRuntime) -> Result<(), AllocError> {
     let alloc = rt.alloc();
     let texts = [BOTH_ACCEPTED, FIRST_TAKEN, BOTH_TAKEN];
-    let ran = run_on( &rt,
+    let ran = run_on(
+        &rt,
         alloc,
         &[FIRST, SECOND],
         MemoryDisk::new(alloc, Vec::new(alloc), Vec::new(alloc)),
@@ -145,7 +147,8 @@ fn each_crash_leaves_what_was_acknowledged(rt: HostRuntime) -> Result<(), AllocE
         let acknowledged = moment.saturating_sub(CREATION_CALLS) / POSTING_CALLS;
         for keep in [0, 1, 16, 17, 32, 64, 65] {
             let image = ran.disk.image(alloc, moment, keep)?;
-            let again = run_on( &rt,
+            let again = run_on(
+                &rt,
                 alloc,
                 &[FIRST, SECOND],
                 MemoryDisk::new(alloc, image, Vec::new(alloc)),
@@ -260,7 +263,16 @@ fn no_call_is_made_beyond_those_of_the_journal(rt: HostRuntime) -> Result<(), Al
         write(82, 1),
         SYNC,
     ];
-    assert!(rt; calls_are(&rt, alloc, one.disk.bytes(), &[], &[FIRST, SECOND], &reopening)?);
+    assert!(rt;
+        calls_are(
+            &rt,
+            alloc,
+            one.disk.bytes(),
+            &[],
+            &[FIRST, SECOND],
+            &reopening
+        )?
+    );
     // The gate's write fails: before the next record the gate is closed.
     let repairing = [
         SYNC,
@@ -279,6 +291,15 @@ fn no_call_is_made_beyond_those_of_the_journal(rt: HostRuntime) -> Result<(), Al
         write(82, 1),
         SYNC,
     ];
-    assert!(rt; calls_are(&rt, alloc, one.disk.bytes(), &[9], &[SECOND, THIRD], &repairing)?);
+    assert!(rt;
+        calls_are(
+            &rt,
+            alloc,
+            one.disk.bytes(),
+            &[9],
+            &[SECOND, THIRD],
+            &repairing
+        )?
+    );
     Ok(())
 }

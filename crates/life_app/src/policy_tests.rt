@@ -209,7 +209,11 @@ fn lives_are_told_to_their_end(rt: HostRuntime) -> Result<(), AllocError> {
 }
 
 // Whether the script is answered so on an empty disk.
-fn is_lived<R: Threads + Wait + Sync>(rt: &R, alloc: Global, life: &Life) -> Result<bool, AllocError> {
+fn is_lived<R: Threads + Wait + Sync>(
+    rt: &R,
+    alloc: Global,
+    life: &Life,
+) -> Result<bool, AllocError> {
     let disk = MemoryDisk::new(alloc, Vec::new(alloc), Vec::new(alloc));
     let ran = run_on(rt, alloc, life.script, disk)?;
     let mut text = Vec::from_slice(alloc, life.first.as_bytes())?;

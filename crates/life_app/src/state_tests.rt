@@ -62,7 +62,11 @@ fn read_of(
     }
 }
 
-fn holds<R: Threads + Wait + Sync>(rt: &R, alloc: Global, case: &Reading) -> Result<bool, AllocError> {
+fn holds<R: Threads + Wait + Sync>(
+    rt: &R,
+    alloc: Global,
+    case: &Reading,
+) -> Result<bool, AllocError> {
     let empty = MemoryDisk::new(alloc, Vec::new(alloc), Vec::new(alloc));
     let ran = run_words(rt, alloc, &["run"], case.script, empty)?;
     let file = Vec::from_slice(alloc, ran.disk.bytes())?;

@@ -7,9 +7,8 @@ use outside_io::{BytesSink, BytesSource, MapShelf, OpenGate};
 use policy_types::{Attention, Command, NoMemory, Report, Watcher};
 use std::alloc::{AllocError, Global};
 use std::collections::BTreeMap;
-use std::sync::Arc;
-use std::sync::Wait;
 use std::sync::atomic::{AtomicU32, Ordering};
+use std::sync::{Arc, Wait};
 use std::thread::Threads;
 
 const POLICY: &str = "1,issue,7001,2020-01-01,endowment,0,3,1000.00,400.00\n";
@@ -227,7 +226,8 @@ fn holds<R: Threads + Wait + Sync>(rt: &R, alloc: Global, case: &Case) -> Result
     let failing = Vec::from_slice(alloc, case.failing_calls)?;
     let disk = MemoryDisk::new(alloc, bytes_of(alloc, case.file)?, failing);
     let words = words_of(alloc, case.words)?;
-    let ran = run_over( rt,
+    let ran = run_over(
+        rt,
         alloc,
         &words,
         case.script,
@@ -452,7 +452,8 @@ fn a_watcher_is_let_go_and_never_called(rt: HostRuntime) -> Result<(), AllocErro
     let mut output = BytesSink::new(alloc, Vec::new(alloc));
     let mut shelf = MapShelf::new(BTreeMap::new(alloc), Vec::new(alloc));
     let disk = MemoryDisk::new(alloc, Vec::new(alloc), Vec::new(alloc));
-    let Ended { status, disk: _ } = life( &rt,
+    let Ended { status, disk: _ } = life(
+        &rt,
         alloc,
         &words,
         &mut input,

@@ -6,8 +6,14 @@ use Rattle.life_app.proofs.answers.answer_lines.Goals as goal
 
 pub answer_line-answer-requires-clause-left : goal.answer_line-answer-requires-clause-left
 answer_line-answer-requires-clause-left g c =
-    omega (arith, c.loop-line.invariant.posted.left, made_each c.args.pass.now.caller c.args.lines.now c.loop-line.answers.items,
-    c.loop-line.invariant.each, c.loop-line-test.true, c.requires.left)
+    omega (
+      arith,
+      c.loop-line.invariant.posted.left,
+      made_each c.args.pass.now.caller c.args.lines.now c.loop-line.answers.items,
+      c.loop-line.invariant.each,
+      c.loop-line-test.true,
+      c.requires.left,
+    )
 
 pub loop-line-preserved : goal.loop-line-preserved
 loop-line-preserved g c = record {

@@ -1,4 +1,4 @@
-use Rattle.std.proofs.Common.{◌≡◌, ◌≤◌, ◌+◌, length, vec_len, vec_capacity}
+use Rattle.std.proofs.Common.{◌≡◌, length, vec_len, vec_capacity}
 use Rattle.life_app.specs.inside.Turns.{HasPosted, turns_made}
 use Rattle.life_app.proofs.answers.answer_lines.Given as goal
 
