@@ -41,14 +41,7 @@ pub struct Ended<D> {
 /// Does what the words ask for. The words `run` read a script from the input to its end, open the office on the disk,
 /// post each line, and write the transcript; `value` fetches a basis from the shelf, opens the office and writes what
 /// each policy is worth. The watchers and the gate aren't used yet.
-pub fn life<
-    R: Threads + Wait + Sync,
-    S: Source,
-    K: Sink,
-    H: Shelf,
-    D: Disk + Send,
-    G: Gate + Sync,
->(
+pub fn life<R: Threads + Wait + Sync, S: Source, K: Sink, H: Shelf, D: Disk + Send, G: Gate + Sync>(
     rt: &R,
     alloc: Global,
     words: &[String],

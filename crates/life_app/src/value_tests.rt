@@ -95,7 +95,11 @@ fn add(
 }
 
 // The journal that the case's script leaves.
-fn journal_of<R: Threads + Wait + Sync>(rt: &R, alloc: Global, case: &Case) -> Result<Vec<u8>, AllocError> {
+fn journal_of<R: Threads + Wait + Sync>(
+    rt: &R,
+    alloc: Global,
+    case: &Case,
+) -> Result<Vec<u8>, AllocError> {
     let empty = MemoryDisk::new(alloc, Vec::new(alloc), Vec::new(alloc));
     let ran = run_on(rt, alloc, case.script, empty)?;
     Vec::from_slice(alloc, ran.disk.bytes())
@@ -471,7 +475,14 @@ fn journals_are_created_or_refused(rt: HostRuntime) -> Result<(), AllocError> {
     let alloc = rt.alloc();
     let case = valued(&[], FLAT, &["value", "2021-01-01"], NOBODY);
     let empty = MemoryDisk::new(alloc, Vec::new(alloc), Vec::new(alloc));
-    let created = run_with(&rt, alloc, case.words, &[], shelf_of(alloc, &case, &[])?, empty)?;
+    let created = run_with(
+        &rt,
+        alloc,
+        case.words,
+        &[],
+        shelf_of(alloc, &case, &[])?,
+        empty,
+    )?;
     assert!(rt; ends(&created, 0, NOBODY));
     assert!(rt; created.disk.bytes().len() == 18);
     for words in [
@@ -479,7 +490,14 @@ fn journals_are_created_or_refused(rt: HostRuntime) -> Result<(), AllocError> {
         &["value", "2021-01-01", "--at", "2"],
     ] {
         let foreign = MemoryDisk::new(alloc, Vec::from_slice(alloc, &[65; 18])?, Vec::new(alloc));
-        let read = run_with(&rt, alloc, words, &[], shelf_of(alloc, &case, &[])?, foreign)?;
+        let read = run_with(
+            &rt,
+            alloc,
+            words,
+            &[],
+            shelf_of(alloc, &case, &[])?,
+            foreign,
+        )?;
         assert!(rt; ends(&read, 5, "badjournal,notajournal\n"));
         assert!(rt; read.disk.bytes() == [65; 18].as_slice());
     }
