@@ -91,7 +91,7 @@ module _ (F : List Entry → ℕ) (w : Entry → ℕ) (none : F [] ≡ 0) (more 
   whole legal pass facts owns =
       let all = spread pass.seen (pages pass) facts.apart owns in
       let same = sum_same (λ (p : Page). F (entries_of pass.seen p.0)) (λ (p : Page). F p.1) (pages pass)
-            (all_then (λ (p : Page). entries_of pass.seen p.0 ≡ p.1) (λ (p : Page). F (entries_of pass.seen p.0) ≡ F p.1) (pages pass) (λ p is. ap F is) facts.paged) in
+      (all_then (λ (p : Page). entries_of pass.seen p.0 ≡ p.1) (λ (p : Page). F (entries_of pass.seen p.0) ≡ F p.1) (pages pass) (λ p is. ap F is) facts.paged) in
       all ∙ same
 
 -- the turns of a whole history are those of the pass that has seen it

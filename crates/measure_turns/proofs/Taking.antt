@@ -1,5 +1,5 @@
 -- One turn more of a caller, and the turns of two callers together.
-use Rattle.std.proofs.Common.{◌≡◌, ℕ, ◌+◌, ◌-◌, ◌*◌, ◌/◌, ◌≤◌, Bool, true, false, cond, List, [], ◌∷◌, ◌++◌, length, sum_by, count_by, sym, refl, ap, ◌∙◌, arith, length-append, add-mul}
+use Rattle.std.proofs.Common.{◌≡◌, ℕ, ◌+◌, ◌-◌, ◌*◌, ◌/◌, ◌≤◌, Bool, true, false, cond, List, [], ◌∷◌, ◌++◌, length, sum_by, count_by, refl, ap, ◌∙◌, arith, length-append, add-mul}
 use Rattle.std.proofs.lemmas.List.Sums.{sum_by-cons, sum_by-append, sum_by_push}
 use Rattle.policy_types.specs.declared.entry.Entry.{Entry}
 use Rattle.turn_lock.specs.Passes.{Holding, Page, PassFacts, TakesTurn, Enters, Leaves, IsFirst, OwnsAll, pages}
@@ -123,8 +123,8 @@ module _ {O : Type 0} (legal : O → List Entry → Type 0) (counts : Entry → 
   pub turns_in_all : length last.seen ≡ turns
   turns_in_all =
       let none : turns_of first ≡ 0 =
-            ap (λ ended. sum_by (λ (p : Page). length p.1) ((first.caller, first.made) ∷ ended)) is_first.ended
-            ∙ ap (λ made. sum_by (λ (p : Page). length p.1) ((first.caller, made) ∷ [])) is_first.made in
+      ap (λ ended. sum_by (λ (p : Page). length p.1) ((first.caller, first.made) ∷ ended)) is_first.ended
+      ∙ ap (λ made. sum_by (λ (p : Page). length p.1) ((first.caller, made) ∷ [])) is_first.made in
       let made = take.made in
       let all = all_turns legal last facts owns in
       omega arith
@@ -132,8 +132,8 @@ module _ {O : Type 0} (legal : O → List Entry → Type 0) (counts : Entry → 
   pub counted_in_all : count_by counts last.seen ≡ count
   counted_in_all =
       let none : counted_of counts first ≡ 0 =
-            ap (λ ended. sum_by (λ (p : Page). count_by counts p.1) ((first.caller, first.made) ∷ ended)) is_first.ended
-            ∙ ap (λ made. sum_by (λ (p : Page). count_by counts p.1) ((first.caller, made) ∷ [])) is_first.made in
+      ap (λ ended. sum_by (λ (p : Page). count_by counts p.1) ((first.caller, first.made) ∷ ended)) is_first.ended
+      ∙ ap (λ made. sum_by (λ (p : Page). count_by counts p.1) ((first.caller, made) ∷ [])) is_first.made in
       let counted = take.counted in
       let all = all_counted counts legal last facts owns in
       omega arith

@@ -63,13 +63,7 @@ impl<R: Wait> Lane<Counter, R> for Ticks {
 
     ghost counts = { λ _. true };
 
-    fn run(
-        &self,
-        rt: &R,
-        gate: &Turnstile<Counter>,
-        pass: &mut Pass<Counter>,
-        place: u32,
-    ) -> u64 {
+    fn run(&self, rt: &R, gate: &Turnstile<Counter>, pass: &mut Pass<Counter>, place: u32) -> u64 {
         let turns = self.turns;
         let mut done = 0;
         while done < turns {

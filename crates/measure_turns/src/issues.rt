@@ -8,9 +8,7 @@ ghost use Rattle.measure_turns.specs.Posted.{HasPosted, is_acceptance};
 use crate::lane::{Lane, lanes};
 use outside_io::Disk;
 use policy_types::{Command, Plan};
-use shared_office::{
-    Answer, Office, OfficeCalls, OfficePass, SharedState, StartFault, close,
-};
+use shared_office::{Answer, Office, OfficeCalls, OfficePass, SharedState, StartFault, close};
 use std::alloc::Global;
 use std::sync::Wait;
 use std::thread::Threads;
@@ -29,13 +27,7 @@ impl<D: Disk, R: Wait> Lane<SharedState<D>, R> for Issues {
 
     ghost counts = { accepts };
 
-    fn run(
-        &self,
-        rt: &R,
-        gate: &Office<D>,
-        pass: &mut OfficePass<D>,
-        place: u32,
-    ) -> u64 {
+    fn run(&self, rt: &R, gate: &Office<D>, pass: &mut OfficePass<D>, place: u32) -> u64 {
         let mut done = 0;
         let mut accepted = 0;
         while done < self.each {

@@ -66,13 +66,7 @@ impl<R: Wait + Clock> Lane<Counter, R> for Waiting<'_> {
 
     ghost counts = { λ _. true };
 
-    fn run(
-        &self,
-        rt: &R,
-        gate: &Turnstile<Counter>,
-        pass: &mut Pass<Counter>,
-        place: u32,
-    ) -> u64 {
+    fn run(&self, rt: &R, gate: &Turnstile<Counter>, pass: &mut Pass<Counter>, place: u32) -> u64 {
         if place == 0 {
             let work = Work {
                 rt,
