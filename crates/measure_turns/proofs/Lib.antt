@@ -1,0 +1,3 @@
+mod Posting
+mod Spread
+mod Taking

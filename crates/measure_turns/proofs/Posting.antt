@@ -1,0 +1,34 @@
+-- From the start of an office to its end: what its callers posted.
+use Rattle.std.proofs.Common.{◌≡◌, ℕ, Some, refl, sym, ap, ◌∙◌, subst}
+use Rattle.std.specs.Option.{unwrap_or}
+use Rattle.outside_io.specs.declared.disks.Disk.{Ghosts}
+use Rattle.policy_types.specs.Accounts.{Booking}
+use Rattle.office_state.specs.Images.{IsLeftBy}
+use Rattle.turn_lock.specs.Passes.{Holding, PassFacts}
+use Rattle.shared_office.specs.Offices.{OfficeOpening, IsOfficeHistory}
+use Rattle.shared_office.specs.Starting.{HasStarted, HasClosed}
+use Rattle.measure_turns.proofs.Taking.{turns_in_all, counted_in_all}
+use Rattle.measure_turns.specs.Posted.{HasPosted, accepts}
+use Rattle.measure_turns.specs.Turns.{AllTake}
+
+module _ {D : Type 0} (g : Ghosts D) (old new : D) (room turns accepted : ℕ) (balances : Booking) (first last : Holding (OfficeOpening D))
+    (started : HasStarted g old room first) (take : AllTake accepts turns accepted first last) (closed : HasClosed g last new balances) (facts : PassFacts IsOfficeHistory last) where
+  abbrev began : OfficeOpening D
+  began = record { opening = started.opening; begun = old; room = room }
+
+  -- what the last pass tells of the opening is what the first told
+  one_opening : (opening : OfficeOpening D) → last.opening ≡ Some opening → opening ≡ began
+  one_opening opening told = ap (λ o. unwrap_or o opening) (sym told ∙ (take.opening ∙ started.first.opened))
+
+  pub has_posted : HasPosted g old new turns accepted
+  has_posted =
+      let same = one_opening closed.opening closed.opened in
+      record {
+        opening = began;
+        begun = refl;
+        history = last.seen;
+        legal = subst (λ (o : OfficeOpening D). IsOfficeHistory o last.seen) (one_opening facts.lawful.0 facts.lawful.1) facts.lawful.2;
+        disk = subst (λ (o : OfficeOpening D). IsLeftBy g o.begun new o.opening last.seen) same closed.disk;
+        turns_are = turns_in_all IsOfficeHistory accepts turns accepted began first last started.first take facts closed.whole;
+        accepted_are = counted_in_all IsOfficeHistory accepts turns accepted began first last started.first take facts closed.whole;
+      }
