@@ -1,5 +1,5 @@
 -- The shared state stands for the history of its turns
-use Rattle.std.specs.Prelude.{ℕ, ◌+◌, ◌≤◌, List, length}
+use Rattle.std.specs.Prelude.{◌+◌, ◌≤◌, List, length}
 use Rattle.outside_io.specs.declared.disks.Disk.{Ghosts}
 use Rattle.policy_types.specs.declared.entry.Entry.{Entry}
 use Rattle.office_state.specs.Standing.{StandsFor}
