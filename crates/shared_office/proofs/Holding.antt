@@ -82,9 +82,9 @@ unpins_earlier opening before [] pin late legal = refl
 unpins_earlier opening before (entry ∷ rest) pin late legal =
     both_false (gives pin entry) (list_any (gives pin) rest)
     (not_true (gives pin entry) (λ given.
-    let own = given_by_owner opening before entry.caller pin entry.call entry.reply legal.0 given in
-    let low = slice_get_within before pin own.0 own.1 in
-    absurd (omega (arith, low, late))))
+        let own = given_by_owner opening before entry.caller pin entry.call entry.reply legal.0 given in
+        let low = slice_get_within before pin own.0 own.1 in
+        absurd (omega (arith, low, late))))
     (unpins_earlier opening (before ++ entry ∷ []) rest pin (omega (arith, late, length-append before (entry ∷ []))) legal.1)
 
 -- what no entry of a list does, none of a part of it does
@@ -267,10 +267,10 @@ module _ {D : Type 0} (turn : ℕ) (call : Call) (old new : Holding (OfficeOpeni
       let before : list_any (gives turn) old.made ≡ false =
       ap (list_any (gives turn)) (sym facts.paged.0)
       ∙ none_of_part (gives turn) (λ (e : Entry). e.caller == old.caller) old.seen
-      (unpins_earlier facts.lawful.0.opening [] old.seen turn (omega (arith, late)) facts.lawful.2.legal.due) in
+          (unpins_earlier facts.lawful.0.opening [] old.seen turn (omega (arith, late)) facts.lawful.2.legal.due) in
       list_any-append (gives turn) old.made (taking info ∷ [])
       ∙ both_false (list_any (gives turn) old.made) (list_any (gives turn) (taking info ∷ [])) before
-      (both_false (gives turn (taking info)) false (asks_only call turn asks) refl)
+          (both_false (gives turn (taking info)) false (asks_only call turn asks) refl)
 
   took : (info : PinInfo) → TakesTurn turn (taking info) old new → HoldsPin new (the_pin info)
   took info takes =

@@ -1,6 +1,7 @@
 -- The shared state stands for the history of its turns
-use Rattle.std.specs.Prelude.{ℕ, ◌+◌, ◌≤◌, List, length, subst}
+use Rattle.std.specs.Prelude.{ℕ, ◌+◌, ◌≤◌, List, length}
 use Rattle.std.specs.List.{AllByRecursion}
+use Rattle.std.proofs.Common.{subst}
 use Rattle.outside_io.specs.declared.disks.Disk.{Ghosts}
 use Rattle.policy_types.specs.declared.command.Command.{Command}
 use Rattle.policy_types.specs.declared.entry.Entry.{Entry}
