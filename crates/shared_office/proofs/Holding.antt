@@ -209,7 +209,9 @@ module _ {D : Type 0} {g : Ghosts D} (state : OfficeState D g) (history seen mad
       }
 
   pub may_read : (first : ℕ) → first ≤ pin.policies → MayRead (pins_of state) caller pin.number first
-  may_read first low = record { own = held_by; within = low }
+  may_read first low =
+      let own = held_by in
+      record { held = own.held; among = own.among; number = own.number; holder = own.holder; within = low }
 
 module _ {O : Type 0} (turn : ℕ) (entry : Entry) (old new : Holding O) (takes : TakesTurn turn entry old new) where
   -- a pin that the turn doesn't give up
@@ -228,6 +230,11 @@ module _ {O : Type 0} (turn : ℕ) (entry : Entry) (old new : Holding O) (takes 
             ∙ both_false (list_any (gives pin.number) old.made) (list_any (gives pin.number) (entry ∷ [])) holds.kept
             (both_false (gives pin.number entry) false other refl);
       })
+
+  -- a pin that was held before is none that the turn took
+  pub earlier : (pin : Held) → HoldsPin old pin → pin.number < turn
+  earlier pin holds =
+      omega (arith, slice_get_within old.seen pin.number _ holds.took, takes.place, length-append old.seen takes.between)
 
   pub keeps_pins : ((pin : ℕ) → gives_up pin entry.call ≡ false) → KeepsPins old new
   keeps_pins none pin holds = still_holds pin (none pin.number) holds
