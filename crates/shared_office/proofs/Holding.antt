@@ -1,8 +1,8 @@
 -- A pass's pin is live in each history that the pass can be at
-use Rattle.std.proofs.Common.{◌≡◌, ◌≢◌, ℕ, zero, suc, ◌+◌, ◌<◌, ◌≤◌, ◌==◌, Bool, true, false, ◌||◌, List, [], ◌∷◌, ◌++◌, length, drop, filter, slice_get, refl, sym, ap, ◌∙◌, subst, append_assoc, append-nil, None, Some, Option, Ok, Err, Result, IfOk, arith}
+use Rattle.std.proofs.Common.{◌≡◌, ℕ, suc, ◌+◌, ◌<◌, ◌≤◌, ◌==◌, Bool, true, false, ◌||◌, List, [], ◌∷◌, ◌++◌, length, drop, filter, slice_get, refl, sym, ap, ◌∙◌, subst, append_assoc, append-nil, Some, Ok, Err, Result, IfOk, arith}
 use Rattle.std.proofs.lemmas.Bool.Decides.{nat_tests}
-use Rattle.std.specs.List.{AllByRecursion, Contains, list_any}
-use Rattle.std.proofs.lemmas.Option.{none-some, same_Some, slice_get_within}
+use Rattle.std.specs.List.{Contains, list_any}
+use Rattle.std.proofs.lemmas.Option.{same_Some, slice_get_within}
 use Rattle.std.proofs.lemmas.List.{length-append}
 use Rattle.std.proofs.lemmas.List.Folds.{list_any-append}
 use Rattle.std.proofs.lemmas.List.Elements.{filter-append}
@@ -18,7 +18,7 @@ use Rattle.policy_machine.proofs.HistoryGrowth.{Answered, answered_at, live_of_s
 use Rattle.office_state.specs.declared.held.Held.{Held}
 use Rattle.office_state.specs.declared.held.PinInfo.{PinInfo}
 use Rattle.office_state.specs.declared.state.OfficeState.{OfficeState}
-use Rattle.office_state.specs.Pins.{IsHeldBy, MayRead, pins_held}
+use Rattle.office_state.specs.Pins.{IsHeldBy, MayRead}
 use Rattle.office_state.specs.Standing.{StandsFor}
 use Rattle.office_state.specs.States.{opening_of, pins_of}
 use Rattle.office_state.specs.Turning.{pin_reply}
@@ -26,7 +26,7 @@ use Rattle.office_state.proofs.PinSteps.{live_among}
 use Rattle.turn_lock.specs.History.{StartsWith, entries_of}
 use Rattle.turn_lock.specs.Passes.{Holding, PassFacts, TakesTurn}
 use Rattle.shared_office.specs.Offices.{IsOfficeHistory, OfficeOpening}
-use Rattle.shared_office.specs.Pins.{AsksForPin, HasMadePin, HoldsPin, IsKept, KeepsOtherPins, KeepsPins, pinned_reply, pinning_turn}
+use Rattle.shared_office.specs.Pins.{AsksForPin, HasMadePin, HoldsPin, IsKept, KeepsOtherPins, KeepsPins, pinned_reply}
 use Rattle.shared_office.specs.inside.Pinning.{pin_told}
 
 abbrev gives : ℕ → Entry → Bool
@@ -82,9 +82,9 @@ unpins_earlier opening before [] pin late legal = refl
 unpins_earlier opening before (entry ∷ rest) pin late legal =
     both_false (gives pin entry) (list_any (gives pin) rest)
     (not_true (gives pin entry) (λ given.
-        let own = given_by_owner opening before entry.caller pin entry.call entry.reply legal.0 given in
-        let low = slice_get_within before pin own.0 own.1 in
-        absurd (omega (arith, low, late))))
+    let own = given_by_owner opening before entry.caller pin entry.call entry.reply legal.0 given in
+    let low = slice_get_within before pin own.0 own.1 in
+    absurd (omega (arith, low, late))))
     (unpins_earlier opening (before ++ entry ∷ []) rest pin (omega (arith, late, length-append before (entry ∷ []))) legal.1)
 
 -- what no entry of a list does, none of a part of it does
@@ -274,10 +274,10 @@ module _ {D : Type 0} (turn : ℕ) (call : Call) (old new : Holding (OfficeOpeni
       let before : list_any (gives turn) old.made ≡ false =
       ap (list_any (gives turn)) (sym facts.paged.0)
       ∙ none_of_part (gives turn) (λ (e : Entry). e.caller == old.caller) old.seen
-          (unpins_earlier facts.lawful.0.opening [] old.seen turn (omega (arith, late)) facts.lawful.2.legal.due) in
+      (unpins_earlier facts.lawful.0.opening [] old.seen turn (omega (arith, late)) facts.lawful.2.legal.due) in
       list_any-append (gives turn) old.made (taking info ∷ [])
       ∙ both_false (list_any (gives turn) old.made) (list_any (gives turn) (taking info ∷ [])) before
-          (both_false (gives turn (taking info)) false (asks_only call turn asks) refl)
+      (both_false (gives turn (taking info)) false (asks_only call turn asks) refl)
 
   took : (info : PinInfo) → TakesTurn turn (taking info) old new → HoldsPin new (the_pin info)
   took info takes =

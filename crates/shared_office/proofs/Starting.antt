@@ -1,5 +1,5 @@
 -- An office that was opened and closed without a turn leaves the disk alone
-use Rattle.std.proofs.Common.{ℕ, ◌↔◌, ◌≡◌, ◌⊎◌, inl, inr, List, [], ◌∷◌, ◌++◌, refl, sym, ap, ◌∙◌, subst, append_assoc, append-nil, Some}
+use Rattle.std.proofs.Common.{ℕ, ◌↔◌, ◌≡◌, inl, inr, List, [], ◌∷◌, ◌++◌, refl, sym, ap, ◌∙◌, subst, append_assoc, append-nil, Some}
 use Rattle.outside_io.specs.declared.disks.Disk.{Ghosts}
 use Rattle.policy_types.specs.Accounts.{Booking}
 use Rattle.policy_types.specs.declared.command.Command.{Command}
@@ -9,7 +9,7 @@ use Rattle.policy_machine.specs.History.{Opening, opened_on}
 use Rattle.posting_journal.specs.Runs.{LooksOn}
 use Rattle.office_state.specs.declared.faults.StartCause.TheVariants.{NoMemory}
 use Rattle.office_state.specs.declared.state.OfficeState.{OfficeState}
-use Rattle.office_state.specs.Images.{HoldsOnce, IsLeftAlone, IsLeftBy, IsOneMore}
+use Rattle.office_state.specs.Images.{HoldsOnce, IsLeftBy, IsOneMore}
 use Rattle.office_state.specs.Journals.{Opens}
 use Rattle.office_state.specs.Opening.{HasNotOpened, HasOpened}
 use Rattle.office_state.specs.Standing.{StandsFor}

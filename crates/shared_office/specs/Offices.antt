@@ -31,7 +31,8 @@ FoundMemory _ = Unit {0}
 
 -- the first postings, as many as there was room for, found memory
 abbrev pub FirstFoundMemory : ℕ → List Entry → Type 0
-FirstFoundMemory room history = AllByRecursion (λ (entry : Entry). FoundMemory entry.reply) (take room (postings_of history))
+FirstFoundMemory room history =
+    AllByRecursion (λ (entry : Entry). FoundMemory entry.reply) (take room (postings_of history))
 
 -- a history of the office: every reply is the one due, and no posting lacked memory that there was room for; the accepted
 -- commands are valid, and not more than there may be

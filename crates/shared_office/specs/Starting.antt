@@ -11,7 +11,8 @@ use Rattle.shared_office.specs.Offices.{OfficeOpening}
 
 -- The office was opened on the commands of the disk's file and the disk's count of faults, with room for so many
 -- postings. Its first pass has all turns and all shares.
-pub record HasStarted {D : Type 0} (g : Ghosts D) (old : D) (postings : ℕ) (pass : Holding (OfficeOpening D)) : Type 0 where
+pub record HasStarted {D : Type 0} (g : Ghosts D) (old : D) (postings : ℕ) (pass : Holding (OfficeOpening D))
+    : Type 0 where
   pub opening : Opening
   pub first : IsFirst (record { opening = opening; begun = old; room = postings }) pass
   pub faults : opening.faults ≡ g.faults old
@@ -19,7 +20,8 @@ pub record HasStarted {D : Type 0} (g : Ghosts D) (old : D) (postings : ℕ) (pa
 
 -- The pass has seen the whole history, and each entry is its own or that of a caller whose pass was taken back. The disk
 -- is left by this history, from the office's opening on, and the balances are those of its accepted commands.
-pub record HasClosed {D : Type 0} (g : Ghosts D) (pass : Holding (OfficeOpening D)) (new : D) (balances : Booking) : Type 0 where
+pub record HasClosed {D : Type 0} (g : Ghosts D) (pass : Holding (OfficeOpening D)) (new : D) (balances : Booking)
+    : Type 0 where
   pub opening : OfficeOpening D
   pub opened : pass.opening ≡ Some opening
   pub whole : OwnsAll pass

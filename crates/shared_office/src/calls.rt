@@ -47,12 +47,7 @@ pub trait OfficeCalls<D: Disk> {
         ensures refused { IfErr result (λ fault. HasNotOpened D.Disk disk fault.disk fault.cause) };
 
     /// Posts a command.
-    fn post<R: Wait>(
-        &self,
-        rt: &R,
-        pass: &mut OfficePass<D>,
-        command: &Command,
-    ) -> Turned<Answer>
+    fn post<R: Wait>(&self, rt: &R, pass: &mut OfficePass<D>, command: &Command) -> Turned<Answer>
         requires ours { pass.old.turnstile ≡ office self.now }
         requires left { 1 ≤ pass.old.left }
         requires valid { IsValid command.now }
@@ -61,11 +56,7 @@ pub trait OfficeCalls<D: Disk> {
         ensures pins { KeepsPins pass.old pass.new };
 
     /// Pins the newest position. It is refused only where as many pins are live as may be.
-    fn pin<R: Wait>(
-        &self,
-        rt: &R,
-        pass: &mut OfficePass<D>,
-    ) -> Turned<Result<Pin, PinRefusal>>
+    fn pin<R: Wait>(&self, rt: &R, pass: &mut OfficePass<D>) -> Turned<Result<Pin, PinRefusal>>
         requires ours { pass.old.turnstile ≡ office self.now }
         requires left { 1 ≤ pass.old.left }
         ensures turn { TakesTurn result.turn (pinning_turn pass.old.caller PinCall result.answer) pass.old pass.new }
@@ -138,20 +129,11 @@ impl<D: Disk> OfficeCalls<D> for Office<D> {
         }
     }
 
-    fn post<R: Wait>(
-        &self,
-        rt: &R,
-        pass: &mut OfficePass<D>,
-        command: &Command,
-    ) -> Turned<Answer> {
+    fn post<R: Wait>(&self, rt: &R, pass: &mut OfficePass<D>, command: &Command) -> Turned<Answer> {
         self.turn(rt, pass, Post { command })
     }
 
-    fn pin<R: Wait>(
-        &self,
-        rt: &R,
-        pass: &mut OfficePass<D>,
-    ) -> Turned<Result<Pin, PinRefusal>> {
+    fn pin<R: Wait>(&self, rt: &R, pass: &mut OfficePass<D>) -> Turned<Result<Pin, PinRefusal>> {
         let caller = pass.caller();
         let Turned { turn, answer } = self.turn(rt, pass, PinNewest);
         pin_taken(turn, caller, answer)

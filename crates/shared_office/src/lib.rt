@@ -6,9 +6,9 @@ mod batch;
 mod calls;
 mod pin;
 mod state;
-mod turns;
 #[cfg(test)]
 mod tests;
+mod turns;
 
 pub use batch::Batch;
 pub use calls::{Office, OfficeCalls, OfficePass, close};

@@ -179,7 +179,10 @@ fn pins_of_one_caller(rt: HostRuntime) -> Result<(), AllocError> {
     let Ok((office, mut pass)) = Office::start(alloc, empty, 1) else {
         panic!(rt; "no office");
     };
-    assert_eq!(rt; read_back(&rt, &office, &mut pass, &mut batch), Some((Answer::Accepted(1), 1, 1)));
+    assert_eq!(rt;
+        read_back(&rt, &office, &mut pass, &mut batch),
+        Some((Answer::Accepted(1), 1, 1))
+    );
     assert!(rt; matches!(batch.policies(), [policy] if policy.id == 7001));
     assert!(rt; pass.left() >= 40);
     assert_eq!(rt; pins_at_once(&rt, &office, &mut pass, 20), 16);

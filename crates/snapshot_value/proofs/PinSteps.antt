@@ -35,7 +35,7 @@ book_length commands =
     omega (arith, ids, same, length-issues commands)
 
 module _ {D : Type 0} where
-  policies_by : (pass : Holding (OfficeOpening D)) (opened : OfficeOpening D) (position : ℕ) → pass.opening ≡ Some opened
+  pub policies_by : (pass : Holding (OfficeOpening D)) (opened : OfficeOpening D) (position : ℕ) → pass.opening ≡ Some opened
       → policies_at pass position ≡ book_at opened.opening pass.seen position
   policies_by pass opened position is = rw is refl
 

@@ -1,5 +1,5 @@
 -- What a pass learns of a pin's turn
-use Rattle.std.specs.Prelude.{◌≡◌, ℕ, Ok, Err, Result}
+use Rattle.std.specs.Prelude.{ℕ, Ok, Err, Result}
 use Rattle.policy_types.specs.declared.entry.PinRefusal.{PinRefusal}
 use Rattle.office_state.specs.declared.held.Held.{Held}
 use Rattle.office_state.specs.declared.held.PinInfo.{PinInfo}

@@ -1,5 +1,5 @@
 -- The shared state stands for the history of its turns
-use Rattle.std.specs.Prelude.{ℕ, ◌+◌, ◌≤◌, List, length}
+use Rattle.std.specs.Prelude.{◌+◌, ◌≤◌, List, length}
 use Rattle.std.specs.List.{AllByRecursion}
 use Rattle.std.proofs.Common.{subst}
 use Rattle.outside_io.specs.declared.disks.Disk.{Ghosts}
