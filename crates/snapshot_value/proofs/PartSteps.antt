@@ -47,7 +47,7 @@ next_read pin policies k low =
     let here : k < length (reads_of pin policies) = omega (arith, low, length-reads_of pin policies) in
     take_more (reads_of pin policies) k (Read pin 0) here
     ∙ ap (λ call. take k (reads_of pin policies) ++ call ∷ [])
-        (get_or-map-range_with_len (λ n. Read pin (policies_per_read * n)) 0 (reads_needed policies) k k (Read pin 0) low (omega arith))
+    (get_or-map-range_with_len (λ n. Read pin (policies_per_read * n)) 0 (reads_needed policies) k k (Read pin 0) low (omega arith))
 
 -- a read within the policies
 pub starts_within : (policies k : ℕ) → k < reads_needed policies → policies_per_read * k ≤ policies

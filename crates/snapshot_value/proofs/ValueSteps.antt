@@ -194,5 +194,11 @@ module _ {D : Type 0} (basis : List Dated) (on : ℤ) (at : At) (workers turn : 
       where
         apart : other.number ≢ pin.number
         apart same =
-            absurd (omega (arith, same, number, slice_get_within old.seen other.number _ holds.took, takes.place,
-            length-append old.seen takes.between))
+            absurd (omega (
+              arith,
+              same,
+              number,
+              slice_get_within old.seen other.number _ holds.took,
+              takes.place,
+              length-append old.seen takes.between,
+            ))
