@@ -1,0 +1,5 @@
+pub mod Growth
+pub mod RowSteps
+pub mod PinSteps
+pub mod PartSteps
+pub mod ValueSteps
