@@ -15,7 +15,8 @@ is_acceptance _ = false
 abbrev pub accepts : Entry → Bool
 accepts entry = is_acceptance entry.reply
 
--- the office of this disk had a legal history of so many turns, of which so many were acceptances, and the disk is left by it
+-- The office of this disk had a legal history of so many turns, of which so many were acceptances, and the disk is left
+-- by it
 pub record HasPosted {D : Type 0} (g : Ghosts D) (old new : D) (turns accepted : ℕ) : Type 0 where
   pub opening : OfficeOpening D
   pub begun : opening.begun ≡ old

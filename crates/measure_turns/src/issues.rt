@@ -66,8 +66,8 @@ fn issue(id: u32) -> Command
     }
 }
 
-/// So many callers issue so many policies each, with the numbers from 1 on, at the office of the disk's journal. Gives the
-/// disk back, and how many were accepted.
+/// So many callers issue so many policies each at the office of the disk's journal. Gives the disk back, and how many
+/// were accepted. The caller of place `p` issues the numbers `p + 1`, `p + 33`, `p + 65` and so on.
 pub fn post_issues<D: Disk + Send, R: Threads + Wait + Sync>(
     rt: &R,
     alloc: Global,

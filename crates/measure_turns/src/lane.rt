@@ -26,8 +26,8 @@ pub trait Lane<T: Stands, R: Wait> {
         ensures { Takes counts (turns self.now) result pass.old pass.new };
 }
 
-/// The turns of so many callers, each in a thread of its own with a pass of its own. Gives the first pass back, into which
-/// all others were taken, and how many turns were counted.
+/// The turns of so many callers, each in a thread of its own with a pass of its own. Gives the first pass back, into
+/// which all others were taken, and how many turns were counted.
 #[tactic(auto, using(crate::proofs::Taking::room_kept, crate::proofs::Taking::room_given))]
 pub fn lanes<T: Stands + Send, R: Threads + Wait + Sync, L: Lane<T, R> + Sync>(
     rt: &R,

@@ -1,11 +1,11 @@
 //! Callers take turns under one lock, so that the lock can be timed.
 //!
-//! `turns CALLERS TURNS` has so many callers, 1 to 32, take so many turns each on a counter, and prints
-//! `turns,CALLERS,COUNT`, the count at the end. `waiting SECONDS` has eight callers take one turn each, of which the first
-//! works for so long while the others wait, and prints `waiting,8,COUNT`. `postings CALLERS COUNT` has so many callers
-//! issue COUNT policies in all, each as many (a rest is left out), at the office of `journal.life` in the folder where
-//! it runs, and prints `postings,CALLERS,ACCEPTED`. The status is 2 where the words are others, 8 where the journal
-//! doesn't open, 9 where there is no memory.
+//! `turns CALLERS TURNS` has so many callers, 1 to 32, take so many turns each on a counter, and prints the count at the
+//! end as `turns,CALLERS,COUNT`. `waiting SECONDS` has eight callers take one turn each, of which the first works for so
+//! long while the others wait, and prints `waiting,8,COUNT`. `postings CALLERS COUNT` has so many callers issue COUNT
+//! policies in all, each as many (a rest is left out), at the office of `journal.life` in the folder where it runs, and
+//! prints `postings,CALLERS,ACCEPTED`. The status is 2 where the words are others, 8 where the journal doesn't open, 9
+//! where there is no memory.
 #![tactic(auto)]
 
 ghost use Rattle.std.specs.Prelude.{◌≤◌, IfSome};
