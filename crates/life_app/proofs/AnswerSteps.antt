@@ -1,9 +1,8 @@
 -- The turns that were made, and what their answers can say
-use Rattle.std.proofs.Common.{◌≡◌, ℕ, ◌≤◌, List, [], ◌∷◌, ◌++◌, length, take, refl, ap, sym, ◌∙◌, subst, Some, arith, append-nil, append_assoc}
+use Rattle.std.proofs.Common.{◌≡◌, ℕ, ◌≤◌, List, [], ◌∷◌, ◌++◌, length, take, refl, ap, sym, ◌∙◌, subst, Some, arith, append_assoc}
 use Rattle.std.specs.Prelude.{slice_get}
 use Rattle.std.specs.List.{AllByRecursion}
 use Rattle.std.proofs.lemmas.List.{take_all}
-use Rattle.outside_io.specs.declared.disks.Disk.{Ghosts}
 use Rattle.policy_types.specs.declared.command.Command.{Command}
 use Rattle.policy_types.specs.declared.entry.Call.TheVariants.{Post}
 use Rattle.policy_types.specs.declared.entry.Entry.{Entry}
@@ -14,11 +13,8 @@ use Rattle.policy_machine.specs.History.{Opening, IsDue, IsLegalAfter, accepted_
 use Rattle.policy_machine.proofs.HistoryLemmas.{accepted_of-push}
 use Rattle.office_state.specs.declared.answer.Answer.{Answer}
 use Rattle.office_state.specs.declared.answer.Answer.TheVariants.{Accepted, Refused, DiskFault, NoMemory}
-use Rattle.office_state.specs.declared.state.OfficeState.{OfficeState}
 use Rattle.command_csv.specs.Reads.{IsScriptLine}
 use Rattle.office_state.specs.Posting.{reply_of, turn_of}
-use Rattle.office_state.specs.Standing.{StandsFor}
-use Rattle.office_state.specs.States.{commands_of, opening_of}
 use Rattle.shared_office.specs.Offices.{FirstFoundMemory, FoundMemory, postings_of}
 use Rattle.life_app.specs.inside.Turns.{IsTold, line_turn, turns_made}
 use Rattle.life_app.proofs.RefusalSteps.{due_printable}
@@ -110,8 +106,3 @@ all_found room caller lines answers right each enough first =
     let all : take room (postings_of turns) ≡ turns = ap (take room) (all_postings caller lines answers right)
     ∙ take_all room turns (omega (arith, made_each caller lines answers, each, enough)) in
     subst (AllByRecursion (λ (entry : Entry). FoundMemory entry.reply)) all first
-
--- an office that was opened on valid commands
-pub open_first : {D : Type 0} {g : Ghosts D} (office : OfficeState D g) → StandsFor office [] → AllByRecursion IsValid (commands_of office)
-open_first office stands =
-    subst (AllByRecursion IsValid) (sym (stands.kept ∙ append-nil (opening_of office).commands)) stands.history.legal.opens.valid

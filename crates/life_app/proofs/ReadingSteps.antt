@@ -1,5 +1,5 @@
 -- What one more record adds to an account, and what is known once all records were read, or one couldn't be
-use Rattle.std.proofs.Common.{◌≡◌, ◌↔◌, if◌then◌else◌, add-one, length-append, ℕ, suc, ◌+◌, ◌-◌, ◌<◌, ◌≤◌, ◌==◌, Bool, true, false, List, [], ◌∷◌, ◌++◌, length, map, take, get_or, slice_index_or, refl, ap, ap₂, sym, ◌∙◌, subst, inl, inr, Some, None, Option, Ok, Err, Result, IsOk, append-nil, append_assoc, arith}
+use Rattle.std.proofs.Common.{◌≡◌, ◌↔◌, if◌then◌else◌, add-one, length-append, ℕ, ◌+◌, ◌<◌, ◌==◌, Bool, true, false, List, [], ◌∷◌, ◌++◌, length, take, slice_index_or, refl, ap, ap₂, sym, ◌∙◌, subst, inl, inr, Some, Option, Ok, Err, Result, IsOk, append-nil, append_assoc, arith}
 use Rattle.std.specs.Prelude.{IfSome}
 use Rattle.std.specs.List.{All, AllByRecursion, enumerate_from, filter}
 use Rattle.std.proofs.Math.Seq.{take-length, take-suc}
@@ -33,7 +33,7 @@ use Rattle.office_state.proofs.JournalLaws.{same_command, same_commands, shown_o
 use Rattle.office_state.proofs.OpeningSteps.{IsStarted}
 use Rattle.life_app.specs.declared.rereading.Account.{Account}
 use Rattle.life_app.specs.Books.{entries_of}
-use Rattle.life_app.specs.inside.Rereading.{AreRead, CanBeNext, HasNotRead, HasRead, HasStopped, IsAccount, IsNext, IsReadFrom, IsStoppedAt, IsStoppedFrom, IsStuck, IsUnadded, SpellsNoNext}
+use Rattle.life_app.specs.inside.Rereading.{AreRead, CanBeNext, HasNotRead, HasRead, HasStopped, IsAccount, IsNext, IsReadFrom, IsStoppedAt, IsStoppedFrom, IsStuck, SpellsNoNext}
 
 enumerate_from-push : {X : Type 0} (n : ℕ) (xs : List X) (x : X)
     → enumerate_from n (xs ++ x ∷ []) ≡ enumerate_from n xs ++ (n + length xs, x) ∷ []

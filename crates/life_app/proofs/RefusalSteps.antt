@@ -11,7 +11,6 @@ use Rattle.policy_types.specs.declared.refusal.Refusal.{Refusal}
 use Rattle.policy_types.specs.declared.refusal.Refusal.TheVariants.{Full, Unknown}
 use Rattle.policy_types.specs.Limits.{most_commands}
 use Rattle.policy_types.specs.Valid.{AreYears, IsValid, id_of}
-use Rattle.life_dates.specs.Anniversary.{anniversary_of}
 use Rattle.life_dates.specs.Calendar.{IsTermDay}
 use Rattle.life_dates.proofs.AnniversaryLemmas.{anniversary_in}
 use Rattle.command_csv.proofs.FieldTexts.{term_day}

@@ -1,11 +1,10 @@
 -- How `state` ends, by what its parts did
-use Rattle.std.proofs.Common.{◌≡◌, ◌↔◌, ℕ, ◌+◌, ◌<◌, List, [], ◌∷◌, ◌++◌, length, take, get_or, refl, ap, sym, ◌∙◌, subst, inl, inr, Some, Result, Ok, Err, Vec, Global, append-nil}
+use Rattle.std.proofs.Common.{◌≡◌, ◌↔◌, ℕ, ◌+◌, ◌<◌, List, [], ◌∷◌, ◌++◌, length, take, get_or, ap, sym, ◌∙◌, subst, inl, Some, Result, Ok, Err, Vec, Global, append-nil}
 use Rattle.std.specs.Prelude.{IfOk, slice_get}
-use Rattle.std.specs.List.{AllByRecursion, flat_map}
+use Rattle.std.specs.List.{flat_map}
 use Rattle.std.proofs.Math.Seq.{take-length}
 use Rattle.std.proofs.lemmas.Grind.{flat_map-append}
 use Rattle.std.proofs.lemmas.List.{take_more}
-use Rattle.std.proofs.lemmas.List.Elements.{All-from_recursion}
 use Rattle.std.proofs.lemmas.Option.{slice_get-get_or}
 use Rattle.outside_io.specs.Faults.{Rose}
 use Rattle.outside_io.specs.Streams.{AppendsPart}
@@ -13,11 +12,8 @@ use Rattle.outside_io.specs.declared.disks.Disk.{Ghosts}
 use Rattle.policy_types.specs.declared.command.Command.{Command}
 use Rattle.policy_types.specs.declared.watcher.NoMemory.{NoMemory as Lack}
 use Rattle.policy_types.specs.declared.policy.Policy.{Policy}
-use Rattle.policy_types.specs.Valid.{IsValid}
 use Rattle.policy_machine.specs.Book.{book}
 use Rattle.policy_machine.specs.History.{opened_on}
-use Rattle.policy_machine.specs.Rules.{IsSound}
-use Rattle.policy_machine.proofs.BookLemmas.{book-sound}
 use Rattle.statements.specs.Statements.{policy_text}
 use Rattle.policy_machine.proofs.LedgerLemmas.{sum_of-ledger}
 use Rattle.posting_journal.specs.Creation.{IsUnfinished}
@@ -25,11 +21,11 @@ use Rattle.posting_journal.specs.Runs.{LooksOn}
 use Rattle.office_state.specs.declared.faults.StartCause.{StartCause}
 use Rattle.office_state.specs.declared.faults.StartCause.TheVariants.{DiskFault as FaultyDisk, NotAJournal, BadRecord, NoMemory as NoRoom}
 use Rattle.office_state.specs.Images.{IsLeftAlone, IsLeftBy}
-use Rattle.office_state.specs.Journals.{Opens, OpensToNone}
+use Rattle.office_state.specs.Journals.{Opens}
 use Rattle.office_state.specs.Opening.{HasNotOpened, TellsFault}
 use Rattle.office_state.proofs.OpeningSteps.{CountsNow, ReadsImage}
 use Rattle.life_app.specs.declared.ending.Ending.{Ending}
-use Rattle.life_app.specs.declared.ending.Ending.TheVariants.{Done, Usage, BadScript, BadJournal, ReadFault as InputFault, WriteFault, DiskFault, NoMemory}
+use Rattle.life_app.specs.declared.ending.Ending.TheVariants.{Done, BadJournal, WriteFault, DiskFault, NoMemory}
 use Rattle.life_app.specs.declared.rereading.Account.{Account}
 use Rattle.life_app.specs.Books.{account_text, entries_of, policy_account}
 use Rattle.life_app.specs.Outcome.{SaysWhy}

@@ -1,12 +1,11 @@
 -- What the exit status tells of a valuation
-use Rattle.std.proofs.Common.{◌≡◌, ℕ, ◌≤◌, ◌<◌, ◌⊎◌, ℤ, List, length, refl, ap, sym, ◌∙◌, subst, inl, inr, Option, Some, String, Global, arith}
+use Rattle.std.proofs.Common.{◌≡◌, ℕ, ◌≤◌, ◌<◌, ◌⊎◌, ℤ, List, length, refl, ap, subst, inl, inr, Option, Some, arith}
 use Rattle.std.specs.Prelude.{IfSome}
 use Rattle.outside_io.specs.Faults.{Rose}
 use Rattle.outside_io.specs.Streams.{AppendsPart}
 use Rattle.outside_io.specs.declared.disks.Disk.{Ghosts}
 use Rattle.policy_types.specs.declared.command.Command.{Command}
 use Rattle.policy_types.specs.declared.entry.At.{At}
-use Rattle.policy_types.specs.declared.entry.At.TheVariants.{Now, Position}
 use Rattle.basis_book.specs.Dated.{Dated}
 use Rattle.basis_shelf.specs.Bases.{IsBasis}
 use Rattle.basis_shelf.specs.FirstBad.{IsFirstBad}
@@ -16,10 +15,10 @@ use Rattle.basis_shelf.proofs.OneBasis.{basis_or_bad, one_first_bad}
 use Rattle.office_state.specs.Journals.{Opens, OpensToNone}
 use Rattle.office_state.proofs.JournalLaws.{opens_to_one}
 use Rattle.life_app.specs.declared.ending.Ending.{Ending}
-use Rattle.life_app.specs.declared.ending.Ending.TheVariants.{Done, Usage, BadScript, BadBasis, BadJournal, ReadFault, WriteFault, DiskFault, NoMemory, Ahead}
+use Rattle.life_app.specs.declared.ending.Ending.TheVariants.{Done, BadBasis, BadJournal, ReadFault, WriteFault, DiskFault, NoMemory}
 use Rattle.life_app.specs.Stating.{EndsReadOnly}
 use Rattle.life_app.specs.Status.{status_of}
-use Rattle.life_app.specs.Valuing.{EndsByBasis, EndsNoBasis, EndsValue, EndsValuing, IsAhead, IsValued, SaysBadFile, position_of}
+use Rattle.life_app.specs.Valuing.{EndsByBasis, EndsNoBasis, EndsValue, EndsValuing, IsValued, SaysBadFile, position_of}
 use Rattle.life_app.specs.Writing.{Shelving, Stream, WroteAll, WroteOrFailed}
 use Rattle.life_app.proofs.ReadOnlySteps.{opens_to_none, read_as_before, read_refused, read_to_end}
 

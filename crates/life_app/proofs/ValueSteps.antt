@@ -20,7 +20,6 @@ use Rattle.policy_machine.proofs.BookGrowth.{book-ids}
 use Rattle.policy_machine.proofs.BookLemmas.{book-sound}
 use Rattle.basis_book.specs.Dated.{Dated}
 use Rattle.basis_shelf.specs.Answers.{IfBad}
-use Rattle.basis_shelf.specs.Bases.{IsBasis}
 use Rattle.basis_shelf.specs.FirstBad.{IsFirstBad}
 use Rattle.basis_shelf.specs.declared.fault.NoBasis.{NoBasis}
 use Rattle.basis_shelf.specs.declared.fault.NoBasis.TheVariants.{Bad, ReadFault as ShelfFailed, NoMemory as NoRoom}
@@ -34,7 +33,7 @@ use Rattle.office_state.specs.Journals.{Opens}
 use Rattle.office_state.proofs.BookSteps.{all-take}
 use Rattle.life_app.specs.declared.ending.Ending.{Ending}
 use Rattle.life_app.specs.declared.ending.Ending.TheVariants.{Done, Ahead, BadBasis, ReadFault, WriteFault, NoMemory}
-use Rattle.life_app.specs.Valuing.{EndsNoBasis, EndsValuing, IsBeyond, IsRowOf, IsValuation, IsValued, position_of}
+use Rattle.life_app.specs.Valuing.{EndsNoBasis, EndsValuing, IsRowOf, IsValuation, position_of}
 use Rattle.life_app.specs.Writing.{Shelving, Stream, WroteAll}
 use Rattle.life_app.specs.inside.Parts.{EndsText}
 use Rattle.life_app.specs.inside.Valued.{EndsValued, SaysAhead, SaysNoBasis}

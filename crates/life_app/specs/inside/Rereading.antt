@@ -11,13 +11,13 @@ use Rattle.policy_machine.specs.Rules.{next}
 use Rattle.record_codec.specs.Spelling.{spelling_of}
 use Rattle.posting_journal.specs.Creation.{IsUnfinished}
 use Rattle.posting_journal.specs.Runs.{LooksOn}
-use Rattle.posting_journal.specs.States.{count_of, disk_of}
+use Rattle.posting_journal.specs.States.{disk_of}
 use Rattle.posting_journal.specs.declared.journal.Journal.{Journal}
 use Rattle.office_state.specs.declared.faults.StartCause.{StartCause}
 use Rattle.office_state.specs.declared.faults.StartCause.TheVariants.{DiskFault as FaultyDisk, NotAJournal, BadRecord, NoMemory as NoRoom}
 use Rattle.office_state.specs.Journals.{IsOfTheFile, Opens, OpensToNone, bodies_of}
 use Rattle.office_state.specs.Opening.{TellsFault}
-use Rattle.office_state.specs.inside.Replays.{BodiesHave, HasFailed, IsLookedAt, IsQuiet, StaysAs}
+use Rattle.office_state.specs.inside.Replays.{BodiesHave, HasFailed, IsLookedAt, IsQuiet}
 use Rattle.life_app.specs.declared.rereading.Account.{Account}
 use Rattle.life_app.specs.declared.ending.Ending.{Ending}
 use Rattle.life_app.specs.declared.ending.Ending.TheVariants.{Done, BadJournal, WriteFault, DiskFault, NoMemory}

@@ -1,4 +1,4 @@
-use Rattle.std.proofs.Common.{sym, arith}
+use Rattle.std.proofs.Common.{arith}
 use Rattle.policy_machine.specs.Rules.{IsSound}
 use Rattle.life_app.proofs.ReadingSteps.{account_sound, account_valid}
 use Rattle.life_app.proofs.account.text_of.Goals as goal

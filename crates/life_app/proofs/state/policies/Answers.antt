@@ -1,4 +1,4 @@
-use Rattle.std.proofs.Common.{◌≡◌, ◌<◌, ◌∙◌, length, take, arith}
+use Rattle.std.proofs.Common.{◌<◌, ◌∙◌, length, take, arith}
 use Rattle.policy_machine.specs.Book.{book}
 use Rattle.office_state.specs.States.{commands_of}
 use Rattle.life_app.proofs.StateSteps.{lines_more}

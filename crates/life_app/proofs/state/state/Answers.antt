@@ -1,9 +1,7 @@
 use Rattle.std.proofs.Common.{◌≡◌, ◌∙◌, [], append-nil}
-use Rattle.std.proofs.lemmas.Result.{MatchResult-weaker}
 use Rattle.office_state.specs.States.{commands_of, opening_of}
 use Rattle.life_app.specs.Books.{books_text}
 use Rattle.life_app.specs.Stating.{IsStated}
-use Rattle.life_app.proofs.AnswerSteps.{open_first}
 use Rattle.life_app.proofs.RunSteps.{opened_alone, opened_left}
 use Rattle.life_app.proofs.StateSteps.{ends_refused, ends_text}
 use Rattle.life_app.proofs.state.state.Goals as goal

@@ -1,10 +1,8 @@
-use Rattle.std.proofs.Common.{◌≡◌, ◌<◌, ◌∙◌, ap, length, take, arith, subst, sym, w32, to_z, of_z}
-use Rattle.std.specs.List.{AllZip}
+use Rattle.std.proofs.Common.{◌≡◌, ◌<◌, length, take, arith, sym, w32, to_z, of_z}
 use Rattle.std.proofs.lemmas.Int.{to_z-of_z}
 use Rattle.std.proofs.lemmas.List.{take_all}
 use Rattle.policy_machine.specs.Book.{book}
 use Rattle.office_state.specs.States.{commands_of}
-use Rattle.life_app.specs.Valuing.{IsRowOf}
 use Rattle.life_app.proofs.ValueSteps.{policy_sound, row_added, rows_few}
 use Rattle.life_app.proofs.valuation.rows_of.Goals as goal
 
