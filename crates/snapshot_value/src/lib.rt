@@ -1,6 +1,8 @@
 //! A valuation of the policies at a pinned position, while other callers go on posting.
 #![tactic(auto)]
 
+#[cfg(test)]
+mod meeting;
 mod reading;
 #[cfg(test)]
 mod tests;

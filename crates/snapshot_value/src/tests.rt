@@ -18,7 +18,7 @@ use std::test::Fail;
 use turn_lock::Turned;
 
 /// 2021-01-01 and 2022-01-01, one and two years after the policies are issued.
-const ONE_YEAR: i32 = 18_628;
+pub(crate) const ONE_YEAR: i32 = 18_628;
 
 const TWO_YEARS: i32 = 18_993;
 
@@ -39,7 +39,7 @@ impl Gate for Steps {
 }
 
 // An endowment of 1000.00 for three years at age 0, with an annual premium of 400.00, issued on 2020-01-01.
-fn issue(id: u32) -> Command {
+pub(crate) fn issue(id: u32) -> Command {
     Command::Issue {
         id,
         day: 18_262,
@@ -52,7 +52,7 @@ fn issue(id: u32) -> Command {
 }
 
 // The rates 0.1, 0.2, 0.25, 0.5 and 1 of the ages 0 to 4, in units of 10^-9, at an interest of 0.
-fn flat_basis(alloc: Global) -> Result<Basis, Fail> {
+pub(crate) fn flat_basis(alloc: Global) -> Result<Basis, Fail> {
     let file = b"1900-01-01,q.xml,0".as_slice();
     if file.len() > LONGEST_FILE {
         return Err("a short file".into());
@@ -76,7 +76,12 @@ fn flat_basis(alloc: Global) -> Result<Basis, Fail> {
 }
 
 // Posts a command where it is valid and a turn is left.
-fn post<D: Disk, R: Wait>(rt: &R, office: &Office<D>, pass: &mut OfficePass<D>, command: &Command)
+pub(crate) fn post<D: Disk, R: Wait>(
+    rt: &R,
+    office: &Office<D>,
+    pass: &mut OfficePass<D>,
+    command: &Command,
+)
     requires { pass.old.turnstile ≡ office.now }
     ensures { (pass.new.turnstile ≡ pass.old.turnstile) × (pass.new.shares ≡ pass.old.shares) }
 {
@@ -86,7 +91,7 @@ fn post<D: Disk, R: Wait>(rt: &R, office: &Office<D>, pass: &mut OfficePass<D>, 
     office.post(rt, pass, command);
 }
 
-fn inforce(id: u32, t: u8, lo: u64, hi: u64) -> Row {
+pub(crate) fn inforce(id: u32, t: u8, lo: u64, hi: u64) -> Row {
     Row {
         id,
         status: Status::InForce,
@@ -97,7 +102,7 @@ fn inforce(id: u32, t: u8, lo: u64, hi: u64) -> Row {
 
 // Whether the turn of the pin is this, and the valuation is of this position, with this row for each of so many policies,
 // whose numbers begin with 1.
-fn is_of(
+pub(crate) fn is_of(
     valued: &Turned<Result<Valuation, ValueFault>>,
     turn: u64,
     position: u32,
@@ -107,9 +112,9 @@ fn is_of(
     let Ok(valuation) = &valued.answer else {
         return false;
     };
-    let mut id = 0;
+    let mut id = 0u32;
     for found in valuation.rows.as_slice() {
-        id += 1;
+        id = id.saturating_add(1);
         if *found != (Row { id, ..*row }) {
             return false;
         }
