@@ -3,7 +3,8 @@
 # lock by tickets that waits in the same way and beside a `Mutex` (plain_turns.rs), in turn over several rounds; postings
 # a second through the shared office on a real file with 1 and 8 callers, beside a plain loop that makes the same writes
 # and syncs (plain_journal.rs); and the processor time of eight callers of which one works while the others wait.
-# A time of turns is that of a whole run of the program less that of a run of no turns.
+# A time of turns is that of a whole run of the program less that of a run of no turns. On a machine that does other work
+# the callers often run one after the other and not at once, and then the figures say little.
 # usage: sh bench/measure_turns.sh [FOLDER [ROUNDS [TURNS [POSTINGS]]]]
 # In place of what isn't given: the current folder, 5 rounds, 1000000 turns of all callers (four times as many of one
 # alone), 4000 postings. Needs python3; where rustc isn't installed the plain programs are left out. The status is 1 where
@@ -42,12 +43,15 @@ def run(words):
     used = after.ru_utime + after.ru_stime - before.ru_utime - before.ru_stime
     return ran.stdout.decode().strip(), seconds, used
 
-def nanoseconds(words, callers, each):
-    """Of a turn, by the time of a run and of one of no turns."""
+def start_of(words, callers):
+    """The seconds of a run of no turns: the least of five."""
+    return min(run(words + [str(callers), "0"])[1] for _ in range(5))
+
+def nanoseconds(words, callers, each, nothing):
+    """Of a turn, by the time of a run and of one of no turns; 1 at least."""
     line, seconds, _ = run(words + [str(callers), str(each)])
     need(line == "turns,%d,%d" % (callers, callers * each), "%s printed %s" % (words, line))
-    _, nothing, _ = run(words + [str(callers), "0"])
-    return max(seconds - nothing, 0) * 1e9 / (callers * each)
+    return max((seconds - nothing) * 1e9 / (callers * each), 1)
 
 def measure_turns():
     locks = [("proved", [program, "turns"])]
@@ -56,16 +60,17 @@ def measure_turns():
     for callers in (1, 2, 4, 8, 32):
         each = turns * 4 if callers == 1 else turns // callers
         found = {name: [] for name, _ in locks}
+        nothing = {name: start_of(words, callers) for name, words in locks}
         for number in range(rounds):
             for name, words in locks if number % 2 == 0 else locks[::-1]:
-                found[name].append(nanoseconds(words, callers, each))
-        middle = {name: max(statistics.median(times), 0.01) for name, times in found.items()}
+                found[name].append(nanoseconds(words, callers, each, nothing[name]))
+        middle = {name: statistics.median(times) for name, times in found.items()}
         print("%2d callers: %s" % (callers, "; ".join("%s %.0f ns a turn, %.0f turns a second" % (name, nanos, 1e9 / nanos)
               for name, nanos in middle.items())))
         if plain:
             print("    turns a second of the proved lock over those of the plain ticket lock: %.2f (by round: %s)"
                   % (middle["plain ticket"] / middle["proved"],
-                     ", ".join("%.2f" % (p / max(q, 0.01)) for p, q in zip(found["plain ticket"], found["proved"]))))
+                     ", ".join("%.2f" % (p / q) for p, q in zip(found["plain ticket"], found["proved"]))))
 
 def measure_waiting():
     for seconds in (0, 1, 2):

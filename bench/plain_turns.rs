@@ -3,8 +3,8 @@
 //! usage: plain_turns ticket|mutex CALLERS TURNS
 use std::cell::UnsafeCell;
 use std::hint::spin_loop;
-use std::sync::Mutex;
 use std::sync::atomic::{AtomicU64, Ordering};
+use std::sync::{Barrier, Mutex};
 use std::thread::{scope, yield_now};
 
 /// Looks that only spin in between.
@@ -75,11 +75,13 @@ impl<T> Ticket<T> {
     }
 }
 
-/// Each caller in a thread of its own, so often.
+/// Each caller in a thread of its own, so often, once all have come.
 fn all(callers: u64, turns: u64, turn: impl Fn() + Sync) {
+    let start = Barrier::new(callers as usize);
     scope(|threads| {
         for _ in 0..callers {
             threads.spawn(|| {
+                start.wait();
                 for _ in 0..turns {
                     turn();
                 }

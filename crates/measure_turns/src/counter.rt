@@ -4,7 +4,7 @@ ghost use Rattle.std.specs.Prelude.{◌≡◌, ◌*◌, ◌≤◌, ◌<◌, ◌^
 use crate::lane::{Lane, lanes};
 use policy_types::NoMemory;
 use std::alloc::Global;
-use std::sync::Wait;
+use std::sync::{Barrier, Wait};
 use std::thread::Threads;
 use turn_lock::{Pass, Stands, Turn, Turnstile};
 
@@ -50,13 +50,15 @@ impl Turn<Counter> for Tick {
     ghost by_caller = { λ _ _ _. refl };
 }
 
-/// Callers of which each adds one, turn by turn.
+/// Callers of which each adds one, turn by turn, once all have come.
 #[derive(Clone, Copy)]
-pub struct Ticks {
+pub struct Ticks<'a> {
     pub turns: u32,
+    /// It waits for as many as there are callers.
+    pub start: &'a Barrier,
 }
 
-impl<R: Wait> Lane<Counter, R> for Ticks {
+impl<R: Wait> Lane<Counter, R> for Ticks<'_> {
     ghost use Rattle.std.specs.Prelude.{true};
 
     ghost turns = { λ ticks. ticks.turns };
@@ -65,6 +67,7 @@ impl<R: Wait> Lane<Counter, R> for Ticks {
 
     fn run(&self, rt: &R, gate: &Turnstile<Counter>, pass: &mut Pass<Counter>, place: u32) -> u64 {
         let turns = self.turns;
+        self.start.wait(rt);
         let mut done = 0;
         while done < turns {
             gate.turn(rt, pass, Tick);

@@ -21,6 +21,7 @@ use lane::MOST_CALLERS;
 use outside_io::FileDisk;
 use std::env::Args;
 use std::process::ExitCode;
+use std::sync::Barrier;
 use std::sync::atomic::AtomicBool;
 use std::{env, io};
 use waiting::Waiting;
@@ -41,7 +42,12 @@ fn main(rt: HostRuntime) -> io::Result<ExitCode> {
             else {
                 return Ok(ExitCode::from(2));
             };
-            let Ok(count) = count_turns(&rt, alloc, &Ticks { turns }, callers) else {
+            let start = Barrier::new(callers as usize);
+            let ticks = Ticks {
+                turns,
+                start: &start,
+            };
+            let Ok(count) = count_turns(&rt, alloc, &ticks, callers) else {
                 return Ok(ExitCode::from(9));
             };
             println!(rt; "turns,{callers},{count}")?;
