@@ -70,6 +70,7 @@ fn callers_issue<D: Disk + Send, R: Threads + Wait + Sync>(
     let other = office.enter(&mut pass);
     let half = callers / 2;
     let rest = callers - half;
+    let middle = first.saturating_add(half);
     let (mut pass, other) = join(
         rt,
         move || -> OfficePass<D>
@@ -79,16 +80,7 @@ fn callers_issue<D: Disk + Send, R: Threads + Wait + Sync>(
         move || -> OfficePass<D>
             requires { IsSync R.row × (other.turnstile ≡ office.now) }
             ensures { (result.turnstile ≡ other.turnstile) × (result.shares ≡ other.shares) }
-        {
-            callers_issue(
-                rt,
-                office,
-                other,
-                first.saturating_add(half),
-                rest,
-                policies,
-            )
-        },
+        { callers_issue(rt, office, other, middle, rest, policies) },
     );
     office.leave(other, &mut pass);
     pass
@@ -128,7 +120,7 @@ fn each_callers_postings_in_its_order(rt: HostRuntime) -> Result<(), AllocError>
     let alloc = rt.alloc();
     let cases = [
         ("two callers", 2, 100, 13_018),
-        ("eight callers, who go on for long", 8, 1000, 520_018),
+        ("eight callers with a thousand each", 8, 1000, 520_018),
         ("more callers than processors", 32, 50, 104_018),
     ];
     for (name, callers, policies, bytes) in cases {
@@ -153,7 +145,7 @@ fn each_callers_postings_in_its_order(rt: HostRuntime) -> Result<(), AllocError>
     Ok(())
 }
 
-// Caller 7 looks so long whether the others are done, and then issues a policy.
+// Caller 7 waits until the others are done, for so many looks at most, and then issues a policy.
 fn late<D: Disk, R: Wait>(rt: &R, office: &Office<D>, pass: &mut OfficePass<D>, done: &AtomicBool)
     requires { pass.old.turnstile ≡ office.now }
     ensures { (pass.new.turnstile ≡ pass.old.turnstile) × (pass.new.shares ≡ pass.old.shares) }
