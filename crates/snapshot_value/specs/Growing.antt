@@ -1,5 +1,5 @@
 -- What a caller's turns do to its pass
-use Rattle.std.specs.Prelude.{◌≡◌, ℕ, ◌+◌, List, ◌++◌, length, map}
+use Rattle.std.specs.Prelude.{◌≡◌, ◌+◌, List, ◌++◌, length, map}
 use Rattle.policy_machine.specs.Merge.{Placed, turns_of}
 use Rattle.turn_lock.specs.History.{StartsWith}
 use Rattle.turn_lock.specs.Passes.{Holding}

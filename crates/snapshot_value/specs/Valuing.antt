@@ -1,5 +1,5 @@
 -- A valuation: the rows of the policies at a pinned position, whatever other callers do between its reads
-use Rattle.std.specs.Prelude.{◌≡◌, ℕ, ◌≤◌, ℤ, List, [], ◌∷◌, length, take, All, Option, Some, Result, Ok, Err}
+use Rattle.std.specs.Prelude.{◌≡◌, ℕ, ◌≤◌, ℤ, List, [], ◌∷◌, length, take, All, Some, Result, Ok, Err}
 use Rattle.std.specs.List.{AllZip}
 use Rattle.basis_book.specs.Dated.{Dated, IsPicked}
 use Rattle.policy_types.specs.Limits.{most_commands}

@@ -91,6 +91,21 @@ pub(crate) fn post<D: Disk, R: Wait>(
     office.post(rt, pass, command);
 }
 
+// Issues so many policies.
+pub(crate) fn issue_all<D: Disk, R: Wait>(
+    rt: &R,
+    office: &Office<D>,
+    pass: &mut OfficePass<D>,
+    policies: u32,
+)
+    requires { pass.old.turnstile ≡ office.now }
+    ensures { (pass.new.turnstile ≡ pass.old.turnstile) × (pass.new.shares ≡ pass.old.shares) }
+{
+    for id in 1..=policies {
+        post(rt, office, pass, &issue(id));
+    }
+}
+
 pub(crate) fn inforce(id: u32, t: u8, lo: u64, hi: u64) -> Row {
     Row {
         id,
@@ -211,9 +226,7 @@ fn positions_are_valued(rt: HostRuntime) -> Result<(), Fail> {
     let Ok((office, mut pass)) = Office::start(alloc, empty, 301) else {
         return Err("an office".into());
     };
-    for id in 1..=300 {
-        post(&rt, &office, &mut pass, &issue(id));
-    }
+    issue_all(&rt, &office, &mut pass, 300);
     post(
         &rt,
         &office,
