@@ -34,8 +34,8 @@ abbrev pub FirstFoundMemory : ℕ → List Entry → Type 0
 FirstFoundMemory room history =
     AllByRecursion (λ (entry : Entry). FoundMemory entry.reply) (take room (postings_of history))
 
--- a history of the office: every reply is the one due, and no posting lacked memory that there was room for; the accepted
--- commands are valid, and not more than there may be
+-- a history of the office: every reply is the one due, and no posting lacked memory that there was room for; the
+-- accepted commands are valid, and not more than there may be
 pub record IsOfficeHistory {D : Type 0} (opened : OfficeOpening D) (history : List Entry) : Type 0 where
   pub legal : IsLegal opened.opening history
   pub memory : FirstFoundMemory opened.room history

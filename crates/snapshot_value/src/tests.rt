@@ -115,8 +115,8 @@ pub(crate) fn inforce(id: u32, t: u8, lo: u64, hi: u64) -> Row {
     }
 }
 
-// Whether the turn of the pin is this, and the valuation is of this position, with this row for each of so many policies,
-// whose numbers begin with 1.
+// Whether the turn of the pin is this, and the valuation is of this position, with this row for each of so many
+// policies, whose numbers begin with 1.
 pub(crate) fn is_of(
     valued: &Turned<Result<Valuation, ValueFault>>,
     turn: u64,
@@ -137,8 +137,8 @@ pub(crate) fn is_of(
     valued.turn == turn && valuation.position == position && id == policies
 }
 
-// What is asked of an office whose commands are three hundred issues and then a lapse, in the turns 0 to 300: a position,
-// a day, and then the policies there are, their row, and how many turns are taken.
+// What is asked of an office whose commands are three hundred issues and then a lapse, in the turns 0 to 300: a
+// position, a day, and then the policies there are, their row, and how many turns are taken.
 type Case = (At, i32, u32, u32, Row, u64);
 
 // Values at each of the positions, and gives the number of the case that came out otherwise.
