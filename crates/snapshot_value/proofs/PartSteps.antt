@@ -1,12 +1,11 @@
 -- The parts of a pin's policies, put together
-use Rattle.std.proofs.Common.{◌≡◌, ℕ, suc, zero, ◌+◌, ◌*◌, ◌/◌, ◌≤◌, ◌<◌, ℤ, List, [], ◌∷◌, ◌++◌, length, map, take, drop, get_or, refl, sym, ap, ◌∙◌, subst, length-append, arith}
+use Rattle.std.proofs.Common.{◌≡◌, ℕ, suc, zero, ◌+◌, ◌*◌, ◌≤◌, ◌<◌, ℤ, List, [], ◌∷◌, ◌++◌, length, take, drop, refl, sym, ap, ◌∙◌, subst, length-append, arith}
 use Rattle.std.specs.Prelude.{All}
-use Rattle.std.specs.List.{AllByRecursion, AllZip, range_with_len}
+use Rattle.std.specs.List.{AllZip, range_with_len}
 use Rattle.std.proofs.lemmas.List.{length-map, length-take, map-append, take_all, take_more}
 use Rattle.std.proofs.lemmas.List.Elements.{All-drop, All-from_recursion, All-take}
 use Rattle.std.proofs.lemmas.List.FromFn.{get_or-map-range_with_len, length-range_with_len}
 use Rattle.basis_book.specs.Dated.{Dated}
-use Rattle.policy_types.specs.Limits.{most_commands}
 use Rattle.policy_types.specs.declared.policy.Policy.{Policy}
 use Rattle.policy_types.specs.declared.entry.Call.{Call}
 use Rattle.policy_types.specs.declared.entry.Call.TheVariants.{Read}
@@ -18,8 +17,7 @@ use Rattle.policy_value.specs.declared.worth.Row.{Row}
 use Rattle.office_state.specs.declared.held.Held.{Held}
 use Rattle.turn_lock.specs.Passes.{Holding}
 use Rattle.shared_office.specs.Offices.{OfficeOpening}
-use Rattle.snapshot_value.specs.Growing.{Grows}
-use Rattle.snapshot_value.specs.Valuing.{AreRowsOf, IsRowOf, most_amount}
+use Rattle.snapshot_value.specs.Valuing.{IsRowOf, most_amount}
 use Rattle.snapshot_value.specs.inside.Parts.{AddsRows, HasReadAll, HasReadPart, HasReadParts, calls_of, policies_at, reads_needed}
 use Rattle.snapshot_value.proofs.Growth.{grows_more, grows_none}
 use Rattle.snapshot_value.proofs.PinSteps.{IsKnown}

@@ -1,11 +1,10 @@
 -- What a pin in its caller's hands says of the book
-use Rattle.std.proofs.Common.{◌≡◌, ℕ, suc, zero, ◌+◌, ◌*◌, ◌/◌, ◌≤◌, ◌<◌, List, [], ◌∷◌, ◌++◌, length, map, take, drop, refl, sym, ap, ◌∙◌, subst, Some, slice_get, append-nil, append_assoc, arith}
+use Rattle.std.proofs.Common.{◌≡◌, ℕ, ◌*◌, ◌≤◌, List, [], ◌∷◌, ◌++◌, length, map, take, drop, refl, sym, ap, ◌∙◌, subst, Some, slice_get, append-nil, arith}
 use Rattle.std.specs.List.{AllByRecursion, filter_map}
 use Rattle.std.proofs.lemmas.List.{length-map, length-take}
 use Rattle.policy_types.specs.Limits.{most_commands}
 use Rattle.policy_types.specs.declared.command.Command.{Command}
 use Rattle.policy_types.specs.declared.policy.Policy.{Policy}
-use Rattle.policy_types.specs.declared.entry.Call.TheVariants.{Read}
 use Rattle.policy_types.specs.declared.entry.Entry.{Entry}
 use Rattle.policy_machine.specs.Book.{book, issue_id}
 use Rattle.policy_machine.specs.History.{commands_after, floor_of, live_pin, policies_per_read}

@@ -1,11 +1,8 @@
 -- A valuation, put together
-use Rattle.std.proofs.Common.{◌≡◌, ◌≢◌, ℕ, ◌+◌, ◌≤◌, ◌<◌, ℤ, List, [], ◌∷◌, ◌++◌, length, map, take, refl, sym, ap, ◌∙◌, subst, Some, Result, Ok, Err, append-nil, append_assoc, length-append, lit<, arith}
-use Rattle.std.specs.List.{Contains}
+use Rattle.std.proofs.Common.{◌≡◌, ◌≢◌, ℕ, ◌≤◌, ℤ, List, [], ◌∷◌, ◌++◌, length, take, refl, sym, ap, ◌∙◌, subst, Result, Ok, Err, append-nil, append_assoc, length-append, lit<, arith}
 use Rattle.std.proofs.lemmas.List.{length-map, map-append, take_all, take-append-le}
 use Rattle.std.proofs.lemmas.Option.{slice_get_within}
 use Rattle.basis_book.specs.Dated.{Dated}
-use Rattle.policy_types.specs.declared.command.Command.{Command}
-use Rattle.policy_types.specs.declared.policy.Policy.{Policy}
 use Rattle.policy_types.specs.declared.entry.At.{At}
 use Rattle.policy_types.specs.declared.entry.At.TheVariants.{Now, Position}
 use Rattle.policy_types.specs.declared.entry.Call.{Call}
@@ -15,7 +12,7 @@ use Rattle.policy_types.specs.declared.entry.PinRefusal.{PinRefusal}
 use Rattle.policy_types.specs.declared.entry.Reply.TheVariants.{Pinned}
 use Rattle.policy_types.specs.declared.watcher.NoMemory.{NoMemory as Lack}
 use Rattle.policy_machine.specs.Book.{book}
-use Rattle.policy_machine.specs.History.{Opening, accepted_of, commands_after}
+use Rattle.policy_machine.specs.History.{accepted_of, commands_after}
 use Rattle.policy_machine.specs.Merge.{FollowsPin, Placed, pin_call, reads_of}
 use Rattle.policy_machine.proofs.HistoryGrowth.{commands_after-append}
 use Rattle.policy_value.specs.declared.worth.Row.{Row}

@@ -2,7 +2,7 @@
 ghost use Rattle.std.specs.Prelude.{◌≡◌, ◌≤◌};
 ghost use denote.Param.Send.{IsSync};
 
-use crate::tests::{ONE_YEAR, flat_basis, inforce, is_of, issue, post};
+use crate::tests::{ONE_YEAR, flat_basis, inforce, is_of, issue, issue_all, post};
 use crate::value;
 use basis_book::Basis;
 use memory_disk::MemoryDisk;
@@ -175,9 +175,7 @@ fn postings_between_the_parts_change_no_row(rt: HostRuntime) -> Result<(), Fail>
     let Ok((office, mut pass)) = Office::start(alloc, empty, 302) else {
         return Err("an office".into());
     };
-    for id in 1..=300 {
-        post(&rt, &office, &mut pass, &issue(id));
-    }
+    issue_all(&rt, &office, &mut pass, 300);
     if pass.left() < 3 {
         panic!(rt; "no turns");
     }

@@ -1,5 +1,5 @@
 // The rows of a pin's policies, read part after part.
-ghost use Rattle.std.specs.Prelude.{◌≡◌, ◌≤◌, ◌+◌, ◌*◌, [], length, vec_capacity, All, OnOk};
+ghost use Rattle.std.specs.Prelude.{◌≡◌, ◌≤◌, ◌+◌, ◌*◌, [], length, vec_capacity, All};
 ghost use Rattle.policy_machine.specs.History.{policies_per_read};
 ghost use Rattle.policy_machine.specs.Rules.{IsSound};
 ghost use Rattle.turn_lock.specs.Passes.{PassFacts};

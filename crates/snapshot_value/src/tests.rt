@@ -91,6 +91,21 @@ pub(crate) fn post<D: Disk, R: Wait>(
     office.post(rt, pass, command);
 }
 
+// Issues so many policies.
+pub(crate) fn issue_all<D: Disk, R: Wait>(
+    rt: &R,
+    office: &Office<D>,
+    pass: &mut OfficePass<D>,
+    policies: u32,
+)
+    requires { pass.old.turnstile ≡ office.now }
+    ensures { (pass.new.turnstile ≡ pass.old.turnstile) × (pass.new.shares ≡ pass.old.shares) }
+{
+    for id in 1..=policies {
+        post(rt, office, pass, &issue(id));
+    }
+}
+
 pub(crate) fn inforce(id: u32, t: u8, lo: u64, hi: u64) -> Row {
     Row {
         id,
@@ -100,8 +115,8 @@ pub(crate) fn inforce(id: u32, t: u8, lo: u64, hi: u64) -> Row {
     }
 }
 
-// Whether the turn of the pin is this, and the valuation is of this position, with this row for each of so many policies,
-// whose numbers begin with 1.
+// Whether the turn of the pin is this, and the valuation is of this position, with this row for each of so many
+// policies, whose numbers begin with 1.
 pub(crate) fn is_of(
     valued: &Turned<Result<Valuation, ValueFault>>,
     turn: u64,
@@ -122,8 +137,8 @@ pub(crate) fn is_of(
     valued.turn == turn && valuation.position == position && id == policies
 }
 
-// What is asked of an office whose commands are three hundred issues and then a lapse, in the turns 0 to 300: a position,
-// a day, and then the policies there are, their row, and how many turns are taken.
+// What is asked of an office whose commands are three hundred issues and then a lapse, in the turns 0 to 300: a
+// position, a day, and then the policies there are, their row, and how many turns are taken.
 type Case = (At, i32, u32, u32, Row, u64);
 
 // Values at each of the positions, and gives the number of the case that came out otherwise.
@@ -211,9 +226,7 @@ fn positions_are_valued(rt: HostRuntime) -> Result<(), Fail> {
     let Ok((office, mut pass)) = Office::start(alloc, empty, 301) else {
         return Err("an office".into());
     };
-    for id in 1..=300 {
-        post(&rt, &office, &mut pass, &issue(id));
-    }
+    issue_all(&rt, &office, &mut pass, 300);
     post(
         &rt,
         &office,

@@ -19,9 +19,9 @@ use turn_lock::Turned;
 
 /// Values the policies at a position on a day, in days since 1970-01-01, and gives the turn of the pin.
 ///
-/// The position is pinned, and the memory taken; then batches of 256 policies are read and valued, and the gate is called
-/// with the lane's number and `k` after the `k`-th of them. Whatever is answered, the pin is given up. The policies are
-/// valued one after the other, whatever number of workers is asked for.
+/// The position is pinned, and the memory taken; then batches of 256 policies are read and valued, and the gate is
+/// called with the lane's number and `k` after the `k`-th of them. Whatever is answered, the pin is given up. The
+/// policies are valued one after the other, whatever number of workers is asked for.
 pub fn value<D: Disk, G: Gate, R: Wait>(
     rt: &R,
     alloc: Global,

@@ -53,8 +53,8 @@ module _ {D : Type 0} where
     pub filled : part ≡ take policies_per_read (drop (policies_per_read * k) (policies_at old pin.position))
 
   -- the first k reads of a pin, and the rows of the policies that they gave
-  pub record HasReadParts (basis : List Dated) (on : ℤ) (pin : Held) (k : ℕ) (rows : List Row) (old new : Holding (OfficeOpening D))
-      : Type 0 where
+  pub record HasReadParts (basis : List Dated) (on : ℤ) (pin : Held) (k : ℕ) (rows : List Row)
+      (old new : Holding (OfficeOpening D)) : Type 0 where
     pub reads : List Placed
     pub grows : Grows old new reads
     pub calls : calls_of reads ≡ take k (reads_of pin.number pin.policies)
@@ -62,20 +62,22 @@ module _ {D : Type 0} where
     pub adds : AddsRows basis on (take (policies_per_read * k) (policies_at old pin.position)) [] rows
 
   -- all reads of a pin, and the rows of its policies
-  pub record HasReadAll (basis : List Dated) (on : ℤ) (pin : Held) (rows : List Row) (old new : Holding (OfficeOpening D)) : Type 0 where
+  pub record HasReadAll (basis : List Dated) (on : ℤ) (pin : Held) (rows : List Row)
+      (old new : Holding (OfficeOpening D)) : Type 0 where
     pub reads : List Placed
     pub grows : Grows old new reads
     pub calls : calls_of reads ≡ reads_of pin.number pin.policies
     pub all : AreRowsOf basis on (policies_at old pin.position) rows
 
   -- so it is, or nothing was read for want of memory
-  abbrev pub HasRead : List Dated → ℤ → Held → Holding (OfficeOpening D) → Holding (OfficeOpening D) → Result (List Row) Lack
-      → Type 0
+  abbrev pub HasRead : List Dated → ℤ → Held → Holding (OfficeOpening D) → Holding (OfficeOpening D)
+      → Result (List Row) Lack → Type 0
   HasRead basis on pin old new (Ok rows) = HasReadAll basis on pin rows old new
   HasRead basis on pin old new (Err lack) = new ≡ old
 
   -- what follows a pin, and what is answered
-  abbrev pub FollowsPinned : List Dated → ℤ → Held → Holding (OfficeOpening D) → List Call → Result Valuation ValueFault → Type 0
+  abbrev pub FollowsPinned : List Dated → ℤ → Held → Holding (OfficeOpening D) → List Call
+      → Result Valuation ValueFault → Type 0
   FollowsPinned basis on pin old calls (Ok valuation) =
       (calls ≡ reads_of pin.number pin.policies ++ Unpin pin.number ∷ [])
       × (valuation.position ≡ pin.position) × (valuation.on ≡ on)

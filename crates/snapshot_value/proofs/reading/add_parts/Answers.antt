@@ -1,6 +1,5 @@
-use Rattle.std.proofs.Common.{◌≡◌, ◌∙◌, ◌<◌, ◌≤◌, refl, sym, subst, w32, to_z, of_z, arith}
+use Rattle.std.proofs.Common.{◌∙◌, refl, w32, to_z, of_z, arith}
 use Rattle.std.proofs.lemmas.Int.{to_z-of_z}
-use Rattle.snapshot_value.specs.inside.Parts.{reads_needed}
 use Rattle.snapshot_value.proofs.PinSteps.{known}
 use Rattle.snapshot_value.proofs.PartSteps.{part_sound, parts_all, parts_more, parts_none, room_left, turns_left}
 use Rattle.snapshot_value.proofs.reading.add_parts.Goals as goal

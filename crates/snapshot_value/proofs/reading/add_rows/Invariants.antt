@@ -1,4 +1,4 @@
-use Rattle.std.proofs.Common.{◌≡◌, ◌+◌, length, take, vec_len, vec_capacity}
+use Rattle.std.proofs.Common.{◌≡◌, ◌+◌, take, vec_len, vec_capacity}
 use Rattle.snapshot_value.specs.inside.Parts.{AddsRows}
 use Rattle.snapshot_value.proofs.reading.add_rows.Given as goal
 

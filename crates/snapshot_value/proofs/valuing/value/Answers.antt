@@ -1,4 +1,4 @@
-use Rattle.std.proofs.Common.{w32, to_z, of_z, arith}
+use Rattle.std.proofs.Common.{w32, arith}
 use Rattle.std.proofs.lemmas.Int.{to_z-of_z}
 use Rattle.snapshot_value.proofs.ValueSteps.{keeps, pinned, refused}
 use Rattle.snapshot_value.proofs.valuing.value.Goals as goal
