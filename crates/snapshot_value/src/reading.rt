@@ -6,7 +6,7 @@ ghost use Rattle.turn_lock.specs.Passes.{PassFacts};
 ghost use Rattle.shared_office.specs.Offices.{IsOfficeHistory};
 ghost use Rattle.shared_office.specs.Pins.{HoldsPin, KeepsPins};
 ghost use Rattle.snapshot_value.specs.Valuing.{most_turns};
-ghost use Rattle.snapshot_value.specs.inside.Parts.{AddsRows, HasRead, HasReadPart, HasReadParts, reads_needed};
+ghost use Rattle.snapshot_value.specs.inside.Parts.{AddsRows, HasRead, HasReadAll, HasReadPart};
 
 use basis_book::Basis;
 use outside_io::{Disk, Gate};
@@ -73,7 +73,7 @@ fn add_parts<D: Disk, G: Gate, R: Wait>(
     requires held { HoldsPin pass.old pin.now }
     requires empty { rows.old.items ≡ [] }
     requires room { pin.now.policies ≤ vec_capacity rows.old }
-    ensures read { HasReadParts basis.now on pin.now (reads_needed pin.now.policies) rows.new.items pass.old pass.new }
+    ensures read { HasReadAll basis.now on pin.now rows.new.items pass.old pass.new }
     ensures facts { PassFacts IsOfficeHistory pass.new }
     ensures pins { KeepsPins pass.old pass.new }
 {

@@ -61,11 +61,17 @@ module _ {D : Type 0} where
     pub stays : policies_at new pin.position ≡ policies_at old pin.position
     pub adds : AddsRows basis on (take (policies_per_read * k) (policies_at old pin.position)) [] rows
 
-  -- all reads of a pin and the rows of its policies, or none for want of memory
+  -- all reads of a pin, and the rows of its policies
+  pub record HasReadAll (basis : List Dated) (on : ℤ) (pin : Held) (rows : List Row) (old new : Holding (OfficeOpening D)) : Type 0 where
+    pub reads : List Placed
+    pub grows : Grows old new reads
+    pub calls : calls_of reads ≡ reads_of pin.number pin.policies
+    pub all : AreRowsOf basis on (policies_at old pin.position) rows
+
+  -- so it is, or nothing was read for want of memory
   abbrev pub HasRead : List Dated → ℤ → Held → Holding (OfficeOpening D) → Holding (OfficeOpening D) → Result (List Row) Lack
       → Type 0
-  HasRead basis on pin old new (Ok rows) = (reads : List Placed) × Grows old new reads
-      × (calls_of reads ≡ reads_of pin.number pin.policies) × AreRowsOf basis on (policies_at old pin.position) rows
+  HasRead basis on pin old new (Ok rows) = HasReadAll basis on pin rows old new
   HasRead basis on pin old new (Err lack) = new ≡ old
 
   -- what follows a pin, and what is answered
