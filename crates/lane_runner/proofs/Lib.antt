@@ -1,2 +1,4 @@
 pub mod Places
 pub mod AnswerSteps
+pub mod SeatSteps
+pub mod RunSteps
