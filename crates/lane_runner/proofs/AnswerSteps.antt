@@ -96,7 +96,7 @@ answers_drier dry more within (Value on at workers) (turn ∷ rest) h =
     (h.0, follows_drier dry more within turn.0 turn.1.reply (map (λ (later : Placed). later.1.call) rest) h.1)
 
 pub needed_append : (xs ys : List Line) → turns_needed (xs ++ ys) ≡ turns_needed xs + turns_needed ys
-needed_append [] ys = refl
+needed_append [] ys = omega arith
 needed_append (x ∷ xs) ys = omega (arith, needed_append xs ys)
 
 -- what the next line needs is there
@@ -123,6 +123,36 @@ told_later opening history more basis one told below is = record {
 
 same_opened : {O : Type 0} (a b : O) → Some a ≡ Some b → a ≡ b
 same_opened a b e = cc
+
+-- the next line has its turns
+pub next_left : (asked : List Line) (i : ℕ) (d : Line) (left spent old : ℕ) → i < length asked → turns_needed asked ≤ old → left + spent ≡ old
+    → spent ≤ turns_needed (take i asked) → turns_for (get_or asked i d) ≤ left
+next_left asked i d left spent old below enough is few = omega (arith, needed_next asked i d below, enough, is, few)
+
+outcomes : (basis : List Dated) (commands : List Command) (on : ℤ) (at : At) (workers : ℕ) (reply : Reply) (answer : Result Valuation ValueFault)
+    → IsAnswered commands basis on reply answer → IsOutcome commands basis (Value on at workers) reply (outcome_of answer)
+outcomes basis commands on at workers (PinRefused refusal) (Err (Pin why)) h = ap PinRefused (sym h)
+outcomes basis commands on at workers (PinRefused refusal) (Err NoMemory) h = absurd h
+outcomes basis commands on at workers (PinRefused refusal) (Ok valuation) h = absurd h
+outcomes basis commands on at workers (Pinned position policies) (Ok valuation) h = (position, (policies, refl, h))
+outcomes basis commands on at workers (Pinned position policies) (Err NoMemory) h = (position, (policies, refl))
+outcomes basis commands on at workers (Pinned position policies) (Err (Pin why)) h = absurd h
+outcomes basis commands on at workers (Accepted n) answer h = absurd h
+outcomes basis commands on at workers (Refused refusal) answer h = absurd h
+outcomes basis commands on at workers (Faulted n) answer h = absurd h
+outcomes basis commands on at workers (Slice policies) answer h = absurd h
+outcomes basis commands on at workers Unpinned answer h = absurd h
+outcomes basis commands on at workers (Floor n) answer h = absurd h
+outcomes basis commands on at workers Blank answer h = absurd h
+
+abbrev pub valued_line : ℕ → ℤ → At → ℕ → ℕ → Result Valuation ValueFault → TranscriptLine
+valued_line number on at workers turn answer = record { lane = number; turn = turn; line = Value on at workers; outcome = outcome_of answer }
+
+dry_same : (number : ℕ) (on : ℤ) (at : At) (workers turn : ℕ) (answer : Result Valuation ValueFault)
+    → dry_of (valued_line number on at workers turn answer ∷ []) ≡ dry_pins turn answer
+dry_same number on at workers turn (Ok valuation) = refl
+dry_same number on at workers turn (Err (Pin why)) = refl
+dry_same number on at workers turn (Err NoMemory) = refl
 
 module _ {D : Type 0} (basis : List Dated) (number : ℕ) where
   -- no lines
@@ -198,16 +228,16 @@ module _ {D : Type 0} (basis : List Dated) (number : ℕ) where
           (subst (λ (opened : OfficeOpening D). IsTold opened.opening mid.seen basis one told) same is))
 
   -- one line more
-  pub answered_next : (asked : List Line) (i : ℕ) (d line : Line) (old mid new : Holding (OfficeOpening D)) (tolds more : List TranscriptLine) (told : TranscriptLine)
-      → i < length asked → line ≡ get_or asked i d → more ≡ tolds ++ told ∷ []
-      → HasAnswered basis number (take i asked) old mid tolds → HasAnswered basis number (line ∷ []) mid new (told ∷ [])
+  pub answered_next : (asked : List Line) (i : ℕ) (d : Line) (old mid new : Holding (OfficeOpening D)) (tolds more : List TranscriptLine) (told : TranscriptLine)
+      → i < length asked → more ≡ tolds ++ told ∷ []
+      → HasAnswered basis number (take i asked) old mid tolds → HasAnswered basis number (get_or asked i d ∷ []) mid new (told ∷ [])
       → HasAnswered basis number (take (i + 1) asked) old new more
-  answered_next asked i d line old mid new tolds more told below here one_more so_far next =
-      let taken : take (i + 1) asked ≡ take i asked ++ line ∷ [] =
-      ap (λ n. take n asked) (omega arith) ∙ take-suc asked i d below ∙ ap (λ (at : Line). take i asked ++ at ∷ []) (sym here) in
+  answered_next asked i d old mid new tolds more told below one_more so_far next =
+      let place : i + 1 ≡ suc i = omega arith in
+      let taken : take (i + 1) asked ≡ take i asked ++ get_or asked i d ∷ [] = ap (λ n. take n asked) place ∙ take-suc asked i d below in
       subst (λ (lines : List Line). HasAnswered basis number lines old new more) (sym taken)
-      (subst (HasAnswered basis number (take i asked ++ line ∷ []) old new) (sym one_more)
-      (answered_more (take i asked) (line ∷ []) old mid new tolds (told ∷ []) so_far next))
+      (subst (HasAnswered basis number (take i asked ++ get_or asked i d ∷ []) old new) (sym one_more)
+      (answered_more (take i asked) (get_or asked i d ∷ []) old mid new tolds (told ∷ []) so_far next))
 
   turn_reached : (turn : ℕ) (entry : Entry) (old new : Holding (OfficeOpening D)) → TakesTurn turn entry old new → turn < length new.seen
   turn_reached turn entry old new takes =
@@ -248,34 +278,9 @@ module _ {D : Type 0} (basis : List Dated) (number : ℕ) where
     tells = (record { lane = refl; line = refl; turn = refl; outcome = refl }, tt);
   }
 
-  outcomes : (commands : List Command) (on : ℤ) (at : At) (workers : ℕ) (reply : Reply) (answer : Result Valuation ValueFault)
-      → IsAnswered commands basis on reply answer → IsOutcome commands basis (Value on at workers) reply (outcome_of answer)
-  outcomes commands on at workers (PinRefused refusal) (Err (Pin why)) h = ap PinRefused (sym h)
-  outcomes commands on at workers (PinRefused refusal) (Err NoMemory) h = absurd h
-  outcomes commands on at workers (PinRefused refusal) (Ok valuation) h = absurd h
-  outcomes commands on at workers (Pinned position policies) (Ok valuation) h = (position, (policies, refl, h))
-  outcomes commands on at workers (Pinned position policies) (Err NoMemory) h = (position, (policies, refl))
-  outcomes commands on at workers (Pinned position policies) (Err (Pin why)) h = absurd h
-  outcomes commands on at workers (Accepted n) answer h = absurd h
-  outcomes commands on at workers (Refused refusal) answer h = absurd h
-  outcomes commands on at workers (Faulted n) answer h = absurd h
-  outcomes commands on at workers (Slice policies) answer h = absurd h
-  outcomes commands on at workers Unpinned answer h = absurd h
-  outcomes commands on at workers (Floor n) answer h = absurd h
-  outcomes commands on at workers Blank answer h = absurd h
-
-  abbrev valued_line : ℤ → At → ℕ → ℕ → Result Valuation ValueFault → TranscriptLine
-  valued_line on at workers turn answer = record { lane = number; turn = turn; line = Value on at workers; outcome = outcome_of answer }
-
-  dry_same : (on : ℤ) (at : At) (workers turn : ℕ) (answer : Result Valuation ValueFault)
-      → dry_of (valued_line on at workers turn answer ∷ []) ≡ dry_pins turn answer
-  dry_same on at workers turn (Ok valuation) = refl
-  dry_same on at workers turn (Err (Pin why)) = refl
-  dry_same on at workers turn (Err NoMemory) = refl
-
   pub answered_value : (on : ℤ) (at : At) (workers turn : ℕ) (answer : Result Valuation ValueFault) (old new : Holding (OfficeOpening D))
       → HasValued basis on at workers old new turn answer
-      → HasAnswered basis number (Value on at workers ∷ []) old new (valued_line on at workers turn answer ∷ [])
+      → HasAnswered basis number (Value on at workers ∷ []) old new (valued_line number on at workers turn answer ∷ [])
   answered_value on at workers turn answer old new v = record {
     answered = record { clerk = number; line = Value on at workers; first = v.pin; rest = v.later } ∷ [];
     theirs = (refl, tt);
@@ -284,7 +289,7 @@ module _ {D : Type 0} (basis : List Dated) (number : ℕ) where
     few =
         let same : length ((v.pin ∷ v.later) ++ []) ≡ length (v.pin ∷ v.later) = ap length (append-nil (v.pin ∷ v.later)) in
         omega (arith, same, v.few);
-    answers = (subst (λ (dry : List ℕ). AnswersLine dry (Value on at workers) (v.pin ∷ v.later)) (sym (dry_same on at workers turn answer)) v.answers, tt);
+    answers = (subst (λ (dry : List ℕ). AnswersLine dry (Value on at workers) (v.pin ∷ v.later)) (sym (dry_same number on at workers turn answer)) v.answers, tt);
     reached = (
       (all_later (λ (turn : Placed). turn.0 < length new.seen) (turns_of old.seen old.caller) (v.pin ∷ v.later)
           (subst (AllByRecursion (λ (turn : Placed). turn.0 < length new.seen)) v.grows.turns (turns_inside new.seen old.caller))).0,
@@ -298,7 +303,7 @@ module _ {D : Type 0} (basis : List Dated) (number : ℕ) where
         line = refl;
         turn = sym v.place;
         outcome = subst (λ n. IsOutcome (commands_after v.opened.opening (take n new.seen)) basis (Value on at workers) v.pin.1.reply (outcome_of answer)) (sym v.place)
-            (outcomes (commands_after v.opened.opening (take turn new.seen)) on at workers v.pin.1.reply answer v.answered);
+            (outcomes basis (commands_after v.opened.opening (take turn new.seen)) on at workers v.pin.1.reply answer v.answered);
       },
       tt,
     );

@@ -2,3 +2,5 @@ pub mod Places
 pub mod AnswerSteps
 pub mod SeatSteps
 pub mod RunSteps
+pub mod MergeSteps
+pub mod LaneSteps

@@ -34,14 +34,23 @@ contains_in x (y ∷ ys) (suc k, below, same) = inr (contains_in x ys (k, omega 
 pub in_moved : {A : Type 0} (xs ys : List A) → IsPermutation xs ys → (x : A) → In x xs → In x ys
 in_moved xs ys moved x is = contains_in x ys (Contains-permutation xs ys x moved (in_contains x xs is))
 
-in_front : {A : Type 0} (x : A) (xs ys : List A) → In x xs → In x (xs ++ ys)
+pub in_front : {A : Type 0} (x : A) (xs ys : List A) → In x xs → In x (xs ++ ys)
 in_front x [] ys is = absurd is
 in_front x (z ∷ xs) ys (inl same) = inl same
 in_front x (z ∷ xs) ys (inr later) = inr (in_front x xs ys later)
 
-in_back : {A : Type 0} (x : A) (xs ys : List A) → In x ys → In x (xs ++ ys)
+pub in_back : {A : Type 0} (x : A) (xs ys : List A) → In x ys → In x (xs ++ ys)
 in_back x [] ys is = is
 in_back x (z ∷ xs) ys is = inr (in_back x xs ys is)
+
+pub in_cases : {A : Type 0} (x : A) (xs ys : List A) → In x (xs ++ ys) → In x xs ⊎ In x ys
+in_cases x [] ys is = inr is
+in_cases x (z ∷ xs) ys (inl same) = inl (inl same)
+in_cases {A} x (z ∷ xs) ys (inr later) = by (in_cases x xs ys later)
+  where
+    by : In x xs ⊎ In x ys → In x (z ∷ xs) ⊎ In x ys
+    by (inl front) = inl (inr front)
+    by (inr back) = inr back
 
 pub in_filter : {A : Type 0} (p : A → Bool) (x : A) (xs : List A) → In x xs → p x ≡ true → In x (filter p xs)
 in_filter p x [] is passes = absurd is
@@ -101,8 +110,8 @@ zip_swap R [] (b ∷ ys) i j all one other = absurd all
 zip_swap R (a ∷ xs) [] i j all one other = absurd all
 zip_swap R (a ∷ xs) (b ∷ ys) i j all one other =
     zip_set R (slice_set (a ∷ xs) i (get_or (a ∷ xs) j a)) (slice_set (b ∷ ys) i (get_or (b ∷ ys) j b)) j (get_or (a ∷ xs) i a) (get_or (b ∷ ys) i b)
-        (zip_set R (a ∷ xs) (b ∷ ys) i (get_or (a ∷ xs) j a) (get_or (b ∷ ys) j b) all (zip_get R (a ∷ xs) (b ∷ ys) j a b all other))
-        (zip_get R (a ∷ xs) (b ∷ ys) i a b all one)
+    (zip_set R (a ∷ xs) (b ∷ ys) i (get_or (a ∷ xs) j a) (get_or (b ∷ ys) j b) all (zip_get R (a ∷ xs) (b ∷ ys) j a b all other))
+    (zip_get R (a ∷ xs) (b ∷ ys) i a b all one)
 
 zip_long : {A B : Type 0} (R : A → B → Type 0) (xs : List A) (ys : List B) → AllZip R xs ys → length xs ≡ length ys
 zip_long R [] [] all = refl
@@ -118,8 +127,7 @@ zip_moved_both {A} {B} R xs ys zs all moved =
     step : (l : List B) (i j : ℕ) → i < length l → j < length l → (ws : List A) × (IsPermutation xs ws × AllZip R ws l)
         → (ws : List A) × (IsPermutation xs ws × AllZip R ws (swap l i j))
     step l i j one other so_far =
-        let long : length so_far.0 ≡ length l = zip_long R so_far.0 l so_far.1.1 in
-        (
+        let long : length so_far.0 ≡ length l = zip_long R so_far.0 l so_far.1.1 in (
           swap so_far.0 i j,
           (
             IsPermutation-trans xs so_far.0 (swap so_far.0 i j) so_far.1.0
@@ -257,7 +265,7 @@ distinct_append (x ∷ xs) ys front back between =
     together [] none = between.0
     together (z ∷ zs) some = (some.0, together zs some.1)
 
-differ : (x y : ℕ) → (x ≡ y → ⊥) → nat_eq x y ≡ false
+pub differ : (x y : ℕ) → (x ≡ y → ⊥) → nat_eq x y ≡ false
 differ x y apart = by (nat_eq x y) refl
   where
     by : (b : Bool) → nat_eq x y ≡ b → nat_eq x y ≡ false
@@ -287,9 +295,9 @@ turns_at : (front history : List Entry) (caller : ℕ) → AllByRecursion (λ (t
 turns_at front [] caller = tt
 turns_at front (entry ∷ history) caller =
     by (entry.caller == caller) refl
-        (subst (λ n. AllByRecursion (λ (turn : Placed). IsAt (front ++ entry ∷ history) caller turn.0) (turns_from n history caller)) long
-        (subst (λ (h : List Entry). AllByRecursion (λ (turn : Placed). IsAt h caller turn.0) (turns_from (length (front ++ entry ∷ [])) history caller)) whole
-        (turns_at (front ++ entry ∷ []) history caller)))
+    (subst (λ n. AllByRecursion (λ (turn : Placed). IsAt (front ++ entry ∷ history) caller turn.0) (turns_from n history caller)) long
+    (subst (λ (h : List Entry). AllByRecursion (λ (turn : Placed). IsAt h caller turn.0) (turns_from (length (front ++ entry ∷ [])) history caller)) whole
+    (turns_at (front ++ entry ∷ []) history caller)))
   where
     long : length (front ++ entry ∷ []) ≡ length front + 1
     long = length-append front (entry ∷ [])

@@ -34,7 +34,7 @@ below_only m (turn ∷ turns) all = (all.0.1, below_only m turns all.1)
 
 -- each turn stands within the history
 pub turns_inside : (history : List Entry) (caller : ℕ) → AllByRecursion (λ (placed : Placed). placed.0 < length history) (turns_of history caller)
-turns_inside history caller = below_only (length history) (turns_of history caller) (turns_between 0 (length history) history caller refl)
+turns_inside history caller = below_only (length history) (turns_of history caller) (turns_between 0 (length history) history caller (omega arith))
 
 -- where no entry is the caller's, no turn is
 pub no_turns : (n : ℕ) (history : List Entry) (caller : ℕ) → entries_of history caller ≡ [] → turns_from n history caller ≡ []

@@ -105,8 +105,8 @@ module _ {D : Type 0} where
   pages_are history [] none paged = refl
   pages_are history (seat ∷ seats) none paged =
       let here : flat_map (λ (one : Seat D). pages one.0) (seat ∷ seats)
-          ≡ (seat.0.caller, seat.0.made) ∷ flat_map (λ (one : Seat D). pages one.0) seats
-          = ap (λ (ended : List Page). (seat.0.caller, seat.0.made) ∷ ended ++ flat_map (λ (one : Seat D). pages one.0) seats) none.0 in
+      ≡ (seat.0.caller, seat.0.made) ∷ flat_map (λ (one : Seat D). pages one.0) seats
+      = ap (λ (ended : List Page). (seat.0.caller, seat.0.made) ∷ ended ++ flat_map (λ (one : Seat D). pages one.0) seats) none.0 in
       let all = subst (AllByRecursion (λ (page : Page). entries_of history page.0 ≡ page.1)) here paged in
       here ∙ ap (λ made. (seat.0.caller, made) ∷ flat_map (λ (one : Seat D). pages one.0) seats) (sym all.0)
       ∙ ap (λ (rest : List Page). (seat.0.caller, entries_of history seat.0.caller) ∷ rest) (pages_are history seats none.1 all.1)
@@ -118,8 +118,8 @@ module _ {D : Type 0} where
   made_are history [] none paged = tt
   made_are history (seat ∷ seats) none paged =
       let here : flat_map (λ (one : Seat D). pages one.0) (seat ∷ seats)
-          ≡ (seat.0.caller, seat.0.made) ∷ flat_map (λ (one : Seat D). pages one.0) seats
-          = ap (λ (ended : List Page). (seat.0.caller, seat.0.made) ∷ ended ++ flat_map (λ (one : Seat D). pages one.0) seats) none.0 in
+      ≡ (seat.0.caller, seat.0.made) ∷ flat_map (λ (one : Seat D). pages one.0) seats
+      = ap (λ (ended : List Page). (seat.0.caller, seat.0.made) ∷ ended ++ flat_map (λ (one : Seat D). pages one.0) seats) none.0 in
       let all = subst (AllByRecursion (λ (page : Page). entries_of history page.0 ≡ page.1)) here paged in
       (all.0, made_are history seats none.1 all.1)
 
@@ -165,11 +165,10 @@ module _ {D : Type 0} where
   lanes_of_seats basis first opened history [] (old ∷ olds) news is fresh run begins made = absurd run
   lanes_of_seats basis first opened history (lane ∷ lanes) [] news is fresh run begins made = absurd run
   lanes_of_seats basis first opened history (lane ∷ lanes) (old ∷ olds) [] is fresh run begins made = absurd run
-  lanes_of_seats basis first opened history (lane ∷ lanes) (old ∷ olds) (new ∷ news) is fresh run begins made =
-      (
-        lane_of_seat basis first opened history lane old new is fresh.0 run.0 begins.0 made.0,
-        lanes_of_seats basis first opened history lanes olds news is fresh.1 run.1 begins.1 made.1,
-      )
+  lanes_of_seats basis first opened history (lane ∷ lanes) (old ∷ olds) (new ∷ news) is fresh run begins made = (
+    lane_of_seat basis first opened history lane old new is fresh.0 run.0 begins.0 made.0,
+    lanes_of_seats basis first opened history lanes olds news is fresh.1 run.1 begins.1 made.1,
+  )
 
   module _ (basis : List Dated) (lanes : List Lane) (old kept new : Holding (OfficeOpening D)) (rooms : List (Vec TranscriptLine Global))
       (olds news : List (Seat D)) (right : AreRightLanes lanes) (entered : HasEntered old kept rooms olds)
@@ -197,19 +196,28 @@ module _ {D : Type 0} where
       opening = left.opening ∙ entered.opening;
       caller = left.caller ∙ entered.caller;
       shares = omega (arith, left.shares, entered.shares, shares_stay basis lanes olds news run);
-      left = omega (arith, left.left, entered.left, left_after basis lanes olds news run, needed_most (lines_in lanes), right.lines, right.values,
-          right.few, seats_many basis lanes olds news run);
+      left = omega (
+        arith,
+        left.left,
+        entered.left,
+        left_after basis lanes olds news run,
+        needed_most (lines_in lanes),
+        right.lines,
+        right.values,
+        right.few,
+        seats_many basis lanes olds news run,
+      );
       made = left.made ∙ entered.made;
       begins = subst (StartsWith new.seen) entered.seen left.begins;
       own = ap (entries_of new.seen) (sym (left.caller ∙ entered.caller)) ∙ facts.paged.0 ∙ left.made ∙ entered.made ∙ sym facts_old.paged.0;
       ended = ended_is ∙ (λ i. entered.ended i ++ added_is i);
       distinct =
           let numbers : map (λ (page : Page). page.0) new.ended ≡ map (λ (page : Page). page.0) kept.ended ++ callers_in news =
-              ap (map (λ (page : Page). page.0)) ended_is ∙ map-append (λ (page : Page). page.0) kept.ended added
-              ∙ ap (λ (back : List ℕ). map (λ (page : Page). page.0) kept.ended ++ back)
-                  (ap (map (λ (page : Page). page.0)) added_is ∙ numbers_of (callers_in news) (entries_of new.seen)) in
+          ap (map (λ (page : Page). page.0)) ended_is ∙ map-append (λ (page : Page). page.0) kept.ended added
+          ∙ ap (λ (back : List ℕ). map (λ (page : Page). page.0) kept.ended ++ back)
+          (ap (map (λ (page : Page). page.0)) added_is ∙ numbers_of (callers_in news) (entries_of new.seen)) in
           distinct_later (new.caller ∷ map (λ (page : Page). page.0) kept.ended) (callers_in news)
-              (subst (IsDistinct nat_eq) (ap (λ (rest : List ℕ). new.caller ∷ rest) numbers) facts.apart);
+          (subst (IsDistinct nat_eq) (ap (λ (rest : List ℕ). new.caller ∷ rest) numbers) facts.apart);
     }
 
     pub lanes_are : AreLanesOf facts.lawful.0.opening new.seen basis lanes news

@@ -66,10 +66,17 @@ take_all zero (x ∷ xs) long = absurd (omega arith)
 take_all (suc n) [] long = refl
 take_all (suc n) (x ∷ xs) long = ap (λ rest. x ∷ rest) (take_all n xs (omega arith))
 
-pub got : {A : Type 0} (xs : List A) (i : ℕ) (x : A) → slice_get xs i ≡ Some x → (get_or xs i x ≡ x) × (i < length xs)
-got [] i x at = absurd (cc)
-got (y ∷ xs) zero x at = (cc, omega arith)
-got (y ∷ xs) (suc i) x at = let rest = got xs i x at in (rest.0, omega (arith, rest.1))
+pub got : {A : Type 0} (xs : List A) (i : ℕ) (x d : A) → slice_get xs i ≡ Some x → (get_or xs i d ≡ x) × (i < length xs)
+got [] i x d at = absurd (cc)
+got (y ∷ xs) zero x d at = (cc, omega arith)
+got (y ∷ xs) (suc i) x d at = let rest = got xs i x d at in (rest.0, omega (arith, rest.1))
+
+pub one_some : {A : Type 0} (a b : A) → Some a ≡ Some b → a ≡ b
+one_some a b same = cc
+
+pub zip_next_is : {A B : Type 0} (R : A → B → Type 0) (xs : List A) (ys : List B) (i : ℕ) (x : A) (y : B) → i < length xs → x ≡ get_or xs i x
+    → AllZip R (take i xs) ys → R x y → AllZip R (take (i + 1) xs) (ys ++ y ∷ [])
+zip_next_is R xs ys i x y below here all one = zip_next R xs ys i x y below all (subst (λ v. R v y) here one)
 
 module _ {D : Type 0} where
   left_push : (seats : List (Seat D)) (seat : Seat D) → all_left (seats ++ seat ∷ []) ≡ all_left seats + seat.0.left
@@ -122,15 +129,18 @@ module _ {D : Type 0} where
           let kept_shares : new.shares ≡ mid.shares - mid.shares / 2 = ap (λ (p : Holding (OfficeOpening D)). p.shares) enters.kept_is in
           let given_shares : given.shares ≡ mid.shares / 2 = ap (λ (p : Holding (OfficeOpening D)). p.shares) enters.given_is in
           omega (arith, kept_shares, given_shares, so_far.shares, shares_push seats (given, lines));
-      fresh = all_append (λ (seat : Seat D). IsFresh old seat.0) seats ((given, lines) ∷ []) so_far.fresh (record {
-        turnstile = ap (λ (p : Holding (OfficeOpening D)). p.turnstile) enters.given_is ∙ so_far.turnstile;
-        opening = ap (λ (p : Holding (OfficeOpening D)). p.opening) enters.given_is ∙ so_far.opening;
-        seen = ap (λ (p : Holding (OfficeOpening D)). p.seen) enters.given_is ∙ so_far.seen;
-        made = ap (λ (p : Holding (OfficeOpening D)). p.made) enters.given_is;
-        ended = ap (λ (p : Holding (OfficeOpening D)). p.ended) enters.given_is;
-        left = omega (arith, left_enough, given_left, turns_enough n);
-        facts = facts;
-      }, tt);
+      fresh = all_append (λ (seat : Seat D). IsFresh old seat.0) seats ((given, lines) ∷ []) so_far.fresh (
+        record {
+          turnstile = ap (λ (p : Holding (OfficeOpening D)). p.turnstile) enters.given_is ∙ so_far.turnstile;
+          opening = ap (λ (p : Holding (OfficeOpening D)). p.opening) enters.given_is ∙ so_far.opening;
+          seen = ap (λ (p : Holding (OfficeOpening D)). p.seen) enters.given_is ∙ so_far.seen;
+          made = ap (λ (p : Holding (OfficeOpening D)). p.made) enters.given_is;
+          ended = ap (λ (p : Holding (OfficeOpening D)). p.ended) enters.given_is;
+          left = omega (arith, left_enough, given_left, turns_enough n);
+          facts = facts;
+        },
+        tt,
+      );
       rooms_are =
           map-append (λ (seat : Seat D). seat.1) seats ((given, lines) ∷ [])
           ∙ ap (λ (front : List (Vec TranscriptLine Global)). front ++ lines ∷ []) so_far.rooms_are;
@@ -179,29 +189,28 @@ module _ {D : Type 0} where
     begins = starts_trans new.seen mid.seen old.seen leaves.begins_old so_far.begins;
     each = all_append (λ (seat : Seat D). StartsWith new.seen seat.0.seen) seats ((gone, lines) ∷ [])
         (all_weaker (λ (seat : Seat D). StartsWith mid.seen seat.0.seen) (λ (seat : Seat D). StartsWith new.seen seat.0.seen)
-            (λ seat starts. starts_trans new.seen mid.seen seat.0.seen leaves.begins_old starts) seats so_far.each)
+        (λ seat starts. starts_trans new.seen mid.seen seat.0.seen leaves.begins_old starts) seats so_far.each)
         (leaves.begins_gone, tt);
     ended =
         ap (λ (p : Holding (OfficeOpening D)). p.ended) leaves.new_is
         ∙ ap (λ (front : List Page). front ++ pages gone) so_far.ended
         ∙ append_assoc old.ended (flat_map (λ (seat : Seat D). pages seat.0) seats) (pages gone)
         ∙ ap (λ (back : List Page). old.ended ++ back)
-            (ap (λ (back : List Page). flat_map (λ (seat : Seat D). pages seat.0) seats ++ back) (sym (append-nil (pages gone)))
-            ∙ sym (flat_map-append (λ (seat : Seat D). pages seat.0) seats ((gone, lines) ∷ [])));
+        (ap (λ (back : List Page). flat_map (λ (seat : Seat D). pages seat.0) seats ++ back) (sym (append-nil (pages gone)))
+        ∙ sym (flat_map-append (λ (seat : Seat D). pages seat.0) seats ((gone, lines) ∷ [])));
   }
 
   -- each lane was run in its seat, where it was so at each place
   pub have_run : (basis : List Dated) (lanes : List Lane) (olds news : List (Seat D)) → length lanes ≡ length olds → length lanes ≡ length news
       → ((i : ℕ) (lane : Lane) (old new : Seat D) → slice_get lanes i ≡ Some lane → slice_get olds i ≡ Some old → slice_get news i ≡ Some new
-          → HasRunIn basis lane old new)
+      → HasRunIn basis lane old new)
       → HaveRun basis lanes olds news
   have_run basis [] [] [] same_olds same_news at = tt
   have_run basis [] [] (new ∷ news) same_olds same_news at = absurd (omega (arith, same_news))
   have_run basis [] (old ∷ olds) news same_olds same_news at = absurd (omega (arith, same_olds))
   have_run basis (lane ∷ lanes) [] news same_olds same_news at = absurd (omega (arith, same_olds))
   have_run basis (lane ∷ lanes) (old ∷ olds) [] same_olds same_news at = absurd (omega (arith, same_news))
-  have_run basis (lane ∷ lanes) (old ∷ olds) (new ∷ news) same_olds same_news at =
-      (
-        at 0 lane old new refl refl refl,
-        have_run basis lanes olds news (omega (arith, same_olds)) (omega (arith, same_news)) (λ i. at (suc i)),
-      )
+  have_run basis (lane ∷ lanes) (old ∷ olds) (new ∷ news) same_olds same_news at = (
+    at 0 lane old new refl refl refl,
+    have_run basis lanes olds news (omega (arith, same_olds)) (omega (arith, same_news)) (λ i. at (suc i)),
+  )

@@ -1,5 +1,5 @@
 // Lanes are run at the same time, each in a pass of its own.
-ghost use Rattle.std.specs.Prelude.{◌≡◌, ◌≤◌, ◌<◌, ◌^◌, [], length, map, vec_capacity, OnErr, IfOk};
+ghost use Rattle.std.specs.Prelude.{◌≡◌, ◌+◌, ◌≤◌, ◌<◌, ◌^◌, ◌++◌, [], length, map, vec_capacity, OnErr, IfOk};
 ghost use Rattle.std.specs.List.{AllByRecursion, AllZip, flat_map};
 ghost use Rattle.turn_lock.specs.Passes.{PassFacts};
 ghost use Rattle.shared_office.specs.Offices.{IsOfficeHistory};
@@ -191,9 +191,18 @@ fn leave_all<D: Disk>(
     ensures lines { all.new.items ≡ flat_map (λ seat. seat.1.items) seats.items }
 {
     for seat in seats {
-        let (gone, mut lines) = seat;
+        let (gone, lines) = seat;
         callers.push_reserved(gone.caller());
         office.leave(gone, pass);
-        let _ = all.append(&mut lines);
+        put_behind(all, lines);
     }
+}
+
+// Puts lines behind others, where there is room for them.
+fn put_behind(all: &mut Vec<AnsweredLine>, mut lines: Vec<AnsweredLine>)
+    requires { length all.old.items + length lines.items ≤ vec_capacity all.old }
+    ensures lines { all.new.items ≡ all.old.items ++ lines.items }
+    ensures room { vec_capacity all.old ≤ vec_capacity all.new }
+{
+    let _ = all.append(&mut lines);
 }

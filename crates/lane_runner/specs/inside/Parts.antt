@@ -1,5 +1,5 @@
 -- The parts of running lanes
-use Rattle.std.specs.Prelude.{◌≡◌, ℕ, ◌+◌, ◌≤◌, ◌<◌, ◌^◌, Option, Some, slice_get, List, [], ◌∷◌, ◌++◌, length, map, Result, Ok, Err, Vec, vec_capacity}
+use Rattle.std.specs.Prelude.{◌≡◌, ℕ, zero, suc, ◌+◌, ◌≤◌, ◌<◌, ◌^◌, Option, Some, slice_get, List, [], ◌∷◌, ◌++◌, length, map, Result, Ok, Err, Vec, vec_capacity}
 use Rattle.std.specs.Global.{Global}
 use Rattle.std.specs.List.{AllByRecursion, AllZip, flat_map}
 use Rattle.basis_book.specs.Dated.{Dated}
