@@ -4,3 +4,4 @@ pub mod SeatSteps
 pub mod RunSteps
 pub mod MergeSteps
 pub mod LaneSteps
+pub mod FirstPass

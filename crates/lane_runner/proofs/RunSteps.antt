@@ -2,7 +2,8 @@
 use Rattle.std.proofs.Common.{◌≡◌, ℕ, zero, suc, ◌+◌, ◌-◌, ◌*◌, ◌≤◌, ◌<◌, ◌^◌, ◌==◌, nat_eq, Bool, true, false, List, [], ◌∷◌, ◌++◌, length, map, Option, Some, Vec, refl, ap, sym, ◌∙◌, subst, append-nil, append_assoc, length-append, arith}
 use Rattle.std.specs.Global.{Global}
 use Rattle.std.specs.List.{AllByRecursion, AllZip, Contains, IsDistinct, filter, flat_map}
-use Rattle.std.proofs.lemmas.List.{map-append}
+use Rattle.std.proofs.lemmas.List.{length-map, map-append}
+use Rattle.std.proofs.lemmas.List.Elements.{recursion_from_All}
 use Rattle.std.proofs.lemmas.List.Concat.{flat_map-append}
 use Rattle.basis_book.specs.Dated.{Dated}
 use Rattle.policy_types.specs.declared.entry.Entry.{Entry}
@@ -12,15 +13,16 @@ use Rattle.policy_types.specs.declared.script.Lane.{Lane}
 use Rattle.policy_machine.specs.History.{Opening}
 use Rattle.policy_machine.specs.Merge.{AnswersLine, Placed, turns_of}
 use Rattle.turn_lock.specs.History.{StartsWith, entries_of}
-use Rattle.turn_lock.specs.Passes.{Holding, Page, PassFacts, callers, pages}
+use Rattle.turn_lock.specs.Passes.{Holding, Page, PassFacts, TableId, callers, pages}
 use Rattle.shared_office.specs.Offices.{IsOfficeHistory, OfficeOpening}
 use Rattle.lane_runner.specs.declared.transcript.AnsweredLine.{AnsweredLine as TranscriptLine}
 use Rattle.lane_runner.specs.AnsweredLines.{AnsweredLine, turns_in}
-use Rattle.lane_runner.specs.Lanes.{AreRightLanes, is_value, lines_in}
+use Rattle.lane_runner.specs.Lanes.{AreRightLanes, IsRightLane, is_value, lines_in}
 use Rattle.lane_runner.specs.Transcripts.{HasRun, IsTold, dry_of}
-use Rattle.lane_runner.specs.inside.Parts.{HasEntered, HasLeft, HasRunIn, HaveRun, IsFresh, Seat, all_left, all_shares_in, turns_for, turns_needed}
+use Rattle.lane_runner.specs.inside.Parts.{HasEntered, HasLeft, HasRunIn, HaveRun, IsFresh, IsReady, IsRoomFor, Seat, all_left, all_shares_in, turns_for, turns_needed}
 use Rattle.lane_runner.proofs.Places.{no_turns, turns_stay}
 use Rattle.lane_runner.proofs.AnswerSteps.{all_later, needed_append, told_later, zip_moved}
+use Rattle.lane_runner.proofs.SeatSteps.{zip_length}
 
 -- lines need a turn each, and sixteen thousand for a valuation
 needed_most : (lines : List Line) → turns_needed lines ≤ length lines + 16000 * length (filter is_value lines)
@@ -34,7 +36,7 @@ unfolding IsDistinct
 distinct_later [] ys apart = apart
 distinct_later (x ∷ xs) ys apart = distinct_later xs ys apart.1
 
-numbers_of : (numbers : List ℕ) (f : ℕ → List Entry) → map (λ (page : Page). page.0) (map (λ number. (number, f number)) numbers) ≡ numbers
+pub numbers_of : (numbers : List ℕ) (f : ℕ → List Entry) → map (λ (page : Page). page.0) (map (λ number. (number, f number)) numbers) ≡ numbers
 numbers_of [] f = refl
 numbers_of (n ∷ numbers) f = ap (λ rest. n ∷ rest) (numbers_of numbers f)
 
@@ -169,6 +171,74 @@ module _ {D : Type 0} where
     lane_of_seat basis first opened history lane old new is fresh.0 run.0 begins.0 made.0,
     lanes_of_seats basis first opened history lanes olds news is fresh.1 run.1 begins.1 made.1,
   )
+
+  pub news_many : (basis : List Dated) (lanes : List Lane) (olds news : List (Seat D)) → HaveRun basis lanes olds news → length news ≡ length lanes
+  news_many basis [] [] [] run = refl
+  news_many basis [] [] (new ∷ news) run = absurd run
+  news_many basis [] (old ∷ olds) news run = absurd run
+  news_many basis (lane ∷ lanes) [] news run = absurd run
+  news_many basis (lane ∷ lanes) (old ∷ olds) [] run = absurd run
+  news_many basis (lane ∷ lanes) (old ∷ olds) (new ∷ news) run = ap suc (news_many basis lanes olds news run.1)
+
+  -- as many lines are told of as the lanes have
+  pub told_many : (basis : List Dated) (lanes : List Lane) (olds news : List (Seat D)) → HaveRun basis lanes olds news
+      → length (flat_map (λ (seat : Seat D). seat.1.items) news) ≡ length (lines_in lanes)
+  told_many basis [] [] [] run = refl
+  told_many basis [] [] (new ∷ news) run = absurd run
+  told_many basis [] (old ∷ olds) news run = absurd run
+  told_many basis (lane ∷ lanes) [] news run = absurd run
+  told_many basis (lane ∷ lanes) (old ∷ olds) [] run = absurd run
+  told_many basis (lane ∷ lanes) (old ∷ olds) (new ∷ news) run =
+      let here : length new.1.items ≡ length lane.lines =
+      sym (zip_length (IsTold run.0.answered.opened.opening new.0.seen basis) run.0.answered.answered new.1.items run.0.answered.tells)
+      ∙ sym (length-map run.0.answered.answered (λ (one : AnsweredLine). one.line)) ∙ ap length run.0.answered.asked in
+      length-append new.1.items (flat_map (λ (seat : Seat D). seat.1.items) news)
+      ∙ (λ i. here i + told_many basis lanes olds news run.1 i) ∙ sym (length-append lane.lines (lines_in lanes))
+
+  pub seats_ours : (basis : List Dated) (office : TableId) (first : Holding (OfficeOpening D)) (lanes : List Lane) (olds news : List (Seat D))
+      → HaveRun basis lanes olds news → AllByRecursion (λ (seat : Seat D). IsFresh first seat.0) olds → first.turnstile ≡ office
+      → AllByRecursion (λ (seat : Seat D). seat.0.turnstile ≡ office) news
+  seats_ours basis office first [] [] [] run fresh ours = tt
+  seats_ours basis office first [] [] (new ∷ news) run fresh ours = absurd run
+  seats_ours basis office first [] (old ∷ olds) news run fresh ours = absurd run
+  seats_ours basis office first (lane ∷ lanes) [] news run fresh ours = absurd run
+  seats_ours basis office first (lane ∷ lanes) (old ∷ olds) [] run fresh ours = absurd run
+  seats_ours basis office first (lane ∷ lanes) (old ∷ olds) (new ∷ news) run fresh ours =
+      (run.0.answered.grows.turnstile ∙ fresh.0.turnstile ∙ ours, seats_ours basis office first lanes olds news run.1 fresh.1 ours)
+
+  needed_each : (lanes : List Lane) (most : ℕ) → turns_needed (lines_in lanes) ≤ most
+      → AllByRecursion (λ (lane : Lane). turns_needed lane.lines ≤ most) lanes
+  needed_each [] most few = tt
+  needed_each (lane ∷ lanes) most few = (
+    omega (arith, few, needed_append lane.lines (lines_in lanes)),
+    needed_each lanes most (omega (arith, few, needed_append lane.lines (lines_in lanes))),
+  )
+
+  ready : (office : TableId) (first : Holding (OfficeOpening D)) (lanes : List Lane) (seats : List (Seat D))
+      → AllZip IsRoomFor lanes (map (λ (seat : Seat D). seat.1) seats) → AllByRecursion (λ (seat : Seat D). IsFresh first seat.0) seats
+      → first.turnstile ≡ office → AllByRecursion IsRightLane lanes → AllByRecursion (λ (lane : Lane). turns_needed lane.lines ≤ 33554432) lanes
+      → AllZip (IsReady office) lanes seats
+  ready office first [] [] room fresh ours right few = tt
+  ready office first [] (seat ∷ seats) room fresh ours right few = absurd room
+  ready office first (lane ∷ lanes) [] room fresh ours right few = absurd room
+  ready office first (lane ∷ lanes) (seat ∷ seats) room fresh ours right few = (
+    record {
+      right = right.0;
+      ours = fresh.0.turnstile ∙ ours;
+      left = omega (arith, few.0, fresh.0.left);
+      room = room.0;
+    },
+    ready office first lanes seats room.1 fresh.1 ours right.1 few.1,
+  )
+
+  -- the lanes may be run in the seats that were entered for them
+  pub are_ready : (office : TableId) (old kept : Holding (OfficeOpening D)) (lanes : List Lane) (rooms : List (Vec TranscriptLine Global)) (seats : List (Seat D))
+      → AreRightLanes lanes → AllZip IsRoomFor lanes rooms → HasEntered old kept rooms seats → old.turnstile ≡ office
+      → AllZip (IsReady office) lanes seats
+  are_ready office old kept lanes rooms seats right fitting entered ours =
+      ready office old lanes seats (subst (AllZip IsRoomFor lanes) (sym entered.rooms_are) fitting) entered.fresh ours
+      (recursion_from_All IsRightLane lanes right.right)
+      (needed_each lanes 33554432 (omega (arith, needed_most (lines_in lanes), right.lines, right.values)))
 
   module _ (basis : List Dated) (lanes : List Lane) (old kept new : Holding (OfficeOpening D)) (rooms : List (Vec TranscriptLine Global))
       (olds news : List (Seat D)) (right : AreRightLanes lanes) (entered : HasEntered old kept rooms olds)

@@ -1,5 +1,5 @@
 -- Passes that are entered for lanes, and taken back
-use Rattle.std.proofs.Common.{◌≡◌, ℕ, zero, suc, ◌+◌, ◌-◌, ◌*◌, ◌/◌, ◌≤◌, ◌<◌, List, [], ◌∷◌, ◌++◌, length, map, take, drop, get_or, Option, Some, None, slice_get, Vec, refl, ap, sym, ◌∙◌, subst, append-nil, append_assoc, length-append, arith}
+use Rattle.std.proofs.Common.{◌≡◌, ℕ, zero, suc, ◌+◌, ◌-◌, ◌*◌, ◌/◌, ◌≤◌, ◌<◌, ◌^◌, List, [], ◌∷◌, ◌++◌, length, map, take, drop, get_or, Option, Some, None, slice_get, Vec, refl, ap, sym, ◌∙◌, subst, append-nil, append_assoc, length-append, arith}
 use Rattle.std.specs.Global.{Global}
 use Rattle.std.specs.List.{AllByRecursion, AllZip, flat_map}
 use Rattle.std.proofs.lemmas.List.{map-append}
@@ -214,3 +214,61 @@ module _ {D : Type 0} where
     at 0 lane old new refl refl refl,
     have_run basis lanes olds news (omega (arith, same_olds)) (omega (arith, same_news)) (λ i. at (suc i)),
   )
+
+  -- there is room for the lines of one more
+  pub lines_fit : (all yielded rest : List (Seat D)) (seat : Seat D) (capacity : ℕ) → all ≡ yielded ++ seat ∷ rest
+      → length (flat_map (λ (one : Seat D). one.1.items) all) ≤ capacity
+      → length (flat_map (λ (one : Seat D). one.1.items) yielded) + length seat.1.items ≤ capacity
+  lines_fit all yielded rest seat capacity is enough =
+      let split : flat_map (λ (one : Seat D). one.1.items) all
+      ≡ flat_map (λ (one : Seat D). one.1.items) yielded ++ seat.1.items ++ flat_map (λ (one : Seat D). one.1.items) rest
+      = ap (flat_map (λ (one : Seat D). one.1.items)) is ∙ flat_map-append (λ (one : Seat D). one.1.items) yielded (seat ∷ rest) in
+      let long = ap length split in
+      omega (
+        arith,
+        long,
+        enough,
+        length-append (flat_map (λ (one : Seat D). one.1.items) yielded) (seat.1.items ++ flat_map (λ (one : Seat D). one.1.items) rest),
+        length-append seat.1.items (flat_map (λ (one : Seat D). one.1.items) rest),
+      )
+
+  pub callers_push : (seats : List (Seat D)) (seat : Seat D) (callers : List ℕ) (number : ℕ) → callers ≡ map (λ (one : Seat D). one.0.caller) seats
+      → number ≡ seat.0.caller → callers ++ number ∷ [] ≡ map (λ (one : Seat D). one.0.caller) (seats ++ seat ∷ [])
+  callers_push seats seat callers number are is =
+      (λ i. are i ++ is i ∷ []) ∙ sym (map-append (λ (one : Seat D). one.0.caller) seats (seat ∷ []))
+
+  pub items_push : (seats : List (Seat D)) (seat : Seat D) (lines : List TranscriptLine) → lines ≡ flat_map (λ (one : Seat D). one.1.items) seats
+      → lines ++ seat.1.items ≡ flat_map (λ (one : Seat D). one.1.items) (seats ++ seat ∷ [])
+  items_push seats seat lines are =
+      (ap (λ (front : List TranscriptLine). front ++ seat.1.items) are ∙ ap (λ (back : List TranscriptLine). flat_map (λ (one : Seat D). one.1.items) seats ++ back) (sym (append-nil seat.1.items))) ∙ sym (flat_map-append (λ (one : Seat D). one.1.items) seats (seat ∷ []))
+
+turns_few : (n : ℕ) → n ≤ 8 → turns_to_enter n ≤ 1099511627776
+turns_few zero few = omega arith
+turns_few (suc zero) few = omega arith
+turns_few (suc (suc zero)) few = omega arith
+turns_few (suc (suc (suc zero))) few = omega arith
+turns_few (suc (suc (suc (suc zero)))) few = omega arith
+turns_few (suc (suc (suc (suc (suc zero))))) few = omega arith
+turns_few (suc (suc (suc (suc (suc (suc zero)))))) few = omega arith
+turns_few (suc (suc (suc (suc (suc (suc (suc zero))))))) few = omega arith
+turns_few (suc (suc (suc (suc (suc (suc (suc (suc zero)))))))) few = omega arith
+turns_few (suc (suc (suc (suc (suc (suc (suc (suc (suc n))))))))) few = absurd (omega arith)
+
+shares_few : (n : ℕ) → n ≤ 8 → shares_to_enter n ≤ 1024
+shares_few zero few = omega arith
+shares_few (suc zero) few = omega arith
+shares_few (suc (suc zero)) few = omega arith
+shares_few (suc (suc (suc zero))) few = omega arith
+shares_few (suc (suc (suc (suc zero)))) few = omega arith
+shares_few (suc (suc (suc (suc (suc zero))))) few = omega arith
+shares_few (suc (suc (suc (suc (suc (suc zero)))))) few = omega arith
+shares_few (suc (suc (suc (suc (suc (suc (suc zero))))))) few = omega arith
+shares_few (suc (suc (suc (suc (suc (suc (suc (suc zero)))))))) few = omega arith
+shares_few (suc (suc (suc (suc (suc (suc (suc (suc (suc n))))))))) few = absurd (omega arith)
+
+-- there are turns and shares for eight passes
+pub turns_for_all : (n left : ℕ) → n ≤ 8 → 2 ^ 40 ≤ left → turns_to_enter n ≤ left
+turns_for_all n left few enough = omega (arith, turns_few n few, enough)
+
+pub shares_for_all : (n shares : ℕ) → n ≤ 8 → 2 ^ 10 ≤ shares → shares_to_enter n ≤ shares
+shares_for_all n shares few enough = omega (arith, shares_few n few, enough)

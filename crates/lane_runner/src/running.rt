@@ -1,11 +1,13 @@
 // Lanes are run at the same time, each in a pass of its own.
 ghost use Rattle.std.specs.Prelude.{◌≡◌, ◌+◌, ◌≤◌, ◌<◌, ◌^◌, ◌++◌, [], length, map, vec_capacity, OnErr, IfOk};
 ghost use Rattle.std.specs.List.{AllByRecursion, AllZip, flat_map};
+ghost use Rattle.std.specs.List.Sorted.{IsNonDecreasingBy, IsPermutation};
 ghost use Rattle.turn_lock.specs.Passes.{PassFacts};
 ghost use Rattle.shared_office.specs.Offices.{IsOfficeHistory};
+ghost use Rattle.lane_runner.specs.declared.transcript.AnsweredLine.{AnsweredLine as TranscriptLine};
 ghost use Rattle.lane_runner.specs.Lanes.{AreRightLanes, lines_in};
 ghost use Rattle.lane_runner.specs.Transcripts.{HasAnsweredLanes};
-ghost use Rattle.lane_runner.specs.inside.Parts.{HasEntered, HasLeft, HasRunAt, HaveRun, IsReady, IsReadyAt, IsRoomFor, shares_to_enter, turns_to_enter};
+ghost use Rattle.lane_runner.specs.inside.Parts.{HasEntered, HasLeft, HasRoom, HasRunAt, HaveRun, IsReady, IsReadyAt, IsRoomFor, shares_to_enter, turns_to_enter};
 
 use crate::answering::answer_lane;
 use crate::transcript::{AnsweredLine, AnsweredLines, Callers, Transcript};
@@ -50,31 +52,67 @@ pub fn run_lanes<D: Disk + Send, G: Gate + Sync, R: Threads + Wait + Sync>(
     ensures refused { OnErr result (pass.new ≡ pass.old) }
     ensures facts { PassFacts IsOfficeHistory pass.new }
 {
-    pass.caller();
+    let room = room_for::<D>(alloc, lanes)?;
+    Ok(run_in(rt, alloc, office, pass, lanes, basis, gate, room))
+}
+
+// Runs lanes, for whose lines there is room.
+fn run_in<D: Disk + Send, G: Gate + Sync, R: Threads + Wait + Sync>(
+    rt: &R,
+    alloc: Global,
+    office: &Office<D>,
+    pass: &mut OfficePass<D>,
+    lanes: &[Lane],
+    basis: &Basis,
+    gate: &G,
+    room: Room<D>,
+) -> Transcript
+    requires lanes { AreRightLanes lanes.now }
+    requires ours { pass.old.turnstile ≡ office.now }
+    requires left { 2 ^ 40 ≤ pass.old.left }
+    requires shares { 2 ^ 10 ≤ pass.old.shares }
+    requires room { HasRoom lanes.now room.rooms room.seats room.callers room.lines }
+    ensures answered { HasAnsweredLanes basis.now lanes.now pass.old pass.new result }
+    ensures facts { PassFacts IsOfficeHistory pass.new }
+{
     let Room {
         rooms,
         mut seats,
         mut callers,
         mut lines,
-    } = room_for::<D>(alloc, lanes)?;
+    } = room;
+    learn(pass);
     enter_all(office, pass, rooms, &mut seats);
     run_all(rt, alloc, office, lanes, basis, gate, seats.as_mut_slice());
     leave_all(office, pass, seats, &mut callers, &mut lines);
-    pass.caller();
-    lines.as_mut_slice().sort_unstable_by_key(|line| line.turn);
-    Ok(Transcript {
+    learn(pass);
+    order(lines.as_mut_slice());
+    Transcript {
         callers: Callers::new(callers),
         lines: AnsweredLines::new(lines),
-    })
+    }
+}
+
+// What is known of every pass is known of this one.
+fn learn<D: Disk>(pass: &mut OfficePass<D>)
+    ensures same { pass.new ≡ pass.old }
+    ensures facts { PassFacts IsOfficeHistory pass.new }
+{
+    pass.caller();
+}
+
+// Puts lines in the order of their turns.
+fn order(lines: &mut [AnsweredLine])
+    ensures moved { IsPermutation lines.old lines.new }
+    ensures sorted { IsNonDecreasingBy (λ (told : TranscriptLine). told.turn) lines.new }
+{
+    lines.sort_unstable_by_key(|line| line.turn);
 }
 
 // Takes the memory for what is answered to lanes.
 fn room_for<D: Disk>(alloc: Global, lanes: &[Lane]) -> Result<Room<D>, NoMemory>
     requires few { length (lines_in lanes.now) ≤ 2 ^ 24 }
-    ensures rooms { IfOk result (λ room. AllZip IsRoomFor lanes.now room.rooms.items) }
-    ensures seats { IfOk result (λ room. (room.seats.items ≡ []) × (length lanes.now ≤ vec_capacity room.seats)) }
-    ensures callers { IfOk result (λ room. (room.callers.items ≡ []) × (length lanes.now ≤ vec_capacity room.callers)) }
-    ensures lines { IfOk result (λ room. (room.lines.items ≡ []) × (length (lines_in lanes.now) ≤ vec_capacity room.lines)) }
+    ensures { IfOk result (λ room. HasRoom lanes.now room.rooms room.seats room.callers room.lines) }
 {
     let count = lanes.len();
     let rooms = rooms_for(alloc, lanes)?;

@@ -19,7 +19,7 @@ use Rattle.lane_runner.specs.declared.transcript.AnsweredLine.{AnsweredLine as T
 use Rattle.lane_runner.specs.declared.transcript.Outcome.{Outcome}
 use Rattle.lane_runner.specs.declared.transcript.Outcome.TheVariants.{Valued, ValueRefused, ValueNoMemory}
 use Rattle.lane_runner.specs.AnsweredLines.{AnsweredLine, turns_in}
-use Rattle.lane_runner.specs.Lanes.{IsRightLane}
+use Rattle.lane_runner.specs.Lanes.{IsRightLane, lines_in}
 use Rattle.lane_runner.specs.Transcripts.{IsTold, dry_of}
 
 -- the turns that a line may need
@@ -60,6 +60,17 @@ Seat D = Holding (OfficeOpening D) × Vec TranscriptLine Global
 pub record IsRoomFor (lane : Lane) (memory : Vec TranscriptLine Global) : Type 0 where
   pub empty : memory.items ≡ []
   pub enough : length lane.lines ≤ vec_capacity memory
+
+-- the memory for lanes: a room for each, and room for as many passes and callers, and for all lines
+pub record HasRoom {D : Type 0} (lanes : List Lane) (rooms : Vec (Vec TranscriptLine Global) Global) (seats : Vec (Seat D) Global)
+    (callers : Vec ℕ Global) (lines : Vec TranscriptLine Global) : Type 0 where
+  pub fitting : AllZip IsRoomFor lanes rooms.items
+  pub no_seats : seats.items ≡ []
+  pub seats_enough : length lanes ≤ vec_capacity seats
+  pub no_callers : callers.items ≡ []
+  pub callers_enough : length lanes ≤ vec_capacity callers
+  pub no_lines : lines.items ≡ []
+  pub lines_enough : length (lines_in lanes) ≤ vec_capacity lines
 
 -- the turns and the shares that are needed where so many passes are to be entered
 abbrev pub turns_to_enter : ℕ → ℕ

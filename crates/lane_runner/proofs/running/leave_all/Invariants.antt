@@ -15,7 +15,6 @@ invariant-loop-seat g l = record {
   callers_len : vec_len l.callers ≡ length l.yielded;
   callers_enough : vec_capacity l.callers ≡ vec_capacity l.fn.callers;
   lines : l.all.items ≡ flat_map (λ seat. seat.1.items) l.yielded;
-  lines_len : vec_len l.all ≡ length (flat_map (λ seat. seat.1.items) l.yielded);
   lines_enough : vec_capacity l.fn.all ≤ vec_capacity l.all;
   left : HasLeft l.fn.pass l.pass l.yielded;
 }
