@@ -65,8 +65,14 @@ turns_are opening history basis (one ∷ answered) (told ∷ tolds) all =
 abbrev pub items_in : {D : Type 0} → List (Seat D) → List TranscriptLine
 items_in {D} seats = flat_map (λ (seat : Seat D). seat.1.items) seats
 
+drier : (lines tolds : List TranscriptLine) → ((told : TranscriptLine) → In told tolds → In told lines)
+    → (x : ℕ) → Contains (dry_of tolds) x → Contains (dry_of lines) x
+drier lines tolds within x dry =
+    let found = dry_from x tolds dry in
+    subst (Contains (dry_of lines)) found.1.2 (dry_to found.0 lines (within found.0 found.1.0) found.1.1)
+
 module _ {D : Type 0} (opening : Opening) (history : List Entry) (basis : List Dated) where
-  answered_in : (lanes : List Lane) (seats : List (Seat D)) → AreLanesOf opening history basis lanes seats → List AnsweredLine
+  abbrev answered_in : (lanes : List Lane) (seats : List (Seat D)) → AreLanesOf opening history basis lanes seats → List AnsweredLine
   answered_in [] [] are = []
   answered_in [] (seat ∷ seats) are = absurd are
   answered_in (lane ∷ lanes) [] are = absurd are
@@ -140,19 +146,13 @@ module _ {D : Type 0} (opening : Opening) (history : List Entry) (basis : List D
       (λ one its. inr its) (answered_in lanes seats are.1) (clerks_in lanes seats are.1))
 
   module _ (lines : List TranscriptLine) where
-    drier : (tolds : List TranscriptLine) → ((told : TranscriptLine) → In told tolds → In told lines)
-        → (x : ℕ) → Contains (dry_of tolds) x → Contains (dry_of lines) x
-    drier tolds within x dry =
-        let found = dry_from x tolds dry in
-        subst (Contains (dry_of lines)) found.1.2 (dry_to found.0 lines (within found.0 found.1.0) found.1.1)
-
     lane_answers : (lane : Lane) (seat : Seat D) (is : IsLaneOf opening history basis lane seat.0.caller seat.1.items)
         → ((told : TranscriptLine) → In told seat.1.items → In told lines)
         → AllByRecursion (λ (one : AnsweredLine). AnswersLine (dry_of lines) one.line (turns_in one)) is.answered
     lane_answers lane seat is within =
         all_weaker (λ (one : AnsweredLine). AnswersLine (dry_of seat.1.items) one.line (turns_in one))
         (λ (one : AnsweredLine). AnswersLine (dry_of lines) one.line (turns_in one))
-        (λ one. answers_drier (dry_of seat.1.items) (dry_of lines) (drier seat.1.items within) one.line (turns_in one)) is.answered is.answers
+        (λ one. answers_drier (dry_of seat.1.items) (dry_of lines) (drier lines seat.1.items within) one.line (turns_in one)) is.answered is.answers
 
     answers_in : (lanes : List Lane) (seats : List (Seat D)) (are : AreLanesOf opening history basis lanes seats)
         → ((told : TranscriptLine) → In told (items_in seats) → In told lines)
@@ -229,13 +229,13 @@ module _ {D : Type 0} (basis : List Dated) (lanes : List Lane) (old new : Holdin
   abbrev opening : Opening
   opening = facts.lawful.0.opening
 
-  first_order : List AnsweredLine
+  abbrev first_order : List AnsweredLine
   first_order = answered_in opening new.seen basis lanes seats are
 
-  both : (ws : List AnsweredLine) × (IsPermutation first_order ws × AllZip (IsTold opening new.seen basis) ws lines)
+  abbrev both : (ws : List AnsweredLine) × (IsPermutation first_order ws × AllZip (IsTold opening new.seen basis) ws lines)
   both = zip_moved_both (IsTold opening new.seen basis) first_order (items_in seats) lines (tells_in opening new.seen basis lanes seats are) moved
 
-  answered : List AnsweredLine
+  abbrev answered : List AnsweredLine
   answered = both.0
 
   turns_same : map (λ (told : TranscriptLine). told.turn) lines ≡ firsts answered
@@ -276,3 +276,9 @@ module _ {D : Type 0} (basis : List Dated) (lanes : List Lane) (old new : Holdin
     told = both.1.1;
     dry = are_dry lines apart;
   }
+
+  pub answered_as : (callers : List ℕ) (written : List TranscriptLine) → callers ≡ callers_in seats → written ≡ lines
+      → HasAnsweredLanes basis lanes old new (record { callers = callers; lines = written })
+  answered_as callers written callers_are lines_are =
+      subst (λ (cs : List ℕ). HasAnsweredLanes basis lanes old new (record { callers = cs; lines = written })) (sym callers_are)
+      (subst (λ (ls : List TranscriptLine). HasAnsweredLanes basis lanes old new (record { callers = callers_in seats; lines = ls })) (sym lines_are) has_answered)

@@ -54,28 +54,28 @@ in_cases {A} x (z ∷ xs) ys (inr later) = by (in_cases x xs ys later)
 
 pub in_filter : {A : Type 0} (p : A → Bool) (x : A) (xs : List A) → In x xs → p x ≡ true → In x (filter p xs)
 in_filter p x [] is passes = absurd is
-in_filter {A} p x (y ∷ ys) is passes = by (p y) refl is
+in_filter {A} p x (y ∷ ys) is passes = by (p y) refl (λ later. in_filter p x ys later passes) is
   where
-    by : (b : Bool) → p y ≡ b → In x (y ∷ ys) → In x (filter p (y ∷ ys))
-    by true here (inl same) = rw here (inl same)
-    by true here (inr later) = rw here (inr (in_filter p x ys later passes))
-    by false here (inl same) = absurd (false≢true (sym here ∙ ap p same ∙ passes))
-    by false here (inr later) = rw here (in_filter p x ys later passes)
+    by : (b : Bool) → p y ≡ b → (In x ys → In x (filter p ys)) → In x (y ∷ ys) → In x (filter p (y ∷ ys))
+    by true here rest (inl same) = rw here (inl same)
+    by true here rest (inr later) = rw here (inr (rest later))
+    by false here rest (inl same) = absurd (false≢true (sym here ∙ ap p same ∙ passes))
+    by false here rest (inr later) = rw here (rest later)
 
 pub from_filter : {A : Type 0} (p : A → Bool) (x : A) (xs : List A) → In x (filter p xs) → In x xs × (p x ≡ true)
 from_filter p x [] is = absurd is
-from_filter {A} p x (y ∷ ys) is = by (p y) refl
+from_filter {A} p x (y ∷ ys) is = by (p y) refl (from_filter p x ys)
   where
-    rest : In x (filter p ys) → In x (y ∷ ys) × (p x ≡ true)
-    rest later = let found = from_filter p x ys later in (inr found.0, found.1)
+    behind : In x ys × (p x ≡ true) → In x (y ∷ ys) × (p x ≡ true)
+    behind found = (inr found.0, found.1)
 
-    first : p y ≡ true → In x (y ∷ filter p ys) → In x (y ∷ ys) × (p x ≡ true)
-    first here (inl same) = (inl same, ap p (sym same) ∙ here)
-    first here (inr later) = rest later
+    first : p y ≡ true → (In x (filter p ys) → In x ys × (p x ≡ true)) → In x (y ∷ filter p ys) → In x (y ∷ ys) × (p x ≡ true)
+    first here rest (inl same) = (inl same, ap p (sym same) ∙ here)
+    first here rest (inr later) = behind (rest later)
 
-    by : (b : Bool) → p y ≡ b → In x (y ∷ ys) × (p x ≡ true)
-    by true here = first here (subst (In x) (cond-true (p y) _ _ here) is)
-    by false here = rest (subst (In x) (cond-false (p y) _ _ here) is)
+    by : (b : Bool) → p y ≡ b → (In x (filter p ys) → In x ys × (p x ≡ true)) → In x (y ∷ ys) × (p x ≡ true)
+    by true here rest = first here rest (subst (In x) (cond-true (p y) _ _ here) is)
+    by false here rest = behind (rest (subst (In x) (cond-false (p y) _ _ here) is))
 
 pub all_in : {A : Type 0} (P : A → Type 0) (x : A) (xs : List A) → AllByRecursion P xs → In x xs → P x
 all_in P x [] all is = absurd is

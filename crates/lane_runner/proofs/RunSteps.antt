@@ -81,7 +81,7 @@ module _ {D : Type 0} where
   left_after basis (lane ∷ lanes) (old ∷ olds) (new ∷ news) run =
       omega (arith, run.0.answered.grows.left, run.0.answered.few, left_after basis lanes olds news run.1, needed_append lane.lines (lines_in lanes))
 
-  seats_many : (basis : List Dated) (lanes : List Lane) (olds news : List (Seat D)) → HaveRun basis lanes olds news → length olds ≡ length lanes
+  pub seats_many : (basis : List Dated) (lanes : List Lane) (olds news : List (Seat D)) → HaveRun basis lanes olds news → length olds ≡ length lanes
   seats_many basis [] [] [] run = refl
   seats_many basis [] [] (new ∷ news) run = absurd run
   seats_many basis [] (old ∷ olds) news run = absurd run
@@ -247,7 +247,7 @@ module _ {D : Type 0} where
     ended_none : AllByRecursion (λ (seat : Seat D). seat.0.ended ≡ []) news
     ended_none = none_ended basis old lanes olds news run entered.fresh
 
-    added : List Page
+    abbrev added : List Page
     added = flat_map (λ (seat : Seat D). pages seat.0) news
 
     ended_is : new.ended ≡ kept.ended ++ added

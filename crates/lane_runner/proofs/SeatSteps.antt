@@ -33,7 +33,10 @@ pub lines_left : (lanes : List Lane) (i : ℕ) (d : Lane) → i < length lanes
     → length (lines_in (drop i lanes)) ≡ length (get_or lanes i d).lines + length (lines_in (drop (i + 1) lanes))
 lines_left [] i d below = absurd (omega arith)
 lines_left (lane ∷ lanes) zero d below = length-append lane.lines (lines_in lanes)
-lines_left (lane ∷ lanes) (suc i) d below = lines_left lanes i d (omega arith)
+lines_left (lane ∷ lanes) (suc i) d below =
+    let next : suc (i + 1) ≡ suc i + 1 = omega arith in
+    lines_left lanes i d (omega arith)
+    ∙ ap (λ n. length (get_or lanes i d).lines + length (lines_in (drop n (lane ∷ lanes)))) next
 
 pub none_left : (lanes : List Lane) → length (lines_in (drop (length lanes) lanes)) ≡ 0
 none_left [] = refl
@@ -45,7 +48,9 @@ zip_next R [] ys i d y below all one = absurd (omega arith)
 zip_next R (x ∷ xs) [] zero d y below all one = (one, tt)
 zip_next R (x ∷ xs) (z ∷ ys) zero d y below all one = absurd all
 zip_next R (x ∷ xs) [] (suc i) d y below all one = absurd all
-zip_next R (x ∷ xs) (z ∷ ys) (suc i) d y below all one = (all.0, zip_next R xs ys i d y (omega arith) all.1 one)
+zip_next R (x ∷ xs) (z ∷ ys) (suc i) d y below all one =
+    let next : suc (i + 1) ≡ suc i + 1 = omega arith in
+    subst (λ n. AllZip R (take n (x ∷ xs)) (z ∷ ys ++ y ∷ [])) next (all.0, zip_next R xs ys i d y (omega arith) all.1 one)
 
 pub zip_length : {A B : Type 0} (R : A → B → Type 0) (xs : List A) (ys : List B) → AllZip R xs ys → length xs ≡ length ys
 zip_length R [] [] all = refl
@@ -77,6 +82,13 @@ one_some a b same = cc
 pub zip_next_is : {A B : Type 0} (R : A → B → Type 0) (xs : List A) (ys : List B) (i : ℕ) (x : A) (y : B) → i < length xs → x ≡ get_or xs i x
     → AllZip R (take i xs) ys → R x y → AllZip R (take (i + 1) xs) (ys ++ y ∷ [])
 zip_next_is R xs ys i x y below here all one = zip_next R xs ys i x y below all (subst (λ v. R v y) here one)
+
+-- there is room for one more
+pub room_next : (n : ℕ) (left shares : ℕ) → turns_to_enter (suc n) ≤ left → shares_to_enter (suc n) ≤ shares → (3 ≤ left) × (2 ≤ shares)
+room_next n left shares turns parts =
+    let more : turns_to_enter n + turns_to_enter n + 1 ≤ left = turns in
+    let some : shares_to_enter n + shares_to_enter n ≤ shares = parts in
+    (omega (arith, more, turns_enough n), omega (arith, some, shares_enough n))
 
 module _ {D : Type 0} where
   left_push : (seats : List (Seat D)) (seat : Seat D) → all_left (seats ++ seat ∷ []) ≡ all_left seats + seat.0.left
@@ -152,13 +164,6 @@ module _ {D : Type 0} where
       let enough : shares_to_enter n + shares_to_enter n ≤ mid.shares = shares in
       let kept_shares : new.shares ≡ mid.shares - mid.shares / 2 = ap (λ (p : Holding (OfficeOpening D)). p.shares) enters.kept_is in
       omega (arith, enough, kept_shares)
-
-  -- there is room for one more
-  pub room_next : (n : ℕ) (left shares : ℕ) → turns_to_enter (suc n) ≤ left → shares_to_enter (suc n) ≤ shares → (3 ≤ left) × (2 ≤ shares)
-  room_next n left shares turns parts =
-      let more : turns_to_enter n + turns_to_enter n + 1 ≤ left = turns in
-      let some : shares_to_enter n + shares_to_enter n ≤ shares = parts in
-      (omega (arith, more, turns_enough n), omega (arith, some, shares_enough n))
 
   pub left_none : (pass : Holding (OfficeOpening D)) → HasLeft pass pass []
   left_none pass = record {
@@ -272,3 +277,11 @@ turns_for_all n left few enough = omega (arith, turns_few n few, enough)
 
 pub shares_for_all : (n shares : ℕ) → n ≤ 8 → 2 ^ 10 ≤ shares → shares_to_enter n ≤ shares
 shares_for_all n shares few enough = omega (arith, shares_few n few, enough)
+
+-- what a whole list is put back as
+pub slice_whole : {A : Type 0} (n : ℕ) (xs items : List A) → length xs ≡ length items → n ≡ length items → take n (xs ++ drop (length xs) items) ≡ xs
+slice_whole n [] [] long is = ap (λ k. take k []) is
+slice_whole n [] (item ∷ items) long is = absurd (omega (arith, long))
+slice_whole n (x ∷ xs) [] long is = absurd (omega (arith, long))
+slice_whole zero (x ∷ xs) (item ∷ items) long is = absurd (omega (arith, is))
+slice_whole (suc n) (x ∷ xs) (item ∷ items) long is = ap (λ rest. x ∷ rest) (slice_whole n xs items (omega (arith, long)) (omega (arith, is)))

@@ -81,27 +81,26 @@ fn run_in<D: Disk + Send, G: Gate + Sync, R: Threads + Wait + Sync>(
         mut callers,
         mut lines,
     } = room;
-    learn(pass);
+    pass.caller();
     enter_all(office, pass, rooms, &mut seats);
-    run_all(rt, alloc, office, lanes, basis, gate, seats.as_mut_slice());
+    run_seats(rt, alloc, office, lanes, basis, gate, &mut seats);
     leave_all(office, pass, seats, &mut callers, &mut lines);
-    learn(pass);
-    order(lines.as_mut_slice());
+    pass.caller();
+    put_in_order(&mut lines);
     Transcript {
         callers: Callers::new(callers),
         lines: AnsweredLines::new(lines),
     }
 }
 
-// What is known of every pass is known of this one.
-fn learn<D: Disk>(pass: &mut OfficePass<D>)
-    ensures same { pass.new ≡ pass.old }
-    ensures facts { PassFacts IsOfficeHistory pass.new }
+// Puts lines in the order of their turns.
+fn put_in_order(lines: &mut Vec<AnsweredLine>)
+    ensures moved { IsPermutation lines.old.items lines.new.items }
+    ensures sorted { IsNonDecreasingBy (λ (told : TranscriptLine). told.turn) lines.new.items }
 {
-    pass.caller();
+    order(lines.as_mut_slice());
 }
 
-// Puts lines in the order of their turns.
 fn order(lines: &mut [AnsweredLine])
     ensures moved { IsPermutation lines.old lines.new }
     ensures sorted { IsNonDecreasingBy (λ (told : TranscriptLine). told.turn) lines.new }
@@ -177,6 +176,21 @@ fn enter_all<D: Disk>(
 }
 
 // Runs each lane in its seat, all at the same time.
+fn run_seats<D: Disk + Send, G: Gate + Sync, R: Threads + Wait + Sync>(
+    rt: &R,
+    alloc: Global,
+    office: &Office<D>,
+    lanes: &[Lane],
+    basis: &Basis,
+    gate: &G,
+    seats: &mut Vec<Seat<D>>,
+)
+    requires ready { AllZip (IsReady office.now) lanes.now seats.old.items }
+    ensures run { HaveRun basis.now lanes.now seats.old.items seats.new.items }
+{
+    run_all(rt, alloc, office, lanes, basis, gate, seats.as_mut_slice());
+}
+
 fn run_all<D: Disk + Send, G: Gate + Sync, R: Threads + Wait + Sync>(
     rt: &R,
     alloc: Global,

@@ -14,10 +14,10 @@ pub returns : goal.returns
 returns g c =
     let long : length c.args.lanes.now ≡ length c.args.seats.now = zip_length (IsReady c.args.office.now) c.args.lanes.now c.args.seats.now c.requires.ready in
     record {
-      run = have_run c.args.basis.now c.args.lanes.now c.args.seats.now c.for_each_mut.new.s long ?
+      run = have_run c.args.basis.now c.args.lanes.now c.args.seats.now c.for_each_mut.new.s long (omega (arith, long, c.for_each_mut.auto.s))
           (λ i lane old new at_lane at_old at_new.
           let changes = c.for_each_mut.ensures i old (got c.args.seats.now i old old at_old).1 in
           subst (λ (o : _). HasRunIn c.args.basis.now lane o new) (changes.1.argument_is ∙ (got c.args.seats.now i old old at_old).0)
           (subst (λ (n : _). HasRunIn c.args.basis.now lane changes.1.argument.now n) (changes.1.left ∙ (got c.for_each_mut.new.s i new old at_new).0)
-          ?));
+          (changes.1.call lane at_lane)));
     }
