@@ -52,6 +52,7 @@ pub fn run_lanes<D: Disk + Send, G: Gate + Sync, R: Threads + Wait + Sync>(
     ensures refused { OnErr result (pass.new ≡ pass.old) }
     ensures facts { PassFacts IsOfficeHistory pass.new }
 {
+    pass.caller();
     let room = room_for::<D>(alloc, lanes)?;
     Ok(run_in(rt, alloc, office, pass, lanes, basis, gate, room))
 }
