@@ -52,6 +52,14 @@ pub record IsLaneOf (opening : Opening) (history : List Entry) (basis : List Dat
 same_opened : {O : Type 0} (a b : O) → Some a ≡ Some b → a ≡ b
 same_opened a b e = cc
 
+needed_each : (lanes : List Lane) (most : ℕ) → turns_needed (lines_in lanes) ≤ most
+    → AllByRecursion (λ (lane : Lane). turns_needed lane.lines ≤ most) lanes
+needed_each [] most few = tt
+needed_each (lane ∷ lanes) most few = (
+  omega (arith, few, needed_append lane.lines (lines_in lanes)),
+  needed_each lanes most (omega (arith, few, needed_append lane.lines (lines_in lanes))),
+)
+
 module _ {D : Type 0} where
   abbrev pub callers_in : List (Seat D) → List ℕ
   callers_in seats = map (λ (seat : Seat D). seat.0.caller) seats
@@ -205,14 +213,6 @@ module _ {D : Type 0} where
   seats_ours basis office first (lane ∷ lanes) (old ∷ olds) [] run fresh ours = absurd run
   seats_ours basis office first (lane ∷ lanes) (old ∷ olds) (new ∷ news) run fresh ours =
       (run.0.answered.grows.turnstile ∙ fresh.0.turnstile ∙ ours, seats_ours basis office first lanes olds news run.1 fresh.1 ours)
-
-  needed_each : (lanes : List Lane) (most : ℕ) → turns_needed (lines_in lanes) ≤ most
-      → AllByRecursion (λ (lane : Lane). turns_needed lane.lines ≤ most) lanes
-  needed_each [] most few = tt
-  needed_each (lane ∷ lanes) most few = (
-    omega (arith, few, needed_append lane.lines (lines_in lanes)),
-    needed_each lanes most (omega (arith, few, needed_append lane.lines (lines_in lanes))),
-  )
 
   ready : (office : TableId) (first : Holding (OfficeOpening D)) (lanes : List Lane) (seats : List (Seat D))
       → AllZip IsRoomFor lanes (map (λ (seat : Seat D). seat.1) seats) → AllByRecursion (λ (seat : Seat D). IsFresh first seat.0) seats

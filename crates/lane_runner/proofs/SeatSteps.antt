@@ -226,7 +226,7 @@ module _ {D : Type 0} where
       → length (flat_map (λ (one : Seat D). one.1.items) yielded) + length seat.1.items ≤ capacity
   lines_fit all yielded rest seat capacity is enough =
       let split : flat_map (λ (one : Seat D). one.1.items) all
-      ≡ flat_map (λ (one : Seat D). one.1.items) yielded ++ seat.1.items ++ flat_map (λ (one : Seat D). one.1.items) rest
+      ≡ flat_map (λ (one : Seat D). one.1.items) yielded ++ (seat.1.items ++ flat_map (λ (one : Seat D). one.1.items) rest)
       = ap (flat_map (λ (one : Seat D). one.1.items)) is ∙ flat_map-append (λ (one : Seat D). one.1.items) yielded (seat ∷ rest) in
       let long = ap length split in
       omega (
