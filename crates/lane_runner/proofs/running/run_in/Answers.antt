@@ -23,7 +23,8 @@ enter_all-requires-clause-room g c =
     omega (arith, many, c.requires.room.seats_enough)
 
 pub run_seats-requires-clause-ready : goal.run_seats-requires-clause-ready
-run_seats-requires-clause-ready g c = ?
+run_seats-requires-clause-ready g c κs within = are_ready c.args.office.now c.args.pass.now c.enter_all.new.pass c.args.lanes.now
+    c.args.room.rooms.items c.enter_all.new.seats.items c.requires.lanes c.requires.room.fitting c.enter_all.ensures.entered c.requires.ours
 
 pub leave_all-requires-clause-ours : goal.leave_all-requires-clause-ours
 leave_all-requires-clause-ours g c = (
