@@ -224,9 +224,9 @@ fn is_valued(line: &AnsweredLine) -> bool {
     let Outcome::Valued(valuation) = &line.outcome else {
         return false;
     };
-    let mut id = 0;
+    let mut id: u32 = 0;
     for row in valuation.rows.as_slice() {
-        id += 1;
+        id = id.wrapping_add(1);
         let due = Row {
             id,
             status: Status::InForce,
