@@ -3,8 +3,6 @@
 
 mod answering;
 mod running;
-#[cfg(test)]
-mod tests;
 mod transcript;
 
 pub use running::run_lanes;
