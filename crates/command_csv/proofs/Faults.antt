@@ -96,13 +96,13 @@ one_stop valued (a ∷ xs) (b ∷ ys) x y xa ya (entry ∷ xe) (other ∷ ye) f 
     let next : ℕ = valued + valuations_in (entry.line ∷ []) in
     let counts : counted valued (other ∷ ye) ≡ counted next ye = counted_on valued other ye ∙ ap (λ (made : ClerkLine). counted (valued + valuations_in (made.line ∷ [])) ye) same in
     let both = one_stop next xs ys x y xa ya xe ye f g rest hx.1 hy.1 (subst (λ (n : ℕ). n ≤ most_valuations) (counted_on valued entry xe) fx) (subst (λ (n : ℕ). n ≤ most_valuations) counts fy)
-        (subst (λ (n : ℕ). IsFirstBadField n x f) (counted_on valued entry xe) bx) (subst (λ (n : ℕ). IsFirstBadField n y g) counts by) in
+    (subst (λ (n : ℕ). IsFirstBadField n x f) (counted_on valued entry xe) bx) (subst (λ (n : ℕ). IsFirstBadField n y g) counts by) in
     (ap suc both.0, both.1)
 
 pub one_fault : (bytes : List ℕ) (row other field place : ℕ) → IsFirstFault bytes row field → IsFirstFault bytes other place → (row ≡ other) × (field ≡ place)
 one_fault bytes row other field place a b =
     let both = one_stop 0 a.before b.before a.faulty b.faulty a.after b.after a.entries b.entries field place (sym a.rows ∙ b.rows) a.right.each b.right.each (omega (arith, a.right.few)) (omega (arith, b.right.few))
-        (subst (λ (n : ℕ). IsFirstBadField n a.faulty field) (behind_none a.entries) a.bad) (subst (λ (n : ℕ). IsFirstBadField n b.faulty place) (behind_none b.entries) b.bad) in
+    (subst (λ (n : ℕ). IsFirstBadField n a.faulty field) (behind_none a.entries) a.bad) (subst (λ (n : ℕ). IsFirstBadField n b.faulty place) (behind_none b.entries) b.bad) in
     let same : length a.before ≡ length b.before = both.0 in
     let at : row ≡ length a.before + 1 = a.number in
     let at' : other ≡ length b.before + 1 = b.number in
@@ -110,8 +110,7 @@ one_fault bytes row other field place a b =
 
 pub one_lane : (bytes : List ℕ) (lanes : List Lane) → Reads bytes lanes → (lines : List Line) × (lanes ≡ lane_of 1 lines) × All IsScriptLine lines × (valuations_in lines ≤ most_valuations)
 one_lane bytes lanes reads =
-    let lines = all_lines reads.entries in
-    (
+    let lines = all_lines reads.entries in (
       lines,
       reads.by_clerk ∙ ap lanes_of (entries_of_first (rows_of bytes) reads.entries reads.rows.each) ∙ lanes_of_first lines,
       All-from_recursion IsScriptLine lines (all_right (rows_of bytes) reads.entries reads.rows.each),

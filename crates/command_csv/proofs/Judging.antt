@@ -135,8 +135,10 @@ kind_decides valued word = by (may_follow valued there) (same_text word (kind_wo
   where
     there : Kind
     there = kind_by (get_or word 0 0)
+
     only : (k : Kind) → word ≡ kind_word k → k ≡ there
     only k e = sym (ap (λ (w : List ℕ). kind_by (get_or w 0 0)) e ∙ kind_again k)
+
     by : MayFollow valued there ⊎ (MayFollow valued there → ⊥) → (word ≡ kind_word there) ⊎ (word ≡ kind_word there → ⊥) → Decides (MayFollow valued) kind_word word
     by (inl room) (inl e) = inl (there, room, e)
     by (inr full) e = inr (λ k h e. full (subst (MayFollow valued) (only k e) h))
@@ -151,6 +153,7 @@ position_decides word = by (same_text word (at_text Now)) (count_decides word)
     none : (word ≡ at_text Now → ⊥) → ((n : ℕ) → n ≤ most_commands → word ≢ decimal n) → (at : At) → IsPosition at → word ≢ at_text at
     none other bad Now h = other
     none other bad (Position n) h = bad n h
+
     by : (word ≡ at_text Now) ⊎ (word ≡ at_text Now → ⊥) → Decides (λ n. n ≤ most_commands) decimal word → Decides IsPosition at_text word
     by (inl e) count = inl (Now, tt, e)
     by (inr other) (inl found) = inl (Position found.0, found.1, found.2)
@@ -308,6 +311,7 @@ judge_rows valued few (row ∷ rows) = on (judge_row valued row) (λ n h. judge_
           field = s.field;
           bad = subst (λ (n : ℕ). IsFirstBadField n s.faulty s.field) count s.bad;
         })
+
     on : Judges (RowForm valued) row → ((n : ℕ) → n ≤ most_valuations → Goes n rows ⊎ Stops n rows) → Goes valued (row ∷ rows) ⊎ Stops valued (row ∷ rows)
     on (inr bad) rest =
         let none : valued ≡ valued + 0 = omega arith in
@@ -328,21 +332,21 @@ pub judged : (bytes : List ℕ) → ((lanes : List Lane) × Reads bytes lanes) �
 judged bytes = elim (judge_rows 0 (omega arith) (rows_of bytes)) [
   | inl g ↦ inl (lanes_of g.entries, record { entries = g.entries; rows = record { each = g.right; few = omega (arith, g.few) }; by_clerk = refl })
   | inr s ↦
-    let none : 0 + valuations_in (all_lines s.goes.entries) ≡ valuations_in (all_lines s.goes.entries) = omega arith in
-    inr (
-    length s.before + 1,
-    (
-      s.field,
-      record {
-        before = s.before;
-        faulty = s.faulty;
-        after = s.after;
-        rows = s.split;
-        number = refl;
-        entries = s.goes.entries;
-        right = record { each = s.goes.right; few = omega (arith, s.goes.few) };
-        bad = subst (λ (n : ℕ). IsFirstBadField n s.faulty s.field) none s.bad;
-      },
-    ),
-  )
+      let none : 0 + valuations_in (all_lines s.goes.entries) ≡ valuations_in (all_lines s.goes.entries) = omega arith in
+      inr (
+        length s.before + 1,
+        (
+          s.field,
+          record {
+            before = s.before;
+            faulty = s.faulty;
+            after = s.after;
+            rows = s.split;
+            number = refl;
+            entries = s.goes.entries;
+            right = record { each = s.goes.right; few = omega (arith, s.goes.few) };
+            bad = subst (λ (n : ℕ). IsFirstBadField n s.faulty s.field) none s.bad;
+          },
+        ),
+      )
 ]

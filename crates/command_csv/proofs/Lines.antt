@@ -148,14 +148,14 @@ of_form valued fields h = by h.value h.rest h.fits h.spelled h.more
         posted valued fields (command.Issue m.value d.value p.value a.value y.value s.value r.value)
         record { id_in = m.fits; day_in = d.fits; age_in = a.fits; years_in = y.fits; amount_in = s.fits; premium_in = r.fits }
         (let one = m.spelled in
-              let two = d.spelled in
-              let three = p.spelled in
-              let four = a.spelled in
-              let five = y.spelled in
-              let six = s.spelled in
-              let seven = r.spelled in
-              let last = r.more in
-              cc)
+        let two = d.spelled in
+        let three = p.spelled in
+        let four = a.spelled in
+        let five = y.spelled in
+        let six = s.spelled in
+        let seven = r.spelled in
+        let last = r.more in
+        cc)
     by kind.Premium rest fits e m =
         let d = m.more in
         let s = d.more in
@@ -196,8 +196,7 @@ of_form valued fields h = by h.value h.rest h.fits h.spelled h.more
 
 pub of_row_form : (valued : ℕ) (fields : List (List ℕ)) → RowForm valued fields → (entry : ClerkLine) × IsNextRow valued fields entry
 of_row_form valued fields h =
-    let found = of_form valued h.rest h.more in
-    (
+    let found = of_form valued h.rest h.more in (
       record { clerk = h.value; line = found.line },
       record {
         is = record {

@@ -131,6 +131,7 @@ impl Fields<'_> {
         let day = self.day()?;
         Some(Line::Post(Command::Mature { id, day }))
     }
+
     fn valuation(&mut self) -> Option<Line>
         requires head { self.old.asked ≡ 2 }
         ensures some { IfSome result (Holds Value self.old self.new) }
