@@ -16,7 +16,7 @@ use Rattle.policy_types.specs.declared.entry.At.TheVariants.{Now}
 use Rattle.command_csv.specs.Spelling.{at_text, plan_word}
 use Rattle.command_csv.specs.Reads.{IsClerk, IsPosition, AreWorkers}
 use Rattle.command_csv.specs.inside.Cursor.{Took, Missed, StopsIn, left_of}
-use Rattle.command_csv.specs.inside.Forms.{Ends, Then, Amount, Reinstatement, PolicyAndDay, YearsOn, AgeOn, PlanOn, WorkersOn, PositionOn, ValuationOn, MayFollow, KindForm, RowForm, kind_word, form_of, StopsAfter}
+use Rattle.command_csv.specs.inside.Forms.{Ends, Then, Amount, Reinstatement, PolicyAndDay, YearsOn, AgeOn, PlanOn, WorkersOn, PositionOn, MayFollow, KindForm, RowForm, kind_word, form_of, StopsAfter}
 use Rattle.command_csv.proofs.Words.{plan_word_injective, kind_word_injective}
 
 -- what may follow one value may follow another of the same text

@@ -19,8 +19,7 @@ use Rattle.command_csv.specs.Rows.{rows_of}
 use Rattle.command_csv.specs.declared.row.ClerkLine.{ClerkLine}
 use Rattle.command_csv.specs.Spelling.{at_text, plan_word}
 use Rattle.command_csv.specs.Reads.{IsClerk, IsPosition, AreWorkers, IsRowOf, IsFirstBadField, IsFirstFault, Reads, all_lines, valuations_in, most_valuations, last_lane, lanes_of}
-use Rattle.command_csv.specs.inside.Cursor.{IsNextRow}
-use Rattle.command_csv.specs.inside.Forms.{Ends, Then, Amount, Reinstatement, PolicyAndDay, YearsOn, AgeOn, PlanOn, WorkersOn, PositionOn, ValuationOn, MayFollow, KindForm, RowForm, kind_word, form_of, StopsAfter}
+use Rattle.command_csv.specs.inside.Forms.{Ends, Then, Amount, Reinstatement, PolicyAndDay, YearsOn, AgeOn, PlanOn, WorkersOn, PositionOn, MayFollow, KindForm, RowForm, kind_word, form_of, StopsAfter}
 use Rattle.command_csv.proofs.Forms.{workers_possible, Carries, IsPossible, carries_all, kind_carries, plan_carries, age_carries, goes_on, stops, end_possible, amount_possible, reinstatement_possible, day_possible, policy_possible, years_possible, age_possible, plan_possible, position_possible, any_kind_possible, row_possible}
 use Rattle.command_csv.proofs.Clerks.{valuations-cons, room_counted}
 use Rattle.command_csv.proofs.Lines.{of_row_form, bad_field}

@@ -1,6 +1,6 @@
 -- The rows of lines, by the form of a row
 use Rattle.std.proofs.Common.{◌≡◌, ◌≢◌, ℕ, suc, ◌+◌, ◌-◌, ◌≤◌, List, [], ◌∷◌, ◌++◌, length, take, drop, refl, ap, sym, ◌∙◌, subst, arith, length-append}
-use Rattle.std.specs.Prelude.{decimal, ⊤}
+use Rattle.std.specs.Prelude.{decimal}
 use Rattle.std.proofs.lemmas.List.{append-nil, length-take, take-append-le, take-take}
 use Rattle.policy_types.specs.declared.command.Command.{Command}
 use Rattle.policy_types.specs.declared.command.Command.TheVariants as command

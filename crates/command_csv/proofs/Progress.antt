@@ -1,5 +1,5 @@
 -- How far a script is read: these rows are behind, and these lines were on them
-use Rattle.std.proofs.Common.{◌≡◌, ℕ, ◌+◌, List, [], ◌∷◌, ◌++◌, length, map, Option, Some, Bor, true, false, inl, Bool, ◌≤◌, ap, sym, ◌∙◌, append_assoc, length-append, arith, subst}
+use Rattle.std.proofs.Common.{◌≡◌, ℕ, ◌+◌, List, [], ◌∷◌, ◌++◌, length, Option, Some, Bor, true, false, inl, Bool, ◌≤◌, ap, sym, ◌∙◌, append_assoc, length-append, arith, subst}
 use Rattle.std.specs.Prelude.{Result, IfOk}
 use Rattle.std.specs.List.{AllZip, filter}
 use Rattle.std.proofs.lemmas.List.{map-append}
@@ -15,7 +15,7 @@ use Rattle.policy_types.specs.declared.script.Lane.{Lane}
 use Rattle.command_csv.specs.declared.fault.ScriptFault.{ScriptFault}
 use Rattle.command_csv.specs.Rows.{rows_of}
 use Rattle.command_csv.specs.declared.row.ClerkLine.{ClerkLine}
-use Rattle.command_csv.specs.Reads.{IsRowOf, AreRowsOf, IsFirstBadField, IsFirstFault, Reads, HasRoom, is_valuation, valuations_in, all_lines, most_valuations, lanes_of}
+use Rattle.command_csv.specs.Reads.{IsRowOf, AreRowsOf, IsFirstBadField, IsFirstFault, Reads, is_valuation, valuations_in, all_lines, most_valuations, lanes_of}
 use Rattle.command_csv.specs.inside.Cursor.{IsNextRow}
 use Rattle.command_csv.proofs.Clerks.{room_counted}
 use Rattle.command_csv.proofs.Records.{rows_begin, rows_end, rows_few}

@@ -1,5 +1,5 @@
 -- What the worked scripts rest on
-use Rattle.std.proofs.Common.{◌≡◌, ℕ, zero, suc, ◌<◌, ◌≤◌, List, [], ◌∷◌, map, refl, ap, sym, subst, arith, lit≤, codes, pos}
+use Rattle.std.proofs.Common.{◌≡◌, ℕ, zero, suc, ◌<◌, ◌≤◌, List, [], ◌∷◌, map, refl, sym, subst, arith, lit≤, codes, pos}
 use Rattle.std.specs.Prelude.{decimal, replicate}
 use Rattle.std.specs.Fmt.{digits}
 use Rattle.std.specs.List.{AllZip}
@@ -10,7 +10,6 @@ use Rattle.policy_types.specs.declared.script.Line.{Line}
 use Rattle.policy_types.specs.declared.script.Line.TheVariants.{Post, Value, Trim}
 use Rattle.policy_types.specs.Valid.{IsId, IsCommandDay}
 use Rattle.life_dates.specs.DayText.{day_text}
-use Rattle.command_csv.specs.declared.kind.Kind.{Kind}
 use Rattle.command_csv.specs.declared.kind.Kind.TheVariants as kind
 use Rattle.command_csv.specs.declared.row.ClerkLine.{ClerkLine}
 use Rattle.command_csv.specs.Rows.{rows_of}

@@ -1,5 +1,5 @@
 -- Scripts, and what they say: each kind of line as a clerk writes it, and some first faults
-use Rattle.std.specs.Prelude.{ℕ, List, [], ◌∷◌, ◌++◌, pos, codes, replicate}
+use Rattle.std.specs.Prelude.{ℕ, List, [], ◌∷◌, pos, codes, replicate}
 use Rattle.std.specs.List.{flat_map}
 use Rattle.policy_types.specs.declared.command.Command.TheVariants.{Issue, Premium, Alter, Lapse, Reinstate, Claim, Settle, Mature}
 use Rattle.policy_types.specs.declared.command.Plan.TheVariants.{Endowment}

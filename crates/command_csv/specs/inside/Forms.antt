@@ -1,7 +1,6 @@
 -- What may follow in a row from a field on
 use Rattle.std.specs.Prelude.{◌≡◌, ℕ, suc, ◌<◌, List, [], ◌∷◌, take, codes, decimal, ⊤}
 use Rattle.policy_types.specs.declared.command.Plan.{Plan}
-use Rattle.policy_types.specs.declared.entry.At.{At}
 use Rattle.policy_types.specs.Valid.{IsId, IsCommandDay, IsAmount, IsReinstatement, IsIssueAge, AreYears}
 use Rattle.life_dates.specs.DayText.{day_text}
 use Rattle.money_core.specs.CentsText.{cents_text}
