@@ -3,7 +3,7 @@ ghost use Rattle.std.specs.Prelude.{◌≤◌, length};
 
 use crate::fault::ScriptFault;
 use crate::reader::read_script;
-use policy_types::{Command, Line, Plan};
+use policy_types::{At, Command, Line, Plan};
 use std::alloc::Global;
 use std::test::Fail;
 
@@ -26,7 +26,7 @@ fn answer(alloc: Global, script: &[u8]) -> Result<(u64, u64), Fail>
 
 #[test]
 fn bad_fields(rt: HostRuntime) -> Result<(), Fail> {
-    let cases: [(&[u8], (u64, u64)); 49] = [
+    let cases: [(&[u8], (u64, u64)); 72] = [
         (b"1,issue,0,2020-01-01,term,30,10,1.00,1.00", (1, 3)),
         (b"9,lapse,1,2020-01-01", (1, 1)),
         (b"1,lapse,1", (1, 4)),
@@ -46,8 +46,31 @@ fn bad_fields(rt: HostRuntime) -> Result<(), Fail> {
         (b"1,", (1, 2)),
         (b"1,Lapse,1,2020-01-01", (1, 2)),
         (b"1,lapsed,x,x", (1, 2)),
-        (b"1,value,2020-01-01,now,1", (1, 2)),
-        (b"1,trim", (1, 2)),
+        (b"1,value,2020-01-01,now,1", (0, 1)),
+        (b"1,value,1900-01-01,0,64", (0, 1)),
+        (b"1,value,2199-12-31,4000000,1", (0, 1)),
+        (b"2,value,2020-01-01,now,1", (1, 1)),
+        (b"1,Value,2020-01-01,now,1", (1, 2)),
+        (b"1,value", (1, 3)),
+        (b"1,value,2021-02-29,now,1", (1, 3)),
+        (b"1,value,1899-12-31,now,1", (1, 3)),
+        (b"1,value,2021-01-01", (1, 4)),
+        (b"1,value,2021-01-01,,1", (1, 4)),
+        (b"1,value,2021-01-01,Now,1", (1, 4)),
+        (b"1,value,2021-01-01,01,1", (1, 4)),
+        (b"1,value,2021-01-01,-1,1", (1, 4)),
+        (b"1,value,2021-01-01,4000001,1", (1, 4)),
+        (b"1,value,2021-01-01,now", (1, 5)),
+        (b"1,value,2021-01-01,now,0", (1, 5)),
+        (b"1,value,2021-01-01,now,01", (1, 5)),
+        (b"1,value,2021-01-01,now,65", (1, 5)),
+        (b"1,value,2021-01-01,now,257", (1, 5)),
+        (b"1,value,2021-01-01,now,1,", (1, 6)),
+        (b"1,trim", (0, 1)),
+        (b"2,trim", (1, 1)),
+        (b"1,trims", (1, 2)),
+        (b"1,trim,", (1, 3)),
+        (b"1,trim,now", (1, 3)),
         (b"1,claim", (1, 3)),
         (b"1,claim,+1,2020-01-01", (1, 3)),
         (b"1,claim,4294967296,2020-01-01", (1, 3)),
@@ -154,9 +177,12 @@ fn lines_are_read_as_they_are_written(rt: HostRuntime) -> Result<(), Fail> {
 1,claim,7001,2022-12-31
 1,settle,7001,2023-01-15,0.01
 1,mature,4294967295,2199-12-31
+1,value,2020-01-01,now,64
+1,trim
+1,value,2022-02-02,4000000,1
 ";
     let id = 7001;
-    let want = [
+    let commands = [
         Command::Issue {
             id,
             day: 18_262,
@@ -194,16 +220,66 @@ fn lines_are_read_as_they_are_written(rt: HostRuntime) -> Result<(), Fail> {
             day: 84_005,
         },
     ];
+    let others = [
+        Line::Value {
+            on: 18_262,
+            at: At::Now,
+            workers: 64,
+        },
+        Line::Trim,
+        Line::Value {
+            on: 19_025,
+            at: At::Position(4_000_000),
+            workers: 1,
+        },
+    ];
     let script = read_script(rt.alloc(), script)?;
     let [lane] = script.as_slice() else {
         return Err("one lane")?;
     };
     assert_eq!(rt; lane.number, 1);
     let lines = lane.lines.as_slice();
-    assert_eq!(rt; lines.len(), want.len());
-    for i in 0..want.len() {
+    assert_eq!(rt; lines.len(), commands.len() + others.len());
+    for i in 0..commands.len() {
         assert!(rt; i < lines.len());
-        assert_eq!(rt; lines[i], Line::Post(want[i]), "row {i}");
+        assert_eq!(rt; lines[i], Line::Post(commands[i]), "row {i}");
+    }
+    for i in 0..others.len() {
+        assert!(rt; commands.len() + i < lines.len());
+        assert_eq!(rt; lines[commands.len() + i], others[i], "row {i} behind");
+    }
+    Ok(())
+}
+
+// Sixteen valuations are read, whatever stands between them; a seventeenth is no line, but for its lane.
+#[test]
+fn valuations_are_few(rt: HostRuntime) -> Result<(), Fail> {
+    let alloc = rt.alloc();
+    let value = b"1,value,2020-01-01,now,1\n";
+    let cases: [(u32, &[u8], &[u8], (u64, u64)); 9] = [
+        (16, value, b"", (0, 16)),
+        (16, value, b"1,trim\n1,lapse,1,2020-01-01\n", (0, 18)),
+        (17, value, b"", (17, 2)),
+        (
+            16,
+            b"1,trim\n1,value,2020-01-01,0,1\n",
+            b"1,trim\n",
+            (0, 33),
+        ),
+        (16, b"1,trim\n1,value,2020-01-01,0,1\n", value, (33, 2)),
+        (16, value, b"2,value,2020-01-01,now,1\n", (17, 1)),
+        (16, value, b"1,value,x\n", (17, 2)),
+        (16, value, b"1,trim\n1,values\n", (18, 2)),
+        (15, value, b"1,value,x\n1,value,2020-01-01,now,1\n", (16, 3)),
+    ];
+    for (count, piece, end, want) in cases {
+        let mut script = Vec::new(alloc);
+        for _ in 0..count {
+            script.extend_from_slice(piece)?;
+        }
+        script.extend_from_slice(end)?;
+        assert!(rt; script.len() <= MOST_BYTES);
+        assert_eq!(rt; answer(alloc, &script)?, want, "{script:?}");
     }
     Ok(())
 }
@@ -225,7 +301,7 @@ fn long_script(alloc: Global, front: &[u8], piece: &[u8]) -> Result<Vec<u8>, Fai
 #[test]
 fn long_scripts(rt: HostRuntime) -> Result<(), Fail> {
     let alloc = rt.alloc();
-    let cases: [(&str, &[u8], &[u8], (u64, u64)); 8] = [
+    let cases: [(&str, &[u8], &[u8], (u64, u64)); 9] = [
         (
             "lines",
             b"",
@@ -238,6 +314,7 @@ fn long_scripts(rt: HostRuntime) -> Result<(), Fail> {
             b"\"1\",\"lapse\",\"7001\",\"2022-02-02\"\r\n",
             (0, 16_777_216 / 33),
         ),
+        ("trims", b"", b"1,trim\n", (0, 16_777_216 / 7)),
         (
             "line feeds",
             b"",
