@@ -39,7 +39,7 @@ impl<D: Disk> Model for OpenedOn<D> {
 
 impl<D: Disk> Stands for SharedState<D> {
     ghost use Rattle.shared_office.specs.Offices.{IsOfficeHistory};
-    ghost use Rattle.shared_office.specs.inside.Standing.{SharedStandsFor, opening_on};
+    ghost use Rattle.shared_office.specs.inside.Standing.{SharedStandsFor, is_history, opening_on};
 
     type Opening = OpenedOn<D>;
 
@@ -49,5 +49,5 @@ impl<D: Disk> Stands for SharedState<D> {
 
     ghost stands = { λ shared turns. SharedStandsFor shared turns };
 
-    ghost is_legal = { λ shared turns stood. record { legal = stood.state.history.legal; memory = stood.memory } };
+    ghost is_legal = { λ shared turns stood. is_history shared turns stood };
 }

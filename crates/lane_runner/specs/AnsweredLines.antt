@@ -1,0 +1,43 @@
+-- The lines of lanes beside the turns that answer them, in the order of their first turns
+use Rattle.std.specs.Prelude.{◌≡◌, ℕ, ◌<◌, ◌==◌, List, [], ◌∷◌, map}
+use Rattle.std.specs.List.{AllByRecursion, Contains, filter, flat_map}
+use Rattle.policy_types.specs.declared.entry.Entry.{Entry}
+use Rattle.policy_types.specs.declared.script.Line.{Line}
+use Rattle.policy_types.specs.declared.script.Lane.{Lane}
+use Rattle.policy_machine.specs.Merge.{AnswersLine, Placed, turns_of}
+
+-- a line of a clerk, and the turns that answer it, each beside its place in the history
+pub record AnsweredLine : Type 0 where
+  pub clerk : ℕ
+  pub line : Line
+  pub first : Placed
+  pub rest : List Placed
+
+abbrev pub turns_in : AnsweredLine → List Placed
+turns_in answered = answered.first ∷ answered.rest
+
+-- each number is below the next
+abbrev pub AreRising : List ℕ → Type 0
+AreRising (n ∷ m ∷ rest) = (n < m) × AreRising (m ∷ rest)
+AreRising _ = Unit {0}
+
+abbrev pub lines_by : ℕ → List AnsweredLine → List AnsweredLine
+lines_by clerk answered = filter (λ (one : AnsweredLine). one.clerk == clerk) answered
+
+-- each clerk's lines are those of its lane, and their turns put together are those of the lane's caller
+abbrev pub AreOfLanes : List AnsweredLine → List Entry → List Lane → List ℕ → Type 0
+AreOfLanes answered history [] [] = Unit {0}
+AreOfLanes answered history (lane ∷ lanes) (caller ∷ callers) =
+    (map (λ (one : AnsweredLine). one.line) (lines_by lane.number answered) ≡ lane.lines)
+    × (flat_map turns_in (lines_by lane.number answered) ≡ turns_of history caller)
+    × AreOfLanes answered history lanes callers
+AreOfLanes _ _ _ _ = ⊥
+
+-- The lanes' lines as the history answers them, one after the other at the places of their first turns. The pins of
+-- valuations that found no memory are dry.
+pub record AreLinesOf (answered : List AnsweredLine) (history : List Entry) (lanes : List Lane) (callers dry : List ℕ)
+    : Type 0 where
+  pub rising : AreRising (map (λ (one : AnsweredLine). one.first.0) answered)
+  pub clerks : AllByRecursion (λ (one : AnsweredLine). Contains (map (λ (lane : Lane). lane.number) lanes) one.clerk) answered
+  pub turns : AllByRecursion (λ (one : AnsweredLine). AnswersLine dry one.line (turns_in one)) answered
+  pub each : AreOfLanes answered history lanes callers

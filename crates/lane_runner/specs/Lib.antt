@@ -1,0 +1,4 @@
+pub mod AnsweredLines
+pub mod Lanes
+pub mod Transcripts
+pub mod inside

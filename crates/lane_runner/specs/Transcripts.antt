@@ -1,0 +1,85 @@
+-- What a transcript tells of the lanes that were run
+use Rattle.std.specs.Prelude.{◌≡◌, ◌↔◌, ℕ, ◌≤◌, ◌+◌, ◌^◌, nat_eq, Bool, true, false, List, ◌++◌, map, take, Some}
+use Rattle.std.specs.List.{AllByRecursion, AllZip, Contains, IsDistinct, filter}
+use Rattle.basis_book.specs.Dated.{Dated}
+use Rattle.policy_types.specs.declared.command.Command.{Command}
+use Rattle.policy_types.specs.declared.entry.Entry.{Entry}
+use Rattle.policy_types.specs.declared.entry.Reply.{Reply}
+use Rattle.policy_types.specs.declared.entry.Reply.TheVariants.{Pinned, PinRefused, Floor}
+use Rattle.policy_types.specs.declared.script.Line.{Line}
+use Rattle.policy_types.specs.declared.script.Line.TheVariants.{Post, Value, Trim}
+use Rattle.policy_types.specs.declared.script.Lane.{Lane}
+use Rattle.policy_machine.specs.History.{Opening, commands_after}
+use Rattle.policy_machine.specs.Merge.{AnswersLanes}
+use Rattle.office_state.specs.Posting.{reply_of}
+use Rattle.turn_lock.specs.History.{StartsWith, entries_of}
+use Rattle.turn_lock.specs.Passes.{Holding}
+use Rattle.shared_office.specs.Offices.{OfficeOpening}
+use Rattle.snapshot_value.specs.Valuing.{IsSnapshot}
+use Rattle.lane_runner.specs.declared.transcript.AnsweredLine.{AnsweredLine as TranscriptLine}
+use Rattle.lane_runner.specs.declared.transcript.Outcome.{Outcome}
+use Rattle.lane_runner.specs.declared.transcript.Outcome.TheVariants.{Posted, Trimmed, Valued, ValueRefused, ValueNoMemory}
+use Rattle.lane_runner.specs.declared.transcript.Transcript.{Transcript}
+use Rattle.lane_runner.specs.AnsweredLines.{AnsweredLine, AreLinesOf}
+
+-- what is told of a line is the reply of its first turn, and of a valuation that was pinned the snapshot of these commands
+-- at that position, or that there was no memory
+abbrev pub IsOutcome : List Command → List Dated → Line → Reply → Outcome → Type 0
+IsOutcome commands basis (Post command) reply (Posted answer) = reply ≡ reply_of answer
+IsOutcome commands basis Trim reply (Trimmed floor) = reply ≡ Floor floor
+IsOutcome commands basis (Value on at workers) reply (ValueRefused refusal) = reply ≡ PinRefused refusal
+IsOutcome commands basis (Value on at workers) reply (Valued valuation) =
+    (position : ℕ) × ((policies : ℕ) × (reply ≡ Pinned position policies) × IsSnapshot commands basis on position valuation)
+IsOutcome commands basis (Value on at workers) reply ValueNoMemory =
+    (position : ℕ) × ((policies : ℕ) × (reply ≡ Pinned position policies))
+IsOutcome _ _ _ _ _ = ⊥
+
+-- The transcript's line is the answered one, with the place of its first turn. What is told of it is of the commands that
+-- were accepted before this turn.
+pub record IsTold (opening : Opening) (history : List Entry) (basis : List Dated) (answered : AnsweredLine)
+    (told : TranscriptLine) : Type 0 where
+  pub lane : told.lane ≡ answered.clerk
+  pub line : told.line ≡ answered.line
+  pub turn : told.turn ≡ answered.first.0
+  pub outcome : IsOutcome (commands_after opening (take answered.first.0 history)) basis answered.line answered.first.1.reply told.outcome
+
+abbrev pub lacked_memory : Outcome → Bool
+lacked_memory ValueNoMemory = true
+lacked_memory _ = false
+
+-- the dry pins: those of the valuations that are told to have found no memory
+abbrev pub dry_of : List TranscriptLine → List ℕ
+dry_of lines =
+    map (λ (told : TranscriptLine). told.turn) (filter (λ (told : TranscriptLine). lacked_memory told.outcome) lines)
+
+-- a line is told to have found no memory just where its turn is among the dry pins
+abbrev pub AreDry : List ℕ → List TranscriptLine → Type 0
+AreDry dry lines =
+    AllByRecursion (λ (told : TranscriptLine). Contains dry told.turn ↔ (lacked_memory told.outcome ≡ true)) lines
+
+-- The pages of the lanes' callers were added to the pass, and nothing else changed but that it has seen more and has spent
+-- some of its turns. The callers differ, and none of the entries that it has seen since is its own.
+pub record HasRun {Opening : Type 0} (old new : Holding Opening) (callers : List ℕ) : Type 0 where
+  pub turnstile : new.turnstile ≡ old.turnstile
+  pub opening : new.opening ≡ old.opening
+  pub caller : new.caller ≡ old.caller
+  pub shares : new.shares ≡ old.shares
+  pub left : old.left ≤ new.left + 2 ^ 25
+  pub made : new.made ≡ old.made
+  pub begins : StartsWith new.seen old.seen
+  pub own : entries_of new.seen old.caller ≡ entries_of old.seen old.caller
+  pub ended : new.ended ≡ old.ended ++ map (λ caller. (caller, entries_of new.seen caller)) callers
+  pub distinct : IsDistinct nat_eq callers
+
+-- Each lane was run by a caller of its own: every line is answered once, in the order of its lane, by that caller's turns
+-- in the history that the pass has seen. The transcript has these lines at the places of their first turns.
+pub record HasAnsweredLanes {D : Type 0} (basis : List Dated) (lanes : List Lane) (old new : Holding (OfficeOpening D))
+    (transcript : Transcript) : Type 0 where
+  pub pass : HasRun old new transcript.callers
+  pub answers : AnswersLanes (dry_of transcript.lines) new.seen lanes transcript.callers
+  pub answered : List AnsweredLine
+  pub lines : AreLinesOf answered new.seen lanes transcript.callers (dry_of transcript.lines)
+  pub opened : OfficeOpening D
+  pub opening : new.opening ≡ Some opened
+  pub told : AllZip (IsTold opened.opening new.seen basis) answered transcript.lines
+  pub dry : AreDry (dry_of transcript.lines) transcript.lines

@@ -1,0 +1,11 @@
+//! The lanes of a script, each run by a caller of its own at one office, and the transcript of their lines.
+#![tactic(auto)]
+
+mod answering;
+mod running;
+#[cfg(test)]
+mod tests;
+mod transcript;
+
+pub use running::run_lanes;
+pub use transcript::{AnsweredLine, AnsweredLines, Callers, Outcome, Transcript};

@@ -1,0 +1,4 @@
+pub mod Growth
+pub mod RowSteps
+pub mod PinSteps
+pub mod PartSteps

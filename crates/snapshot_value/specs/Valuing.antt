@@ -1,0 +1,76 @@
+-- A valuation: the rows of the policies at a pinned position, whatever other callers do between its reads
+use Rattle.std.specs.Prelude.{◌≡◌, ℕ, ◌≤◌, ℤ, List, [], ◌∷◌, length, take, All, Option, Some, Result, Ok, Err}
+use Rattle.std.specs.List.{AllZip}
+use Rattle.basis_book.specs.Dated.{Dated, IsPicked}
+use Rattle.policy_types.specs.Limits.{most_commands}
+use Rattle.policy_types.specs.declared.command.Command.{Command}
+use Rattle.policy_types.specs.declared.policy.Policy.{Policy}
+use Rattle.policy_types.specs.declared.entry.At.{At}
+use Rattle.policy_types.specs.declared.entry.Reply.{Reply}
+use Rattle.policy_types.specs.declared.entry.Reply.TheVariants.{Pinned, PinRefused}
+use Rattle.policy_types.specs.declared.script.Line.TheVariants.{Value}
+use Rattle.policy_machine.specs.Book.{book}
+use Rattle.policy_machine.specs.History.{commands_after}
+use Rattle.policy_machine.specs.Merge.{AnswersLine, Placed}
+use Rattle.policy_value.specs.Rows.{IsExact, IsInsured, IsWithin, RowOf}
+use Rattle.policy_value.specs.declared.worth.Row.{Row}
+use Rattle.turn_lock.specs.Passes.{Holding}
+use Rattle.shared_office.specs.Offices.{OfficeOpening}
+use Rattle.snapshot_value.specs.Growing.{Grows}
+use Rattle.snapshot_value.specs.declared.valuation.Valuation.{Valuation}
+use Rattle.snapshot_value.specs.declared.valuation.ValueFault.{ValueFault}
+use Rattle.snapshot_value.specs.declared.valuation.ValueFault.TheVariants.{Pin, NoMemory}
+
+-- the turns that a valuation may need: those of its pin, and of the reads of as many policies as there may be
+abbrev pub most_turns : ℕ
+most_turns = 16000
+
+-- the most that a policy may insure, in cents
+abbrev pub most_amount : ℕ
+most_amount = 10000000000
+
+-- the policy's row on the day by the basis; where the policy is insured then, its bounds enclose the exact reserve
+pub record IsRowOf (basis : List Dated) (on : ℤ) (policy : Policy) (row : Row) : Type 0 where
+  pub valued : RowOf policy basis on row
+  pub exact : IsInsured policy on → (index : ℕ) → (entry : Dated) → IsPicked basis policy.issued index entry
+      → IsExact policy entry.table entry.bp row.t row.worth
+
+-- the rows of the policies, one for each and in their order; they are not more than policies may be, and no bound is above
+-- what a policy may insure
+pub record AreRowsOf (basis : List Dated) (on : ℤ) (policies : List Policy) (rows : List Row) : Type 0 where
+  pub each : AllZip (IsRowOf basis on) policies rows
+  pub few : length rows ≤ most_commands
+  pub within : All (λ (row : Row). IsWithin most_amount row.worth) rows
+
+-- the position was pinned, and the rows are those of the policies that the first so many commands leave
+pub record IsSnapshot (commands : List Command) (basis : List Dated) (on : ℤ) (position : ℕ) (valuation : Valuation) : Type 0 where
+  pub pinned : valuation.position ≡ position
+  pub day : valuation.on ≡ on
+  pub rows : AreRowsOf basis on (book (take position commands)) valuation.rows
+
+-- what is answered after the pin's reply: its own refusal and no other; or where it was pinned, after these commands, the
+-- valuation or want of memory
+abbrev pub IsAnswered : List Command → List Dated → ℤ → Reply → Result Valuation ValueFault → Type 0
+IsAnswered commands basis on (PinRefused refusal) (Err (Pin why)) = why ≡ refusal
+IsAnswered commands basis on (Pinned position policies) (Ok valuation) = IsSnapshot commands basis on position valuation
+IsAnswered commands basis on (Pinned position policies) (Err NoMemory) = Unit {0}
+IsAnswered _ _ _ _ _ = ⊥
+
+-- the pins whose valuation found no memory: the one that was taken in this turn, or none
+abbrev pub dry_pins : ℕ → Result Valuation ValueFault → List ℕ
+dry_pins turn (Err NoMemory) = turn ∷ []
+dry_pins turn _ = []
+
+-- A caller's valuation. Its turns are the pin's, then those of the reads and of giving the pin up; they answer a script's
+-- line that asks for this valuation, and the answer is of the position that was pinned.
+pub record HasValued {D : Type 0} (basis : List Dated) (on : ℤ) (at : At) (workers : ℕ) (old new : Holding (OfficeOpening D))
+    (turn : ℕ) (answer : Result Valuation ValueFault) : Type 0 where
+  pub pin : Placed
+  pub later : List Placed
+  pub grows : Grows old new (pin ∷ later)
+  pub few : length (pin ∷ later) ≤ most_turns
+  pub place : pin.0 ≡ turn
+  pub answers : AnswersLine (dry_pins turn answer) (Value on at workers) (pin ∷ later)
+  pub opened : OfficeOpening D
+  pub opening : new.opening ≡ Some opened
+  pub answered : IsAnswered (commands_after opened.opening (take turn new.seen)) basis on pin.1.reply answer

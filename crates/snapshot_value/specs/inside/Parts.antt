@@ -1,0 +1,92 @@
+-- What the parts of a valuation do
+use Rattle.std.specs.Prelude.{◌≡◌, ℕ, ◌+◌, ◌*◌, ◌/◌, ◌<◌, ℤ, List, [], ◌∷◌, ◌++◌, length, map, take, drop, Option, None, Some, Result, Ok, Err}
+use Rattle.std.specs.List.{AllByRecursion, AllZip}
+use Rattle.basis_book.specs.Dated.{Dated}
+use Rattle.policy_types.specs.declared.policy.Policy.{Policy}
+use Rattle.policy_types.specs.declared.entry.Call.{Call}
+use Rattle.policy_types.specs.declared.entry.Call.TheVariants.{Read, Unpin}
+use Rattle.policy_types.specs.declared.watcher.NoMemory.{NoMemory as Lack}
+use Rattle.policy_machine.specs.History.{policies_per_read}
+use Rattle.policy_machine.specs.Merge.{Placed, reads_of}
+use Rattle.policy_value.specs.Rows.{IsWithin}
+use Rattle.policy_value.specs.declared.worth.Row.{Row}
+use Rattle.schedule_laws.specs.PinnedReads.{book_at}
+use Rattle.office_state.specs.declared.held.Held.{Held}
+use Rattle.turn_lock.specs.Passes.{Holding}
+use Rattle.shared_office.specs.Offices.{OfficeOpening}
+use Rattle.snapshot_value.specs.Growing.{Grows}
+use Rattle.snapshot_value.specs.Valuing.{AreRowsOf, IsRowOf, most_amount, most_turns}
+use Rattle.snapshot_value.specs.declared.valuation.Valuation.{Valuation}
+use Rattle.snapshot_value.specs.declared.valuation.ValueFault.{ValueFault}
+use Rattle.snapshot_value.specs.declared.valuation.ValueFault.TheVariants.{Pin, NoMemory}
+
+-- the calls of some turns
+abbrev pub calls_of : List Placed → List Call
+calls_of placed = map (λ (turn : Placed). turn.1.call) placed
+
+-- the reads that so many policies need
+abbrev pub reads_needed : ℕ → ℕ
+reads_needed policies = (policies + 255) / policies_per_read
+
+-- rows of these policies were added
+pub record AddsRows (basis : List Dated) (on : ℤ) (policies : List Policy) (old new : List Row) : Type 0 where
+  pub added : List Row
+  pub longer : new ≡ old ++ added
+  pub each : AllZip (IsRowOf basis on) policies added
+  pub within : AllByRecursion (λ (row : Row). IsWithin most_amount row.worth) added
+
+module _ {D : Type 0} where
+  -- the policies at a position, by what the pass has seen
+  abbrev pub policies_at : Holding (OfficeOpening D) → ℕ → List Policy
+  policies_at pass position = after pass.opening
+    where
+      after : Option (OfficeOpening D) → List Policy
+      after None = []
+      after (Some opened) = book_at opened.opening pass.seen position
+
+  -- the read of a pin's k-th part
+  pub record HasReadPart (pin : Held) (k : ℕ) (part : List Policy) (old new : Holding (OfficeOpening D)) : Type 0 where
+    pub read : Placed
+    pub grows : Grows old new (read ∷ [])
+    pub call : read.1.call ≡ Read pin.number (policies_per_read * k)
+    pub stays : policies_at new pin.position ≡ policies_at old pin.position
+    pub filled : part ≡ take policies_per_read (drop (policies_per_read * k) (policies_at old pin.position))
+
+  -- the first k reads of a pin, and the rows of the policies that they gave
+  pub record HasReadParts (basis : List Dated) (on : ℤ) (pin : Held) (k : ℕ) (rows : List Row) (old new : Holding (OfficeOpening D))
+      : Type 0 where
+    pub reads : List Placed
+    pub grows : Grows old new reads
+    pub calls : calls_of reads ≡ take k (reads_of pin.number pin.policies)
+    pub stays : policies_at new pin.position ≡ policies_at old pin.position
+    pub adds : AddsRows basis on (take (policies_per_read * k) (policies_at old pin.position)) [] rows
+
+  -- all reads of a pin, and the rows of its policies
+  pub record HasReadAll (basis : List Dated) (on : ℤ) (pin : Held) (rows : List Row) (old new : Holding (OfficeOpening D)) : Type 0 where
+    pub reads : List Placed
+    pub grows : Grows old new reads
+    pub calls : calls_of reads ≡ reads_of pin.number pin.policies
+    pub all : AreRowsOf basis on (policies_at old pin.position) rows
+
+  -- so it is, or nothing was read for want of memory
+  abbrev pub HasRead : List Dated → ℤ → Held → Holding (OfficeOpening D) → Holding (OfficeOpening D) → Result (List Row) Lack
+      → Type 0
+  HasRead basis on pin old new (Ok rows) = HasReadAll basis on pin rows old new
+  HasRead basis on pin old new (Err lack) = new ≡ old
+
+  -- what follows a pin, and what is answered
+  abbrev pub FollowsPinned : List Dated → ℤ → Held → Holding (OfficeOpening D) → List Call → Result Valuation ValueFault → Type 0
+  FollowsPinned basis on pin old calls (Ok valuation) =
+      (calls ≡ reads_of pin.number pin.policies ++ Unpin pin.number ∷ [])
+      × (valuation.position ≡ pin.position) × (valuation.on ≡ on)
+      × AreRowsOf basis on (policies_at old pin.position) valuation.rows
+  FollowsPinned basis on pin old calls (Err NoMemory) = calls ≡ Unpin pin.number ∷ []
+  FollowsPinned basis on pin old calls (Err (Pin refusal)) = ⊥
+
+  -- a pin's policies were valued or memory was wanting, and the pin was given up
+  pub record HasValuedPin (basis : List Dated) (on : ℤ) (pin : Held) (old new : Holding (OfficeOpening D))
+      (answer : Result Valuation ValueFault) : Type 0 where
+    pub later : List Placed
+    pub grows : Grows old new later
+    pub few : length later < most_turns
+    pub follows : FollowsPinned basis on pin old (calls_of later) answer

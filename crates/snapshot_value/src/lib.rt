@@ -1,0 +1,11 @@
+//! A valuation of the policies at a pinned position, while other callers go on posting.
+#![tactic(auto)]
+
+mod reading;
+#[cfg(test)]
+mod tests;
+mod valuation;
+mod valuing;
+
+pub use valuation::{Valuation, ValueFault};
+pub use valuing::value;

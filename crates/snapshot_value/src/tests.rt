@@ -1,0 +1,235 @@
+// Valuations of one caller's office. The reserves are worked out by hand from the plan and the table: of 1000.00 on an
+// endowment of three years at age 0, after one year 127.22 to 127.23 and after two 515.12 to 515.13.
+ghost use Rattle.std.specs.Prelude.{◌≡◌};
+
+use crate::{Valuation, ValueFault, value};
+use basis_book::{Basis, LONGEST_FILE, read_basis};
+use indexmap::IndexMap;
+use memory_disk::MemoryDisk;
+use outside_io::{Disk, Gate, OpenGate};
+use policy_types::{At, Command, PinRefusal, Plan, Status};
+use policy_value::{Row, Worth};
+use rate_table::RateTable;
+use shared_office::{Office, OfficeCalls, OfficePass, close};
+use std::alloc::Global;
+use std::cell::Cell;
+use std::sync::Wait;
+use std::test::Fail;
+use turn_lock::Turned;
+
+/// 2021-01-01 and 2022-01-01, one and two years after the policies are issued.
+const ONE_YEAR: i32 = 18_628;
+
+const TWO_YEARS: i32 = 18_993;
+
+// A gate that counts the steps at which it is called, and whether each came after the one before.
+#[derive(Drop)]
+struct Steps {
+    last: Cell<u32>,
+    in_order: Cell<bool>,
+}
+
+impl Gate for Steps {
+    fn at<R: Wait>(&self, _rt: &R, lane: u8, step: u32) {
+        let next = self.last.get().saturating_add(1);
+        self.in_order
+            .set(self.in_order.get() && lane == 3 && step == next);
+        self.last.set(step);
+    }
+}
+
+// An endowment of 1000.00 for three years at age 0, with an annual premium of 400.00, issued on 2020-01-01.
+fn issue(id: u32) -> Command {
+    Command::Issue {
+        id,
+        day: 18_262,
+        plan: Plan::Endowment,
+        age: 0,
+        years: 3,
+        amount: 100_000,
+        premium: 40_000,
+    }
+}
+
+// The rates 0.1, 0.2, 0.25, 0.5 and 1 of the ages 0 to 4, in units of 10^-9, at an interest of 0.
+fn flat_basis(alloc: Global) -> Result<Basis, Fail> {
+    let file = b"1900-01-01,q.xml,0".as_slice();
+    if file.len() > LONGEST_FILE {
+        return Err("a short file".into());
+    }
+    let Ok(rows) = read_basis(alloc, file) else {
+        return Err("rows".into());
+    };
+    let rates = [
+        100_000_000,
+        200_000_000,
+        250_000_000,
+        500_000_000,
+        1_000_000_000u32,
+    ];
+    let Ok(table) = RateTable::new(0, rates.to_vec(alloc)?) else {
+        return Err("a table".into());
+    };
+    let mut tables = IndexMap::new(alloc);
+    tables.insert(String::from_str(alloc, "q.xml")?, table)?;
+    Basis::of(rows, tables).map_err(|_| "tables".into())
+}
+
+// Posts a command where it is valid and a turn is left.
+fn post<D: Disk, R: Wait>(rt: &R, office: &Office<D>, pass: &mut OfficePass<D>, command: &Command)
+    requires { pass.old.turnstile ≡ office.now }
+    ensures { (pass.new.turnstile ≡ pass.old.turnstile) × (pass.new.shares ≡ pass.old.shares) }
+{
+    if pass.left() == 0 || !command.is_valid() {
+        return;
+    }
+    office.post(rt, pass, command);
+}
+
+fn inforce(id: u32, t: u8, lo: u64, hi: u64) -> Row {
+    Row {
+        id,
+        status: Status::InForce,
+        t,
+        worth: Worth::Bounds { lo, hi },
+    }
+}
+
+// Whether the turn of the pin is this, and the valuation is of this position, with this row for each of so many policies,
+// whose numbers begin with 1.
+fn is_of(
+    valued: &Turned<Result<Valuation, ValueFault>>,
+    turn: u64,
+    position: u32,
+    policies: u32,
+    row: &Row,
+) -> bool {
+    let Ok(valuation) = &valued.answer else {
+        return false;
+    };
+    let mut id = 0;
+    for found in valuation.rows.as_slice() {
+        id += 1;
+        if *found != (Row { id, ..*row }) {
+            return false;
+        }
+    }
+    valued.turn == turn && valuation.position == position && id == policies
+}
+
+// What is asked of an office whose commands are three hundred issues and then a lapse, in the turns 0 to 300: a position,
+// a day, and then the policies there are, their row, and how many turns are taken.
+type Case = (At, i32, u32, u32, Row, u64);
+
+// Values at each of the positions, and gives the number of the case that came out otherwise.
+fn first_wrong<D: Disk, R: Wait>(
+    rt: &R,
+    alloc: Global,
+    office: &Office<D>,
+    pass: &mut OfficePass<D>,
+    basis: &Basis,
+    cases: &[Case],
+) -> Option<usize>
+    requires { pass.old.turnstile ≡ office.now }
+    ensures { (pass.new.turnstile ≡ pass.old.turnstile) × (pass.new.shares ≡ pass.old.shares) }
+{
+    let mut turn = 301;
+    for (index, case) in cases.iter().enumerate() {
+        let (at, on, position, policies, row, turns) = *case;
+        let steps = Steps {
+            last: Cell::new(0),
+            in_order: Cell::new(true),
+        };
+        if pass.left() < 16_000 {
+            return Some(index);
+        }
+        let answer = value(rt, alloc, office, pass, basis, on, at, 4, 3, &steps);
+        let called = steps.in_order.get() && u64::from(steps.last.get()).saturating_add(2) == turns;
+        if !called || !is_of(&answer, turn, position, policies, &row) {
+            return Some(index);
+        }
+        turn = turns.saturating_add(turn);
+    }
+    None
+}
+
+// The statuses of the first policies now, and the answer at a position of more commands than there are.
+fn now_and_ahead<D: Disk, R: Wait>(
+    rt: &R,
+    alloc: Global,
+    office: &Office<D>,
+    pass: &mut OfficePass<D>,
+    basis: &Basis,
+) -> Option<(u32, Status, ValueFault)>
+    requires { pass.old.turnstile ≡ office.now }
+    ensures { (pass.new.turnstile ≡ pass.old.turnstile) × (pass.new.shares ≡ pass.old.shares) }
+{
+    if pass.left() < 32_000 {
+        return None;
+    }
+    let now = value(
+        rt,
+        alloc,
+        office,
+        pass,
+        basis,
+        ONE_YEAR,
+        At::Now,
+        1,
+        3,
+        &OpenGate,
+    );
+    let ahead = value(
+        rt,
+        alloc,
+        office,
+        pass,
+        basis,
+        ONE_YEAR,
+        At::Position(302),
+        64,
+        3,
+        &OpenGate,
+    );
+    let (Ok(newest), Err(fault)) = (&now.answer, &ahead.answer) else {
+        return None;
+    };
+    let row = newest.rows.as_slice().first()?;
+    Some((newest.position, row.status, *fault))
+}
+
+#[test]
+fn positions_are_valued(rt: HostRuntime) -> Result<(), Fail> {
+    let alloc = rt.alloc();
+    let basis = flat_basis(alloc)?;
+    let empty = MemoryDisk::new(alloc, Vec::new(alloc), Vec::new(alloc));
+    let Ok((office, mut pass)) = Office::start(alloc, empty, 301) else {
+        return Err("an office".into());
+    };
+    for id in 1..=300 {
+        post(&rt, &office, &mut pass, &issue(id));
+    }
+    post(
+        &rt,
+        &office,
+        &mut pass,
+        &Command::Lapse { id: 1, day: 18_660 },
+    );
+    let first = inforce(1, 1, 12_722, 12_723);
+    let second = inforce(1, 2, 51_512, 51_513);
+    let cases = [
+        (At::Position(300), ONE_YEAR, 300, 300, first, 4),
+        (At::Position(300), TWO_YEARS, 300, 300, second, 4),
+        (At::Position(256), ONE_YEAR, 256, 256, first, 3),
+        (At::Position(257), ONE_YEAR, 257, 257, first, 4),
+        (At::Position(1), ONE_YEAR, 1, 1, first, 3),
+        (At::Position(0), ONE_YEAR, 0, 0, first, 2),
+    ];
+    let wrong = first_wrong(&rt, alloc, &office, &mut pass, &basis, &cases);
+    let last = now_and_ahead(&rt, alloc, &office, &mut pass, &basis);
+    close(office, pass);
+    assert_eq!(rt; wrong, None);
+    let ahead = ValueFault::Pin(PinRefusal::Ahead(301));
+    assert_eq!(rt; last, Some((301, Status::Lapsed, ahead)));
+    Ok(())
+}
