@@ -8,13 +8,9 @@ use Rattle.policy_types.specs.declared.entry.At.{At}
 use Rattle.policy_types.specs.declared.entry.At.TheVariants.{Now, Position}
 use Rattle.policy_types.specs.declared.script.Line.{Line}
 use Rattle.policy_types.specs.declared.script.Line.TheVariants.{Post, Value, Trim}
+use Rattle.command_csv.specs.declared.row.ClerkLine.{ClerkLine}
 use Rattle.life_dates.specs.DayText.{day_text}
 use Rattle.money_core.specs.CentsText.{cents_text}
-
--- a line, and the number of the clerk whose line it is
-pub record ClerkLine : Type 0 where
-  pub clerk : ℕ
-  pub line : Line
 
 -- a line of clerk 1
 abbrev pub by_first : Line → ClerkLine

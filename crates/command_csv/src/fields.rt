@@ -1,24 +1,32 @@
 // The next field of a row, where it is what it has to be.
-ghost use Rattle.std.specs.Prelude.{◌≡◌, ◌≢◌, ℕ, ℤ, ◌≤◌, ◌<◌, ◌+◌, ◌∷◌, [], ⊤, take, decimal, IfSome, IfNone};
+ghost use Rattle.std.specs.Prelude.{◌≡◌, ◌≢◌, ℕ, ℤ, ◌≤◌, ◌<◌, ◌+◌, ◌∷◌, [], ⊤, take, decimal, ◌↔◌, IsTrue, IfSome, IfNone};
 ghost use Rattle.csv.specs.Records.{fields_of};
 ghost use Rattle.policy_types.specs.Valid.{IsId, IsCommandDay, IsAmount, IsReinstatement, IsIssueAge, AreYears};
 ghost use Rattle.policy_types.specs.declared.command.Plan.{Plan as APlan};
+ghost use Rattle.policy_types.specs.declared.entry.At.{At as APosition};
 ghost use Rattle.life_dates.specs.DayText.{day_text};
 ghost use Rattle.money_core.specs.CentsText.{cents_text};
 ghost use Rattle.command_csv.specs.declared.kind.Kind.{Kind as AKind};
-ghost use Rattle.command_csv.specs.inside.Forms.{IsClerk, kind_word};
-ghost use Rattle.command_csv.specs.Spelling.{plan_word};
+ghost use Rattle.command_csv.specs.inside.Forms.{MayFollow, kind_word};
+ghost use Rattle.command_csv.specs.Reads.{AreWorkers, IsClerk, IsPosition};
+ghost use Rattle.command_csv.specs.Spelling.{at_text, plan_word};
 
 use crate::kind::{Kind, kind_of};
 use csv::ByteRecord;
 use life_dates::parse_day;
 use money_core::{parse_cents, parse_number};
 use policy_types::{
-    END_AGE, LAST_ISSUE_AGE, MOST_CENTS, MOST_REINSTATEMENT_CENTS, Plan, are_years,
+    At, END_AGE, LAST_ISSUE_AGE, MOST_CENTS, MOST_REINSTATEMENT_CENTS, Plan, are_years,
 };
 
-/// The clerks' numbers go up to this.
-const LAST_CLERK: u64 = 1;
+/// The clerks are numbered from 1 to this.
+pub const LAST_LANE: u8 = 1;
+/// A script asks for so many valuations at most.
+const MOST_VALUATIONS: u32 = 16;
+/// A list of accepted commands is never longer.
+const MOST_COMMANDS: u64 = 4_000_000;
+/// A valuation is split among so many workers at most.
+const MOST_WORKERS: u64 = 64;
 
 /// A row that is read field by field.
 #[derive(Drop)]
@@ -56,16 +64,22 @@ impl<'a> Fields<'a> {
         ensures some { IfSome result (λ clerk. Took (IsClerk clerk) (decimal clerk) self.old self.new) }
         ensures none { IfNone result (Missed IsClerk decimal self.old self.new) }
     {
-        let clerk = parse_number(self.next_field()?, LAST_CLERK)?;
+        let clerk = parse_number(self.next_field()?, LAST_LANE as u64)?;
         if clerk == 0 { None } else { Some(clerk as u8) }
     }
 
-    pub fn kind(&mut self) -> Option<Kind>
+    /// The kind of a line behind so many valuations.
+    pub fn kind(&mut self, valuations: u32) -> Option<Kind>
         requires few { self.old.asked < 16 }
-        ensures some { IfSome result (λ kind. Took ⊤ (kind_word kind) self.old self.new) }
-        ensures none { IfNone result (Missed (λ (kind : AKind). ⊤) kind_word self.old self.new) }
+        ensures some { IfSome result (λ kind. Took (MayFollow valuations kind) (kind_word kind) self.old self.new) }
+        ensures none { IfNone result (Missed (MayFollow valuations) kind_word self.old self.new) }
     {
-        kind_of(self.next_field()?)
+        let kind = kind_of(self.next_field()?)?;
+        if may_follow(valuations, kind) {
+            Some(kind)
+        } else {
+            None
+        }
     }
 
     /// A policy's number.
@@ -138,6 +152,29 @@ impl<'a> Fields<'a> {
         parse_cents(self.next_field()?, MOST_REINSTATEMENT_CENTS)
     }
 
+    /// The position of a valuation.
+    pub fn position(&mut self) -> Option<At>
+        requires few { self.old.asked < 16 }
+        ensures some { IfSome result (λ at. Took (IsPosition at) (at_text at) self.old self.new) }
+        ensures none { IfNone result (Missed IsPosition at_text self.old self.new) }
+    {
+        position_of(self.next_field()?)
+    }
+
+    /// The number of workers of a valuation.
+    pub fn workers(&mut self) -> Option<u8>
+        requires few { self.old.asked < 16 }
+        ensures some { IfSome result (λ workers. Took (AreWorkers workers) (decimal workers) self.old self.new) }
+        ensures none { IfNone result (Missed AreWorkers decimal self.old self.new) }
+    {
+        let workers = parse_number(self.next_field()?, MOST_WORKERS)?;
+        if workers == 0 {
+            None
+        } else {
+            Some(workers as u8)
+        }
+    }
+
     /// The end of the row.
     pub fn end(&mut self) -> Option<()>
         requires few { self.old.asked < 16 }
@@ -162,5 +199,28 @@ fn plan_of(word: &[u8]) -> Option<Plan>
         b"endowment" => Some(Plan::Endowment),
         b"limited" => Some(Plan::Limited),
         _ => None,
+    }
+}
+
+// Whether a line of the kind may stand behind so many valuations.
+fn may_follow(valuations: u32, kind: Kind) -> bool
+    ensures { IsTrue result ↔ MayFollow valuations kind }
+{
+    match kind {
+        Kind::Value => valuations < MOST_VALUATIONS,
+        _ => true,
+    }
+}
+
+fn position_of(word: &[u8]) -> Option<At>
+    ensures some { IfSome result (λ at. IsPosition at × (word.now ≡ at_text at)) }
+    ensures none { IfNone result ((at : APosition) → IsPosition at → word.now ≢ at_text at) }
+{
+    match word {
+        b"now" => Some(At::Now),
+        _ => {
+            let count = parse_number(word, MOST_COMMANDS)?;
+            Some(At::Position(count as u32))
+        }
     }
 }

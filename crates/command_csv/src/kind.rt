@@ -2,7 +2,7 @@ ghost use Rattle.std.specs.Prelude.{◌≡◌, ◌≢◌, IfSome, IfNone};
 ghost use Rattle.command_csv.specs.inside.Forms.{kind_word};
 ghost use Rattle.command_csv.specs.declared.kind.Kind.{Kind as AKind};
 
-/// The kinds of posting.
+/// The kinds of line.
 #[derive(Clone, Copy, PartialEq, Eq, Debug)]
 pub enum Kind {
     Issue,
@@ -13,6 +13,8 @@ pub enum Kind {
     Claim,
     Settle,
     Mature,
+    Value,
+    Trim,
 }
 
 /// The kind of this word.
@@ -29,6 +31,8 @@ pub fn kind_of(word: &[u8]) -> Option<Kind>
         b"claim" => Some(Kind::Claim),
         b"settle" => Some(Kind::Settle),
         b"mature" => Some(Kind::Mature),
+        b"value" => Some(Kind::Value),
+        b"trim" => Some(Kind::Trim),
         _ => None,
     }
 }

@@ -1,9 +1,9 @@
 // Laws of the definitions, for callers.
-ghost use Rattle.std.specs.Prelude.{◌≡◌, ◌⊎◌, ℕ, List};
+ghost use Rattle.std.specs.Prelude.{◌≡◌, ◌≤◌, ◌⊎◌, ℕ, List};
 ghost use Rattle.std.specs.List.{All};
 ghost use Rattle.policy_types.specs.declared.script.Lane.{Lane};
 ghost use Rattle.policy_types.specs.declared.script.Line.{Line};
-ghost use Rattle.command_csv.specs.Reads.{IsScriptLine, IsFirstFault, Reads, lane_of};
+ghost use Rattle.command_csv.specs.Reads.{IsScriptLine, IsFirstFault, Reads, lane_of, most_valuations, valuations_in};
 
 /// A script is read, or it has a first fault.
 pub fn scripts_are_judged()
@@ -22,7 +22,8 @@ pub fn readings_are_one()
     ensures { (bytes : List ℕ) (lanes others : List Lane) → Reads bytes lanes → Reads bytes others → lanes ≡ others }
 {}
 
-/// What is read is no lane, or the one lane of clerk 1, and each of its lines is one that a script may hold.
+/// What is read is no lane, or the one lane of clerk 1, each of its lines is one that a script may hold, and it asks
+/// for no more valuations than a script may.
 pub fn one_clerk()
-    ensures { (bytes : List ℕ) (lanes : List Lane) → Reads bytes lanes → (lines : List Line) × (lanes ≡ lane_of 1 lines) × All IsScriptLine lines }
+    ensures { (bytes : List ℕ) (lanes : List Lane) → Reads bytes lanes → (lines : List Line) × (lanes ≡ lane_of 1 lines) × All IsScriptLine lines × (valuations_in lines ≤ most_valuations) }
 {}

@@ -1,16 +1,16 @@
-// The fields behind the kind of a posting.
+// The fields behind the kind of a line.
 ghost use Rattle.std.specs.Prelude.{◌≡◌, IfSome, IfNone};
-ghost use Rattle.command_csv.specs.declared.kind.Kind.TheVariants.{Issue, Premium, Alter, Lapse, Reinstate, Claim, Settle, Mature};
+ghost use Rattle.command_csv.specs.declared.kind.Kind.TheVariants.{Issue, Premium, Alter, Lapse, Reinstate, Claim, Settle, Mature, Value};
 ghost use Rattle.command_csv.specs.inside.Forms.{form_of};
 ghost use Rattle.command_csv.specs.inside.Cursor.{Holds, StopsIn};
 
 use crate::fields::Fields;
 use crate::kind::Kind;
-use policy_types::Command;
+use policy_types::{Command, Line};
 
 impl Fields<'_> {
-    /// The command of a kind, which stands behind the kind's word.
-    pub fn command(&mut self, kind: Kind) -> Option<Command>
+    /// The line of a kind, which stands behind the kind's word.
+    pub fn of_kind(&mut self, kind: Kind) -> Option<Line>
         requires head { self.old.asked ≡ 2 }
         ensures some { IfSome result (Holds kind self.old self.new) }
         ensures none { IfNone result (StopsIn (form_of kind) self.old self.new) }
@@ -24,10 +24,12 @@ impl Fields<'_> {
             Kind::Claim => self.claim(),
             Kind::Settle => self.settle(),
             Kind::Mature => self.mature(),
+            Kind::Value => self.valuation(),
+            Kind::Trim => Some(Line::Trim),
         }
     }
 
-    fn issue(&mut self) -> Option<Command>
+    fn issue(&mut self) -> Option<Line>
         requires head { self.old.asked ≡ 2 }
         ensures some { IfSome result (Holds Issue self.old self.new) }
         ensures none { IfNone result (StopsIn (form_of Issue) self.old self.new) }
@@ -39,7 +41,7 @@ impl Fields<'_> {
         let years = self.years(plan, age)?;
         let amount = self.amount()?;
         let premium = self.amount()?;
-        Some(Command::Issue {
+        Some(Line::Post(Command::Issue {
             id,
             day,
             plan,
@@ -47,10 +49,10 @@ impl Fields<'_> {
             years,
             amount,
             premium,
-        })
+        }))
     }
 
-    fn premium(&mut self) -> Option<Command>
+    fn premium(&mut self) -> Option<Line>
         requires head { self.old.asked ≡ 2 }
         ensures some { IfSome result (Holds Premium self.old self.new) }
         ensures none { IfNone result (StopsIn (form_of Premium) self.old self.new) }
@@ -58,10 +60,10 @@ impl Fields<'_> {
         let id = self.id()?;
         let day = self.day()?;
         let amount = self.amount()?;
-        Some(Command::Premium { id, day, amount })
+        Some(Line::Post(Command::Premium { id, day, amount }))
     }
 
-    fn alter(&mut self) -> Option<Command>
+    fn alter(&mut self) -> Option<Line>
         requires head { self.old.asked ≡ 2 }
         ensures some { IfSome result (Holds Alter self.old self.new) }
         ensures none { IfNone result (StopsIn (form_of Alter) self.old self.new) }
@@ -70,25 +72,25 @@ impl Fields<'_> {
         let day = self.day()?;
         let amount = self.amount()?;
         let premium = self.amount()?;
-        Some(Command::Alter {
+        Some(Line::Post(Command::Alter {
             id,
             day,
             amount,
             premium,
-        })
+        }))
     }
 
-    fn lapse(&mut self) -> Option<Command>
+    fn lapse(&mut self) -> Option<Line>
         requires head { self.old.asked ≡ 2 }
         ensures some { IfSome result (Holds Lapse self.old self.new) }
         ensures none { IfNone result (StopsIn (form_of Lapse) self.old self.new) }
     {
         let id = self.id()?;
         let day = self.day()?;
-        Some(Command::Lapse { id, day })
+        Some(Line::Post(Command::Lapse { id, day }))
     }
 
-    fn reinstate(&mut self) -> Option<Command>
+    fn reinstate(&mut self) -> Option<Line>
         requires head { self.old.asked ≡ 2 }
         ensures some { IfSome result (Holds Reinstate self.old self.new) }
         ensures none { IfNone result (StopsIn (form_of Reinstate) self.old self.new) }
@@ -96,20 +98,20 @@ impl Fields<'_> {
         let id = self.id()?;
         let day = self.day()?;
         let amount = self.reinstatement()?;
-        Some(Command::Reinstate { id, day, amount })
+        Some(Line::Post(Command::Reinstate { id, day, amount }))
     }
 
-    fn claim(&mut self) -> Option<Command>
+    fn claim(&mut self) -> Option<Line>
         requires head { self.old.asked ≡ 2 }
         ensures some { IfSome result (Holds Claim self.old self.new) }
         ensures none { IfNone result (StopsIn (form_of Claim) self.old self.new) }
     {
         let id = self.id()?;
         let day = self.day()?;
-        Some(Command::Claim { id, day })
+        Some(Line::Post(Command::Claim { id, day }))
     }
 
-    fn settle(&mut self) -> Option<Command>
+    fn settle(&mut self) -> Option<Line>
         requires head { self.old.asked ≡ 2 }
         ensures some { IfSome result (Holds Settle self.old self.new) }
         ensures none { IfNone result (StopsIn (form_of Settle) self.old self.new) }
@@ -117,16 +119,26 @@ impl Fields<'_> {
         let id = self.id()?;
         let day = self.day()?;
         let amount = self.amount()?;
-        Some(Command::Settle { id, day, amount })
+        Some(Line::Post(Command::Settle { id, day, amount }))
     }
 
-    fn mature(&mut self) -> Option<Command>
+    fn mature(&mut self) -> Option<Line>
         requires head { self.old.asked ≡ 2 }
         ensures some { IfSome result (Holds Mature self.old self.new) }
         ensures none { IfNone result (StopsIn (form_of Mature) self.old self.new) }
     {
         let id = self.id()?;
         let day = self.day()?;
-        Some(Command::Mature { id, day })
+        Some(Line::Post(Command::Mature { id, day }))
+    }
+    fn valuation(&mut self) -> Option<Line>
+        requires head { self.old.asked ≡ 2 }
+        ensures some { IfSome result (Holds Value self.old self.new) }
+        ensures none { IfNone result (StopsIn (form_of Value) self.old self.new) }
+    {
+        let on = self.day()?;
+        let at = self.position()?;
+        let workers = self.workers()?;
+        Some(Line::Value { on, at, workers })
     }
 }

@@ -1,32 +1,31 @@
 // A script, read row by row.
-ghost use Rattle.std.specs.Prelude.{◌≡◌, ◌≤◌, length, map, IfOk, IfErr};
-ghost use Rattle.std.specs.List.{AllZip};
-ghost use Rattle.command_csv.specs.Reads.{IsRowOf, Reads, lane_of};
+ghost use Rattle.std.specs.Prelude.{◌≡◌, ◌≤◌, [], ◌∷◌, length, IfOk, IfErr};
+ghost use Rattle.command_csv.specs.Reads.{AreRowsOf, Reads, lanes_of, lines_of as lines_among, valuations_in};
 ghost use Rattle.command_csv.specs.Rows.{rows_of};
-ghost use Rattle.command_csv.specs.Spelling.{by_first};
 ghost use Rattle.command_csv.specs.Cause.{HasCause};
 
 use crate::fault::ScriptFault;
-use crate::row::read_row;
+use crate::fields::LAST_LANE;
+use crate::row::{ClerkLine, read_row};
 use csv::{ByteRecord, ReaderBuilder};
 use policy_types::{Lane, Line, Lines, Script};
 use std::alloc::Global;
 
 /// Reads a script of at most 16 MiB: the lanes of the clerks with their lines, or the first row and field that don't
-/// fit. Memory is taken for the lines and for one row at a time.
+/// fit. Memory is taken for one row at a time and for the lines, twice while they are dealt out to the lanes.
 pub fn read_script(alloc: Global, bytes: &[u8]) -> Result<Script, ScriptFault>
     requires { length bytes.now ≤ 16777216 }
     ensures ok { IfOk result (Reads bytes.now) }
     ensures fault { IfErr result (HasCause bytes.now) }
 {
-    let lines = read_lines(alloc, bytes)?;
-    script_of(alloc, lines)
+    let entries = read_lines(alloc, bytes)?;
+    script_of(alloc, &entries)
 }
 
 // The lines of all rows.
-fn read_lines(alloc: Global, bytes: &[u8]) -> Result<Vec<Line>, ScriptFault>
+fn read_lines(alloc: Global, bytes: &[u8]) -> Result<Vec<ClerkLine>, ScriptFault>
     requires { length bytes.now ≤ 16777216 }
-    ensures ok { IfOk result (λ lines. AllZip IsRowOf (rows_of bytes.now) (map by_first lines.items)) }
+    ensures ok { IfOk result (λ entries. AreRowsOf (rows_of bytes.now) entries.items) }
     ensures fault { IfErr result (HasCause bytes.now) }
 {
     let mut rows = ReaderBuilder::new()
@@ -34,29 +33,61 @@ fn read_lines(alloc: Global, bytes: &[u8]) -> Result<Vec<Line>, ScriptFault>
         .flexible(true)
         .from_reader(alloc, bytes);
     let mut row = ByteRecord::new(alloc);
-    let mut lines = Vec::new(alloc);
+    let mut entries = Vec::new(alloc);
     let mut count: u32 = 0;
+    let mut valuations: u32 = 0;
     while rows.read_byte_record(&mut row)? {
         count += 1;
-        match read_row(&row) {
-            Ok(line) => lines.push(line)?,
+        match read_row(&row, valuations) {
+            Ok(entry) => {
+                valuations += valuations_of(&entry.line);
+                entries.push(entry)?;
+            }
             Err(field) => return Err(ScriptFault::BadRow { row: count, field }),
         }
     }
-    Ok(lines)
+    Ok(entries)
 }
 
-// The script of clerk 1 alone.
-fn script_of(alloc: Global, lines: Vec<Line>) -> Result<Script, ScriptFault>
-    ensures ok { IfOk result (λ script. script ≡ lane_of 1 lines.items) }
+// 1 for a valuation, 0 for another line.
+fn valuations_of(line: &Line) -> u32
+    ensures { result ≡ valuations_in (line.now ∷ []) }
+{
+    match line {
+        Line::Value { .. } => 1,
+        _ => 0,
+    }
+}
+
+// The script of all clerks.
+fn script_of(alloc: Global, entries: &[ClerkLine]) -> Result<Script, ScriptFault>
+    ensures ok { IfOk result (λ script. script ≡ lanes_of entries.now) }
     ensures fault { IfErr result (λ fault. fault ≡ ScriptFault.NoMemory) }
 {
     let mut lanes = Vec::new(alloc);
-    if !lines.is_empty() {
-        lanes.push(Lane {
-            number: 1,
-            lines: Lines::new(lines),
-        })?;
+    for before in 0..LAST_LANE {
+        let number = before + 1;
+        let lines = lines_of(alloc, entries, number)?;
+        if !lines.is_empty() {
+            lanes.push(Lane {
+                number,
+                lines: Lines::new(lines),
+            })?;
+        }
     }
     Ok(Script::new(lanes))
+}
+
+// A clerk's lines.
+fn lines_of(alloc: Global, entries: &[ClerkLine], clerk: u8) -> Result<Vec<Line>, ScriptFault>
+    ensures ok { IfOk result (λ lines. lines.items ≡ lines_among clerk entries.now) }
+    ensures fault { IfErr result (λ fault. fault ≡ ScriptFault.NoMemory) }
+{
+    let mut lines = Vec::new(alloc);
+    for entry in entries {
+        if entry.clerk == clerk {
+            lines.push(entry.line)?;
+        }
+    }
+    Ok(lines)
 }

@@ -1,5 +1,5 @@
 // Worked scripts, each a theorem over the definitions alone.
-ghost use Rattle.command_csv.specs.Worked.{AlterLine, ClaimLine, IssueLine, LapseLine, MatureLine, NoClerk, NoDay, OddScript, OneTooMany, PremiumLine, ReinstateLine, SettleLine};
+ghost use Rattle.command_csv.specs.Worked.{AlterLine, ClaimLine, IssueLine, LapseLine, MatureLine, NoClerk, NoDay, NoWorkers, OddScript, OneTooMany, OneValuationTooMany, PremiumLine, ReinstateLine, SettleLine, TrimLine, TrimOfSomething, ValueAtLine, ValueLine};
 
 /// How a line of each kind is written.
 pub fn lines_are_written()
@@ -11,6 +11,9 @@ pub fn lines_are_written()
     ensures claim { ClaimLine }
     ensures settle { SettleLine }
     ensures mature { MatureLine }
+    ensures value { ValueLine }
+    ensures value_at { ValueAtLine }
+    ensures trim { TrimLine }
 {}
 
 /// Quotes, empty lines, a byte order mark, and the ends that a row may have.
@@ -18,9 +21,13 @@ pub fn odd_scripts_are_read()
     ensures { OddScript }
 {}
 
-/// The place of a clerk's number that is none, of a field that is missing, and of one too many.
+/// The place of a clerk's number that is none, of a field that is missing, of one too many, and of the kind of a
+/// valuation too many.
 pub fn faults_are_placed()
     ensures clerk { NoClerk }
     ensures missing { NoDay }
     ensures surplus { OneTooMany }
+    ensures trim { TrimOfSomething }
+    ensures workers { NoWorkers }
+    ensures valuations { OneValuationTooMany }
 {}

@@ -1,12 +1,14 @@
 -- What may follow in a row from a field on
-use Rattle.std.specs.Prelude.{◌≡◌, ℕ, suc, List, [], ◌∷◌, take, codes, decimal, ⊤}
+use Rattle.std.specs.Prelude.{◌≡◌, ℕ, suc, ◌<◌, List, [], ◌∷◌, take, codes, decimal, ⊤}
 use Rattle.policy_types.specs.declared.command.Plan.{Plan}
+use Rattle.policy_types.specs.declared.entry.At.{At}
 use Rattle.policy_types.specs.Valid.{IsId, IsCommandDay, IsAmount, IsReinstatement, IsIssueAge, AreYears}
 use Rattle.life_dates.specs.DayText.{day_text}
 use Rattle.money_core.specs.CentsText.{cents_text}
 use Rattle.command_csv.specs.declared.kind.Kind.{Kind}
-use Rattle.command_csv.specs.declared.kind.Kind.TheVariants.{Issue, Premium, Alter, Lapse, Reinstate, Claim, Settle, Mature}
-use Rattle.command_csv.specs.Spelling.{plan_word}
+use Rattle.command_csv.specs.declared.kind.Kind.TheVariants.{Issue, Premium, Alter, Lapse, Reinstate, Claim, Settle, Mature, Value, Trim}
+use Rattle.command_csv.specs.Reads.{IsClerk, IsPosition, AreWorkers, most_valuations}
+use Rattle.command_csv.specs.Spelling.{at_text, plan_word}
 
 -- nothing
 abbrev pub Ends : List (List ℕ) → Type 0
@@ -40,6 +42,16 @@ AgeOn plan = Then IsIssueAge decimal (λ age. YearsOn plan age)
 abbrev pub PlanOn : List (List ℕ) → Type 0
 PlanOn = Then (λ plan. ⊤) plan_word AgeOn
 
+-- what a valuation holds
+abbrev pub WorkersOn : List (List ℕ) → Type 0
+WorkersOn = Then AreWorkers decimal (λ workers. Ends)
+
+abbrev pub PositionOn : List (List ℕ) → Type 0
+PositionOn = Then IsPosition at_text (λ at. WorkersOn)
+
+abbrev pub ValuationOn : List (List ℕ) → Type 0
+ValuationOn = Then IsCommandDay day_text (λ on. PositionOn)
+
 -- the word of a kind
 abbrev pub kind_word : Kind → List ℕ
 kind_word Issue = codes "issue"
@@ -50,6 +62,8 @@ kind_word Reinstate = codes "reinstate"
 kind_word Claim = codes "claim"
 kind_word Settle = codes "settle"
 kind_word Mature = codes "mature"
+kind_word Value = codes "value"
+kind_word Trim = codes "trim"
 
 -- what follows the word of a kind
 abbrev pub form_of : Kind → List (List ℕ) → Type 0
@@ -61,13 +75,21 @@ form_of Reinstate = PolicyAndDay Reinstatement
 form_of Claim = PolicyAndDay Ends
 form_of Settle = PolicyAndDay (Amount Ends)
 form_of Mature = PolicyAndDay Ends
+form_of Value = ValuationOn
+form_of Trim = Ends
 
--- clerk 1 is the only clerk
-abbrev pub IsClerk : ℕ → Type 0
-IsClerk clerk = clerk ≡ 1
+-- a line of the kind may stand behind so many valuations
+abbrev pub MayFollow : ℕ → Kind → Type 0
+MayFollow valued Value = valued < most_valuations
+MayFollow valued _ = ⊤
 
-abbrev pub RowForm : List (List ℕ) → Type 0
-RowForm = Then IsClerk decimal (λ clerk. Then (λ kind. ⊤) kind_word form_of)
+-- a kind that may, and what follows its word
+abbrev pub KindForm : ℕ → List (List ℕ) → Type 0
+KindForm valued = Then (MayFollow valued) kind_word form_of
+
+-- a row behind so many valuations
+abbrev pub RowForm : ℕ → List (List ℕ) → Type 0
+RowForm valued = Then IsClerk decimal (λ clerk. KindForm valued)
 
 -- the first fields, up to this place, are those of some list of the form
 pub record FitsIn (Form : List (List ℕ) → Type 0) (fields : List (List ℕ)) (place : ℕ) : Type 0 where
