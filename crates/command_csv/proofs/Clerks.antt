@@ -1,10 +1,13 @@
 -- The lanes of a script that has lines of clerk 1 alone
-use Rattle.std.proofs.Common.{◌≡◌, ℕ, false, eqb, List, [], ◌∷◌, map, refl, ap}
-use Rattle.std.specs.List.{AllZip, AllByRecursion}
+use Rattle.std.proofs.Common.{◌≡◌, ℕ, zero, suc, ◌+◌, ◌≤◌, Bool, true, false, eqb, cond, List, [], ◌∷◌, ◌++◌, length, map, refl, ap, sym, ◌∙◌, subst, arith}
+use Rattle.std.specs.List.{AllZip, AllByRecursion, filter}
+use Rattle.std.proofs.lemmas.Bool.{ne_eqb}
 use Rattle.std.proofs.lemmas.List.{append-nil}
 use Rattle.policy_types.specs.declared.script.Line.{Line}
-use Rattle.command_csv.specs.Spelling.{ClerkLine, by_first}
-use Rattle.command_csv.specs.Reads.{IsScriptLine, IsRowOf, lines_of, lane_of, lanes_of}
+use Rattle.policy_types.specs.declared.script.Line.TheVariants.{Post, Value, Trim}
+use Rattle.command_csv.specs.declared.row.ClerkLine.{ClerkLine}
+use Rattle.command_csv.specs.Spelling.{by_first}
+use Rattle.command_csv.specs.Reads.{IsScriptLine, IsRowOf, HasRoom, is_valuation, valuations_in, all_lines, lines_of, lane_of, lanes_of, lanes_up_to, most_valuations}
 
 pub lines_of_first : (lines : List Line) → lines_of 1 (map by_first lines) ≡ lines
 lines_of_first [] = refl
@@ -14,23 +17,53 @@ lines_of_others : (clerk : ℕ) → eqb 1 clerk ≡ false → (lines : List Line
 lines_of_others clerk other [] = refl
 lines_of_others clerk other (line ∷ lines) = rw other (lines_of_others clerk other lines)
 
+lanes_up_first : (n : ℕ) (lines : List Line) → lanes_up_to (suc n) (map by_first lines) ≡ lane_of 1 lines
+lanes_up_first zero lines = ap (lane_of 1) (lines_of_first lines)
+lanes_up_first (suc n) lines =
+    rw (lines_of_others (suc (suc n)) (ne_eqb 1 (suc (suc n)) (λ e. omega (arith, e))) lines) (append-nil (lanes_up_to (suc n) (map by_first lines)) ∙ lanes_up_first n lines)
+
 pub lanes_of_first : (lines : List Line) → lanes_of (map by_first lines) ≡ lane_of 1 lines
-lanes_of_first lines =
-    rw (lines_of_first lines, lines_of_others 2 refl lines, lines_of_others 3 refl lines, lines_of_others 4 refl lines, lines_of_others 5 refl lines, lines_of_others 6 refl lines, lines_of_others 7 refl lines, lines_of_others 8 refl lines)
-    (append-nil (lane_of 1 lines))
+lanes_of_first lines = lanes_up_first 0 lines
 
 -- what rows say is all of clerk 1
-pub entries_of_first : (rows : List (List (List ℕ))) (entries : List ClerkLine) → AllZip IsRowOf rows entries → entries ≡ map by_first (map (λ (entry : ClerkLine). entry.line) entries)
+pub entries_of_first : (rows : List (List (List ℕ))) (entries : List ClerkLine) → AllZip IsRowOf rows entries → entries ≡ map by_first (all_lines entries)
 entries_of_first [] [] h = refl
 entries_of_first [] (entry ∷ entries) h = absurd h
 entries_of_first (row ∷ rows) [] h = absurd h
 entries_of_first (row ∷ rows) (entry ∷ entries) h =
-    let first : entry ≡ by_first entry.line = ap (λ (n : ℕ). let made : ClerkLine = record { clerk = n; line = entry.line } in made) h.0.allowed.first_clerk in
+    let one : entry.clerk ≡ 1 = omega (arith, h.0.allowed.clerk_in) in
+    let first : entry ≡ by_first entry.line = ap (λ (n : ℕ). let made : ClerkLine = record { clerk = n; line = entry.line } in made) one in
     let rest = entries_of_first rows entries h.1 in
     cc
 
-pub all_right : (rows : List (List (List ℕ))) (entries : List ClerkLine) → AllZip IsRowOf rows entries → AllByRecursion IsScriptLine (map (λ (entry : ClerkLine). entry.line) entries)
+pub all_right : (rows : List (List (List ℕ))) (entries : List ClerkLine) → AllZip IsRowOf rows entries → AllByRecursion IsScriptLine (all_lines entries)
 all_right [] [] h = tt
 all_right [] (entry ∷ entries) h = absurd h
 all_right (row ∷ rows) [] h = absurd h
 all_right (row ∷ rows) (entry ∷ entries) h = (h.0.allowed.right, all_right rows entries h.1)
+
+-- the valuations among lines
+one_first : (b : Bool) (line : Line) (others : List Line) → length (cond b (line ∷ others) others) ≡ length (cond b (line ∷ []) []) + length others
+one_first true line others = omega arith
+one_first false line others = omega arith
+
+pub valuations-cons : (line : Line) (lines : List Line) → valuations_in (line ∷ lines) ≡ valuations_in (line ∷ []) + valuations_in lines
+valuations-cons line lines = one_first (is_valuation line) line (filter is_valuation lines)
+
+-- a line that may stand behind so many valuations leaves no more than there may be
+pub room_counted : (valued : ℕ) (line : Line) → valued ≤ most_valuations → HasRoom valued line → valued + valuations_in (line ∷ []) ≤ most_valuations
+room_counted valued (Post c) few h = omega (arith, few)
+room_counted valued (Value on at workers) few h = omega (arith, h)
+room_counted valued Trim few h = omega (arith, few)
+
+-- and where it doesn't, it may stand there
+pub room_left : (valued : ℕ) (line : Line) → valued + valuations_in (line ∷ []) ≤ most_valuations → HasRoom valued line
+room_left valued (Post c) few = tt
+room_left valued (Value on at workers) few = omega (arith, few)
+room_left valued Trim few = tt
+
+pub room_first : (valued : ℕ) (line : Line) (lines : List Line) → valued + valuations_in (line ∷ lines) ≤ most_valuations → HasRoom valued line
+room_first valued line lines few = room_left valued line (omega (arith, few, valuations-cons line lines))
+
+pub room_behind : (valued : ℕ) (line : Line) (lines : List Line) → valued + valuations_in (line ∷ lines) ≤ most_valuations → valued + valuations_in (line ∷ []) + valuations_in lines ≤ most_valuations
+room_behind valued line lines few = omega (arith, few, valuations-cons line lines)

@@ -7,73 +7,113 @@ use Rattle.std.proofs.lemmas.List.Elements.{All-from_recursion}
 use Rattle.policy_types.specs.declared.script.Line.{Line}
 use Rattle.policy_types.specs.declared.script.Lane.{Lane}
 use Rattle.command_csv.specs.Rows.{rows_of}
-use Rattle.command_csv.specs.Spelling.{ClerkLine, row_fields}
-use Rattle.command_csv.specs.Reads.{IsScriptLine, IsRowOf, Reads, FitsUpTo, IsFirstBadField, IsFirstFault, lane_of, lanes_of}
-use Rattle.command_csv.proofs.Clerks.{lanes_of_first, entries_of_first, all_right}
+use Rattle.command_csv.specs.declared.row.ClerkLine.{ClerkLine}
+use Rattle.command_csv.specs.Spelling.{row_fields}
+use Rattle.command_csv.specs.Reads.{IsScriptLine, IsRowOf, HasRoom, Reads, FitsUpTo, IsFirstBadField, IsFirstFault, all_lines, valuations_in, most_valuations, lane_of, lanes_of}
+use Rattle.command_csv.proofs.Clerks.{lanes_of_first, entries_of_first, all_right, valuations-cons, room_first, room_behind}
+use Rattle.command_csv.proofs.OneReading.{one_entry}
 
-no_line : (row : List (List ℕ)) (field : ℕ) (entry : ClerkLine) → IsFirstBadField row field → IsRowOf row entry → ⊥
-no_line row field entry bad is = bad.bad (record { entry = entry; allowed = is.allowed; same = ap (take field) is.spelled })
+-- so many valuations on these lines, behind others
+abbrev counted : ℕ → List ClerkLine → ℕ
+counted valued entries = valued + valuations_in (all_lines entries)
 
-not_read : (before : List (List (List ℕ))) (row : List (List ℕ)) (after : List (List (List ℕ))) (entries : List ClerkLine) (field : ℕ) → IsFirstBadField row field → AllZip IsRowOf (before ++ row ∷ after) entries → ⊥
-not_read [] row after [] field bad h = h
-not_read [] row after (entry ∷ entries) field bad h = no_line row field entry bad h.0
-not_read (x ∷ xs) row after [] field bad h = h
-not_read (x ∷ xs) row after (entry ∷ entries) field bad h = not_read xs row after entries field bad h.1
+behind_none : (entries : List ClerkLine) → valuations_in (all_lines entries) ≡ counted 0 entries
+behind_none entries = omega arith
+
+-- a line's share in the count
+counted_on : (valued : ℕ) (entry : ClerkLine) (entries : List ClerkLine) → counted valued (entry ∷ entries) ≡ counted (valued + valuations_in (entry.line ∷ [])) entries
+counted_on valued entry entries = omega (arith, valuations-cons entry.line (all_lines entries))
+
+no_line : (valued : ℕ) (row : List (List ℕ)) (field : ℕ) (entry : ClerkLine) (entries : List ClerkLine) → IsFirstBadField (counted valued []) row field → IsRowOf row entry → counted valued (entry ∷ entries) ≤ most_valuations → ⊥
+no_line valued row field entry entries bad is few =
+    let none : counted valued [] ≡ valued = omega arith in
+    let room : HasRoom valued entry.line = room_first valued entry.line (all_lines entries) few in
+    bad.bad (record { entry = entry; allowed = is.allowed; room = subst (λ (n : ℕ). HasRoom n entry.line) (sym none) room; same = ap (take field) is.spelled })
+
+not_read : (valued : ℕ) (before : List (List (List ℕ))) (lines : List ClerkLine) (row : List (List ℕ)) (after : List (List (List ℕ))) (entries : List ClerkLine) (field : ℕ)
+    → AllZip IsRowOf before lines → IsFirstBadField (counted valued lines) row field → AllZip IsRowOf (before ++ row ∷ after) entries → counted valued entries ≤ most_valuations → ⊥
+not_read valued [] [] row after [] field right bad h few = h
+not_read valued [] [] row after (entry ∷ entries) field right bad h few = no_line valued row field entry entries bad h.0 few
+not_read valued [] (line ∷ lines) row after entries field right bad h few = absurd right
+not_read valued (x ∷ xs) [] row after entries field right bad h few = absurd right
+not_read valued (x ∷ xs) (line ∷ lines) row after [] field right bad h few = h
+not_read valued (x ∷ xs) (line ∷ lines) row after (entry ∷ entries) field right bad h few =
+    let same : entry ≡ line = one_entry x entry line h.0 right.0 in
+    let next : ℕ = valued + valuations_in (line.line ∷ []) in
+    let P : ClerkLine → Type 0 = λ e. counted (valued + valuations_in (e.line ∷ [])) entries ≤ most_valuations in
+    let bound : counted (valued + valuations_in (entry.line ∷ [])) entries ≤ most_valuations = room_behind valued entry.line (all_lines entries) few in
+    not_read next xs lines row after entries field right.1 (subst (λ (n : ℕ). IsFirstBadField n row field) (counted_on valued line lines) bad) h.1 (subst P same bound)
 
 pub fault_excludes : (bytes : List ℕ) (row field : ℕ) (lanes : List Lane) → IsFirstFault bytes row field → Reads bytes lanes → ⊥
 fault_excludes bytes row field lanes fault reads =
     let P : List (List (List ℕ)) → Type 0 = λ rows. AllZip IsRowOf rows reads.entries in
-    not_read fault.before fault.faulty fault.after reads.entries field fault.bad (subst P fault.rows reads.rows)
+    not_read 0 fault.before fault.entries fault.faulty fault.after reads.entries field fault.right.each (subst (λ (n : ℕ). IsFirstBadField n fault.faulty field) (behind_none fault.entries) fault.bad) (subst P fault.rows reads.rows.each) (omega (arith, reads.rows.few))
 
 -- what fits up to a place fits up to an earlier one
-fits_before : (fields : List (List ℕ)) (early late : ℕ) → early ≤ late → FitsUpTo fields late → FitsUpTo fields early
-fits_before fields early late h fits = record {
+fits_before : (valued : ℕ) (fields : List (List ℕ)) (early late : ℕ) → early ≤ late → FitsUpTo valued fields late → FitsUpTo valued fields early
+fits_before valued fields early late h fits = record {
   entry = fits.entry;
   allowed = fits.allowed;
+  room = fits.room;
   same = sym (take-take early late fields h) ∙ ap (take early) fits.same ∙ take-take early late (row_fields fits.entry) h;
 }
 
-one_field : (fields : List (List ℕ)) (a b : ℕ) → IsFirstBadField fields a → IsFirstBadField fields b → a ≡ b
-one_field fields a b first other = elim (cases_order a b) [
+one_field : (valued : ℕ) (fields : List (List ℕ)) (a b : ℕ) → IsFirstBadField valued fields a → IsFirstBadField valued fields b → a ≡ b
+one_field valued fields a b first other = elim (cases_order a b) [
   | inl same ↦ same
-  | inr (inl less) ↦ absurd (first.bad (fits_before fields a (b - 1) (omega arith) other.before))
-  | inr (inr more) ↦ absurd (other.bad (fits_before fields b (a - 1) (omega arith) first.before))
+  | inr (inl less) ↦ absurd (first.bad (fits_before valued fields a (b - 1) (omega arith) other.before))
+  | inr (inr more) ↦ absurd (other.bad (fits_before valued fields b (a - 1) (omega arith) first.before))
 ]
 
 -- two ways to stop in one list of rows are one
-one_stop : (xs ys : List (List (List ℕ))) (x y : List (List ℕ)) (x_after y_after : List (List (List ℕ))) (x_entries y_entries : List ClerkLine) (f g : ℕ)
-    → xs ++ x ∷ x_after ≡ ys ++ y ∷ y_after → AllZip IsRowOf xs x_entries → AllZip IsRowOf ys y_entries → IsFirstBadField x f → IsFirstBadField y g
+one_stop : (valued : ℕ) (xs ys : List (List (List ℕ))) (x y : List (List ℕ)) (x_after y_after : List (List (List ℕ))) (x_entries y_entries : List ClerkLine) (f g : ℕ)
+    → xs ++ x ∷ x_after ≡ ys ++ y ∷ y_after → AllZip IsRowOf xs x_entries → AllZip IsRowOf ys y_entries
+    → counted valued x_entries ≤ most_valuations → counted valued y_entries ≤ most_valuations
+    → IsFirstBadField (counted valued x_entries) x f → IsFirstBadField (counted valued y_entries) y g
     → (length xs ≡ length ys) × (f ≡ g)
-one_stop [] [] x y xa ya xe ye f g e hx hy bx by =
+one_stop valued [] [] x y xa ya [] [] f g e hx hy fx fy bx by =
     let same : x ≡ y = cc in
-    let P : List (List ℕ) → Type 0 = λ row. IsFirstBadField row f in
-    (refl, one_field y f g (subst P same bx) by)
-one_stop [] (b ∷ ys) x y xa ya xe [] f g e hx hy bx by = absurd hy
-one_stop [] (b ∷ ys) x y xa ya xe (entry ∷ ye) f g e hx hy bx by =
+    let P : List (List ℕ) → Type 0 = λ row. IsFirstBadField (counted valued []) row f in
+    (refl, one_field (counted valued []) y f g (subst P same bx) by)
+one_stop valued [] ys x y xa ya (entry ∷ xe) ye f g e hx hy fx fy bx by = absurd hx
+one_stop valued xs [] x y xa ya xe (entry ∷ ye) f g e hx hy fx fy bx by = absurd hy
+one_stop valued [] (b ∷ ys) x y xa ya xe [] f g e hx hy fx fy bx by = absurd hy
+one_stop valued [] (b ∷ ys) x y xa ya [] (entry ∷ ye) f g e hx hy fx fy bx by =
     let same : x ≡ b = cc in
-    let P : List (List ℕ) → Type 0 = λ row. IsFirstBadField row f in
-    absurd (no_line b f entry (subst P same bx) hy.0)
-one_stop (a ∷ xs) [] x y xa ya [] ye f g e hx hy bx by = absurd hx
-one_stop (a ∷ xs) [] x y xa ya (entry ∷ xe) ye f g e hx hy bx by =
+    let P : List (List ℕ) → Type 0 = λ row. IsFirstBadField (counted valued []) row f in
+    absurd (no_line valued b f entry ye (subst P same bx) hy.0 fy)
+one_stop valued (a ∷ xs) [] x y xa ya [] ye f g e hx hy fx fy bx by = absurd hx
+one_stop valued (a ∷ xs) [] x y xa ya (entry ∷ xe) [] f g e hx hy fx fy bx by =
     let same : y ≡ a = cc in
-    let P : List (List ℕ) → Type 0 = λ row. IsFirstBadField row g in
-    absurd (no_line a g entry (subst P same by) hx.0)
-one_stop (a ∷ xs) (b ∷ ys) x y xa ya [] ye f g e hx hy bx by = absurd hx
-one_stop (a ∷ xs) (b ∷ ys) x y xa ya (entry ∷ xe) [] f g e hx hy bx by = absurd hy
-one_stop (a ∷ xs) (b ∷ ys) x y xa ya (entry ∷ xe) (other ∷ ye) f g e hx hy bx by =
+    let P : List (List ℕ) → Type 0 = λ row. IsFirstBadField (counted valued []) row g in
+    absurd (no_line valued a g entry xe (subst P same by) hx.0 fx)
+one_stop valued (a ∷ xs) (b ∷ ys) x y xa ya [] ye f g e hx hy fx fy bx by = absurd hx
+one_stop valued (a ∷ xs) (b ∷ ys) x y xa ya (entry ∷ xe) [] f g e hx hy fx fy bx by = absurd hy
+one_stop valued (a ∷ xs) (b ∷ ys) x y xa ya (entry ∷ xe) (other ∷ ye) f g e hx hy fx fy bx by =
     let rest : xs ++ x ∷ xa ≡ ys ++ y ∷ ya = cc in
-    let both = one_stop xs ys x y xa ya xe ye f g rest hx.1 hy.1 bx by in
+    let rows : a ≡ b = cc in
+    let same : other ≡ entry = one_entry b other entry hy.0 (subst (λ (row : List (List ℕ)). IsRowOf row entry) rows hx.0) in
+    let next : ℕ = valued + valuations_in (entry.line ∷ []) in
+    let counts : counted valued (other ∷ ye) ≡ counted next ye = counted_on valued other ye ∙ ap (λ (made : ClerkLine). counted (valued + valuations_in (made.line ∷ [])) ye) same in
+    let both = one_stop next xs ys x y xa ya xe ye f g rest hx.1 hy.1 (subst (λ (n : ℕ). n ≤ most_valuations) (counted_on valued entry xe) fx) (subst (λ (n : ℕ). n ≤ most_valuations) counts fy)
+        (subst (λ (n : ℕ). IsFirstBadField n x f) (counted_on valued entry xe) bx) (subst (λ (n : ℕ). IsFirstBadField n y g) counts by) in
     (ap suc both.0, both.1)
 
 pub one_fault : (bytes : List ℕ) (row other field place : ℕ) → IsFirstFault bytes row field → IsFirstFault bytes other place → (row ≡ other) × (field ≡ place)
 one_fault bytes row other field place a b =
-    let both = one_stop a.before b.before a.faulty b.faulty a.after b.after a.entries b.entries field place (sym a.rows ∙ b.rows) a.right b.right a.bad b.bad in
+    let both = one_stop 0 a.before b.before a.faulty b.faulty a.after b.after a.entries b.entries field place (sym a.rows ∙ b.rows) a.right.each b.right.each (omega (arith, a.right.few)) (omega (arith, b.right.few))
+        (subst (λ (n : ℕ). IsFirstBadField n a.faulty field) (behind_none a.entries) a.bad) (subst (λ (n : ℕ). IsFirstBadField n b.faulty place) (behind_none b.entries) b.bad) in
     let same : length a.before ≡ length b.before = both.0 in
     let at : row ≡ length a.before + 1 = a.number in
     let at' : other ≡ length b.before + 1 = b.number in
     (omega arith, both.1)
 
-pub one_lane : (bytes : List ℕ) (lanes : List Lane) → Reads bytes lanes → (lines : List Line) × (lanes ≡ lane_of 1 lines) × All IsScriptLine lines
+pub one_lane : (bytes : List ℕ) (lanes : List Lane) → Reads bytes lanes → (lines : List Line) × (lanes ≡ lane_of 1 lines) × All IsScriptLine lines × (valuations_in lines ≤ most_valuations)
 one_lane bytes lanes reads =
-    let lines = map (λ (entry : ClerkLine). entry.line) reads.entries in
-    (lines, reads.by_clerk ∙ ap lanes_of (entries_of_first (rows_of bytes) reads.entries reads.rows) ∙ lanes_of_first lines, All-from_recursion IsScriptLine lines (all_right (rows_of bytes) reads.entries reads.rows))
+    let lines = all_lines reads.entries in
+    (
+      lines,
+      reads.by_clerk ∙ ap lanes_of (entries_of_first (rows_of bytes) reads.entries reads.rows.each) ∙ lanes_of_first lines,
+      All-from_recursion IsScriptLine lines (all_right (rows_of bytes) reads.entries reads.rows.each),
+      reads.rows.few,
+    )

@@ -10,10 +10,13 @@ use Rattle.life_dates.specs.DayText.{day_text}
 use Rattle.money_core.specs.CentsText.{cents_text}
 use Rattle.command_csv.specs.declared.fields.Fields.{Fields}
 use Rattle.command_csv.specs.declared.kind.Kind.{Kind}
-use Rattle.command_csv.specs.declared.kind.Kind.TheVariants.{Issue, Premium, Alter, Lapse, Reinstate, Claim, Settle, Mature}
-use Rattle.command_csv.specs.Spelling.{plan_word}
+use Rattle.command_csv.specs.declared.kind.Kind.TheVariants.{Issue, Premium, Alter, Lapse, Reinstate, Claim, Settle, Mature, Value, Trim}
+use Rattle.policy_types.specs.declared.entry.At.{At}
+use Rattle.policy_types.specs.declared.entry.At.TheVariants.{Now}
+use Rattle.command_csv.specs.Spelling.{at_text, plan_word}
+use Rattle.command_csv.specs.Reads.{IsClerk, IsPosition, AreWorkers}
 use Rattle.command_csv.specs.inside.Cursor.{Took, Missed, StopsIn, left_of}
-use Rattle.command_csv.specs.inside.Forms.{Ends, Then, Amount, Reinstatement, PolicyAndDay, YearsOn, AgeOn, PlanOn, IsClerk, RowForm, kind_word, form_of, StopsAfter}
+use Rattle.command_csv.specs.inside.Forms.{Ends, Then, Amount, Reinstatement, PolicyAndDay, YearsOn, AgeOn, PlanOn, WorkersOn, PositionOn, ValuationOn, MayFollow, KindForm, RowForm, kind_word, form_of, StopsAfter}
 use Rattle.command_csv.proofs.Words.{plan_word_injective, kind_word_injective}
 
 -- what may follow one value may follow another of the same text
@@ -93,6 +96,12 @@ age_possible plan = then_possible IsIssueAge decimal (λ age. YearsOn plan age) 
 pub plan_possible : IsPossible PlanOn
 plan_possible = then_possible (λ (plan : Plan). ⊤) plan_word AgeOn Term tt (age_possible Term)
 
+pub workers_possible : IsPossible WorkersOn
+workers_possible = then_possible AreWorkers decimal (λ workers. Ends) 1 (lit≤ tt, lit≤ tt) end_possible
+
+pub position_possible : IsPossible PositionOn
+position_possible = then_possible IsPosition at_text (λ at. WorkersOn) Now tt workers_possible
+
 pub kind_possible : (kind : Kind) → IsPossible (form_of kind)
 kind_possible Issue = policy_possible PlanOn plan_possible
 kind_possible Premium = policy_possible (Amount Ends) (amount_possible Ends end_possible)
@@ -102,19 +111,21 @@ kind_possible Reinstate = policy_possible Reinstatement reinstatement_possible
 kind_possible Claim = policy_possible Ends end_possible
 kind_possible Settle = policy_possible (Amount Ends) (amount_possible Ends end_possible)
 kind_possible Mature = policy_possible Ends end_possible
+kind_possible Value = day_possible PositionOn position_possible
+kind_possible Trim = end_possible
 
-pub any_kind_possible : IsPossible (Then (λ (kind : Kind). ⊤) kind_word form_of)
-any_kind_possible = then_possible (λ (kind : Kind). ⊤) kind_word form_of Lapse tt (kind_possible Lapse)
+pub any_kind_possible : (valued : ℕ) → IsPossible (KindForm valued)
+any_kind_possible valued = then_possible (MayFollow valued) kind_word form_of Lapse tt (kind_possible Lapse)
 
-pub row_possible : IsPossible RowForm
-row_possible = then_possible IsClerk decimal (λ clerk. Then (λ (kind : Kind). ⊤) kind_word form_of) 1 refl any_kind_possible
+pub row_possible : (valued : ℕ) → IsPossible (RowForm valued)
+row_possible valued = then_possible IsClerk decimal (λ clerk. KindForm valued) 1 (lit≤ tt, lit≤ tt) (any_kind_possible valued)
 
 -- where nothing rests on the value, anything carries
 pub carries_all : {X : Type 0} (Fits : X → Type 0) (text_of : X → List ℕ) (More : List (List ℕ) → Type 0) (x : X) → Carries Fits text_of (λ y. More) x
 carries_all Fits text_of More x = λ y fits same rest more. more
 
-pub kind_carries : (kind : Kind) → Carries (λ (other : Kind). ⊤) kind_word form_of kind
-kind_carries kind = λ other fits same rest more. subst (λ (k : Kind). form_of k rest) (sym (kind_word_injective kind other same)) more
+pub kind_carries : (valued : ℕ) (kind : Kind) → Carries (MayFollow valued) kind_word form_of kind
+kind_carries valued kind = λ other fits same rest more. subst (λ (k : Kind). form_of k rest) (sym (kind_word_injective kind other same)) more
 
 pub plan_carries : (plan : Plan) → Carries (λ (other : Plan). ⊤) plan_word AgeOn plan
 plan_carries plan = λ other fits same rest more. subst (λ (p : Plan). AgeOn p rest) (sym (plan_word_injective plan other same)) more
@@ -140,11 +151,14 @@ missed Fits text_of More old new p m = record {
   bad = stops Fits text_of More p.0 (left_of old) p.1 m.none;
 }
 
-pub took_clerk : {clerk : ℕ} {old mid new : Fields} → Took (IsClerk clerk) (decimal clerk) old mid → StopsIn (Then (λ (kind : Kind). ⊤) kind_word form_of) mid new → StopsIn RowForm old new
-took_clerk {clerk} {old} {mid} {new} t h = took IsClerk decimal (λ n. Then (λ (kind : Kind). ⊤) kind_word form_of) clerk old mid new (λ y fits same rest more. more) t h
+pub took_clerk : {valued clerk : ℕ} {old mid new : Fields} → Took (IsClerk clerk) (decimal clerk) old mid → StopsIn (KindForm valued) mid new → StopsIn (RowForm valued) old new
+took_clerk {valued} {clerk} {old} {mid} {new} t h = took IsClerk decimal (λ n. KindForm valued) clerk old mid new (carries_all IsClerk decimal (KindForm valued) clerk) t h
 
-pub took_kind : (kind : Kind) {old mid new : Fields} → Took ⊤ (kind_word kind) old mid → StopsIn (form_of kind) mid new → StopsIn (Then (λ (kind : Kind). ⊤) kind_word form_of) old new
-took_kind kind {old} {mid} {new} t h = took (λ (k : Kind). ⊤) kind_word form_of kind old mid new (kind_carries kind) t h
+pub took_kind : {valued : ℕ} (kind : Kind) {old mid new : Fields} → Took (MayFollow valued kind) (kind_word kind) old mid → StopsIn (form_of kind) mid new → StopsIn (KindForm valued) old new
+took_kind {valued} kind {old} {mid} {new} t h = took (MayFollow valued) kind_word form_of kind old mid new (kind_carries valued kind) t h
+
+pub took_position : (at : At) {old mid new : Fields} → Took (IsPosition at) (at_text at) old mid → StopsIn WorkersOn mid new → StopsIn PositionOn old new
+took_position at {old} {mid} {new} t h = took IsPosition at_text (λ a. WorkersOn) at old mid new (carries_all IsPosition at_text WorkersOn at) t h
 
 pub took_day : {More : List (List ℕ) → Type 0} {day : ℤ} {old mid new : Fields} → Took (IsCommandDay day) (day_text day) old mid → StopsIn More mid new → StopsIn (Then IsCommandDay day_text (λ day. More)) old new
 took_day {More} {day} {old} {mid} {new} t h = took IsCommandDay day_text (λ d. More) day old mid new (carries_all IsCommandDay day_text More day) t h
@@ -166,11 +180,17 @@ took_years plan age years {old} {mid} {new} t h =
 pub took_amount : {More : List (List ℕ) → Type 0} {cents : ℕ} {old mid new : Fields} → Took (IsAmount cents) (cents_text cents) old mid → StopsIn More mid new → StopsIn (Amount More) old new
 took_amount {More} {cents} {old} {mid} {new} t h = took IsAmount cents_text (λ c. More) cents old mid new (carries_all IsAmount cents_text More cents) t h
 
-pub no_clerk : {old new : Fields} → Missed IsClerk decimal old new → StopsIn RowForm old new
-no_clerk {old} {new} m = missed IsClerk decimal (λ n. Then (λ (kind : Kind). ⊤) kind_word form_of) old new row_possible m
+pub no_clerk : {valued : ℕ} {old new : Fields} → Missed IsClerk decimal old new → StopsIn (RowForm valued) old new
+no_clerk {valued} {old} {new} m = missed IsClerk decimal (λ n. KindForm valued) old new (row_possible valued) m
 
-pub no_kind : {old new : Fields} → Missed (λ (kind : Kind). ⊤) kind_word old new → StopsIn (Then (λ (kind : Kind). ⊤) kind_word form_of) old new
-no_kind {old} {new} m = missed (λ (k : Kind). ⊤) kind_word form_of old new any_kind_possible m
+pub no_kind : {valued : ℕ} {old new : Fields} → Missed (MayFollow valued) kind_word old new → StopsIn (KindForm valued) old new
+no_kind {valued} {old} {new} m = missed (MayFollow valued) kind_word form_of old new (any_kind_possible valued) m
+
+pub no_position : {old new : Fields} → Missed IsPosition at_text old new → StopsIn PositionOn old new
+no_position {old} {new} m = missed IsPosition at_text (λ a. WorkersOn) old new position_possible m
+
+pub no_workers : {old new : Fields} → Missed AreWorkers decimal old new → StopsIn WorkersOn old new
+no_workers {old} {new} m = missed AreWorkers decimal (λ w. Ends) old new workers_possible m
 
 pub no_id : {More : List (List ℕ) → Type 0} {old new : Fields} → IsPossible More → Missed IsId decimal old new → StopsIn (PolicyAndDay More) old new
 no_id {More} {old} {new} p m = missed IsId decimal (λ i. Then IsCommandDay day_text (λ day. More)) old new (policy_possible More p) m

@@ -6,17 +6,23 @@ use Rattle.std.proofs.lemmas.Bool.{cases_eq, cases_lt}
 use Rattle.std.proofs.lemmas.Int.{ints}
 use Rattle.policy_types.specs.declared.command.Plan.{Plan}
 use Rattle.policy_types.specs.declared.command.Plan.TheVariants.{Term, Whole, Endowment, Limited}
+use Rattle.policy_types.specs.declared.entry.At.{At}
+use Rattle.policy_types.specs.declared.entry.At.TheVariants.{Now, Position}
 use Rattle.policy_types.specs.declared.script.Lane.{Lane}
+use Rattle.policy_types.specs.Limits.{most_commands}
 use Rattle.policy_types.specs.Valid.{IsId, IsCommandDay, IsAmount, IsReinstatement, IsIssueAge, AreYears}
 use Rattle.life_dates.specs.DayText.{day_text}
 use Rattle.money_core.specs.CentsText.{cents_text}
 use Rattle.command_csv.specs.declared.kind.Kind.{Kind}
 use Rattle.command_csv.specs.declared.kind.Kind.TheVariants as kind
 use Rattle.command_csv.specs.Rows.{rows_of}
-use Rattle.command_csv.specs.Spelling.{ClerkLine, by_first, plan_word}
-use Rattle.command_csv.specs.Reads.{IsRowOf, IsFirstBadField, IsFirstFault, Reads, lanes_of}
-use Rattle.command_csv.specs.inside.Forms.{Ends, Then, Amount, Reinstatement, PolicyAndDay, YearsOn, AgeOn, PlanOn, IsClerk, RowForm, kind_word, form_of, StopsAfter}
-use Rattle.command_csv.proofs.Forms.{Carries, IsPossible, carries_all, kind_carries, plan_carries, age_carries, goes_on, stops, end_possible, amount_possible, reinstatement_possible, day_possible, policy_possible, years_possible, age_possible, plan_possible, any_kind_possible, row_possible}
+use Rattle.command_csv.specs.declared.row.ClerkLine.{ClerkLine}
+use Rattle.command_csv.specs.Spelling.{at_text, plan_word}
+use Rattle.command_csv.specs.Reads.{IsClerk, IsPosition, AreWorkers, IsRowOf, IsFirstBadField, IsFirstFault, Reads, all_lines, valuations_in, most_valuations, last_lane, lanes_of}
+use Rattle.command_csv.specs.inside.Cursor.{IsNextRow}
+use Rattle.command_csv.specs.inside.Forms.{Ends, Then, Amount, Reinstatement, PolicyAndDay, YearsOn, AgeOn, PlanOn, WorkersOn, PositionOn, ValuationOn, MayFollow, KindForm, RowForm, kind_word, form_of, StopsAfter}
+use Rattle.command_csv.proofs.Forms.{workers_possible, Carries, IsPossible, carries_all, kind_carries, plan_carries, age_carries, goes_on, stops, end_possible, amount_possible, reinstatement_possible, day_possible, policy_possible, years_possible, age_possible, plan_possible, position_possible, any_kind_possible, row_possible}
+use Rattle.command_csv.proofs.Clerks.{valuations-cons, room_counted}
 use Rattle.command_csv.proofs.Lines.{of_row_form, bad_field}
 use Rattle.command_csv.proofs.Words.{plan_by, plan_again, kind_by, kind_again}
 
@@ -77,7 +83,7 @@ decide Fits text_of n fits less word = elim (below Fits text_of word n fits) [
 ]
 
 clerk_decides : (word : List ℕ) → Decides IsClerk decimal word
-clerk_decides = decide IsClerk decimal 2 (λ x. cases_eq x 1) (λ x h. omega (arith, h))
+clerk_decides = decide IsClerk decimal (suc last_lane) (λ x. both (at_most 1 x) (at_most x last_lane)) (λ x h. omega (arith, h))
 
 id_decides : (word : List ℕ) → Decides IsId decimal word
 id_decides = decide IsId decimal 4294967296 (λ x. both (at_most 1 x) (at_most x 4294967295)) (λ x h. omega (arith, h))
@@ -112,11 +118,46 @@ plan_decides word = elim (same_text word (plan_word (plan_by (get_or word 0 0)))
   | inr other ↦ inr (λ plan h e. other (e ∙ ap plan_word (sym (ap (λ (w : List ℕ). plan_by (get_or w 0 0)) e ∙ plan_again plan))))
 ]
 
-kind_decides : (word : List ℕ) → Decides (λ (k : Kind). ⊤) kind_word word
-kind_decides word = elim (same_text word (kind_word (kind_by (get_or word 0 0)))) [
-  | inl e ↦ inl (kind_by (get_or word 0 0), tt, e)
-  | inr other ↦ inr (λ k h e. other (e ∙ ap kind_word (sym (ap (λ (w : List ℕ). kind_by (get_or w 0 0)) e ∙ kind_again k))))
-]
+may_follow : (valued : ℕ) (k : Kind) → MayFollow valued k ⊎ (MayFollow valued k → ⊥)
+may_follow valued kind.Value = elim (cases_lt valued most_valuations) [ inl less ↦ inl less | inr more ↦ inr (λ h. omega (arith, more, h)) ]
+may_follow valued kind.Issue = inl tt
+may_follow valued kind.Premium = inl tt
+may_follow valued kind.Alter = inl tt
+may_follow valued kind.Lapse = inl tt
+may_follow valued kind.Reinstate = inl tt
+may_follow valued kind.Claim = inl tt
+may_follow valued kind.Settle = inl tt
+may_follow valued kind.Mature = inl tt
+may_follow valued kind.Trim = inl tt
+
+kind_decides : (valued : ℕ) (word : List ℕ) → Decides (MayFollow valued) kind_word word
+kind_decides valued word = by (may_follow valued there) (same_text word (kind_word there))
+  where
+    there : Kind
+    there = kind_by (get_or word 0 0)
+    only : (k : Kind) → word ≡ kind_word k → k ≡ there
+    only k e = sym (ap (λ (w : List ℕ). kind_by (get_or w 0 0)) e ∙ kind_again k)
+    by : MayFollow valued there ⊎ (MayFollow valued there → ⊥) → (word ≡ kind_word there) ⊎ (word ≡ kind_word there → ⊥) → Decides (MayFollow valued) kind_word word
+    by (inl room) (inl e) = inl (there, room, e)
+    by (inr full) e = inr (λ k h e. full (subst (MayFollow valued) (only k e) h))
+    by (inl room) (inr other) = inr (λ k h e. other (e ∙ ap kind_word (only k e)))
+
+count_decides : (word : List ℕ) → Decides (λ n. n ≤ most_commands) decimal word
+count_decides = decide (λ n. n ≤ most_commands) decimal (suc most_commands) (λ x. at_most x most_commands) (λ x h. omega (arith, h))
+
+position_decides : (word : List ℕ) → Decides IsPosition at_text word
+position_decides word = by (same_text word (at_text Now)) (count_decides word)
+  where
+    none : (word ≡ at_text Now → ⊥) → ((n : ℕ) → n ≤ most_commands → word ≢ decimal n) → (at : At) → IsPosition at → word ≢ at_text at
+    none other bad Now h = other
+    none other bad (Position n) h = bad n h
+    by : (word ≡ at_text Now) ⊎ (word ≡ at_text Now → ⊥) → Decides (λ n. n ≤ most_commands) decimal word → Decides IsPosition at_text word
+    by (inl e) count = inl (Now, tt, e)
+    by (inr other) (inl found) = inl (Position found.0, found.1, found.2)
+    by (inr other) (inr bad) = inr (none other bad)
+
+workers_decide : (word : List ℕ) → Decides AreWorkers decimal word
+workers_decide = decide AreWorkers decimal 65 (λ x. both (at_most 1 x) (at_most x 64)) (λ x h. omega (arith, h))
 
 -- the n-th day after 1900-01-01
 abbrev day_after : ℕ → ℤ
@@ -202,6 +243,12 @@ judge_age plan = judge IsIssueAge decimal (λ age. YearsOn plan age) age_decides
 judge_plan : (fields : List (List ℕ)) → Judges PlanOn fields
 judge_plan = judge (λ (plan : Plan). ⊤) plan_word AgeOn plan_decides plan_possible (λ plan h. plan_carries plan) (λ plan h. judge_age plan)
 
+judge_workers : (fields : List (List ℕ)) → Judges WorkersOn fields
+judge_workers = judge AreWorkers decimal (λ workers. Ends) workers_decide workers_possible (λ x h. carries_all AreWorkers decimal Ends x) (λ x h. judge_end)
+
+judge_position : (fields : List (List ℕ)) → Judges PositionOn fields
+judge_position = judge IsPosition at_text (λ at. WorkersOn) position_decides position_possible (λ x h. carries_all IsPosition at_text WorkersOn x) (λ x h. judge_workers)
+
 judge_kind : (k : Kind) (fields : List (List ℕ)) → Judges (form_of k) fields
 judge_kind kind.Issue = judge_policy PlanOn plan_possible judge_plan
 judge_kind kind.Premium = judge_policy (Amount Ends) (amount_possible Ends end_possible) one_amount
@@ -211,54 +258,78 @@ judge_kind kind.Reinstate = judge_policy Reinstatement reinstatement_possible ju
 judge_kind kind.Claim = judge_policy Ends end_possible judge_end
 judge_kind kind.Settle = judge_policy (Amount Ends) (amount_possible Ends end_possible) one_amount
 judge_kind kind.Mature = judge_policy Ends end_possible judge_end
+judge_kind kind.Value = judge_day PositionOn position_possible judge_position
+judge_kind kind.Trim = judge_end
 
-judge_row : (fields : List (List ℕ)) → Judges RowForm fields
-judge_row =
-    judge IsClerk decimal (λ clerk. Then (λ (k : Kind). ⊤) kind_word form_of) clerk_decides row_possible (λ x h. λ y fits same rest more. more)
-    (λ x h. judge (λ (k : Kind). ⊤) kind_word form_of kind_decides any_kind_possible (λ k t. kind_carries k) (λ k t. judge_kind k))
+judge_row : (valued : ℕ) (fields : List (List ℕ)) → Judges (RowForm valued) fields
+judge_row valued =
+    judge IsClerk decimal (λ clerk. KindForm valued) clerk_decides (row_possible valued) (λ x h. carries_all IsClerk decimal (KindForm valued) x)
+    (λ x h. judge (MayFollow valued) kind_word form_of (kind_decides valued) (any_kind_possible valued) (λ k t. kind_carries valued k) (λ k t. judge_kind k))
 
--- all rows are lines', or a first one isn't
-record Stops (rows : List (List (List ℕ))) : Type 0 where
+-- behind so many valuations all rows are lines'
+record Goes (valued : ℕ) (rows : List (List (List ℕ))) : Type 0 where
+  entries : List ClerkLine
+  right : AllZip IsRowOf rows entries
+  few : valued + valuations_in (all_lines entries) ≤ most_valuations
+
+-- or a first one isn't
+record Stops (valued : ℕ) (rows : List (List (List ℕ))) : Type 0 where
   before : List (List (List ℕ))
   faulty : List (List ℕ)
   after : List (List (List ℕ))
   split : rows ≡ before ++ faulty ∷ after
-  entries : List ClerkLine
-  right : AllZip IsRowOf before entries
+  goes : Goes valued before
   field : ℕ
-  bad : IsFirstBadField faulty field
+  bad : IsFirstBadField (valued + valuations_in (all_lines goes.entries)) faulty field
 
-judge_rows : (rows : List (List (List ℕ))) → ((entries : List ClerkLine) × AllZip IsRowOf rows entries) ⊎ Stops rows
-judge_rows [] = inl ([], tt)
-judge_rows (row ∷ rows) = on (judge_row row) (judge_rows rows)
+-- one more row before those that go
+one_before : (valued : ℕ) (row : List (List ℕ)) (rows : List (List (List ℕ))) (entry : ClerkLine) → IsRowOf row entry → Goes (valued + valuations_in (entry.line ∷ [])) rows → Goes valued (row ∷ rows)
+one_before valued row rows entry is g = record {
+  entries = entry ∷ g.entries;
+  right = (is, g.right);
+  few = omega (arith, g.few, valuations-cons entry.line (all_lines g.entries));
+}
+
+judge_rows : (valued : ℕ) → valued ≤ most_valuations → (rows : List (List (List ℕ))) → Goes valued rows ⊎ Stops valued rows
+unfolding one_before
+judge_rows valued few [] = inl (record { entries = []; right = tt; few = omega (arith, few) })
+judge_rows valued few (row ∷ rows) = on (judge_row valued row) (λ n h. judge_rows n h rows)
   where
-    on : Judges RowForm row → ((entries : List ClerkLine) × AllZip IsRowOf rows entries) ⊎ Stops rows → ((entries : List ClerkLine) × AllZip IsRowOf (row ∷ rows) entries) ⊎ Stops (row ∷ rows)
-    on (inr bad) rest = inr (record {
-      before = [];
-      faulty = row;
-      after = rows;
-      split = refl;
-      entries = [];
-      right = tt;
-      field = bad.0 + 1;
-      bad = bad_field row bad.0 (bad.0 + 1) refl bad.1;
-    })
-    on (inl right) (inl all) = let line = of_row_form row right in inl (by_first line.0 ∷ all.0, (line.1, all.1))
-    on (inl right) (inr s) = let line = of_row_form row right in inr (record {
-      before = row ∷ s.before;
-      faulty = s.faulty;
-      after = s.after;
-      split = ap (λ (xs : List (List (List ℕ))). row ∷ xs) s.split;
-      entries = by_first line.0 ∷ s.entries;
-      right = (line.1, s.right);
-      field = s.field;
-      bad = s.bad;
-    })
+    behind : (entry : ClerkLine) → IsRowOf row entry → Goes (valued + valuations_in (entry.line ∷ [])) rows ⊎ Stops (valued + valuations_in (entry.line ∷ [])) rows → Goes valued (row ∷ rows) ⊎ Stops valued (row ∷ rows)
+    behind entry is (inl g) = inl (one_before valued row rows entry is g)
+    behind entry is (inr s) =
+        let count : valued + valuations_in (entry.line ∷ []) + valuations_in (all_lines s.goes.entries) ≡ valued + valuations_in (entry.line ∷ all_lines s.goes.entries) = omega (arith, valuations-cons entry.line (all_lines s.goes.entries)) in
+        inr (record {
+          before = row ∷ s.before;
+          faulty = s.faulty;
+          after = s.after;
+          split = ap (λ (xs : List (List (List ℕ))). row ∷ xs) s.split;
+          goes = one_before valued row s.before entry is s.goes;
+          field = s.field;
+          bad = subst (λ (n : ℕ). IsFirstBadField n s.faulty s.field) count s.bad;
+        })
+    on : Judges (RowForm valued) row → ((n : ℕ) → n ≤ most_valuations → Goes n rows ⊎ Stops n rows) → Goes valued (row ∷ rows) ⊎ Stops valued (row ∷ rows)
+    on (inr bad) rest =
+        let none : valued ≡ valued + 0 = omega arith in
+        inr (record {
+          before = [];
+          faulty = row;
+          after = rows;
+          split = refl;
+          goes = record { entries = []; right = tt; few = omega (arith, few) };
+          field = bad.0 + 1;
+          bad = subst (λ (n : ℕ). IsFirstBadField n row (bad.0 + 1)) none (bad_field valued row bad.0 (bad.0 + 1) refl bad.1);
+        })
+    on (inl right) rest =
+        let found = of_row_form valued row right in
+        behind found.0 found.1.is (rest (valued + valuations_in (found.0.line ∷ [])) (room_counted valued found.0.line few found.1.room))
 
 pub judged : (bytes : List ℕ) → ((lanes : List Lane) × Reads bytes lanes) ⊎ ((row : ℕ) × ((field : ℕ) × IsFirstFault bytes row field))
-judged bytes = elim (judge_rows (rows_of bytes)) [
-  | inl all ↦ inl (lanes_of all.0, record { entries = all.0; rows = all.1; by_clerk = refl })
-  | inr s ↦ inr (
+judged bytes = elim (judge_rows 0 (omega arith) (rows_of bytes)) [
+  | inl g ↦ inl (lanes_of g.entries, record { entries = g.entries; rows = record { each = g.right; few = omega (arith, g.few) }; by_clerk = refl })
+  | inr s ↦
+    let none : 0 + valuations_in (all_lines s.goes.entries) ≡ valuations_in (all_lines s.goes.entries) = omega arith in
+    inr (
     length s.before + 1,
     (
       s.field,
@@ -268,9 +339,9 @@ judged bytes = elim (judge_rows (rows_of bytes)) [
         after = s.after;
         rows = s.split;
         number = refl;
-        entries = s.entries;
-        right = s.right;
-        bad = s.bad;
+        entries = s.goes.entries;
+        right = record { each = s.goes.right; few = omega (arith, s.goes.few) };
+        bad = subst (λ (n : ℕ). IsFirstBadField n s.faulty s.field) none s.bad;
       },
     ),
   )

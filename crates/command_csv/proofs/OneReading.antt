@@ -2,14 +2,18 @@
 use Rattle.std.proofs.Common.{◌≡◌, ℕ, ◌≤◌, cond, Bool, true, false, List, [], ◌∷◌, Some, take, refl, ap, sym, ◌∙◌, subst, arith, lit≤, ℤ}
 use Rattle.std.specs.Prelude.{decimal, ◌==◌, ◌||◌}
 use Rattle.std.specs.List.{AllZip}
-use Rattle.std.proofs.lemmas.Fmt.{decimal_injective}
+use Rattle.std.specs.Str.Parse.{AllDigits}
+use Rattle.std.proofs.lemmas.Fmt.{decimal_injective, decimal_is_IsNumeral}
+use Rattle.std.proofs.lemmas.Str.Parse.{digit_from_value}
 use Rattle.std.proofs.lemmas.List.{append-nil}
 use Rattle.policy_types.specs.declared.command.Command.{Command}
 use Rattle.policy_types.specs.declared.command.Command.TheVariants as command
 use Rattle.policy_types.specs.declared.command.Plan.{Plan}
 use Rattle.policy_types.specs.declared.command.Plan.TheVariants.{Term}
 use Rattle.policy_types.specs.declared.script.Line.{Line}
-use Rattle.policy_types.specs.declared.script.Line.TheVariants.{Post}
+use Rattle.policy_types.specs.declared.entry.At.{At}
+use Rattle.policy_types.specs.declared.entry.At.TheVariants.{Now, Position}
+use Rattle.policy_types.specs.declared.script.Line.TheVariants.{Post, Value, Trim}
 use Rattle.policy_types.specs.declared.script.Lane.{Lane}
 use Rattle.policy_types.specs.Valid.{IsValid, IsId, id_of, day_of}
 use Rattle.life_dates.specs.Calendar.{IsDay, days_in_month, is_leap_year, day_number}
@@ -20,10 +24,11 @@ use Rattle.money_core.proofs.CentsTextLemmas.{cents_text_injective}
 use Rattle.command_csv.specs.declared.kind.Kind.{Kind}
 use Rattle.command_csv.specs.declared.kind.Kind.TheVariants as kind
 use Rattle.command_csv.specs.Rows.{rows_of}
-use Rattle.command_csv.specs.Spelling.{ClerkLine, command_fields, line_fields}
-use Rattle.command_csv.specs.Reads.{IsScriptLine, IsRowOf, Reads, lanes_of}
+use Rattle.command_csv.specs.declared.row.ClerkLine.{ClerkLine}
+use Rattle.command_csv.specs.Spelling.{at_text, command_fields, line_fields}
+use Rattle.command_csv.specs.Reads.{IsPosition, IsScriptLine, IsRowOf, Reads, lanes_of}
 use Rattle.command_csv.proofs.FieldTexts.{term_day, years_within}
-use Rattle.command_csv.proofs.Lines.{kind_in, one_kind}
+use Rattle.command_csv.proofs.Lines.{kind_in, kind_of, one_kind}
 use Rattle.command_csv.proofs.Words.{plan_word_injective}
 
 chosen_at_most : (test : Bool) (x y : ℕ) → x ≤ 31 → y ≤ 31 → cond test x y ≤ 31
@@ -82,16 +87,16 @@ premium_in (command.Issue id day plan age years amount premium) = premium
 premium_in (command.Alter id day amount premium) = premium
 premium_in _ = 0
 
--- the command of a kind, of what it may hold
+-- the command of a kind, of what it may hold; a kind of no posting stands for a lapse
 made : Kind → ℕ → ℤ → Plan → ℕ → ℕ → ℕ → ℕ → Command
 made kind.Issue id day plan age years amount premium = command.Issue id day plan age years amount premium
 made kind.Premium id day plan age years amount premium = command.Premium id day amount
 made kind.Alter id day plan age years amount premium = command.Alter id day amount premium
-made kind.Lapse id day plan age years amount premium = command.Lapse id day
 made kind.Reinstate id day plan age years amount premium = command.Reinstate id day amount
 made kind.Claim id day plan age years amount premium = command.Claim id day
 made kind.Settle id day plan age years amount premium = command.Settle id day amount
 made kind.Mature id day plan age years amount premium = command.Mature id day
+made _ id day plan age years amount premium = command.Lapse id day
 
 made_again : (c : Command) → c ≡ made (kind_in c) (id_of c) (day_of c) (plan_in c) (age_in c) (years_in c) (amount_in c) (premium_in c)
 unfolding plan_in age_in years_in amount_in premium_in made
@@ -130,10 +135,6 @@ one_made kind.Alter id id' day day' plan plan' age age' years years' amount amou
     let m : amount ≡ amount' = same_cents amount amount' (omega (arith, h.2)) (omega (arith, k.2)) cc in
     let r : premium ≡ premium' = same_cents premium premium' (omega (arith, h.3)) (omega (arith, k.3)) cc in
     cc
-one_made kind.Lapse id id' day day' plan plan' age age' years years' amount amount' premium premium' h k e =
-    let i : id ≡ id' = same_id id id' h.0 k.0 cc in
-    let d : day ≡ day' = day_text_injective day day' h.1 k.1 cc in
-    cc
 one_made kind.Reinstate id id' day day' plan plan' age age' years years' amount amount' premium premium' h k e =
     let i : id ≡ id' = same_id id id' h.0 k.0 cc in
     let d : day ≡ day' = day_text_injective day day' h.1 k.1 cc in
@@ -152,10 +153,14 @@ one_made kind.Mature id id' day day' plan plan' age age' years years' amount amo
     let i : id ≡ id' = same_id id id' h.0 k.0 cc in
     let d : day ≡ day' = day_text_injective day day' h.1 k.1 cc in
     cc
+one_made _ id id' day day' plan plan' age age' years years' amount amount' premium premium' h k e =
+    let i : id ≡ id' = same_id id id' h.0 k.0 cc in
+    let d : day ≡ day' = day_text_injective day day' h.1 k.1 cc in
+    cc
 
 one_command : (a b : Command) → IsValid a → IsValid b → command_fields a ≡ command_fields b → a ≡ b
 one_command a b h k e =
-    let kinds : kind_in a ≡ kind_in b = one_kind a b [] (ap (take 1) (append-nil (command_fields a) ∙ e)) in
+    let kinds : kind_in a ≡ kind_in b = one_kind (Post a) (Post b) [] (ap (take 1) (append-nil (command_fields a) ∙ e)) in
     let one = made_again a in
     let two : b ≡ made (kind_in a) (id_of b) (day_of b) (plan_in b) (age_in b) (years_in b) (amount_in b) (premium_in b) =
     made_again b ∙ ap (λ (x : Kind). made x (id_of b) (day_of b) (plan_in b) (age_in b) (years_in b) (amount_in b) (premium_in b)) (sym kinds) in
@@ -163,16 +168,58 @@ one_command a b h k e =
     one ∙ one_made (kind_in a) (id_of a) (id_of b) (day_of a) (day_of b) (plan_in a) (plan_in b) (age_in a) (age_in b) (years_in a) (years_in b) (amount_in a) (amount_in b) (premium_in a) (premium_in b)
     (subst P one h) (subst P two k) (ap command_fields (sym one) ∙ e ∙ ap command_fields two) ∙ sym two
 
-one_line : (a b : Line) → IsScriptLine a → IsScriptLine b → line_fields a ≡ line_fields b → a ≡ b
-one_line (Post a) (Post b) h k e = ap (λ (c : Command). Post c) (one_command a b h k e)
-one_line (Post a) _ h k e = absurd k
-one_line _ _ h k e = absurd h
+-- no posting is of the other kinds
+abbrev is_posting : Kind → Type 0
+is_posting kind.Value = ⊥
+is_posting kind.Trim = ⊥
+is_posting _ = Unit {0}
 
-one_entry : (row : List (List ℕ)) (a b : ClerkLine) → IsRowOf row a → IsRowOf row b → a ≡ b
+posting : (c : Command) → is_posting (kind_in c)
+posting (command.Issue id day plan age years amount premium) = tt
+posting (command.Premium id day amount) = tt
+posting (command.Alter id day amount premium) = tt
+posting (command.Lapse id day) = tt
+posting (command.Reinstate id day amount) = tt
+posting (command.Claim id day) = tt
+posting (command.Settle id day amount) = tt
+posting (command.Mature id day) = tt
+
+no_posting : (c : Command) (k : Kind) → (is_posting k → ⊥) → kind_in c ≡ k → ⊥
+no_posting c k none e = none (subst is_posting e (posting c))
+
+-- a position's digits aren't a word
+now_differs : (n : ℕ) → n ≤ 4000000 → at_text Now ≡ decimal n → ⊥
+now_differs n h e = omega (arith, digit_from_value 110 (subst (AllDigits 10) (sym e) (decimal_is_IsNumeral n (omega (arith, h))).0.1).0)
+
+one_position : (a b : At) → IsPosition a → IsPosition b → at_text a ≡ at_text b → a ≡ b
+one_position Now Now h k e = refl
+one_position Now (Position n) h k e = absurd (now_differs n k e)
+one_position (Position n) Now h k e = absurd (now_differs n h (sym e))
+one_position (Position n) (Position m) h k e = ap (λ (p : ℕ). Position p) (decimal_injective n m (omega (arith, h)) (omega (arith, k)) e)
+
+one_line : (a b : Line) → IsScriptLine a → IsScriptLine b → line_fields a ≡ line_fields b → a ≡ b
+one_line a b h k e = by a b h k e (one_kind a b [] (ap (take 1) (append-nil (line_fields a) ∙ e)))
+  where
+    by : (a b : Line) → IsScriptLine a → IsScriptLine b → line_fields a ≡ line_fields b → kind_of a ≡ kind_of b → a ≡ b
+    by (Post a) (Post b) h k e kinds = ap (λ (c : Command). Post c) (one_command a b h k e)
+    by (Value on at workers) (Value on' at' workers') h k e kinds =
+        let d : on ≡ on' = day_text_injective on on' h.0 k.0 cc in
+        let p : at ≡ at' = one_position at at' h.1 k.1 cc in
+        let w : workers ≡ workers' = decimal_injective workers workers' (omega (arith, h.2)) (omega (arith, k.2)) cc in
+        cc
+    by Trim Trim h k e kinds = refl
+    by (Post a) (Value on at workers) h k e kinds = absurd (no_posting a kind.Value (λ h. h) kinds)
+    by (Post a) Trim h k e kinds = absurd (no_posting a kind.Trim (λ h. h) kinds)
+    by (Value on at workers) (Post b) h k e kinds = absurd (no_posting b kind.Value (λ h. h) (sym kinds))
+    by Trim (Post b) h k e kinds = absurd (no_posting b kind.Trim (λ h. h) (sym kinds))
+    by (Value on at workers) Trim h k e kinds = cc
+    by Trim (Value on at workers) h k e kinds = cc
+
+pub one_entry : (row : List (List ℕ)) (a b : ClerkLine) → IsRowOf row a → IsRowOf row b → a ≡ b
 one_entry row a b h k =
     let whole : decimal a.clerk ∷ line_fields a.line ≡ decimal b.clerk ∷ line_fields b.line = sym h.spelled ∙ k.spelled in
     let line : a.line ≡ b.line = one_line a.line b.line h.allowed.right k.allowed.right cc in
-    let clerk : a.clerk ≡ b.clerk = h.allowed.first_clerk ∙ sym k.allowed.first_clerk in
+    let clerk : a.clerk ≡ b.clerk = decimal_injective a.clerk b.clerk (omega (arith, h.allowed.clerk_in)) (omega (arith, k.allowed.clerk_in)) cc in
     let made : ℕ → Line → ClerkLine = λ n l. record { clerk = n; line = l } in
     let first : made a.clerk a.line ≡ made b.clerk b.line = cc in
     first
@@ -189,4 +236,4 @@ one_list (row ∷ rows) (x ∷ xs) (y ∷ ys) h k =
     cc
 
 pub one_reading : (bytes : List ℕ) (lanes others : List Lane) → Reads bytes lanes → Reads bytes others → lanes ≡ others
-one_reading bytes lanes others a b = a.by_clerk ∙ ap lanes_of (one_list (rows_of bytes) a.entries b.entries a.rows b.rows) ∙ sym b.by_clerk
+one_reading bytes lanes others a b = a.by_clerk ∙ ap lanes_of (one_list (rows_of bytes) a.entries b.entries a.rows.each b.rows.each) ∙ sym b.by_clerk

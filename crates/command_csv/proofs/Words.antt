@@ -4,7 +4,7 @@ use Rattle.std.specs.Prelude.{if◌then◌else◌, ◌==◌}
 use Rattle.policy_types.specs.declared.command.Plan.{Plan}
 use Rattle.policy_types.specs.declared.command.Plan.TheVariants.{Term, Whole, Endowment, Limited}
 use Rattle.command_csv.specs.declared.kind.Kind.{Kind}
-use Rattle.command_csv.specs.declared.kind.Kind.TheVariants.{Issue, Premium, Alter, Lapse, Reinstate, Claim, Settle, Mature}
+use Rattle.command_csv.specs.declared.kind.Kind.TheVariants.{Issue, Premium, Alter, Lapse, Reinstate, Claim, Settle, Mature, Value, Trim}
 use Rattle.command_csv.specs.Spelling.{plan_word}
 use Rattle.command_csv.specs.inside.Forms.{kind_word}
 
@@ -25,7 +25,8 @@ plan_word_injective plan other e = sym (plan_again plan) ∙ ap (λ (word : List
 abbrev pub kind_by : ℕ → Kind
 kind_by letter =
     if letter == 105 then Issue else if letter == 112 then Premium else if letter == 97 then Alter else if letter == 108 then Lapse
-    else if letter == 114 then Reinstate else if letter == 99 then Claim else if letter == 115 then Settle else Mature
+    else if letter == 114 then Reinstate else if letter == 99 then Claim else if letter == 115 then Settle else if letter == 109 then Mature
+    else if letter == 118 then Value else Trim
 
 pub kind_again : (kind : Kind) → kind_by (get_or (kind_word kind) 0 0) ≡ kind
 kind_again Issue = refl
@@ -36,6 +37,8 @@ kind_again Reinstate = refl
 kind_again Claim = refl
 kind_again Settle = refl
 kind_again Mature = refl
+kind_again Value = refl
+kind_again Trim = refl
 
 pub kind_word_injective : (kind other : Kind) → kind_word kind ≡ kind_word other → kind ≡ other
 kind_word_injective kind other e = sym (kind_again kind) ∙ ap (λ (word : List ℕ). kind_by (get_or word 0 0)) e ∙ kind_again other

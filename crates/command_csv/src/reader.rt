@@ -19,7 +19,7 @@ pub fn read_script(alloc: Global, bytes: &[u8]) -> Result<Script, ScriptFault>
     ensures fault { IfErr result (HasCause bytes.now) }
 {
     let entries = read_lines(alloc, bytes)?;
-    script_of(alloc, &entries)
+    script_of(alloc, entries.as_slice())
 }
 
 // The lines of all rows.

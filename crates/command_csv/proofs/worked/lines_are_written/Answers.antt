@@ -38,3 +38,15 @@ returns-clause-settle c = says_one _ _ refl ((lit≤ tt, lit≤ tt), (omega (ari
 pub returns-clause-mature : goal.returns-clause-mature
 unfolding csv_on_literals digits day_text date_of date_at year_of month_of days_before days_before_year days_of_months
 returns-clause-mature c = says_one _ _ refl ((lit≤ tt, lit≤ tt), (omega (arith, ints), omega (arith, ints)))
+
+pub returns-clause-value : goal.returns-clause-value
+unfolding csv_on_literals digits day_text date_of date_at year_of month_of days_before days_before_year days_of_months
+returns-clause-value c = says_one _ _ refl ((omega (arith, ints), omega (arith, ints)), tt, (lit≤ tt, lit≤ tt))
+
+pub returns-clause-value_at : goal.returns-clause-value_at
+unfolding csv_on_literals digits day_text date_of date_at year_of month_of days_before days_before_year days_of_months
+returns-clause-value_at c = says_one _ _ refl ((omega (arith, ints), omega (arith, ints)), lit≤ tt, (lit≤ tt, lit≤ tt))
+
+pub returns-clause-trim : goal.returns-clause-trim
+unfolding csv_on_literals digits day_text date_of date_at year_of month_of days_before days_before_year days_of_months
+returns-clause-trim c = says_one _ _ refl tt

@@ -1,5 +1,5 @@
 use Rattle.std.proofs.Common.{arith}
-use Rattle.command_csv.specs.inside.Forms.{IsClerk}
+use Rattle.command_csv.specs.Reads.{IsClerk}
 use Rattle.command_csv.proofs.FieldTexts.{number_missed}
 use Rattle.command_csv.proofs.fields.Fields.clerk.Goals as goal
 
