@@ -2,3 +2,4 @@ pub mod Growth
 pub mod RowSteps
 pub mod PinSteps
 pub mod PartSteps
+pub mod ValueSteps

@@ -37,7 +37,7 @@ next_part : {X : Type 0} (k : ℕ) (xs : List X)
     → take (policies_per_read * (k + 1)) xs ≡ take (policies_per_read * k) xs ++ take policies_per_read (drop (policies_per_read * k) xs)
 next_part k xs = ap (λ n. take n xs) (omega arith) ∙ take_parts (policies_per_read * k) policies_per_read xs
 
-length-reads_of : (pin policies : ℕ) → length (reads_of pin policies) ≡ reads_needed policies
+pub length-reads_of : (pin policies : ℕ) → length (reads_of pin policies) ≡ reads_needed policies
 length-reads_of pin policies =
     length-map (range_with_len 0 (reads_needed policies)) (λ k. Read pin (policies_per_read * k)) ∙ length-range_with_len 0 (reads_needed policies)
 
@@ -47,7 +47,7 @@ next_read pin policies k low =
     let here : k < length (reads_of pin policies) = omega (arith, low, length-reads_of pin policies) in
     take_more (reads_of pin policies) k (Read pin 0) here
     ∙ ap (λ call. take k (reads_of pin policies) ++ call ∷ [])
-        (get_or-map-range_with_len (λ n. Read pin (policies_per_read * n)) 0 (reads_needed policies) k k (Read pin 0) low (omega arith))
+    (get_or-map-range_with_len (λ n. Read pin (policies_per_read * n)) 0 (reads_needed policies) k k (Read pin 0) low (omega arith))
 
 -- a read within the policies
 pub starts_within : (policies k : ℕ) → k < reads_needed policies → policies_per_read * k ≤ policies

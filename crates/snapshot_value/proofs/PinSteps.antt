@@ -35,7 +35,7 @@ book_length commands =
     omega (arith, ids, same, length-issues commands)
 
 module _ {D : Type 0} where
-  policies_by : (pass : Holding (OfficeOpening D)) (opened : OfficeOpening D) (position : ℕ) → pass.opening ≡ Some opened
+  pub policies_by : (pass : Holding (OfficeOpening D)) (opened : OfficeOpening D) (position : ℕ) → pass.opening ≡ Some opened
       → policies_at pass position ≡ book_at opened.opening pass.seen position
   policies_by pass opened position is = rw is refl
 
@@ -101,7 +101,7 @@ module _ {D : Type 0} where
         read_holds facts.lawful.0.opening new.seen pin.number pin.position pin.policies (policies_per_read * k) entry facts.lawful.2.legal
         (_, holds.took, refl) (length (old.seen ++ takes.between), there) refl
         ∙ ap (λ policies. take policies_per_read (drop (policies_per_read * k) policies))
-            (sym (policies_by new facts.lawful.0 pin.position facts.lawful.1) ∙ same);
+        (sym (policies_by new facts.lawful.0 pin.position facts.lawful.1) ∙ same);
   }
     where
       entry : Entry

@@ -43,11 +43,16 @@ pub fn value<D: Disk, G: Gate, R: Wait>(
 {
     let _workers = workers;
     let Turned { turn, answer } = pin_as_asked(rt, office, pass, at);
-    let answer = match answer {
-        Ok(pin) => value_pin(rt, alloc, office, pass, pin, basis, on, lane, gate),
-        Err(refusal) => Err(ValueFault::Pin(refusal)),
-    };
-    Turned { turn, answer }
+    match answer {
+        Ok(pin) => Turned {
+            turn,
+            answer: value_pin(rt, alloc, office, pass, pin, basis, on, lane, gate),
+        },
+        Err(refusal) => Turned {
+            turn,
+            answer: Err(ValueFault::Pin(refusal)),
+        },
+    }
 }
 
 // Pins the newest position, or the one that is asked for.
