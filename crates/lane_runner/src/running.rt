@@ -16,11 +16,7 @@ use std::sync::Wait;
 use std::thread::{Threads, for_each_mut};
 
 // A lane's pass, and its answered lines.
-#[derive(Drop)]
-struct Seat<D: Disk> {
-    pass: OfficePass<D>,
-    lines: Vec<AnsweredLine>,
-}
+type Seat<D> = (OfficePass<D>, Vec<AnsweredLine>);
 
 // The memory for what lanes answer.
 #[derive(Drop)]
@@ -95,7 +91,7 @@ fn enter_all<D: Disk>(
 ) {
     for lines in rooms {
         let pass = office.enter(pass);
-        seats.push_reserved(Seat { pass, lines });
+        seats.push_reserved((pass, lines));
     }
 }
 
@@ -119,11 +115,11 @@ fn run_all<D: Disk + Send, G: Gate + Sync, R: Threads + Wait + Sync>(
                 rt,
                 alloc,
                 office,
-                &mut seat.pass,
+                &mut seat.0,
                 lane,
                 basis,
                 gate,
-                &mut seat.lines,
+                &mut seat.1,
             );
         },
     );
@@ -137,11 +133,7 @@ fn leave_all<D: Disk>(
     callers: &mut Vec<u64>,
     all: &mut Vec<AnsweredLine>,
 ) {
-    for seat in seats {
-        let Seat {
-            pass: gone,
-            mut lines,
-        } = seat;
+    for (gone, mut lines) in seats {
         callers.push_reserved(gone.caller());
         office.leave(gone, pass);
         let _ = all.append(&mut lines);

@@ -31,8 +31,8 @@ turns_needed (line ∷ lines) = turns_for line + turns_needed lines
 pub record HasAnswered {D : Type 0} (basis : List Dated) (clerk : ℕ) (line : Line) (old new : Holding (OfficeOpening D))
     (told : TranscriptLine) : Type 0 where
   pub answered : AnsweredLine
-  pub clerk : answered.clerk ≡ clerk
-  pub line : answered.line ≡ line
+  pub lane : answered.clerk ≡ clerk
+  pub asked : answered.line ≡ line
   pub grows : Grows old new (turns_in answered)
   pub few : length (turns_in answered) ≤ turns_for line
   pub answers : AnswersLine (dry_of (told ∷ [])) line (turns_in answered)
@@ -40,4 +40,4 @@ pub record HasAnswered {D : Type 0} (basis : List Dated) (clerk : ℕ) (line : L
   pub inside : answered.first.0 ≤ length new.seen
   pub opened : OfficeOpening D
   pub opening : new.opening ≡ Some opened
-  pub told : IsTold opened.opening new.seen basis answered told
+  pub tells : IsTold opened.opening new.seen basis answered told
