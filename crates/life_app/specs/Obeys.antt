@@ -26,14 +26,17 @@ pub record EndsScriptBy {D : Type 0} (g : Ghosts D) (old new : D) (lanes : List 
   pub is : IfSome shelf.files (λ files. IsBasis files name basis)
   pub ends : EndsScript g old new lanes basis output ending
 
--- How a script's run ends. Where no line asks for values, no basis is needed and the shelf stays; where one does and there
--- is no basis, the disk isn't touched.
+-- how a script's run ends that needs the basis of this name; where there is none, the disk isn't touched
+abbrev pub EndsByName : {D : Type 0} → Ghosts D → D → D → List Lane → List ℕ → Shelving → Stream → Ending → Type 0
+EndsByName g old new lanes name shelf output ending =
+    EndsScriptBy g old new lanes name shelf output ending ⊎ ((new ≡ old) × EndsNoBasis name shelf output ending)
+
+-- How a script's run ends. Where no line asks for values, no basis is needed and the shelf stays.
 abbrev pub EndsLanes : {D : Type 0} → Ghosts D → D → D → List Lane → List ℕ → Shelving → Stream → (ShelfStays : Type 0)
     → Ending → Type 0
 EndsLanes g old new lanes name shelf output ShelfStays ending =
     ((asks_for_values lanes ≡ false) × ShelfStays × EndsScript g old new lanes [] output ending)
-    ⊎ ((asks_for_values lanes ≡ true)
-    × (EndsScriptBy g old new lanes name shelf output ending ⊎ ((new ≡ old) × EndsNoBasis name shelf output ending)))
+    ⊎ ((asks_for_values lanes ≡ true) × EndsByName g old new lanes name shelf output ending)
 
 -- the input was read to its end as a script, whose run ended so
 pub record EndsRead {D : Type 0} (g : Ghosts D) (old new : D) (name : List ℕ) (input output : Stream) (shelf : Shelving)

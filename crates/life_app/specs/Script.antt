@@ -4,7 +4,7 @@ use Rattle.std.specs.List.{list_any}
 use Rattle.outside_io.specs.Faults.{Rose}
 use Rattle.policy_types.specs.declared.script.Lane.{Lane}
 use Rattle.command_csv.specs.Reads.{Reads, IsFirstFault}
-use Rattle.lane_runner.specs.Lanes.{is_value, lines_in}
+use Rattle.lane_runner.specs.Lanes.{is_value}
 use Rattle.life_app.specs.Writing.{Stream, WroteLine}
 use Rattle.life_app.specs.declared.ending.Ending.{Ending}
 use Rattle.life_app.specs.declared.ending.Ending.TheVariants.{BadScript, ReadFault, NoMemory}
@@ -18,7 +18,7 @@ IsReadAs script lanes = IfSome script (λ bytes. (length bytes ≤ most_script_b
 
 -- a line of a lane asks for values
 abbrev pub asks_for_values : List Lane → Bool
-asks_for_values lanes = list_any is_value (lines_in lanes)
+asks_for_values lanes = list_any (λ (lane : Lane). list_any is_value lane.lines) lanes
 
 abbrev pub IsReadable : Option (List ℕ) → Type 0
 IsReadable script = (lanes : List Lane) × IsReadAs script lanes

@@ -1,15 +1,14 @@
 // A run of a script: the basis is fetched where a line asks for values, the office is opened, each lane of the script is run
 // by a caller of its own, the office is closed, then the transcript is written.
-ghost use Rattle.std.specs.Prelude.{◌≡◌, ◌≤◌, ℕ, List, [], if◌then◌else◌, All, IfOk, length};
+ghost use Rattle.std.specs.Prelude.{◌≡◌, [], if◌then◌else◌, All, IfOk, length};
 ghost use Rattle.std.specs.List.{list_any};
-ghost use Rattle.command_csv.specs.Reads.{Reads};
 ghost use Rattle.lane_runner.specs.Lanes.{is_value, lines_in};
 ghost use Rattle.shared_office.specs.Offices.{IsOfficeHistory};
 ghost use Rattle.shared_office.specs.Starting.{HasStarted};
 ghost use Rattle.turn_lock.specs.Passes.{PassFacts};
-ghost use Rattle.life_app.specs.Obeys.{EndsLanes, EndsRun};
+ghost use Rattle.life_app.specs.Obeys.{EndsByName, EndsLanes, EndsRun};
 ghost use Rattle.life_app.specs.Outcome.{EndsScript};
-ghost use Rattle.life_app.specs.Script.{asks_for_values, most_script_bytes};
+ghost use Rattle.life_app.specs.Script.{asks_for_values};
 ghost use Rattle.life_app.specs.Writing.{between, shelf_between};
 ghost use Rattle.life_app.specs.inside.Parts.{AreScriptLanes};
 ghost use Rattle.life_app.specs.inside.Told.{EndsRan, EndsTold, IsWritable, any_faulted, any_lacked, has_faulted};
@@ -26,7 +25,7 @@ use basis_shelf::{NoBasis, fetch_basis};
 use indexmap::IndexMap;
 use lane_runner::{AnsweredLine, Outcome, Transcript, run_lanes};
 use outside_io::{Disk, Gate, Shelf, Sink, Source, write_all};
-use policy_types::{Lane, Line, NoMemory, Script};
+use policy_types::{Lane, Line, NoMemory};
 use shared_office::{Answer, Office, OfficeCalls, OfficePass, close};
 use std::alloc::Global;
 use std::sync::Wait;
@@ -57,7 +56,10 @@ pub fn run<R: Threads + Wait + Sync, S: Source, K: Sink, H: Shelf, D: Disk + Sen
     ensures files { H.files shelf.new ≡ H.files shelf.old }
 {
     match read_lanes(alloc, input) {
-        Ok(script) => run_script(rt, alloc, name, &script, output, shelf, disk, gate),
+        Ok(script) => {
+            let lanes = script.as_slice();
+            run_script(rt, alloc, name, lanes, output, shelf, disk, gate)
+        }
         Err(unread) => Finished {
             ending: refuse(alloc, unread, output),
             disk,
@@ -65,28 +67,47 @@ pub fn run<R: Threads + Wait + Sync, S: Source, K: Sink, H: Shelf, D: Disk + Sen
     }
 }
 
-// Runs a script, with the basis that it needs.
+// Runs the lanes of a script, with the basis that it needs.
 fn run_script<R: Threads + Wait + Sync, K: Sink, H: Shelf, D: Disk + Send, G: Gate + Sync>(
     rt: &R,
     alloc: Global,
     name: &Name,
-    script: &Script,
+    lanes: &[Lane],
     output: &mut K,
     shelf: &mut H,
     disk: D,
     gate: &G,
 ) -> Finished<D>
-    requires read { (bytes : List ℕ) × Reads bytes script.now × (length bytes ≤ most_script_bytes) }
-    ensures ends { EndsLanes D.Disk disk result.disk script.now name.now (shelf_between H.faults H.files shelf.old shelf.new)
+    requires lanes { AreScriptLanes lanes.now }
+    ensures ends { EndsLanes D.Disk disk result.disk lanes.now name.now (shelf_between H.faults H.files shelf.old shelf.new)
         (between K.faults K.written output.old output.new) (shelf.new ≡ shelf.old) result.ending }
     ensures files { H.files shelf.new ≡ H.files shelf.old }
 {
-    if !needs_basis(script.as_slice()) {
-        let basis = empty_basis(alloc);
-        return run_by(rt, alloc, script, &basis, output, disk, gate);
+    if needs_basis(lanes) {
+        return run_by_name(rt, alloc, name, lanes, output, shelf, disk, gate);
     }
+    let basis = empty_basis(alloc);
+    run_by(rt, alloc, lanes, &basis, output, disk, gate)
+}
+
+// Runs lanes by the basis of this name.
+fn run_by_name<R: Threads + Wait + Sync, K: Sink, H: Shelf, D: Disk + Send, G: Gate + Sync>(
+    rt: &R,
+    alloc: Global,
+    name: &Name,
+    lanes: &[Lane],
+    output: &mut K,
+    shelf: &mut H,
+    disk: D,
+    gate: &G,
+) -> Finished<D>
+    requires lanes { AreScriptLanes lanes.now }
+    ensures ends { EndsByName D.Disk disk result.disk lanes.now name.now (shelf_between H.faults H.files shelf.old shelf.new)
+        (between K.faults K.written output.old output.new) result.ending }
+    ensures files { H.files shelf.new ≡ H.files shelf.old }
+{
     match fetch_basis(alloc, name, shelf) {
-        Ok(basis) => run_by(rt, alloc, script, &basis, output, disk, gate),
+        Ok(basis) => run_by(rt, alloc, lanes, &basis, output, disk, gate),
         Err(cause) => Finished {
             ending: refuse_basis(alloc, cause, output),
             disk,
@@ -94,22 +115,22 @@ fn run_script<R: Threads + Wait + Sync, K: Sink, H: Shelf, D: Disk + Send, G: Ga
     }
 }
 
-// Runs a script by a basis.
+// Runs lanes by a basis.
 fn run_by<R: Threads + Wait + Sync, K: Sink, D: Disk + Send, G: Gate + Sync>(
     rt: &R,
     alloc: Global,
-    script: &Script,
+    lanes: &[Lane],
     basis: &Basis,
     output: &mut K,
     disk: D,
     gate: &G,
 ) -> Finished<D>
-    requires read { (bytes : List ℕ) × Reads bytes script.now × (length bytes ≤ most_script_bytes) }
-    ensures ends { EndsScript D.Disk disk result.disk script.now basis.now
+    requires lanes { AreScriptLanes lanes.now }
+    ensures ends { EndsScript D.Disk disk result.disk lanes.now basis.now
         (between K.faults K.written output.old output.new) result.ending }
 {
-    match Office::start(alloc, disk, count_lines(script.as_slice())) {
-        Ok((office, pass)) => run_office(rt, alloc, script, basis, office, pass, output, gate),
+    match Office::start(alloc, disk, count_lines(lanes)) {
+        Ok((office, pass)) => run_office(rt, alloc, lanes, basis, office, pass, output, gate),
         Err(fault) => Finished {
             ending: refuse_journal(alloc, fault.cause, output),
             disk: fault.disk,
@@ -121,31 +142,23 @@ fn run_by<R: Threads + Wait + Sync, K: Sink, D: Disk + Send, G: Gate + Sync>(
 fn run_office<R: Threads + Wait + Sync, K: Sink, D: Disk + Send, G: Gate + Sync>(
     rt: &R,
     alloc: Global,
-    script: &Script,
+    lanes: &[Lane],
     basis: &Basis,
     office: Office<D>,
     pass: OfficePass<D>,
     output: &mut K,
     gate: &G,
 ) -> Finished<D>
-    requires lanes { AreScriptLanes script.now }
+    requires lanes { AreScriptLanes lanes.now }
     requires ours { pass.turnstile ≡ office }
-    requires started { (old : D) × HasStarted D.Disk old (length (lines_in script.now)) pass }
+    requires started { (old : D) × HasStarted D.Disk old (length (lines_in lanes.now)) pass }
     requires facts { PassFacts IsOfficeHistory pass }
-    ensures ends { (old : D) → HasStarted D.Disk old (length (lines_in script.now)) pass
-        → EndsScript D.Disk old result.disk script.now basis.now
+    ensures ends { (old : D) → HasStarted D.Disk old (length (lines_in lanes.now)) pass
+        → EndsScript D.Disk old result.disk lanes.now basis.now
         (between K.faults K.written output.old output.new) result.ending }
 {
     let mut pass = pass;
-    let ran = run_lanes(
-        rt,
-        alloc,
-        &office,
-        &mut pass,
-        script.as_slice(),
-        basis,
-        gate,
-    );
+    let ran = run_lanes(rt, alloc, &office, &mut pass, lanes, basis, gate);
     let (disk, _) = close(office, pass);
     let ending = write_ran(alloc, ran, output);
     Finished { ending, disk }
@@ -187,19 +200,33 @@ fn ending_of(lines: &[AnsweredLine]) -> Ending
     ensures { result ≡ (if any_faulted lines.now then DiskFault
         else if any_lacked lines.now then NoRoom else Done) }
 {
-    if lines.iter().any(|line| faulted(&line.outcome)) {
+    if some_faulted(lines) {
         Ending::DiskFault
-    } else if lines.iter().any(|line| lacked(&line.outcome)) {
+    } else if some_lacked(lines) {
         Ending::NoMemory
     } else {
         Ending::Done
     }
 }
 
+// Whether the disk failed in a posting.
+fn some_faulted(lines: &[AnsweredLine]) -> bool
+    ensures { result ≡ any_faulted lines.now }
+{
+    lines.iter().any(|line| faulted(&line.outcome))
+}
+
 fn faulted(outcome: &Outcome) -> bool
     ensures { result ≡ has_faulted outcome.now }
 {
     matches!(*outcome, Outcome::Posted(Answer::DiskFault(_)))
+}
+
+// Whether a valuation found no memory.
+fn some_lacked(lines: &[AnsweredLine]) -> bool
+    ensures { result ≡ any_lacked lines.now }
+{
+    lines.iter().any(|line| lacked(&line.outcome))
 }
 
 fn lacked(outcome: &Outcome) -> bool
@@ -212,18 +239,15 @@ fn lacked(outcome: &Outcome) -> bool
 fn needs_basis(lanes: &[Lane]) -> bool
     ensures { result ≡ asks_for_values lanes.now }
 {
-    for lane in lanes {
-        if has_value(lane.lines.as_slice()) {
-            return true;
-        }
-    }
-    false
+    lanes.iter().any(|lane| has_value(lane.lines.as_slice()))
 }
 
 fn has_value(lines: &[Line]) -> bool
     ensures { result ≡ list_any is_value lines.now }
 {
-    lines.iter().any(|line| matches!(*line, Line::Value { .. }))
+    lines
+        .iter()
+        .any(|line| matches!(*line, Line::Value { .. }))
 }
 
 // How many lines there are in all lanes.
