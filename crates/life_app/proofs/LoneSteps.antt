@@ -128,14 +128,20 @@ entries_in : (n : ℕ) (history : List Entry) → map (λ (turn : Placed). turn.
 entries_in n [] = refl
 entries_in n (entry ∷ history) = ap (λ later. entry ∷ later) (entries_in (n + 1) history)
 
+same_first : {A : Type 0} (x y : A) (xs ys : List A) → x ∷ xs ≡ y ∷ ys → x ≡ y
+same_first x y xs ys same = cc
+
+same_rest : {A : Type 0} (x y : A) (xs ys : List A) → x ∷ xs ≡ y ∷ ys → xs ≡ ys
+same_rest x y xs ys same = cc
+
 first_turn : (seen : List Entry) (pin : Placed) (later : List Placed) → enumerate_from 0 seen ≡ pin ∷ later
     → (pin.0 ≡ 0) × (seen ≡ pin.1 ∷ map (λ (turn : Placed). turn.1) later)
 first_turn [] pin later same = absurd (cc)
 first_turn (entry ∷ seen) pin later same =
-    let first : (0, entry) ≡ pin = cc in
-    let rest : enumerate_from 1 seen ≡ later = cc in (
+    let first = same_first {A = Placed} (0, entry) pin (enumerate_from 1 seen) later same in
+    let rest = same_rest {A = Placed} (0, entry) pin (enumerate_from 1 seen) later same in (
       ap (λ (p : Placed). p.0) (sym first),
-      (λ i. (first i).1 ∷ seen) ∙ ap (λ more. pin.1 ∷ more) (sym (entries_in 1 seen) ∙ ap (map (λ (turn : Placed). turn.1)) rest),
+      ap (λ (p : Placed). p.1 ∷ seen) first ∙ ap (λ more. pin.1 ∷ more) (sym (entries_in 1 seen) ∙ ap (map (λ (turn : Placed). turn.1)) rest),
     )
 
 postless_entries : (turns : List Placed) → AllByRecursion (λ (turn : Placed). posts turn.1.call ≡ false) turns
