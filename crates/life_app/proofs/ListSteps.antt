@@ -63,7 +63,7 @@ has_right (z ∷ xs) ys x has = inr (has_right xs ys x has)
 pub has_either : {A : Type 0} (xs ys : List A) (x : A) → Has (xs ++ ys) x → Has xs x ⊎ Has ys x
 has_either [] ys x has = inr has
 has_either (z ∷ xs) ys x (inl same) = inl (inl same)
-has_either (z ∷ xs) ys x (inr later) = elim (has_either xs ys x later) [ | inl left ↦ inl (inr left) | inr right ↦ inr right ]
+has_either (z ∷ xs) ys x (inr later) = elim (has_either xs ys x later) [ inl left ↦ inl (inr left) | inr right ↦ inr right ]
 
 pub has_map : {A B : Type 0} (f : A → B) (xs : List A) (x : A) → Has xs x → Has (map f xs) (f x)
 has_map f [] x has = absurd has

@@ -112,7 +112,7 @@ module _ {D : Type 0} (g : Ghosts D) (old new : D) (opening : Opening) (history 
     honesty = left.honesty;
     faults = left.faults ∙ ap (λ (ns : List ℕ). unwrap_or (last_or None ns) opening.faults) (none_met opening [] history legal quiet);
     now = λ honest image may. quiet_now image (left.now honest image may);
-    since = λ honest image was. elim (left.since honest image was) [ | inl before ↦ inl before | inr once ↦ inr (quiet_once image once) ];
+    since = λ honest image was. elim (left.since honest image was) [ inl before ↦ inl before | inr once ↦ inr (quiet_once image once) ];
     synced = λ honest. let mid = left.synced honest in (mid.0, mid.1, λ image was. quiet_once image (mid.2 image was));
   }
 

@@ -91,7 +91,6 @@ opened_alone g old disk office opened same left =
     (λ honest finished. subst (λ d. LooksOn g old d) (sym same) (opened.unwritten honest finished))
     (opened_left g old disk office opened left)
 
-
 -- An office ran lanes and was closed.
 module _ {D : Type 0} (g : Ghosts D) (old disk : D) (lanes : List Lane) (basis : List Dated) (first closing : Holding (OfficeOpening D))
     (balances : Booking) (started : HasStarted g old (length (lines_in lanes)) first)

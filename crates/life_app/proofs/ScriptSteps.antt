@@ -204,8 +204,16 @@ script_lanes bytes lanes reads short = subst AreScriptLanes (sym reads.by_clerk)
         All-from_recursion IsRightLine lane.lines (all_has IsRightLine lane.lines (λ line there.
         right_line line (right line (has_flat_map (λ (lane : Lane). lane.lines) said lane line has there))))));
     few = omega (arith, order.few);
-    lines = omega (arith, all_pass (lines_in said), all_pass (all_lines reads.entries), few_passing (λ line. true) last_lane reads.entries,
-        length-map reads.entries (λ (entry : ClerkLine). entry.line), same_length (rows_of bytes) reads.entries reads.rows.each, few_rows bytes, short);
+    lines = omega (
+      arith,
+      all_pass (lines_in said),
+      all_pass (all_lines reads.entries),
+      few_passing (λ line. true) last_lane reads.entries,
+      length-map reads.entries (λ (entry : ClerkLine). entry.line),
+      same_length (rows_of bytes) reads.entries reads.rows.each,
+      few_rows bytes,
+      short,
+    );
     values = omega (arith, values_alike (lines_in said), few_passing is_valuation last_lane reads.entries, reads.rows.few);
   };
   lines = all_has IsScriptLine (lines_in said) right;

@@ -317,8 +317,7 @@ module _ {D : Type 0} (basis : List Dated) (lanes : List Lane) (first closing : 
           let kept = of_filter (λ (line : ToldLine). lacked_memory line.outcome) transcript.lines from.0 from.1 in
           let pair = zip_right (IsToldOf opened.opening closing.seen basis) ran.answered transcript.lines from.0 told kept.0 in
           let one = pair.0 in
-          let place : one.first.0 ≡ n = sym pair.2.turn ∙ from.2 in
-          (
+          let place : one.first.0 ≡ n = sym pair.2.turn ∙ from.2 in (
             one.first.1,
             subst (λ k. slice_get closing.seen k ≡ Some one.first.1) place (placed one pair.1),
             lacked_pin one.line one.first.1.reply from.0.outcome (commands_after opened.opening (take one.first.0 closing.seen)) basis pair.2.outcome kept.1,
@@ -349,8 +348,7 @@ module _ {D : Type 0} (basis : List Dated) (lanes : List Lane) (first closing : 
       let call = post_call dry one.line one.first one.rest fault.0 (answers one pair.1) fault.1.1 in
       let entry : one.first.1 ≡ record { caller = one.first.1.caller; call = PostCall fault.0; reply = Faulted fault.1.0 } =
       ap (λ (c : Call). let made : Entry = record { caller = one.first.1.caller; call = c; reply = one.first.1.reply } in made) call
-      ∙ ap (λ (r : Reply). let made : Entry = record { caller = one.first.1.caller; call = PostCall fault.0; reply = r } in made) fault.1.2 in
-      (
+      ∙ ap (λ (r : Reply). let made : Entry = record { caller = one.first.1.caller; call = PostCall fault.0; reply = r } in made) fault.1.2 in (
         fault.0,
         (
           parts.0,

@@ -165,12 +165,14 @@ fn obey<R: Threads + Wait + Sync, S: Source, K: Sink, H: Shelf, D: Disk + Send, 
 {
     match read_words(alloc, words) {
         Ok(Mode::Run { basis }) => run(rt, alloc, &basis, input, output, shelf, disk, gate),
-        Ok(Mode::Value {
-            on,
-            at,
-            workers,
-            basis,
-        }) => value(
+        Ok(
+            Mode::Value {
+                on,
+                at,
+                workers,
+                basis,
+            },
+        ) => value(
             rt, alloc, on, at, workers, &basis, shelf, output, disk, gate,
         ),
         Ok(Mode::State { id: None }) => state(alloc, output, disk),

@@ -165,11 +165,7 @@ fn run_office<R: Threads + Wait + Sync, K: Sink, D: Disk + Send, G: Gate + Sync>
 }
 
 // Writes what the lanes were answered, or that there was no memory to run them.
-fn write_ran<K: Sink>(
-    alloc: Global,
-    ran: Result<Transcript, NoMemory>,
-    output: &mut K,
-) -> Ending
+fn write_ran<K: Sink>(alloc: Global, ran: Result<Transcript, NoMemory>, output: &mut K) -> Ending
     requires writable { IfOk ran (λ transcript. All IsWritable transcript.lines) }
     ensures ends { EndsRan ran (between K.faults K.written output.old output.new) result }
 {
@@ -245,9 +241,7 @@ fn needs_basis(lanes: &[Lane]) -> bool
 fn has_value(lines: &[Line]) -> bool
     ensures { result ≡ list_any is_value lines.now }
 {
-    lines
-        .iter()
-        .any(|line| matches!(*line, Line::Value { .. }))
+    lines.iter().any(|line| matches!(*line, Line::Value { .. }))
 }
 
 // How many lines there are in all lanes.

@@ -57,12 +57,7 @@ fn line_text(alloc: Global, told: &AnsweredLine) -> Result<Text, NoMemory>
 }
 
 // The line of a posting.
-fn posting(
-    alloc: Global,
-    clerk: u8,
-    command: &Command,
-    answer: Answer,
-) -> Result<Text, NoMemory>
+fn posting(alloc: Global, clerk: u8, command: &Command, answer: Answer) -> Result<Text, NoMemory>
     requires told { IsTold answer }
     ensures { IfOk result (λ text. text ≡ posting_text clerk command.now (reply_of answer)) }
 {
@@ -110,12 +105,7 @@ fn value_text(alloc: Global, clerk: u8, on: i32, outcome: &Outcome) -> Result<Te
 }
 
 // The line of a valuation whose position wasn't pinned.
-fn unpinned(
-    alloc: Global,
-    clerk: u8,
-    on: i32,
-    refusal: PinRefusal,
-) -> Result<Text, NoMemory>
+fn unpinned(alloc: Global, clerk: u8, on: i32, refusal: PinRefusal) -> Result<Text, NoMemory>
     requires { IsDay on }
     ensures { IfOk result (λ text. text ≡ unpinned_text clerk on refusal) }
 {

@@ -75,7 +75,9 @@ fn value_by<R: Wait, K: Sink, D: Disk, G: Gate>(
 {
     match Office::start(alloc, disk, 0) {
         Ok((office, pass)) => {
-            value_office(rt, alloc, on, at, workers, basis, office, pass, output, gate)
+            value_office(
+                rt, alloc, on, at, workers, basis, office, pass, output, gate,
+            )
         }
         Err(fault) => Finished {
             ending: refuse_journal(alloc, fault.cause, output),
@@ -137,12 +139,7 @@ fn write_answer<K: Sink>(
     }
 }
 
-fn write_values<K: Sink>(
-    alloc: Global,
-    on: i32,
-    valuation: &Valuation,
-    output: &mut K,
-) -> Ending
+fn write_values<K: Sink>(alloc: Global, on: i32, valuation: &Valuation, output: &mut K) -> Ending
     requires day { IsDay on }
     requires writable { IsWritableBlock valuation.now }
     ensures ends { EndsAnswer on (Ok valuation.now) (between K.faults K.written output.old output.new) result }
