@@ -1,18 +1,20 @@
 // The lines of a lane are answered in order, by turns of one pass.
-ghost use Rattle.std.specs.Prelude.{◌≡◌, ◌≤◌, ◌+◌, [], All, length, vec_capacity};
+ghost use Rattle.std.specs.Prelude.{◌≡◌, ◌≤◌, List, [], ◌∷◌, All, length, vec_capacity};
+ghost use Rattle.basis_book.specs.Dated.{Dated};
 ghost use Rattle.policy_types.specs.Valid.{IsValid};
+ghost use Rattle.policy_types.specs.declared.script.Line.TheVariants.{Post as PostLine, Value as ValueLine, Trim as TrimLine};
 ghost use Rattle.turn_lock.specs.Passes.{PassFacts};
 ghost use Rattle.shared_office.specs.Offices.{IsOfficeHistory};
 ghost use Rattle.snapshot_value.specs.Valuing.{most_turns};
 ghost use Rattle.lane_runner.specs.Lanes.{IsRightLane, IsRightLine};
-ghost use Rattle.lane_runner.specs.inside.Parts.{HasAnswered, turns_for, turns_needed};
+ghost use Rattle.lane_runner.specs.inside.Parts.{HasAnswered, IsRoomFor, outcome_of, turns_for, turns_needed};
 
 use crate::transcript::{AnsweredLine, Outcome};
 use basis_book::Basis;
 use outside_io::{Disk, Gate};
-use policy_types::{At, Lane, Line};
+use policy_types::{At, Command, Lane, Line};
 use shared_office::{Office, OfficeCalls, OfficePass};
-use snapshot_value::{ValueFault, value};
+use snapshot_value::{Valuation, ValueFault, value};
 use std::alloc::Global;
 use std::sync::Wait;
 use turn_lock::Turned;
@@ -31,14 +33,47 @@ pub fn answer_lane<D: Disk, G: Gate, R: Wait>(
     requires right { IsRightLane lane.now }
     requires ours { pass.old.turnstile ≡ office.now }
     requires left { turns_needed lane.now.lines ≤ pass.old.left }
-    requires facts { PassFacts IsOfficeHistory pass.old }
-    requires empty { lines.old.items ≡ [] }
-    requires room { length lane.now.lines ≤ vec_capacity lines.old }
+    requires room { IsRoomFor lane.now lines.old }
+    ensures answered { HasAnswered basis.now lane.now.number lane.now.lines pass.old pass.new lines.new.items }
     ensures facts { PassFacts IsOfficeHistory pass.new }
 {
-    for line in lane.lines.as_slice() {
-        gate.at(rt, lane.number, 0);
-        let answered = answer_line(rt, alloc, office, pass, lane.number, line, basis, gate);
+    pass.caller();
+    answer_lines(
+        rt,
+        alloc,
+        office,
+        pass,
+        lane.number,
+        lane.lines.as_slice(),
+        basis,
+        gate,
+        lines,
+    );
+}
+
+fn answer_lines<D: Disk, G: Gate, R: Wait>(
+    rt: &R,
+    alloc: Global,
+    office: &Office<D>,
+    pass: &mut OfficePass<D>,
+    number: u8,
+    asked: &[Line],
+    basis: &Basis,
+    gate: &G,
+    lines: &mut Vec<AnsweredLine>,
+)
+    requires right { All IsRightLine asked.now }
+    requires ours { pass.old.turnstile ≡ office.now }
+    requires left { turns_needed asked.now ≤ pass.old.left }
+    requires facts { PassFacts IsOfficeHistory pass.old }
+    requires empty { lines.old.items ≡ [] }
+    requires room { length asked.now ≤ vec_capacity lines.old }
+    ensures answered { HasAnswered basis.now number asked.now pass.old pass.new lines.new.items }
+    ensures facts { PassFacts IsOfficeHistory pass.new }
+{
+    for line in asked {
+        gate.at(rt, number, 0);
+        let answered = answer_line(rt, alloc, office, pass, number, line, basis, gate);
         lines.push_reserved(answered);
     }
 }
@@ -58,35 +93,96 @@ fn answer_line<D: Disk, G: Gate, R: Wait>(
     requires ours { pass.old.turnstile ≡ office.now }
     requires left { turns_for line.now ≤ pass.old.left }
     requires facts { PassFacts IsOfficeHistory pass.old }
-    ensures answered { HasAnswered basis.now lane line.now pass.old pass.new result }
+    ensures answered { HasAnswered basis.now lane (line.now ∷ []) pass.old pass.new (result ∷ []) }
     ensures facts { PassFacts IsOfficeHistory pass.new }
 {
-    let line = *line;
-    let (turn, outcome) = match line {
-        Line::Post(command) => {
-            let Turned { turn, answer } = office.post(rt, pass, &command);
-            (turn, Outcome::Posted(answer))
-        }
-        Line::Trim => {
-            let Turned { turn, answer } = office.trim(rt, pass);
-            (turn, Outcome::Trimmed(answer))
-        }
-        Line::Value { on, at, workers } => {
-            let Turned { turn, answer } = value(
-                rt, alloc, office, pass, basis, on, at, workers, lane, gate,
-            );
-            let outcome = match answer {
-                Ok(valuation) => Outcome::Valued(valuation),
-                Err(ValueFault::Pin(refusal)) => Outcome::ValueRefused(refusal),
-                Err(ValueFault::NoMemory) => Outcome::ValueNoMemory,
-            };
-            (turn, outcome)
-        }
-    };
+    match *line {
+        Line::Post(command) => answer_post(rt, office, pass, lane, command),
+        Line::Trim => answer_trim(rt, office, pass, lane),
+        Line::Value { on, at, workers } => answer_value(
+            rt, alloc, office, pass, lane, on, at, workers, basis, gate,
+        ),
+    }
+}
+
+fn answer_post<D: Disk, R: Wait>(
+    rt: &R,
+    office: &Office<D>,
+    pass: &mut OfficePass<D>,
+    lane: u8,
+    command: Command,
+) -> AnsweredLine
+    requires valid { IsValid command }
+    requires ours { pass.old.turnstile ≡ office.now }
+    requires left { 1 ≤ pass.old.left }
+    ensures answered { (basis : List Dated) → HasAnswered basis lane (PostLine command ∷ []) pass.old pass.new (result ∷ []) }
+    ensures facts { PassFacts IsOfficeHistory pass.new }
+{
+    let Turned { turn, answer } = office.post(rt, pass, &command);
     AnsweredLine {
         lane,
         turn,
-        line,
-        outcome,
+        line: Line::Post(command),
+        outcome: Outcome::Posted(answer),
+    }
+}
+
+fn answer_trim<D: Disk, R: Wait>(
+    rt: &R,
+    office: &Office<D>,
+    pass: &mut OfficePass<D>,
+    lane: u8,
+) -> AnsweredLine
+    requires ours { pass.old.turnstile ≡ office.now }
+    requires left { 1 ≤ pass.old.left }
+    ensures answered { (basis : List Dated) → HasAnswered basis lane (TrimLine ∷ []) pass.old pass.new (result ∷ []) }
+    ensures facts { PassFacts IsOfficeHistory pass.new }
+{
+    let Turned { turn, answer } = office.trim(rt, pass);
+    AnsweredLine {
+        lane,
+        turn,
+        line: Line::Trim,
+        outcome: Outcome::Trimmed(answer),
+    }
+}
+
+fn answer_value<D: Disk, G: Gate, R: Wait>(
+    rt: &R,
+    alloc: Global,
+    office: &Office<D>,
+    pass: &mut OfficePass<D>,
+    lane: u8,
+    on: i32,
+    at: At,
+    workers: u8,
+    basis: &Basis,
+    gate: &G,
+) -> AnsweredLine
+    requires workers { (1 ≤ workers) × (workers ≤ 64) }
+    requires ours { pass.old.turnstile ≡ office.now }
+    requires left { most_turns ≤ pass.old.left }
+    ensures answered { HasAnswered basis.now lane (ValueLine on at workers ∷ []) pass.old pass.new (result ∷ []) }
+    ensures facts { PassFacts IsOfficeHistory pass.new }
+{
+    let Turned { turn, answer } = value(
+        rt, alloc, office, pass, basis, on, at, workers, lane, gate,
+    );
+    AnsweredLine {
+        lane,
+        turn,
+        line: Line::Value { on, at, workers },
+        outcome: told_of(answer),
+    }
+}
+
+// What is told of a valuation.
+fn told_of(answer: Result<Valuation, ValueFault>) -> Outcome
+    ensures { result ≡ outcome_of answer }
+{
+    match answer {
+        Ok(valuation) => Outcome::Valued(valuation),
+        Err(ValueFault::Pin(refusal)) => Outcome::ValueRefused(refusal),
+        Err(ValueFault::NoMemory) => Outcome::ValueNoMemory,
     }
 }

@@ -1,6 +1,9 @@
 // Lanes of one office. The reserves are worked out by hand from the plan and the table: of 1000.00 on an endowment of three
 // years at age 0, after one year, 127.22 to 127.23.
-ghost use Rattle.std.specs.Prelude.{◌≡◌};
+ghost use Rattle.std.specs.Prelude.{◌≡◌, ◌≤◌, ◌∷◌, All, IsTrue, length, map};
+ghost use Rattle.std.specs.List.{AllByRecursion};
+ghost use Rattle.lane_runner.specs.AnsweredLines.{AreRising};
+ghost use Rattle.lane_runner.specs.Lanes.{AreRightLanes, IsRightLane, IsRightLine, lines_in};
 
 use crate::{AnsweredLine, Outcome, Transcript, run_lanes};
 use basis_book::{Basis, LONGEST_FILE, read_basis};
@@ -64,6 +67,50 @@ fn lane(alloc: Global, number: u8, lines: &[Line]) -> Result<Lane, AllocError> {
         number,
         lines: Lines::new(lines.to_vec(alloc)?),
     })
+}
+
+// Whether these lanes may be run; at most sixteen lines in all.
+fn are_right(lanes: &[Lane]) -> bool
+    ensures { IsTrue result → AreRightLanes lanes.now }
+{
+    lanes.len() <= 8 && follow(0, 16, lanes)
+}
+
+// Whether these lanes have numbers that rise above this one, and right lines, so many at most.
+fn follow(number: u8, most: usize, lanes: &[Lane]) -> bool
+    ensures rising { IsTrue result → AreRising (number ∷ map (λ lane. lane.number) lanes.now) }
+    ensures right { IsTrue result → AllByRecursion IsRightLane lanes.now }
+    ensures few { IsTrue result → length (lines_in lanes.now) ≤ most }
+{
+    let Some((lane, rest)) = lanes.split_first() else {
+        return true;
+    };
+    let count = lane.lines.as_slice().len();
+    if lane.number <= number || count > most || !have_right(lane.lines.as_slice()) {
+        return false;
+    }
+    follow(lane.number, most - count, rest)
+}
+
+fn have_right(lines: &[Line]) -> bool
+    ensures { IsTrue result → All IsRightLine lines.now }
+{
+    for line in lines {
+        if !is_right(line) {
+            return false;
+        }
+    }
+    true
+}
+
+fn is_right(line: &Line) -> bool
+    ensures { IsTrue result → IsRightLine line.now }
+{
+    match *line {
+        Line::Post(command) => command.is_valid(),
+        Line::Value { workers, .. } => 1 <= workers && workers <= 64,
+        Line::Trim => true,
+    }
 }
 
 // Looks until the number is at least this one, and counts a miss where it doesn't come.
@@ -155,7 +202,7 @@ fn run_after<D: Disk + Send, G: Gate + Sync, R: Threads + Wait + Sync>(
         }
         office.post(rt, pass, &command);
     }
-    if pass.left() < 1 << 40 || pass.shares() < 1 << 10 {
+    if pass.left() < 1 << 40 || pass.shares() < 1 << 10 || !are_right(lanes) {
         return Err(NoMemory);
     }
     run_lanes(rt, alloc, office, pass, lanes, basis, gate)

@@ -1,20 +1,25 @@
 -- The parts of running lanes
-use Rattle.std.specs.Prelude.{◌≡◌, ℕ, zero, suc, ◌+◌, ◌-◌, ◌*◌, ◌≤◌, ◌^◌, List, [], ◌∷◌, ◌++◌, length, map, Some, Vec, vec_capacity}
+use Rattle.std.specs.Prelude.{◌≡◌, ℕ, zero, suc, ◌+◌, ◌≤◌, ◌<◌, ◌^◌, Option, Some, slice_get, List, [], ◌∷◌, ◌++◌, length, map, Result, Ok, Err, Vec, vec_capacity}
 use Rattle.std.specs.Global.{Global}
 use Rattle.std.specs.List.{AllByRecursion, AllZip, flat_map}
 use Rattle.basis_book.specs.Dated.{Dated}
-use Rattle.policy_types.specs.declared.entry.Entry.{Entry}
 use Rattle.policy_types.specs.declared.script.Line.{Line}
 use Rattle.policy_types.specs.declared.script.Line.TheVariants.{Post, Value, Trim}
 use Rattle.policy_types.specs.declared.script.Lane.{Lane}
-use Rattle.policy_machine.specs.Merge.{AnswersLine, Placed}
+use Rattle.policy_machine.specs.Merge.{AnswersLine}
 use Rattle.turn_lock.specs.History.{StartsWith}
-use Rattle.turn_lock.specs.Passes.{Holding, Page, PassFacts, TableId}
+use Rattle.turn_lock.specs.Passes.{Holding, PassFacts, TableId, pages}
 use Rattle.shared_office.specs.Offices.{IsOfficeHistory, OfficeOpening}
 use Rattle.snapshot_value.specs.Growing.{Grows}
 use Rattle.snapshot_value.specs.Valuing.{most_turns}
+use Rattle.snapshot_value.specs.declared.valuation.Valuation.{Valuation}
+use Rattle.snapshot_value.specs.declared.valuation.ValueFault.{ValueFault}
+use Rattle.snapshot_value.specs.declared.valuation.ValueFault.TheVariants.{Pin, NoMemory}
 use Rattle.lane_runner.specs.declared.transcript.AnsweredLine.{AnsweredLine as TranscriptLine}
-use Rattle.lane_runner.specs.AnsweredLines.{AnsweredLine, AreRising, turns_in}
+use Rattle.lane_runner.specs.declared.transcript.Outcome.{Outcome}
+use Rattle.lane_runner.specs.declared.transcript.Outcome.TheVariants.{Valued, ValueRefused, ValueNoMemory}
+use Rattle.lane_runner.specs.AnsweredLines.{AnsweredLine, turns_in}
+use Rattle.lane_runner.specs.Lanes.{IsRightLane, lines_in}
 use Rattle.lane_runner.specs.Transcripts.{IsTold, dry_of}
 
 -- the turns that a line may need
@@ -27,17 +32,121 @@ abbrev pub turns_needed : List Line → ℕ
 turns_needed [] = 0
 turns_needed (line ∷ lines) = turns_for line + turns_needed lines
 
--- the line was answered by turns of the pass's caller, and this is told of it
-pub record HasAnswered {D : Type 0} (basis : List Dated) (clerk : ℕ) (line : Line) (old new : Holding (OfficeOpening D))
-    (told : TranscriptLine) : Type 0 where
-  pub answered : AnsweredLine
-  pub lane : answered.clerk ≡ clerk
-  pub asked : answered.line ≡ line
-  pub grows : Grows old new (turns_in answered)
-  pub few : length (turns_in answered) ≤ turns_for line
-  pub answers : AnswersLine (dry_of (told ∷ [])) line (turns_in answered)
-  pub within : length old.seen ≤ answered.first.0
-  pub inside : answered.first.0 ≤ length new.seen
+-- what is told of a valuation
+abbrev pub outcome_of : Result Valuation ValueFault → Outcome
+outcome_of (Ok valuation) = Valued valuation
+outcome_of (Err (Pin refusal)) = ValueRefused refusal
+outcome_of (Err NoMemory) = ValueNoMemory
+
+-- the lines were answered in order by turns of the pass's caller, and this is told of them
+pub record HasAnswered {D : Type 0} (basis : List Dated) (number : ℕ) (lines : List Line) (old new : Holding (OfficeOpening D))
+    (tolds : List TranscriptLine) : Type 0 where
+  pub answered : List AnsweredLine
+  pub theirs : AllByRecursion (λ (one : AnsweredLine). one.clerk ≡ number) answered
+  pub asked : map (λ (one : AnsweredLine). one.line) answered ≡ lines
+  pub grows : Grows old new (flat_map turns_in answered)
+  pub few : length (flat_map turns_in answered) ≤ turns_needed lines
+  pub answers : AllByRecursion (λ (one : AnsweredLine). AnswersLine (dry_of tolds) one.line (turns_in one)) answered
+  pub reached : AllByRecursion (λ (one : AnsweredLine). one.first.0 < length new.seen) answered
   pub opened : OfficeOpening D
   pub opening : new.opening ≡ Some opened
-  pub tells : IsTold opened.opening new.seen basis answered told
+  pub tells : AllZip (IsTold opened.opening new.seen basis) answered tolds
+
+-- a lane's pass, and the memory for its lines
+abbrev pub Seat : Type 0 → Type 0
+Seat D = Holding (OfficeOpening D) × Vec TranscriptLine Global
+
+-- nothing stands in it yet, and there is room for the lane's lines
+pub record IsRoomFor (lane : Lane) (memory : Vec TranscriptLine Global) : Type 0 where
+  pub empty : memory.items ≡ []
+  pub enough : length lane.lines ≤ vec_capacity memory
+
+-- the memory for lanes: a room for each, and room for as many passes and callers, and for all lines
+pub record HasRoom {D : Type 0} (lanes : List Lane) (rooms : Vec (Vec TranscriptLine Global) Global) (seats : Vec (Seat D) Global)
+    (callers : Vec ℕ Global) (lines : Vec TranscriptLine Global) : Type 0 where
+  pub fitting : AllZip IsRoomFor lanes rooms.items
+  pub no_seats : seats.items ≡ []
+  pub seats_enough : length lanes ≤ vec_capacity seats
+  pub no_callers : callers.items ≡ []
+  pub callers_enough : length lanes ≤ vec_capacity callers
+  pub no_lines : lines.items ≡ []
+  pub lines_enough : length (lines_in lanes) ≤ vec_capacity lines
+
+-- the turns and the shares that are needed where so many passes are to be entered
+abbrev pub turns_to_enter : ℕ → ℕ
+turns_to_enter zero = 33554432
+turns_to_enter (suc n) = turns_to_enter n + turns_to_enter n + 1
+
+abbrev pub shares_to_enter : ℕ → ℕ
+shares_to_enter zero = 1
+shares_to_enter (suc n) = shares_to_enter n + shares_to_enter n
+
+module _ {D : Type 0} where
+  -- what all passes have left, and their shares
+  abbrev pub all_left : List (Seat D) → ℕ
+  all_left [] = 0
+  all_left (seat ∷ seats) = seat.0.left + all_left seats
+
+  abbrev pub all_shares_in : List (Seat D) → ℕ
+  all_shares_in [] = 0
+  all_shares_in (seat ∷ seats) = seat.0.shares + all_shares_in seats
+
+  -- a pass that was entered has turns enough, and has made none
+  pub record IsFresh (old given : Holding (OfficeOpening D)) : Type 0 where
+    pub turnstile : given.turnstile ≡ old.turnstile
+    pub opening : given.opening ≡ old.opening
+    pub seen : given.seen ≡ old.seen
+    pub made : given.made ≡ []
+    pub ended : given.ended ≡ []
+    pub left : 33554432 ≤ given.left
+    pub facts : PassFacts IsOfficeHistory given
+
+  -- passes were entered, one for each room
+  pub record HasEntered (old new : Holding (OfficeOpening D)) (rooms : List (Vec TranscriptLine Global)) (seats : List (Seat D))
+      : Type 0 where
+    pub turnstile : new.turnstile ≡ old.turnstile
+    pub opening : new.opening ≡ old.opening
+    pub caller : new.caller ≡ old.caller
+    pub seen : new.seen ≡ old.seen
+    pub made : new.made ≡ old.made
+    pub ended : new.ended ≡ old.ended
+    pub left : new.left + all_left seats + length seats ≡ old.left
+    pub shares : new.shares + all_shares_in seats ≡ old.shares
+    pub fresh : AllByRecursion (λ (seat : Seat D). IsFresh old seat.0) seats
+    pub rooms_are : map (λ (seat : Seat D). seat.1) seats ≡ rooms
+
+  -- the lane may be run in this seat
+  pub record IsReady (office : TableId) (lane : Lane) (seat : Seat D) : Type 0 where
+    pub right : IsRightLane lane
+    pub ours : seat.0.turnstile ≡ office
+    pub left : turns_needed lane.lines ≤ seat.0.left
+    pub room : IsRoomFor lane seat.1
+
+  -- the lane was run in this seat
+  pub record HasRunIn (basis : List Dated) (lane : Lane) (old new : Seat D) : Type 0 where
+    pub answered : HasAnswered basis lane.number lane.lines old.0 new.0 new.1.items
+    pub facts : PassFacts IsOfficeHistory new.0
+
+  abbrev pub IsReadyAt : TableId → List Lane → ℕ → Seat D → Type 0
+  IsReadyAt office lanes index seat = (lane : Lane) → slice_get lanes index ≡ Some lane → IsReady office lane seat
+
+  abbrev pub HasRunAt : List Dated → List Lane → ℕ → Seat D → Seat D → Type 0
+  HasRunAt basis lanes index old new = (lane : Lane) → slice_get lanes index ≡ Some lane → HasRunIn basis lane old new
+
+  -- each lane was run in its seat
+  abbrev pub HaveRun : List Dated → List Lane → List (Seat D) → List (Seat D) → Type 0
+  HaveRun basis [] [] [] = Unit {0}
+  HaveRun basis (lane ∷ lanes) (old ∷ olds) (new ∷ news) = HasRunIn basis lane old new × HaveRun basis lanes olds news
+  HaveRun _ _ _ _ = ⊥
+
+  -- the passes were taken back
+  pub record HasLeft (old new : Holding (OfficeOpening D)) (seats : List (Seat D)) : Type 0 where
+    pub turnstile : new.turnstile ≡ old.turnstile
+    pub opening : new.opening ≡ old.opening
+    pub caller : new.caller ≡ old.caller
+    pub made : new.made ≡ old.made
+    pub left : new.left ≡ old.left + all_left seats
+    pub shares : new.shares ≡ old.shares + all_shares_in seats
+    pub begins : StartsWith new.seen old.seen
+    pub each : AllByRecursion (λ (seat : Seat D). StartsWith new.seen seat.0.seen) seats
+    pub ended : new.ended ≡ old.ended ++ flat_map (λ (seat : Seat D). pages seat.0) seats

@@ -1,0 +1,23 @@
+use Rattle.std.proofs.Common.{◌≡◌, ◌≤◌, ◌<◌, length, sym, ap, ◌∙◌, subst, arith}
+use Rattle.lane_runner.specs.inside.Parts.{HasRunIn, IsReady}
+use Rattle.lane_runner.proofs.SeatSteps.{got, have_run, zip_at, zip_length}
+use Rattle.lane_runner.proofs.running.run_all.Goals as goal
+
+pub for_each_mut-requires-clause-accepts : goal.for_each_mut-requires-clause-accepts
+for_each_mut-requires-clause-accepts g c κs within = λ i p below here. (
+  (let long = zip_length (IsReady c.args.office.now) c.args.lanes.now c.args.seats.now c.requires.ready in omega (arith, below, long)),
+  λ lane at. subst (IsReady c.args.office.now lane) (sym here)
+      (zip_at (IsReady c.args.office.now) c.args.lanes.now c.args.seats.now i lane p.now c.requires.ready at),
+)
+
+pub returns : goal.returns
+returns g c =
+    let long : length c.args.lanes.now ≡ length c.args.seats.now = zip_length (IsReady c.args.office.now) c.args.lanes.now c.args.seats.now c.requires.ready in
+    record {
+      run = have_run c.args.basis.now c.args.lanes.now c.args.seats.now c.for_each_mut.new.s long (omega (arith, long, c.for_each_mut.auto.s))
+          (λ i lane old new at_lane at_old at_new.
+          let changes = c.for_each_mut.ensures i old (got c.args.seats.now i old old at_old).1 in
+          subst (λ (o : _). HasRunIn c.args.basis.now lane o new) (changes.1.argument_is ∙ (got c.args.seats.now i old old at_old).0)
+          (subst (λ (n : _). HasRunIn c.args.basis.now lane changes.1.argument.now n) (changes.1.left ∙ (got c.for_each_mut.new.s i new old at_new).0)
+          (changes.1.call lane at_lane)));
+    }
