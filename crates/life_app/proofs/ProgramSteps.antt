@@ -1,7 +1,7 @@
 -- What the exit status tells of the words, the script, the basis and the file
-use Rattle.std.proofs.Common.{◌≡◌, ℕ, ◌≤◌, ◌<◌, ◌⊎◌, ℤ, List, length, refl, ap, sym, ◌∙◌, subst, inl, inr, Option, None, Some, String, Global, arith}
-use Rattle.std.specs.Prelude.{◌==◌, if◌then◌else◌, IfSome}
-use Rattle.std.proofs.lemmas.Bool.{cases_lt}
+use Rattle.std.proofs.Common.{◌≡◌, ℕ, ◌≤◌, ◌<◌, ◌⊎◌, ℤ, List, [], ◌∷◌, length, refl, ap, sym, ◌∙◌, subst, inl, inr, Option, None, Some, String, Global, arith}
+use Rattle.std.specs.Prelude.{◌==◌, if◌then◌else◌, IfSome, pos, true}
+use Rattle.std.proofs.lemmas.Bool.{cases_lt, false≢true}
 use Rattle.outside_io.specs.declared.disks.Disk.{Ghosts}
 use Rattle.outside_io.specs.Faults.{Rose}
 use Rattle.policy_types.specs.declared.command.Command.{Command}
@@ -13,9 +13,11 @@ use Rattle.basis_book.specs.Dated.{Dated}
 use Rattle.basis_shelf.specs.Bases.{IsBasis}
 use Rattle.basis_shelf.specs.FirstBad.{IsFirstBad}
 use Rattle.basis_shelf.specs.declared.fault.BadBasis.{BadBasis as ABadBasis}
+use Rattle.basis_shelf.proofs.OneBasis.{basis_or_bad}
 use Rattle.command_csv.specs.Reads.{Reads}
 use Rattle.command_csv.proofs.Faults.{fault_excludes}
 use Rattle.command_csv.proofs.Judging.{judged}
+use Rattle.command_csv.proofs.OneReading.{one_reading as reads_once}
 use Rattle.life_args.proofs.Once.{words_ask_once}
 use Rattle.life_args.specs.Words.{AskFor, AskForNothing}
 use Rattle.life_args.specs.declared.mode.Mode.{Mode}
@@ -25,16 +27,16 @@ use Rattle.office_state.proofs.OpeningSteps.{finished}
 use Rattle.life_app.specs.declared.ending.Ending.{Ending}
 use Rattle.life_app.specs.declared.ending.Ending.TheVariants.{Done, Usage, BadScript, BadBasis, BadJournal, ReadFault as InputFault, WriteFault, DiskFault, NoMemory, Ahead}
 use Rattle.life_app.specs.Books.{books_text, policy_account}
-use Rattle.life_app.specs.Obeys.{Does, EndsMode, EndsRun, SaysUnasked}
+use Rattle.life_app.specs.Obeys.{Does, EndsLanes, EndsMode, EndsRun, SaysUnasked}
 use Rattle.life_app.specs.Outcome.{EndsScript, IsRunOf}
-use Rattle.life_app.specs.Script.{EndsUnread, IsReadAs, IsReadable, IsRefused, IsUnreadable}
+use Rattle.life_app.specs.Script.{EndsUnread, IsReadAs, IsReadable, IsRefused, IsUnreadable, asks_for_values}
 use Rattle.life_app.specs.Stating.{IsStated}
 use Rattle.life_app.specs.Status.{status_of}
-use Rattle.life_app.specs.Valuing.{EndsValue, HasBadFile, IsAhead, IsPastTheEnd, SaysBadFile, position_of}
+use Rattle.life_app.specs.Valuing.{EndsNoBasis, EndsValue, HasBadFile, HasItsBasis, IsAhead, IsPastTheEnd, SaysBadFile, position_of}
 use Rattle.life_app.specs.Words.{AskForRun, AskForState, AskForValue}
 use Rattle.life_app.specs.Writing.{Shelving, Stream}
 use Rattle.life_app.proofs.ReadOnlySteps.{opens_to_none, read_as_before, read_refused, read_to_end}
-use Rattle.life_app.proofs.ValueStatus.{value_as_before, value_beyond, value_refused, value_to_end, value_unfit}
+use Rattle.life_app.proofs.ValueStatus.{bad_refused, basis_refused, value_as_before, value_beyond, value_refused, value_to_end, value_unfit}
 
 -- no script is refused that can be read
 not_refused : (bytes : List ℕ) (lanes : List Lane) (output : Stream) → length bytes ≤ 16777216 → Reads bytes lanes
@@ -116,50 +118,124 @@ ending_at status one ending is same = sym (its_own ending) ∙ ap ending_with (s
 
 module _ {D : Type 0} (g : Ghosts D) (old new : D) where
   -- no run goes on over a file that opens to none
-  ran_nowhere : {A : Type 0} (lanes : List Lane) (Wrote : List ℕ → Type 0) (Replies : List Entry → Type 0)
-      → IsRunOf g old new lanes Wrote Replies → g.honest old → OpensToNone (g.reads old) → A
-  ran_nowhere lanes Wrote Replies ran honest none = absurd (none ran.commands (ran.opened honest))
+  ran_nowhere : {A : Type 0} (lanes : List Lane) (basis : List Dated) (Wrote : List ℕ → Type 0) (Replies : List Entry → List ℕ → Type 0)
+      → IsRunOf g old new lanes basis Wrote Replies → g.honest old → OpensToNone (g.reads old) → A
+  ran_nowhere lanes basis Wrote Replies ran honest none = absurd (none ran.commands (ran.opened honest))
 
-  reads_as_before : (lanes : List Lane) (output : Stream) (ending : Ending) → EndsScript g old new lanes output ending
+  reads_as_before : (lanes : List Lane) (basis : List Dated) (output : Stream) (ending : Ending) → EndsScript g old new lanes basis output ending
       → g.honest old → OpensToNone (g.reads old) → g.reads new ≡ g.reads old
-  reads_as_before lanes output Done ends honest none = ran_nowhere _ _ _ ends honest none
-  reads_as_before lanes output BadJournal ends honest none = (ends.alone.unwritten honest (finished (g.reads old) none)).facts.reads
-  reads_as_before lanes output WriteFault ends honest none = ran_nowhere _ _ _ ends.1 honest none
-  reads_as_before lanes output DiskFault ends honest none = elim ends.1 [
+  reads_as_before lanes basis output Done ends honest none = ran_nowhere _ _ _ _ ends honest none
+  reads_as_before lanes basis output BadJournal ends honest none = (ends.alone.unwritten honest (finished (g.reads old) none)).facts.reads
+  reads_as_before lanes basis output WriteFault ends honest none = ran_nowhere _ _ _ _ ends.1 honest none
+  reads_as_before lanes basis output DiskFault ends honest none = elim ends.1 [
     | inl said ↦ (said.1.unwritten honest (finished (g.reads old) none)).facts.reads
-    | inr ran ↦ ran_nowhere _ _ _ ran honest none
+    | inr ran ↦ ran_nowhere _ _ _ _ ran honest none
   ]
-  reads_as_before lanes output NoMemory ends honest none = elim ends [
+  reads_as_before lanes basis output NoMemory ends honest none = elim ends [
     | inl said ↦ elim said.1 [
-      | inl same ↦ ap g.reads same
-      | inr alone ↦ (alone.0.unwritten honest (finished (g.reads old) none)).facts.reads
+      | inl alone ↦ (alone.0.unwritten honest (finished (g.reads old) none)).facts.reads
+      | inr opened ↦ absurd (none opened.commands (opened.opened honest))
     ]
-    | inr ran ↦ ran_nowhere _ _ _ ran honest none
+    | inr (inl ran) ↦ ran_nowhere _ _ _ _ ran honest none
+    | inr (inr ran) ↦ ran_nowhere _ _ _ _ ran honest none
   ]
-  reads_as_before lanes output _ ends honest none = absurd ends
+  reads_as_before lanes basis output _ ends honest none = absurd ends
 
   -- the statuses of a script's run over a file that opens to some commands, and over one that opens to none
-  ran_to_end : (lanes : List Lane) (output : Stream) (ending : Ending) (commands : List Command)
-      → EndsScript g old new lanes output ending → g.honest old → Opens (g.reads old) commands
+  ran_to_end : (lanes : List Lane) (basis : List Dated) (output : Stream) (ending : Ending) (commands : List Command)
+      → EndsScript g old new lanes basis output ending → g.honest old → Opens (g.reads old) commands
       → (Rose output.faults_before output.faults_after → ⊥) → (Rose (g.faults old) (g.faults new) → ⊥)
       → (status_of ending ≡ 0) ⊎ (status_of ending ≡ 9)
-  ran_to_end lanes output Done commands ends honest opens output_held disk_held = inl refl
-  ran_to_end lanes output NoMemory commands ends honest opens output_held disk_held = inr refl
-  ran_to_end lanes output WriteFault commands ends honest opens output_held disk_held = absurd (output_held ends.0)
-  ran_to_end lanes output DiskFault commands ends honest opens output_held disk_held = absurd (disk_held ends.0)
-  ran_to_end lanes output BadJournal commands ends honest opens output_held disk_held =
+  ran_to_end lanes basis output Done commands ends honest opens output_held disk_held = inl refl
+  ran_to_end lanes basis output NoMemory commands ends honest opens output_held disk_held = inr refl
+  ran_to_end lanes basis output WriteFault commands ends honest opens output_held disk_held = absurd (output_held ends.0)
+  ran_to_end lanes basis output DiskFault commands ends honest opens output_held disk_held = absurd (disk_held ends.0)
+  ran_to_end lanes basis output BadJournal commands ends honest opens output_held disk_held =
       absurd (opens_to_none g old new output ends honest commands opens)
-  ran_to_end lanes output _ commands ends honest opens output_held disk_held = absurd ends
+  ran_to_end lanes basis output _ commands ends honest opens output_held disk_held = absurd ends
 
-  refused_at_opening : (lanes : List Lane) (output : Stream) (ending : Ending) → EndsScript g old new lanes output ending
+  refused_at_opening : (lanes : List Lane) (basis : List Dated) (output : Stream) (ending : Ending) → EndsScript g old new lanes basis output ending
       → g.honest old → OpensToNone (g.reads old) → (Rose (g.faults old) (g.faults new) → ⊥)
       → (status_of ending ≡ 5) ⊎ (status_of ending ≡ 9)
-  refused_at_opening lanes output BadJournal ends honest none disk_held = inl refl
-  refused_at_opening lanes output NoMemory ends honest none disk_held = inr refl
-  refused_at_opening lanes output DiskFault ends honest none disk_held = absurd (disk_held ends.0)
-  refused_at_opening lanes output Done ends honest none disk_held = ran_nowhere _ _ _ ends honest none
-  refused_at_opening lanes output WriteFault ends honest none disk_held = ran_nowhere _ _ _ ends.1 honest none
-  refused_at_opening lanes output _ ends honest none disk_held = absurd ends
+  refused_at_opening lanes basis output BadJournal ends honest none disk_held = inl refl
+  refused_at_opening lanes basis output NoMemory ends honest none disk_held = inr refl
+  refused_at_opening lanes basis output DiskFault ends honest none disk_held = absurd (disk_held ends.0)
+  refused_at_opening lanes basis output Done ends honest none disk_held = ran_nowhere _ _ _ _ ends honest none
+  refused_at_opening lanes basis output WriteFault ends honest none disk_held = ran_nowhere _ _ _ _ ends.1 honest none
+  refused_at_opening lanes basis output _ ends honest none disk_held = absurd ends
+
+  -- the same of lanes with the basis that they need
+  module _ (lanes : List Lane) (name : List ℕ) (shelf : Shelving) (output : Stream) (ShelfStays : Type 0) where
+    lanes_as_before : (ending : Ending) → EndsLanes g old new lanes name shelf output ShelfStays ending
+        → g.honest old → OpensToNone (g.reads old) → g.reads new ≡ g.reads old
+    lanes_as_before ending ends honest none = elim ends [
+      | inl without ↦ reads_as_before lanes [] output ending without.2 honest none
+      | inr (asks, inl by) ↦ reads_as_before lanes by.basis output ending by.ends honest none
+      | inr (asks, inr no_basis) ↦ ap g.reads no_basis.0
+    ]
+
+    -- where there is no basis though the shelf has it and didn't fail, memory was refused
+    has_its_basis : (ending : Ending) → asks_for_values lanes ≡ true → HasItsBasis lanes name shelf.files
+        → (asks_for_values lanes ≡ true → Rose shelf.faults_before shelf.faults_after → ⊥) → EndsNoBasis name shelf output ending
+        → status_of ending ≡ 9
+    has_its_basis ending asks has shelf_held none =
+        let basis = has asks in
+        basis_refused g old new (pos 0) Now output name shelf basis.0 basis.1.1 ending basis.1.0 basis.1.2 none (shelf_held asks)
+
+    lanes_to_end : (ending : Ending) (commands : List Command) → EndsLanes g old new lanes name shelf output ShelfStays ending
+        → HasItsBasis lanes name shelf.files → (asks_for_values lanes ≡ true → Rose shelf.faults_before shelf.faults_after → ⊥)
+        → g.honest old → Opens (g.reads old) commands
+        → (Rose output.faults_before output.faults_after → ⊥) → (Rose (g.faults old) (g.faults new) → ⊥)
+        → (status_of ending ≡ 0) ⊎ (status_of ending ≡ 9)
+    lanes_to_end ending commands ends has shelf_held honest opens output_held disk_held = elim ends [
+      | inl without ↦ ran_to_end lanes [] output ending commands without.2 honest opens output_held disk_held
+      | inr (asks, inl by) ↦ ran_to_end lanes by.basis output ending commands by.ends honest opens output_held disk_held
+      | inr (asks, inr no_basis) ↦ inr (has_its_basis ending asks has shelf_held no_basis.1)
+    ]
+
+    lanes_refused : (ending : Ending) → EndsLanes g old new lanes name shelf output ShelfStays ending
+        → HasItsBasis lanes name shelf.files → (asks_for_values lanes ≡ true → Rose shelf.faults_before shelf.faults_after → ⊥)
+        → g.honest old → OpensToNone (g.reads old) → (Rose (g.faults old) (g.faults new) → ⊥)
+        → (status_of ending ≡ 5) ⊎ (status_of ending ≡ 9)
+    lanes_refused ending ends has shelf_held honest none disk_held = elim ends [
+      | inl without ↦ refused_at_opening lanes [] output ending without.2 honest none disk_held
+      | inr (asks, inl by) ↦ refused_at_opening lanes by.basis output ending by.ends honest none disk_held
+      | inr (asks, inr no_basis) ↦ inr (has_its_basis ending asks has shelf_held no_basis.1)
+    ]
+
+    -- and a bad file is named
+    lanes_unfit : (ending : Ending) (bad : ABadBasis) (files : List ℕ → Option (List ℕ)) → EndsLanes g old new lanes name shelf output ShelfStays ending
+        → asks_for_values lanes ≡ true → shelf.files ≡ Some files → IsFirstBad files name bad
+        → (Rose shelf.faults_before shelf.faults_after → ⊥) → SaysBadFile bad output (status_of ending) ⊎ (status_of ending ≡ 9)
+    lanes_unfit ending bad files ends asks told first shelf_held = elim ends [
+      | inl without ↦ absurd (false≢true (sym without.0 ∙ asks))
+      | inr (needs, inl by) ↦ absurd (basis_or_bad files name by.basis bad
+          (subst (λ (t : Option (List ℕ → Option (List ℕ))). IfSome t (λ fs. IsBasis fs name by.basis)) told by.is) first)
+      | inr (needs, inr no_basis) ↦ bad_refused g old new (pos 0) Now output name shelf files told ending bad first no_basis.1 shelf_held
+    ]
+
+    -- no script's run ends so
+    lanes_usage : EndsLanes g old new lanes name shelf output ShelfStays Usage → ⊥
+    lanes_usage ends = elim ends [
+      | inl without ↦ without.2
+      | inr (asks, inl by) ↦ by.ends
+      | inr (asks, inr no_basis) ↦ no_basis.1
+    ]
+
+    lanes_ahead : EndsLanes g old new lanes name shelf output ShelfStays Ahead → ⊥
+    lanes_ahead ends = elim ends [
+      | inl without ↦ without.2
+      | inr (asks, inl by) ↦ by.ends
+      | inr (asks, inr no_basis) ↦ no_basis.1
+    ]
+
+    lanes_bad_file : EndsLanes g old new lanes name shelf output ShelfStays BadBasis
+        → (asks_for_values lanes ≡ true) × EndsNoBasis name shelf output BadBasis
+    lanes_bad_file ends = elim ends [
+      | inl without ↦ absurd without.2
+      | inr (asks, inl by) ↦ absurd by.ends
+      | inr (asks, inr no_basis) ↦ (asks, no_basis.1)
+    ]
 
   -- nothing is told of a file that opens to none
   never_stated : (text_of : List Command → List ℕ) → g.honest old → OpensToNone (g.reads old)
@@ -199,9 +275,16 @@ module _ {D : Type 0} (g : Ghosts D) (old new : D) where
 
     -- no mode ends as words of no command do
     mode_usage : (mode : Mode) → EndsMode g old new mode input output shelf InputStays ShelfStays Usage → ⊥
-    mode_usage (Run basis) ends = elim ends.1 [ inl read ↦ read.ends | inr unread ↦ unread.1 ]
+    mode_usage (Run name) ends = elim ends [
+      | inl read ↦ lanes_usage read.lanes name shelf output ShelfStays read.ends
+      | inr unread ↦ unread.2
+    ]
     mode_usage (Value on at workers name) ends = elim ends.1 [
-      | inl by ↦ elim by.ends [ inl read ↦ read | inr ahead ↦ (let other : Usage ≡ Ahead = ahead.0 in absurd (cc)) ]
+      | inl by ↦ elim by.ends [
+        | inl read ↦ read
+        | inr (inl ahead) ↦ (let other : Usage ≡ Ahead = ahead.0 in absurd (cc))
+        | inr (inr short) ↦ (let other : Usage ≡ NoMemory = short.0 in absurd (cc))
+      ]
       | inr none ↦ none.1
     ]
     mode_usage (State None) ends = ends.2
@@ -215,16 +298,25 @@ module _ {D : Type 0} (g : Ghosts D) (old new : D) where
 
     -- 4 comes of a bad file of the basis
     mode_bad_file : (mode : Mode) → AskFor words mode → EndsMode g old new mode input output shelf InputStays ShelfStays BadBasis
-        → HasBadFile words shelf.files output
-    mode_bad_file (Run basis) asked ends = elim ends.1 [ inl read ↦ absurd read.ends | inr unread ↦ absurd unread.1 ]
+        → HasBadFile words input.before shelf.files output
+    mode_bad_file (Run name) asked ends = elim ends [
+      | inl read ↦
+          let bad = lanes_bad_file read.lanes name shelf output ShelfStays read.ends in
+          (name, (bad.1.0, inr (asked, (read.lanes, read.read, bad.0)), bad.1.1, bad.1.2))
+      | inr unread ↦ absurd unread.2
+    ]
     mode_bad_file (Value on at workers name) asked ends = elim ends.1 [
-      | inl by ↦ elim by.ends [ inl read ↦ absurd read | inr ahead ↦ (let other : BadBasis ≡ Ahead = ahead.0 in absurd (cc)) ]
-      | inr none ↦ (on, (at, (name, (none.1.0, (workers, asked), none.1.1, none.1.2))))
+      | inl by ↦ elim by.ends [
+        | inl read ↦ absurd read
+        | inr (inl ahead) ↦ (let other : BadBasis ≡ Ahead = ahead.0 in absurd (cc))
+        | inr (inr short) ↦ (let other : BadBasis ≡ NoMemory = short.0 in absurd (cc))
+      ]
+      | inr none ↦ (name, (none.1.0, inl (on, (at, (workers, asked))), none.1.1, none.1.2))
     ]
     mode_bad_file (State None) asked ends = absurd ends.2
     mode_bad_file (State (Some id)) asked ends = absurd ends.2
 
-    bad_file_only : Does g old new words input output shelf InputStays ShelfStays BadBasis → HasBadFile words shelf.files output
+    bad_file_only : Does g old new words input output shelf InputStays ShelfStays BadBasis → HasBadFile words input.before shelf.files output
     bad_file_only does = elim does [
       | inl (mode, asked, ends) ↦ mode_bad_file mode asked ends
       | inr none ↦ absurd none.says
@@ -239,9 +331,16 @@ module _ {D : Type 0} (g : Ghosts D) (old new : D) where
 
     mode_ahead : (mode : Mode) → AskFor words mode → EndsMode g old new mode input output shelf InputStays ShelfStays Ahead
         → IsPastTheEnd g old words
-    mode_ahead (Run basis) asked ends = elim ends.1 [ inl read ↦ absurd read.ends | inr unread ↦ absurd unread.1 ]
+    mode_ahead (Run name) asked ends = elim ends [
+      | inl read ↦ absurd (lanes_ahead read.lanes name shelf output ShelfStays read.ends)
+      | inr unread ↦ absurd unread.2
+    ]
     mode_ahead (Value on at workers name) asked ends = elim ends.1 [
-      | inl by ↦ elim by.ends [ inl read ↦ absurd read | inr ahead ↦ ahead_only on at name (workers, asked) ahead.1 ]
+      | inl by ↦ elim by.ends [
+        | inl read ↦ absurd read
+        | inr (inl ahead) ↦ ahead_only on at name (workers, asked) ahead.1
+        | inr (inr short) ↦ (let other : Ahead ≡ NoMemory = short.0 in absurd (cc))
+      ]
       | inr none ↦ absurd none.1
     ]
     mode_ahead (State None) asked ends = absurd ends.2
@@ -256,8 +355,8 @@ module _ {D : Type 0} (g : Ghosts D) (old new : D) where
     -- how a mode leaves a file that opens to none
     mode_as_before : (mode : Mode) (ending : Ending) → EndsMode g old new mode input output shelf InputStays ShelfStays ending
         → g.honest old → OpensToNone (g.reads old) → g.reads new ≡ g.reads old
-    mode_as_before (Run basis) ending ends honest none = elim ends.1 [
-      | inl read ↦ reads_as_before read.lanes output ending read.ends honest none
+    mode_as_before (Run name) ending ends honest none = elim ends [
+      | inl read ↦ lanes_as_before read.lanes name shelf output ShelfStays ending read.ends honest none
       | inr unread ↦ ap g.reads unread.0
     ]
     mode_as_before (Value on at workers name) ending ends honest none =
@@ -269,14 +368,14 @@ module _ {D : Type 0} (g : Ghosts D) (old new : D) where
         honest none
 
     module _ (ending : Ending) (does : Does g old new words input output shelf InputStays ShelfStays ending) where
-      ran : AskForRun words → EndsRun g old new input output ending ⊎ (status_of ending ≡ 9)
-      ran asked = elim (as_asked ending does (Run asked.0) asked.1) [ inl ends ↦ inl ends.1 | inr none ↦ inr none ]
+      ran : (name : List ℕ) → AskForRun words name → EndsRun g old new name input output shelf ShelfStays ending ⊎ (status_of ending ≡ 9)
+      ran name asked = as_asked ending does (Run name) asked
 
       -- so each of these statuses comes of its ending alone
       by_usage : ending ≡ Usage → AskForNothing words
       by_usage is = usage_only (subst (Does g old new words input output shelf InputStays ShelfStays) is does)
 
-      by_bad_file : ending ≡ BadBasis → HasBadFile words shelf.files output
+      by_bad_file : ending ≡ BadBasis → HasBadFile words input.before shelf.files output
       by_bad_file is = bad_file_only (subst (Does g old new words input output shelf InputStays ShelfStays) is does)
 
       by_ahead : ending ≡ Ahead → IsPastTheEnd g old words
@@ -285,7 +384,7 @@ module _ {D : Type 0} (g : Ghosts D) (old new : D) where
       pub usage : status_of ending ≡ 2 → AskForNothing words
       usage status = by_usage (ending_at 2 Usage ending refl status)
 
-      pub bad_file : status_of ending ≡ 4 → HasBadFile words shelf.files output
+      pub bad_file : status_of ending ≡ 4 → HasBadFile words input.before shelf.files output
       bad_file status = by_bad_file (ending_at 4 BadBasis ending refl status)
 
       pub past_the_end : status_of ending ≡ 10 → IsPastTheEnd g old words
@@ -370,34 +469,58 @@ module _ {D : Type 0} (g : Ghosts D) (old new : D) where
         | inr without ↦ inr without
       ]
 
-      pub complete : (bytes : List ℕ) (lanes : List Lane) (commands : List Command) → AskForRun words
-          → input.before ≡ Some bytes → length bytes ≤ 16777216 → Reads bytes lanes
+      -- the script was read as these lanes
+      one_reading : (bytes : List ℕ) (lanes read : List Lane) → input.before ≡ Some bytes → Reads bytes lanes → IsReadAs input.before read → read ≡ lanes
+      one_reading bytes lanes read told reads is =
+          reads_once bytes read lanes (subst (λ (t : Option (List ℕ)). IsReadAs t read) told is).1 reads
+
+      pub complete : (bytes name : List ℕ) (lanes : List Lane) (commands : List Command) → AskForRun words name
+          → input.before ≡ Some bytes → length bytes ≤ 16777216 → Reads bytes lanes → HasItsBasis lanes name shelf.files
+          → (asks_for_values lanes ≡ true → Rose shelf.faults_before shelf.faults_after → ⊥)
           → g.honest old → Opens (g.reads old) commands → (Rose input.faults_before input.faults_after → ⊥)
           → (Rose output.faults_before output.faults_after → ⊥) → (Rose (g.faults old) (g.faults new) → ⊥)
           → (status_of ending ≡ 0) ⊎ (status_of ending ≡ 9)
-      complete bytes lanes commands run told short reads honest opens input_held output_held disk_held =
-          elim (ran run) [
-            | inl (inl read) ↦ ran_to_end read.lanes output ending commands read.ends honest opens output_held disk_held
-            | inl (inr unread) ↦ inr (unread_readable input output ending bytes lanes unread.1 told short reads input_held)
+      complete bytes name lanes commands run told short reads has shelf_held honest opens input_held output_held disk_held =
+          elim (ran name run) [
+            | inl (inl read) ↦ lanes_to_end lanes name shelf output ShelfStays ending commands
+                (subst (λ (ls : List Lane). EndsLanes g old new ls name shelf output ShelfStays ending)
+                (one_reading bytes lanes read.lanes told reads read.read) read.ends) has shelf_held honest opens output_held disk_held
+            | inl (inr unread) ↦ inr (unread_readable input output ending bytes lanes unread.2 told short reads input_held)
             | inr none ↦ inr none
           ]
 
-      pub refused_exactly : (bytes : List ℕ) (lanes : List Lane) → AskForRun words
-          → input.before ≡ Some bytes → length bytes ≤ 16777216 → Reads bytes lanes
+      pub refused_exactly : (bytes name : List ℕ) (lanes : List Lane) → AskForRun words name
+          → input.before ≡ Some bytes → length bytes ≤ 16777216 → Reads bytes lanes → HasItsBasis lanes name shelf.files
+          → (asks_for_values lanes ≡ true → Rose shelf.faults_before shelf.faults_after → ⊥)
           → g.honest old → OpensToNone (g.reads old) → (Rose input.faults_before input.faults_after → ⊥)
           → (Rose (g.faults old) (g.faults new) → ⊥) → (status_of ending ≡ 5) ⊎ (status_of ending ≡ 9)
-      refused_exactly bytes lanes run told short reads honest none input_held disk_held =
-          elim (ran run) [
-            | inl (inl read) ↦ refused_at_opening read.lanes output ending read.ends honest none disk_held
-            | inl (inr unread) ↦ inr (unread_readable input output ending bytes lanes unread.1 told short reads input_held)
+      refused_exactly bytes name lanes run told short reads has shelf_held honest none input_held disk_held =
+          elim (ran name run) [
+            | inl (inl read) ↦ lanes_refused lanes name shelf output ShelfStays ending
+                (subst (λ (ls : List Lane). EndsLanes g old new ls name shelf output ShelfStays ending)
+                (one_reading bytes lanes read.lanes told reads read.read) read.ends) has shelf_held honest none disk_held
+            | inl (inr unread) ↦ inr (unread_readable input output ending bytes lanes unread.2 told short reads input_held)
             | inr without ↦ inr without
           ]
 
-      pub script_refused : (bytes : List ℕ) → AskForRun words → input.before ≡ Some bytes → IsUnreadable bytes
+      pub unfit_run : (bytes name : List ℕ) (lanes : List Lane) (bad : ABadBasis) (files : List ℕ → Option (List ℕ)) → AskForRun words name
+          → input.before ≡ Some bytes → length bytes ≤ 16777216 → Reads bytes lanes → asks_for_values lanes ≡ true
+          → shelf.files ≡ Some files → IsFirstBad files name bad → (Rose input.faults_before input.faults_after → ⊥)
+          → (Rose shelf.faults_before shelf.faults_after → ⊥) → SaysBadFile bad output (status_of ending) ⊎ (status_of ending ≡ 9)
+      unfit_run bytes name lanes bad files run told short reads asks shelf_told first input_held shelf_held =
+          elim (ran name run) [
+            | inl (inl read) ↦ lanes_unfit lanes name shelf output ShelfStays ending bad files
+                (subst (λ (ls : List Lane). EndsLanes g old new ls name shelf output ShelfStays ending)
+                (one_reading bytes lanes read.lanes told reads read.read) read.ends) asks shelf_told first shelf_held
+            | inl (inr unread) ↦ inr (unread_readable input output ending bytes lanes unread.2 told short reads input_held)
+            | inr none ↦ inr none
+          ]
+
+      pub script_refused : (bytes name : List ℕ) → AskForRun words name → input.before ≡ Some bytes → IsUnreadable bytes
           → (Rose input.faults_before input.faults_after → ⊥) → (status_of ending ≡ 3) ⊎ (status_of ending ≡ 9)
-      script_refused bytes run told unreadable held =
-          elim (ran run) [
+      script_refused bytes name run told unreadable held =
+          elim (ran name run) [
             | inl (inl read) ↦ never_readable input.before bytes read.lanes read.read told unreadable
-            | inl (inr unread) ↦ unread_refused input output ending unread.1 held
+            | inl (inr unread) ↦ unread_refused input output ending unread.2 held
             | inr none ↦ inr none
           ]

@@ -19,7 +19,7 @@ use Rattle.policy_machine.specs.History.{refusal_due}
 use Rattle.policy_machine.specs.Rules.{Check, IsSound, changed, checks_of, decided, due_of, end_of, first_refusal, next, payments_in, payments_of, premiums_missed, reinstatement_end_of, reinstatement_sum, years_in, years_of}
 use Rattle.policy_machine.proofs.BookLemmas.{policy_of-sound}
 use Rattle.policy_machine.proofs.MissedLemmas.{premiums_missed-le}
-use Rattle.life_app.specs.inside.Turns.{IsPrintable}
+use Rattle.life_app.specs.inside.Told.{IsPrintable}
 
 few_years : (plan : Plan) (age years : ℕ) → AreYears plan age years → years_in plan age years ≤ 131
 few_years Term age years within = omega (arith, within)

@@ -1,22 +1,20 @@
 -- How a run ends, by what its parts did
-use Rattle.std.proofs.Common.{◌≡◌, ℕ, ◌≤◌, ◌<◌, Bool, true, false, List, [], length, refl, sym, subst, inl, inr, Option, Some, None, append-nil}
-use Rattle.std.specs.Prelude.{IfSome, if◌then◌else◌}
-use Rattle.std.specs.List.{AllByRecursion, list_any}
+use Rattle.std.proofs.Common.{◌≡◌, ℕ, ◌≤◌, ◌<◌, Bool, true, false, List, [], length, refl, ap, sym, ◌∙◌, subst, inl, inr, Option, Some, None, Result, Ok, Err, append-nil}
+use Rattle.std.specs.Prelude.{All, IfOk, IfSome, OnErr, if◌then◌else◌}
 use Rattle.std.specs.Io.KnownBytes.{Appends, IsAtEnd}
-use Rattle.std.proofs.lemmas.List.Elements.{recursion_from_All}
 use Rattle.outside_io.specs.Faults.{Rose}
 use Rattle.outside_io.specs.Streams.{AppendsPart}
 use Rattle.outside_io.specs.declared.disks.Disk.{Ghosts}
+use Rattle.basis_book.specs.Dated.{Dated}
+use Rattle.policy_types.specs.Accounts.{Booking}
 use Rattle.policy_types.specs.declared.command.Command.{Command}
-use Rattle.policy_types.specs.declared.script.Line.{Line}
+use Rattle.policy_types.specs.declared.watcher.NoMemory.{NoMemory as Lack}
 use Rattle.policy_types.specs.declared.script.Lane.{Lane}
 use Rattle.policy_types.specs.declared.entry.Entry.{Entry}
-use Rattle.policy_machine.specs.History.{opened_on}
+use Rattle.policy_machine.specs.History.{IsLegal, opened_on}
 use Rattle.posting_journal.specs.Creation.{IsUnfinished}
 use Rattle.posting_journal.specs.Runs.{LooksOn}
-use Rattle.command_csv.specs.Reads.{IsScriptLine, IsFirstFault, Reads, lane_of}
-use Rattle.command_csv.proofs.Faults.{one_lane}
-use Rattle.office_state.specs.declared.answer.Answer.{Answer}
+use Rattle.command_csv.specs.Reads.{IsFirstFault, Reads}
 use Rattle.office_state.specs.declared.faults.StartCause.{StartCause}
 use Rattle.office_state.specs.declared.faults.StartCause.TheVariants.{DiskFault as FaultyDisk, NotAJournal, BadRecord, NoMemory as NoRoom}
 use Rattle.office_state.specs.declared.state.OfficeState.{OfficeState}
@@ -24,53 +22,45 @@ use Rattle.office_state.specs.Images.{IsLeftAlone, IsLeftBy}
 use Rattle.office_state.specs.Journals.{Opens}
 use Rattle.office_state.specs.Opening.{HasNotOpened, HasOpened}
 use Rattle.office_state.specs.States.{begun_of, disk_of, opening_of}
-use Rattle.shared_office.specs.Offices.{OfficeOpening}
-use Rattle.shared_office.specs.Starting.{HasStarted}
-use Rattle.turn_lock.specs.Passes.{Holding}
+use Rattle.shared_office.specs.Offices.{IsOfficeHistory, OfficeOpening}
+use Rattle.shared_office.specs.Starting.{HasClosed, HasStarted}
+use Rattle.turn_lock.specs.Passes.{Holding, PassFacts}
+use Rattle.lane_runner.specs.Lanes.{lines_in}
+use Rattle.lane_runner.specs.Transcripts.{HasAnsweredLanes, dry_of}
+use Rattle.lane_runner.specs.declared.transcript.AnsweredLine.{AnsweredLine as ToldLine}
+use Rattle.lane_runner.specs.declared.transcript.Transcript.{Transcript}
 use Rattle.life_app.specs.declared.ending.Ending.{Ending}
 use Rattle.life_app.specs.declared.ending.Ending.TheVariants.{Done, BadScript, BadJournal, ReadFault as InputFault, WriteFault, DiskFault, NoMemory}
 use Rattle.life_app.specs.declared.intake.Unread.{Unread}
 use Rattle.life_app.specs.declared.intake.Unread.TheVariants.{TooLong, BadRow, ReadFault, NoMemory as OutOfMemory}
-use Rattle.life_app.specs.Obeys.{EndsRun}
-use Rattle.life_app.specs.Outcome.{AreTried, AreAnswered, EndsScript, HaveAFault, IsRunOf}
+use Rattle.life_app.specs.Obeys.{EndsLanes, EndsRun}
+use Rattle.life_app.specs.Outcome.{AreTried, AreAnswered, EndsScript, HaveADryPin, HaveAFault, IsOpenedOnly, IsRunOf}
 use Rattle.life_app.specs.Script.{EndsUnread, IsReadAs, IsRefused, most_script_bytes}
-use Rattle.life_app.specs.Writing.{Stream, WroteAll, WroteNothing}
-use Rattle.life_app.specs.inside.Parts.{AnswersAll, AreLanes, EndsLines, SaysUnopened, SaysUnread, lines_text}
-use Rattle.life_app.specs.inside.Turns.{IsTold, is_faulted, turns_made}
+use Rattle.life_app.specs.Transcript.{IsTranscript}
+use Rattle.life_app.specs.Writing.{Shelving, Stream, WroteAll, WroteNothing}
+use Rattle.life_app.specs.inside.Parts.{AreScriptLanes, SaysUnopened, SaysUnread}
+use Rattle.life_app.specs.inside.Told.{EndsRan, EndsTold, IsWritable, any_faulted, any_lacked, told_texts}
 use Rattle.life_app.proofs.CrashLaws.{opens_as_begun}
 use Rattle.life_app.proofs.FaultSteps.{rose_in}
-use Rattle.life_app.proofs.LaneSteps.{few_lines}
-use Rattle.life_app.proofs.MergeSteps.{all_answered, all_tried, answered_from, are_lines_of, callers_of, has_a_fault, is_merge, text_of_lines}
+use Rattle.life_app.proofs.ToldSteps.{Telling, same_opened, telling}
 
 -- an output that isn't touched had nothing written to it
 pub nothing_written : (told : Option (List ℕ)) → Appends told told []
 nothing_written None = tt
 nothing_written (Some xs) = sym (append-nil xs)
 
-as_answered : (lines : List Line) (answers : List Answer) (output : Stream) (faulted : Bool) → list_any is_faulted answers ≡ faulted
-    → WroteAll output (lines_text 1 lines answers) → EndsLines lines answers output (if faulted then DiskFault else Done)
-as_answered lines answers output true is wrote = (is, wrote)
-as_answered lines answers output false is wrote = (is, wrote)
+-- a text that is written whole ends a run by what is told of its lines
+by_lines : (lines : List ToldLine) (output : Stream) (faulted lacked : Bool) → any_faulted lines ≡ faulted → any_lacked lines ≡ lacked
+    → WroteAll output (told_texts lines) → EndsTold lines output (if faulted then DiskFault else if lacked then NoMemory else Done)
+by_lines lines output true lacked failed short wrote = (failed, wrote)
+by_lines lines output false true whole short wrote = inr (whole, short, wrote)
+by_lines lines output false false whole found wrote = (whole, found, wrote)
 
--- a text that is written whole ends a run by its answers
-pub ends_as_answered : (lines : List Line) (answers : List Answer) (output : Stream) (ending : Ending)
-    → ending ≡ (if list_any is_faulted answers then DiskFault else Done)
-    → WroteAll output (lines_text 1 lines answers) → EndsLines lines answers output ending
-ends_as_answered lines answers output ending is wrote =
-    subst (EndsLines lines answers output) (sym is) (as_answered lines answers output (list_any is_faulted answers) refl wrote)
-
--- the lanes of a script that was read, and the lines that are shown of them
-pub are_lanes : (lanes : List Lane) (shown : List Line)
-    → (bytes : List ℕ) × Reads bytes lanes × (length bytes ≤ most_script_bytes)
-    → ((lines : List Line) → lanes ≡ lane_of 1 lines → shown ≡ lines) → AreLanes lanes shown
-are_lanes lanes shown read same =
-    let one = one_lane read.0 lanes read.1 in
-    let shown_is : shown ≡ one.0 = same one.0 one.1 in
-    record {
-      one = rw shown_is one.1;
-      right = rw shown_is one.2;
-      few = rw shown_is (few_lines read.0 lanes one.0 read.1 one.1 read.2);
-    }
+pub ends_as_told : (lines : List ToldLine) (output : Stream) (ending : Ending)
+    → ending ≡ (if any_faulted lines then DiskFault else if any_lacked lines then NoMemory else Done)
+    → WroteAll output (told_texts lines) → EndsTold lines output ending
+ends_as_told lines output ending is wrote =
+    subst (EndsTold lines output) (sym is) (by_lines lines output (any_faulted lines) (any_lacked lines) refl refl wrote)
 
 -- an office that was opened and made no turn leaves the disk alone
 pub left_alone : {D : Type 0} (g : Ghosts D) (old new : D) (commands : List Command) → (g.honest old → Opens (g.reads old) commands)
@@ -88,55 +78,6 @@ left_alone g old new commands opened unwritten left = record {
       inr (mid.0, mid.1, λ image was. inr (commands, opened honest, opens_as_begun (opened_on commands (g.faults old)) image (mid.2 image was)));
 }
 
-module _ {D : Type 0} (g : Ghosts D) (old disk : D) (lanes : List Lane) (lines : List Line) (output : Stream)
-    (commands : List Command) (opened : g.honest old → Opens (g.reads old) commands) (are : AreLanes lanes lines) where
-  right : AllByRecursion IsScriptLine lines
-  right = recursion_from_All IsScriptLine lines are.right
-
-  -- the answers make a run, of which this was written
-  run_of : (ending : Ending) (Wrote : List ℕ → Type 0) (Replies : List Entry → Type 0)
-      (ran : AnswersAll g old disk (opened_on commands (g.faults old)) lines output ending)
-      → Wrote (lines_text 1 lines ran.answers) → Replies (turns_made ran.caller lines ran.answers) → IsRunOf g old disk lanes Wrote Replies
-  run_of ending Wrote Replies ran wrote replies =
-      subst (λ (ls : List Lane). IsRunOf g old disk ls Wrote Replies) (sym are.one)
-      (record {
-        commands = commands;
-        callers = callers_of ran.caller lines;
-        dry = [];
-        history = turns_made ran.caller lines ran.answers;
-        answered = answered_from ran.caller 0 lines ran.answers;
-        opened = opened;
-        merge = is_merge ran.caller lines ran.answers right ran.each;
-        legal = ran.legal;
-        lines = are_lines_of ran.caller lines ran.answers right ran.each;
-        wrote = subst Wrote (sym (text_of_lines ran.caller 0 lines ran.answers right)) wrote;
-        replies = replies;
-        disk = ran.left;
-      })
-
-  -- so a run whose lines were answered ends as its script's run does
-  ends_answered : (ending : Ending) → AnswersAll g old disk (opened_on commands (g.faults old)) lines output ending
-      → EndsScript g old disk lanes output ending
-  ends_answered Done ran =
-      run_of Done (WroteAll output) AreAnswered ran ran.ends.1
-      (all_answered ran.caller lines ran.answers right (recursion_from_All IsTold ran.answers ran.told) ran.ends.0)
-  ends_answered WriteFault ran = (
-    ran.ends.0,
-    run_of WriteFault (AppendsPart output.before output.after) AreTried ran ran.ends.1
-        (all_tried ran.caller lines ran.answers right (recursion_from_All IsTold ran.answers ran.told)),
-  )
-  ends_answered DiskFault ran =
-      let fault = has_a_fault ran.caller lines ran.answers right ran.each ran.ends.0 in
-      let tried = all_tried ran.caller lines ran.answers right (recursion_from_All IsTold ran.answers ran.told) in
-      let rose = rose_in (opened_on commands (g.faults old)) (turns_made ran.caller lines ran.answers) fault.0 ran.legal.due fault.1 in (
-        subst (Rose (g.faults old)) (sym ran.left.faults) rose,
-        inr (run_of DiskFault (WroteAll output) HaveAFault ran ran.ends.1 (tried, fault)),
-      )
-  ends_answered NoMemory ran =
-      inr (run_of NoMemory (WroteNothing output) AreTried ran ran.ends
-      (all_tried ran.caller lines ran.answers right (recursion_from_All IsTold ran.answers ran.told)))
-  ends_answered _ ran = absurd ran.ends
-
 -- an office that was opened and closed
 pub opened_left : {D : Type 0} (g : Ghosts D) (old disk : D) (office : OfficeState D g) → HasOpened old office
     → IsLeftBy g (begun_of office) disk (opening_of office) [] → IsLeftBy g old disk (opened_on (opening_of office).commands (g.faults old)) []
@@ -150,17 +91,86 @@ opened_alone g old disk office opened same left =
     (λ honest finished. subst (λ d. LooksOn g old d) (sym same) (opened.unwritten honest finished))
     (opened_left g old disk office opened left)
 
--- the lines that an office answered end their script's run
-pub ends_office : {D : Type 0} (g : Ghosts D) (old disk : D) (postings : ℕ) (pass : Holding (OfficeOpening D)) (lanes : List Lane) (lines : List Line)
-    (output : Stream) (ending : Ending) → HasStarted g old postings pass → AreLanes lanes lines
-    → ((opened : OfficeOpening D) → pass.opening ≡ Some opened
-    → AnswersAll g opened.begun disk opened.opening lines output ending)
-    → EndsScript g old disk lanes output ending
-ends_office g old disk postings pass lanes lines output ending started are ends =
-    let commands = started.opening.commands in
-    ends_answered g old disk lanes lines output commands started.opened are ending
-    (subst (λ (faults : ℕ). AnswersAll g old disk (opened_on commands faults) lines output ending) started.faults
-    (ends (record { opening = started.opening; begun = old; room = postings }) started.first.opened))
+-- An office ran lanes and was closed.
+module _ {D : Type 0} (g : Ghosts D) (old disk : D) (lanes : List Lane) (basis : List Dated) (first closing : Holding (OfficeOpening D))
+    (balances : Booking) (started : HasStarted g old (length (lines_in lanes)) first)
+    (facts : PassFacts IsOfficeHistory closing) (closed : HasClosed g closing disk balances) (script : AreScriptLanes lanes) where
+  abbrev opened : OfficeOpening D
+  opened = record { opening = started.opening; begun = old; room = length (lines_in lanes) }
+
+  -- the disk is left by what the office's last pass has seen
+  left_from : closing.opening ≡ Some opened → IsLeftBy g old disk (opened_on started.opening.commands (g.faults old)) closing.seen
+  left_from is =
+      let same : closed.opening ≡ opened = same_opened closed.opening opened (sym closed.opened ∙ is) in
+      let left : IsLeftBy g old disk started.opening closing.seen =
+      subst (λ (o : OfficeOpening D). IsLeftBy g o.begun disk o.opening closing.seen) same closed.disk in
+      subst (λ (n : ℕ). IsLeftBy g old disk (opened_on started.opening.commands n) closing.seen) started.faults left
+
+  module _ (transcript : Transcript) (ran : HasAnsweredLanes basis lanes first closing transcript) where
+    all_told : Telling basis lanes closing transcript opened ran.answered
+    all_told = telling basis lanes first closing transcript opened ran started.first facts closed.whole refl script
+
+    pub lines_writable : All IsWritable transcript.lines
+    lines_writable = all_told.writable
+
+    run_of : (Wrote : List ℕ → Type 0) (Replies : List Entry → List ℕ → Type 0) → Wrote (told_texts transcript.lines)
+        → Replies closing.seen (dry_of transcript.lines) → IsRunOf g old disk lanes basis Wrote Replies
+    run_of Wrote Replies wrote replies = record {
+      commands = started.opening.commands;
+      callers = transcript.callers;
+      dry = dry_of transcript.lines;
+      history = closing.seen;
+      answered = ran.answered;
+      text = told_texts transcript.lines;
+      opened = started.opened;
+      merge = all_told.merge;
+      legal = subst (λ (n : ℕ). IsLegal (opened_on started.opening.commands n) closing.seen) started.faults all_told.history.legal;
+      pins = all_told.pins;
+      lines = ran.lines;
+      tells = subst (λ (n : ℕ). IsTranscript (opened_on started.opening.commands n) closing.seen basis (dry_of transcript.lines) ran.answered (told_texts transcript.lines))
+          started.faults all_told.tells;
+      wrote = wrote;
+      replies = replies;
+      disk = left_from all_told.opening;
+    }
+
+    ends_told : (output : Stream) (ending : Ending) → EndsTold transcript.lines output ending → EndsScript g old disk lanes basis output ending
+    ends_told output Done ends = run_of (WroteAll output) AreAnswered ends.2 (all_told.answered ends.0, all_told.none_dry ends.1)
+    ends_told output WriteFault ends = (ends.0, run_of (AppendsPart output.before output.after) AreTried ends.1 all_told.tried)
+    ends_told output DiskFault ends =
+        let fault = all_told.fault ends.0 in
+        let left = left_from all_told.opening in
+        let legal = subst (λ (n : ℕ). IsLegal (opened_on started.opening.commands n) closing.seen) started.faults all_told.history.legal in
+        let rose = rose_in (opened_on started.opening.commands (g.faults old)) closing.seen fault.0 legal.due fault.1 in (
+          subst (Rose (g.faults old)) (sym left.faults) rose,
+          inr (run_of (WroteAll output) HaveAFault ends.1 (all_told.tried, fault)),
+        )
+    ends_told output NoMemory (inl unwritten) = inr (inl (run_of (WroteNothing output) AreTried unwritten all_told.tried))
+    ends_told output NoMemory (inr short) =
+        inr (inr (run_of (WroteAll output) HaveADryPin short.2 (all_told.answered short.0, all_told.some_dry short.1)))
+    ends_told output _ ends = absurd ends
+
+  -- where there was no memory to run them, nothing was turned
+  opened_only : closing ≡ first → IsOpenedOnly g old disk
+  opened_only same =
+      let is : closing.opening ≡ Some opened = ap (λ (p : Holding (OfficeOpening D)). p.opening) same ∙ started.first.opened in
+      let none : closing.seen ≡ [] = ap (λ (p : Holding (OfficeOpening D)). p.seen) same ∙ started.first.seen in
+      record {
+        commands = started.opening.commands;
+        opened = started.opened;
+        disk = subst (IsLeftBy g old disk (opened_on started.opening.commands (g.faults old))) none (left_from is);
+      }
+
+  pub ran_writable : (ran : Result Transcript Lack) → IfOk ran (HasAnsweredLanes basis lanes first closing)
+      → IfOk ran (λ (transcript : Transcript). All IsWritable transcript.lines)
+  ran_writable (Ok transcript) answered = lines_writable transcript answered
+  ran_writable (Err lack) answered = tt
+
+  pub ends_ran : (ran : Result Transcript Lack) (output : Stream) (ending : Ending) → IfOk ran (HasAnsweredLanes basis lanes first closing)
+      → OnErr ran (closing ≡ first) → EndsRan ran output ending → EndsScript g old disk lanes basis output ending
+  ends_ran (Ok transcript) output ending answered same ends = ends_told transcript answered output ending ends
+  ends_ran (Err lack) output NoMemory answered same ends = inl (ends, inr (opened_only same))
+  ends_ran (Err lack) output _ answered same ends = absurd ends
 
 refused_long : (told : Option (List ℕ)) (output : Stream) → IfSome told (λ t. most_script_bytes < length t)
     → SaysUnread TooLong output BadScript → IfSome told (λ t. IsRefused t output)
@@ -187,26 +197,28 @@ told_lanes (Some t) bytes lanes same read short =
     subst (λ (b : List ℕ). (length b ≤ most_script_bytes) × Reads b lanes) (sym same) (short, read)
 
 -- what is known of a disk on which no office was opened gives the ending
-pub ends_unopened : {D : Type 0} (g : Ghosts D) (old new : D) (lanes : List Lane) (output : Stream) (cause : StartCause) (ending : Ending)
-    → HasNotOpened g old new cause → SaysUnopened cause output ending → EndsScript g old new lanes output ending
-ends_unopened g old new lanes output (FaultyDisk count) DiskFault not said = (not.told.1, inl (said, not.alone))
-ends_unopened g old new lanes output NotAJournal BadJournal not said = record { cause = NotAJournal; line = said; shown = not.shown; quiet = not.told; alone = not.alone }
-ends_unopened g old new lanes output (BadRecord n) BadJournal not said = record { cause = BadRecord n; line = said; shown = not.shown; quiet = not.told; alone = not.alone }
-ends_unopened g old new lanes output (BadRecord n) NoMemory not said = inl (said, inr (not.alone, not.told))
-ends_unopened g old new lanes output NoRoom NoMemory not said = inl (said, inr (not.alone, not.told))
-ends_unopened g old new lanes output _ _ not said = absurd said
+pub ends_unopened : {D : Type 0} (g : Ghosts D) (old new : D) (lanes : List Lane) (basis : List Dated) (output : Stream) (cause : StartCause)
+    (ending : Ending) → HasNotOpened g old new cause → SaysUnopened cause output ending → EndsScript g old new lanes basis output ending
+ends_unopened g old new lanes basis output (FaultyDisk count) DiskFault not said = (not.told.1, inl (said, not.alone))
+ends_unopened g old new lanes basis output NotAJournal BadJournal not said = record { cause = NotAJournal; line = said; shown = not.shown; quiet = not.told; alone = not.alone }
+ends_unopened g old new lanes basis output (BadRecord n) BadJournal not said = record { cause = BadRecord n; line = said; shown = not.shown; quiet = not.told; alone = not.alone }
+ends_unopened g old new lanes basis output (BadRecord n) NoMemory not said = inl (said, inl (not.alone, not.told))
+ends_unopened g old new lanes basis output NoRoom NoMemory not said = inl (said, inl (not.alone, not.told))
+ends_unopened g old new lanes basis output _ _ not said = absurd said
 
 -- a run that read its script ends as its script's run does
-pub ends_script : {D : Type 0} (g : Ghosts D) (old new : D) (input output : Stream) (lanes : List Lane) (bytes : List ℕ) (ending : Ending)
+pub ends_script : {D : Type 0} (g : Ghosts D) (old new : D) (name : List ℕ) (input output : Stream) (shelf : Shelving) (ShelfStays : Type 0)
+    (lanes : List Lane) (bytes : List ℕ) (ending : Ending)
     → Reads bytes lanes → length bytes ≤ most_script_bytes → IfSome input.before (λ t. t ≡ bytes) → IsAtEnd input.after
-    → EndsScript g old new lanes output ending → EndsRun g old new input output ending
-ends_script g old new input output lanes bytes ending read short same end ends =
+    → EndsLanes g old new lanes name shelf output ShelfStays ending → EndsRun g old new name input output shelf ShelfStays ending
+ends_script g old new name input output shelf ShelfStays lanes bytes ending read short same end ends =
     inl (record { lanes = lanes; read = told_lanes input.before bytes lanes same read short; end = end; ends = ends })
 
--- one that read none leaves the disk
-pub ends_unread : {D : Type 0} (g : Ghosts D) (disk : D) (input output : Stream) (unread : Unread) (ending : Ending)
-    → IsUnread input unread → SaysUnread unread output ending → EndsRun g disk disk input output ending
-ends_unread g disk input output unread ending is says = inr (refl, by unread ending is says)
+-- one that read none leaves the shelf and the disk
+pub ends_unread : {D : Type 0} (g : Ghosts D) (disk : D) (name : List ℕ) (input output : Stream) (shelf : Shelving) (ShelfStays : Type 0)
+    (unread : Unread) (ending : Ending) → ShelfStays → IsUnread input unread → SaysUnread unread output ending
+    → EndsRun g disk disk name input output shelf ShelfStays ending
+ends_unread g disk name input output shelf ShelfStays unread ending stays is says = inr (refl, stays, by unread ending is says)
   where
     by : (unread : Unread) (ending : Ending) → IsUnread input unread → SaysUnread unread output ending → EndsUnread input output ending
     by TooLong BadScript is said = refused_long input.before output (is.too_long refl) said

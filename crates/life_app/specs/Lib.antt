@@ -1,6 +1,5 @@
 pub mod Words
 pub mod Status
-pub mod AnsweredLines
 pub mod Transcript
 pub mod Writing
 pub mod Script

@@ -1,15 +1,17 @@
 -- What the program does at its words, over its devices, and the status with which it ends
-use Rattle.std.specs.Prelude.{◌≡◌, ℕ, ◌⊎◌, List, codes, Some, None, String}
+use Rattle.std.specs.Prelude.{◌≡◌, ℕ, ◌⊎◌, true, false, List, [], codes, Option, Some, None, IfSome, String}
 use Rattle.std.specs.Global.{Global}
 use Rattle.std.specs.Io.KnownBytes.{IsAtEnd}
 use Rattle.outside_io.specs.declared.disks.Disk.{Ghosts}
 use Rattle.policy_types.specs.declared.script.Lane.{Lane}
+use Rattle.basis_book.specs.Dated.{Dated}
+use Rattle.basis_shelf.specs.Bases.{IsBasis}
 use Rattle.life_app.specs.Books.{books_text, policy_account}
 use Rattle.life_app.specs.Outcome.{EndsScript}
-use Rattle.life_app.specs.Script.{EndsUnread, IsReadAs}
+use Rattle.life_app.specs.Script.{EndsUnread, IsReadAs, asks_for_values}
 use Rattle.life_app.specs.Stating.{EndsState}
 use Rattle.life_app.specs.Status.{status_of}
-use Rattle.life_app.specs.Valuing.{EndsValue}
+use Rattle.life_app.specs.Valuing.{EndsNoBasis, EndsValue}
 use Rattle.life_app.specs.Writing.{Shelving, Stream, WroteLine}
 use Rattle.life_app.specs.declared.ending.Ending.{Ending}
 use Rattle.life_app.specs.declared.ending.Ending.TheVariants.{Usage, NoMemory}
@@ -17,23 +19,45 @@ use Rattle.life_args.specs.Words.{AskFor, AskForNothing}
 use Rattle.life_args.specs.declared.mode.Mode.{Mode}
 use Rattle.life_args.specs.declared.mode.Mode.TheVariants.{Run, Value, State}
 
+-- the shelf has this basis under the name, and a script's run ended so by it
+pub record EndsScriptBy {D : Type 0} (g : Ghosts D) (old new : D) (lanes : List Lane) (name : List ℕ) (shelf : Shelving)
+    (output : Stream) (ending : Ending) : Type 0 where
+  pub basis : List Dated
+  pub is : IfSome shelf.files (λ files. IsBasis files name basis)
+  pub ends : EndsScript g old new lanes basis output ending
+
+-- how a script's run ends that needs the basis of this name; where there is none, the disk isn't touched
+abbrev pub EndsByName : {D : Type 0} → Ghosts D → D → D → List Lane → List ℕ → Shelving → Stream → Ending → Type 0
+EndsByName g old new lanes name shelf output ending =
+    EndsScriptBy g old new lanes name shelf output ending ⊎ ((new ≡ old) × EndsNoBasis name shelf output ending)
+
+-- How a script's run ends. Where no line asks for values, no basis is needed and the shelf stays.
+abbrev pub EndsLanes : {D : Type 0} → Ghosts D → D → D → List Lane → List ℕ → Shelving → Stream → (ShelfStays : Type 0)
+    → Ending → Type 0
+EndsLanes g old new lanes name shelf output ShelfStays ending =
+    ((asks_for_values lanes ≡ false) × ShelfStays × EndsScript g old new lanes [] output ending)
+    ⊎ ((asks_for_values lanes ≡ true) × EndsByName g old new lanes name shelf output ending)
+
 -- the input was read to its end as a script, whose run ended so
-pub record EndsRead {D : Type 0} (g : Ghosts D) (old new : D) (input output : Stream) (ending : Ending) : Type 0 where
+pub record EndsRead {D : Type 0} (g : Ghosts D) (old new : D) (name : List ℕ) (input output : Stream) (shelf : Shelving)
+    (ShelfStays : Type 0) (ending : Ending) : Type 0 where
   pub lanes : List Lane
   pub read : IsReadAs input.before lanes
   pub end : IsAtEnd input.after
-  pub ends : EndsScript g old new lanes output ending
+  pub ends : EndsLanes g old new lanes name shelf output ShelfStays ending
 
--- a run that read no script leaves the disk
-abbrev pub EndsRun : {D : Type 0} → Ghosts D → D → D → Stream → Stream → Ending → Type 0
-EndsRun g old new input output ending =
-    EndsRead g old new input output ending ⊎ ((new ≡ old) × EndsUnread input output ending)
+-- a run that read no script leaves the shelf and the disk
+abbrev pub EndsRun : {D : Type 0} → Ghosts D → D → D → List ℕ → Stream → Stream → Shelving → (ShelfStays : Type 0) → Ending
+    → Type 0
+EndsRun g old new name input output shelf ShelfStays ending =
+    EndsRead g old new name input output shelf ShelfStays ending
+    ⊎ ((new ≡ old) × ShelfStays × EndsUnread input output ending)
 
--- how each mode ends; `run` alone reads the input, and `value` alone the shelf
+-- how each mode ends; `run` alone reads the input, and `state` leaves the shelf
 abbrev pub EndsMode : {D : Type 0} → Ghosts D → D → D → Mode → Stream → Stream → Shelving → (InputStays ShelfStays : Type 0)
     → Ending → Type 0
 EndsMode g old new (Run basis) input output shelf InputStays ShelfStays ending =
-    ShelfStays × EndsRun g old new input output ending
+    EndsRun g old new basis input output shelf ShelfStays ending
 EndsMode g old new (Value on at workers basis) input output shelf InputStays ShelfStays ending =
     InputStays × EndsValue g old new on at basis shelf output ending
 EndsMode g old new (State None) input output shelf InputStays ShelfStays ending =

@@ -1,20 +1,21 @@
 -- How a run ends that read its script: what was written, the history that the text tells of, and the disk
-use Rattle.std.specs.Prelude.{◌≡◌, ℕ, ◌⊎◌, List, ◌++◌, codes, decimal}
-use Rattle.std.specs.List.{AllByRecursion}
+use Rattle.std.specs.Prelude.{◌≡◌, ℕ, ◌⊎◌, List, [], ◌++◌, codes, decimal, slice_get, Some}
+use Rattle.std.specs.List.{AllByRecursion, Contains}
+use Rattle.basis_book.specs.Dated.{Dated}
 use Rattle.outside_io.specs.Faults.{Rose}
 use Rattle.outside_io.specs.Streams.{AppendsPart}
 use Rattle.outside_io.specs.declared.disks.Disk.{Ghosts}
 use Rattle.policy_types.specs.declared.command.Command.{Command}
 use Rattle.policy_types.specs.declared.entry.Entry.{Entry}
 use Rattle.policy_types.specs.declared.entry.Reply.{Reply}
-use Rattle.policy_types.specs.declared.entry.Reply.TheVariants.{Faulted, Blank}
+use Rattle.policy_types.specs.declared.entry.Reply.TheVariants.{Faulted, Pinned, Blank}
 use Rattle.policy_types.specs.declared.script.Lane.{Lane}
 use Rattle.policy_machine.specs.History.{IsLegal, opened_on}
 use Rattle.policy_machine.specs.Merge.{IsMerge}
-use Rattle.life_app.specs.AnsweredLines.{AnsweredLine, AreLinesOf}
+use Rattle.lane_runner.specs.AnsweredLines.{AnsweredLine, AreLinesOf}
 use Rattle.office_state.specs.Images.{HasFaulted, IsLeftAlone, IsLeftBy}
 use Rattle.office_state.specs.Journals.{IsShown, Opens}
-use Rattle.life_app.specs.Transcript.{transcript_text}
+use Rattle.life_app.specs.Transcript.{IsTranscript}
 use Rattle.life_app.specs.declared.ending.Ending.{Ending}
 use Rattle.life_app.specs.declared.ending.Ending.TheVariants.{Done, BadJournal, WriteFault, DiskFault, NoMemory}
 use Rattle.office_state.specs.declared.faults.StartCause.{StartCause}
@@ -31,32 +32,59 @@ abbrev pub IsAnswered : Reply → Type 0
 IsAnswered (Faulted count) = ⊥
 IsAnswered reply = IsTried reply
 
-abbrev pub AreTried : List Entry → Type 0
-AreTried history = AllByRecursion (λ (entry : Entry). IsTried entry.reply) history
+-- a pin was taken
+abbrev pub IsPinned : Reply → Type 0
+IsPinned (Pinned position policies) = Unit {0}
+IsPinned _ = ⊥
 
-abbrev pub AreAnswered : List Entry → Type 0
-AreAnswered history = AllByRecursion (λ (entry : Entry). IsAnswered entry.reply) history
+-- each number is the place of a pin
+abbrev pub ArePins : List Entry → List ℕ → Type 0
+ArePins history numbers =
+    AllByRecursion (λ (n : ℕ). (entry : Entry) × (slice_get history n ≡ Some entry) × IsPinned entry.reply) numbers
+
+-- every posting was tried
+abbrev pub AreTried : List Entry → List ℕ → Type 0
+AreTried history dry = AllByRecursion (λ (entry : Entry). IsTried entry.reply) history
+
+-- every posting was answered, and every valuation found memory
+abbrev pub AreAnswered : List Entry → List ℕ → Type 0
+AreAnswered history dry = AllByRecursion (λ (entry : Entry). IsAnswered entry.reply) history × (dry ≡ [])
+
+-- every posting was answered, and some valuation found no memory
+abbrev pub HaveADryPin : List Entry → List ℕ → Type 0
+HaveADryPin history dry =
+    AllByRecursion (λ (entry : Entry). IsAnswered entry.reply) history × ((pin : ℕ) × Contains dry pin)
 
 -- every posting was tried, and in some the disk failed
-abbrev pub HaveAFault : List Entry → Type 0
-HaveAFault history = AreTried history × ((command : Command) × HasFaulted history command)
+abbrev pub HaveAFault : List Entry → List ℕ → Type 0
+HaveAFault history dry = AreTried history dry × ((command : Command) × HasFaulted history command)
 
 -- The office was opened on the commands of the disk's file. The lanes' lines are answered once, in order, by a legal
--- history from there, the text is that of the answered lines, and the disk holds what was accepted.
-pub record IsRunOf {D : Type 0} (g : Ghosts D) (old new : D) (lanes : List Lane)
-    (Wrote : List ℕ → Type 0) (Replies : List Entry → Type 0) : Type 0 where
+-- history from there, the text is that of the answered lines, and the disk holds what was accepted. The pins of the
+-- valuations that found no memory are dry.
+pub record IsRunOf {D : Type 0} (g : Ghosts D) (old new : D) (lanes : List Lane) (basis : List Dated)
+    (Wrote : List ℕ → Type 0) (Replies : List Entry → List ℕ → Type 0) : Type 0 where
   pub commands : List Command
   pub callers : List ℕ
   pub dry : List ℕ
   pub history : List Entry
   pub answered : List AnsweredLine
+  pub text : List ℕ
   pub opened : g.honest old → Opens (g.reads old) commands
   pub merge : IsMerge history lanes callers dry
   pub legal : IsLegal (opened_on commands (g.faults old)) history
+  pub pins : ArePins history dry
   pub lines : AreLinesOf answered history lanes callers dry
-  pub wrote : Wrote (transcript_text answered)
-  pub replies : Replies history
+  pub tells : IsTranscript (opened_on commands (g.faults old)) history basis dry answered text
+  pub wrote : Wrote text
+  pub replies : Replies history dry
   pub disk : IsLeftBy g old new (opened_on commands (g.faults old)) history
+
+-- an office was opened on the commands of the disk's file, and the disk holds them still
+pub record IsOpenedOnly {D : Type 0} (g : Ghosts D) (old new : D) : Type 0 where
+  pub commands : List Command
+  pub opened : g.honest old → Opens (g.reads old) commands
+  pub disk : IsLeftBy g old new (opened_on commands (g.faults old)) []
 
 -- the text of the first record that can't stand
 abbrev pub bad_record_text : ℕ → List ℕ
@@ -76,18 +104,20 @@ pub record IsRefusedJournal {D : Type 0} (g : Ghosts D) (old new : D) (output : 
   pub quiet : g.faults new ≡ g.faults old
   pub alone : IsLeftAlone g old new
 
--- How a run ends that read its script. Where no office ran the disk is left alone.
-abbrev pub EndsScript : {D : Type 0} → Ghosts D → D → D → List Lane → Stream → Ending → Type 0
-EndsScript g old new lanes output Done = IsRunOf g old new lanes (WroteAll output) AreAnswered
-EndsScript g old new lanes output BadJournal = IsRefusedJournal g old new output
-EndsScript g old new lanes output WriteFault =
+-- How a run ends that read its script, and has the basis that it needs. Where no office ran the disk is left alone.
+abbrev pub EndsScript : {D : Type 0} → Ghosts D → D → D → List Lane → List Dated → Stream → Ending → Type 0
+EndsScript g old new lanes basis output Done = IsRunOf g old new lanes basis (WroteAll output) AreAnswered
+EndsScript g old new lanes basis output BadJournal = IsRefusedJournal g old new output
+EndsScript g old new lanes basis output WriteFault =
     Rose output.faults_before output.faults_after
-    × IsRunOf g old new lanes (AppendsPart output.before output.after) AreTried
-EndsScript g old new lanes output DiskFault =
+    × IsRunOf g old new lanes basis (AppendsPart output.before output.after) AreTried
+EndsScript g old new lanes basis output DiskFault =
     Rose (g.faults old) (g.faults new)
     × ((WroteLine output (codes "diskfault") × IsLeftAlone g old new)
-    ⊎ IsRunOf g old new lanes (WroteAll output) HaveAFault)
-EndsScript g old new lanes output NoMemory =
-    (WroteLine output (codes "nomemory") × ((new ≡ old) ⊎ (IsLeftAlone g old new × (g.faults new ≡ g.faults old))))
-    ⊎ IsRunOf g old new lanes (WroteNothing output) AreTried
-EndsScript g old new lanes output _ = ⊥
+    ⊎ IsRunOf g old new lanes basis (WroteAll output) HaveAFault)
+EndsScript g old new lanes basis output NoMemory =
+    (WroteLine output (codes "nomemory")
+    × ((IsLeftAlone g old new × (g.faults new ≡ g.faults old)) ⊎ IsOpenedOnly g old new))
+    ⊎ IsRunOf g old new lanes basis (WroteNothing output) AreTried
+    ⊎ IsRunOf g old new lanes basis (WroteAll output) HaveADryPin
+EndsScript g old new lanes basis output _ = ⊥

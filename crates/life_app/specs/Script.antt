@@ -1,8 +1,10 @@
 -- The script on the input, and how a run ends that has none
-use Rattle.std.specs.Prelude.{ℕ, ◌<◌, ◌≤◌, ◌⊎◌, List, ◌∷◌, ◌++◌, length, codes, decimal, Option, IfSome}
+use Rattle.std.specs.Prelude.{◌≡◌, ℕ, ◌<◌, ◌≤◌, ◌⊎◌, Bool, List, ◌∷◌, ◌++◌, length, codes, decimal, Option, IfSome}
+use Rattle.std.specs.List.{list_any}
 use Rattle.outside_io.specs.Faults.{Rose}
 use Rattle.policy_types.specs.declared.script.Lane.{Lane}
 use Rattle.command_csv.specs.Reads.{Reads, IsFirstFault}
+use Rattle.lane_runner.specs.Lanes.{is_value}
 use Rattle.life_app.specs.Writing.{Stream, WroteLine}
 use Rattle.life_app.specs.declared.ending.Ending.{Ending}
 use Rattle.life_app.specs.declared.ending.Ending.TheVariants.{BadScript, ReadFault, NoMemory}
@@ -13,6 +15,10 @@ most_script_bytes = 16777216
 -- the script isn't too long, and says these lanes
 abbrev pub IsReadAs : Option (List ℕ) → List Lane → Type 0
 IsReadAs script lanes = IfSome script (λ bytes. (length bytes ≤ most_script_bytes) × Reads bytes lanes)
+
+-- a line of a lane asks for values
+abbrev pub asks_for_values : List Lane → Bool
+asks_for_values lanes = list_any (λ (lane : Lane). list_any is_value lane.lines) lanes
 
 abbrev pub IsReadable : Option (List ℕ) → Type 0
 IsReadable script = (lanes : List Lane) × IsReadAs script lanes

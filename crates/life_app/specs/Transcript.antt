@@ -1,19 +1,28 @@
--- The text of a run: for each answered line of the script a line of text, in the order of their first turns
-use Rattle.std.specs.Prelude.{ℕ, List, [], ◌∷◌, codes, decimal}
-use Rattle.std.specs.List.{flat_map}
+-- The text of a run: that of each answered line of the script, in the order of their first turns
+use Rattle.std.specs.Prelude.{◌≡◌, ◌⊎◌, ℕ, ℤ, List, [], ◌∷◌, ◌++◌, take, codes, decimal}
+use Rattle.std.specs.List.{AllZip, Contains}
+use Rattle.basis_book.specs.Dated.{Dated}
 use Rattle.policy_types.specs.declared.command.Command.{Command}
 use Rattle.policy_types.specs.declared.refusal.Refusal.{Refusal}
 use Rattle.policy_types.specs.declared.refusal.Refusal.TheVariants.{Taken, Unknown, BeforeLast, WrongStatus, TermOver, NothingDue, TooEarly, GraceOver, NotInArrears, TooLate, WrongAmount, NotAReduction, NotMatured, OverSettled, Full}
 use Rattle.policy_types.specs.declared.entry.Reply.{Reply}
-use Rattle.policy_types.specs.declared.entry.Reply.TheVariants.{Accepted, Refused, Faulted, Blank}
+use Rattle.policy_types.specs.declared.entry.Reply.TheVariants.{Accepted, Refused, Faulted, Pinned, PinRefused, Floor, Blank}
+use Rattle.policy_types.specs.declared.entry.PinRefusal.{PinRefusal}
+use Rattle.policy_types.specs.declared.entry.PinRefusal.TheVariants.{Ahead, Trimmed, PinsFull}
+use Rattle.policy_types.specs.declared.entry.Entry.{Entry}
 use Rattle.policy_types.specs.declared.script.Line.{Line}
-use Rattle.policy_types.specs.declared.script.Line.TheVariants.{Post}
+use Rattle.policy_types.specs.declared.script.Line.TheVariants.{Post, Value, Trim}
 use Rattle.policy_types.specs.Valid.{id_of}
+use Rattle.policy_machine.specs.Book.{book}
+use Rattle.policy_machine.specs.History.{Opening, commands_after}
+use Rattle.policy_value.specs.declared.worth.Row.{Row}
+use Rattle.report_text.specs.Block.{block_text}
+use Rattle.snapshot_value.specs.Valuing.{IsRowOf}
 use Rattle.life_dates.specs.DayText.{day_text}
 use Rattle.money_core.specs.CentsText.{cents_text}
 use Rattle.statements.specs.Lines.{line_of}
 use Rattle.statements.specs.Words.{kind_word, status_word}
-use Rattle.life_app.specs.AnsweredLines.{AnsweredLine}
+use Rattle.lane_runner.specs.AnsweredLines.{AnsweredLine}
 
 -- why a posting was refused: a word, and the value where the refusal holds one
 abbrev pub refusal_fields : Refusal → List (List ℕ)
@@ -46,12 +55,52 @@ abbrev pub posting_text : ℕ → Command → Reply → List ℕ
 posting_text clerk command reply =
     line_of (decimal clerk) (kind_word command ∷ decimal (id_of command) ∷ reply_fields reply)
 
--- the text of a clerk's line by the reply to its first turn; the scripts that are read so far ask for postings alone
-abbrev pub line_text : ℕ → Line → Reply → List ℕ
-line_text clerk (Post command) reply = posting_text clerk command reply
-line_text clerk _ reply = []
+-- the line of a trim: the clerk, and the position before which nothing is kept
+abbrev pub trim_text : ℕ → ℕ → List ℕ
+trim_text clerk floor = line_of (decimal clerk) (codes "trim" ∷ decimal floor ∷ [])
 
--- the text of a run, by its answered lines
-abbrev pub transcript_text : List AnsweredLine → List ℕ
-transcript_text lines =
-    flat_map (λ (answered : AnsweredLine). line_text answered.clerk answered.line answered.first.1.reply) lines
+-- why a position wasn't pinned: how many commands there are, or the position before which nothing is kept
+abbrev pub pin_refusal_fields : PinRefusal → List (List ℕ)
+pin_refusal_fields (Ahead count) = codes "ahead" ∷ decimal count ∷ []
+pin_refusal_fields (Trimmed floor) = codes "trimmed" ∷ decimal floor ∷ []
+pin_refusal_fields PinsFull = codes "pinsfull" ∷ []
+
+-- the line of a valuation that was refused
+abbrev pub unpinned_text : ℕ → ℤ → PinRefusal → List ℕ
+unpinned_text clerk on refusal =
+    line_of (decimal clerk) (codes "value" ∷ day_text on ∷ codes "refused" ∷ pin_refusal_fields refusal)
+
+-- the line of a valuation that found no memory
+abbrev pub unvalued_text : ℕ → ℤ → List ℕ
+unvalued_text clerk on = line_of (decimal clerk) (codes "value" ∷ day_text on ∷ codes "nomemory" ∷ [])
+
+-- The text of a valuation that was pinned at a position after these commands: the block of the rows of the policies that
+-- the first so many of them leave, each row with bounds that enclose the exact reserve. Where the pin is dry, it is the
+-- line that there was no memory.
+abbrev pub IsValuedText : ℕ → ℤ → List Command → List Dated → ℕ → (IsDry : Type 0) → List ℕ → Type 0
+IsValuedText clerk on commands basis position IsDry text =
+    (IsDry × (text ≡ unvalued_text clerk on))
+    ⊎ ((IsDry → ⊥) × ((rows : List Row) × AllZip (IsRowOf basis on) (book (take position commands)) rows
+    × (text ≡ block_text clerk on position rows)))
+
+-- the text of a clerk's line by the reply to its first turn, before which these commands were accepted
+abbrev pub IsReplyText : ℕ → Line → Reply → List Command → List Dated → (IsDry : Type 0) → List ℕ → Type 0
+IsReplyText clerk (Post command) reply commands basis IsDry text = text ≡ posting_text clerk command reply
+IsReplyText clerk Trim (Floor floor) commands basis IsDry text = text ≡ trim_text clerk floor
+IsReplyText clerk (Value on at workers) (PinRefused refusal) commands basis IsDry text = text ≡ unpinned_text clerk on refusal
+IsReplyText clerk (Value on at workers) (Pinned position policies) commands basis IsDry text =
+    IsValuedText clerk on commands basis position IsDry text
+IsReplyText _ _ _ _ _ _ _ = ⊥
+
+-- the text of an answered line of a history
+abbrev pub IsLineText : Opening → List Entry → List Dated → List ℕ → AnsweredLine → List ℕ → Type 0
+IsLineText opening history basis dry answered text =
+    IsReplyText answered.clerk answered.line answered.first.1.reply
+    (commands_after opening (take answered.first.0 history)) basis (Contains dry answered.first.0) text
+
+-- the text of a run: the texts of its answered lines, one after the other
+abbrev pub IsTranscript : Opening → List Entry → List Dated → List ℕ → List AnsweredLine → List ℕ → Type 0
+IsTranscript opening history basis dry [] text = text ≡ []
+IsTranscript opening history basis dry (answered ∷ lines) text =
+    (first : List ℕ) × ((rest : List ℕ) × (text ≡ first ++ rest)
+    × IsLineText opening history basis dry answered first × IsTranscript opening history basis dry lines rest)

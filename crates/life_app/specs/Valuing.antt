@@ -1,27 +1,29 @@
 -- How `value` ends: what was written of the policies at a position of the disk's file, by the basis on the shelf
-use Rattle.std.specs.Prelude.{◌≡◌, ℕ, ◌<◌, ◌≤◌, ◌⊎◌, ℤ, List, [], ◌++◌, length, take, codes, decimal, Option, IfSome, String}
+use Rattle.std.specs.Prelude.{◌≡◌, ℕ, ◌<◌, ◌≤◌, ◌⊎◌, ℤ, true, List, [], ◌∷◌, ◌++◌, length, take, codes, decimal, Option, Some, IfSome, String}
 use Rattle.std.specs.Global.{Global}
 use Rattle.std.specs.List.{AllZip}
 use Rattle.outside_io.specs.Faults.{Rose}
 use Rattle.outside_io.specs.declared.disks.Disk.{Ghosts}
 use Rattle.policy_types.specs.declared.command.Command.{Command}
-use Rattle.policy_types.specs.declared.policy.Policy.{Policy}
 use Rattle.policy_types.specs.declared.entry.At.{At}
+use Rattle.policy_types.specs.declared.script.Lane.{Lane}
 use Rattle.policy_types.specs.declared.entry.At.TheVariants.{Now, Position}
 use Rattle.policy_machine.specs.Book.{book}
 use Rattle.policy_machine.specs.History.{opened_on}
-use Rattle.basis_book.specs.Dated.{Dated, IsPicked}
+use Rattle.basis_book.specs.Dated.{Dated}
 use Rattle.basis_shelf.specs.Bases.{IsBasis}
 use Rattle.basis_shelf.specs.FirstBad.{IsFirstBad}
 use Rattle.basis_shelf.specs.Lines.{bad_basis_text}
 use Rattle.basis_shelf.specs.declared.fault.BadBasis.{BadBasis}
-use Rattle.policy_value.specs.Rows.{IsExact, IsInsured, RowOf}
 use Rattle.policy_value.specs.declared.worth.Row.{Row}
 use Rattle.report_text.specs.Block.{block_text}
+use Rattle.snapshot_value.specs.Valuing.{IsRowOf}
 use Rattle.office_state.specs.Images.{IsLeftBy}
 use Rattle.office_state.specs.Journals.{Opens}
+use Rattle.life_app.specs.Outcome.{IsOpenedOnly}
+use Rattle.life_app.specs.Script.{IsReadAs, asks_for_values}
 use Rattle.life_app.specs.Stating.{EndsReadOnly}
-use Rattle.life_app.specs.Words.{AskForValue}
+use Rattle.life_app.specs.Words.{AskForRun, AskForValue}
 use Rattle.life_app.specs.Writing.{Shelving, Stream, WroteLine, WroteOrFailed}
 use Rattle.life_app.specs.declared.ending.Ending.{Ending}
 use Rattle.life_app.specs.declared.ending.Ending.TheVariants.{Ahead, BadBasis as NoRightBasis, NoMemory, ReadFault}
@@ -30,12 +32,6 @@ use Rattle.life_app.specs.declared.ending.Ending.TheVariants.{Ahead, BadBasis as
 abbrev pub position_of : At → ℕ → ℕ
 position_of Now count = count
 position_of (Position p) count = p
-
--- the policy's row on the day by the basis; where the policy is insured then, its bounds enclose the exact reserve
-pub record IsRowOf (basis : List Dated) (on : ℤ) (policy : Policy) (row : Row) : Type 0 where
-  pub valued : RowOf policy basis on row
-  pub exact : IsInsured policy on → (index : ℕ) → (entry : Dated) → IsPicked basis policy.issued index entry
-      → IsExact policy entry.table entry.bp row.t row.worth
 
 -- there are as many commands as are asked for, and of the policies that these leave, each with its row, the text was
 -- written
@@ -66,11 +62,12 @@ pub record IsAhead {D : Type 0} (g : Ghosts D) (old new : D) (at : At) (output :
   pub beyond : IsBeyond commands at output
   pub disk : IsLeftBy g old new (opened_on commands (g.faults old)) []
 
--- how `value` ends by a basis
+-- how `value` ends by a basis; where there was no memory for the values the disk holds its commands still
 abbrev pub EndsValuing : {D : Type 0} → Ghosts D → D → D → ℤ → At → List Dated → Stream → Ending → Type 0
 EndsValuing g old new on at basis output ending =
     EndsReadOnly g old new (IsValued g old new on at basis) output ending
     ⊎ ((ending ≡ Ahead) × IsAhead g old new at output)
+    ⊎ ((ending ≡ NoMemory) × WroteLine output (codes "nomemory") × IsOpenedOnly g old new)
 
 -- the shelf has this basis under the name, and `value` ended so by it
 pub record EndsByBasis {D : Type 0} (g : Ghosts D) (old new : D) (on : ℤ) (at : At) (name : List ℕ) (shelf : Shelving)
@@ -79,7 +76,7 @@ pub record EndsByBasis {D : Type 0} (g : Ghosts D) (old new : D) (on : ℤ) (at 
   pub is : IfSome shelf.files (λ files. IsBasis files name basis)
   pub ends : EndsValuing g old new on at basis output ending
 
--- how `value` ends without a basis: the first bad file is named, or the shelf failed, or memory was refused
+-- how a mode ends without the basis that it needs: the first bad file is named, or the shelf failed, or memory was refused
 abbrev pub EndsNoBasis : List ℕ → Shelving → Stream → Ending → Type 0
 EndsNoBasis name shelf output NoRightBasis =
     (bad : BadBasis) × IfSome shelf.files (λ files. IsFirstBad files name bad) × WroteOrFailed output (bad_basis_text bad)
@@ -93,11 +90,23 @@ abbrev pub EndsValue : {D : Type 0} → Ghosts D → D → D → ℤ → At → 
 EndsValue g old new on at name shelf output ending =
     EndsByBasis g old new on at name shelf output ending ⊎ ((new ≡ old) × EndsNoBasis name shelf output ending)
 
--- the words ask for values by a basis of which a file is bad, and the first bad one is named
-abbrev pub HasBadFile : List (String Global) → Option (List ℕ → Option (List ℕ)) → Stream → Type 0
-HasBadFile words told output =
-    (on : ℤ) × ((at : At) × ((name : List ℕ) × ((bad : BadBasis) × AskForValue words on at name
-    × IfSome told (λ files. IsFirstBad files name bad) × WroteOrFailed output (bad_basis_text bad))))
+-- the words need the basis of this name: they ask for values, or to run a script of which a line does
+abbrev pub NeedBasis : List (String Global) → Option (List ℕ) → List ℕ → Type 0
+NeedBasis words script name =
+    ((on : ℤ) × ((at : At) × AskForValue words on at name))
+    ⊎ (AskForRun words name × ((lanes : List Lane) × IsReadAs script lanes × (asks_for_values lanes ≡ true)))
+
+-- the words need a basis of which a file is bad, and the first bad one is named
+abbrev pub HasBadFile : List (String Global) → Option (List ℕ) → Option (List ℕ → Option (List ℕ)) → Stream → Type 0
+HasBadFile words script told output =
+    (name : List ℕ) × ((bad : BadBasis) × NeedBasis words script name
+    × IfSome told (λ files. IsFirstBad files name bad) × WroteOrFailed output (bad_basis_text bad))
+
+-- where a line asks for values, the shelf has the basis of this name
+abbrev pub HasItsBasis : List Lane → List ℕ → Option (List ℕ → Option (List ℕ)) → Type 0
+HasItsBasis lanes name told =
+    asks_for_values lanes ≡ true → (files : List ℕ → Option (List ℕ))
+    × ((basis : List Dated) × (told ≡ Some files) × IsBasis files name basis)
 
 -- this bad file is named
 abbrev pub SaysBadFile : BadBasis → Stream → ℕ → Type 0

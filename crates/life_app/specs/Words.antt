@@ -5,9 +5,9 @@ use Rattle.policy_types.specs.declared.entry.At.{At}
 use Rattle.life_args.specs.Words.{AskFor}
 use Rattle.life_args.specs.declared.mode.Mode.TheVariants.{Run, Value, State}
 
--- the words ask to run a script
-abbrev pub AskForRun : List (String Global) → Type 0
-AskForRun words = (basis : List ℕ) × AskFor words (Run basis)
+-- the words ask to run a script, with the basis of this name for its valuations
+abbrev pub AskForRun : List (String Global) → List ℕ → Type 0
+AskForRun words name = AskFor words (Run name)
 
 -- the words ask for `state`, of all policies or of one
 abbrev pub AskForState : List (String Global) → Type 0

@@ -7,14 +7,16 @@ use Rattle.policy_types.specs.declared.policy.Status.TheVariants.{InForce, Lapse
 use Rattle.policy_types.specs.declared.refusal.Refusal.{Refusal}
 use Rattle.policy_types.specs.declared.refusal.Refusal.TheVariants.{Taken, Unknown, BeforeLast, WrongStatus, TermOver, NothingDue, TooEarly, GraceOver, NotInArrears, TooLate, WrongAmount, NotAReduction, NotMatured, OverSettled, Full}
 use Rattle.policy_types.specs.declared.entry.Call.TheVariants.{Post}
+use Rattle.policy_types.specs.declared.entry.PinRefusal.TheVariants.{Ahead, Trimmed, PinsFull}
 use Rattle.policy_types.specs.declared.entry.Reply.{Reply}
 use Rattle.policy_types.specs.declared.entry.Reply.TheVariants.{Accepted, Refused, Faulted, Blank}
 use Rattle.policy_types.specs.declared.entry.Entry.{Entry}
 use Rattle.policy_types.specs.declared.script.Line.TheVariants.{Post as PostLine}
 use Rattle.policy_types.specs.declared.script.Lane.{Lane}
-use Rattle.life_app.specs.AnsweredLines.{AnsweredLine, AreLinesOf}
+use Rattle.lane_runner.specs.AnsweredLines.{AnsweredLine, AreLinesOf}
 use Rattle.life_app.specs.Books.{books_text, policy_account}
-use Rattle.life_app.specs.Transcript.{posting_text, transcript_text}
+use Rattle.policy_machine.specs.History.{opened_on}
+use Rattle.life_app.specs.Transcript.{IsTranscript, posting_text, trim_text, unpinned_text, unvalued_text}
 
 abbrev pub policy_issue : Command
 policy_issue = Issue 7001 (pos 18262) Endowment 0 3 100000 40000
@@ -84,8 +86,15 @@ clerks_answers =
 -- two clerks' lines stand in the order of their turns
 abbrev pub TwoClerks : Type 0
 TwoClerks = AreLinesOf clerks_answers clerks_turns clerks_lanes (11 ∷ 12 ∷ []) []
-    × (transcript_text clerks_answers
-    ≡ codes "5,premium,7001,refused,unknown" ++ 10 ∷ codes "3,issue,7001,accepted,1" ++ 10 ∷ codes "5,premium,7001,accepted,2" ++ 10 ∷ [])
+    × IsTranscript (opened_on [] 0) clerks_turns [] [] clerks_answers (codes "5,premium,7001,refused,unknown" ++ 10 ∷ codes "3,issue,7001,accepted,1" ++ 10 ∷ codes "5,premium,7001,accepted,2" ++ 10 ∷ [])
+
+-- a trim, and why a valuation on 2021-01-01 has no rows
+abbrev pub OtherLines : Type 0
+OtherLines = (trim_text 1 300 ≡ codes "1,trim,300" ++ 10 ∷ [])
+    × (unpinned_text 1 (pos 18628) (Ahead 1) ≡ codes "1,value,2021-01-01,refused,ahead,1" ++ 10 ∷ [])
+    × (unpinned_text 1 (pos 18628) (Trimmed 2) ≡ codes "1,value,2021-01-01,refused,trimmed,2" ++ 10 ∷ [])
+    × (unpinned_text 8 (pos 18628) PinsFull ≡ codes "8,value,2021-01-01,refused,pinsfull" ++ 10 ∷ [])
+    × (unvalued_text 1 (pos 18628) ≡ codes "1,value,2021-01-01,nomemory" ++ 10 ∷ [])
 
 -- the policy is claimed on 2020-06-01 and settled in part on 2020-07-01, beside another that is issued then
 abbrev pub claimed : List Command

@@ -1,4 +1,4 @@
-pub mod Turns
+pub mod Told
 pub mod Parts
 pub mod Rereading
 pub mod Valued

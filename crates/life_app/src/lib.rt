@@ -2,7 +2,6 @@
 #![tactic(auto)]
 
 mod account;
-mod answers;
 #[cfg(test)]
 mod disk_tests;
 mod ending;
@@ -21,7 +20,6 @@ mod state_tests;
 mod tests;
 mod transcript;
 mod unvalued;
-mod valuation;
 mod value;
 #[cfg(test)]
 mod value_tests;

@@ -1,5 +1,5 @@
 // The top call: all that the program does, over any devices.
-ghost use Rattle.std.specs.Prelude.{◌≡◌, ◌≤◌, ◌<◌, ◌⊎◌, ℕ, ℤ, List, Option, Some, IfSome, length};
+ghost use Rattle.std.specs.Prelude.{◌≡◌, ◌≤◌, ◌<◌, ◌⊎◌, ℕ, ℤ, true, List, Option, Some, IfSome, length};
 ghost use Rattle.outside_io.specs.Faults.{Rose};
 ghost use Rattle.policy_types.specs.declared.command.Command.{Command as ACommand};
 ghost use Rattle.policy_types.specs.declared.entry.At.{At as AnAt};
@@ -13,8 +13,8 @@ ghost use Rattle.command_csv.specs.Reads.{Reads};
 ghost use Rattle.life_args.specs.Words.{AskForNothing};
 ghost use Rattle.office_state.specs.Journals.{Opens, OpensToNone};
 ghost use Rattle.life_app.specs.Obeys.{Does, Obeys};
-ghost use Rattle.life_app.specs.Script.{IsUnreadable};
-ghost use Rattle.life_app.specs.Valuing.{HasBadFile, IsPastTheEnd, SaysBadFile, position_of};
+ghost use Rattle.life_app.specs.Script.{IsUnreadable, asks_for_values};
+ghost use Rattle.life_app.specs.Valuing.{HasBadFile, HasItsBasis, IsPastTheEnd, SaysBadFile, position_of};
 ghost use Rattle.life_app.specs.Words.{AskForRun, AskForState, AskForValue};
 ghost use Rattle.life_app.specs.Writing.{between, shelf_between};
 ghost use Rattle.life_app.specs.inside.Valued.{SaysNoMode};
@@ -38,9 +38,9 @@ pub struct Ended<D> {
     pub disk: D,
 }
 
-/// Does what the words ask for. The words `run` read a script from the input to its end, open the office on the disk,
-/// post each line, and write the transcript; `value` fetches a basis from the shelf, opens the office and writes what
-/// each policy is worth. The watchers and the gate aren't used yet.
+/// Does what the words ask for. The words `run` read a script from the input to its end, fetch a basis from the shelf where
+/// a line asks for values, open the office on the disk, answer each line, and write the transcript; `value` fetches a basis from the shelf, opens the office and writes what
+/// each policy is worth. The watchers aren't used yet.
 pub fn life<R: Threads + Wait + Sync, S: Source, K: Sink, H: Shelf, D: Disk + Send, G: Gate + Sync>(
     rt: &R,
     alloc: Global,
@@ -63,14 +63,20 @@ pub fn life<R: Threads + Wait + Sync, S: Source, K: Sink, H: Shelf, D: Disk + Se
     ensures unasked { AskForNothing words.now → (result.status ≡ 2) ⊎ (result.status ≡ 9) }
 
     // A script that is too long, or has a row that is no line, is refused with 3, but for want of memory.
-    ensures unreadable { (bytes : List ℕ) → AskForRun words.now → S.left input.old ≡ Some bytes → IsUnreadable bytes
+    ensures unreadable { (bytes name : List ℕ) → AskForRun words.now name → S.left input.old ≡ Some bytes → IsUnreadable bytes
         → (Rose (S.faults input.old) (S.faults input.new) → ⊥) → (result.status ≡ 3) ⊎ (result.status ≡ 9) }
 
     // 4 exactly where a basis is needed and a file of it is bad, the first of which is named, but for want of memory.
-    ensures bad_file { result.status ≡ 4 → HasBadFile words.now (H.files shelf.old)
+    ensures bad_file { result.status ≡ 4 → HasBadFile words.now (S.left input.old) (H.files shelf.old)
         (between K.faults K.written output.old output.new) }
     ensures unfit { (on : ℤ) (at : AnAt) (name : List ℕ) (bad : ABadBasis) (files : List ℕ → Option (List ℕ))
         → AskForValue words.now on at name → H.files shelf.old ≡ Some files → IsFirstBad files name bad
+        → (Rose (H.faults shelf.old) (H.faults shelf.new) → ⊥)
+        → SaysBadFile bad (between K.faults K.written output.old output.new) result.status ⊎ (result.status ≡ 9) }
+    ensures unfit_run { (bytes name : List ℕ) (lanes : List ALane) (bad : ABadBasis) (files : List ℕ → Option (List ℕ))
+        → AskForRun words.now name → S.left input.old ≡ Some bytes → length bytes ≤ 16777216 → Reads bytes lanes
+        → asks_for_values lanes ≡ true → H.files shelf.old ≡ Some files → IsFirstBad files name bad
+        → (Rose (S.faults input.old) (S.faults input.new) → ⊥)
         → (Rose (H.faults shelf.old) (H.faults shelf.new) → ⊥)
         → SaysBadFile bad (between K.faults K.written output.old output.new) result.status ⊎ (result.status ≡ 9) }
 
@@ -78,16 +84,21 @@ pub fn life<R: Threads + Wait + Sync, S: Source, K: Sink, H: Shelf, D: Disk + Se
     ensures unopened { D.honest disk → OpensToNone (D.reads disk) → D.reads result.disk ≡ D.reads disk }
 
     // A script that can be read, on devices that don't fail, is run to its end where the disk's file opens to some
-    // commands, and is refused with 5 where it opens to none, but for want of memory.
-    ensures complete { (bytes : List ℕ) (lanes : List ALane) (commands : List ACommand) → AskForRun words.now
+    // commands, and is refused with 5 where it opens to none, but for want of memory. Where a line asks for values the shelf
+    // has to have the basis; else it needn't even work.
+    ensures complete { (bytes name : List ℕ) (lanes : List ALane) (commands : List ACommand) → AskForRun words.now name
         → S.left input.old ≡ Some bytes → length bytes ≤ 16777216 → Reads bytes lanes
+        → HasItsBasis lanes name (H.files shelf.old)
+        → (asks_for_values lanes ≡ true → Rose (H.faults shelf.old) (H.faults shelf.new) → ⊥)
         → D.honest disk → Opens (D.reads disk) commands
         → (Rose (S.faults input.old) (S.faults input.new) → ⊥)
         → (Rose (K.faults output.old) (K.faults output.new) → ⊥)
         → (Rose (D.faults disk) (D.faults result.disk) → ⊥)
         → (result.status ≡ 0) ⊎ (result.status ≡ 9) }
-    ensures refused { (bytes : List ℕ) (lanes : List ALane) → AskForRun words.now
+    ensures refused { (bytes name : List ℕ) (lanes : List ALane) → AskForRun words.now name
         → S.left input.old ≡ Some bytes → length bytes ≤ 16777216 → Reads bytes lanes
+        → HasItsBasis lanes name (H.files shelf.old)
+        → (asks_for_values lanes ≡ true → Rose (H.faults shelf.old) (H.faults shelf.new) → ⊥)
         → D.honest disk → OpensToNone (D.reads disk)
         → (Rose (S.faults input.old) (S.faults input.new) → ⊥)
         → (Rose (D.faults disk) (D.faults result.disk) → ⊥)
@@ -128,16 +139,15 @@ pub fn life<R: Threads + Wait + Sync, S: Source, K: Sink, H: Shelf, D: Disk + Se
         → (Rose (D.faults disk) (D.faults result.disk) → ⊥)
         → (result.status ≡ 5) ⊎ (result.status ≡ 9) }
 {
-    let _ = gate;
     drop(watchers);
-    let finished = obey(rt, alloc, words, input, output, shelf, disk);
+    let finished = obey(rt, alloc, words, input, output, shelf, disk, gate);
     Ended {
         status: finished.ending.status(),
         disk: finished.disk,
     }
 }
 
-fn obey<R: Wait, S: Source, K: Sink, H: Shelf, D: Disk>(
+fn obey<R: Threads + Wait + Sync, S: Source, K: Sink, H: Shelf, D: Disk + Send, G: Gate + Sync>(
     rt: &R,
     alloc: Global,
     words: &[String],
@@ -145,6 +155,7 @@ fn obey<R: Wait, S: Source, K: Sink, H: Shelf, D: Disk>(
     output: &mut K,
     shelf: &mut H,
     disk: D,
+    gate: &G,
 ) -> Finished<D>
     ensures does { Does D.Disk disk result.disk words.now (between S.faults S.left input.old input.new)
         (between K.faults K.written output.old output.new)
@@ -153,8 +164,17 @@ fn obey<R: Wait, S: Source, K: Sink, H: Shelf, D: Disk>(
     ensures files { H.files shelf.new ≡ H.files shelf.old }
 {
     match read_words(alloc, words) {
-        Ok(Mode::Run { .. }) => run(rt, alloc, input, output, disk),
-        Ok(Mode::Value { on, at, basis, .. }) => value(alloc, on, at, &basis, shelf, output, disk),
+        Ok(Mode::Run { basis }) => run(rt, alloc, &basis, input, output, shelf, disk, gate),
+        Ok(
+            Mode::Value {
+                on,
+                at,
+                workers,
+                basis,
+            },
+        ) => value(
+            rt, alloc, on, at, workers, &basis, shelf, output, disk, gate,
+        ),
         Ok(Mode::State { id: None }) => state(alloc, output, disk),
         Ok(Mode::State { id: Some(id) }) => account(alloc, id, output, disk),
         Err(fault) => Finished {

@@ -1,28 +1,35 @@
-// A run of a script: the office is opened, the script's lines are posted by a caller of their own, the office is closed,
-// then the transcript is written.
-ghost use Rattle.std.specs.Prelude.{◌≡◌, ◌≤◌, ℕ, List, [], Some, All, if◌then◌else◌, length, vec_capacity};
+// A run of a script: the basis is fetched where a line asks for values, the office is opened, each lane of the script is run
+// by a caller of its own, the office is closed, then the transcript is written.
+ghost use Rattle.std.specs.Prelude.{◌≡◌, [], if◌then◌else◌, All, IfOk, length};
 ghost use Rattle.std.specs.List.{list_any};
-ghost use Rattle.policy_types.specs.declared.script.Line.{Line as ALine};
-ghost use Rattle.command_csv.specs.Reads.{IsScriptLine, Reads, lane_of};
-ghost use Rattle.shared_office.specs.Offices.{OfficeOpening};
-ghost use Rattle.life_app.specs.Obeys.{EndsRun};
+ghost use Rattle.lane_runner.specs.Lanes.{is_value, lines_in};
+ghost use Rattle.shared_office.specs.Offices.{IsOfficeHistory};
+ghost use Rattle.shared_office.specs.Starting.{HasStarted};
+ghost use Rattle.turn_lock.specs.Passes.{PassFacts};
+ghost use Rattle.life_app.specs.Obeys.{EndsByName, EndsLanes, EndsRun};
 ghost use Rattle.life_app.specs.Outcome.{EndsScript};
-ghost use Rattle.life_app.specs.Script.{most_script_bytes};
-ghost use Rattle.life_app.specs.Writing.{between};
-ghost use Rattle.life_app.specs.inside.Parts.{AnswersAll, AreFew, AreLanes, EndsLines};
-ghost use Rattle.life_app.specs.inside.Turns.{IsFirstFor, IsTold, is_faulted};
-ghost use Rattle.life_app.specs.declared.ending.Ending.TheVariants.{DiskFault, Done};
+ghost use Rattle.life_app.specs.Script.{asks_for_values};
+ghost use Rattle.life_app.specs.Writing.{between, shelf_between};
+ghost use Rattle.life_app.specs.inside.Parts.{AreScriptLanes};
+ghost use Rattle.life_app.specs.inside.Told.{EndsRan, EndsTold, IsWritable, any_faulted, any_lacked, has_faulted};
+ghost use Rattle.lane_runner.specs.Transcripts.{lacked_memory};
+ghost use Rattle.life_app.specs.declared.ending.Ending.TheVariants.{DiskFault, Done, NoMemory as NoRoom};
 
-use crate::answers::{answer_lines, any_faulted};
 use crate::ending::Ending;
 use crate::intake::read_lanes;
 use crate::refusing::{refuse, refuse_journal, say};
 use crate::transcript::transcript;
-use outside_io::{Disk, Sink, Source, write_all};
-use policy_types::{Lane, Line, Script};
+use crate::unvalued::refuse_basis;
+use basis_book::{Basis, BasisRows, Name};
+use basis_shelf::{NoBasis, fetch_basis};
+use indexmap::IndexMap;
+use lane_runner::{AnsweredLine, Outcome, Transcript, run_lanes};
+use outside_io::{Disk, Gate, Shelf, Sink, Source, write_all};
+use policy_types::{Lane, Line, NoMemory};
 use shared_office::{Answer, Office, OfficeCalls, OfficePass, close};
 use std::alloc::Global;
 use std::sync::Wait;
+use std::thread::Threads;
 
 /// What a run leaves: how it ended, and the disk.
 #[derive(Drop)]
@@ -31,19 +38,28 @@ pub struct Finished<D> {
     pub disk: D,
 }
 
-/// Reads a script, opens the office on the disk, answers the script's lines, and writes the transcript.
-pub fn run<R: Wait, S: Source, K: Sink, D: Disk>(
+/// Reads a script, opens the office on the disk, answers the script's lines, and writes the transcript. The basis of the
+/// valuations is that of this name; where there are none the shelf isn't touched.
+pub fn run<R: Threads + Wait + Sync, S: Source, K: Sink, H: Shelf, D: Disk + Send, G: Gate + Sync>(
     rt: &R,
     alloc: Global,
+    name: &Name,
     input: &mut S,
     output: &mut K,
+    shelf: &mut H,
     disk: D,
+    gate: &G,
 ) -> Finished<D>
-    ensures ends { EndsRun D.Disk disk result.disk (between S.faults S.left input.old input.new)
-        (between K.faults K.written output.old output.new) result.ending }
+    ensures ends { EndsRun D.Disk disk result.disk name.now (between S.faults S.left input.old input.new)
+        (between K.faults K.written output.old output.new) (shelf_between H.faults H.files shelf.old shelf.new)
+        (shelf.new ≡ shelf.old) result.ending }
+    ensures files { H.files shelf.new ≡ H.files shelf.old }
 {
     match read_lanes(alloc, input) {
-        Ok(script) => run_script(rt, alloc, &script, output, disk),
+        Ok(script) => {
+            let lanes = script.as_slice();
+            run_script(rt, alloc, name, lanes, output, shelf, disk, gate)
+        }
         Err(unread) => Finished {
             ending: refuse(alloc, unread, output),
             disk,
@@ -51,27 +67,70 @@ pub fn run<R: Wait, S: Source, K: Sink, D: Disk>(
     }
 }
 
-fn run_script<R: Wait, K: Sink, D: Disk>(
+// Runs the lanes of a script, with the basis that it needs.
+fn run_script<R: Threads + Wait + Sync, K: Sink, H: Shelf, D: Disk + Send, G: Gate + Sync>(
     rt: &R,
     alloc: Global,
-    script: &Script,
+    name: &Name,
+    lanes: &[Lane],
+    output: &mut K,
+    shelf: &mut H,
+    disk: D,
+    gate: &G,
+) -> Finished<D>
+    requires lanes { AreScriptLanes lanes.now }
+    ensures ends { EndsLanes D.Disk disk result.disk lanes.now name.now (shelf_between H.faults H.files shelf.old shelf.new)
+        (between K.faults K.written output.old output.new) (shelf.new ≡ shelf.old) result.ending }
+    ensures files { H.files shelf.new ≡ H.files shelf.old }
+{
+    if needs_basis(lanes) {
+        return run_by_name(rt, alloc, name, lanes, output, shelf, disk, gate);
+    }
+    let basis = empty_basis(alloc);
+    run_by(rt, alloc, lanes, &basis, output, disk, gate)
+}
+
+// Runs lanes by the basis of this name.
+fn run_by_name<R: Threads + Wait + Sync, K: Sink, H: Shelf, D: Disk + Send, G: Gate + Sync>(
+    rt: &R,
+    alloc: Global,
+    name: &Name,
+    lanes: &[Lane],
+    output: &mut K,
+    shelf: &mut H,
+    disk: D,
+    gate: &G,
+) -> Finished<D>
+    requires lanes { AreScriptLanes lanes.now }
+    ensures ends { EndsByName D.Disk disk result.disk lanes.now name.now (shelf_between H.faults H.files shelf.old shelf.new)
+        (between K.faults K.written output.old output.new) result.ending }
+    ensures files { H.files shelf.new ≡ H.files shelf.old }
+{
+    match fetch_basis(alloc, name, shelf) {
+        Ok(basis) => run_by(rt, alloc, lanes, &basis, output, disk, gate),
+        Err(cause) => Finished {
+            ending: refuse_basis(alloc, cause, output),
+            disk,
+        },
+    }
+}
+
+// Runs lanes by a basis.
+fn run_by<R: Threads + Wait + Sync, K: Sink, D: Disk + Send, G: Gate + Sync>(
+    rt: &R,
+    alloc: Global,
+    lanes: &[Lane],
+    basis: &Basis,
     output: &mut K,
     disk: D,
+    gate: &G,
 ) -> Finished<D>
-    requires read { (bytes : List ℕ) × Reads bytes script.now × (length bytes ≤ most_script_bytes) }
-    ensures ends { EndsScript D.Disk disk result.disk script.now
+    requires lanes { AreScriptLanes lanes.now }
+    ensures ends { EndsScript D.Disk disk result.disk lanes.now basis.now
         (between K.faults K.written output.old output.new) result.ending }
 {
-    let lines = lines_of(script);
-    let Ok(answers) = Vec::with_capacity(alloc, lines.len()) else {
-        say(output, b"nomemory\n");
-        return Finished {
-            ending: Ending::NoMemory,
-            disk,
-        };
-    };
-    match Office::start(alloc, disk, lines.len()) {
-        Ok((office, pass)) => run_office(rt, alloc, lines, office, pass, answers, output),
+    match Office::start(alloc, disk, count_lines(lanes)) {
+        Ok((office, pass)) => run_office(rt, alloc, lanes, basis, office, pass, output, gate),
         Err(fault) => Finished {
             ending: refuse_journal(alloc, fault.cause, output),
             disk: fault.disk,
@@ -79,80 +138,131 @@ fn run_script<R: Wait, K: Sink, D: Disk>(
     }
 }
 
-// Posts the lines by a pass of their own, closes the office, and writes the transcript.
-fn run_office<R: Wait, K: Sink, D: Disk>(
+// Runs the lanes, closes the office, and writes the transcript.
+fn run_office<R: Threads + Wait + Sync, K: Sink, D: Disk + Send, G: Gate + Sync>(
     rt: &R,
     alloc: Global,
-    lines: &[Line],
+    lanes: &[Lane],
+    basis: &Basis,
     office: Office<D>,
     pass: OfficePass<D>,
-    answers: Vec<Answer>,
     output: &mut K,
+    gate: &G,
 ) -> Finished<D>
-    requires right { All IsScriptLine lines.now }
-    requires few { AreFew lines.now }
+    requires lanes { AreScriptLanes lanes.now }
     requires ours { pass.turnstile ≡ office }
-    requires first { IsFirstFor (length lines.now) pass }
-    requires unanswered { answers.items ≡ [] }
-    requires answers_room { length lines.now ≤ vec_capacity answers }
-    ensures all { (opened : OfficeOpening D) → pass.opening ≡ Some opened
-        → AnswersAll D.Disk opened.begun result.disk opened.opening lines.now
+    requires started { (old : D) × HasStarted D.Disk old (length (lines_in lanes.now)) pass }
+    requires facts { PassFacts IsOfficeHistory pass }
+    ensures ends { (old : D) → HasStarted D.Disk old (length (lines_in lanes.now)) pass
+        → EndsScript D.Disk old result.disk lanes.now basis.now
         (between K.faults K.written output.old output.new) result.ending }
 {
     let mut pass = pass;
-    let mut answers = answers;
-    let mut lane = office.enter(&mut pass);
-    answer_lines(rt, lines, &office, &mut lane, &mut answers);
-    office.leave(lane, &mut pass);
+    let ran = run_lanes(rt, alloc, &office, &mut pass, lanes, basis, gate);
     let (disk, _) = close(office, pass);
-    let ending = write_transcript(alloc, lines, &answers, output);
+    let ending = write_ran(alloc, ran, output);
     Finished { ending, disk }
 }
 
-fn write_transcript<K: Sink>(
-    alloc: Global,
-    lines: &[Line],
-    answers: &[Answer],
-    output: &mut K,
-) -> Ending
-    requires right { All IsScriptLine lines.now }
-    requires told { All IsTold answers.now }
-    requires each { length answers.now ≡ length lines.now }
-    ensures ends { EndsLines lines.now answers.now (between K.faults K.written output.old output.new) result }
+// Writes what the lanes were answered, or that there was no memory to run them.
+fn write_ran<K: Sink>(alloc: Global, ran: Result<Transcript, NoMemory>, output: &mut K) -> Ending
+    requires writable { IfOk ran (λ transcript. All IsWritable transcript.lines) }
+    ensures ends { EndsRan ran (between K.faults K.written output.old output.new) result }
 {
-    let Ok(text) = transcript(alloc, 1, lines, answers) else {
+    match ran {
+        Ok(transcript) => write_lines(alloc, transcript.lines.as_slice(), output),
+        Err(_) => {
+            say(output, b"nomemory\n");
+            Ending::NoMemory
+        }
+    }
+}
+
+fn write_lines<K: Sink>(alloc: Global, lines: &[AnsweredLine], output: &mut K) -> Ending
+    requires writable { All IsWritable lines.now }
+    ensures ends { EndsTold lines.now (between K.faults K.written output.old output.new) result }
+{
+    let Ok(text) = transcript(alloc, lines) else {
         return Ending::NoMemory;
     };
     match write_all(output, text.as_slice()) {
-        Ok(()) => ending_of(answers),
+        Ok(()) => ending_of(lines),
         Err(_) => Ending::WriteFault,
     }
 }
 
 // The ending of a run whose transcript is written.
-fn ending_of(answers: &[Answer]) -> Ending
-    ensures { result ≡ (if list_any is_faulted answers.now then DiskFault else Done) }
+fn ending_of(lines: &[AnsweredLine]) -> Ending
+    ensures { result ≡ (if any_faulted lines.now then DiskFault
+        else if any_lacked lines.now then NoRoom else Done) }
 {
-    if any_faulted(answers) {
+    if some_faulted(lines) {
         Ending::DiskFault
+    } else if some_lacked(lines) {
+        Ending::NoMemory
     } else {
         Ending::Done
     }
 }
 
-// The lines of the only lane, if there is one.
-fn lines_of(script: &Script) -> &[Line]
-    requires { (bytes : List ℕ) × Reads bytes script.now × (length bytes ≤ most_script_bytes) }
-    ensures { AreLanes script.now result.now }
+// Whether the disk failed in a posting.
+fn some_faulted(lines: &[AnsweredLine]) -> bool
+    ensures { result ≡ any_faulted lines.now }
 {
-    first_lines(script.as_slice())
+    lines.iter().any(|line| faulted(&line.outcome))
 }
 
-fn first_lines(lanes: &[Lane]) -> &[Line]
-    ensures { (lines : List ALine) → lanes.now ≡ lane_of 1 lines → result.now ≡ lines }
+fn faulted(outcome: &Outcome) -> bool
+    ensures { result ≡ has_faulted outcome.now }
 {
-    match lanes.first() {
-        Some(lane) => lane.lines.as_slice(),
-        None => &[],
+    matches!(*outcome, Outcome::Posted(Answer::DiskFault(_)))
+}
+
+// Whether a valuation found no memory.
+fn some_lacked(lines: &[AnsweredLine]) -> bool
+    ensures { result ≡ any_lacked lines.now }
+{
+    lines.iter().any(|line| lacked(&line.outcome))
+}
+
+fn lacked(outcome: &Outcome) -> bool
+    ensures { result ≡ lacked_memory outcome.now }
+{
+    matches!(*outcome, Outcome::ValueNoMemory)
+}
+
+// Whether a line of a lane asks for values.
+fn needs_basis(lanes: &[Lane]) -> bool
+    ensures { result ≡ asks_for_values lanes.now }
+{
+    lanes.iter().any(|lane| has_value(lane.lines.as_slice()))
+}
+
+fn has_value(lines: &[Line]) -> bool
+    ensures { result ≡ list_any is_value lines.now }
+{
+    lines.iter().any(|line| matches!(*line, Line::Value { .. }))
+}
+
+// How many lines there are in all lanes.
+fn count_lines(lanes: &[Lane]) -> usize
+    requires { AreScriptLanes lanes.now }
+    ensures { result ≡ length (lines_in lanes.now) }
+{
+    let mut count = 0;
+    for lane in lanes {
+        count += lane.lines.as_slice().len();
     }
+    count
+}
+
+// A basis without rows.
+fn empty_basis(alloc: Global) -> Basis
+    ensures { result ≡ [] }
+{
+    let rows = BasisRows::new(Vec::new(alloc));
+    let Ok(basis) = Basis::of(rows, IndexMap::new(alloc)) else {
+        unreachable!()
+    };
+    basis
 }

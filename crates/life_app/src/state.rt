@@ -75,7 +75,8 @@ fn add_policy(alloc: Global, policy: &Policy, text: &mut Vec<u8>) -> Result<(), 
     add(text, line.as_slice())
 }
 
-fn add(text: &mut Vec<u8>, more: &[u8]) -> Result<(), NoMemory>
+/// Adds more to a text.
+pub fn add(text: &mut Vec<u8>, more: &[u8]) -> Result<(), NoMemory>
     ensures { OnOk result (text.new.items ≡ text.old.items ++ more.now) }
 {
     match text.extend_from_slice(more) {

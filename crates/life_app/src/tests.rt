@@ -211,6 +211,19 @@ pub(crate) fn run_with<R: Threads + Wait + Sync>(
     run_beside(rt, alloc, &words, &[], &[], failing_writes, shelf, disk)
 }
 
+// Does what the words ask for beside a shelf.
+pub(crate) fn run_script_with<R: Threads + Wait + Sync>(
+    rt: &R,
+    alloc: Global,
+    words: &[&str],
+    script: &[&str],
+    shelf: MapShelf,
+    disk: MemoryDisk,
+) -> Result<Finished, AllocError> {
+    let words = words_of(alloc, words)?;
+    run_beside(rt, alloc, &words, script, &[], &[], shelf, disk)
+}
+
 // Runs a script over a disk.
 pub(crate) fn run_on<R: Threads + Wait + Sync>(
     rt: &R,

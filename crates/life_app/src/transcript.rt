@@ -1,69 +1,143 @@
 // The text of a run.
-ghost use Rattle.std.specs.Prelude.{◌≡◌, ◌++◌, ◌<◌, ◌^◌, [], ◌∷◌, length, IfOk, OnOk};
+ghost use Rattle.std.specs.Prelude.{◌≡◌, ◌++◌, ◌<◌, ◌^◌, ℕ, [], ◌∷◌, decimal, IfOk, OnOk};
 ghost use Rattle.std.specs.List.{All};
-ghost use Rattle.life_dates.specs.Calendar.{IsTermDay};
+ghost use Rattle.policy_types.specs.declared.entry.At.{At as AnAt};
+ghost use Rattle.policy_types.specs.declared.script.Line.TheVariants.{Value as ValueLine};
+ghost use Rattle.life_dates.specs.Calendar.{IsDay, IsTermDay};
 ghost use Rattle.life_dates.specs.DayText.{day_text};
 ghost use Rattle.money_core.specs.CentsText.{cents_text};
-ghost use Rattle.command_csv.specs.Reads.{IsScriptLine};
 ghost use Rattle.office_state.specs.Posting.{reply_of};
 ghost use Rattle.statements.specs.Lines.{behind_commas};
-ghost use Rattle.life_app.specs.Transcript.{line_text, posting_text, refusal_fields, reply_fields};
-ghost use Rattle.life_app.specs.inside.Parts.{lines_text};
-ghost use Rattle.life_app.specs.inside.Turns.{IsPrintable, IsTold};
+ghost use Rattle.life_app.specs.Transcript.{pin_refusal_fields, posting_text, refusal_fields, reply_fields, trim_text, unpinned_text, unvalued_text};
+ghost use Rattle.life_app.specs.inside.Told.{IsPrintable, IsTold, IsWritable, IsWritableOutcome, outcome_text, told_text, told_texts};
 
+use crate::state::add;
 use itoa::Buffer;
+use lane_runner::{AnsweredLine, Outcome};
 use money_core::Text;
 use office_state::Answer;
-use policy_types::{Command, Line, NoMemory, Refusal};
+use policy_types::{Command, Line, NoMemory, PinRefusal, Refusal};
+use report_text::print_block;
 use statements::{LineWriter, kind_word, status_word};
 use std::alloc::Global;
 
-/// The lines of the transcript of a clerk's answered lines.
-pub fn transcript(
-    alloc: Global,
-    clerk: u8,
-    lines: &[Line],
-    answers: &[Answer],
-) -> Result<Text, NoMemory>
-    requires right { All IsScriptLine lines.now }
-    requires told { All IsTold answers.now }
-    requires each { length answers.now ≡ length lines.now }
-    ensures { IfOk result (λ text. text ≡ lines_text clerk lines.now answers.now) }
+/// The text of answered lines, one after the other.
+pub fn transcript(alloc: Global, lines: &[AnsweredLine]) -> Result<Vec<u8>, NoMemory>
+    requires writable { All IsWritable lines.now }
+    ensures { IfOk result (λ text. text.items ≡ told_texts lines.now) }
 {
-    let mut text = LineWriter::new(alloc);
-    for i in 0..lines.len() {
-        write_line(&mut text, clerk, &lines[i], answers[i])?;
+    let mut text = Vec::new(alloc);
+    for line in lines {
+        let more = line_text(alloc, line)?;
+        add(&mut text, more.as_slice())?;
     }
+    Ok(text)
+}
+
+// The text of an answered line.
+fn line_text(alloc: Global, told: &AnsweredLine) -> Result<Text, NoMemory>
+    requires { IsWritable told.now }
+    ensures { IfOk result (λ text. text ≡ told_text told.now) }
+{
+    match told.line {
+        Line::Post(command) => {
+            let Outcome::Posted(answer) = &told.outcome else {
+                unreachable!()
+            };
+            posting(alloc, told.lane, &command, *answer)
+        }
+        Line::Trim => {
+            let Outcome::Trimmed(floor) = &told.outcome else {
+                unreachable!()
+            };
+            trim(alloc, told.lane, *floor)
+        }
+        Line::Value { on, .. } => value_text(alloc, told.lane, on, &told.outcome),
+    }
+}
+
+// The line of a posting.
+fn posting(alloc: Global, clerk: u8, command: &Command, answer: Answer) -> Result<Text, NoMemory>
+    requires told { IsTold answer }
+    ensures { IfOk result (λ text. text ≡ posting_text clerk command.now (reply_of answer)) }
+{
+    let mut text = begun(alloc, clerk, kind_word(command))?;
+    text.number(command.id())?;
+    write_answer(&mut text, answer)?;
+    text.end()?;
     Ok(text.into_text())
 }
 
-// Adds the line of one answer.
-fn write_line(text: &mut LineWriter, clerk: u8, line: &Line, answer: Answer) -> Result<(), NoMemory>
-    requires right { IsScriptLine line.now }
-    requires told { IsTold answer }
-    ensures { OnOk result (text.new ≡ text.old ++ line_text clerk line.now (reply_of answer)) }
-{
-    let Line::Post(command) = line else {
-        unreachable!()
-    };
-    write_posting(text, clerk, command, answer)
-}
-
-fn write_posting(
-    text: &mut LineWriter,
-    clerk: u8,
-    command: &Command,
-    answer: Answer,
-) -> Result<(), NoMemory>
-    requires told { IsTold answer }
-    ensures { OnOk result (text.new ≡ text.old ++ posting_text clerk command.now (reply_of answer)) }
+// A line of this clerk that begins with a word.
+fn begun(alloc: Global, clerk: u8, word: &str) -> Result<LineWriter, NoMemory>
+    ensures { IfOk result (λ text. text ≡ decimal clerk ++ 44 ∷ word.now) }
 {
     let mut buffer = Buffer::new();
+    let mut text = LineWriter::new(alloc);
     text.first(buffer.format(clerk))?;
-    text.word(kind_word(command))?;
-    text.number(command.id())?;
-    write_answer(text, answer)?;
-    text.end()
+    text.word(word)?;
+    Ok(text)
+}
+
+// The line of a trim.
+fn trim(alloc: Global, clerk: u8, floor: u32) -> Result<Text, NoMemory>
+    ensures { IfOk result (λ text. text ≡ trim_text clerk floor) }
+{
+    let mut text = begun(alloc, clerk, "trim")?;
+    text.number(floor)?;
+    text.end()?;
+    Ok(text.into_text())
+}
+
+// The text of a valuation.
+fn value_text(alloc: Global, clerk: u8, on: i32, outcome: &Outcome) -> Result<Text, NoMemory>
+    requires writable { (at : AnAt) × ((workers : ℕ) × IsWritableOutcome (ValueLine on at workers) outcome.now) }
+    ensures { (at : AnAt) (workers : ℕ) → IfOk result (λ text. text ≡ outcome_text clerk (ValueLine on at workers) outcome.now) }
+{
+    match outcome {
+        Outcome::Valued(valuation) => {
+            print_block(alloc, clerk, on, valuation.position, &valuation.rows)
+        }
+        Outcome::ValueRefused(refusal) => unpinned(alloc, clerk, on, *refusal),
+        Outcome::ValueNoMemory => unvalued(alloc, clerk, on),
+        _ => unreachable!(),
+    }
+}
+
+// The line of a valuation whose position wasn't pinned.
+fn unpinned(alloc: Global, clerk: u8, on: i32, refusal: PinRefusal) -> Result<Text, NoMemory>
+    requires { IsDay on }
+    ensures { IfOk result (λ text. text ≡ unpinned_text clerk on refusal) }
+{
+    let mut text = begun(alloc, clerk, "value")?;
+    text.day(on)?;
+    text.word("refused")?;
+    write_pin_refusal(&mut text, refusal)?;
+    text.end()?;
+    Ok(text.into_text())
+}
+
+// Adds why a position wasn't pinned.
+fn write_pin_refusal(text: &mut LineWriter, refusal: PinRefusal) -> Result<(), NoMemory>
+    ensures { OnOk result (text.new ≡ text.old ++ behind_commas (pin_refusal_fields refusal)) }
+{
+    match refusal {
+        PinRefusal::Ahead(count) => write_number(text, "ahead", count),
+        PinRefusal::Trimmed(floor) => write_number(text, "trimmed", floor),
+        PinRefusal::PinsFull => text.word("pinsfull"),
+    }
+}
+
+// The line of a valuation that found no memory.
+fn unvalued(alloc: Global, clerk: u8, on: i32) -> Result<Text, NoMemory>
+    requires { IsDay on }
+    ensures { IfOk result (λ text. text ≡ unvalued_text clerk on) }
+{
+    let mut text = begun(alloc, clerk, "value")?;
+    text.day(on)?;
+    text.word("nomemory")?;
+    text.end()?;
+    Ok(text.into_text())
 }
 
 // Adds what became of a posting.
@@ -130,4 +204,11 @@ fn write_cents(text: &mut LineWriter, word: &str, cents: u64) -> Result<(), NoMe
 {
     text.word(word)?;
     text.cents(cents as i64)
+}
+
+fn write_number(text: &mut LineWriter, word: &str, number: u32) -> Result<(), NoMemory>
+    ensures { OnOk result (text.new ≡ text.old ++ behind_commas (word.now ∷ decimal number ∷ [])) }
+{
+    text.word(word)?;
+    text.number(number)
 }

@@ -1,47 +1,54 @@
 // The values of the policies on a day, by the basis on the shelf.
-ghost use Rattle.std.specs.Prelude.{◌≡◌, ◌≤◌, length};
-ghost use Rattle.std.specs.List.{AllByRecursion};
+ghost use Rattle.std.specs.Prelude.{◌≡◌, ◌≤◌};
 ghost use Rattle.life_dates.specs.Calendar.{IsDay};
-ghost use Rattle.policy_types.specs.Limits.{most_commands};
-ghost use Rattle.policy_types.specs.Valid.{IsValid};
-ghost use Rattle.office_state.specs.States.{commands_of};
-ghost use Rattle.life_app.specs.Valuing as spec;
+ghost use Rattle.shared_office.specs.Offices.{IsOfficeHistory};
+ghost use Rattle.shared_office.specs.Starting.{HasStarted};
+ghost use Rattle.turn_lock.specs.Passes.{PassFacts};
 ghost use Rattle.life_app.specs.Valuing.{EndsValue, EndsValuing};
 ghost use Rattle.life_app.specs.Writing.{between, shelf_between};
-ghost use Rattle.life_app.specs.inside.Valued.{EndsValued};
+ghost use Rattle.life_app.specs.inside.Valued.{EndsAnswer, IsLoneAnswer};
 
 use crate::ending::Ending;
-use crate::refusing::refuse_journal;
+use crate::refusing::{refuse_journal, say};
 use crate::run::Finished;
 use crate::state::write_text;
 use crate::unvalued::{refuse_basis, refuse_position};
-use crate::valuation::valuation;
 use basis_book::{Basis, Name};
 use basis_shelf::fetch_basis;
-use office_state::OfficeState;
-use outside_io::{Disk, Shelf, Sink};
-use policy_types::At;
+use outside_io::{Disk, Gate, Shelf, Sink};
+use policy_types::{At, PinRefusal};
+use report_text::print_block;
+use shared_office::{Office, OfficeCalls, OfficePass, close};
+use snapshot_value::{Valuation, ValueFault};
 use std::alloc::Global;
+use std::sync::Wait;
+
+/// A valuation that no lane of a script asks for.
+const NO_LANE: u8 = 0;
 
 /// Writes what each policy is worth on a day, in days since 1970-01-01, after as many commands as are asked for. The
 /// basis is fetched before the disk is touched.
-pub fn value<K: Sink, H: Shelf, D: Disk>(
+pub fn value<R: Wait, K: Sink, H: Shelf, D: Disk, G: Gate>(
+    rt: &R,
     alloc: Global,
     on: i32,
     at: At,
+    workers: u8,
     basis: &Name,
     shelf: &mut H,
     output: &mut K,
     disk: D,
+    gate: &G,
 ) -> Finished<D>
-    requires { IsDay on }
+    requires day { IsDay on }
+    requires workers { (1 ≤ workers) × (workers ≤ 64) }
     ensures ends { EndsValue D.Disk disk result.disk on at basis.now
         (shelf_between H.faults H.files shelf.old shelf.new)
         (between K.faults K.written output.old output.new) result.ending }
     ensures files { H.files shelf.new ≡ H.files shelf.old }
 {
     match fetch_basis(alloc, basis, shelf) {
-        Ok(basis) => value_by(alloc, on, at, &basis, output, disk),
+        Ok(basis) => value_by(rt, alloc, on, at, workers, &basis, output, disk, gate),
         Err(cause) => Finished {
             ending: refuse_basis(alloc, cause, output),
             disk,
@@ -50,23 +57,27 @@ pub fn value<K: Sink, H: Shelf, D: Disk>(
 }
 
 // Writes the values by a basis.
-fn value_by<K: Sink, D: Disk>(
+fn value_by<R: Wait, K: Sink, D: Disk, G: Gate>(
+    rt: &R,
     alloc: Global,
     on: i32,
     at: At,
+    workers: u8,
     basis: &Basis,
     output: &mut K,
     disk: D,
+    gate: &G,
 ) -> Finished<D>
-    requires { IsDay on }
+    requires day { IsDay on }
+    requires workers { (1 ≤ workers) × (workers ≤ 64) }
     ensures { EndsValuing D.Disk disk result.disk on at basis.now
         (between K.faults K.written output.old output.new) result.ending }
 {
-    match OfficeState::open(alloc, disk) {
-        Ok(office) => {
-            let ending = value_office(alloc, on, at, basis, &office, output);
-            let (disk, _) = office.close();
-            Finished { ending, disk }
+    match Office::start(alloc, disk, 0) {
+        Ok((office, pass)) => {
+            value_office(
+                rt, alloc, on, at, workers, basis, office, pass, output, gate,
+            )
         }
         Err(fault) => Finished {
             ending: refuse_journal(alloc, fault.cause, output),
@@ -75,35 +86,64 @@ fn value_by<K: Sink, D: Disk>(
     }
 }
 
-// Writes the values of an office's policies.
-fn value_office<K: Sink, D: Disk>(
+// Values an office's policies, closes it, and writes the values.
+fn value_office<R: Wait, K: Sink, D: Disk, G: Gate>(
+    rt: &R,
     alloc: Global,
     on: i32,
     at: At,
+    workers: u8,
     basis: &Basis,
-    office: &OfficeState<D>,
+    office: Office<D>,
+    pass: OfficePass<D>,
+    output: &mut K,
+    gate: &G,
+) -> Finished<D>
+    requires day { IsDay on }
+    requires workers { (1 ≤ workers) × (workers ≤ 64) }
+    requires ours { pass.turnstile ≡ office }
+    requires started { (old : D) × HasStarted D.Disk old 0 pass }
+    requires facts { PassFacts IsOfficeHistory pass }
+    ensures ends { (old : D) → HasStarted D.Disk old 0 pass
+        → EndsValuing D.Disk old result.disk on at basis.now
+        (between K.faults K.written output.old output.new) result.ending }
+{
+    let mut pass = pass;
+    let valued = snapshot_value::value(
+        rt, alloc, &office, &mut pass, basis, on, at, workers, NO_LANE, gate,
+    );
+    let (disk, _) = close(office, pass);
+    let ending = write_answer(alloc, on, valued.answer, output);
+    Finished { ending, disk }
+}
+
+// Writes the values, or why there are none.
+fn write_answer<K: Sink>(
+    alloc: Global,
+    on: i32,
+    answer: Result<Valuation, ValueFault>,
     output: &mut K,
 ) -> Ending
     requires day { IsDay on }
-    requires valid { AllByRecursion IsValid (commands_of office.now) }
-    requires few { length (commands_of office.now) ≤ most_commands }
-    ensures { EndsValued (commands_of office.now) on at basis.now
-        (between K.faults K.written output.old output.new) result }
+    requires lone { IsLoneAnswer answer }
+    ensures ends { EndsAnswer on answer (between K.faults K.written output.old output.new) result }
 {
-    let count = office.count();
-    let position = position_of(at, count);
-    if position > count {
-        return refuse_position(alloc, count, output);
+    match answer {
+        Ok(valuation) => write_values(alloc, on, &valuation, output),
+        Err(ValueFault::Pin(PinRefusal::Ahead(count))) => refuse_position(alloc, count, output),
+        Err(ValueFault::Pin(_)) => unreachable!(),
+        Err(ValueFault::NoMemory) => {
+            say(output, b"nomemory\n");
+            Ending::NoMemory
+        }
     }
-    write_text(valuation(alloc, on, position, basis, office), output)
 }
 
-// After how many commands the policies are to be valued.
-fn position_of(at: At, count: u32) -> u32
-    ensures { result ≡ spec.position_of at count }
+fn write_values<K: Sink>(alloc: Global, on: i32, valuation: &Valuation, output: &mut K) -> Ending
+    requires day { IsDay on }
+    requires writable { IsWritableBlock valuation.now }
+    ensures ends { EndsAnswer on (Ok valuation.now) (between K.faults K.written output.old output.new) result }
 {
-    match at {
-        At::Now => count,
-        At::Position(p) => p,
-    }
+    let text = print_block(alloc, NO_LANE, on, valuation.position, &valuation.rows);
+    write_text(text.map(|text| text.into_vec()), output)
 }

@@ -1,6 +1,6 @@
-// What `value` writes after a run. The reserves are worked out by hand from the plans and the table, and the texts from
+// What `value` writes after a run, and what a run writes whose script asks for values. The reserves are worked out by hand from the plans and the table, and the texts from
 // the formats.
-use crate::tests::{Finished, run_on, run_with};
+use crate::tests::{Finished, run_on, run_script_with, run_with};
 use memory_disk::MemoryDisk;
 use outside_io::MapShelf;
 use std::alloc::{AllocError, Global};
@@ -501,5 +501,123 @@ fn journals_are_created_or_refused(rt: HostRuntime) -> Result<(), AllocError> {
         assert!(rt; ends(&read, 5, "badjournal,notajournal\n"));
         assert!(rt; read.disk.bytes() == [65; 18].as_slice());
     }
+    Ok(())
+}
+
+// A run of the script beside the case's basis, over devices that fail at these calls.
+fn run_beside_basis<R: Threads + Wait + Sync>(
+    rt: &R,
+    alloc: Global,
+    case: &Case,
+    failing_fetches: &[u64],
+) -> Result<Finished, AllocError> {
+    let empty = MemoryDisk::new(alloc, Vec::new(alloc), Vec::new(alloc));
+    let shelf = shelf_of(alloc, case, failing_fetches)?;
+    run_script_with(rt, alloc, case.words, case.script, shelf, empty)
+}
+
+fn run_of(script: &'static [&'static str], written: &'static str) -> Case {
+    valued(script, FLAT, &["run"], written)
+}
+
+#[test]
+fn scripts_ask_for_values(rt: HostRuntime) -> Result<(), AllocError> {
+    let alloc = rt.alloc();
+    let cases = [
+        run_of(
+            &[
+                ENDOWMENT,
+                "1,value,2020-12-31,now,1\n",
+                "1,value,2021-01-01,now,1\n",
+                "1,value,2022-01-01,1,64\n",
+                "1,value,2023-01-01,now,1\n",
+            ],
+            "1,issue,7001,accepted,1\n\
+            1,value,2020-12-31,1,1\nrow,7001,inforce,0,0.00,0.00\ntotal,0.00,0.00,0\n\
+            1,value,2021-01-01,1,1\nrow,7001,inforce,1,127.22,127.23\ntotal,127.22,127.23,0\n\
+            1,value,2022-01-01,1,1\nrow,7001,inforce,2,515.12,515.13\ntotal,515.12,515.13,0\n\
+            1,value,2023-01-01,1,1\nrow,7001,inforce,3,1000.00,1000.00\ntotal,1000.00,1000.00,0\n",
+        ),
+        run_of(
+            &[TERM, "1,value,2022-01-01,now,1\n"],
+            "1,issue,7001,accepted,1\n\
+            1,value,2022-01-01,1,1\nrow,7001,inforce,2,27.77,27.78\ntotal,27.77,27.78,0\n",
+        ),
+        valued(
+            &[TERM, "1,value,2022-01-01,now,1\n"],
+            AT_FIVE,
+            &["run", "--basis", "basis.csv"],
+            "1,issue,7001,accepted,1\n\
+            1,value,2022-01-01,1,1\nrow,7001,inforce,2,27.02,27.03\ntotal,27.02,27.03,0\n",
+        ),
+        run_of(
+            &[LIMITED, "1,value,2021-01-01,now,1\n"],
+            "1,issue,7001,accepted,1\n\
+            1,value,2021-01-01,1,1\nrow,7001,inforce,1,331.38,331.39\ntotal,331.38,331.39,0\n",
+        ),
+        run_of(
+            &[WHOLE_AT_4, "1,value,2021-01-01,now,1\n"],
+            "1,issue,7001,accepted,1\n\
+            1,value,2021-01-01,1,1\nrow,7001,inforce,0,pasttable\ntotal,0.00,0.00,1\n",
+        ),
+        // Positions below the floor and above the count are refused, and the run goes on. The first valuation is of the one
+        // policy of its position.
+        run_of(
+            &[
+                ENDOWMENT,
+                NEXT_YEAR,
+                "1,value,2021-01-01,1,1\n",
+                "1,trim\n",
+                "1,value,2021-01-01,1,1\n",
+                "1,value,2021-01-01,5,1\n",
+                "1,trim\n",
+            ],
+            "1,issue,7001,accepted,1\n1,issue,9,accepted,2\n\
+            1,value,2021-01-01,1,1\nrow,7001,inforce,1,127.22,127.23\ntotal,127.22,127.23,0\n\
+            1,trim,2\n1,value,2021-01-01,refused,trimmed,2\n1,value,2021-01-01,refused,ahead,2\n1,trim,2\n",
+        ),
+        run_of(
+            &["1,value,2021-01-01,0,1\n", "1,trim\n"],
+            "1,value,2021-01-01,0,0\ntotal,0.00,0.00,0\n1,trim,0\n",
+        ),
+    ];
+    for case in cases.iter() {
+        let ran = run_beside_basis(&rt, alloc, case, &[])?;
+        assert!(rt; ends(&ran, 0, case.written));
+    }
+    Ok(())
+}
+
+// A script that asks for values needs its basis before anything is posted; another one takes no notice of the shelf.
+#[test]
+fn bases_of_runs_are_needed_or_not(rt: HostRuntime) -> Result<(), AllocError> {
+    let alloc = rt.alloc();
+    let asks: &[&str] = &[ENDOWMENT, "1,value,2021-01-01,now,1\n"];
+    let missing = Case {
+        basis: None,
+        ..run_of(asks, "badbasis,basis.csv,0,absent\n")
+    };
+    let ran = run_beside_basis(&rt, alloc, &missing, &[])?;
+    assert!(rt; ends(&ran, 4, missing.written));
+    assert!(rt; ran.disk.calls().is_empty());
+    let cut = Case {
+        table: Some(CUT),
+        ..run_of(asks, "badbasis,q.xml,55,notdocument\n")
+    };
+    let ran = run_beside_basis(&rt, alloc, &cut, &[])?;
+    assert!(rt; ends(&ran, 4, cut.written));
+    assert!(rt; ran.disk.calls().is_empty());
+    let ran = run_beside_basis(&rt, alloc, &run_of(asks, ""), &[2])?;
+    assert!(rt; ends(&ran, 6, "readfault\n"));
+    assert!(rt; ran.disk.calls().is_empty());
+    let unasked = Case {
+        basis: None,
+        ..run_of(
+            &[ENDOWMENT, "1,trim\n"],
+            "1,issue,7001,accepted,1\n1,trim,1\n",
+        )
+    };
+    let ran = run_beside_basis(&rt, alloc, &unasked, &[1])?;
+    assert!(rt; ends(&ran, 0, unasked.written));
     Ok(())
 }

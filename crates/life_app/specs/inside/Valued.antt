@@ -1,5 +1,5 @@
 -- How the parts of `value` end
-use Rattle.std.specs.Prelude.{ℕ, ℤ, List, ◌++◌, codes, decimal}
+use Rattle.std.specs.Prelude.{ℕ, ℤ, List, ◌++◌, codes, decimal, Result, Ok, Err}
 use Rattle.outside_io.specs.Faults.{Rose}
 use Rattle.outside_io.specs.Streams.{AppendsPart}
 use Rattle.policy_types.specs.declared.command.Command.{Command}
@@ -10,7 +10,13 @@ use Rattle.basis_shelf.specs.declared.fault.NoBasis.{NoBasis}
 use Rattle.basis_shelf.specs.declared.fault.NoBasis.TheVariants.{Bad, ReadFault, NoMemory as NoRoom}
 use Rattle.life_args.specs.declared.fault.WordsFault.{WordsFault}
 use Rattle.life_args.specs.declared.fault.WordsFault.TheVariants.{Usage as BadWords, NoMemory as NoWords}
+use Rattle.policy_types.specs.declared.entry.PinRefusal.TheVariants.{Ahead as PastTheEnd, Trimmed, PinsFull}
+use Rattle.report_text.specs.Block.{block_text}
+use Rattle.snapshot_value.specs.declared.valuation.Valuation.{Valuation}
+use Rattle.snapshot_value.specs.declared.valuation.ValueFault.{ValueFault}
+use Rattle.snapshot_value.specs.declared.valuation.ValueFault.TheVariants.{Pin, NoMemory as NoValues}
 use Rattle.life_app.specs.Valuing.{IsBeyond, IsValuation}
+use Rattle.life_app.specs.inside.Told.{IsWritableBlock}
 use Rattle.life_app.specs.Writing.{Stream, WroteAll, WroteLine, WroteOrFailed}
 use Rattle.life_app.specs.declared.ending.Ending.{Ending}
 use Rattle.life_app.specs.declared.ending.Ending.TheVariants.{Ahead, BadBasis, Done, NoMemory, ReadFault as ShelfFault, Usage, WriteFault}
@@ -44,3 +50,23 @@ EndsValued commands on at basis output WriteFault =
 EndsValued commands on at basis output Ahead = IsBeyond commands at output
 EndsValued commands on at basis output NoMemory = WroteLine output (codes "nomemory")
 EndsValued commands on at basis output _ = ⊥
+
+-- the only answers of an office that nobody else calls: the values, which can be written, or that there are fewer commands
+-- than are asked for, or want of memory
+abbrev pub IsLoneAnswer : Result Valuation ValueFault → Type 0
+IsLoneAnswer (Ok valuation) = IsWritableBlock valuation
+IsLoneAnswer (Err (Pin (PastTheEnd count))) = Unit {0}
+IsLoneAnswer (Err (Pin (Trimmed floor))) = ⊥
+IsLoneAnswer (Err (Pin PinsFull)) = ⊥
+IsLoneAnswer (Err NoValues) = Unit {0}
+
+-- how the answer is written
+abbrev pub EndsAnswer : ℤ → Result Valuation ValueFault → Stream → Ending → Type 0
+EndsAnswer on (Ok valuation) output Done = WroteAll output (block_text 0 on valuation.position valuation.rows)
+EndsAnswer on (Ok valuation) output WriteFault =
+    Rose output.faults_before output.faults_after
+    × AppendsPart output.before output.after (block_text 0 on valuation.position valuation.rows)
+EndsAnswer on (Ok valuation) output NoMemory = WroteLine output (codes "nomemory")
+EndsAnswer on (Err (Pin (PastTheEnd count))) output ending = SaysAhead count output ending
+EndsAnswer on (Err NoValues) output NoMemory = WroteLine output (codes "nomemory")
+EndsAnswer _ _ _ _ = ⊥

@@ -43,3 +43,6 @@ returns-clause-ahead g c = rw c.status.ensures (step.ahead g.D.Disk c.args.disk 
 
 pub returns-clause-unvalued : goal.returns-clause-unvalued
 returns-clause-unvalued g c = rw c.status.ensures (step.unvalued g.D.Disk c.args.disk c.obey-finished.result.disk c.args.words.now _ _ _ _ _ c.obey-finished.result.ending c.obey-finished.ensures.does)
+
+pub returns-clause-unfit_run : goal.returns-clause-unfit_run
+returns-clause-unfit_run g c = rw c.status.ensures (step.unfit_run g.D.Disk c.args.disk c.obey-finished.result.disk c.args.words.now _ _ _ _ _ c.obey-finished.result.ending c.obey-finished.ensures.does)

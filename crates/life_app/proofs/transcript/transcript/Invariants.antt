@@ -1,6 +1,7 @@
-use Rattle.std.proofs.Common.{◌≡◌, take}
-use Rattle.life_app.specs.inside.Parts.{lines_text}
+use Rattle.std.proofs.Common.{◌≡◌, ◌++◌, drop}
+use Rattle.life_app.specs.inside.Told.{told_texts}
 use Rattle.life_app.proofs.transcript.transcript.Given as goal
 
-abbrev pub invariant-loop-i : goal.invariant-loop-i
-invariant-loop-i l = l.text ≡ lines_text l.clerk l.lines (take l.i l.answers)
+-- the text so far and that of what is left are that of all
+abbrev pub invariant-loop-line : goal.invariant-loop-line
+invariant-loop-line l = l.text.items ++ told_texts (drop l.line-index l.lines) ≡ told_texts l.lines

@@ -1,0 +1,397 @@
+-- What is told of the lanes that were run, against the history of their office
+use Rattle.std.proofs.Common.{◌≡◌, ◌↔◌, ℕ, ℤ, ◌+◌, ◌-◌, ◌≤◌, ◌==◌, Bool, true, false, List, [], ◌∷◌, ◌++◌, length, map, take, Option, Some, refl, ap, sym, ◌∙◌, subst, inl, inr, arith, append-nil}
+use Rattle.std.specs.Prelude.{All, slice_get}
+use Rattle.std.specs.List.{AllByRecursion, AllZip, Contains, IsDistinct, enumerate_from, filter, filter_map, flat_map, list_any}
+use Rattle.std.proofs.lemmas.Bool.{eq-eqb, false≢true}
+use Rattle.std.proofs.lemmas.List.Elements.{All-from_recursion, All-weaker, filter_map-append}
+use Rattle.basis_book.specs.Dated.{Dated}
+use Rattle.policy_types.specs.Valid.{IsValid}
+use Rattle.policy_types.specs.declared.command.Command.{Command}
+use Rattle.policy_types.specs.declared.entry.Call.{Call}
+use Rattle.policy_types.specs.declared.entry.Call.TheVariants.{Post as PostCall}
+use Rattle.policy_types.specs.declared.entry.Entry.{Entry}
+use Rattle.policy_types.specs.declared.entry.Reply.{Reply}
+use Rattle.policy_types.specs.declared.entry.Reply.TheVariants.{Faulted, Pinned}
+use Rattle.policy_types.specs.declared.script.Line.{Line}
+use Rattle.policy_types.specs.declared.script.Line.TheVariants.{Post, Value, Trim}
+use Rattle.policy_types.specs.declared.script.Lane.{Lane}
+use Rattle.policy_machine.specs.History.{Opening, IsDue, accepted_by, accepted_of, commands_after}
+use Rattle.policy_machine.specs.Merge.{AnswersLine, IsMerge, Placed, turns_of}
+use Rattle.policy_value.specs.Rows.{IsWithin}
+use Rattle.policy_value.specs.declared.worth.Row.{Row}
+use Rattle.report_text.specs.Block.{AreSummable, IsSummable}
+use Rattle.command_csv.specs.Reads.{IsScriptLine}
+use Rattle.office_state.specs.Images.{HasFaulted}
+use Rattle.office_state.specs.Posting.{reply_of}
+use Rattle.office_state.specs.declared.answer.Answer.{Answer}
+use Rattle.office_state.specs.declared.answer.Answer.TheVariants.{Accepted, Refused, DiskFault, NoMemory}
+use Rattle.shared_office.specs.Offices.{FoundMemory, IsOfficeHistory, OfficeOpening, posts}
+use Rattle.snapshot_value.specs.Valuing.{AreRowsOf, IsSnapshot}
+use Rattle.snapshot_value.specs.declared.valuation.Valuation.{Valuation}
+use Rattle.turn_lock.specs.History.{entries_of}
+use Rattle.turn_lock.specs.Passes.{Holding, IsFirst, OwnsAll, Page, PassFacts, callers as numbers_of}
+use Rattle.lane_runner.specs.AnsweredLines.{AnsweredLine, AreLinesOf, AreOfLanes, lines_by, turns_in}
+use Rattle.lane_runner.specs.Lanes.{lines_in}
+use Rattle.lane_runner.specs.Transcripts.{HasAnsweredLanes, IsOutcome, IsTold as IsToldOf, dry_of, lacked_memory}
+use Rattle.lane_runner.specs.declared.transcript.AnsweredLine.{AnsweredLine as ToldLine}
+use Rattle.lane_runner.specs.declared.transcript.Outcome.{Outcome}
+use Rattle.lane_runner.specs.declared.transcript.Outcome.TheVariants.{Posted, Trimmed, Valued, ValueRefused, ValueNoMemory}
+use Rattle.lane_runner.specs.declared.transcript.Transcript.{Transcript}
+use Rattle.life_app.specs.Outcome.{ArePins, IsAnswered, IsPinned, IsTried}
+use Rattle.life_app.specs.Transcript.{IsTranscript}
+use Rattle.life_app.specs.inside.Parts.{AreScriptLanes}
+use Rattle.life_app.specs.inside.Told.{IsTold, IsWritable, IsWritableBlock, IsWritableOutcome, any_faulted, any_lacked, has_faulted, is_faulted, told_texts}
+use Rattle.life_app.proofs.AnswerSteps.{is_told}
+use Rattle.life_app.proofs.ListSteps.{Has, all_has, any_none, any_some, contains_of_has, front_back, has_at, has_enumerate, has_filter, has_flat_map, has_left, has_map, has_of_contains, has_right, of_all, of_enumerate, of_filter, of_flat_map, of_map, parted, zip_left, zip_right}
+use Rattle.life_app.proofs.TextSteps.{transcript_of}
+use Rattle.life_app.proofs.TurnSteps.{due_at, few_postings, found_memory, posted_first, quiet_reply, tried_from}
+use Rattle.life_app.proofs.ValueSteps.{block_writable}
+
+-- the turns of an answered line are those of a caller
+line_turn : (answered : List AnsweredLine) (history : List Entry) (lanes : List Lane) (callers : List ℕ) (one : AnsweredLine) (turn : Placed)
+    → AreOfLanes answered history lanes callers → Has (map (λ (lane : Lane). lane.number) lanes) one.clerk → Has answered one → Has (turns_in one) turn
+    → (caller : ℕ) × Has (turns_of history caller) turn
+line_turn answered history [] callers one turn are clerk has there = absurd clerk
+line_turn answered history (lane ∷ lanes) [] one turn are clerk has there = absurd are
+line_turn answered history (lane ∷ lanes) (caller ∷ callers) one turn are (inl same) has there =
+    let own : (one.clerk == lane.number) ≡ true = eq-eqb one.clerk lane.number (sym same) in
+    let by_lane = has_filter (λ (other : AnsweredLine). other.clerk == lane.number) answered one own has in
+    (caller, subst (λ (ts : List Placed). Has ts turn) are.1 (has_flat_map turns_in (lines_by lane.number answered) one turn by_lane there))
+line_turn answered history (lane ∷ lanes) (caller ∷ callers) one turn are (inr later) has there =
+    line_turn answered history lanes callers one turn are.2 later has there
+
+-- and its line is one of a lane's
+line_in : (answered : List AnsweredLine) (history : List Entry) (lanes : List Lane) (callers : List ℕ) (one : AnsweredLine)
+    → AreOfLanes answered history lanes callers → Has (map (λ (lane : Lane). lane.number) lanes) one.clerk → Has answered one
+    → Has (lines_in lanes) one.line
+line_in answered history [] callers one are clerk has = absurd clerk
+line_in answered history (lane ∷ lanes) [] one are clerk has = absurd are
+line_in answered history (lane ∷ lanes) (caller ∷ callers) one are (inl same) has =
+    let own : (one.clerk == lane.number) ≡ true = eq-eqb one.clerk lane.number (sym same) in
+    let by_lane = has_filter (λ (other : AnsweredLine). other.clerk == lane.number) answered one own has in
+    let line = has_map (λ (other : AnsweredLine). other.line) (lines_by lane.number answered) one by_lane in
+    has_left lane.lines (lines_in lanes) one.line (subst (λ (ls : List Line). Has ls one.line) are.0 line)
+line_in answered history (lane ∷ lanes) (caller ∷ callers) one are (inr later) has =
+    has_right lane.lines (lines_in lanes) one.line (line_in answered history lanes callers one are.2 later has)
+
+-- each entry of a caller is a turn of an answered line
+turn_line : (answered : List AnsweredLine) (history : List Entry) (lanes : List Lane) (callers : List ℕ) (entry : Entry)
+    → AreOfLanes answered history lanes callers → Has callers entry.caller → Has history entry
+    → (one : AnsweredLine) × Has answered one × ((n : ℕ) × Has (turns_in one) (n, entry))
+turn_line answered history [] [] entry are caller has = absurd caller
+turn_line answered history [] (other ∷ callers) entry are caller has = absurd are
+turn_line answered history (lane ∷ lanes) [] entry are caller has = absurd caller
+turn_line answered history (lane ∷ lanes) (other ∷ callers) entry are (inl same) has =
+    let placed = has_enumerate 0 history entry has in
+    let turn : Has (turns_of history other) (placed.0, entry) =
+    has_filter (λ (turn : Placed). turn.1.caller == other) (enumerate_from 0 history) (placed.0, entry) (eq-eqb entry.caller other (sym same)) placed.1 in
+    let found = of_flat_map turns_in (lines_by lane.number answered) (placed.0, entry) (subst (λ (ts : List Placed). Has ts (placed.0, entry)) (sym are.1) turn) in
+    (found.0, (of_filter (λ (one : AnsweredLine). one.clerk == lane.number) answered found.0 found.1).0, (placed.0, found.2))
+turn_line answered history (lane ∷ lanes) (other ∷ callers) entry are (inr later) has =
+    turn_line answered history lanes callers entry are.2 later has
+
+-- each caller's number of its page
+page_numbers : (history : List Entry) (ns : List ℕ) → map (λ (page : Page). page.0) (map (λ n. (n, entries_of history n)) ns) ≡ ns
+page_numbers history [] = refl
+page_numbers history (n ∷ ns) = ap (λ more. n ∷ more) (page_numbers history ns)
+
+-- a front of valid commands is valid
+valid_front : (opening : Opening) (history : List Entry) (k : ℕ) → AllByRecursion IsValid (commands_after opening history)
+    → AllByRecursion IsValid (commands_after opening (take k history))
+valid_front opening history k valid =
+    let parts = front_back k history in
+    let split : accepted_of history ≡ accepted_of (take k history) ++ accepted_of parts.0 =
+    ap accepted_of parts.1 ∙ filter_map-append (λ (entry : Entry). accepted_by entry.call entry.reply) (take k history) parts.0 in
+    front opening.commands (accepted_of (take k history)) (accepted_of parts.0)
+    (subst (λ (cs : List Command). AllByRecursion IsValid (opening.commands ++ cs)) split valid)
+  where
+    front : (xs ys zs : List Command) → AllByRecursion IsValid (xs ++ (ys ++ zs)) → AllByRecursion IsValid (xs ++ ys)
+    front [] [] zs all = tt
+    front [] (y ∷ ys) zs all = (all.0, front [] ys zs all.1)
+    front (x ∷ xs) ys zs all = (all.0, front xs ys zs all.1)
+
+outcome_writable : (line : Line) (reply : Reply) (outcome : Outcome) (commands : List Command) (basis : List Dated)
+    → IsOutcome commands basis line reply outcome → IsScriptLine line
+    → ((command : Command) (answer : Answer) → line ≡ Post command → reply ≡ reply_of answer → IsTold answer)
+    → IsWritableOutcome line outcome
+outcome_writable (Post command) reply (Posted answer) commands basis told right can = can command answer refl told
+outcome_writable Trim reply (Trimmed floor) commands basis told right can = tt
+outcome_writable (Value on at workers) reply (ValueRefused refusal) commands basis told right can = right.0
+outcome_writable (Value on at workers) reply (Valued valuation) commands basis (position, (policies, pinned, snapshot)) right can =
+    (right.0, block_writable commands basis on position valuation snapshot)
+outcome_writable (Value on at workers) reply ValueNoMemory commands basis told right can = right.0
+outcome_writable (Post command) reply (Trimmed floor) commands basis told right can = absurd told
+outcome_writable (Post command) reply (Valued valuation) commands basis told right can = absurd told
+outcome_writable (Post command) reply (ValueRefused refusal) commands basis told right can = absurd told
+outcome_writable (Post command) reply ValueNoMemory commands basis told right can = absurd told
+outcome_writable Trim reply (Posted answer) commands basis told right can = absurd told
+outcome_writable Trim reply (Valued valuation) commands basis told right can = absurd told
+outcome_writable Trim reply (ValueRefused refusal) commands basis told right can = absurd told
+outcome_writable Trim reply ValueNoMemory commands basis told right can = absurd told
+outcome_writable (Value on at workers) reply (Posted answer) commands basis told right can = absurd told
+outcome_writable (Value on at workers) reply (Trimmed floor) commands basis told right can = absurd told
+
+-- a valuation that is told to have found no memory was pinned
+lacked_pin : (line : Line) (reply : Reply) (outcome : Outcome) (commands : List Command) (basis : List Dated) → IsOutcome commands basis line reply outcome
+    → lacked_memory outcome ≡ true → IsPinned reply
+lacked_pin (Value on at workers) reply ValueNoMemory commands basis (position, (policies, pinned)) lacked = subst IsPinned (sym pinned) tt
+lacked_pin line reply (Posted answer) commands basis told lacked = absurd (false≢true lacked)
+lacked_pin line reply (Trimmed floor) commands basis told lacked = absurd (false≢true lacked)
+lacked_pin line reply (Valued valuation) commands basis told lacked = absurd (false≢true lacked)
+lacked_pin line reply (ValueRefused refusal) commands basis told lacked = absurd (false≢true lacked)
+lacked_pin (Post command) reply ValueNoMemory commands basis told lacked = absurd told
+lacked_pin Trim reply ValueNoMemory commands basis told lacked = absurd told
+
+-- what is told of a posting that the disk failed in, and of one that it didn't
+told_fault : (line : Line) (reply : Reply) (outcome : Outcome) (commands : List Command) (basis : List Dated) → IsOutcome commands basis line reply outcome
+    → has_faulted outcome ≡ true → (command : Command) × ((count : ℕ) × (line ≡ Post command) × (reply ≡ Faulted count))
+told_fault (Post command) reply (Posted (DiskFault count)) commands basis told failed = (command, (count, refl, told))
+told_fault (Post command) reply (Posted (Accepted position)) commands basis told failed = absurd (false≢true failed)
+told_fault (Post command) reply (Posted (Refused refusal)) commands basis told failed = absurd (false≢true failed)
+told_fault (Post command) reply (Posted NoMemory) commands basis told failed = absurd (false≢true failed)
+told_fault Trim reply (Posted answer) commands basis told failed = absurd told
+told_fault (Value on at workers) reply (Posted answer) commands basis told failed = absurd told
+told_fault line reply (Trimmed floor) commands basis told failed = absurd (false≢true failed)
+told_fault line reply (Valued valuation) commands basis told failed = absurd (false≢true failed)
+told_fault line reply (ValueRefused refusal) commands basis told failed = absurd (false≢true failed)
+told_fault line reply ValueNoMemory commands basis told failed = absurd (false≢true failed)
+
+answered_if_told : (answer : Answer) (reply : Reply) → reply ≡ reply_of answer → IsTried reply → is_faulted answer ≡ false → IsAnswered reply
+answered_if_told (Accepted position) reply is tried whole = subst IsAnswered (sym is) tt
+answered_if_told (Refused refusal) reply is tried whole = subst IsAnswered (sym is) tt
+answered_if_told (DiskFault count) reply is tried whole = absurd (false≢true (sym whole))
+answered_if_told NoMemory reply is tried whole = absurd (subst IsTried is tried)
+
+told_whole : (command : Command) (reply : Reply) (outcome : Outcome) (commands : List Command) (basis : List Dated) → IsOutcome commands basis (Post command) reply outcome
+    → IsTried reply → has_faulted outcome ≡ false → IsAnswered reply
+told_whole command reply (Posted answer) commands basis told tried whole = answered_if_told answer reply told tried whole
+told_whole command reply (Trimmed floor) commands basis told tried whole = absurd told
+told_whole command reply (Valued valuation) commands basis told tried whole = absurd told
+told_whole command reply (ValueRefused refusal) commands basis told tried whole = absurd told
+told_whole command reply ValueNoMemory commands basis told tried whole = absurd told
+
+-- the turn of a posting's line
+post_call : (dry : List ℕ) (line : Line) (turn : Placed) (rest : List Placed) (command : Command) → AnswersLine dry line (turn ∷ rest)
+    → line ≡ Post command → turn.1.call ≡ PostCall command
+post_call dry (Post other) turn [] command is same = (let one : other ≡ command = cc in is ∙ ap PostCall one)
+post_call dry (Post other) turn (second ∷ rest) command is same = absurd is
+post_call dry (Value on at workers) turn rest command is same = absurd (cc)
+post_call dry Trim turn rest command is same = absurd (cc)
+
+pub same_opened : {O : Type 0} (a b : O) → Some a ≡ Some b → a ≡ b
+same_opened a b e = cc
+
+-- what is known of lanes that were run, once their office is closed
+pub record Telling {D : Type 0} (basis : List Dated) (lanes : List Lane) (closing : Holding (OfficeOpening D)) (transcript : Transcript)
+    (opened : OfficeOpening D) (shown : List AnsweredLine) : Type 0 where
+  pub opening : closing.opening ≡ Some opened
+  pub history : IsOfficeHistory opened closing.seen
+  pub merge : IsMerge closing.seen lanes transcript.callers (dry_of transcript.lines)
+  pub tried : AllByRecursion (λ (entry : Entry). IsTried entry.reply) closing.seen
+  pub writable : All IsWritable transcript.lines
+  pub tells : IsTranscript opened.opening closing.seen basis (dry_of transcript.lines) shown (told_texts transcript.lines)
+  pub pins : ArePins closing.seen (dry_of transcript.lines)
+  pub none_dry : any_lacked transcript.lines ≡ false → dry_of transcript.lines ≡ []
+  pub some_dry : any_lacked transcript.lines ≡ true → (pin : ℕ) × Contains (dry_of transcript.lines) pin
+  pub fault : any_faulted transcript.lines ≡ true → (command : Command) × HasFaulted closing.seen command
+  pub answered : any_faulted transcript.lines ≡ false → AllByRecursion (λ (entry : Entry). IsAnswered entry.reply) closing.seen
+
+module _ {D : Type 0} (basis : List Dated) (lanes : List Lane) (first closing : Holding (OfficeOpening D)) (transcript : Transcript)
+    (opened : OfficeOpening D) (ran : HasAnsweredLanes basis lanes first closing transcript) (is_first : IsFirst opened first)
+    (facts : PassFacts IsOfficeHistory closing) (whole : OwnsAll closing) (room : opened.room ≡ length (lines_in lanes))
+    (script : AreScriptLanes lanes) where
+  abbrev history : List Entry
+  history = closing.seen
+
+  abbrev dry : List ℕ
+  dry = dry_of transcript.lines
+
+  closing_opened : closing.opening ≡ Some opened
+  closing_opened = ran.pass.opening ∙ is_first.opened
+
+  is_history : IsOfficeHistory opened closing.seen
+  is_history =
+      let lawful = facts.lawful in
+      let same : lawful.0 ≡ opened = same_opened lawful.0 opened (sym lawful.1 ∙ closing_opened) in
+      subst (λ (o : OfficeOpening D). IsOfficeHistory o closing.seen) same lawful.2
+
+  told : AllZip (IsToldOf opened.opening closing.seen basis) ran.answered transcript.lines
+  told =
+      let same : ran.opened ≡ opened = same_opened ran.opened opened (sym ran.opening ∙ closing_opened) in
+      subst (λ (o : OfficeOpening D). AllZip (IsToldOf o.opening closing.seen basis) ran.answered transcript.lines) same ran.told
+
+  all_callers : numbers_of closing ≡ 0 ∷ transcript.callers
+  all_callers =
+      let number : closing.caller ≡ 0 = ran.pass.caller ∙ is_first.caller in
+      let ended : closing.ended ≡ map (λ n. (n, entries_of closing.seen n)) transcript.callers =
+      ran.pass.ended ∙ ap (λ (ps : List Page). ps ++ map (λ n. (n, entries_of closing.seen n)) transcript.callers) is_first.ended in
+      let numbers : map (λ (page : Page). page.0) closing.ended ≡ transcript.callers =
+      ap (map (λ (page : Page). page.0)) ended ∙ page_numbers closing.seen transcript.callers in
+      λ i. number i ∷ numbers i
+
+  none_own : entries_of closing.seen 0 ≡ []
+  none_own =
+      subst (λ n. entries_of closing.seen n ≡ []) is_first.caller
+      (ran.pass.own ∙ ap (λ (es : List Entry). entries_of es first.caller) is_first.seen)
+
+  theirs : (entry : Entry) → Has closing.seen entry → Has transcript.callers entry.caller
+  theirs entry has = by among
+    where
+      among : Has (0 ∷ transcript.callers) entry.caller
+      among = has_of_contains (0 ∷ transcript.callers) entry.caller
+          (subst (λ (ns : List ℕ). Contains ns entry.caller) all_callers (of_all (λ (e : Entry). Contains (numbers_of closing) e.caller) closing.seen entry whole has))
+
+      by : Has (0 ∷ transcript.callers) entry.caller → Has transcript.callers entry.caller
+      by (inl same) = absurd (subst (λ (es : List Entry). Has es entry) none_own
+          (has_filter (λ (e : Entry). e.caller == 0) closing.seen entry (eq-eqb entry.caller 0 (sym same)) has))
+      by (inr later) = later
+
+  merge : IsMerge closing.seen lanes transcript.callers dry
+  merge = record {
+    distinct = ran.pass.distinct;
+    theirs = all_has (λ (entry : Entry). Contains transcript.callers entry.caller) closing.seen
+        (λ entry has. contains_of_has transcript.callers entry.caller (theirs entry has));
+    answers = ran.answers;
+  }
+
+  clerk_of : (one : AnsweredLine) → Has ran.answered one → Has (map (λ (lane : Lane). lane.number) lanes) one.clerk
+  clerk_of one has = has_of_contains (map (λ (lane : Lane). lane.number) lanes) one.clerk
+      (of_all (λ (one : AnsweredLine). Contains (map (λ (lane : Lane). lane.number) lanes) one.clerk) ran.answered one ran.lines.clerks has)
+
+  placed : (one : AnsweredLine) → Has ran.answered one → slice_get closing.seen one.first.0 ≡ Some one.first.1
+  placed one has =
+      let by_caller = line_turn ran.answered closing.seen lanes transcript.callers one one.first ran.lines.each (clerk_of one has) has (inl refl) in
+      let kept = of_filter (λ (turn : Placed). turn.1.caller == by_caller.0) (enumerate_from 0 closing.seen) one.first by_caller.1 in
+      let there = of_enumerate 0 closing.seen one.first.0 one.first.1 kept.0 in
+      let none : one.first.0 - 0 ≡ one.first.0 = omega arith in
+      subst (λ k. slice_get closing.seen k ≡ Some one.first.1) none there.1
+
+  answers : (one : AnsweredLine) → Has ran.answered one → AnswersLine dry one.line (one.first ∷ one.rest)
+  answers one has = of_all (λ (one : AnsweredLine). AnswersLine dry one.line (turns_in one)) ran.answered one ran.lines.turns has
+
+  found : (entry : Entry) → Has closing.seen entry → posts entry.call ≡ true → FoundMemory entry.reply
+  found entry has posted =
+      found_memory opened.room closing.seen entry is_history.memory
+      (omega (arith, few_postings dry closing.seen lanes transcript.callers ran.answers theirs, room)) has posted
+
+  tried : AllByRecursion (λ (entry : Entry). IsTried entry.reply) closing.seen
+  tried = tried_from opened.opening [] closing.seen is_history.legal.due found
+
+  due : (k : ℕ) (entry : Entry) → slice_get closing.seen k ≡ Some entry → IsDue opened.opening (take k closing.seen) entry.caller entry.call entry.reply
+  due k entry there = due_at opened.opening [] closing.seen k entry is_history.legal.due there
+
+  -- the answers to postings can be written
+  can_tell : (one : AnsweredLine) → Has ran.answered one → (command : Command) (answer : Answer) → one.line ≡ Post command
+      → one.first.1.reply ≡ reply_of answer → IsTold answer
+  can_tell one has command answer posts_it is =
+      let there = placed one has in
+      let call : one.first.1.call ≡ PostCall command = post_call dry one.line one.first one.rest command (answers one has) posts_it in
+      let due_there = subst (λ (c : Call). IsDue opened.opening (take one.first.0 closing.seen) one.first.1.caller c one.first.1.reply) call (due one.first.0 one.first.1 there) in
+      let told_due = subst (λ (r : Reply). IsDue opened.opening (take one.first.0 closing.seen) one.first.1.caller (PostCall command) r) is due_there in
+      let memory = subst FoundMemory is (found one.first.1 (has_at closing.seen one.first.0 one.first.1 there) (ap posts call)) in
+      is_told opened.opening (take one.first.0 closing.seen) one.first.1.caller command answer
+      (valid_front opened.opening closing.seen one.first.0 is_history.valid) told_due memory
+
+  writable : All IsWritable transcript.lines
+  writable = All-from_recursion IsWritable transcript.lines (all_has IsWritable transcript.lines one_writable)
+    where
+      one_writable : (line : ToldLine) → Has transcript.lines line → IsWritable line
+      one_writable line has =
+          let pair = zip_right (IsToldOf opened.opening closing.seen basis) ran.answered transcript.lines line told has in
+          let one = pair.0 in
+          let right = of_all IsScriptLine (lines_in lanes) one.line script.lines
+          (line_in ran.answered closing.seen lanes transcript.callers one ran.lines.each (clerk_of one pair.1) pair.1) in
+          subst (λ (l : Line). IsWritableOutcome l line.outcome) (sym pair.2.line)
+          (outcome_writable one.line one.first.1.reply line.outcome (commands_after opened.opening (take one.first.0 closing.seen)) basis pair.2.outcome right
+          (can_tell one pair.1))
+
+  tells : IsTranscript opened.opening closing.seen basis dry ran.answered (told_texts transcript.lines)
+  tells = transcript_of opened.opening closing.seen basis dry ran.answered transcript.lines told ran.dry
+
+  pins : ArePins closing.seen dry
+  pins = all_has (λ (n : ℕ). (entry : Entry) × (slice_get closing.seen n ≡ Some entry) × IsPinned entry.reply) dry one_pin
+    where
+      one_pin : (n : ℕ) → Has dry n → (entry : Entry) × (slice_get closing.seen n ≡ Some entry) × IsPinned entry.reply
+      one_pin n has =
+          let from = of_map (λ (line : ToldLine). line.turn) _ n has in
+          let kept = of_filter (λ (line : ToldLine). lacked_memory line.outcome) transcript.lines from.0 from.1 in
+          let pair = zip_right (IsToldOf opened.opening closing.seen basis) ran.answered transcript.lines from.0 told kept.0 in
+          let one = pair.0 in
+          let place : one.first.0 ≡ n = sym pair.2.turn ∙ from.2 in (
+            one.first.1,
+            subst (λ k. slice_get closing.seen k ≡ Some one.first.1) place (placed one pair.1),
+            lacked_pin one.line one.first.1.reply from.0.outcome (commands_after opened.opening (take one.first.0 closing.seen)) basis pair.2.outcome kept.1,
+          )
+
+  -- the endings
+  none_dry : any_lacked transcript.lines ≡ false → dry ≡ []
+  none_dry none = by transcript.lines (any_none (λ (line : ToldLine). lacked_memory line.outcome) transcript.lines none)
+    where
+      by : (lines : List ToldLine) → AllByRecursion (λ (line : ToldLine). lacked_memory line.outcome ≡ false) lines → dry_of lines ≡ []
+      by [] none = refl
+      by (line ∷ lines) none = rw none.0 (by lines none.1)
+
+  some_dry : any_lacked transcript.lines ≡ true → (pin : ℕ) × Contains dry pin
+  some_dry some =
+      let line = any_some (λ (line : ToldLine). lacked_memory line.outcome) transcript.lines some in
+      let kept = has_filter (λ (line : ToldLine). lacked_memory line.outcome) transcript.lines line.0 line.2 line.1 in
+      (line.0.turn, contains_of_has dry line.0.turn (has_map (λ (line : ToldLine). line.turn) _ line.0 kept))
+
+  a_fault : any_faulted transcript.lines ≡ true → (command : Command) × HasFaulted closing.seen command
+  a_fault some =
+      let line = any_some (λ (line : ToldLine). has_faulted line.outcome) transcript.lines some in
+      let pair = zip_right (IsToldOf opened.opening closing.seen basis) ran.answered transcript.lines line.0 told line.1 in
+      let one = pair.0 in
+      let fault = told_fault one.line one.first.1.reply line.0.outcome (commands_after opened.opening (take one.first.0 closing.seen)) basis pair.2.outcome line.2 in
+      let there = placed one pair.1 in
+      let parts = parted closing.seen one.first.0 one.first.1 there in
+      let call = post_call dry one.line one.first one.rest fault.0 (answers one pair.1) fault.1.1 in
+      let entry : one.first.1 ≡ record { caller = one.first.1.caller; call = PostCall fault.0; reply = Faulted fault.1.0 } =
+      ap (λ (c : Call). let made : Entry = record { caller = one.first.1.caller; call = c; reply = one.first.1.reply } in made) call
+      ∙ ap (λ (r : Reply). let made : Entry = record { caller = one.first.1.caller; call = PostCall fault.0; reply = r } in made) fault.1.2 in (
+        fault.0,
+        (
+          parts.0,
+          record {
+            before = take one.first.0 closing.seen;
+            caller = one.first.1.caller;
+            count = fault.1.0;
+            turns = parts.1 ∙ ap (λ (e : Entry). take one.first.0 closing.seen ++ e ∷ parts.0) entry;
+          },
+        ),
+      )
+
+  answered : any_faulted transcript.lines ≡ false → AllByRecursion (λ (entry : Entry). IsAnswered entry.reply) closing.seen
+  answered none = all_has (λ (entry : Entry). IsAnswered entry.reply) closing.seen (λ entry has. one entry has (posts entry.call) refl)
+    where
+      one : (entry : Entry) → Has closing.seen entry → (b : Bool) → posts entry.call ≡ b → IsAnswered entry.reply
+      one entry has false quiet =
+          let place = has_enumerate 0 closing.seen entry has in
+          let there = of_enumerate 0 closing.seen place.0 entry place.1 in
+          quiet_reply opened.opening (take (place.0 - 0) closing.seen) entry.caller entry.call entry.reply (due (place.0 - 0) entry there.1) quiet
+      one entry has true posted =
+          let of_line = turn_line ran.answered closing.seen lanes transcript.callers entry ran.lines.each (theirs entry has) has in
+          let line = of_line.0 in
+          let is_first_turn = posted_first dry line.line line.first line.rest (of_line.2.0, entry) (answers line of_line.1) of_line.2.1 posted in
+          let same : line.first.1 ≡ entry = ap (λ (t : Placed). t.1) is_first_turn.0 in
+          let pair = zip_left (IsToldOf opened.opening closing.seen basis) ran.answered transcript.lines line told of_line.1 in
+          let outcome = subst (λ (l : Line). IsOutcome (commands_after opened.opening (take line.first.0 closing.seen)) basis l line.first.1.reply pair.0.outcome) is_first_turn.1.1 pair.2.outcome in
+          let here = subst (λ (e : Entry). IsOutcome (commands_after opened.opening (take line.first.0 closing.seen)) basis (Post is_first_turn.1.0) e.reply pair.0.outcome) same outcome in
+          told_whole is_first_turn.1.0 entry.reply pair.0.outcome (commands_after opened.opening (take line.first.0 closing.seen)) basis here
+          (of_all (λ (e : Entry). IsTried e.reply) closing.seen entry tried has)
+          (of_all (λ (l : ToldLine). has_faulted l.outcome ≡ false) transcript.lines pair.0 (any_none (λ (l : ToldLine). has_faulted l.outcome) transcript.lines none) pair.1)
+
+  pub telling : Telling basis lanes closing transcript opened ran.answered
+  telling = record {
+    opening = closing_opened;
+    history = is_history;
+    merge = merge;
+    tried = tried;
+    writable = writable;
+    tells = tells;
+    pins = pins;
+    none_dry = none_dry;
+    some_dry = some_dry;
+    fault = a_fault;
+    answered = answered;
+  }

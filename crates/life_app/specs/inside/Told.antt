@@ -1,0 +1,115 @@
+-- What answers can be written, and the text of what is told of answered lines
+use Rattle.std.specs.Prelude.{◌≡◌, ◌⊎◌, ◌≤◌, ◌<◌, ℕ, ◌^◌, Bool, true, false, List, [], codes, length, Result, Ok, Err}
+use Rattle.std.specs.List.{flat_map, list_any}
+use Rattle.outside_io.specs.Faults.{Rose}
+use Rattle.outside_io.specs.Streams.{AppendsPart}
+use Rattle.policy_types.specs.declared.refusal.Refusal.{Refusal}
+use Rattle.policy_types.specs.declared.refusal.Refusal.TheVariants.{Taken, Unknown, BeforeLast, WrongStatus, TermOver, NothingDue, TooEarly, GraceOver, NotInArrears, TooLate, WrongAmount, NotAReduction, NotMatured, OverSettled, Full}
+use Rattle.policy_types.specs.declared.script.Line.{Line}
+use Rattle.policy_types.specs.declared.script.Line.TheVariants.{Post, Value, Trim}
+use Rattle.policy_types.specs.declared.watcher.NoMemory.{NoMemory as Lack}
+use Rattle.life_dates.specs.Calendar.{IsDay, IsTermDay}
+use Rattle.office_state.specs.declared.answer.Answer.{Answer}
+use Rattle.office_state.specs.declared.answer.Answer.TheVariants.{Accepted, Refused, DiskFault, NoMemory}
+use Rattle.office_state.specs.Posting.{reply_of}
+use Rattle.report_text.specs.Block.{AreSummable, block_text}
+use Rattle.snapshot_value.specs.declared.valuation.Valuation.{Valuation}
+use Rattle.lane_runner.specs.Transcripts.{lacked_memory}
+use Rattle.lane_runner.specs.declared.transcript.AnsweredLine.{AnsweredLine as ToldLine}
+use Rattle.lane_runner.specs.declared.transcript.Outcome.{Outcome}
+use Rattle.lane_runner.specs.declared.transcript.Outcome.TheVariants.{Posted, Trimmed, Valued, ValueRefused, ValueNoMemory}
+use Rattle.lane_runner.specs.declared.transcript.Transcript.{Transcript}
+use Rattle.life_app.specs.declared.ending.Ending.{Ending}
+use Rattle.life_app.specs.declared.ending.Ending.TheVariants.{Done, WriteFault, DiskFault as DiskFailed, NoMemory as NoRoom}
+use Rattle.life_app.specs.Transcript.{posting_text, trim_text, unpinned_text, unvalued_text}
+use Rattle.life_app.specs.Writing.{Stream, WroteAll, WroteLine, WroteNothing}
+
+abbrev pub is_faulted : Answer → Bool
+is_faulted (DiskFault count) = true
+is_faulted _ = false
+
+-- the day or amount of the refusal can be written
+abbrev pub IsPrintable : Refusal → Type 0
+IsPrintable Taken = Unit {0}
+IsPrintable Unknown = Unit {0}
+IsPrintable (BeforeLast last) = IsTermDay last
+IsPrintable (WrongStatus status) = Unit {0}
+IsPrintable (TermOver end) = IsTermDay end
+IsPrintable NothingDue = Unit {0}
+IsPrintable (TooEarly due) = IsTermDay due
+IsPrintable (GraceOver due) = IsTermDay due
+IsPrintable (NotInArrears due) = IsTermDay due
+IsPrintable (TooLate limit) = IsTermDay limit
+IsPrintable (WrongAmount amount) = amount < 2 ^ 63
+IsPrintable (NotAReduction amount) = amount < 2 ^ 63
+IsPrintable (NotMatured end) = IsTermDay end
+IsPrintable (OverSettled outstanding) = outstanding < 2 ^ 63
+IsPrintable Full = Unit {0}
+
+-- memory wasn't lacking, and a refusal can be written
+abbrev pub IsTold : Answer → Type 0
+IsTold (Accepted position) = Unit {0}
+IsTold (Refused refusal) = IsPrintable refusal
+IsTold (DiskFault count) = Unit {0}
+IsTold NoMemory = ⊥
+
+-- the rows of a valuation can be summed and written
+pub record IsWritableBlock (valuation : Valuation) : Type 0 where
+  pub few : length valuation.rows ≤ 4000000
+  pub bounded : AreSummable valuation.rows
+
+-- what is told of a line can be written
+abbrev pub IsWritableOutcome : Line → Outcome → Type 0
+IsWritableOutcome (Post command) (Posted answer) = IsTold answer
+IsWritableOutcome Trim (Trimmed floor) = Unit {0}
+IsWritableOutcome (Value on at workers) (Valued valuation) = IsDay on × IsWritableBlock valuation
+IsWritableOutcome (Value on at workers) (ValueRefused refusal) = IsDay on
+IsWritableOutcome (Value on at workers) ValueNoMemory = IsDay on
+IsWritableOutcome _ _ = ⊥
+
+abbrev pub IsWritable : ToldLine → Type 0
+IsWritable told = IsWritableOutcome told.line told.outcome
+
+-- the text of what is told of a clerk's line
+abbrev pub outcome_text : ℕ → Line → Outcome → List ℕ
+outcome_text clerk (Post command) (Posted answer) = posting_text clerk command (reply_of answer)
+outcome_text clerk Trim (Trimmed floor) = trim_text clerk floor
+outcome_text clerk (Value on at workers) (Valued valuation) = block_text clerk on valuation.position valuation.rows
+outcome_text clerk (Value on at workers) (ValueRefused refusal) = unpinned_text clerk on refusal
+outcome_text clerk (Value on at workers) ValueNoMemory = unvalued_text clerk on
+outcome_text clerk _ _ = []
+
+abbrev pub told_text : ToldLine → List ℕ
+told_text told = outcome_text told.lane told.line told.outcome
+
+abbrev pub told_texts : List ToldLine → List ℕ
+told_texts lines = flat_map told_text lines
+
+-- the disk failed in the line's posting
+abbrev pub has_faulted : Outcome → Bool
+has_faulted (Posted answer) = is_faulted answer
+has_faulted _ = false
+
+abbrev pub any_faulted : List ToldLine → Bool
+any_faulted lines = list_any (λ (told : ToldLine). has_faulted told.outcome) lines
+
+abbrev pub any_lacked : List ToldLine → Bool
+any_lacked lines = list_any (λ (told : ToldLine). lacked_memory told.outcome) lines
+
+-- How a run ends whose lines were answered: by what was written of its text, and then by whether the disk failed in one of
+-- them, or memory was wanting
+abbrev pub EndsTold : List ToldLine → Stream → Ending → Type 0
+EndsTold lines output Done = (any_faulted lines ≡ false) × (any_lacked lines ≡ false) × WroteAll output (told_texts lines)
+EndsTold lines output DiskFailed = (any_faulted lines ≡ true) × WroteAll output (told_texts lines)
+EndsTold lines output WriteFault =
+    Rose output.faults_before output.faults_after × AppendsPart output.before output.after (told_texts lines)
+EndsTold lines output NoRoom =
+    WroteNothing output (told_texts lines)
+    ⊎ ((any_faulted lines ≡ false) × (any_lacked lines ≡ true) × WroteAll output (told_texts lines))
+EndsTold lines output _ = ⊥
+
+-- the lanes were run, or there was no memory to run them
+abbrev pub EndsRan : Result Transcript Lack → Stream → Ending → Type 0
+EndsRan (Ok transcript) output ending = EndsTold transcript.lines output ending
+EndsRan (Err lack) output NoRoom = WroteLine output (codes "nomemory")
+EndsRan (Err lack) output _ = ⊥
