@@ -1,6 +1,11 @@
+use denote.Param.Send.{sendable}
 use Rattle.std.proofs.Common.{◌*◌}
+use Rattle.shared_office.proofs.Crossing.{crosses_office}
 use Rattle.measure_turns.proofs.Posting.{has_posted}
 use Rattle.measure_turns.proofs.issues.post_issues.Goals as goal
+
+pub lanes-pass-requires-send-T : goal.lanes-pass-requires-send-T
+lanes-pass-requires-send-T g c κs within = search (crosses_office, sendable) depth 20
 
 pub returns-clause-posted : goal.returns-clause-posted
 returns-clause-posted g c =
