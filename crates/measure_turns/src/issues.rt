@@ -28,13 +28,7 @@ impl<D: Disk, W: Watching, R: Wait> Lane<SharedState<D, W>, R> for Issues {
 
     ghost counts = { accepts };
 
-    fn run(
-        &self,
-        rt: &R,
-        gate: &Office<D, W>,
-        pass: &mut OfficePass<D, W>,
-        place: u32,
-    ) -> u64 {
+    fn run(&self, rt: &R, gate: &Office<D, W>, pass: &mut OfficePass<D, W>, place: u32) -> u64 {
         let mut done = 0;
         let mut accepted = 0;
         while done < self.each {

@@ -77,7 +77,8 @@ fn main(rt: HostRuntime) -> io::Result<ExitCode> {
                 return Ok(ExitCode::from(2));
             }
             let disk = FileDisk::at(rt, "journal.life");
-            let Ok((disk, accepted)) = post_issues(&rt, alloc, disk, NoWatchers, callers, each) else {
+            let Ok((disk, accepted)) = post_issues(&rt, alloc, disk, NoWatchers, callers, each)
+            else {
                 return Ok(ExitCode::from(8));
             };
             drop(disk);
