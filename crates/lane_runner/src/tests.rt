@@ -1,15 +1,16 @@
 // Lanes of one office. The reserves are worked out by hand from the plan and the table: of 1000.00 on an endowment of three
 // years at age 0, after one year, 127.22 to 127.23. Each run has memory, so none may say that it wants any.
 use crate::gates::{Between, InTurn, Together};
-use crate::trials::{issue, run_on};
+use crate::trials::{issue, run_on, run_watched};
 use crate::{AnsweredLine, Outcome};
 use office_state::Answer;
 use outside_io::OpenGate;
-use policy_types::{At, Command, Lane, Line, Lines, PinRefusal, Status};
+use policy_types::{At, Command, Lane, Line, Lines, PinRefusal, Report, Status, Watcher};
 use policy_value::{Row, Worth};
 use snapshot_value::Valuation;
 use std::alloc::{AllocError, Global};
 use std::test::Fail;
+use watcher_set::{CountWatcher, PremiumWatcher, Watchers};
 
 // A lane of these lines.
 fn lane(alloc: Global, number: u8, lines: &[Line]) -> Result<Lane, AllocError> {
@@ -269,6 +270,44 @@ fn trims_and_refused_valuations(rt: HostRuntime) -> Result<(), Fail> {
     for (line, due) in lines.iter().zip(dues.iter()) {
         assert_eq!(rt; answer_of(line), (7, *due));
     }
+    Ok(())
+}
+
+#[test]
+fn watchers_of_eight_lanes(rt: HostRuntime) -> Result<(), Fail> {
+    let alloc = rt.alloc();
+    let mut boxes: Vec<Box<dyn Watcher + Send>> = Vec::new(alloc);
+    boxes.push(Box::new(alloc, CountWatcher::new(alloc, 3))?)?;
+    boxes.push(Box::new(alloc, PremiumWatcher::new(alloc))?)?;
+    let mut lanes = Vec::new(alloc);
+    for number in 1..=8u8 {
+        let id = u32::from(number);
+        let paid = Line::Post(Command::Premium {
+            id,
+            day: 18_262,
+            amount: 40_000,
+        });
+        lanes.push(lane(alloc, number, &[Line::Post(issue(id)), paid])?)?;
+    }
+    let (transcript, reports) = run_watched(
+        &rt,
+        alloc,
+        Watchers::new(boxes),
+        0,
+        lanes.as_slice(),
+        &OpenGate,
+    )?;
+    let lines = transcript.lines.as_slice();
+    assert_eq!(rt; lines.len(), 16);
+    assert!(rt; are_as_one(lines));
+    let due = [
+        Report { seen: 3, tally: 3 },
+        Report {
+            seen: 16,
+            tally: 320_000,
+        },
+    ];
+    assert_eq!(rt; reports.as_slice(), due.as_slice());
     Ok(())
 }
 

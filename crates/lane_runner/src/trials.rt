@@ -1,5 +1,5 @@
 // Lanes that are run on an office in memory.
-ghost use Rattle.std.specs.Prelude.{◌≡◌, ◌≤◌, ◌∷◌, All, IsTrue, length, map};
+ghost use Rattle.std.specs.Prelude.{◌≡◌, ◌≤◌, [], ◌∷◌, All, IsTrue, length, map};
 ghost use Rattle.std.specs.List.{AllByRecursion, filter};
 ghost use Rattle.lane_runner.specs.AnsweredLines.{AreRising};
 ghost use Rattle.lane_runner.specs.Lanes.{AreRightLanes, IsRightLane, IsRightLine, is_value, lines_in};
@@ -16,6 +16,7 @@ use std::alloc::Global;
 use std::sync::Wait;
 use std::test::Fail;
 use std::thread::Threads;
+use watcher_set::{NoWatchers, Reports, Watching};
 
 /// An endowment of 1000.00 for three years at age 0, with an annual premium of 400.00, issued on 2020-01-01.
 pub fn issue(id: u32) -> Command {
@@ -111,7 +112,12 @@ fn is_right(line: &Line) -> bool
 }
 
 // Issues the policies of the numbers from 1 to this one.
-fn issue_all<D: Disk, R: Wait>(rt: &R, office: &Office<D>, pass: &mut OfficePass<D>, last: u32)
+fn issue_all<D: Disk, W: Watching, R: Wait>(
+    rt: &R,
+    office: &Office<D, W>,
+    pass: &mut OfficePass<D, W>,
+    last: u32,
+)
     requires { pass.old.turnstile ≡ office.now }
     ensures { (pass.new.turnstile ≡ pass.old.turnstile) × (pass.new.shares ≡ pass.old.shares) }
 {
@@ -124,11 +130,11 @@ fn issue_all<D: Disk, R: Wait>(rt: &R, office: &Office<D>, pass: &mut OfficePass
 }
 
 // Runs lanes where they may be run.
-fn run_right<D: Disk + Send, G: Gate + Sync, R: Threads + Wait + Sync>(
+fn run_right<D: Disk + Send, W: Watching + Send, G: Gate + Sync, R: Threads + Wait + Sync>(
     rt: &R,
     alloc: Global,
-    office: &Office<D>,
-    pass: &mut OfficePass<D>,
+    office: &Office<D, W>,
+    pass: &mut OfficePass<D, W>,
     lanes: &[Lane],
     basis: &Basis,
     gate: &G,
@@ -142,7 +148,30 @@ fn run_right<D: Disk + Send, G: Gate + Sync, R: Threads + Wait + Sync>(
     run_lanes(rt, alloc, office, pass, lanes, basis, gate).map_err(|_| "memory".into())
 }
 
-/// Runs these lanes on an office where the policies of the numbers from 1 to this one were issued, and closes it.
+/// Runs these lanes on an office where the policies of the numbers from 1 to this one were issued, and closes it. Gives what
+/// the watchers have to say too.
+pub fn run_watched<W: Watching + Send, G: Gate + Sync, R: Threads + Wait + Sync>(
+    rt: &R,
+    alloc: Global,
+    watchers: W,
+    issued: u32,
+    lanes: &[Lane],
+    gate: &G,
+) -> Result<(Transcript, Reports), Fail>
+    requires { W.told watchers [] }
+{
+    let basis = flat_basis(alloc)?;
+    let empty = MemoryDisk::new(alloc, Vec::new(alloc), Vec::new(alloc));
+    let Ok((office, mut pass)) = Office::start(alloc, empty, watchers) else {
+        return Err("an office".into());
+    };
+    issue_all(rt, &office, &mut pass, issued);
+    let run = run_right(rt, alloc, &office, &mut pass, lanes, &basis, gate);
+    let (_, _, reports) = close(office, pass);
+    Ok((run?, reports))
+}
+
+/// The same where nobody watches.
 pub fn run_on<G: Gate + Sync, R: Threads + Wait + Sync>(
     rt: &R,
     alloc: Global,
@@ -150,13 +179,6 @@ pub fn run_on<G: Gate + Sync, R: Threads + Wait + Sync>(
     lanes: &[Lane],
     gate: &G,
 ) -> Result<Transcript, Fail> {
-    let basis = flat_basis(alloc)?;
-    let empty = MemoryDisk::new(alloc, Vec::new(alloc), Vec::new(alloc));
-    let Ok((office, mut pass)) = Office::start(alloc, empty, 10_000) else {
-        return Err("an office".into());
-    };
-    issue_all(rt, &office, &mut pass, issued);
-    let run = run_right(rt, alloc, &office, &mut pass, lanes, &basis, gate);
-    close(office, pass);
-    run
+    let (transcript, _) = run_watched(rt, alloc, NoWatchers, issued, lanes, gate)?;
+    Ok(transcript)
 }
