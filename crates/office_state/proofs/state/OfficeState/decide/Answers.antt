@@ -27,7 +27,7 @@ returns-in-Err-clause-stands g c = λ (history : List Entry) (caller : ℕ) (sta
     let command = c.args.command.now in
     let same : commands_in c.take_memory.new.books ≡ commands_after (opening_of old) history = c.take_memory.ensures.commands ∙ stands.kept in
     let found : next (policy_of (commands_in c.take_memory.new.books) (id_of command)) command ≡ Err c.in-Err.refusal =
-    sym c.decision.ensures ∙ c.in-Err.is in
+    sym {b = next (policy_of (commands_in c.take_memory.new.books) (id_of command)) command} c.decision.ensures ∙ c.in-Err.is in
     let decided = subst (λ cs. next (policy_of cs (id_of command)) command ≡ Err c.in-Err.refusal) same found in
     stands_still old history stands c.take_memory.new.books _ (posting caller command (Refused c.in-Err.refusal)) c.take_memory.ensures.commands
     refl refl (is_refused (commands_after (opening_of old) history) command c.in-Err.refusal decided)
