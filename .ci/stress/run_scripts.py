@@ -1,8 +1,10 @@
 """Runs the program on random scripts of eight clerks, and checks what it prints and leaves.
 
-usage: python3 run_scripts.py PROGRAM ROOT FOLDER SCRIPTS [FIRST_SEED]
+usage: python3 run_scripts.py PROGRAM ROOT FOLDER QUICK SCRIPTS [FIRST_SEED]
 
-Two scripts run in each folder, the second on the journal of the first. Where a run isn't right, its files are left.
+Two scripts run in each new folder, the second on the journal of the first. One folder of four is made in FOLDER, on a
+real disk, where a posting takes long and the others wait; three are made in QUICK. Where a run isn't right, its files
+are left.
 """
 import collections
 import os
@@ -63,10 +65,11 @@ def count(text, accepted, seen):
 
 
 def main():
-    program, root, folder, scripts = sys.argv[1:5]
-    first, known, seen = int((sys.argv[5:] or ["0"])[0]), {}, collections.Counter()
+    program, root, folder, quick, scripts = sys.argv[1:6]
+    first, known, seen = int((sys.argv[6:] or ["0"])[0]), {}, collections.Counter()
     for pair in range(int(scripts) // 2):
-        run_pair(program, root, os.path.join(folder, str(pair)), first + pair, known, seen)
+        place = os.path.join(quick if pair % 4 else folder, f"pair-{pair}")
+        run_pair(program, root, place, first + pair, known, seen)
     reasons = [what for what in seen if what.startswith("refused ")]
     if len(reasons) < REASONS or not seen["valuations"] or not seen["trims"]:
         sys.exit(f"stress: too little was tried: {dict(seen)}")

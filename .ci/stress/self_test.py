@@ -11,7 +11,7 @@ from scripts import Book, Office, draws, folder_for, journal_of, make_script
 from check_transcript import Wrong, book_of, check, read_basis
 from read_journal import bodies, money
 
-SCRIPTS = 5
+SCRIPTS = 4
 PLACES = 6
 
 
