@@ -2,9 +2,10 @@
 
 usage: python3 run_scripts.py PROGRAM ROOT FOLDER QUICK SCRIPTS [FIRST_SEED]
 
-Two scripts run in each new folder, the second on the journal of the first. One folder of four is made in FOLDER, on a
-real disk, where a posting takes long and the others wait; three are made in QUICK. Where a run isn't right, its files
-are left.
+Two scripts run in each new folder, the second on the journal of the first; in one of four the first has a book of many
+policies, so that a valuation takes several reads and others post and trim between them. One folder of four is made in
+FOLDER, on a real disk, where a posting takes long and the others wait; three are made in QUICK. Where a run isn't right,
+its files are left.
 """
 import collections
 import os
@@ -12,11 +13,12 @@ import shutil
 import subprocess
 import sys
 
-from scripts import Book, draws, folder_for, make_script
+from scripts import Book, draws, folder_for, journal_of, make_book, make_script
 from check_transcript import Wrong, book_of, bytes_of, check, read_basis, rows_in
 from read_journal import bodies
 
 REASONS = 14
+MANY = 1200
 
 
 def run_pair(program, root, folder, seed, known, seen):
@@ -24,6 +26,9 @@ def run_pair(program, root, folder, seed, known, seen):
     folder_for(folder, root)
     path = lambda name: os.path.join(folder, name)
     draw, basis = draws(seed), read_basis(path("basis.csv"))
+    if seed % 4 == 1:
+        with open(path("journal.life"), "wb") as file:
+            file.write(journal_of(make_book(draw, MANY)))
     for number in (1, 2):
         before = bytes_of(path("journal.life"))
         script = make_script(draw, book_of(bodies(before)) if before else Book())

@@ -84,6 +84,15 @@ def book_policy(draw):
     return book.policies[1]
 
 
+def make_book(draw, count):
+    """A book of so many policies, which no command has changed."""
+    book = Book()
+    for number in range(1, count + 1):
+        command = make_issue(draw, number)
+        book.take(command, book.decide(command)[1])
+    return book
+
+
 def row_of(lane, command):
     parts = [str(lane), command["kind"], str(command["number"]), str(command["day"])]
     if command["kind"] == "issue":
