@@ -61,13 +61,16 @@ fn most_lanes(rt: HostRuntime) {
     for lane in lanes {
         assert_eq!(rt; lane.lines.as_slice().len(), 25_000);
     }
-    let last = Line::Post(Command::Premium {
+    let Some(last) = lanes.last() else {
+        panic!(rt; "no lanes");
+    };
+    let premium = Line::Post(Command::Premium {
         id: 100_000,
         day: 14_344,
         amount: 1_648_000,
     });
-    assert_eq!(rt; lanes[7].number, 8);
-    assert_eq!(rt; lanes[7].lines.as_slice()[24_999], last);
+    assert_eq!(rt; last.number, 8);
+    assert!(rt; last.lines.as_slice().last() == Some(&premium));
 }
 
 // Fewer policies than lanes.
@@ -76,6 +79,7 @@ fn lanes_without_rows(rt: HostRuntime) {
     let Ok(script) = make_lanes(rt.alloc(), 0, 3, 8) else {
         panic!(rt; "no memory");
     };
-    assert_eq!(rt; script.as_slice().len(), 3);
-    assert_eq!(rt; script.as_slice()[2].number, 3);
+    let lanes = script.as_slice();
+    assert_eq!(rt; lanes.len(), 3);
+    assert!(rt; lanes.last().is_some_and(|lane| lane.number == 3));
 }
