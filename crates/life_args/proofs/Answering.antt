@@ -13,11 +13,12 @@ use Rattle.life_dates.specs.DayText.{IsDayText}
 use Rattle.life_args.specs.declared.fault.WordsFault.{WordsFault}
 use Rattle.life_args.specs.declared.fault.WordsFault.TheVariants.{Usage, NoMemory}
 use Rattle.life_args.specs.declared.mode.Mode.{Mode}
-use Rattle.life_args.specs.declared.mode.Mode.TheVariants.{Run, Value, State}
+use Rattle.life_args.specs.declared.mode.Mode.TheVariants.{Run, Value, State, Generate, Load}
 use Rattle.life_args.specs.Values.{IsPositionOr, AreWorkersOr, IsBasisOr, IsPolicyOr}
 use Rattle.life_args.specs.Words.{AreWords, AskFor, AskForNothing, IsFaultOf, IsRun, IsValue, IsState}
 use Rattle.life_args.specs.inside.Commands.{Gives, HasHyphens, IsDayIn, Takes, run_app, value_app, state_app}
 use Rattle.life_args.proofs.Modes.{ValuesSay, differ, run_says, run_reads, value_says, value_reads, state_says, state_reads}
+use Rattle.life_args.proofs.Numbers.{generate_reads, load_reads}
 use Rattle.life_args.proofs.Texts.{text_of_day, day_of_text}
 
 -- a fault that is handed on answers the same
@@ -52,6 +53,8 @@ hyphens_refused : (word : Text) (words : List Text) (mode : Mode) → AreWords (
 hyphens_refused word words (Run basis) are has = (run_reads words basis are.1).2 has
 hyphens_refused word words (Value on position workers basis) are has = (value_reads words on position workers basis are.1).2 has
 hyphens_refused word words (State id) are has = (state_reads words id are.1).2 has
+hyphens_refused word words (Generate seed count lanes) are has = (generate_reads words seed count lanes are.1).2 has
+hyphens_refused word words (Load seed count lanes workers) are has = (load_reads words seed count lanes workers are.1).2 has
 
 -- the words behind the first
 abbrev pub behind : List (String Global) → List (String Global)
@@ -86,32 +89,38 @@ run_only : (words : List Text) (mode : Mode) → AreWords (codes "run" ∷ words
 run_only words (Run basis) are = (basis, are.1)
 run_only words (Value on position workers basis) are = absurd (differ (codes "run") (codes "value") refl are.0)
 run_only words (State id) are = absurd (differ (codes "run") (codes "state") refl are.0)
+run_only words (Generate seed count lanes) are = absurd (differ (codes "run") (codes "generate") refl are.0)
+run_only words (Load seed count lanes workers) are = absurd (differ (codes "run") (codes "load") refl are.0)
 
 value_only : (words : List Text) (mode : Mode) → AreWords (codes "value" ∷ words) mode → (on : ℤ) × (position : At) × (workers : ℕ) × (basis : List ℕ) × IsValue words on position workers basis
 value_only words (Run basis) are = absurd (differ (codes "value") (codes "run") refl are.0)
 value_only words (Value on position workers basis) are = (on, position, workers, basis, are.1)
 value_only words (State id) are = absurd (differ (codes "value") (codes "state") refl are.0)
+value_only words (Generate seed count lanes) are = absurd (differ (codes "value") (codes "generate") refl are.0)
+value_only words (Load seed count lanes workers) are = absurd (differ (codes "value") (codes "load") refl are.0)
 
 state_only : (words : List Text) (mode : Mode) → AreWords (codes "state" ∷ words) mode → (id : Option ℕ) × IsState words id
 state_only words (Run basis) are = absurd (differ (codes "state") (codes "run") refl are.0)
 state_only words (Value on position workers basis) are = absurd (differ (codes "state") (codes "value") refl are.0)
 state_only words (State id) are = (id, are.1)
+state_only words (Generate seed count lanes) are = absurd (differ (codes "state") (codes "generate") refl are.0)
+state_only words (Load seed count lanes workers) are = absurd (differ (codes "state") (codes "load") refl are.0)
 
 -- a value that was got is the first of its row
-found_is : (app : App) (words : List Text) (matches : ArgMatches) (id : Text) (given : Option Text) → Takes app words (Ok matches) → given ≡ first_value (found_of matches) id
+pub found_is : (app : App) (words : List Text) (matches : ArgMatches) (id : Text) (given : Option Text) → Takes app words (Ok matches) → given ≡ first_value (found_of matches) id
     → given ≡ first_of id (matches_of app words)
 found_is app words matches id given takes is = is ∙ first_value-rows (found_of matches) id ∙ ap (first_of id) takes.1
 
 -- a fault answers what nothing fits
-refused : {T : Type 0} (P : T → Type 0) (fault : WordsFault) → (fault ≡ Usage → (answer : T) → P answer → ⊥) → Gives P (Err fault)
+pub refused : {T : Type 0} (P : T → Type 0) (fault : WordsFault) → (fault ≡ Usage → (answer : T) → P answer → ⊥) → Gives P (Err fault)
 refused P Usage none = none refl
 refused P NoMemory none = tt
 
-refusal : {T : Type 0} (P : T → Type 0) (fault : WordsFault) → Gives P (Err fault) → fault ≡ Usage → (answer : T) → P answer → ⊥
+pub refusal : {T : Type 0} (P : T → Type 0) (fault : WordsFault) → Gives P (Err fault) → fault ≡ Usage → (answer : T) → P answer → ⊥
 refusal P Usage given is = given
 refusal P NoMemory given is = cc
 
-untaken : (app : App) (words : List Text) (fault : WordsFault) → Takes app words (Err fault) → fault ≡ Usage → fault_of app words ≢ []
+pub untaken : (app : App) (words : List Text) (fault : WordsFault) → Takes app words (Err fault) → fault ≡ Usage → fault_of app words ≢ []
 untaken app words Usage takes is = takes
 untaken app words NoMemory takes is = cc
 

@@ -8,6 +8,8 @@ pub mod Repeats
 pub mod Lines
 pub mod Texts
 pub mod Modes
+pub mod Numbers
 pub mod Once
 pub mod Answering
+pub mod Counts
 pub mod Hyphens

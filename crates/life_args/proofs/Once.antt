@@ -1,5 +1,5 @@
 -- Words ask for one mode at most
-use Rattle.std.proofs.Common.{◌≡◌, ℕ, ◌≤◌, cond, Bool, true, false, List, [], ◌∷◌, Option, Some, None, refl, sym, ap, ◌∙◌, subst, arith, lit≤, ℤ, codes, map, string_bytes, String}
+use Rattle.std.proofs.Common.{◌≡◌, ℕ, ◌≤◌, ◌<◌, ◌^◌, cond, Bool, true, false, List, [], ◌∷◌, Option, Some, None, refl, sym, ap, ◌∙◌, subst, arith, lit≤, ℤ, codes, decimal, map, string_bytes, String}
 use Rattle.std.specs.Prelude.{◌==◌, ◌||◌}
 use Rattle.std.specs.Global.{Global}
 use Rattle.std.proofs.lemmas.Fmt.{decimal_injective}
@@ -11,12 +11,13 @@ use Rattle.life_dates.specs.Calendar.{IsDay, days_in_month, is_leap_year, day_nu
 use Rattle.life_dates.specs.DayText.{day_text}
 use Rattle.life_dates.proofs.TextLemmas.{read_exact}
 use Rattle.life_args.specs.declared.mode.Mode.{Mode}
-use Rattle.life_args.specs.declared.mode.Mode.TheVariants.{Run, Value, State}
+use Rattle.life_args.specs.declared.mode.Mode.TheVariants.{Run, Value, State, Generate, Load}
 use Rattle.life_args.specs.Values.{IsPositionOr, AreWorkersOr, IsBasisOr, IsPolicyOr}
 use Rattle.life_args.specs.Words.{AreWords, AskFor}
-use Rattle.life_args.specs.inside.Commands.{IsDayIn, run_app, value_app, state_app}
+use Rattle.life_args.specs.inside.Commands.{IsDayIn, IsNumberIn, run_app, value_app, state_app}
 use Rattle.life_args.proofs.Texts.{text_of_day}
 use Rattle.life_args.proofs.Modes.{differ, run_reads, value_reads, state_reads}
+use Rattle.life_args.proofs.Numbers.{generate_reads, load_reads}
 
 -- ---- a day's text is of one day
 
@@ -67,6 +68,11 @@ one_policy (Some value) None b first other = absurd first
 one_policy (Some value) (Some m) None first other = absurd other
 one_policy (Some value) (Some m) (Some n) first other = ap Some (decimal_injective m n (omega (arith, first.0.1)) (omega (arith, other.0.1)) (sym first.1 ∙ other.1))
 
+one_number : (o : Option Text) (least most a b : ℕ) → most < 2 ^ 64 → IsNumberIn least most o a → IsNumberIn least most o b → a ≡ b
+one_number o least most a b small first other =
+    let same : ◌≡◌ {A = Option Text} (Some (decimal a)) (Some (decimal b)) = sym first.is ∙ other.is in
+    decimal_injective a b (omega (arith, first.high)) (omega (arith, other.high)) (cc)
+
 -- ---- the words
 
 asked_once : (words : List Text) (mode other : Mode) → AreWords words mode → AreWords words other → mode ≡ other
@@ -90,6 +96,35 @@ asked_once (word ∷ words) (State id) (Run b) first second = absurd (differ (co
 asked_once (word ∷ words) (State id) (Value on position workers basis) first second = absurd (differ (codes "state") (codes "value") refl (sym first.0 ∙ second.0))
 asked_once (word ∷ words) (State id) (State other) first second =
     ap State (one_policy (first_of (codes "id") (matches_of state_app words)) id other (state_reads words id first.1).1 (state_reads words other second.1).1)
+asked_once (word ∷ words) (Run basis) (Generate seed_too count_too lanes_too) first second = absurd (differ (codes "run") (codes "generate") refl (sym first.0 ∙ second.0))
+asked_once (word ∷ words) (Run basis) (Load seed_too count_too lanes_too workers_too) first second = absurd (differ (codes "run") (codes "load") refl (sym first.0 ∙ second.0))
+asked_once (word ∷ words) (Value on position workers basis) (Generate seed_too count_too lanes_too) first second = absurd (differ (codes "value") (codes "generate") refl (sym first.0 ∙ second.0))
+asked_once (word ∷ words) (Value on position workers basis) (Load seed_too count_too lanes_too workers_too) first second = absurd (differ (codes "value") (codes "load") refl (sym first.0 ∙ second.0))
+asked_once (word ∷ words) (State id) (Generate seed_too count_too lanes_too) first second = absurd (differ (codes "state") (codes "generate") refl (sym first.0 ∙ second.0))
+asked_once (word ∷ words) (State id) (Load seed_too count_too lanes_too workers_too) first second = absurd (differ (codes "state") (codes "load") refl (sym first.0 ∙ second.0))
+asked_once (word ∷ words) (Generate seed count lanes) (Run basis_too) first second = absurd (differ (codes "generate") (codes "run") refl (sym first.0 ∙ second.0))
+asked_once (word ∷ words) (Generate seed count lanes) (Value on_too position_too workers_too basis_too) first second = absurd (differ (codes "generate") (codes "value") refl (sym first.0 ∙ second.0))
+asked_once (word ∷ words) (Generate seed count lanes) (State id_too) first second = absurd (differ (codes "generate") (codes "state") refl (sym first.0 ∙ second.0))
+asked_once (word ∷ words) (Generate seed count lanes) (Load seed_too count_too lanes_too workers_too) first second = absurd (differ (codes "generate") (codes "load") refl (sym first.0 ∙ second.0))
+asked_once (word ∷ words) (Load seed count lanes workers) (Run basis_too) first second = absurd (differ (codes "load") (codes "run") refl (sym first.0 ∙ second.0))
+asked_once (word ∷ words) (Load seed count lanes workers) (Value on_too position_too workers_too basis_too) first second = absurd (differ (codes "load") (codes "value") refl (sym first.0 ∙ second.0))
+asked_once (word ∷ words) (Load seed count lanes workers) (State id_too) first second = absurd (differ (codes "load") (codes "state") refl (sym first.0 ∙ second.0))
+asked_once (word ∷ words) (Load seed count lanes workers) (Generate seed_too count_too lanes_too) first second = absurd (differ (codes "load") (codes "generate") refl (sym first.0 ∙ second.0))
+asked_once (word ∷ words) (Generate seed count lanes) (Generate other_seed other_count other_lanes) first second =
+    let one = (generate_reads words seed count lanes first.1).1 in
+    let two = (generate_reads words other_seed other_count other_lanes second.1).1 in
+    let seeds = one_number _ 0 2147483647 seed other_seed (omega arith) one.seed_is two.seed_is in
+    let counts = one_number _ 1 100000 count other_count (omega arith) one.count_is two.count_is in
+    let all_lanes = one_number _ 1 8 lanes other_lanes (omega arith) one.lanes_is two.lanes_is in
+    λ i. Generate (seeds i) (counts i) (all_lanes i)
+asked_once (word ∷ words) (Load seed count lanes workers) (Load other_seed other_count other_lanes other_workers) first second =
+    let one = (load_reads words seed count lanes workers first.1).1 in
+    let two = (load_reads words other_seed other_count other_lanes other_workers second.1).1 in
+    let seeds = one_number _ 0 2147483647 seed other_seed (omega arith) one.seed_is two.seed_is in
+    let counts = one_number _ 1 100000 count other_count (omega arith) one.count_is two.count_is in
+    let all_lanes = one_number _ 1 8 lanes other_lanes (omega arith) one.lanes_is two.lanes_is in
+    let crews = one_number _ 1 64 workers other_workers (omega arith) one.workers_is two.workers_is in
+    λ i. Load (seeds i) (counts i) (all_lanes i) (crews i)
 
 pub words_ask_once : (words : List (String Global)) (mode other : Mode) → AskFor words mode → AskFor words other → mode ≡ other
 words_ask_once words mode other first second = asked_once (map string_bytes words) mode other first second

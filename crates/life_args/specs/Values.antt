@@ -30,6 +30,20 @@ IsBasisOr (Some value) name = IsName value × (name ≡ value)
 abbrev pub IsNumber : ℕ → Type 0
 IsNumber id = (1 ≤ id) × (id ≤ 4294967295)
 
+-- the number from which policies are generated, how many are, and over how many lanes
+abbrev pub IsSeed : ℕ → Type 0
+IsSeed seed = seed ≤ 2147483647
+
+abbrev pub IsPolicyCount : ℕ → Type 0
+IsPolicyCount count = (1 ≤ count) × (count ≤ 100000)
+
+abbrev pub IsLaneCount : ℕ → Type 0
+IsLaneCount lanes = (1 ≤ lanes) × (lanes ≤ 8)
+
+-- a number of workers from 1 to 64
+abbrev pub IsWorkerCount : ℕ → Type 0
+IsWorkerCount workers = (1 ≤ workers) × (workers ≤ 64)
+
 -- a policy's number, or none
 abbrev pub IsPolicyOr : Option (List ℕ) → Option ℕ → Type 0
 IsPolicyOr None id = id ≡ None

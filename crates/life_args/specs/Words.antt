@@ -1,13 +1,13 @@
 -- The words of the program's commands
-use Rattle.std.specs.Prelude.{◌≡◌, ℕ, ⊤, List, [], ◌∷◌, map, codes, string_bytes, String, Option, ℤ}
+use Rattle.std.specs.Prelude.{◌≡◌, ℕ, ⊤, List, [], ◌∷◌, map, codes, decimal, string_bytes, String, Option, ℤ}
 use Rattle.std.specs.Global.{Global}
 use Rattle.policy_types.specs.declared.entry.At.{At}
 use Rattle.life_args.specs.declared.fault.WordsFault.{WordsFault}
 use Rattle.life_args.specs.declared.fault.WordsFault.TheVariants.{Usage, NoMemory}
 use Rattle.life_args.specs.declared.mode.Mode.{Mode}
-use Rattle.life_args.specs.declared.mode.Mode.TheVariants.{Run, Value, State}
+use Rattle.life_args.specs.declared.mode.Mode.TheVariants.{Run, Value, State, Generate, Load}
 use Rattle.life_args.specs.Pieces.{Piece, spelled, bare_values, option_values, HasOnly, AtMostOne}
-use Rattle.life_args.specs.Values.{IsDayValue, IsPositionOr, AreWorkersOr, IsBasisOr, IsPolicyOr}
+use Rattle.life_args.specs.Values.{IsDayValue, IsPositionOr, AreWorkersOr, IsBasisOr, IsPolicyOr, IsSeed, IsPolicyCount, IsLaneCount, IsWorkerCount}
 
 -- `run [--basis NAME]`: the words behind `run`
 pub record IsRun (words : List (List ℕ)) (basis : List ℕ) : Type 0 where
@@ -36,12 +36,29 @@ pub record IsState (words : List (List ℕ)) (id : Option ℕ) : Type 0 where
   pub only : HasOnly [] pieces
   pub id_is : AtMostOne (bare_values pieces) (λ given. IsPolicyOr given id)
 
+-- `generate SEED COUNT LANES`: the words behind `generate`
+pub record IsGenerate (words : List (List ℕ)) (seed count lanes : ℕ) : Type 0 where
+  pub spells : words ≡ decimal seed ∷ decimal count ∷ decimal lanes ∷ []
+  pub seed_in : IsSeed seed
+  pub count_in : IsPolicyCount count
+  pub lanes_in : IsLaneCount lanes
+
+-- `load SEED COUNT LANES WORKERS`: the words behind `load`
+pub record IsLoad (words : List (List ℕ)) (seed count lanes workers : ℕ) : Type 0 where
+  pub spells : words ≡ decimal seed ∷ decimal count ∷ decimal lanes ∷ decimal workers ∷ []
+  pub seed_in : IsSeed seed
+  pub count_in : IsPolicyCount count
+  pub lanes_in : IsLaneCount lanes
+  pub workers_in : IsWorkerCount workers
+
 -- the first word is the mode's name, and those behind it are the mode's
 abbrev pub AreWords : List (List ℕ) → Mode → Type 0
 AreWords [] mode = ⊥
 AreWords (word ∷ words) (Run basis) = (word ≡ codes "run") × IsRun words basis
 AreWords (word ∷ words) (Value on position workers basis) = (word ≡ codes "value") × IsValue words on position workers basis
 AreWords (word ∷ words) (State id) = (word ≡ codes "state") × IsState words id
+AreWords (word ∷ words) (Generate seed count lanes) = (word ≡ codes "generate") × IsGenerate words seed count lanes
+AreWords (word ∷ words) (Load seed count lanes workers) = (word ≡ codes "load") × IsLoad words seed count lanes workers
 
 -- the words ask for this
 abbrev pub AskFor : List (String Global) → Mode → Type 0

@@ -1,7 +1,7 @@
 // The commands that `clap` reads, one for each mode. Their words are those behind the mode's name.
 ghost use Rattle.std.specs.Prelude.{◌≡◌, IfOk, false};
 ghost use Rattle.clap.specs.Words.{app_of, rule_of};
-ghost use Rattle.life_args.specs.inside.Commands.{option_rule, value_rule, command_app, run_app, value_app, state_app};
+ghost use Rattle.life_args.specs.inside.Commands.{option_rule, value_rule, command_app, run_app, value_app, state_app, generate_app, load_app};
 
 use clap::{Arg, ArgAction, Command};
 use std::alloc::{AllocError, Global};
@@ -30,6 +30,27 @@ pub fn state_command<'a>(alloc: Global) -> Result<Command<'a>, AllocError>
     ensures { IfOk result (λ command. app_of command ≡ state_app) }
 {
     command(alloc, "state").arg(value(alloc, "id"))
+}
+
+/// `generate SEED COUNT LANES`
+pub fn generate_command<'a>(alloc: Global) -> Result<Command<'a>, AllocError>
+    ensures { IfOk result (λ command. app_of command ≡ generate_app) }
+{
+    command(alloc, "generate")
+        .arg(value(alloc, "seed"))?
+        .arg(value(alloc, "count"))?
+        .arg(value(alloc, "lanes"))
+}
+
+/// `load SEED COUNT LANES WORKERS`
+pub fn load_command<'a>(alloc: Global) -> Result<Command<'a>, AllocError>
+    ensures { IfOk result (λ command. app_of command ≡ load_app) }
+{
+    command(alloc, "load")
+        .arg(value(alloc, "seed"))?
+        .arg(value(alloc, "count"))?
+        .arg(value(alloc, "lanes"))?
+        .arg(value(alloc, "workers"))
 }
 
 fn command<'a>(alloc: Global, name: &'a str) -> Command<'a>

@@ -3,8 +3,10 @@
 
 mod commands;
 mod fault;
+mod generate;
 mod laws;
 mod line;
+mod load;
 mod mode;
 mod reading;
 mod run;

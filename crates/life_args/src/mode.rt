@@ -23,4 +23,17 @@ pub enum Mode {
     State {
         id: Option<u32>,
     },
+    /// To write the script of so many policies drawn from the seed, dealt out to the lanes.
+    Generate {
+        seed: u32,
+        count: u32,
+        lanes: u8,
+    },
+    /// To run that script, and to value all policies then. The basis file is `basis.csv`.
+    Load {
+        seed: u32,
+        count: u32,
+        lanes: u8,
+        workers: u8,
+    },
 }

@@ -3,6 +3,8 @@ ghost use Rattle.life_args.specs.Words.{AskFor, IsFaultOf};
 ghost use Rattle.life_args.specs.inside.Commands.{HasHyphens};
 
 use crate::fault::WordsFault;
+use crate::generate::read_generate;
+use crate::load::read_load;
 use crate::mode::Mode;
 use crate::run::read_run;
 use crate::state::read_state;
@@ -29,6 +31,12 @@ pub fn read_words(alloc: Global, words: &[String]) -> Result<Mode, WordsFault>
     }
     if first.as_str() == "state" {
         return read_state(alloc, rest);
+    }
+    if first.as_str() == "generate" {
+        return read_generate(alloc, rest);
+    }
+    if first.as_str() == "load" {
+        return read_load(alloc, rest);
     }
     Err(WordsFault::Usage)
 }

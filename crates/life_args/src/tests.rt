@@ -34,6 +34,17 @@ fn asked(alloc: Global, line: &str) -> Result<String, Fail> {
         }
         Ok(Mode::State { id: None }) => Ok(format!(in alloc; "state")?),
         Ok(Mode::State { id: Some(id) }) => Ok(format!(in alloc; "state {}", id)?),
+        Ok(Mode::Generate { seed, count, lanes }) => {
+            Ok(format!(in alloc; "generate {} {} {}", seed, count, lanes)?)
+        }
+        Ok(
+            Mode::Load {
+                seed,
+                count,
+                lanes,
+                workers,
+            },
+        ) => Ok(format!(in alloc; "load {} {} {} {}", seed, count, lanes, workers)?),
         Err(WordsFault::Usage) => Ok(format!(in alloc; "usage")?),
         Err(WordsFault::NoMemory) => Ok(format!(in alloc; "nomemory")?),
     }
@@ -66,6 +77,13 @@ fn forms_and_mixtures(rt: HostRuntime) -> Result<(), Fail> {
         ("state", "state"),
         ("state 1", "state 1"),
         ("state 4294967295", "state 4294967295"),
+        ("generate 0 1 1", "generate 0 1 1"),
+        (
+            "generate 2147483647 100000 8",
+            "generate 2147483647 100000 8",
+        ),
+        ("load 0 1 1 1", "load 0 1 1 1"),
+        ("load 2147483647 100000 8 64", "load 2147483647 100000 8 64"),
     ];
     for (line, mode) in cases {
         let found = asked(rt.alloc(), line)?;
@@ -170,8 +188,39 @@ fn words_of_no_command(rt: HostRuntime) -> Result<(), Fail> {
         "state -- 1",
         "state -h",
         "state help",
-        "generate 1 1 1",
-        "load 1 1 1 1",
+        "generate",
+        "generate 1 1",
+        "generate 1 1 1 1",
+        "generate 2147483648 1 1",
+        "generate 1 0 1",
+        "generate 1 100001 1",
+        "generate 1 1 0",
+        "generate 1 1 9",
+        "generate 01 1 1",
+        "generate 1 01 1",
+        "generate 1 1 01",
+        "generate -1 1 1",
+        "generate 1 1 ''",
+        "generate 1 x 1",
+        "generate -- 1 1 1",
+        "generate 1 1 1 --",
+        "generate 1 1 1 -h",
+        "generate --seed 1 1 1",
+        "generate --seed=1 1 1",
+        "load",
+        "load 1 1 1",
+        "load 1 1 1 1 1",
+        "load 2147483648 1 1 1",
+        "load 1 0 1 1",
+        "load 1 100001 1 1",
+        "load 1 1 0 1",
+        "load 1 1 9 1",
+        "load 1 1 1 0",
+        "load 1 1 1 65",
+        "load 1 1 1 01",
+        "load 1 1 1 1 --basis b",
+        "load 1 1 1 --workers 1",
+        "load 1 1 1 --workers=1",
     ];
     for line in lines {
         let found = asked(rt.alloc(), line)?;

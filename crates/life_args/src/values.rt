@@ -1,7 +1,7 @@
 // What the values of a command line say.
 ghost use Rattle.std.specs.Prelude.{◌≡◌, ◌≢◌, ◌≤◌, ℕ, IfSome, IfNone, decimal, option_map};
 ghost use Rattle.life_args.specs.Values.{IsPositionOr, AreWorkersOr, IsBasisOr, IsPolicyOr};
-ghost use Rattle.life_args.specs.inside.Commands.{Gives, IsDayIn};
+ghost use Rattle.life_args.specs.inside.Commands.{Gives, IsDayIn, IsNumberIn};
 
 use crate::fault::WordsFault;
 use basis_book::Name;
@@ -72,6 +72,22 @@ pub fn policy_or(value: Option<&str>) -> Result<Option<u32>, WordsFault>
         Some(id) => Ok(Some(id as u32)),
         None => Err(WordsFault::Usage),
     }
+}
+
+/// A number from `least` to `most`, which has to be given.
+pub fn number_of(value: Option<&str>, least: u64, most: u64) -> Result<u64, WordsFault>
+    ensures { Gives (IsNumberIn least most (option_map (λ text. text.now) value.entry)) result }
+{
+    let Some(text) = value else {
+        return Err(WordsFault::Usage);
+    };
+    let Some(number) = parse_number(text.as_bytes(), most) else {
+        return Err(WordsFault::Usage);
+    };
+    if number < least {
+        return Err(WordsFault::Usage);
+    }
+    Ok(number)
 }
 
 // A number from 1 to `most`.

@@ -1,0 +1,4 @@
+mod Drawing
+mod Dealing
+mod Counting
+pub mod Facts

@@ -1,3 +1,5 @@
 pub mod Generator
+pub mod GeneratedRows
 pub mod GeneratedScript
+pub mod GeneratedLanes
 pub mod Worked

@@ -1,8 +1,11 @@
 -- The seed 1, worked outside of this repository
 use Rattle.std.specs.Prelude.{◌≡◌, [], ◌∷◌, ◌++◌, codes, pos}
-use Rattle.policy_types.specs.declared.command.Plan.TheVariants.{Endowment}
+use Rattle.policy_types.specs.declared.command.Command.TheVariants.{Issue, Premium}
+use Rattle.policy_types.specs.declared.command.Plan.TheVariants.{Term, Endowment}
+use Rattle.policy_types.specs.declared.script.Line.TheVariants.{Post}
 use Rattle.load_maker.specs.Generator.{renewed, drawn_below, policy_drawn}
 use Rattle.load_maker.specs.GeneratedScript.{generated_text}
+use Rattle.load_maker.specs.GeneratedLanes.{generated_lanes}
 
 -- the five numbers of the first policy
 abbrev pub FirstNumbers : Type 0
@@ -30,3 +33,14 @@ abbrev pub FirstRows : Type 0
 FirstRows = generated_text 1 1 1
     ≡ codes "1,issue,1,2008-11-03,endowment,44,18,996000.00,19920.00" ++ (10 ∷ [])
     ++ codes "1,premium,1,2008-11-03,19920.00" ++ (10 ∷ [])
+
+-- three policies that are dealt out to two lanes
+abbrev pub FirstLanes : Type 0
+FirstLanes = generated_lanes 1 2 3 ≡ record {
+  number = 1;
+  lines = Post (Issue 1 (pos 14186) Endowment 44 18 99600000 1992000) ∷ Post (Premium 1 (pos 14186) 1992000)
+      ∷ Post (Issue 3 (pos 11626) Endowment 56 20 60100000 1202000) ∷ Post (Premium 3 (pos 11626) 1202000) ∷ [];
+} ∷ record {
+  number = 2;
+  lines = Post (Issue 2 (pos 13286) Term 22 20 46100000 922000) ∷ Post (Premium 2 (pos 13286) 922000) ∷ [];
+} ∷ []

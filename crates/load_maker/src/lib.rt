@@ -2,11 +2,13 @@
 #![tactic(auto)]
 
 mod generator;
+mod lanes;
 mod rows;
 mod script;
 #[cfg(test)]
 mod tests;
 mod worked;
 
+pub use lanes::make_lanes;
 pub use script::make_script;
 pub use worked::seed_of_1;

@@ -1,10 +1,11 @@
 // The rows of a policy.
 ghost use Rattle.std.specs.Prelude.{◌≡◌, ◌++◌, ◌∷◌, [], ◌≤◌, pos, ◌≤ℤ◌, OnOk, decimal};
-ghost use Rattle.policy_types.specs.declared.command.Command.TheVariants.{Issue, Premium};
+ghost use Rattle.std.specs.List.{flat_map};
 ghost use Rattle.life_dates.specs.DayText.{day_text};
 ghost use Rattle.statements.specs.Lines.{behind_commas};
 ghost use Rattle.statements.specs.Statements.{insurance_fields};
-ghost use Rattle.load_maker.specs.GeneratedScript.{row_text, rows_of};
+ghost use Rattle.load_maker.specs.GeneratedRows.{issue_of, premium_of, rows_of};
+ghost use Rattle.load_maker.specs.GeneratedScript.{row_text};
 
 use crate::generator::Drawn;
 use itoa::Buffer;
@@ -12,12 +13,11 @@ use policy_types::NoMemory;
 use statements::{LineWriter, plan_word};
 
 // Adds the row that issues a policy, and the row of its first premium.
-#[tactic(auto, unfolding(crate::specs::GeneratedScript::rows_of))]
 pub fn write_rows(lines: &mut LineWriter, lane: u8, id: u32, policy: &Drawn) -> Result<(), NoMemory>
     requires amount { policy.now.amount ≤ 100000000 }
     requires premium { policy.now.premium ≤ 2000000 }
     requires issued { (pos 10957 ≤ℤ policy.now.issued) × (policy.now.issued ≤ℤ pos 14606) }
-    ensures { OnOk result (lines.new ≡ lines.old ++ rows_of lane id policy.now) }
+    ensures { OnOk result (lines.new ≡ lines.old ++ flat_map row_text (rows_of lane id policy.now)) }
 {
     write_issue(lines, lane, id, policy)?;
     write_premium(lines, lane, id, policy)
@@ -29,8 +29,7 @@ fn write_issue(lines: &mut LineWriter, lane: u8, id: u32, policy: &Drawn) -> Res
     requires amount { policy.now.amount ≤ 100000000 }
     requires premium { policy.now.premium ≤ 2000000 }
     requires issued { (pos 10957 ≤ℤ policy.now.issued) × (policy.now.issued ≤ℤ pos 14606) }
-    ensures { let p = policy.now in OnOk result (lines.new
-        ≡ lines.old ++ row_text lane (Issue id p.issued p.plan p.age p.years p.amount p.premium)) }
+    ensures { OnOk result (lines.new ≡ lines.old ++ row_text (record { lane = lane; command = issue_of id policy.now })) }
 {
     write_start(lines, lane, "issue", id, policy.issued)?;
     write_insurance(lines, policy)?;
@@ -55,8 +54,7 @@ fn write_insurance(lines: &mut LineWriter, policy: &Drawn) -> Result<(), NoMemor
 fn write_premium(lines: &mut LineWriter, lane: u8, id: u32, policy: &Drawn) -> Result<(), NoMemory>
     requires premium { policy.now.premium ≤ 2000000 }
     requires issued { (pos 10957 ≤ℤ policy.now.issued) × (policy.now.issued ≤ℤ pos 14606) }
-    ensures { let p = policy.now in OnOk result (lines.new
-        ≡ lines.old ++ row_text lane (Premium id p.issued p.premium)) }
+    ensures { OnOk result (lines.new ≡ lines.old ++ row_text (record { lane = lane; command = premium_of id policy.now })) }
 {
     write_start(lines, lane, "premium", id, policy.issued)?;
     lines.cents(policy.premium as i64)?;

@@ -1,4 +1,5 @@
-use crate::make_script;
+use crate::{make_lanes, make_script};
+use policy_types::{Command, Line};
 
 // The greatest seed, with policies of three plans that are dealt out to three lanes.
 const FIVE_POLICIES: &str = "1,issue,1,2001-04-01,whole,68,0,966000.00,19320.00\n\
@@ -47,4 +48,38 @@ fn most_policies(rt: HostRuntime) {
         8,premium,100000,2009-04-10,16480.00\n";
     assert_eq!(rt; script.len(), 9_126_982);
     assert!(rt; script.as_slice().ends_with(end.as_bytes()));
+}
+
+// The rows of the longest script as lanes: so many lines each, and the last of them.
+#[test]
+fn most_lanes(rt: HostRuntime) {
+    let Ok(script) = make_lanes(rt.alloc(), 1, 100_000, 8) else {
+        panic!(rt; "no memory");
+    };
+    let lanes = script.as_slice();
+    assert_eq!(rt; lanes.len(), 8);
+    for lane in lanes {
+        assert_eq!(rt; lane.lines.as_slice().len(), 25_000);
+    }
+    let Some(last) = lanes.last() else {
+        panic!(rt; "no lanes");
+    };
+    let premium = Line::Post(Command::Premium {
+        id: 100_000,
+        day: 14_344,
+        amount: 1_648_000,
+    });
+    assert_eq!(rt; last.number, 8);
+    assert!(rt; last.lines.as_slice().last() == Some(&premium));
+}
+
+// Fewer policies than lanes.
+#[test]
+fn lanes_without_rows(rt: HostRuntime) {
+    let Ok(script) = make_lanes(rt.alloc(), 0, 3, 8) else {
+        panic!(rt; "no memory");
+    };
+    let lanes = script.as_slice();
+    assert_eq!(rt; lanes.len(), 3);
+    assert!(rt; lanes.last().is_some_and(|lane| lane.number == 3));
 }

@@ -1,5 +1,5 @@
 -- What the commands are for `clap`, and what private calls answer
-use Rattle.std.specs.Prelude.{◌≡◌, ◌≢◌, ◌⊎◌, ⊤, ℕ, true, List, [], ◌∷◌, codes, Option, Some, None, Result, Ok, Err, ℤ}
+use Rattle.std.specs.Prelude.{◌≡◌, ◌≢◌, ◌⊎◌, ◌≤◌, ⊤, ℕ, true, List, [], ◌∷◌, codes, decimal, Option, Some, None, Result, Ok, Err, ℤ}
 use Rattle.clap.specs.Words.{App, Rule, Text, new_app, new_rule, with_rule, fault_of, matches_of, found_of, rows_of}
 use Rattle.clap.specs.declared.builder.action.ArgAction.TheVariants.{Set}
 use Rattle.clap.specs.declared.parser.matches.ArgMatches.{ArgMatches}
@@ -33,6 +33,14 @@ value_app = with_rule (with_rule (with_rule (with_rule (command_app (codes "valu
 unfoldable pub state_app : App
 state_app = with_rule (command_app (codes "state")) (value_rule (codes "id"))
 
+unfoldable pub generate_app : App
+generate_app = with_rule (with_rule (with_rule (command_app (codes "generate"))
+    (value_rule (codes "seed"))) (value_rule (codes "count"))) (value_rule (codes "lanes"))
+
+unfoldable pub load_app : App
+load_app = with_rule (with_rule (with_rule (with_rule (command_app (codes "load"))
+    (value_rule (codes "seed"))) (value_rule (codes "count"))) (value_rule (codes "lanes"))) (value_rule (codes "workers"))
+
 -- the command takes the words and these are its matches, or it doesn't take them
 abbrev pub Takes : App → List Text → Result ArgMatches WordsFault → Type 0
 Takes app words (Ok matches) = (fault_of app words ≡ []) × (rows_of (found_of matches) ≡ matches_of app words)
@@ -49,6 +57,12 @@ Gives IsAsked (Err NoMemory) = ⊤
 abbrev pub IsDayIn : Option (List ℕ) → ℤ → Type 0
 IsDayIn None day = ⊥
 IsDayIn (Some value) day = IsDayValue value day
+
+-- there is a value, and it is that of the number, which lies within these
+pub record IsNumberIn (least most : ℕ) (given : Option (List ℕ)) (number : ℕ) : Type 0 where
+  pub low : least ≤ number
+  pub high : number ≤ most
+  pub is : given ≡ Some (decimal number)
 
 -- a word is `--`
 abbrev pub HasHyphens : List (List ℕ) → Type 0

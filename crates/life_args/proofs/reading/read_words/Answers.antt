@@ -23,3 +23,15 @@ returns-then-eq-3 c =
     let same : bytes_eq (string_bytes c.first-item.result) (codes "state") ≡ true = ap (λ t. bytes_eq t (codes "state")) (sym c.as_str-3.ensures.value) ∙ sym c.eq-3.ensures ∙ c.if-eq-3.true in
     let all = answered c.args.words.now c.first-item.result (codes "state") c.read_state.result c.in-len1-up.len_at_least c.first-item.is same c.read_state.ensures in
     record { mode = all.0; fault = all.1 }
+
+pub returns-then-eq-4 : goal.returns-then-eq-4
+returns-then-eq-4 c =
+    let same : bytes_eq (string_bytes c.first-item.result) (codes "generate") ≡ true = ap (λ t. bytes_eq t (codes "generate")) (sym c.as_str-4.ensures.value) ∙ sym c.eq-4.ensures ∙ c.if-eq-4.true in
+    let all = answered c.args.words.now c.first-item.result (codes "generate") c.read_generate.result c.in-len1-up.len_at_least c.first-item.is same c.read_generate.ensures in
+    record { mode = all.0; fault = all.1 }
+
+pub returns-then-eq-5 : goal.returns-then-eq-5
+returns-then-eq-5 c =
+    let same : bytes_eq (string_bytes c.first-item.result) (codes "load") ≡ true = ap (λ t. bytes_eq t (codes "load")) (sym c.as_str-5.ensures.value) ∙ sym c.eq-5.ensures ∙ c.if-eq-5.true in
+    let all = answered c.args.words.now c.first-item.result (codes "load") c.read_load.result c.in-len1-up.len_at_least c.first-item.is same c.read_load.ensures in
+    record { mode = all.0; fault = all.1 }
