@@ -11,6 +11,7 @@ mod laws;
 mod policy_tests;
 mod program;
 mod refusing;
+mod reporting;
 mod rereading;
 mod run;
 mod state;
