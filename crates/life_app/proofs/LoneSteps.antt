@@ -13,11 +13,12 @@ use Rattle.policy_types.specs.declared.entry.Call.TheVariants.{Post, Pin, PinAt,
 use Rattle.policy_types.specs.declared.entry.Reply.{Reply}
 use Rattle.policy_types.specs.declared.entry.Reply.TheVariants.{Accepted, Refused, Faulted, Pinned, PinRefused, Slice, Unpinned, Floor, Blank}
 use Rattle.policy_types.specs.declared.entry.Entry.{Entry}
+use Rattle.policy_types.specs.declared.watcher.Report.{Report}
 use Rattle.policy_machine.specs.History.{Opening, IsDue, IsLegalAfter, accepted_by, accepted_of, commands_after, fault_of, opened_on}
 use Rattle.policy_machine.specs.Merge.{Placed, pin_call, turns_of}
-use Rattle.office_state.specs.Images.{HasFaultedBefore, HoldsNow, HoldsOnce, IsLeftBy, IsOneMore}
+use Rattle.office_state.specs.Images.{AreQuiet, HasFaultedBefore, HoldsNow, HoldsOnce, IsLeftBy, IsOneMore}
 use Rattle.office_state.specs.Journals.{JournalBytes, Opens}
-use Rattle.shared_office.specs.Offices.{IsOfficeHistory, OfficeOpening, posts}
+use Rattle.shared_office.specs.Offices.{IsOfficeHistory, OfficeOpening}
 use Rattle.shared_office.specs.Starting.{HasClosed, HasStarted}
 use Rattle.turn_lock.specs.Passes.{Holding, OwnsAll, PassFacts, callers}
 use Rattle.snapshot_value.specs.Valuing.{HasValued, IsAnswered as IsValueAnswer}
@@ -30,7 +31,7 @@ use Rattle.life_app.specs.Writing.{Stream}
 use Rattle.life_app.specs.inside.Valued.{EndsAnswer, EndsValued, IsLoneAnswer}
 use Rattle.life_app.proofs.ListSteps.{Has, all_has, has_of_contains, has_right, of_all}
 use Rattle.life_app.proofs.ToldSteps.{same_opened}
-use Rattle.life_app.proofs.TurnSteps.{quiet_follow, quiet_pin, quiet_reply, quiet_turns}
+use Rattle.life_app.proofs.TurnSteps.{posts, quiet_follow, quiet_pin, quiet_reply, quiet_turns, unposted_reply}
 use Rattle.life_app.proofs.ValueSteps.{ends_valued, lone_answer, lone_ends}
 
 no_fault : (reply : Reply) → IsAnswered reply → fault_of reply ≡ None
@@ -67,6 +68,13 @@ none_met opening before (entry ∷ history) legal quiet =
     ap (λ first. cons_option first (filter_map (λ (e : Entry). fault_of e.reply) history))
     (no_fault entry.reply (quiet_reply opening before entry.caller entry.call entry.reply legal.0 quiet.0))
     ∙ none_met opening (before ++ entry ∷ []) history legal.1 quiet.1
+
+all_quiet : (opening : Opening) (before history : List Entry) → IsLegalAfter opening before history → ArePostless history → AreQuiet history
+all_quiet opening before [] legal quiet = tt
+all_quiet opening before (entry ∷ history) legal quiet = (
+  unposted_reply opening before entry.caller entry.call entry.reply legal.0 quiet.0,
+  all_quiet opening (before ++ entry ∷ []) history legal.1 quiet.1,
+)
 
 never_faulted : {A : Type 0} (history after : List Entry) (command : Command) → ArePostless history → HasFaultedBefore history command after → A
 never_faulted history after command quiet fault =
@@ -114,6 +122,7 @@ module _ {D : Type 0} (g : Ghosts D) (old new : D) (opening : Opening) (history 
     now = λ honest image may. quiet_now image (left.now honest image may);
     since = λ honest image was. elim (left.since honest image was) [ inl before ↦ inl before | inr once ↦ inr (quiet_once image once) ];
     synced = λ honest. let mid = left.synced honest in (mid.0, mid.1, λ image was. quiet_once image (mid.2 image was));
+    alone = λ none. left.alone (all_quiet opening [] history legal quiet);
   }
 
 -- where all turns are of one caller
@@ -150,11 +159,12 @@ postless_entries [] quiet = tt
 postless_entries (turn ∷ turns) quiet = (quiet.0, postless_entries turns quiet.1)
 
 module _ {D : Type 0} (g : Ghosts D) (old disk : D) (on : ℤ) (at : At) (workers turn : ℕ) (basis : List Dated)
-    (first closing : Holding (OfficeOpening D)) (balances : Booking) (answer : Result Valuation ValueFault)
-    (started : HasStarted g old 0 first) (facts : PassFacts IsOfficeHistory closing) (closed : HasClosed g closing disk balances)
+    (first closing : Holding (OfficeOpening D)) (balances : Booking) (reports : List Report) (answer : Result Valuation ValueFault)
+    (started : HasStarted g old [] first) (facts : PassFacts IsOfficeHistory closing)
+    (closed : HasClosed g closing disk balances reports)
     (valued : HasValued basis on at workers first closing turn answer) where
   abbrev opened : OfficeOpening D
-  opened = record { opening = started.opening; begun = old; room = 0 }
+  opened = record { opening = started.opening; begun = old; auditors = [] }
 
   closing_opened : closing.opening ≡ Some opened
   closing_opened = valued.grows.opening ∙ started.first.opened
