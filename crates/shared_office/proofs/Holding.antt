@@ -15,6 +15,7 @@ use Rattle.policy_types.specs.declared.entry.PinRefusal.{PinRefusal}
 use Rattle.policy_types.specs.declared.entry.Entry.{Entry}
 use Rattle.policy_machine.specs.History.{Opening, IsDue, IsLegal, IsLegalAfter, IsOwnPin, gives_up, live_pin}
 use Rattle.policy_machine.proofs.HistoryGrowth.{Answered, answered_at, live_of_some, slice_get-front, slice_get-middle}
+use Rattle.watcher_set.specs.declared.watching.Watching.{Ghosts as WatcherGhosts}
 use Rattle.office_state.specs.declared.held.Held.{Held}
 use Rattle.office_state.specs.declared.held.PinInfo.{PinInfo}
 use Rattle.office_state.specs.declared.state.OfficeState.{OfficeState}
@@ -193,8 +194,8 @@ live opening history seen made caller pin legal begins own holds =
         ap (list_any (gives pin.number)) later
         ∙ kept_by_owner opening (at.0.front ++ turn ∷ []) at.0.back caller pin.number turn here refl later_legal own_kept
 
-module _ {D : Type 0} {g : Ghosts D} (state : OfficeState D g) (history seen made : List Entry) (caller : ℕ) (pin : Held)
-    (stood : StandsFor state history) (begins : StartsWith history seen) (own : entries_of history caller ≡ made)
+module _ {D W : Type 0} {g : Ghosts D} (w : WatcherGhosts W) (state : OfficeState D W g) (history seen made : List Entry) (caller : ℕ) (pin : Held)
+    (stood : StandsFor w state history) (begins : StartsWith history seen) (own : entries_of history caller ≡ made)
     (holds : HasMadePin pin caller seen made) where
   -- the state knows it as the caller's
   abbrev pub held_by : IsHeldBy (pins_of state) caller pin.number

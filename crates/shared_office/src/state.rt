@@ -4,50 +4,51 @@ use outside_io::Disk;
 use std::marker::Model;
 use std::snapshot::Snapshot;
 use turn_lock::Stands;
+use watcher_set::Watching;
 
-/// An office's state, and for how many postings room was made when it was opened.
+/// An office's state under the lock.
 #[derive(Drop)]
-pub struct SharedState<D: Disk> {
-    pub(crate) state: OfficeState<D>,
-    pub(crate) room: usize,
+pub struct SharedState<D: Disk, W: Watching> {
+    pub(crate) state: OfficeState<D, W>,
 }
 
-impl<D: Disk> SharedState<D> {
+impl<D: Disk, W: Watching> SharedState<D, W> {
     ghost use Rattle.std.specs.Prelude.{◌≡◌};
 
-    pub(crate) fn into_state(self) -> OfficeState<D>
+    pub(crate) fn into_state(self) -> OfficeState<D, W>
         ensures { result ≡ self.state }
     {
-        let SharedState { state, room: _ } = self;
+        let SharedState { state } = self;
         state
     }
 }
 
 /// What an office was opened on. No value of it is made.
-pub struct OpenedOn<D: Disk> {
-    state: Snapshot<SharedState<D>>,
+pub struct OpenedOn<D: Disk, W: Watching> {
+    state: Snapshot<SharedState<D, W>>,
 }
 
-impl<D: Disk> Model for OpenedOn<D> {
+impl<D: Disk, W: Watching> Model for OpenedOn<D, W> {
     ghost use Rattle.shared_office.specs.Offices.{OfficeOpening};
     ghost use Rattle.shared_office.specs.inside.Standing.{opening_on};
 
     ghost Value = { OfficeOpening D };
 
-    ghost view = { λ o. opening_on o.state.value };
+    ghost view = { λ o. opening_on W.Watching o.state.value };
 }
 
-impl<D: Disk> Stands for SharedState<D> {
+impl<D: Disk, W: Watching> Stands for SharedState<D, W> {
+    ghost use Rattle.office_state.specs.Standing.{StandsFor};
     ghost use Rattle.shared_office.specs.Offices.{IsOfficeHistory};
-    ghost use Rattle.shared_office.specs.inside.Standing.{SharedStandsFor, is_history, opening_on};
+    ghost use Rattle.shared_office.specs.inside.Standing.{is_history, opening_on};
 
-    type Opening = OpenedOn<D>;
+    type Opening = OpenedOn<D, W>;
 
-    ghost opening = { λ shared. opening_on shared };
+    ghost opening = { λ shared. opening_on W.Watching shared };
 
     ghost legal = { λ opening turns. IsOfficeHistory opening turns };
 
-    ghost stands = { λ shared turns. SharedStandsFor shared turns };
+    ghost stands = { λ shared turns. StandsFor W.Watching shared.state turns };
 
-    ghost is_legal = { λ shared turns stood. is_history shared turns stood };
+    ghost is_legal = { λ shared turns stood. is_history W.Watching shared turns stood };
 }
