@@ -18,29 +18,29 @@ use Rattle.turn_lock.specs.Passes.{Holding, OwnsAll}
 use Rattle.shared_office.specs.Offices.{OfficeOpening}
 use Rattle.shared_office.specs.Starting.{HasClosed}
 use Rattle.shared_office.specs.declared.state.SharedState.{SharedState}
-use Rattle.shared_office.specs.inside.Standing.{opening_on}
+use Rattle.shared_office.specs.inside.Standing.{SharedStandsFor, opening_on}
 
 module _ {D W : Type 0} (g : Ghosts D) (w : WatcherGhosts W) where
   -- an office that was closed again for want of memory, before any turn
-  pub unopened : (old : D) (office : OfficeState D W g) → HasOpened w old office → (disk : D)
+  pub unopened : (old : D) (office : OfficeState D W g w) → HasOpened old office → (disk : D)
       → IsLeftBy g (begun_of office) disk (opening_of office) [] → HasNotOpened g old disk NoMemory
   unopened old office opened disk closed =
       let left = subst (λ (begun : D). IsLeftBy g begun disk (opened_on (opening_of office).commands (g.faults begun)) []) opened.begun closed in
       record { told = left.faults; shown = λ honest. tt; alone = left.alone tt }
 
-  module _ (shared : SharedState D W g) (pass : Holding (OfficeOpening D)) (stood : StandsFor w shared.state pass.seen)
-      (opened : pass.opening ≡ Some (opening_on w shared)) (whole : OwnsAll pass) where
+  module _ (shared : SharedState D W g w) (pass : Holding (OfficeOpening D W)) (stood : SharedStandsFor shared pass.seen)
+      (opened : pass.opening ≡ Some (opening_on shared)) (whole : OwnsAll pass) where
     -- the state was taken out and closed
-    pub closed : (state : OfficeState D W g) (disk : D) (booked : Booking) (reports : List Report) → state ≡ shared.state
-        → ((history : List Entry) → StandsFor w state history → IsLeftBy g (begun_of state) disk (opening_of state) history)
+    pub closed : (state : OfficeState D W g w) (disk : D) (booked : Booking) (reports : List Report) → state ≡ shared.state
+        → ((history : List Entry) → StandsFor state history → IsLeftBy g (begun_of state) disk (opening_of state) history)
         → booked ≡ ledger_of (commands_of state)
-        → ((history : List Entry) → StandsFor w state history → reports ≡ reports_of (auditors_of w state) (accepted_of history))
-        → HasClosed g pass disk booked reports
+        → ((history : List Entry) → StandsFor state history → reports ≡ reports_of (auditors_of state) (accepted_of history))
+        → HasClosed g w pass disk booked reports
     closed state disk booked reports same left ledger told = record {
-      opening = opening_on w shared;
+      opening = opening_on shared;
       opened = opened;
       whole = whole;
-      disk = subst (λ (s : OfficeState D W g). StandsFor w s pass.seen → IsLeftBy g (begun_of s) disk (opening_of s) pass.seen) same (left pass.seen) stood;
-      ledger = ledger ∙ ap (λ (s : OfficeState D W g). ledger_of (commands_of s)) same ∙ ap ledger_of stood.kept;
-      reports = subst (λ (s : OfficeState D W g). StandsFor w s pass.seen → reports ≡ reports_of (auditors_of w s) (accepted_of pass.seen)) same (told pass.seen) stood;
+      disk = subst (λ (s : OfficeState D W g w). StandsFor s pass.seen → IsLeftBy g (begun_of s) disk (opening_of s) pass.seen) same (left pass.seen) stood.state;
+      ledger = ledger ∙ ap (λ (s : OfficeState D W g w). ledger_of (commands_of s)) same ∙ ap ledger_of stood.state.kept;
+      reports = subst (λ (s : OfficeState D W g w). StandsFor s pass.seen → reports ≡ reports_of (auditors_of s) (accepted_of pass.seen)) same (told pass.seen) stood.state ∙ ap (λ auditors. reports_of auditors (accepted_of pass.seen)) stood.handed;
     }

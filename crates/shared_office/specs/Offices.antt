@@ -5,16 +5,15 @@ use Rattle.policy_types.specs.declared.entry.Entry.{Entry}
 use Rattle.policy_types.specs.Limits.{most_commands}
 use Rattle.policy_types.specs.Valid.{IsValid}
 use Rattle.policy_machine.specs.History.{Opening, IsLegal, commands_after}
-use Rattle.watcher_set.specs.Noted.{Auditor}
 
--- what an office was opened on: its opening, and the disk and the auditors as they were handed in
-pub record OfficeOpening (D : Type 0) : Type 0 where
+-- what an office was opened on: its opening, and the disk and the watchers as they were handed in
+pub record OfficeOpening (D W : Type 0) : Type 0 where
   pub opening : Opening
   pub begun : D
-  pub auditors : List Auditor
+  pub watchers : W
 
 -- a history of the office: every reply is the one due; the accepted commands are valid, and not more than there may be
-pub record IsOfficeHistory {D : Type 0} (opened : OfficeOpening D) (history : List Entry) : Type 0 where
+pub record IsOfficeHistory {D W : Type 0} (opened : OfficeOpening D W) (history : List Entry) : Type 0 where
   pub legal : IsLegal opened.opening history
   pub valid : AllByRecursion IsValid (commands_after opened.opening history)
   pub few : length (commands_after opened.opening history) ≤ most_commands

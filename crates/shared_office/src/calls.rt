@@ -21,6 +21,7 @@ use office_state::{Answer, Held, OfficeState, PinInfo, StartCause, StartFault};
 use outside_io::Disk;
 use policy_types::{Command, PinRefusal};
 use std::alloc::Global;
+use std::snapshot::Snapshot;
 use std::sync::Wait;
 use turn_lock::{NoRoom, Pass, Turned, Turnstile};
 use watcher_set::{Reports, Watching};
@@ -44,7 +45,7 @@ pub trait OfficeCalls<D: Disk, W: Watching> {
         watchers: W,
     ) -> Result<(Self, OfficePass<D, W>), StartFault<D>>
         requires told { W.told watchers [] }
-        ensures started { IfOk result (λ made. HasStarted D.Disk disk (W.handed watchers) made.1
+        ensures started { IfOk result (λ made. HasStarted D.Disk disk watchers made.1
             × (made.1.turnstile ≡ office made.0) × PassFacts IsOfficeHistory made.1) }
         ensures refused { IfErr result (λ fault. HasNotOpened D.Disk disk fault.disk fault.cause) };
 
@@ -124,8 +125,9 @@ impl<D: Disk, W: Watching> OfficeCalls<D, W> for Office<D, W> {
         disk: D,
         watchers: W,
     ) -> Result<(Office<D, W>, OfficePass<D, W>), StartFault<D>> {
+        let handed = Snapshot::of(&watchers);
         let state = OfficeState::open(alloc, disk, watchers)?;
-        match Turnstile::new(alloc, SharedState { state }) {
+        match Turnstile::new(alloc, SharedState { state, handed }) {
             Ok(made) => Ok(made),
             Err(NoRoom { value }) => Err(without_memory(value.into_state())),
         }
@@ -191,7 +193,7 @@ pub fn close<D: Disk, W: Watching>(
 ) -> (D, Ledger, Reports)
     requires ours { pass.turnstile ≡ office }
     requires all { pass.shares ≡ all_shares }
-    ensures closed { HasClosed D.Disk pass result.0 (balances result.1) result.2 }
+    ensures closed { HasClosed D.Disk W.Watching pass result.0 (balances result.1) result.2 }
     ensures facts { PassFacts IsOfficeHistory pass }
 {
     office.close(pass).into_state().close()
@@ -199,7 +201,7 @@ pub fn close<D: Disk, W: Watching>(
 
 // The disk of an office for which there was no memory. Nobody hears what the watchers have to say.
 fn without_memory<D: Disk, W: Watching>(state: OfficeState<D, W>) -> StartFault<D>
-    ensures { (old : D) → HasOpened W.Watching old state → HasNotOpened D.Disk old result.disk result.cause }
+    ensures { (old : D) → HasOpened old state → HasNotOpened D.Disk old result.disk result.cause }
 {
     let (disk, _, _) = state.close();
     StartFault {

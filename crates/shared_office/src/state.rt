@@ -10,6 +10,8 @@ use watcher_set::Watching;
 #[derive(Drop)]
 pub struct SharedState<D: Disk, W: Watching> {
     pub(crate) state: OfficeState<D, W>,
+    // The watchers as they were handed in, for contracts alone.
+    pub(crate) handed: Snapshot<W>,
 }
 
 impl<D: Disk, W: Watching> SharedState<D, W> {
@@ -18,7 +20,7 @@ impl<D: Disk, W: Watching> SharedState<D, W> {
     pub(crate) fn into_state(self) -> OfficeState<D, W>
         ensures { result ≡ self.state }
     {
-        let SharedState { state } = self;
+        let SharedState { state, handed: _ } = self;
         state
     }
 }
@@ -32,23 +34,22 @@ impl<D: Disk, W: Watching> Model for OpenedOn<D, W> {
     ghost use Rattle.shared_office.specs.Offices.{OfficeOpening};
     ghost use Rattle.shared_office.specs.inside.Standing.{opening_on};
 
-    ghost Value = { OfficeOpening D };
+    ghost Value = { OfficeOpening D W };
 
-    ghost view = { λ o. opening_on W.Watching o.state.value };
+    ghost view = { λ o. opening_on o.state.value };
 }
 
 impl<D: Disk, W: Watching> Stands for SharedState<D, W> {
-    ghost use Rattle.office_state.specs.Standing.{StandsFor};
     ghost use Rattle.shared_office.specs.Offices.{IsOfficeHistory};
-    ghost use Rattle.shared_office.specs.inside.Standing.{is_history, opening_on};
+    ghost use Rattle.shared_office.specs.inside.Standing.{SharedStandsFor, is_history, opening_on};
 
     type Opening = OpenedOn<D, W>;
 
-    ghost opening = { λ shared. opening_on W.Watching shared };
+    ghost opening = { λ shared. opening_on shared };
 
     ghost legal = { λ opening turns. IsOfficeHistory opening turns };
 
-    ghost stands = { λ shared turns. StandsFor W.Watching shared.state turns };
+    ghost stands = { λ shared turns. SharedStandsFor shared turns };
 
-    ghost is_legal = { λ shared turns stood. is_history W.Watching shared turns stood };
+    ghost is_legal = { λ shared turns stood. is_history shared turns stood };
 }

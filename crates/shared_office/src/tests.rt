@@ -4,7 +4,7 @@ ghost use Rattle.std.specs.Prelude.{◌≡◌, ◌+◌, ◌*◌, ◌≤◌, []};
 ghost use Rattle.shared_office.specs.Pins.{KeepsPins};
 ghost use denote.Param.Send.{IsSync};
 
-use crate::{Answer, Batch, Office, OfficeCalls, OfficePass, close};
+use crate::{Answer, Batch, Office, OfficeCalls, OfficePass, StartFault, close};
 use memory_disk::MemoryDisk;
 use outside_io::Disk;
 use policy_types::{Command, Plan, Report, Watcher};
@@ -350,15 +350,13 @@ fn reported<D: Disk + Send, W: Watching + Send, R: Threads + Wait + Sync>(
     disk: D,
     watchers: W,
     policies: u16,
-) -> Option<(D, Reports)>
+) -> Result<(D, Reports), StartFault<D>>
     requires { W.told watchers [] }
 {
-    let Ok((office, pass)) = Office::start(alloc, disk, watchers) else {
-        return None;
-    };
+    let (office, pass) = Office::start(alloc, disk, watchers)?;
     let pass = two_pay(rt, &office, pass, policies);
     let (disk, _, reports) = close(office, pass);
-    Some((disk, reports))
+    Ok((disk, reports))
 }
 
 #[test]
@@ -368,7 +366,7 @@ fn watchers_of_two_callers(rt: HostRuntime) -> Result<(), AllocError> {
     boxes.push(Box::new(alloc, CountWatcher::new(alloc, 3))?)?;
     boxes.push(Box::new(alloc, PremiumWatcher::new(alloc))?)?;
     let empty = MemoryDisk::new(alloc, Vec::new(alloc), Vec::new(alloc));
-    let Some((disk, reports)) = reported(&rt, alloc, empty, Watchers::new(boxes), 50) else {
+    let Ok((disk, reports)) = reported(&rt, alloc, empty, Watchers::new(boxes), 50) else {
         panic!(rt; "no office");
     };
     assert_eq!(rt; disk.bytes().len(), 13_018);
@@ -388,7 +386,7 @@ fn watchers_of_two_callers(rt: HostRuntime) -> Result<(), AllocError> {
 fn closed_at_once(rt: HostRuntime) -> Result<(), AllocError> {
     let alloc = rt.alloc();
     let empty = MemoryDisk::new(alloc, Vec::new(alloc), Vec::new(alloc));
-    let Some((disk, _)) = reported(&rt, alloc, empty, NoWatchers, 2) else {
+    let Ok((disk, _)) = reported(&rt, alloc, empty, NoWatchers, 2) else {
         panic!(rt; "no office");
     };
     let mut before = Vec::new(alloc);
@@ -396,7 +394,7 @@ fn closed_at_once(rt: HostRuntime) -> Result<(), AllocError> {
     assert_eq!(rt; before.len(), 538);
     let mut boxes: Vec<Box<dyn Watcher + Send>> = Vec::new(alloc);
     boxes.push(Box::new(alloc, CountWatcher::new(alloc, 3))?)?;
-    let Some((disk, reports)) = reported(&rt, alloc, disk, Watchers::new(boxes), 0) else {
+    let Ok((disk, reports)) = reported(&rt, alloc, disk, Watchers::new(boxes), 0) else {
         panic!(rt; "no office");
     };
     assert_eq!(rt; disk.bytes(), before.as_slice());

@@ -1,5 +1,5 @@
 -- What the shared state was opened on, and the histories for which it stands
-use Rattle.std.specs.Prelude.{◌≤◌, List, length}
+use Rattle.std.specs.Prelude.{◌≡◌, ◌≤◌, List, length}
 use Rattle.std.specs.List.{AllByRecursion}
 use Rattle.std.proofs.Common.{subst}
 use Rattle.outside_io.specs.declared.disks.Disk.{Ghosts}
@@ -13,20 +13,25 @@ use Rattle.office_state.specs.States.{auditors_of, begun_of, opening_of}
 use Rattle.shared_office.specs.Offices.{IsOfficeHistory, OfficeOpening}
 use Rattle.shared_office.specs.declared.state.SharedState.{SharedState}
 
-module _ {D W : Type 0} {g : Ghosts D} (w : WatcherGhosts W) where
+module _ {D W : Type 0} {g : Ghosts D} {w : WatcherGhosts W} where
   -- what it was opened on
-  abbrev pub opening_on : SharedState D W g → OfficeOpening D
+  abbrev pub opening_on : SharedState D W g w → OfficeOpening D W
   opening_on shared = record {
     opening = opening_of shared.state;
     begun = begun_of shared.state;
-    auditors = auditors_of w shared.state;
+    watchers = shared.handed.value;
   }
 
+  -- the state stands for the history, and its auditors are those that were handed in
+  pub record SharedStandsFor (shared : SharedState D W g w) (history : List Entry) : Type 0 where
+    pub state : StandsFor shared.state history
+    pub handed : auditors_of shared.state ≡ w.handed shared.handed.value
+
   -- a history for which it stands is one of the office
-  pub is_history : (shared : SharedState D W g) (history : List Entry) → StandsFor w shared.state history
+  pub is_history : (shared : SharedState D W g w) (history : List Entry) → SharedStandsFor shared history
       → IsOfficeHistory (opening_on shared) history
   is_history shared history stood = record {
-    legal = stood.history.legal;
-    valid = subst (AllByRecursion IsValid) stood.kept shared.state.books.kept.valid;
-    few = subst (λ (commands : List Command). length commands ≤ most_commands) stood.kept shared.state.books.kept.few;
+    legal = stood.state.history.legal;
+    valid = subst (AllByRecursion IsValid) stood.state.kept shared.state.books.kept.valid;
+    few = subst (λ (commands : List Command). length commands ≤ most_commands) stood.state.kept shared.state.books.kept.few;
   }
