@@ -20,6 +20,7 @@ use Rattle.office_state.specs.Images.{AreQuiet, HasFaultedBefore, HoldsNow, Hold
 use Rattle.office_state.specs.Journals.{JournalBytes, Opens}
 use Rattle.shared_office.specs.Offices.{IsOfficeHistory, OfficeOpening}
 use Rattle.shared_office.specs.Starting.{HasClosed, HasStarted}
+use Rattle.watcher_set.specs.declared.watching.Watching.{Ghosts as WatcherGhosts}
 use Rattle.turn_lock.specs.Passes.{Holding, OwnsAll, PassFacts, callers}
 use Rattle.snapshot_value.specs.Valuing.{HasValued, IsAnswered as IsValueAnswer}
 use Rattle.snapshot_value.specs.declared.valuation.Valuation.{Valuation}
@@ -158,13 +159,13 @@ postless_entries : (turns : List Placed) → AllByRecursion (λ (turn : Placed).
 postless_entries [] quiet = tt
 postless_entries (turn ∷ turns) quiet = (quiet.0, postless_entries turns quiet.1)
 
-module _ {D : Type 0} (g : Ghosts D) (old disk : D) (on : ℤ) (at : At) (workers turn : ℕ) (basis : List Dated)
-    (first closing : Holding (OfficeOpening D)) (balances : Booking) (reports : List Report) (answer : Result Valuation ValueFault)
-    (started : HasStarted g old [] first) (facts : PassFacts IsOfficeHistory closing)
-    (closed : HasClosed g closing disk balances reports)
+module _ {D W : Type 0} (g : Ghosts D) (w : WatcherGhosts W) (old disk : D) (watchers : W) (on : ℤ) (at : At) (workers turn : ℕ) (basis : List Dated)
+    (first closing : Holding (OfficeOpening D W)) (balances : Booking) (reports : List Report) (answer : Result Valuation ValueFault)
+    (started : HasStarted g old watchers first) (facts : PassFacts IsOfficeHistory closing)
+    (closed : HasClosed g w closing disk balances reports)
     (valued : HasValued basis on at workers first closing turn answer) where
-  abbrev opened : OfficeOpening D
-  opened = record { opening = started.opening; begun = old; auditors = [] }
+  abbrev opened : OfficeOpening D W
+  opened = record { opening = started.opening; begun = old; watchers = watchers }
 
   closing_opened : closing.opening ≡ Some opened
   closing_opened = valued.grows.opening ∙ started.first.opened
@@ -173,7 +174,7 @@ module _ {D : Type 0} (g : Ghosts D) (old disk : D) (on : ℤ) (at : At) (worker
   is_history =
       let lawful = facts.lawful in
       let same : lawful.0 ≡ opened = same_opened lawful.0 opened (sym lawful.1 ∙ closing_opened) in
-      subst (λ (o : OfficeOpening D). IsOfficeHistory o closing.seen) same lawful.2
+      subst (λ (o : OfficeOpening D W). IsOfficeHistory o closing.seen) same lawful.2
 
   all_callers : callers closing ≡ 0 ∷ []
   all_callers =
@@ -215,7 +216,7 @@ module _ {D : Type 0} (g : Ghosts D) (old disk : D) (on : ℤ) (at : At) (worker
       let same : valued.opened ≡ opened = same_opened valued.opened opened (sym valued.opening ∙ closing_opened) in
       let zeroth : turn ≡ 0 = sym valued.place ∙ lone.0 in
       subst (λ n. IsValueAnswer (commands_after started.opening (take n closing.seen)) basis on valued.pin.1.reply answer) zeroth
-      (subst (λ (o : OfficeOpening D). IsValueAnswer (commands_after o.opening (take turn closing.seen)) basis on valued.pin.1.reply answer) same valued.answered)
+      (subst (λ (o : OfficeOpening D W). IsValueAnswer (commands_after o.opening (take turn closing.seen)) basis on valued.pin.1.reply answer) same valued.answered)
 
   -- the answer is one of an office that nobody else called
   pub is_lone : IsLoneAnswer answer
@@ -225,7 +226,7 @@ module _ {D : Type 0} (g : Ghosts D) (old disk : D) (on : ℤ) (at : At) (worker
   left =
       let same : closed.opening ≡ opened = same_opened closed.opening opened (sym closed.opened ∙ closing_opened) in
       let whole : IsLeftBy g old disk started.opening closing.seen =
-      subst (λ (o : OfficeOpening D). IsLeftBy g o.begun disk o.opening closing.seen) same closed.disk in
+      subst (λ (o : OfficeOpening D W). IsLeftBy g o.begun disk o.opening closing.seen) same closed.disk in
       subst (λ (n : ℕ). IsLeftBy g old disk (opened_on started.opening.commands n) []) started.faults
       (quiet_left g old disk started.opening closing.seen is_history.legal.due postless whole)
 

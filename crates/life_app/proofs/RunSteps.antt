@@ -13,6 +13,7 @@ use Rattle.policy_types.specs.declared.script.Lane.{Lane}
 use Rattle.policy_types.specs.declared.entry.Entry.{Entry}
 use Rattle.policy_machine.specs.History.{IsLegal, accepted_of, opened_on}
 use Rattle.watcher_set.specs.Noted.{Auditor, reports_of}
+use Rattle.watcher_set.specs.declared.watching.Watching.{Ghosts as WatcherGhosts}
 use Rattle.command_csv.specs.Reads.{IsFirstFault, Reads}
 use Rattle.office_state.specs.declared.faults.StartCause.{StartCause}
 use Rattle.office_state.specs.declared.faults.StartCause.TheVariants.{DiskFault as FaultyDisk, NotAJournal, BadRecord, NoMemory as NoRoom}
@@ -58,25 +59,28 @@ ends_as_told lines reports output ending is wrote =
     subst (EndsTold lines reports output) (sym is) (by_lines lines reports output (any_faulted lines) (any_lacked lines) refl refl wrote)
 
 -- An office ran lanes and was closed.
-module _ {D : Type 0} (g : Ghosts D) (old disk : D) (lanes : List Lane) (basis : List Dated) (auditors : List Auditor)
-    (first closing : Holding (OfficeOpening D)) (balances : Booking) (reports : List Report) (started : HasStarted g old auditors first)
-    (facts : PassFacts IsOfficeHistory closing) (closed : HasClosed g closing disk balances reports) (script : AreScriptLanes lanes) where
-  abbrev opened : OfficeOpening D
-  opened = record { opening = started.opening; begun = old; auditors = auditors }
+module _ {D W : Type 0} (g : Ghosts D) (w : WatcherGhosts W) (old disk : D) (lanes : List Lane) (basis : List Dated) (watchers : W)
+    (first closing : Holding (OfficeOpening D W)) (balances : Booking) (reports : List Report) (started : HasStarted g old watchers first)
+    (facts : PassFacts IsOfficeHistory closing) (closed : HasClosed g w closing disk balances reports) (script : AreScriptLanes lanes) where
+  abbrev opened : OfficeOpening D W
+  opened = record { opening = started.opening; begun = old; watchers = watchers }
+
+  abbrev auditors : List Auditor
+  auditors = w.handed watchers
 
   -- the disk is left by what the office's last pass has seen
   left_from : closing.opening ≡ Some opened → IsLeftBy g old disk (opened_on started.opening.commands (g.faults old)) closing.seen
   left_from is =
       let same : closed.opening ≡ opened = same_opened closed.opening opened (sym closed.opened ∙ is) in
       let left : IsLeftBy g old disk started.opening closing.seen =
-      subst (λ (o : OfficeOpening D). IsLeftBy g o.begun disk o.opening closing.seen) same closed.disk in
+      subst (λ (o : OfficeOpening D W). IsLeftBy g o.begun disk o.opening closing.seen) same closed.disk in
       subst (λ (n : ℕ). IsLeftBy g old disk (opened_on started.opening.commands n) closing.seen) started.faults left
 
   -- and the auditors report what it has seen accepted
   reports_from : closing.opening ≡ Some opened → reports ≡ reports_of auditors (accepted_of closing.seen)
   reports_from is =
       let same : closed.opening ≡ opened = same_opened closed.opening opened (sym closed.opened ∙ is) in
-      closed.reports ∙ ap (λ (o : OfficeOpening D). reports_of o.auditors (accepted_of closing.seen)) same
+      closed.reports ∙ ap (λ (o : OfficeOpening D W). reports_of (w.handed o.watchers) (accepted_of closing.seen)) same
 
   module _ (transcript : Transcript) (ran : HasAnsweredLanes basis lanes first closing transcript) where
     all_told : Telling basis lanes closing transcript opened ran.answered
@@ -124,8 +128,8 @@ module _ {D : Type 0} (g : Ghosts D) (old disk : D) (lanes : List Lane) (basis :
   -- where there was no memory to run them, nothing was turned
   untouched : closing ≡ first → IsLeftAlone g old disk × (g.faults disk ≡ g.faults old)
   untouched same =
-      let is : closing.opening ≡ Some opened = ap (λ (p : Holding (OfficeOpening D)). p.opening) same ∙ started.first.opened in
-      let none : closing.seen ≡ [] = ap (λ (p : Holding (OfficeOpening D)). p.seen) same ∙ started.first.seen in
+      let is : closing.opening ≡ Some opened = ap (λ (p : Holding (OfficeOpening D W)). p.opening) same ∙ started.first.opened in
+      let none : closing.seen ≡ [] = ap (λ (p : Holding (OfficeOpening D W)). p.seen) same ∙ started.first.seen in
       let left = subst (IsLeftBy g old disk (opened_on started.opening.commands (g.faults old))) none (left_from is) in
       (left.alone tt, left.faults)
 

@@ -222,8 +222,8 @@ pub same_opened : {O : Type 0} (a b : O) → Some a ≡ Some b → a ≡ b
 same_opened a b e = cc
 
 -- what is known of lanes that were run, once their office is closed
-pub record Telling {D : Type 0} (basis : List Dated) (lanes : List Lane) (closing : Holding (OfficeOpening D)) (transcript : Transcript)
-    (opened : OfficeOpening D) (shown : List AnsweredLine) : Type 0 where
+pub record Telling {D W : Type 0} (basis : List Dated) (lanes : List Lane) (closing : Holding (OfficeOpening D W)) (transcript : Transcript)
+    (opened : OfficeOpening D W) (shown : List AnsweredLine) : Type 0 where
   pub opening : closing.opening ≡ Some opened
   pub history : IsOfficeHistory opened closing.seen
   pub merge : IsMerge closing.seen lanes transcript.callers (dry_of transcript.lines)
@@ -237,8 +237,8 @@ pub record Telling {D : Type 0} (basis : List Dated) (lanes : List Lane) (closin
   pub answered : any_faulted transcript.lines ≡ false → any_lacked transcript.lines ≡ false
       → AllByRecursion (λ (entry : Entry). IsAnswered entry.reply) closing.seen
 
-module _ {D : Type 0} (basis : List Dated) (lanes : List Lane) (first closing : Holding (OfficeOpening D)) (transcript : Transcript)
-    (opened : OfficeOpening D) (ran : HasAnsweredLanes basis lanes first closing transcript) (is_first : IsFirst opened first)
+module _ {D W : Type 0} (basis : List Dated) (lanes : List Lane) (first closing : Holding (OfficeOpening D W)) (transcript : Transcript)
+    (opened : OfficeOpening D W) (ran : HasAnsweredLanes basis lanes first closing transcript) (is_first : IsFirst opened first)
     (facts : PassFacts IsOfficeHistory closing) (whole : OwnsAll closing) (script : AreScriptLanes lanes) where
   abbrev history : List Entry
   history = closing.seen
@@ -253,12 +253,12 @@ module _ {D : Type 0} (basis : List Dated) (lanes : List Lane) (first closing : 
   is_history =
       let lawful = facts.lawful in
       let same : lawful.0 ≡ opened = same_opened lawful.0 opened (sym lawful.1 ∙ closing_opened) in
-      subst (λ (o : OfficeOpening D). IsOfficeHistory o closing.seen) same lawful.2
+      subst (λ (o : OfficeOpening D W). IsOfficeHistory o closing.seen) same lawful.2
 
   told : AllZip (IsToldOf opened.opening closing.seen basis) ran.answered transcript.lines
   told =
       let same : ran.opened ≡ opened = same_opened ran.opened opened (sym ran.opening ∙ closing_opened) in
-      subst (λ (o : OfficeOpening D). AllZip (IsToldOf o.opening closing.seen basis) ran.answered transcript.lines) same ran.told
+      subst (λ (o : OfficeOpening D W). AllZip (IsToldOf o.opening closing.seen basis) ran.answered transcript.lines) same ran.told
 
   all_callers : numbers_of closing ≡ 0 ∷ transcript.callers
   all_callers =

@@ -1,12 +1,11 @@
 // A run of a script: the basis is fetched where a line asks for values, the office is opened, each lane of the script is run
 // by a caller of its own, the office is closed, then the transcript is written.
-ghost use Rattle.std.specs.Prelude.{◌≡◌, ◌≤◌, List, [], if◌then◌else◌, All, IfOk, length};
+ghost use Rattle.std.specs.Prelude.{◌≡◌, ◌≤◌, [], if◌then◌else◌, All, IfOk, length};
 ghost use Rattle.std.specs.List.{list_any};
 ghost use Rattle.lane_runner.specs.Lanes.{is_value};
 ghost use Rattle.shared_office.specs.Offices.{IsOfficeHistory};
 ghost use Rattle.shared_office.specs.Starting.{HasStarted};
 ghost use Rattle.turn_lock.specs.Passes.{PassFacts};
-ghost use Rattle.watcher_set.specs.Noted.{Auditor};
 ghost use Rattle.life_app.specs.Obeys.{EndsByName, EndsLanes, EndsRun};
 ghost use Rattle.life_app.specs.Outcome.{EndsScript};
 ghost use Rattle.life_app.specs.Script.{asks_for_values};
@@ -161,10 +160,10 @@ fn run_office<R: Threads + Wait + Sync, K: Sink, D: Disk + Send, W: Watching + S
 ) -> Finished<D>
     requires lanes { AreScriptLanes lanes.now }
     requires ours { pass.turnstile ≡ office }
-    requires started { (old : D) × ((auditors : List Auditor) × HasStarted D.Disk old auditors pass) }
+    requires started { (old : D) × ((watchers : W) × HasStarted D.Disk old watchers pass) }
     requires facts { PassFacts IsOfficeHistory pass }
-    ensures ends { (old : D) (auditors : List Auditor) → HasStarted D.Disk old auditors pass
-        → EndsScript D.Disk old result.disk lanes.now basis.now auditors
+    ensures ends { (old : D) (watchers : W) → HasStarted D.Disk old watchers pass
+        → EndsScript D.Disk old result.disk lanes.now basis.now (W.handed watchers)
         (between K.faults K.written output.old output.new) result.ending }
 {
     let mut pass = pass;

@@ -1,5 +1,5 @@
 // The values of the policies on a day, by the basis on the shelf.
-ghost use Rattle.std.specs.Prelude.{◌≡◌, ◌≤◌, []};
+ghost use Rattle.std.specs.Prelude.{◌≡◌, ◌≤◌};
 ghost use Rattle.life_dates.specs.Calendar.{IsDay};
 ghost use Rattle.shared_office.specs.Offices.{IsOfficeHistory};
 ghost use Rattle.shared_office.specs.Starting.{HasStarted};
@@ -22,7 +22,7 @@ use shared_office::{Office, OfficeCalls, OfficePass, close};
 use snapshot_value::{Valuation, ValueFault};
 use std::alloc::Global;
 use std::sync::Wait;
-use watcher_set::NoWatchers;
+use watcher_set::{NoWatchers, Watching};
 
 /// A valuation that no lane of a script asks for.
 const NO_LANE: u8 = 0;
@@ -88,24 +88,24 @@ fn value_by<R: Wait, K: Sink, D: Disk, G: Gate>(
 }
 
 // Values an office's policies, closes it, and writes the values.
-fn value_office<R: Wait, K: Sink, D: Disk, G: Gate>(
+fn value_office<R: Wait, K: Sink, D: Disk, W: Watching, G: Gate>(
     rt: &R,
     alloc: Global,
     on: i32,
     at: At,
     workers: u8,
     basis: &Basis,
-    office: Office<D, NoWatchers>,
-    pass: OfficePass<D, NoWatchers>,
+    office: Office<D, W>,
+    pass: OfficePass<D, W>,
     output: &mut K,
     gate: &G,
 ) -> Finished<D>
     requires day { IsDay on }
     requires workers { (1 ≤ workers) × (workers ≤ 64) }
     requires ours { pass.turnstile ≡ office }
-    requires started { (old : D) × HasStarted D.Disk old [] pass }
+    requires started { (old : D) × ((watchers : W) × HasStarted D.Disk old watchers pass) }
     requires facts { PassFacts IsOfficeHistory pass }
-    ensures ends { (old : D) → HasStarted D.Disk old [] pass
+    ensures ends { (old : D) (watchers : W) → HasStarted D.Disk old watchers pass
         → EndsValuing D.Disk old result.disk on at basis.now
         (between K.faults K.written output.old output.new) result.ending }
 {
