@@ -22,6 +22,7 @@ ghost use Rattle.life_app.specs.Writing.{between, shelf_between};
 ghost use Rattle.life_app.specs.inside.Valued.{SaysNoMode};
 
 use crate::account::account;
+use crate::auditors::Auditors;
 use crate::ending::Ending;
 use crate::refusing::say;
 use crate::run::{Finished, run};
@@ -33,7 +34,7 @@ use policy_types::Watcher;
 use std::alloc::Global;
 use std::sync::Wait;
 use std::thread::Threads;
-use watcher_set::{Watchers, Watching};
+use watcher_set::Watching;
 
 /// What the program leaves: its exit status, and the disk.
 pub struct Ended<D> {
@@ -146,7 +147,7 @@ pub fn life<R: Threads + Wait + Sync, S: Source, K: Sink, H: Shelf, D: Disk + Se
         → (Rose (D.faults disk) (D.faults result.disk) → ⊥)
         → (result.status ≡ 5) ⊎ (result.status ≡ 9) }
 {
-    let watchers = Watchers::new(watchers);
+    let watchers = Auditors::new(watchers);
     let finished = obey(rt, alloc, words, input, output, shelf, disk, watchers, gate);
     Ended {
         status: finished.ending.status(),
