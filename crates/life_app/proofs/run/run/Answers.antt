@@ -5,7 +5,7 @@ use Rattle.life_app.proofs.ScriptSteps.{script_lanes}
 use Rattle.life_app.proofs.run.run.Goals as goal
 
 pub run_script-requires-clause-lanes : goal.run_script-requires-clause-lanes
-run_script-requires-clause-lanes g c =
+run_script-requires-clause-lanes g c κs within =
     let read = c.in-Ok.ensures.ok in
     rw c.as_slice-lanes.ensures (script_lanes read.0 _ read.1 read.2)
 
