@@ -2,6 +2,9 @@
 #![tactic(auto)]
 
 mod account;
+mod auditors;
+#[cfg(test)]
+mod clerk_tests;
 #[cfg(test)]
 mod disk_tests;
 mod ending;
@@ -11,6 +14,7 @@ mod laws;
 mod policy_tests;
 mod program;
 mod refusing;
+mod reporting;
 mod rereading;
 mod run;
 mod state;
@@ -23,6 +27,8 @@ mod unvalued;
 mod value;
 #[cfg(test)]
 mod value_tests;
+#[cfg(test)]
+mod watcher_tests;
 pub mod worked;
 
 pub use ending::Ending;
