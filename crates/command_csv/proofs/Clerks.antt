@@ -1,4 +1,4 @@
--- The lanes of a script that has lines of clerk 1 alone
+-- The lines of rows, the lanes where all are of clerk 1, and the room for valuations
 use Rattle.std.proofs.Common.{◌≡◌, ℕ, zero, suc, ◌+◌, ◌≤◌, Bool, true, false, eqb, cond, List, [], ◌∷◌, length, map, refl, ap, ◌∙◌, arith}
 use Rattle.std.specs.List.{AllZip, AllByRecursion, filter}
 use Rattle.std.proofs.lemmas.Bool.{ne_eqb}
@@ -23,18 +23,7 @@ lanes_up_first (suc n) lines =
     rw (lines_of_others (suc (suc n)) (ne_eqb 1 (suc (suc n)) (λ e. omega (arith, e))) lines) (append-nil (lanes_up_to (suc n) (map by_first lines)) ∙ lanes_up_first n lines)
 
 pub lanes_of_first : (lines : List Line) → lanes_of (map by_first lines) ≡ lane_of 1 lines
-lanes_of_first lines = lanes_up_first 0 lines
-
--- what rows say is all of clerk 1
-pub entries_of_first : (rows : List (List (List ℕ))) (entries : List ClerkLine) → AllZip IsRowOf rows entries → entries ≡ map by_first (all_lines entries)
-entries_of_first [] [] h = refl
-entries_of_first [] (entry ∷ entries) h = absurd h
-entries_of_first (row ∷ rows) [] h = absurd h
-entries_of_first (row ∷ rows) (entry ∷ entries) h =
-    let one : entry.clerk ≡ 1 = omega (arith, h.0.allowed.clerk_in) in
-    let first : entry ≡ by_first entry.line = ap (λ (n : ℕ). let made : ClerkLine = record { clerk = n; line = entry.line } in made) one in
-    let rest = entries_of_first rows entries h.1 in
-    cc
+lanes_of_first lines = lanes_up_first 7 lines
 
 pub all_right : (rows : List (List (List ℕ))) (entries : List ClerkLine) → AllZip IsRowOf rows entries → AllByRecursion IsScriptLine (all_lines entries)
 all_right [] [] h = tt

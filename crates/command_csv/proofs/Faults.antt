@@ -10,7 +10,7 @@ use Rattle.command_csv.specs.Rows.{rows_of}
 use Rattle.command_csv.specs.declared.row.ClerkLine.{ClerkLine}
 use Rattle.command_csv.specs.Spelling.{row_fields}
 use Rattle.command_csv.specs.Reads.{IsScriptLine, IsRowOf, HasRoom, Reads, FitsUpTo, IsFirstBadField, IsFirstFault, all_lines, valuations_in, most_valuations, lane_of, lanes_of}
-use Rattle.command_csv.proofs.Clerks.{lanes_of_first, entries_of_first, all_right, valuations-cons, room_first, room_behind}
+use Rattle.command_csv.proofs.Clerks.{valuations-cons, room_first, room_behind}
 use Rattle.command_csv.proofs.OneReading.{one_entry}
 
 -- so many valuations on these lines, behind others
@@ -107,12 +107,3 @@ one_fault bytes row other field place a b =
     let at : row ≡ length a.before + 1 = a.number in
     let at' : other ≡ length b.before + 1 = b.number in
     (omega arith, both.1)
-
-pub one_lane : (bytes : List ℕ) (lanes : List Lane) → Reads bytes lanes → (lines : List Line) × (lanes ≡ lane_of 1 lines) × All IsScriptLine lines × (valuations_in lines ≤ most_valuations)
-one_lane bytes lanes reads =
-    let lines = all_lines reads.entries in (
-      lines,
-      reads.by_clerk ∙ ap lanes_of (entries_of_first (rows_of bytes) reads.entries reads.rows.each) ∙ lanes_of_first lines,
-      All-from_recursion IsScriptLine lines (all_right (rows_of bytes) reads.entries reads.rows.each),
-      reads.rows.few,
-    )

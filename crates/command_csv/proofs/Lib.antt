@@ -3,6 +3,7 @@ pub mod Faults
 pub mod FieldTexts
 pub mod Forms
 pub mod Judging
+pub mod Lanes
 pub mod Lines
 pub mod OneReading
 pub mod Progress

@@ -1,5 +1,5 @@
 -- What the worked scripts rest on
-use Rattle.std.proofs.Common.{◌≡◌, ℕ, zero, suc, ◌<◌, ◌≤◌, List, [], ◌∷◌, map, refl, sym, subst, arith, lit≤, codes, pos}
+use Rattle.std.proofs.Common.{◌≡◌, ℕ, zero, suc, ◌<◌, ◌≤◌, List, [], ◌∷◌, ◌++◌, map, refl, sym, subst, arith, lit≤, codes, pos}
 use Rattle.std.specs.Prelude.{decimal, replicate}
 use Rattle.std.specs.Fmt.{digits}
 use Rattle.std.specs.List.{AllZip}
@@ -14,24 +14,26 @@ use Rattle.command_csv.specs.declared.kind.Kind.TheVariants as kind
 use Rattle.command_csv.specs.declared.row.ClerkLine.{ClerkLine}
 use Rattle.command_csv.specs.Rows.{rows_of}
 use Rattle.command_csv.specs.Spelling.{by_first, at_text, row_fields}
-use Rattle.command_csv.specs.Reads.{IsClerk, IsPosition, AreWorkers, IsScriptLine, IsRowOf, AreRowsOf, IsFirstBadField, most_valuations, valuations_in}
+use Rattle.command_csv.specs.Reads.{IsClerk, IsPosition, AreWorkers, IsScriptLine, IsRowOf, AreRowsOf, IsFirstBadField, Reads, lanes_of, most_valuations, valuations_in}
 use Rattle.command_csv.specs.Worked.{Says}
 use Rattle.command_csv.specs.inside.Forms.{Ends, Then, WorkersOn, PositionOn, MayFollow, KindForm, kind_word, form_of}
 use Rattle.command_csv.proofs.Clerks.{lanes_of_first}
 use Rattle.command_csv.proofs.Forms.{carries_all, kind_carries, day_possible, end_possible, workers_possible, any_kind_possible, row_possible, goes_on, stops}
-use Rattle.command_csv.proofs.Lines.{bad_field}
+use Rattle.command_csv.proofs.Lines.{bad_field, entry_of}
 use Rattle.command_csv.proofs.Words.{kind_word_injective}
 
+pub row_of : (clerk : ℕ) (line : Line) → IsClerk clerk → IsScriptLine line → IsRowOf (row_fields (entry_of clerk line)) (entry_of clerk line)
+row_of clerk line clerk_in h = record { allowed = record { clerk_in = clerk_in; right = h }; spelled = refl }
+
 pub row_is : (line : Line) → IsScriptLine line → IsRowOf (row_fields (by_first line)) (by_first line)
-row_is line h = record { allowed = record { clerk_in = (lit≤ tt, lit≤ tt); right = h }; spelled = refl }
+row_is line h = row_of 1 line (lit≤ tt, lit≤ tt) h
 
 -- the rows are those of the lines
+pub reads : (script : List ℕ) (entries : List ClerkLine) (rows : List (List (List ℕ))) → rows_of script ≡ rows → AreRowsOf rows entries → Reads script (lanes_of entries)
+reads script entries rows e h = record { entries = entries; rows = subst (λ (found : List (List (List ℕ))). AreRowsOf found entries) (sym e) h; by_clerk = refl }
+
 pub says : (script : List ℕ) (lines : List Line) (rows : List (List (List ℕ))) → rows_of script ≡ rows → AreRowsOf rows (map by_first lines) → Says script lines
-says script lines rows e h = record {
-  entries = map by_first lines;
-  rows = subst (λ (found : List (List (List ℕ))). AreRowsOf found (map by_first lines)) (sym e) h;
-  by_clerk = sym (lanes_of_first lines);
-}
+says script lines rows e h = subst (Reads script) (lanes_of_first lines) (reads script (map by_first lines) rows e h)
 
 one_is_few : (line : Line) → valuations_in (line ∷ []) ≤ most_valuations
 one_is_few (Post c) = omega arith
@@ -41,16 +43,15 @@ one_is_few Trim = omega arith
 pub says_one : (script : List ℕ) (line : Line) → rows_of script ≡ row_fields (by_first line) ∷ [] → IsScriptLine line → Says script (line ∷ [])
 says_one script line e h = says script (line ∷ []) (row_fields (by_first line) ∷ []) e record { each = (row_is line h, tt); few = one_is_few line }
 
--- a row whose first field is another digit than a clerk's
-pub bad_clerk : (rest : List (List ℕ)) → IsFirstBadField 0 (codes "9" ∷ rest) 1
-unfolding digits
-bad_clerk rest =
-    bad_field 0 (codes "9" ∷ rest) 0 1 refl
-    (stops IsClerk decimal (λ clerk. KindForm 0) (row_possible 0).0 (codes "9" ∷ rest) (row_possible 0).1
+-- a row whose first field is a number, and no clerk's
+pub bad_clerk : (valued n : ℕ) (rest : List (List ℕ)) → n ≤ 9 → (IsClerk n → ⊥) → IsFirstBadField valued (decimal n ∷ rest) 1
+bad_clerk valued n rest small none =
+    bad_field valued (decimal n ∷ rest) 0 1 refl
+    (stops IsClerk decimal (λ clerk. KindForm valued) (row_possible valued).0 (decimal n ∷ rest) (row_possible valued).1
     (λ clerk h e.
-    let same : decimal 9 ≡ decimal clerk = cc in
-    let number : 9 ≡ clerk = decimal_injective 9 clerk (lit≤ tt) (omega (arith, h)) same in
-    omega (arith, number, h)))
+    let same : decimal n ≡ decimal clerk = cc in
+    let number : n ≡ clerk = decimal_injective n clerk (omega (arith, small)) (omega (arith, h)) same in
+    none (subst IsClerk (sym number) h)))
 
 -- a lapse without a day
 pub no_day : (id : ℕ) → IsId id → IsFirstBadField 0 (decimal 1 ∷ codes "lapse" ∷ decimal id ∷ []) 4
@@ -76,11 +77,18 @@ pub rows_again : (n : ℕ) (row : List (List ℕ)) (entry : ClerkLine) → IsRow
 rows_again zero row entry h = tt
 rows_again (suc n) row entry h = (h, rows_again n row entry h)
 
+-- rows, and others behind them
+pub rows_both : (rows others : List (List (List ℕ))) (entries more : List ClerkLine) → AllZip IsRowOf rows entries → AllZip IsRowOf others more → AllZip IsRowOf (rows ++ others) (entries ++ more)
+rows_both [] others [] more h g = g
+rows_both [] others (e ∷ es) more h g = absurd h
+rows_both (x ∷ xs) others [] more h g = absurd h
+rows_both (x ∷ xs) others (e ∷ es) more h g = (h.0, rows_both xs others es more h.1 g)
+
 -- a valuation behind as many as there may be
-pub no_room : (rest : List (List ℕ)) → IsFirstBadField most_valuations (decimal 1 ∷ codes "value" ∷ rest) 2
-no_room rest =
-    bad_field most_valuations (decimal 1 ∷ codes "value" ∷ rest) 1 2 refl
-    (goes_on IsClerk decimal (λ clerk. KindForm most_valuations) 1 (codes "value" ∷ rest) 0 (lit≤ tt, lit≤ tt) (carries_all IsClerk decimal (KindForm most_valuations) 1)
+pub no_room : (clerk : ℕ) (rest : List (List ℕ)) → IsClerk clerk → IsFirstBadField most_valuations (decimal clerk ∷ codes "value" ∷ rest) 2
+no_room clerk rest clerk_in =
+    bad_field most_valuations (decimal clerk ∷ codes "value" ∷ rest) 1 2 refl
+    (goes_on IsClerk decimal (λ n. KindForm most_valuations) clerk (codes "value" ∷ rest) 0 clerk_in (carries_all IsClerk decimal (KindForm most_valuations) clerk)
     (stops (MayFollow most_valuations) kind_word form_of (any_kind_possible most_valuations).0 (codes "value" ∷ rest) (any_kind_possible most_valuations).1
     (λ k h e.
     let word : kind_word k ≡ kind_word kind.Value = cc in

@@ -1,4 +1,5 @@
 pub mod Cause
+pub mod Lanes
 pub mod Reads
 pub mod Rows
 pub mod Spelling

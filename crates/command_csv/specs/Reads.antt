@@ -14,7 +14,7 @@ use Rattle.command_csv.specs.Spelling.{row_fields}
 
 -- the clerks are numbered from 1 to this
 abbrev pub last_lane : ℕ
-last_lane = 1
+last_lane = 8
 
 -- a script asks for so many valuations at most
 abbrev pub most_valuations : ℕ

@@ -1,5 +1,5 @@
 -- Scripts, and what they say: each kind of line as a clerk writes it, and some first faults
-use Rattle.std.specs.Prelude.{ℕ, List, [], ◌∷◌, pos, codes, replicate}
+use Rattle.std.specs.Prelude.{ℕ, List, [], ◌∷◌, ◌++◌, pos, codes, replicate}
 use Rattle.std.specs.List.{flat_map}
 use Rattle.policy_types.specs.declared.command.Command.TheVariants.{Issue, Premium, Alter, Lapse, Reinstate, Claim, Settle, Mature}
 use Rattle.policy_types.specs.declared.command.Plan.TheVariants.{Endowment}
@@ -52,9 +52,24 @@ abbrev pub OddScript : Type 0
 OddScript = Says (239 ∷ 187 ∷ 191 ∷ codes "\"1\",\"lapse\",7001,2022-02-02\r\n\r\n1,claim,7001,\"2022-12-31\"\r1,lapse,7002,2022-02-02\n")
     (Post (Lapse 7001 (pos 19025)) ∷ Post (Claim 7001 (pos 19357)) ∷ Post (Lapse 7002 (pos 19025)) ∷ [])
 
+-- three clerks, one among the others, and the last one first: the lanes stand by number, and each has its rows in order
+abbrev pub ThreeClerks : Type 0
+ThreeClerks = Reads (codes "8,trim\n3,lapse,7001,2022-02-02\n1,claim,7002,2022-12-31\n3,trim\n8,value,2020-01-01,now,64\n1,lapse,7003,2022-02-02\n")
+    (record { number = 1; lines = Post (Claim 7002 (pos 19357)) ∷ Post (Lapse 7003 (pos 19025)) ∷ [] }
+    ∷ record { number = 3; lines = Post (Lapse 7001 (pos 19025)) ∷ Trim ∷ [] }
+    ∷ record { number = 8; lines = Trim ∷ Value (pos 18262) Now 64 ∷ [] } ∷ [])
+
 -- clerk 9 isn't one
 abbrev pub NoClerk : Type 0
 NoClerk = IsFirstFault (codes "9,lapse,1,2020-01-01") 1 1
+
+-- nor is clerk 0
+abbrev pub NoClerkBefore : Type 0
+NoClerkBefore = IsFirstFault (codes "8,trim\n0,trim") 2 1
+
+-- the clerk is judged before the kind
+abbrev pub NoClerkNorKind : Type 0
+NoClerkNorKind = IsFirstFault (codes "9,lapsed") 1 1
 
 -- empty lines aren't counted, and the second row has no day
 abbrev pub NoDay : Type 0
@@ -72,6 +87,14 @@ TrimOfSomething = IsFirstFault (codes "1,trim,") 1 3
 abbrev pub NoWorkers : Type 0
 NoWorkers = IsFirstFault (codes "1,value,2021-01-01,now") 1 5
 
--- a seventeenth valuation doesn't fit in its kind
+-- sixteen valuations, the half of them by clerk 1 and the half by clerk 8
+abbrev pub sixteen : List ℕ
+sixteen = flat_map (λ row. row) (replicate 8 (codes "1,value,2020-01-01,now,1\n") ++ replicate 8 (codes "8,value,2020-01-01,now,1\n"))
+
+-- a seventeenth doesn't fit in its kind, whoever's it is
 abbrev pub OneValuationTooMany : Type 0
-OneValuationTooMany = IsFirstFault (flat_map (λ row. row) (replicate 17 (codes "1,value,2020-01-01,now,1\n"))) 17 2
+OneValuationTooMany = IsFirstFault (sixteen ++ codes "5,value,2020-01-01,now,1\n") 17 2
+
+-- but for a clerk that isn't one, who doesn't fit before
+abbrev pub OneTooManyOfNoClerk : Type 0
+OneTooManyOfNoClerk = IsFirstFault (sixteen ++ codes "9,value,2020-01-01,now,1\n") 17 1

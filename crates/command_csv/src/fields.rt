@@ -20,7 +20,7 @@ use policy_types::{
 };
 
 /// The clerks are numbered from 1 to this.
-pub const LAST_LANE: u8 = 1;
+pub const LAST_LANE: u8 = 8;
 /// A script asks for so many valuations at most.
 const MOST_VALUATIONS: u32 = 16;
 /// A list of accepted commands is never longer.

@@ -1,9 +1,9 @@
 // Laws of the definitions, for callers.
-ghost use Rattle.std.specs.Prelude.{◌≡◌, ◌≤◌, ◌⊎◌, ℕ, List};
-ghost use Rattle.std.specs.List.{All};
+ghost use Rattle.std.specs.Prelude.{◌≡◌, ◌⊎◌, ℕ, List, length};
 ghost use Rattle.policy_types.specs.declared.script.Lane.{Lane};
-ghost use Rattle.policy_types.specs.declared.script.Line.{Line};
-ghost use Rattle.command_csv.specs.Reads.{IsScriptLine, IsFirstFault, Reads, lane_of, most_valuations, valuations_in};
+ghost use Rattle.command_csv.specs.Lanes.{AreLanesOf};
+ghost use Rattle.command_csv.specs.Reads.{IsFirstFault, Reads};
+ghost use Rattle.command_csv.specs.Rows.{rows_of};
 
 /// A script is read, or it has a first fault.
 pub fn scripts_are_judged()
@@ -22,8 +22,8 @@ pub fn readings_are_one()
     ensures { (bytes : List ℕ) (lanes others : List Lane) → Reads bytes lanes → Reads bytes others → lanes ≡ others }
 {}
 
-/// What is read is no lane, or the one lane of clerk 1, each of its lines is one that a script may hold, and it asks
-/// for no more valuations than a script may.
-pub fn one_clerk()
-    ensures { (bytes : List ℕ) (lanes : List Lane) → Reads bytes lanes → (lines : List Line) × (lanes ≡ lane_of 1 lines) × All IsScriptLine lines × (valuations_in lines ≤ most_valuations) }
+/// What is read is a line for each row, in lanes of clerks whose numbers rise: none is empty, each line is one that a
+/// script may hold, and they ask for no more valuations than a script may.
+pub fn lanes_are_whole()
+    ensures { (bytes : List ℕ) (lanes : List Lane) → Reads bytes lanes → AreLanesOf (length (rows_of bytes)) lanes }
 {}

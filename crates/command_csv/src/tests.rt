@@ -9,16 +9,18 @@ use std::test::Fail;
 
 const MOST_BYTES: usize = 16_777_216;
 
-// The number of lines of clerk 1 as row 0, or the bad row and field.
+// The number of lines in all lanes as row 0, or the bad row and field.
 fn answer(alloc: Global, script: &[u8]) -> Result<(u64, u64), Fail>
     requires { length script.now ≤ MOST_BYTES }
 {
     match read_script(alloc, script) {
-        Ok(script) => match script.as_slice() {
-            [] => Ok((0, 0)),
-            [lane] => Ok((0, lane.lines.as_slice().len() as u64)),
-            _ => Err("two lanes")?,
-        },
+        Ok(script) => {
+            let mut count: u64 = 0;
+            for lane in script.as_slice() {
+                count = count.saturating_add(lane.lines.as_slice().len() as u64);
+            }
+            Ok((0, count))
+        }
         Err(ScriptFault::BadRow { row, field }) => Ok((u64::from(row), u64::from(field))),
         Err(ScriptFault::NoMemory) => Err("no memory")?,
     }
@@ -26,7 +28,7 @@ fn answer(alloc: Global, script: &[u8]) -> Result<(u64, u64), Fail>
 
 #[test]
 fn bad_fields(rt: HostRuntime) -> Result<(), Fail> {
-    let cases: [(&[u8], (u64, u64)); 72] = [
+    let cases: [(&[u8], (u64, u64)); 80] = [
         (b"1,issue,0,2020-01-01,term,30,10,1.00,1.00", (1, 3)),
         (b"9,lapse,1,2020-01-01", (1, 1)),
         (b"1,lapse,1", (1, 4)),
@@ -38,10 +40,15 @@ fn bad_fields(rt: HostRuntime) -> Result<(), Fail> {
         ),
         (b"1,issue,7,1900-01-01,whole,129,0,1.00,1.00", (0, 1)),
         (b"1,issue,7,2000-02-29,limited,29,102,1.00,1.00", (0, 1)),
+        (b"8,lapse,1,2020-01-01", (0, 1)),
         (b"0,lapse,1,2020-01-01", (1, 1)),
-        (b"2,lapse,1,2020-01-01", (1, 1)),
         (b"01,lapse,1,2020-01-01", (1, 1)),
-        (b"2,lapsed", (1, 1)),
+        (b"10,lapse,1,2020-01-01", (1, 1)),
+        (b"257,lapse,1,2020-01-01", (1, 1)),
+        (b"-1,lapse,1,2020-01-01", (1, 1)),
+        (b"1.0,lapse,1,2020-01-01", (1, 1)),
+        (b"9,lapsed", (1, 1)),
+        (b"8,lapsed", (1, 2)),
         (b"1", (1, 2)),
         (b"1,", (1, 2)),
         (b"1,Lapse,1,2020-01-01", (1, 2)),
@@ -49,7 +56,8 @@ fn bad_fields(rt: HostRuntime) -> Result<(), Fail> {
         (b"1,value,2020-01-01,now,1", (0, 1)),
         (b"1,value,1900-01-01,0,64", (0, 1)),
         (b"1,value,2199-12-31,4000000,1", (0, 1)),
-        (b"2,value,2020-01-01,now,1", (1, 1)),
+        (b"8,value,2020-01-01,now,1", (0, 1)),
+        (b"9,value,2020-01-01,now,1", (1, 1)),
         (b"1,Value,2020-01-01,now,1", (1, 2)),
         (b"1,value", (1, 3)),
         (b"1,value,2021-02-29,now,1", (1, 3)),
@@ -67,7 +75,8 @@ fn bad_fields(rt: HostRuntime) -> Result<(), Fail> {
         (b"1,value,2021-01-01,now,257", (1, 5)),
         (b"1,value,2021-01-01,now,1,", (1, 6)),
         (b"1,trim", (0, 1)),
-        (b"2,trim", (1, 1)),
+        (b"8,trim", (0, 1)),
+        (b"9,trim", (1, 1)),
         (b"1,trims", (1, 2)),
         (b"1,trim,", (1, 3)),
         (b"1,trim,now", (1, 3)),
@@ -101,7 +110,8 @@ fn bad_fields(rt: HostRuntime) -> Result<(), Fail> {
         (b"1,settle,1,2020-01-01,100000000.01", (1, 5)),
         (b"1,settle,1,2020-01-01,-1.00", (1, 5)),
         (b"1,mature,1,2020-01-01,", (1, 5)),
-        (b"1,lapse,1,x\n2,lapse,1,2020-01-01", (1, 4)),
+        (b"1,lapse,1,x\n9,lapse,1,2020-01-01", (1, 4)),
+        (b"8,lapse,1,2020-01-01\n1,trim\n9,trim\n3,trim", (3, 1)),
     ];
     for (script, want) in cases {
         assert!(rt; script.len() <= MOST_BYTES);
@@ -251,12 +261,57 @@ fn lines_are_read_as_they_are_written(rt: HostRuntime) -> Result<(), Fail> {
     Ok(())
 }
 
+// Of each lane its number, and of its lines the policies that lapse, with 0 for a trim.
+fn dealt(alloc: Global, script: &[u8]) -> Result<Vec<u32>, Fail>
+    requires { length script.now ≤ MOST_BYTES }
+{
+    let script = read_script(alloc, script)?;
+    let mut dealt = Vec::new(alloc);
+    for lane in script.as_slice() {
+        dealt.push(u32::from(lane.number))?;
+        for line in lane.lines.as_slice() {
+            match line {
+                Line::Post(Command::Lapse { id, .. }) => dealt.push(*id)?,
+                _ => dealt.push(0)?,
+            }
+        }
+    }
+    Ok(dealt)
+}
+
+// Lanes stand by number, whichever comes first, each with its rows in order; a clerk without rows has none.
+#[test]
+fn lanes_are_dealt_out(rt: HostRuntime) -> Result<(), Fail> {
+    let cases: [(&[u8], &[u32]); 4] = [
+        (b"8,trim", &[8, 0]),
+        (
+            b"8,lapse,81,2020-01-01\n1,lapse,11,2020-01-01\n8,trim\n1,trim\n8,lapse,82,2020-01-01",
+            &[1, 11, 0, 8, 81, 0, 82],
+        ),
+        (
+            b"3,lapse,31,2020-01-01\n2,lapse,21,2020-01-01\n7,lapse,71,2020-01-01\n2,lapse,22,2020-01-01
+7,lapse,72,2020-01-01\n3,lapse,32,2020-01-01\n3,lapse,33,2020-01-01\n2,lapse,23,2020-01-01",
+            &[2, 21, 22, 23, 3, 31, 32, 33, 7, 71, 72],
+        ),
+        (
+            b"8,trim\n7,trim\n6,trim\n5,trim\n4,trim\n3,trim\n2,trim\n1,trim\n",
+            &[1, 0, 2, 0, 3, 0, 4, 0, 5, 0, 6, 0, 7, 0, 8, 0],
+        ),
+    ];
+    for (script, want) in cases {
+        assert!(rt; script.len() <= MOST_BYTES);
+        let dealt = dealt(rt.alloc(), script)?;
+        assert!(rt; dealt.as_slice() == want, "{script:?}");
+    }
+    Ok(())
+}
+
 // Sixteen valuations are read, whatever stands between them; a seventeenth is no line, but for its lane.
 #[test]
 fn valuations_are_few(rt: HostRuntime) -> Result<(), Fail> {
     let alloc = rt.alloc();
     let value = b"1,value,2020-01-01,now,1\n";
-    let cases: [(u32, &[u8], &[u8], (u64, u64)); 9] = [
+    let cases: [(u32, &[u8], &[u8], (u64, u64)); 12] = [
         (16, value, b"", (0, 16)),
         (16, value, b"1,trim\n1,lapse,1,2020-01-01\n", (0, 18)),
         (17, value, b"", (17, 2)),
@@ -267,7 +322,20 @@ fn valuations_are_few(rt: HostRuntime) -> Result<(), Fail> {
             (0, 33),
         ),
         (16, b"1,trim\n1,value,2020-01-01,0,1\n", value, (33, 2)),
-        (16, value, b"2,value,2020-01-01,now,1\n", (17, 1)),
+        (16, value, b"2,value,2020-01-01,now,1\n", (17, 2)),
+        (16, value, b"9,value,2020-01-01,now,1\n", (17, 1)),
+        (
+            8,
+            b"1,value,2020-01-01,now,1\n8,trim\n5,value,2020-01-01,now,1\n",
+            b"8,lapse,1,2020-01-01\n",
+            (0, 25),
+        ),
+        (
+            8,
+            b"1,value,2020-01-01,now,1\n8,trim\n5,value,2020-01-01,now,1\n",
+            b"8,value,2020-01-01,now,1\n",
+            (25, 2),
+        ),
         (16, value, b"1,value,x\n", (17, 2)),
         (16, value, b"1,trim\n1,values\n", (18, 2)),
         (15, value, b"1,value,x\n1,value,2020-01-01,now,1\n", (16, 3)),
@@ -284,12 +352,12 @@ fn valuations_are_few(rt: HostRuntime) -> Result<(), Fail> {
     Ok(())
 }
 
-// So many bytes that begin with a front and go on with a piece, over and over, as far as it fits whole.
-fn long_script(alloc: Global, front: &[u8], piece: &[u8]) -> Result<Vec<u8>, Fail> {
+// At most so many bytes, that begin with a front and go on with a piece, over and over, as far as it fits whole.
+fn long_script(alloc: Global, most: usize, front: &[u8], piece: &[u8]) -> Result<Vec<u8>, Fail> {
     let mut script = Vec::new(alloc);
     script.extend_from_slice(front)?;
-    for _ in 0..MOST_BYTES {
-        if script.len() as u64 + piece.len() as u64 > MOST_BYTES as u64 {
+    for _ in 0..most {
+        if script.len() as u64 + piece.len() as u64 > most as u64 {
             break;
         }
         script.extend_from_slice(piece)?;
@@ -297,24 +365,29 @@ fn long_script(alloc: Global, front: &[u8], piece: &[u8]) -> Result<Vec<u8>, Fai
     Ok(script)
 }
 
-// Scripts of 16 MiB take no worse than one pass, and are never refused for memory where there is enough.
+// A script of 16 MiB is dealt out to eight clerks, and isn't refused for memory where there is enough.
+#[test]
+fn longest_script(rt: HostRuntime) -> Result<(), Fail> {
+    let piece = b"8,lapse,1,2022-02-02\n1,lapse,1,2022-02-02\n7,lapse,1,2022-02-02\n2,lapse,1,2022-02-02
+6,lapse,1,2022-02-02\n3,lapse,1,2022-02-02\n5,lapse,1,2022-02-02\n4,lapse,1,2022-02-02\n";
+    let script = long_script(rt.alloc(), MOST_BYTES, b"", piece)?;
+    assert!(rt; script.len() <= MOST_BYTES);
+    assert_eq!(rt; answer(rt.alloc(), &script)?, (0, 16_777_216 / 168 * 8));
+    Ok(())
+}
+
+// Scripts of a MiB take no worse than one pass, whatever their bytes.
 #[test]
 fn long_scripts(rt: HostRuntime) -> Result<(), Fail> {
     let alloc = rt.alloc();
-    let cases: [(&str, &[u8], &[u8], (u64, u64)); 9] = [
-        (
-            "lines",
-            b"",
-            b"1,lapse,7001,2022-02-02\n",
-            (0, 16_777_216 / 24),
-        ),
+    let cases: [(&str, &[u8], &[u8], (u64, u64)); 8] = [
         (
             "quoted lines",
             b"",
-            b"\"1\",\"lapse\",\"7001\",\"2022-02-02\"\r\n",
-            (0, 16_777_216 / 33),
+            b"\"8\",\"lapse\",\"7001\",\"2022-02-02\"\r\n",
+            (0, 1_048_576 / 33),
         ),
-        ("trims", b"", b"1,trim\n", (0, 16_777_216 / 7)),
+        ("trims", b"", b"8,trim\n", (0, 1_048_576 / 7)),
         (
             "line feeds",
             b"",
@@ -343,7 +416,7 @@ fn long_scripts(rt: HostRuntime) -> Result<(), Fail> {
         ),
     ];
     for (name, front, piece, want) in cases {
-        let script = long_script(alloc, front, piece)?;
+        let script = long_script(alloc, 1_048_576, front, piece)?;
         assert!(rt; script.len() <= MOST_BYTES);
         assert_eq!(rt; answer(alloc, &script)?, want, "{name}");
     }

@@ -1,5 +1,5 @@
 // Worked scripts, each a theorem over the definitions alone.
-ghost use Rattle.command_csv.specs.Worked.{AlterLine, ClaimLine, IssueLine, LapseLine, MatureLine, NoClerk, NoDay, NoWorkers, OddScript, OneTooMany, OneValuationTooMany, PremiumLine, ReinstateLine, SettleLine, TrimLine, TrimOfSomething, ValueAtLine, ValueLine};
+ghost use Rattle.command_csv.specs.Worked.{AlterLine, ClaimLine, IssueLine, LapseLine, MatureLine, NoClerk, NoClerkBefore, NoClerkNorKind, NoDay, NoWorkers, OddScript, OneTooMany, OneTooManyOfNoClerk, OneValuationTooMany, PremiumLine, ReinstateLine, SettleLine, ThreeClerks, TrimLine, TrimOfSomething, ValueAtLine, ValueLine};
 
 /// How a line of each kind is written.
 pub fn lines_are_written()
@@ -21,13 +21,21 @@ pub fn odd_scripts_are_read()
     ensures { OddScript }
 {}
 
+/// Rows of several clerks, one among the others.
+pub fn lanes_are_dealt()
+    ensures { ThreeClerks }
+{}
+
 /// The place of a clerk's number that is none, of a field that is missing, of one too many, and of the kind of a
 /// valuation too many.
 pub fn faults_are_placed()
     ensures clerk { NoClerk }
+    ensures clerk_0 { NoClerkBefore }
+    ensures clerk_first { NoClerkNorKind }
     ensures missing { NoDay }
     ensures surplus { OneTooMany }
     ensures trim { TrimOfSomething }
     ensures workers { NoWorkers }
     ensures valuations { OneValuationTooMany }
+    ensures valuations_of_none { OneTooManyOfNoClerk }
 {}

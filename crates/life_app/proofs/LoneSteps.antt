@@ -13,12 +13,14 @@ use Rattle.policy_types.specs.declared.entry.Call.TheVariants.{Post, Pin, PinAt,
 use Rattle.policy_types.specs.declared.entry.Reply.{Reply}
 use Rattle.policy_types.specs.declared.entry.Reply.TheVariants.{Accepted, Refused, Faulted, Pinned, PinRefused, Slice, Unpinned, Floor, Blank}
 use Rattle.policy_types.specs.declared.entry.Entry.{Entry}
+use Rattle.policy_types.specs.declared.watcher.Report.{Report}
 use Rattle.policy_machine.specs.History.{Opening, IsDue, IsLegalAfter, accepted_by, accepted_of, commands_after, fault_of, opened_on}
 use Rattle.policy_machine.specs.Merge.{Placed, pin_call, turns_of}
-use Rattle.office_state.specs.Images.{HasFaultedBefore, HoldsNow, HoldsOnce, IsLeftBy, IsOneMore}
+use Rattle.office_state.specs.Images.{AreQuiet, HasFaultedBefore, HoldsNow, HoldsOnce, IsLeftBy, IsOneMore}
 use Rattle.office_state.specs.Journals.{JournalBytes, Opens}
-use Rattle.shared_office.specs.Offices.{IsOfficeHistory, OfficeOpening, posts}
+use Rattle.shared_office.specs.Offices.{IsOfficeHistory, OfficeOpening}
 use Rattle.shared_office.specs.Starting.{HasClosed, HasStarted}
+use Rattle.watcher_set.specs.declared.watching.Watching.{Ghosts as WatcherGhosts}
 use Rattle.turn_lock.specs.Passes.{Holding, OwnsAll, PassFacts, callers}
 use Rattle.snapshot_value.specs.Valuing.{HasValued, IsAnswered as IsValueAnswer}
 use Rattle.snapshot_value.specs.declared.valuation.Valuation.{Valuation}
@@ -30,7 +32,7 @@ use Rattle.life_app.specs.Writing.{Stream}
 use Rattle.life_app.specs.inside.Valued.{EndsAnswer, EndsValued, IsLoneAnswer}
 use Rattle.life_app.proofs.ListSteps.{Has, all_has, has_of_contains, has_right, of_all}
 use Rattle.life_app.proofs.ToldSteps.{same_opened}
-use Rattle.life_app.proofs.TurnSteps.{quiet_follow, quiet_pin, quiet_reply, quiet_turns}
+use Rattle.life_app.proofs.TurnSteps.{posts, quiet_follow, quiet_pin, quiet_reply, quiet_turns, unposted_reply}
 use Rattle.life_app.proofs.ValueSteps.{ends_valued, lone_answer, lone_ends}
 
 no_fault : (reply : Reply) → IsAnswered reply → fault_of reply ≡ None
@@ -67,6 +69,13 @@ none_met opening before (entry ∷ history) legal quiet =
     ap (λ first. cons_option first (filter_map (λ (e : Entry). fault_of e.reply) history))
     (no_fault entry.reply (quiet_reply opening before entry.caller entry.call entry.reply legal.0 quiet.0))
     ∙ none_met opening (before ++ entry ∷ []) history legal.1 quiet.1
+
+all_quiet : (opening : Opening) (before history : List Entry) → IsLegalAfter opening before history → ArePostless history → AreQuiet history
+all_quiet opening before [] legal quiet = tt
+all_quiet opening before (entry ∷ history) legal quiet = (
+  unposted_reply opening before entry.caller entry.call entry.reply legal.0 quiet.0,
+  all_quiet opening (before ++ entry ∷ []) history legal.1 quiet.1,
+)
 
 never_faulted : {A : Type 0} (history after : List Entry) (command : Command) → ArePostless history → HasFaultedBefore history command after → A
 never_faulted history after command quiet fault =
@@ -114,6 +123,7 @@ module _ {D : Type 0} (g : Ghosts D) (old new : D) (opening : Opening) (history 
     now = λ honest image may. quiet_now image (left.now honest image may);
     since = λ honest image was. elim (left.since honest image was) [ inl before ↦ inl before | inr once ↦ inr (quiet_once image once) ];
     synced = λ honest. let mid = left.synced honest in (mid.0, mid.1, λ image was. quiet_once image (mid.2 image was));
+    alone = λ none. left.alone (all_quiet opening [] history legal quiet);
   }
 
 -- where all turns are of one caller
@@ -149,12 +159,13 @@ postless_entries : (turns : List Placed) → AllByRecursion (λ (turn : Placed).
 postless_entries [] quiet = tt
 postless_entries (turn ∷ turns) quiet = (quiet.0, postless_entries turns quiet.1)
 
-module _ {D : Type 0} (g : Ghosts D) (old disk : D) (on : ℤ) (at : At) (workers turn : ℕ) (basis : List Dated)
-    (first closing : Holding (OfficeOpening D)) (balances : Booking) (answer : Result Valuation ValueFault)
-    (started : HasStarted g old 0 first) (facts : PassFacts IsOfficeHistory closing) (closed : HasClosed g closing disk balances)
+module _ {D W : Type 0} (g : Ghosts D) (w : WatcherGhosts W) (old disk : D) (watchers : W) (on : ℤ) (at : At) (workers turn : ℕ) (basis : List Dated)
+    (first closing : Holding (OfficeOpening D W)) (balances : Booking) (reports : List Report) (answer : Result Valuation ValueFault)
+    (started : HasStarted g old watchers first) (facts : PassFacts IsOfficeHistory closing)
+    (closed : HasClosed g w closing disk balances reports)
     (valued : HasValued basis on at workers first closing turn answer) where
-  abbrev opened : OfficeOpening D
-  opened = record { opening = started.opening; begun = old; room = 0 }
+  abbrev opened : OfficeOpening D W
+  opened = record { opening = started.opening; begun = old; watchers = watchers }
 
   closing_opened : closing.opening ≡ Some opened
   closing_opened = valued.grows.opening ∙ started.first.opened
@@ -163,7 +174,7 @@ module _ {D : Type 0} (g : Ghosts D) (old disk : D) (on : ℤ) (at : At) (worker
   is_history =
       let lawful = facts.lawful in
       let same : lawful.0 ≡ opened = same_opened lawful.0 opened (sym lawful.1 ∙ closing_opened) in
-      subst (λ (o : OfficeOpening D). IsOfficeHistory o closing.seen) same lawful.2
+      subst (λ (o : OfficeOpening D W). IsOfficeHistory o closing.seen) same lawful.2
 
   all_callers : callers closing ≡ 0 ∷ []
   all_callers =
@@ -205,7 +216,7 @@ module _ {D : Type 0} (g : Ghosts D) (old disk : D) (on : ℤ) (at : At) (worker
       let same : valued.opened ≡ opened = same_opened valued.opened opened (sym valued.opening ∙ closing_opened) in
       let zeroth : turn ≡ 0 = sym valued.place ∙ lone.0 in
       subst (λ n. IsValueAnswer (commands_after started.opening (take n closing.seen)) basis on valued.pin.1.reply answer) zeroth
-      (subst (λ (o : OfficeOpening D). IsValueAnswer (commands_after o.opening (take turn closing.seen)) basis on valued.pin.1.reply answer) same valued.answered)
+      (subst (λ (o : OfficeOpening D W). IsValueAnswer (commands_after o.opening (take turn closing.seen)) basis on valued.pin.1.reply answer) same valued.answered)
 
   -- the answer is one of an office that nobody else called
   pub is_lone : IsLoneAnswer answer
@@ -215,7 +226,7 @@ module _ {D : Type 0} (g : Ghosts D) (old disk : D) (on : ℤ) (at : At) (worker
   left =
       let same : closed.opening ≡ opened = same_opened closed.opening opened (sym closed.opened ∙ closing_opened) in
       let whole : IsLeftBy g old disk started.opening closing.seen =
-      subst (λ (o : OfficeOpening D). IsLeftBy g o.begun disk o.opening closing.seen) same closed.disk in
+      subst (λ (o : OfficeOpening D W). IsLeftBy g o.begun disk o.opening closing.seen) same closed.disk in
       subst (λ (n : ℕ). IsLeftBy g old disk (opened_on started.opening.commands n) []) started.faults
       (quiet_left g old disk started.opening closing.seen is_history.legal.due postless whole)
 

@@ -22,6 +22,22 @@ module _ {D : Type 0} (g : Ghosts D) (counts_now : CountsNow g) (old mid new : D
     | inr now ↦ counts_now mid moment image honest passed now
   ]
 
+  pub alone_still : (g.honest old → g.clock old ≤ g.clock mid) → IsLeftAlone g old mid → IsLeftAlone g old new
+  alone_still later alone = record {
+    honesty = (λ honest. honesty.0 (alone.honesty.0 honest), λ honest. alone.honesty.1 (honesty.1 honest));
+    unwritten = λ honest finished. looks_on g old mid new (alone.unwritten honest finished) (looks (alone.honesty.0 honest));
+    since = λ honest image was.
+        alone.since honest image (since_before (alone.honesty.0 honest) (g.clock old) image (later honest) was);
+    synced = λ honest. elim (alone.synced honest) [
+      | inl looked ↦ inl (looks_on g old mid new looked (looks (alone.honesty.0 honest)))
+      | inr at ↦ inr (
+        at.0,
+        synced_before g old at.0 mid new at.1 (looks (alone.honesty.0 honest)).time.later,
+        λ image was. at.2 image (since_before (alone.honesty.0 honest) (g.clock at.0) image at.1.passed was),
+      )
+    ];
+  }
+
   pub left_still : (opening : Opening) (turns : List Entry) → IsLeftBy g old mid opening turns → g.faults new ≡ g.faults mid
       → IsLeftBy g old new opening turns
   left_still opening turns left quiet = record {
@@ -37,22 +53,9 @@ module _ {D : Type 0} (g : Ghosts D) (counts_now : CountsNow g) (old mid new : D
           synced_before g old at.0 mid new at.1 (looks (left.honesty.0 honest)).time.later,
           λ image was. at.2 image (since_before (left.honesty.0 honest) (g.clock at.0) image at.1.passed was),
         );
-  }
-
-  pub alone_still : (g.honest old → g.clock old ≤ g.clock mid) → IsLeftAlone g old mid → IsLeftAlone g old new
-  alone_still later alone = record {
-    honesty = (λ honest. honesty.0 (alone.honesty.0 honest), λ honest. alone.honesty.1 (honesty.1 honest));
-    unwritten = λ honest finished. looks_on g old mid new (alone.unwritten honest finished) (looks (alone.honesty.0 honest));
-    since = λ honest image was.
-        alone.since honest image (since_before (alone.honesty.0 honest) (g.clock old) image (later honest) was);
-    synced = λ honest. elim (alone.synced honest) [
-      | inl looked ↦ inl (looks_on g old mid new looked (looks (alone.honesty.0 honest)))
-      | inr at ↦ inr (
-        at.0,
-        synced_before g old at.0 mid new at.1 (looks (alone.honesty.0 honest)).time.later,
-        λ image was. at.2 image (since_before (alone.honesty.0 honest) (g.clock at.0) image at.1.passed was),
-      )
-    ];
+    alone = λ none.
+        alone_still
+        (λ honest. let at_sync = (left.synced honest).1 in omega (arith, at_sync.later, at_sync.passed)) (left.alone none);
   }
 
 module _ {D : Type 0} (g : Ghosts D) (old mid : D) (commands : List Command)
@@ -90,4 +93,5 @@ module _ {D : Type 0} (g : Ghosts D) (old mid : D) (commands : List Command)
     synced = λ honest.
         let at = left.synced honest in
         (at.0, at.1, λ image was. subst (λ (cs : List Command). HoldsOnce (opened_on cs (g.faults old)) [] image) (sym (same honest)) (at.2 image was));
+    alone = left.alone;
   }

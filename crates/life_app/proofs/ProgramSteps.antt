@@ -9,6 +9,7 @@ use Rattle.policy_types.specs.declared.entry.At.{At}
 use Rattle.policy_types.specs.declared.entry.At.TheVariants.{Now, Position}
 use Rattle.policy_types.specs.declared.entry.Entry.{Entry}
 use Rattle.policy_types.specs.declared.script.Lane.{Lane}
+use Rattle.watcher_set.specs.Noted.{Auditor}
 use Rattle.basis_book.specs.Dated.{Dated}
 use Rattle.basis_shelf.specs.Bases.{IsBasis}
 use Rattle.basis_shelf.specs.FirstBad.{IsFirstBad}
@@ -116,13 +117,13 @@ its_own Ahead = refl
 ending_at : (status : ℕ) (one ending : Ending) → status_of one ≡ status → status_of ending ≡ status → ending ≡ one
 ending_at status one ending is same = sym (its_own ending) ∙ ap ending_with (same ∙ sym is) ∙ its_own one
 
-module _ {D : Type 0} (g : Ghosts D) (old new : D) where
+module _ {D : Type 0} (g : Ghosts D) (old new : D) (auditors : List Auditor) where
   -- no run goes on over a file that opens to none
   ran_nowhere : {A : Type 0} (lanes : List Lane) (basis : List Dated) (Wrote : List ℕ → Type 0) (Replies : List Entry → List ℕ → Type 0)
-      → IsRunOf g old new lanes basis Wrote Replies → g.honest old → OpensToNone (g.reads old) → A
+      → IsRunOf g old new lanes basis auditors Wrote Replies → g.honest old → OpensToNone (g.reads old) → A
   ran_nowhere lanes basis Wrote Replies ran honest none = absurd (none ran.commands (ran.opened honest))
 
-  reads_as_before : (lanes : List Lane) (basis : List Dated) (output : Stream) (ending : Ending) → EndsScript g old new lanes basis output ending
+  reads_as_before : (lanes : List Lane) (basis : List Dated) (output : Stream) (ending : Ending) → EndsScript g old new lanes basis auditors output ending
       → g.honest old → OpensToNone (g.reads old) → g.reads new ≡ g.reads old
   reads_as_before lanes basis output Done ends honest none = ran_nowhere _ _ _ _ ends honest none
   reads_as_before lanes basis output BadJournal ends honest none = (ends.alone.unwritten honest (finished (g.reads old) none)).facts.reads
@@ -132,10 +133,7 @@ module _ {D : Type 0} (g : Ghosts D) (old new : D) where
     | inr ran ↦ ran_nowhere _ _ _ _ ran honest none
   ]
   reads_as_before lanes basis output NoMemory ends honest none = elim ends [
-    | inl said ↦ elim said.1 [
-      | inl alone ↦ (alone.0.unwritten honest (finished (g.reads old) none)).facts.reads
-      | inr opened ↦ absurd (none opened.commands (opened.opened honest))
-    ]
+    | inl said ↦ (said.1.unwritten honest (finished (g.reads old) none)).facts.reads
     | inr (inl ran) ↦ ran_nowhere _ _ _ _ ran honest none
     | inr (inr ran) ↦ ran_nowhere _ _ _ _ ran honest none
   ]
@@ -143,7 +141,7 @@ module _ {D : Type 0} (g : Ghosts D) (old new : D) where
 
   -- the statuses of a script's run over a file that opens to some commands, and over one that opens to none
   ran_to_end : (lanes : List Lane) (basis : List Dated) (output : Stream) (ending : Ending) (commands : List Command)
-      → EndsScript g old new lanes basis output ending → g.honest old → Opens (g.reads old) commands
+      → EndsScript g old new lanes basis auditors output ending → g.honest old → Opens (g.reads old) commands
       → (Rose output.faults_before output.faults_after → ⊥) → (Rose (g.faults old) (g.faults new) → ⊥)
       → (status_of ending ≡ 0) ⊎ (status_of ending ≡ 9)
   ran_to_end lanes basis output Done commands ends honest opens output_held disk_held = inl refl
@@ -154,7 +152,7 @@ module _ {D : Type 0} (g : Ghosts D) (old new : D) where
       absurd (opens_to_none g old new output ends honest commands opens)
   ran_to_end lanes basis output _ commands ends honest opens output_held disk_held = absurd ends
 
-  refused_at_opening : (lanes : List Lane) (basis : List Dated) (output : Stream) (ending : Ending) → EndsScript g old new lanes basis output ending
+  refused_at_opening : (lanes : List Lane) (basis : List Dated) (output : Stream) (ending : Ending) → EndsScript g old new lanes basis auditors output ending
       → g.honest old → OpensToNone (g.reads old) → (Rose (g.faults old) (g.faults new) → ⊥)
       → (status_of ending ≡ 5) ⊎ (status_of ending ≡ 9)
   refused_at_opening lanes basis output BadJournal ends honest none disk_held = inl refl
@@ -166,7 +164,7 @@ module _ {D : Type 0} (g : Ghosts D) (old new : D) where
 
   -- the same of lanes with the basis that they need
   module _ (lanes : List Lane) (name : List ℕ) (shelf : Shelving) (output : Stream) (ShelfStays : Type 0) where
-    lanes_as_before : (ending : Ending) → EndsLanes g old new lanes name shelf output ShelfStays ending
+    lanes_as_before : (ending : Ending) → EndsLanes g old new lanes name auditors shelf output ShelfStays ending
         → g.honest old → OpensToNone (g.reads old) → g.reads new ≡ g.reads old
     lanes_as_before ending ends honest none = elim ends [
       | inl without ↦ reads_as_before lanes [] output ending without.2 honest none
@@ -182,7 +180,7 @@ module _ {D : Type 0} (g : Ghosts D) (old new : D) where
         let basis = has asks in
         basis_refused g old new (pos 0) Now output name shelf basis.0 basis.1.1 ending basis.1.0 basis.1.2 none (shelf_held asks)
 
-    lanes_to_end : (ending : Ending) (commands : List Command) → EndsLanes g old new lanes name shelf output ShelfStays ending
+    lanes_to_end : (ending : Ending) (commands : List Command) → EndsLanes g old new lanes name auditors shelf output ShelfStays ending
         → HasItsBasis lanes name shelf.files → (asks_for_values lanes ≡ true → Rose shelf.faults_before shelf.faults_after → ⊥)
         → g.honest old → Opens (g.reads old) commands
         → (Rose output.faults_before output.faults_after → ⊥) → (Rose (g.faults old) (g.faults new) → ⊥)
@@ -193,7 +191,7 @@ module _ {D : Type 0} (g : Ghosts D) (old new : D) where
       | inr (asks, inr no_basis) ↦ inr (has_its_basis ending asks has shelf_held no_basis.1)
     ]
 
-    lanes_refused : (ending : Ending) → EndsLanes g old new lanes name shelf output ShelfStays ending
+    lanes_refused : (ending : Ending) → EndsLanes g old new lanes name auditors shelf output ShelfStays ending
         → HasItsBasis lanes name shelf.files → (asks_for_values lanes ≡ true → Rose shelf.faults_before shelf.faults_after → ⊥)
         → g.honest old → OpensToNone (g.reads old) → (Rose (g.faults old) (g.faults new) → ⊥)
         → (status_of ending ≡ 5) ⊎ (status_of ending ≡ 9)
@@ -204,7 +202,7 @@ module _ {D : Type 0} (g : Ghosts D) (old new : D) where
     ]
 
     -- and a bad file is named
-    lanes_unfit : (ending : Ending) (bad : ABadBasis) (files : List ℕ → Option (List ℕ)) → EndsLanes g old new lanes name shelf output ShelfStays ending
+    lanes_unfit : (ending : Ending) (bad : ABadBasis) (files : List ℕ → Option (List ℕ)) → EndsLanes g old new lanes name auditors shelf output ShelfStays ending
         → asks_for_values lanes ≡ true → shelf.files ≡ Some files → IsFirstBad files name bad
         → (Rose shelf.faults_before shelf.faults_after → ⊥) → SaysBadFile bad output (status_of ending) ⊎ (status_of ending ≡ 9)
     lanes_unfit ending bad files ends asks told first shelf_held = elim ends [
@@ -215,21 +213,21 @@ module _ {D : Type 0} (g : Ghosts D) (old new : D) where
     ]
 
     -- no script's run ends so
-    lanes_usage : EndsLanes g old new lanes name shelf output ShelfStays Usage → ⊥
+    lanes_usage : EndsLanes g old new lanes name auditors shelf output ShelfStays Usage → ⊥
     lanes_usage ends = elim ends [
       | inl without ↦ without.2
       | inr (asks, inl by) ↦ by.ends
       | inr (asks, inr no_basis) ↦ no_basis.1
     ]
 
-    lanes_ahead : EndsLanes g old new lanes name shelf output ShelfStays Ahead → ⊥
+    lanes_ahead : EndsLanes g old new lanes name auditors shelf output ShelfStays Ahead → ⊥
     lanes_ahead ends = elim ends [
       | inl without ↦ without.2
       | inr (asks, inl by) ↦ by.ends
       | inr (asks, inr no_basis) ↦ no_basis.1
     ]
 
-    lanes_bad_file : EndsLanes g old new lanes name shelf output ShelfStays BadBasis
+    lanes_bad_file : EndsLanes g old new lanes name auditors shelf output ShelfStays BadBasis
         → (asks_for_values lanes ≡ true) × EndsNoBasis name shelf output BadBasis
     lanes_bad_file ends = elim ends [
       | inl without ↦ absurd without.2
@@ -249,19 +247,19 @@ module _ {D : Type 0} (g : Ghosts D) (old new : D) where
     unasked _ says mode asked = absurd says
 
     -- the mode that the words ask for ended so, or there was no memory to read them
-    pub as_asked : (ending : Ending) → Does g old new words input output shelf InputStays ShelfStays ending
+    pub as_asked : (ending : Ending) → Does g old new words auditors input output shelf InputStays ShelfStays ending
         → (mode : Mode) → AskFor words mode
-        → EndsMode g old new mode input output shelf InputStays ShelfStays ending ⊎ (status_of ending ≡ 9)
+        → EndsMode g old new mode auditors input output shelf InputStays ShelfStays ending ⊎ (status_of ending ≡ 9)
     as_asked ending does mode asked = elim does [
       | inl (other, asked_too, ends) ↦ inl (
-          subst (λ (m : Mode). EndsMode g old new m input output shelf InputStays ShelfStays ending)
+          subst (λ (m : Mode). EndsMode g old new m auditors input output shelf InputStays ShelfStays ending)
           (words_ask_once words other mode asked_too asked) ends
           )
       | inr none ↦ inr (unasked ending none.says mode asked)
     ]
 
     -- words that ask for nothing
-    pub as_nothing : (ending : Ending) → Does g old new words input output shelf InputStays ShelfStays ending
+    pub as_nothing : (ending : Ending) → Does g old new words auditors input output shelf InputStays ShelfStays ending
         → AskForNothing words → (status_of ending ≡ 2) ⊎ (status_of ending ≡ 9)
     as_nothing ending does nothing = elim does [
       | inl (mode, asked, ends) ↦ absurd (nothing mode asked)
@@ -274,7 +272,7 @@ module _ {D : Type 0} (g : Ghosts D) (old new : D) where
         said _ says = absurd says
 
     -- no mode ends as words of no command do
-    mode_usage : (mode : Mode) → EndsMode g old new mode input output shelf InputStays ShelfStays Usage → ⊥
+    mode_usage : (mode : Mode) → EndsMode g old new mode auditors input output shelf InputStays ShelfStays Usage → ⊥
     mode_usage (Run name) ends = elim ends [
       | inl read ↦ lanes_usage read.lanes name shelf output ShelfStays read.ends
       | inr unread ↦ unread.2
@@ -282,22 +280,21 @@ module _ {D : Type 0} (g : Ghosts D) (old new : D) where
     mode_usage (Value on at workers name) ends = elim ends.1 [
       | inl by ↦ elim by.ends [
         | inl read ↦ read
-        | inr (inl ahead) ↦ (let other : Usage ≡ Ahead = ahead.0 in absurd (cc))
-        | inr (inr short) ↦ (let other : Usage ≡ NoMemory = short.0 in absurd (cc))
+        | inr ahead ↦ (let other : Usage ≡ Ahead = ahead.0 in absurd (cc))
       ]
       | inr none ↦ none.1
     ]
     mode_usage (State None) ends = ends.2
     mode_usage (State (Some id)) ends = ends.2
 
-    usage_only : Does g old new words input output shelf InputStays ShelfStays Usage → AskForNothing words
+    usage_only : Does g old new words auditors input output shelf InputStays ShelfStays Usage → AskForNothing words
     usage_only does = elim does [
       | inl (mode, asked, ends) ↦ absurd (mode_usage mode ends)
       | inr none ↦ none.says.0
     ]
 
     -- 4 comes of a bad file of the basis
-    mode_bad_file : (mode : Mode) → AskFor words mode → EndsMode g old new mode input output shelf InputStays ShelfStays BadBasis
+    mode_bad_file : (mode : Mode) → AskFor words mode → EndsMode g old new mode auditors input output shelf InputStays ShelfStays BadBasis
         → HasBadFile words input.before shelf.files output
     mode_bad_file (Run name) asked ends = elim ends [
       | inl read ↦
@@ -308,15 +305,14 @@ module _ {D : Type 0} (g : Ghosts D) (old new : D) where
     mode_bad_file (Value on at workers name) asked ends = elim ends.1 [
       | inl by ↦ elim by.ends [
         | inl read ↦ absurd read
-        | inr (inl ahead) ↦ (let other : BadBasis ≡ Ahead = ahead.0 in absurd (cc))
-        | inr (inr short) ↦ (let other : BadBasis ≡ NoMemory = short.0 in absurd (cc))
+        | inr ahead ↦ (let other : BadBasis ≡ Ahead = ahead.0 in absurd (cc))
       ]
       | inr none ↦ (name, (none.1.0, inl (on, (at, (workers, asked))), none.1.1, none.1.2))
     ]
     mode_bad_file (State None) asked ends = absurd ends.2
     mode_bad_file (State (Some id)) asked ends = absurd ends.2
 
-    bad_file_only : Does g old new words input output shelf InputStays ShelfStays BadBasis → HasBadFile words input.before shelf.files output
+    bad_file_only : Does g old new words auditors input output shelf InputStays ShelfStays BadBasis → HasBadFile words input.before shelf.files output
     bad_file_only does = elim does [
       | inl (mode, asked, ends) ↦ mode_bad_file mode asked ends
       | inr none ↦ absurd none.says
@@ -329,7 +325,7 @@ module _ {D : Type 0} (g : Ghosts D) (old new : D) where
     ahead_only on (Position p) name asked ahead =
         (on, (p, (name, asked, λ honest. (ahead.commands, ahead.opened honest, ahead.beyond.ahead))))
 
-    mode_ahead : (mode : Mode) → AskFor words mode → EndsMode g old new mode input output shelf InputStays ShelfStays Ahead
+    mode_ahead : (mode : Mode) → AskFor words mode → EndsMode g old new mode auditors input output shelf InputStays ShelfStays Ahead
         → IsPastTheEnd g old words
     mode_ahead (Run name) asked ends = elim ends [
       | inl read ↦ absurd (lanes_ahead read.lanes name shelf output ShelfStays read.ends)
@@ -338,22 +334,21 @@ module _ {D : Type 0} (g : Ghosts D) (old new : D) where
     mode_ahead (Value on at workers name) asked ends = elim ends.1 [
       | inl by ↦ elim by.ends [
         | inl read ↦ absurd read
-        | inr (inl ahead) ↦ ahead_only on at name (workers, asked) ahead.1
-        | inr (inr short) ↦ (let other : Ahead ≡ NoMemory = short.0 in absurd (cc))
+        | inr ahead ↦ ahead_only on at name (workers, asked) ahead.1
       ]
       | inr none ↦ absurd none.1
     ]
     mode_ahead (State None) asked ends = absurd ends.2
     mode_ahead (State (Some id)) asked ends = absurd ends.2
 
-    past_the_end_only : Does g old new words input output shelf InputStays ShelfStays Ahead → IsPastTheEnd g old words
+    past_the_end_only : Does g old new words auditors input output shelf InputStays ShelfStays Ahead → IsPastTheEnd g old words
     past_the_end_only does = elim does [
       | inl (mode, asked, ends) ↦ mode_ahead mode asked ends
       | inr none ↦ absurd none.says
     ]
 
     -- how a mode leaves a file that opens to none
-    mode_as_before : (mode : Mode) (ending : Ending) → EndsMode g old new mode input output shelf InputStays ShelfStays ending
+    mode_as_before : (mode : Mode) (ending : Ending) → EndsMode g old new mode auditors input output shelf InputStays ShelfStays ending
         → g.honest old → OpensToNone (g.reads old) → g.reads new ≡ g.reads old
     mode_as_before (Run name) ending ends honest none = elim ends [
       | inl read ↦ lanes_as_before read.lanes name shelf output ShelfStays ending read.ends honest none
@@ -367,19 +362,19 @@ module _ {D : Type 0} (g : Ghosts D) (old new : D) where
         read_as_before g old new (IsStated g old new (policy_account id)) output ending ends.2 (never_stated (policy_account id) honest none)
         honest none
 
-    module _ (ending : Ending) (does : Does g old new words input output shelf InputStays ShelfStays ending) where
-      ran : (name : List ℕ) → AskForRun words name → EndsRun g old new name input output shelf ShelfStays ending ⊎ (status_of ending ≡ 9)
+    module _ (ending : Ending) (does : Does g old new words auditors input output shelf InputStays ShelfStays ending) where
+      ran : (name : List ℕ) → AskForRun words name → EndsRun g old new name auditors input output shelf ShelfStays ending ⊎ (status_of ending ≡ 9)
       ran name asked = as_asked ending does (Run name) asked
 
       -- so each of these statuses comes of its ending alone
       by_usage : ending ≡ Usage → AskForNothing words
-      by_usage is = usage_only (subst (Does g old new words input output shelf InputStays ShelfStays) is does)
+      by_usage is = usage_only (subst (Does g old new words auditors input output shelf InputStays ShelfStays) is does)
 
       by_bad_file : ending ≡ BadBasis → HasBadFile words input.before shelf.files output
-      by_bad_file is = bad_file_only (subst (Does g old new words input output shelf InputStays ShelfStays) is does)
+      by_bad_file is = bad_file_only (subst (Does g old new words auditors input output shelf InputStays ShelfStays) is does)
 
       by_ahead : ending ≡ Ahead → IsPastTheEnd g old words
-      by_ahead is = past_the_end_only (subst (Does g old new words input output shelf InputStays ShelfStays) is does)
+      by_ahead is = past_the_end_only (subst (Does g old new words auditors input output shelf InputStays ShelfStays) is does)
 
       pub usage : status_of ending ≡ 2 → AskForNothing words
       usage status = by_usage (ending_at 2 Usage ending refl status)
@@ -483,7 +478,7 @@ module _ {D : Type 0} (g : Ghosts D) (old new : D) where
       complete bytes name lanes commands run told short reads has shelf_held honest opens input_held output_held disk_held =
           elim (ran name run) [
             | inl (inl read) ↦ lanes_to_end lanes name shelf output ShelfStays ending commands
-                (subst (λ (ls : List Lane). EndsLanes g old new ls name shelf output ShelfStays ending)
+                (subst (λ (ls : List Lane). EndsLanes g old new ls name auditors shelf output ShelfStays ending)
                 (one_reading bytes lanes read.lanes told reads read.read) read.ends) has shelf_held honest opens output_held disk_held
             | inl (inr unread) ↦ inr (unread_readable input output ending bytes lanes unread.2 told short reads input_held)
             | inr none ↦ inr none
@@ -497,7 +492,7 @@ module _ {D : Type 0} (g : Ghosts D) (old new : D) where
       refused_exactly bytes name lanes run told short reads has shelf_held honest none input_held disk_held =
           elim (ran name run) [
             | inl (inl read) ↦ lanes_refused lanes name shelf output ShelfStays ending
-                (subst (λ (ls : List Lane). EndsLanes g old new ls name shelf output ShelfStays ending)
+                (subst (λ (ls : List Lane). EndsLanes g old new ls name auditors shelf output ShelfStays ending)
                 (one_reading bytes lanes read.lanes told reads read.read) read.ends) has shelf_held honest none disk_held
             | inl (inr unread) ↦ inr (unread_readable input output ending bytes lanes unread.2 told short reads input_held)
             | inr without ↦ inr without
@@ -510,7 +505,7 @@ module _ {D : Type 0} (g : Ghosts D) (old new : D) where
       unfit_run bytes name lanes bad files run told short reads asks shelf_told first input_held shelf_held =
           elim (ran name run) [
             | inl (inl read) ↦ lanes_unfit lanes name shelf output ShelfStays ending bad files
-                (subst (λ (ls : List Lane). EndsLanes g old new ls name shelf output ShelfStays ending)
+                (subst (λ (ls : List Lane). EndsLanes g old new ls name auditors shelf output ShelfStays ending)
                 (one_reading bytes lanes read.lanes told reads read.read) read.ends) asks shelf_told first shelf_held
             | inl (inr unread) ↦ inr (unread_readable input output ending bytes lanes unread.2 told short reads input_held)
             | inr none ↦ inr none

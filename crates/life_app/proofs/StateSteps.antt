@@ -44,6 +44,12 @@ account_is {id = id} account read =
     ∙ ap (λ p. account_text (entries_of commands account.id) account.id p) read.holds.policy
     ∙ ap (λ n. policy_account n commands) read.named
 
+-- an office that was opened on this disk and closed
+pub opened_left : {D : Type 0} (g : Ghosts D) (begun old disk : D) (commands : List Command) → begun ≡ old
+    → IsLeftBy g begun disk (opened_on commands (g.faults begun)) [] → IsLeftBy g old disk (opened_on commands (g.faults old)) []
+opened_left {D = D} g begun old disk commands same left =
+    subst (λ (d : D). IsLeftBy g d disk (opened_on commands (g.faults d)) []) same left
+
 module _ {D : Type 0} (g : Ghosts D) (old disk : D) (text_of : List Command → List ℕ) (output : Stream) where
   stated : (commands : List Command) (Wrote : List ℕ → Type 0) → (g.honest old → Opens (g.reads old) commands)
       → IsLeftBy g old disk (opened_on commands (g.faults old)) [] → Wrote (text_of commands) → IsStated g old disk text_of Wrote
@@ -57,17 +63,17 @@ module _ {D : Type 0} (g : Ghosts D) (old disk : D) (text_of : List Command → 
 
   -- an office that was opened, whose text was made and written
   pub ends_text : (commands : List Command) (ending : Ending) (text : Result (Vec ℕ Global) Lack)
-      → (g.honest old → Opens (g.reads old) commands) → IsLeftBy g old disk (opened_on commands (g.faults old)) [] → IsLeftAlone g old disk
+      → (g.honest old → Opens (g.reads old) commands) → IsLeftBy g old disk (opened_on commands (g.faults old)) []
       → IfOk text (λ t. t.items ≡ text_of commands) → EndsText text output ending → EndsState g old disk text_of output ending
-  ends_text commands Done (Ok text) opened left alone same ends =
+  ends_text commands Done (Ok text) opened left same ends =
       stated commands (WroteAll output) opened left (subst (WroteAll output) same ends)
-  ends_text commands WriteFault (Ok text) opened left alone same ends = (
+  ends_text commands WriteFault (Ok text) opened left same ends = (
     ends.0,
     stated commands (AppendsPart output.before output.after) opened left (subst (AppendsPart output.before output.after) same ends.1),
   )
-  ends_text commands NoMemory (Err lack) opened left alone same ends = (ends, alone, left.faults)
-  ends_text commands _ (Ok text) opened left alone same ends = absurd ends
-  ends_text commands _ (Err lack) opened left alone same ends = absurd ends
+  ends_text commands NoMemory (Err lack) opened left same ends = (ends, left.alone tt, left.faults)
+  ends_text commands _ (Ok text) opened left same ends = absurd ends
+  ends_text commands _ (Err lack) opened left same ends = absurd ends
 
 -- one that wasn't opened
 module _ {D : Type 0} (g : Ghosts D) (old disk : D) (Tells : (List ℕ → Type 0) → Type 0) (output : Stream) where
@@ -108,13 +114,13 @@ module _ {D : Type 0} (g : Ghosts D) (old new : D) (id : ℕ) (output : Stream) 
 -- a second reading, on the disk that an office left
 module _ {D : Type 0} (g : Ghosts D) (counts_now : CountsNow g) (reads_image : ReadsImage g) (old mid new : D) (id : ℕ) (output : Stream)
     (commands : List Command) (opened : g.honest old → Opens (g.reads old) commands)
-    (left : IsLeftBy g old mid (opened_on commands (g.faults old)) []) (alone : IsLeftAlone g old mid) where
+    (left : IsLeftBy g old mid (opened_on commands (g.faults old)) []) where
   looks : (g.honest mid → ¬ IsUnfinished (g.reads mid) → LooksOn g mid new) → g.honest mid → LooksOn g mid new
   looks unwritten honest = unwritten honest (finished_left g old mid commands left reads_image (left.honesty.1 honest))
 
   read_alone : (g.honest mid) ↔ (g.honest new) → (g.honest mid → ¬ IsUnfinished (g.reads mid) → LooksOn g mid new) → IsLeftAlone g old new
   read_alone honesty unwritten =
-      alone_still g counts_now old mid new honesty (looks unwritten) (later_left g old mid commands left) alone
+      alone_still g counts_now old mid new honesty (looks unwritten) (later_left g old mid commands left) (left.alone tt)
 
   -- the file that the office left opens to the same commands
   opens_still : g.honest old → Opens (g.reads mid) commands

@@ -1,5 +1,5 @@
 -- What is told of the lanes that were run, against the history of their office
-use Rattle.std.proofs.Common.{◌≡◌, ◌↔◌, ℕ, ℤ, ◌+◌, ◌-◌, ◌≤◌, ◌==◌, Bool, true, false, List, [], ◌∷◌, ◌++◌, length, map, take, Option, Some, refl, ap, sym, ◌∙◌, subst, inl, inr, arith, append-nil}
+use Rattle.std.proofs.Common.{◌≡◌, ◌↔◌, ◌⊎◌, ℕ, ℤ, ◌+◌, ◌-◌, ◌≤◌, ◌==◌, Bool, true, false, List, [], ◌∷◌, ◌++◌, length, map, take, Option, Some, refl, ap, sym, ◌∙◌, subst, inl, inr, arith, append-nil}
 use Rattle.std.specs.Prelude.{All, slice_get}
 use Rattle.std.specs.List.{AllByRecursion, AllZip, Contains, IsDistinct, enumerate_from, filter, filter_map, flat_map, list_any}
 use Rattle.std.proofs.lemmas.Bool.{eq-eqb, false≢true}
@@ -11,7 +11,7 @@ use Rattle.policy_types.specs.declared.entry.Call.{Call}
 use Rattle.policy_types.specs.declared.entry.Call.TheVariants.{Post as PostCall}
 use Rattle.policy_types.specs.declared.entry.Entry.{Entry}
 use Rattle.policy_types.specs.declared.entry.Reply.{Reply}
-use Rattle.policy_types.specs.declared.entry.Reply.TheVariants.{Faulted, Pinned}
+use Rattle.policy_types.specs.declared.entry.Reply.TheVariants.{Blank, Faulted, Pinned}
 use Rattle.policy_types.specs.declared.script.Line.{Line}
 use Rattle.policy_types.specs.declared.script.Line.TheVariants.{Post, Value, Trim}
 use Rattle.policy_types.specs.declared.script.Lane.{Lane}
@@ -25,7 +25,7 @@ use Rattle.office_state.specs.Images.{HasFaulted}
 use Rattle.office_state.specs.Posting.{reply_of}
 use Rattle.office_state.specs.declared.answer.Answer.{Answer}
 use Rattle.office_state.specs.declared.answer.Answer.TheVariants.{Accepted, Refused, DiskFault, NoMemory}
-use Rattle.shared_office.specs.Offices.{FoundMemory, IsOfficeHistory, OfficeOpening, posts}
+use Rattle.shared_office.specs.Offices.{IsOfficeHistory, OfficeOpening}
 use Rattle.snapshot_value.specs.Valuing.{AreRowsOf, IsSnapshot}
 use Rattle.snapshot_value.specs.declared.valuation.Valuation.{Valuation}
 use Rattle.turn_lock.specs.History.{entries_of}
@@ -37,14 +37,14 @@ use Rattle.lane_runner.specs.declared.transcript.AnsweredLine.{AnsweredLine as T
 use Rattle.lane_runner.specs.declared.transcript.Outcome.{Outcome}
 use Rattle.lane_runner.specs.declared.transcript.Outcome.TheVariants.{Posted, Trimmed, Valued, ValueRefused, ValueNoMemory}
 use Rattle.lane_runner.specs.declared.transcript.Transcript.{Transcript}
-use Rattle.life_app.specs.Outcome.{ArePins, IsAnswered, IsPinned, IsTried}
+use Rattle.life_app.specs.Outcome.{ArePins, HasBlank, IsAnswered, IsPinned, IsUnfaulted}
 use Rattle.life_app.specs.Transcript.{IsTranscript}
 use Rattle.life_app.specs.inside.Parts.{AreScriptLanes}
-use Rattle.life_app.specs.inside.Told.{IsTold, IsWritable, IsWritableBlock, IsWritableOutcome, any_faulted, any_lacked, has_faulted, is_faulted, told_texts}
+use Rattle.life_app.specs.inside.Told.{IsTold, IsWritable, IsWritableBlock, IsWritableOutcome, any_faulted, any_lacked, has_faulted, is_faulted, lacks_memory, told_texts}
 use Rattle.life_app.proofs.AnswerSteps.{is_told}
 use Rattle.life_app.proofs.ListSteps.{Has, all_has, any_none, any_some, contains_of_has, front_back, has_at, has_enumerate, has_filter, has_flat_map, has_left, has_map, has_of_contains, has_right, of_all, of_enumerate, of_filter, of_flat_map, of_map, parted, zip_left, zip_right}
 use Rattle.life_app.proofs.TextSteps.{transcript_of}
-use Rattle.life_app.proofs.TurnSteps.{due_at, few_postings, found_memory, posted_first, quiet_reply, tried_from}
+use Rattle.life_app.proofs.TurnSteps.{due_at, posted_first, posts, quiet_reply, unfaulted_if_answered}
 use Rattle.life_app.proofs.ValueSteps.{block_writable}
 
 -- the turns of an answered line are those of a caller
@@ -156,19 +156,59 @@ told_fault line reply (Valued valuation) commands basis told failed = absurd (fa
 told_fault line reply (ValueRefused refusal) commands basis told failed = absurd (false≢true failed)
 told_fault line reply ValueNoMemory commands basis told failed = absurd (false≢true failed)
 
-answered_if_told : (answer : Answer) (reply : Reply) → reply ≡ reply_of answer → IsTried reply → is_faulted answer ≡ false → IsAnswered reply
-answered_if_told (Accepted position) reply is tried whole = subst IsAnswered (sym is) tt
-answered_if_told (Refused refusal) reply is tried whole = subst IsAnswered (sym is) tt
-answered_if_told (DiskFault count) reply is tried whole = absurd (false≢true (sym whole))
-answered_if_told NoMemory reply is tried whole = absurd (subst IsTried is tried)
+-- what is told of a posting is its reply
+unfaulted_if_told : (answer : Answer) (reply : Reply) → reply ≡ reply_of answer → is_faulted answer ≡ false → IsUnfaulted reply
+unfaulted_if_told (Accepted position) reply is whole = subst IsUnfaulted (sym is) tt
+unfaulted_if_told (Refused refusal) reply is whole = subst IsUnfaulted (sym is) tt
+unfaulted_if_told (DiskFault count) reply is whole = absurd (false≢true (sym whole))
+unfaulted_if_told NoMemory reply is whole = subst IsUnfaulted (sym is) tt
 
-told_whole : (command : Command) (reply : Reply) (outcome : Outcome) (commands : List Command) (basis : List Dated) → IsOutcome commands basis (Post command) reply outcome
-    → IsTried reply → has_faulted outcome ≡ false → IsAnswered reply
-told_whole command reply (Posted answer) commands basis told tried whole = answered_if_told answer reply told tried whole
-told_whole command reply (Trimmed floor) commands basis told tried whole = absurd told
-told_whole command reply (Valued valuation) commands basis told tried whole = absurd told
-told_whole command reply (ValueRefused refusal) commands basis told tried whole = absurd told
-told_whole command reply ValueNoMemory commands basis told tried whole = absurd told
+told_unfaulted : (command : Command) (reply : Reply) (outcome : Outcome) (commands : List Command) (basis : List Dated)
+    → IsOutcome commands basis (Post command) reply outcome → has_faulted outcome ≡ false → IsUnfaulted reply
+told_unfaulted command reply (Posted answer) commands basis told whole = unfaulted_if_told answer reply told whole
+told_unfaulted command reply (Trimmed floor) commands basis told whole = absurd told
+told_unfaulted command reply (Valued valuation) commands basis told whole = absurd told
+told_unfaulted command reply (ValueRefused refusal) commands basis told whole = absurd told
+told_unfaulted command reply ValueNoMemory commands basis told whole = absurd told
+
+answered_if_told : (answer : Answer) (reply : Reply) → reply ≡ reply_of answer → is_faulted answer ≡ false → lacks_memory (Posted answer) ≡ false
+    → IsAnswered reply
+answered_if_told (Accepted position) reply is whole found = subst IsAnswered (sym is) tt
+answered_if_told (Refused refusal) reply is whole found = subst IsAnswered (sym is) tt
+answered_if_told (DiskFault count) reply is whole found = absurd (false≢true (sym whole))
+answered_if_told NoMemory reply is whole found = absurd (false≢true (sym found))
+
+told_answered : (command : Command) (reply : Reply) (outcome : Outcome) (commands : List Command) (basis : List Dated)
+    → IsOutcome commands basis (Post command) reply outcome → has_faulted outcome ≡ false → lacks_memory outcome ≡ false → IsAnswered reply
+told_answered command reply (Posted answer) commands basis told whole found = answered_if_told answer reply told whole found
+told_answered command reply (Trimmed floor) commands basis told whole found = absurd told
+told_answered command reply (Valued valuation) commands basis told whole found = absurd told
+told_answered command reply (ValueRefused refusal) commands basis told whole found = absurd told
+told_answered command reply ValueNoMemory commands basis told whole found = absurd told
+
+-- memory was lacking for a posting, or for a valuation
+lacked_which : (outcome : Outcome) → lacks_memory outcome ≡ true → (outcome ≡ Posted NoMemory) ⊎ (lacked_memory outcome ≡ true)
+lacked_which (Posted NoMemory) lacked = inl refl
+lacked_which ValueNoMemory lacked = inr refl
+lacked_which (Posted (Accepted position)) lacked = absurd (false≢true lacked)
+lacked_which (Posted (Refused refusal)) lacked = absurd (false≢true lacked)
+lacked_which (Posted (DiskFault count)) lacked = absurd (false≢true lacked)
+lacked_which (Trimmed floor) lacked = absurd (false≢true lacked)
+lacked_which (Valued valuation) lacked = absurd (false≢true lacked)
+lacked_which (ValueRefused refusal) lacked = absurd (false≢true lacked)
+
+not_lacked : (outcome : Outcome) → lacks_memory outcome ≡ false → lacked_memory outcome ≡ false
+not_lacked (Posted answer) found = refl
+not_lacked (Trimmed floor) found = refl
+not_lacked (Valued valuation) found = refl
+not_lacked (ValueRefused refusal) found = refl
+not_lacked ValueNoMemory found = absurd (false≢true (sym found))
+
+told_blank : (line : Line) (reply : Reply) (commands : List Command) (basis : List Dated) → IsOutcome commands basis line reply (Posted NoMemory)
+    → reply ≡ Blank
+told_blank (Post command) reply commands basis told = told
+told_blank Trim reply commands basis told = absurd told
+told_blank (Value on at workers) reply commands basis told = absurd told
 
 -- the turn of a posting's line
 post_call : (dry : List ℕ) (line : Line) (turn : Placed) (rest : List Placed) (command : Command) → AnswersLine dry line (turn ∷ rest)
@@ -182,24 +222,24 @@ pub same_opened : {O : Type 0} (a b : O) → Some a ≡ Some b → a ≡ b
 same_opened a b e = cc
 
 -- what is known of lanes that were run, once their office is closed
-pub record Telling {D : Type 0} (basis : List Dated) (lanes : List Lane) (closing : Holding (OfficeOpening D)) (transcript : Transcript)
-    (opened : OfficeOpening D) (shown : List AnsweredLine) : Type 0 where
+pub record Telling {D W : Type 0} (basis : List Dated) (lanes : List Lane) (closing : Holding (OfficeOpening D W)) (transcript : Transcript)
+    (opened : OfficeOpening D W) (shown : List AnsweredLine) : Type 0 where
   pub opening : closing.opening ≡ Some opened
   pub history : IsOfficeHistory opened closing.seen
   pub merge : IsMerge closing.seen lanes transcript.callers (dry_of transcript.lines)
-  pub tried : AllByRecursion (λ (entry : Entry). IsTried entry.reply) closing.seen
   pub writable : All IsWritable transcript.lines
   pub tells : IsTranscript opened.opening closing.seen basis (dry_of transcript.lines) shown (told_texts transcript.lines)
   pub pins : ArePins closing.seen (dry_of transcript.lines)
   pub none_dry : any_lacked transcript.lines ≡ false → dry_of transcript.lines ≡ []
-  pub some_dry : any_lacked transcript.lines ≡ true → (pin : ℕ) × Contains (dry_of transcript.lines) pin
+  pub some_lacked : any_lacked transcript.lines ≡ true → HasBlank closing.seen ⊎ ((pin : ℕ) × Contains (dry_of transcript.lines) pin)
   pub fault : any_faulted transcript.lines ≡ true → (command : Command) × HasFaulted closing.seen command
-  pub answered : any_faulted transcript.lines ≡ false → AllByRecursion (λ (entry : Entry). IsAnswered entry.reply) closing.seen
+  pub unfaulted : any_faulted transcript.lines ≡ false → AllByRecursion (λ (entry : Entry). IsUnfaulted entry.reply) closing.seen
+  pub answered : any_faulted transcript.lines ≡ false → any_lacked transcript.lines ≡ false
+      → AllByRecursion (λ (entry : Entry). IsAnswered entry.reply) closing.seen
 
-module _ {D : Type 0} (basis : List Dated) (lanes : List Lane) (first closing : Holding (OfficeOpening D)) (transcript : Transcript)
-    (opened : OfficeOpening D) (ran : HasAnsweredLanes basis lanes first closing transcript) (is_first : IsFirst opened first)
-    (facts : PassFacts IsOfficeHistory closing) (whole : OwnsAll closing) (room : opened.room ≡ length (lines_in lanes))
-    (script : AreScriptLanes lanes) where
+module _ {D W : Type 0} (basis : List Dated) (lanes : List Lane) (first closing : Holding (OfficeOpening D W)) (transcript : Transcript)
+    (opened : OfficeOpening D W) (ran : HasAnsweredLanes basis lanes first closing transcript) (is_first : IsFirst opened first)
+    (facts : PassFacts IsOfficeHistory closing) (whole : OwnsAll closing) (script : AreScriptLanes lanes) where
   abbrev history : List Entry
   history = closing.seen
 
@@ -213,12 +253,12 @@ module _ {D : Type 0} (basis : List Dated) (lanes : List Lane) (first closing : 
   is_history =
       let lawful = facts.lawful in
       let same : lawful.0 ≡ opened = same_opened lawful.0 opened (sym lawful.1 ∙ closing_opened) in
-      subst (λ (o : OfficeOpening D). IsOfficeHistory o closing.seen) same lawful.2
+      subst (λ (o : OfficeOpening D W). IsOfficeHistory o closing.seen) same lawful.2
 
   told : AllZip (IsToldOf opened.opening closing.seen basis) ran.answered transcript.lines
   told =
       let same : ran.opened ≡ opened = same_opened ran.opened opened (sym ran.opening ∙ closing_opened) in
-      subst (λ (o : OfficeOpening D). AllZip (IsToldOf o.opening closing.seen basis) ran.answered transcript.lines) same ran.told
+      subst (λ (o : OfficeOpening D W). AllZip (IsToldOf o.opening closing.seen basis) ran.answered transcript.lines) same ran.told
 
   all_callers : numbers_of closing ≡ 0 ∷ transcript.callers
   all_callers =
@@ -269,14 +309,6 @@ module _ {D : Type 0} (basis : List Dated) (lanes : List Lane) (first closing : 
   answers : (one : AnsweredLine) → Has ran.answered one → AnswersLine dry one.line (one.first ∷ one.rest)
   answers one has = of_all (λ (one : AnsweredLine). AnswersLine dry one.line (turns_in one)) ran.answered one ran.lines.turns has
 
-  found : (entry : Entry) → Has closing.seen entry → posts entry.call ≡ true → FoundMemory entry.reply
-  found entry has posted =
-      found_memory opened.room closing.seen entry is_history.memory
-      (omega (arith, few_postings dry closing.seen lanes transcript.callers ran.answers theirs, room)) has posted
-
-  tried : AllByRecursion (λ (entry : Entry). IsTried entry.reply) closing.seen
-  tried = tried_from opened.opening [] closing.seen is_history.legal.due found
-
   due : (k : ℕ) (entry : Entry) → slice_get closing.seen k ≡ Some entry → IsDue opened.opening (take k closing.seen) entry.caller entry.call entry.reply
   due k entry there = due_at opened.opening [] closing.seen k entry is_history.legal.due there
 
@@ -288,9 +320,8 @@ module _ {D : Type 0} (basis : List Dated) (lanes : List Lane) (first closing : 
       let call : one.first.1.call ≡ PostCall command = post_call dry one.line one.first one.rest command (answers one has) posts_it in
       let due_there = subst (λ (c : Call). IsDue opened.opening (take one.first.0 closing.seen) one.first.1.caller c one.first.1.reply) call (due one.first.0 one.first.1 there) in
       let told_due = subst (λ (r : Reply). IsDue opened.opening (take one.first.0 closing.seen) one.first.1.caller (PostCall command) r) is due_there in
-      let memory = subst FoundMemory is (found one.first.1 (has_at closing.seen one.first.0 one.first.1 there) (ap posts call)) in
       is_told opened.opening (take one.first.0 closing.seen) one.first.1.caller command answer
-      (valid_front opened.opening closing.seen one.first.0 is_history.valid) told_due memory
+      (valid_front opened.opening closing.seen one.first.0 is_history.valid) told_due
 
   writable : All IsWritable transcript.lines
   writable = All-from_recursion IsWritable transcript.lines (all_has IsWritable transcript.lines one_writable)
@@ -325,17 +356,31 @@ module _ {D : Type 0} (basis : List Dated) (lanes : List Lane) (first closing : 
 
   -- the endings
   none_dry : any_lacked transcript.lines ≡ false → dry ≡ []
-  none_dry none = by transcript.lines (any_none (λ (line : ToldLine). lacked_memory line.outcome) transcript.lines none)
+  none_dry none = by transcript.lines (any_none (λ (line : ToldLine). lacks_memory line.outcome) transcript.lines none)
     where
-      by : (lines : List ToldLine) → AllByRecursion (λ (line : ToldLine). lacked_memory line.outcome ≡ false) lines → dry_of lines ≡ []
+      by : (lines : List ToldLine) → AllByRecursion (λ (line : ToldLine). lacks_memory line.outcome ≡ false) lines → dry_of lines ≡ []
       by [] none = refl
-      by (line ∷ lines) none = rw none.0 (by lines none.1)
+      by (line ∷ lines) none = rw (not_lacked line.outcome none.0) (by lines none.1)
 
-  some_dry : any_lacked transcript.lines ≡ true → (pin : ℕ) × Contains dry pin
-  some_dry some =
-      let line = any_some (λ (line : ToldLine). lacked_memory line.outcome) transcript.lines some in
-      let kept = has_filter (λ (line : ToldLine). lacked_memory line.outcome) transcript.lines line.0 line.2 line.1 in
-      (line.0.turn, contains_of_has dry line.0.turn (has_map (λ (line : ToldLine). line.turn) _ line.0 kept))
+  some_lacked : any_lacked transcript.lines ≡ true → HasBlank closing.seen ⊎ ((pin : ℕ) × Contains dry pin)
+  some_lacked some =
+      let line = any_some (λ (line : ToldLine). lacks_memory line.outcome) transcript.lines some in
+      let pair = zip_right (IsToldOf opened.opening closing.seen basis) ran.answered transcript.lines line.0 told line.1 in
+      let one = pair.0 in
+      elim (lacked_which line.0.outcome line.2) [
+        | inl posted ↦ inl (
+            one.first.0,
+            (
+              one.first.1,
+              placed one pair.1,
+              told_blank one.line one.first.1.reply (commands_after opened.opening (take one.first.0 closing.seen)) basis
+                  (subst (IsOutcome (commands_after opened.opening (take one.first.0 closing.seen)) basis one.line one.first.1.reply) posted pair.2.outcome),
+            ),
+          )
+        | inr valued ↦
+            let kept = has_filter (λ (line : ToldLine). lacked_memory line.outcome) transcript.lines line.0 valued line.1 in
+            inr (line.0.turn, contains_of_has dry line.0.turn (has_map (λ (line : ToldLine). line.turn) _ line.0 kept))
+      ]
 
   a_fault : any_faulted transcript.lines ≡ true → (command : Command) × HasFaulted closing.seen command
   a_fault some =
@@ -361,37 +406,58 @@ module _ {D : Type 0} (basis : List Dated) (lanes : List Lane) (first closing : 
         ),
       )
 
-  answered : any_faulted transcript.lines ≡ false → AllByRecursion (λ (entry : Entry). IsAnswered entry.reply) closing.seen
-  answered none = all_has (λ (entry : Entry). IsAnswered entry.reply) closing.seen (λ entry has. one entry has (posts entry.call) refl)
+  -- what holds of every reply to another call, and of what is told of every posting, holds of all replies
+  each_reply : (P : Reply → Type 0) → ((reply : Reply) → IsAnswered reply → P reply)
+      → ((command : Command) (reply : Reply) (line : ToldLine) (commands : List Command) → Has transcript.lines line
+      → IsOutcome commands basis (Post command) reply line.outcome → P reply)
+      → AllByRecursion (λ (entry : Entry). P entry.reply) closing.seen
+  each_reply P others postings = all_has (λ (entry : Entry). P entry.reply) closing.seen (λ entry has. one entry has (posts entry.call) refl)
     where
-      one : (entry : Entry) → Has closing.seen entry → (b : Bool) → posts entry.call ≡ b → IsAnswered entry.reply
+      one : (entry : Entry) → Has closing.seen entry → (b : Bool) → posts entry.call ≡ b → P entry.reply
       one entry has false quiet =
           let place = has_enumerate 0 closing.seen entry has in
           let there = of_enumerate 0 closing.seen place.0 entry place.1 in
-          quiet_reply opened.opening (take (place.0 - 0) closing.seen) entry.caller entry.call entry.reply (due (place.0 - 0) entry there.1) quiet
+          others entry.reply
+          (quiet_reply opened.opening (take (place.0 - 0) closing.seen) entry.caller entry.call entry.reply (due (place.0 - 0) entry there.1) quiet)
       one entry has true posted =
           let of_line = turn_line ran.answered closing.seen lanes transcript.callers entry ran.lines.each (theirs entry has) has in
           let line = of_line.0 in
           let is_first_turn = posted_first dry line.line line.first line.rest (of_line.2.0, entry) (answers line of_line.1) of_line.2.1 posted in
           let same : line.first.1 ≡ entry = ap (λ (t : Placed). t.1) is_first_turn.0 in
           let pair = zip_left (IsToldOf opened.opening closing.seen basis) ran.answered transcript.lines line told of_line.1 in
-          let outcome = subst (λ (l : Line). IsOutcome (commands_after opened.opening (take line.first.0 closing.seen)) basis l line.first.1.reply pair.0.outcome) is_first_turn.1.1 pair.2.outcome in
-          let here = subst (λ (e : Entry). IsOutcome (commands_after opened.opening (take line.first.0 closing.seen)) basis (Post is_first_turn.1.0) e.reply pair.0.outcome) same outcome in
-          told_whole is_first_turn.1.0 entry.reply pair.0.outcome (commands_after opened.opening (take line.first.0 closing.seen)) basis here
-          (of_all (λ (e : Entry). IsTried e.reply) closing.seen entry tried has)
-          (of_all (λ (l : ToldLine). has_faulted l.outcome ≡ false) transcript.lines pair.0 (any_none (λ (l : ToldLine). has_faulted l.outcome) transcript.lines none) pair.1)
+          let commands = commands_after opened.opening (take line.first.0 closing.seen) in
+          let outcome = subst (λ (l : Line). IsOutcome commands basis l line.first.1.reply pair.0.outcome) is_first_turn.1.1 pair.2.outcome in
+          let here = subst (λ (e : Entry). IsOutcome commands basis (Post is_first_turn.1.0) e.reply pair.0.outcome) same outcome in
+          postings is_first_turn.1.0 entry.reply pair.0 commands pair.1 here
+
+  unfaulted : any_faulted transcript.lines ≡ false → AllByRecursion (λ (entry : Entry). IsUnfaulted entry.reply) closing.seen
+  unfaulted whole =
+      let none = any_none (λ (l : ToldLine). has_faulted l.outcome) transcript.lines whole in
+      each_reply IsUnfaulted unfaulted_if_answered
+      (λ command reply line commands has is. told_unfaulted command reply line.outcome commands basis is
+      (of_all (λ (l : ToldLine). has_faulted l.outcome ≡ false) transcript.lines line none has))
+
+  answered : any_faulted transcript.lines ≡ false → any_lacked transcript.lines ≡ false
+      → AllByRecursion (λ (entry : Entry). IsAnswered entry.reply) closing.seen
+  answered whole found =
+      let none = any_none (λ (l : ToldLine). has_faulted l.outcome) transcript.lines whole in
+      let none_lacked = any_none (λ (l : ToldLine). lacks_memory l.outcome) transcript.lines found in
+      each_reply IsAnswered (λ reply is. is)
+      (λ command reply line commands has is. told_answered command reply line.outcome commands basis is
+      (of_all (λ (l : ToldLine). has_faulted l.outcome ≡ false) transcript.lines line none has)
+      (of_all (λ (l : ToldLine). lacks_memory l.outcome ≡ false) transcript.lines line none_lacked has))
 
   pub telling : Telling basis lanes closing transcript opened ran.answered
   telling = record {
     opening = closing_opened;
     history = is_history;
     merge = merge;
-    tried = tried;
     writable = writable;
     tells = tells;
     pins = pins;
     none_dry = none_dry;
-    some_dry = some_dry;
+    some_lacked = some_lacked;
     fault = a_fault;
+    unfaulted = unfaulted;
     answered = answered;
   }

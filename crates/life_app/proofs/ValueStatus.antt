@@ -41,8 +41,7 @@ module _ {D : Type 0} (g : Ghosts D) (old new : D) (on : ℤ) (at : At) (output 
       → g.honest old → OpensToNone (g.reads old) → g.reads new ≡ g.reads old
   valuing_as_before basis ending ends honest none = elim ends [
     | inl read ↦ read_as_before g old new (IsValued g old new on at basis) output ending read (never_valued basis honest none) honest none
-    | inr (inl ahead) ↦ absurd (none ahead.1.commands (ahead.1.opened honest))
-    | inr (inr short) ↦ absurd (none short.2.commands (short.2.opened honest))
+    | inr ahead ↦ absurd (none ahead.1.commands (ahead.1.opened honest))
   ]
 
   valuing_refused : (basis : List Dated) (ending : Ending) → EndsValuing g old new on at basis output ending
@@ -50,8 +49,7 @@ module _ {D : Type 0} (g : Ghosts D) (old new : D) (on : ℤ) (at : At) (output 
       → (status_of ending ≡ 5) ⊎ (status_of ending ≡ 9)
   valuing_refused basis ending ends honest none disk_held = elim ends [
     | inl read ↦ read_refused g old new (IsValued g old new on at basis) output ending read (never_valued basis honest none) disk_held
-    | inr (inl ahead) ↦ absurd (none ahead.1.commands (ahead.1.opened honest))
-    | inr (inr short) ↦ absurd (none short.2.commands (short.2.opened honest))
+    | inr ahead ↦ absurd (none ahead.1.commands (ahead.1.opened honest))
   ]
 
   valuing_to_end : (basis : List Dated) (ending : Ending) (commands : List Command) → EndsValuing g old new on at basis output ending
@@ -60,12 +58,11 @@ module _ {D : Type 0} (g : Ghosts D) (old new : D) (on : ℤ) (at : At) (output 
       → (status_of ending ≡ 0) ⊎ (status_of ending ≡ 9)
   valuing_to_end basis ending commands ends honest opens reached output_held disk_held = elim ends [
     | inl read ↦ read_to_end g old new (IsValued g old new on at basis) output ending commands read honest opens output_held disk_held
-    | inr (inl ahead) ↦
+    | inr ahead ↦
         let same : commands ≡ ahead.1.commands = opens_to_one (g.reads old) commands ahead.1.commands opens (ahead.1.opened honest) in
         let reached_too : position_of at (length ahead.1.commands) ≤ length ahead.1.commands =
         subst (λ (cs : List Command). position_of at (length cs) ≤ length cs) same reached in
         absurd (omega (arith, reached_too, ahead.1.beyond.ahead))
-    | inr (inr short) ↦ inr (ap status_of short.0)
   ]
 
   read_beyond : (basis : List Dated) (ending : Ending) (commands : List Command) → EndsReadOnly g old new (IsValued g old new on at basis) output ending
@@ -84,8 +81,7 @@ module _ {D : Type 0} (g : Ghosts D) (old new : D) (on : ℤ) (at : At) (output 
       → (Rose (g.faults old) (g.faults new) → ⊥) → (status_of ending ≡ 10) ⊎ (status_of ending ≡ 9)
   valuing_beyond basis ending commands ends honest opens past disk_held = elim ends [
     | inl read ↦ inr (read_beyond basis ending commands read honest opens past disk_held)
-    | inr (inl ahead) ↦ inl (ap status_of ahead.0)
-    | inr (inr short) ↦ inr (ap status_of short.0)
+    | inr ahead ↦ inl (ap status_of ahead.0)
   ]
 
   module _ (name : List ℕ) (shelf : Shelving) where

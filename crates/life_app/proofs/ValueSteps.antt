@@ -76,9 +76,8 @@ ends_valued g old disk on at basis output commands Done opened left ends =
 ends_valued g old disk on at basis output commands WriteFault opened left ends =
     inl (ends.0, record { commands = commands; opened = opened; valuation = ends.1; disk = left })
 ends_valued g old disk on at basis output commands Ahead opened left ends =
-    inr (inl (refl, record { commands = commands; opened = opened; beyond = ends; disk = left }))
-ends_valued g old disk on at basis output commands NoMemory opened left ends =
-    inr (inr (refl, ends, record { commands = commands; opened = opened; disk = left }))
+    inr (refl, record { commands = commands; opened = opened; beyond = ends; disk = left })
+ends_valued g old disk on at basis output commands NoMemory opened left ends = inl (ends, left.alone tt, left.faults)
 ends_valued g old disk on at basis output commands _ opened left ends = absurd ends
 
 -- The answer of an office at which nobody turned before.

@@ -1,6 +1,6 @@
--- The text of a run: that of each answered line of the script, in the order of their first turns
+-- The text of a run: that of each answered line of the script, in the order of their first turns, then the auditors' reports
 use Rattle.std.specs.Prelude.{◌≡◌, ◌⊎◌, ℕ, ℤ, List, [], ◌∷◌, ◌++◌, take, codes, decimal}
-use Rattle.std.specs.List.{AllZip, Contains}
+use Rattle.std.specs.List.{AllZip, Contains, enumerate_from, flat_map}
 use Rattle.basis_book.specs.Dated.{Dated}
 use Rattle.policy_types.specs.declared.command.Command.{Command}
 use Rattle.policy_types.specs.declared.refusal.Refusal.{Refusal}
@@ -12,6 +12,7 @@ use Rattle.policy_types.specs.declared.entry.PinRefusal.TheVariants.{Ahead, Trim
 use Rattle.policy_types.specs.declared.entry.Entry.{Entry}
 use Rattle.policy_types.specs.declared.script.Line.{Line}
 use Rattle.policy_types.specs.declared.script.Line.TheVariants.{Post, Value, Trim}
+use Rattle.policy_types.specs.declared.watcher.Report.{Report}
 use Rattle.policy_types.specs.Valid.{id_of}
 use Rattle.policy_machine.specs.Book.{book}
 use Rattle.policy_machine.specs.History.{Opening, commands_after}
@@ -98,9 +99,22 @@ IsLineText opening history basis dry answered text =
     IsReplyText answered.clerk answered.line answered.first.1.reply
     (commands_after opening (take answered.first.0 history)) basis (Contains dry answered.first.0) text
 
--- the text of a run: the texts of its answered lines, one after the other
+-- the texts of the answered lines of a run, one after the other
 abbrev pub IsTranscript : Opening → List Entry → List Dated → List ℕ → List AnsweredLine → List ℕ → Type 0
 IsTranscript opening history basis dry [] text = text ≡ []
 IsTranscript opening history basis dry (answered ∷ lines) text =
     (first : List ℕ) × ((rest : List ℕ) × (text ≡ first ++ rest)
     × IsLineText opening history basis dry answered first × IsTranscript opening history basis dry lines rest)
+
+-- the line of an auditor's report: the auditor's number, how many commands were noted, and the auditor's own number of them
+abbrev pub watcher_text : ℕ → Report → List ℕ
+watcher_text number report = line_of (codes "watcher") (decimal number ∷ decimal report.seen ∷ decimal report.tally ∷ [])
+
+-- the lines of these reports, whose numbers go on from this one
+abbrev pub watcher_texts : ℕ → List Report → List ℕ
+watcher_texts number reports =
+    flat_map (λ (numbered : ℕ × Report). watcher_text numbered.0 numbered.1) (enumerate_from number reports)
+
+-- the lines of all auditors' reports, in order, numbered from 1
+abbrev pub reports_text : List Report → List ℕ
+reports_text reports = watcher_texts 1 reports

@@ -20,7 +20,6 @@ use Rattle.report_text.specs.Block.{block_text}
 use Rattle.snapshot_value.specs.Valuing.{IsRowOf}
 use Rattle.office_state.specs.Images.{IsLeftBy}
 use Rattle.office_state.specs.Journals.{Opens}
-use Rattle.life_app.specs.Outcome.{IsOpenedOnly}
 use Rattle.life_app.specs.Script.{IsReadAs, asks_for_values}
 use Rattle.life_app.specs.Stating.{EndsReadOnly}
 use Rattle.life_app.specs.Words.{AskForRun, AskForValue}
@@ -62,12 +61,11 @@ pub record IsAhead {D : Type 0} (g : Ghosts D) (old new : D) (at : At) (output :
   pub beyond : IsBeyond commands at output
   pub disk : IsLeftBy g old new (opened_on commands (g.faults old)) []
 
--- how `value` ends by a basis; where there was no memory for the values the disk holds its commands still
+-- how `value` ends by a basis
 abbrev pub EndsValuing : {D : Type 0} → Ghosts D → D → D → ℤ → At → List Dated → Stream → Ending → Type 0
 EndsValuing g old new on at basis output ending =
     EndsReadOnly g old new (IsValued g old new on at basis) output ending
     ⊎ ((ending ≡ Ahead) × IsAhead g old new at output)
-    ⊎ ((ending ≡ NoMemory) × WroteLine output (codes "nomemory") × IsOpenedOnly g old new)
 
 -- the shelf has this basis under the name, and `value` ended so by it
 pub record EndsByBasis {D : Type 0} (g : Ghosts D) (old new : D) (on : ℤ) (at : At) (name : List ℕ) (shelf : Shelving)

@@ -16,7 +16,7 @@ use Rattle.policy_types.specs.declared.script.Lane.{Lane}
 use Rattle.lane_runner.specs.AnsweredLines.{AnsweredLine, AreLinesOf}
 use Rattle.life_app.specs.Books.{books_text, policy_account}
 use Rattle.policy_machine.specs.History.{opened_on}
-use Rattle.life_app.specs.Transcript.{IsTranscript, posting_text, trim_text, unpinned_text, unvalued_text}
+use Rattle.life_app.specs.Transcript.{IsTranscript, posting_text, reports_text, trim_text, unpinned_text, unvalued_text, watcher_text}
 
 abbrev pub policy_issue : Command
 policy_issue = Issue 7001 (pos 18262) Endowment 0 3 100000 40000
@@ -95,6 +95,12 @@ OtherLines = (trim_text 1 300 ≡ codes "1,trim,300" ++ 10 ∷ [])
     × (unpinned_text 1 (pos 18628) (Trimmed 2) ≡ codes "1,value,2021-01-01,refused,trimmed,2" ++ 10 ∷ [])
     × (unpinned_text 8 (pos 18628) PinsFull ≡ codes "8,value,2021-01-01,refused,pinsfull" ++ 10 ∷ [])
     × (unvalued_text 1 (pos 18628) ≡ codes "1,value,2021-01-01,nomemory" ++ 10 ∷ [])
+
+-- the lines of the two auditors of the program after the first issue, of one with the greatest numbers, and of none
+abbrev pub WatcherLines : Type 0
+WatcherLines = (reports_text ((record { seen = 1; tally = 1 }) ∷ (record { seen = 1; tally = 0 }) ∷ []) ≡ codes "watcher,1,1,1" ++ 10 ∷ codes "watcher,2,1,0" ++ 10 ∷ [])
+    × (watcher_text 16 (record { seen = 4000000; tally = 18446744073709551615 }) ≡ codes "watcher,16,4000000,18446744073709551615" ++ 10 ∷ [])
+    × (reports_text [] ≡ [])
 
 -- the policy is claimed on 2020-06-01 and settled in part on 2020-07-01, beside another that is issued then
 abbrev pub claimed : List Command

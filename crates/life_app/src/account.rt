@@ -17,15 +17,16 @@ use outside_io::{Disk, Sink};
 use policy_types::NoMemory;
 use statements::{LineWriter, statement};
 use std::alloc::Global;
+use watcher_set::NoWatchers;
 
 /// Writes the entries of the policy of this number, and the policy as they left it.
 pub fn account<K: Sink, D: Disk>(alloc: Global, id: u32, output: &mut K, disk: D) -> Finished<D>
     ensures { EndsState D.Disk disk result.disk (policy_account id)
         (between K.faults K.written output.old output.new) result.ending }
 {
-    match OfficeState::open(alloc, disk) {
+    match OfficeState::open(alloc, disk, NoWatchers) {
         Ok(office) => {
-            let (disk, _) = office.close();
+            let (disk, _, _) = office.close();
             write_account(alloc, id, output, disk)
         }
         Err(fault) => Finished {

@@ -3,6 +3,8 @@
 
 mod account;
 #[cfg(test)]
+mod clerk_tests;
+#[cfg(test)]
 mod disk_tests;
 mod ending;
 mod intake;
@@ -11,6 +13,7 @@ mod laws;
 mod policy_tests;
 mod program;
 mod refusing;
+mod reporting;
 mod rereading;
 mod run;
 mod state;
@@ -23,6 +26,8 @@ mod unvalued;
 mod value;
 #[cfg(test)]
 mod value_tests;
+#[cfg(test)]
+mod watcher_tests;
 pub mod worked;
 
 pub use ending::Ending;

@@ -1,5 +1,6 @@
 // The top call: all that the program does, over any devices.
-ghost use Rattle.std.specs.Prelude.{◌≡◌, ◌≤◌, ◌<◌, ◌⊎◌, ℕ, ℤ, true, List, Option, Some, IfSome, length};
+ghost use Rattle.std.specs.Prelude.{◌≡◌, ◌≤◌, ◌<◌, ◌⊎◌, ℕ, ℤ, true, List, [], map, Option, Some, IfSome, length};
+ghost use Rattle.std.specs.List.{AllByRecursion};
 ghost use Rattle.outside_io.specs.Faults.{Rose};
 ghost use Rattle.policy_types.specs.declared.command.Command.{Command as ACommand};
 ghost use Rattle.policy_types.specs.declared.entry.At.{At as AnAt};
@@ -12,6 +13,7 @@ ghost use Rattle.basis_shelf.specs.FirstBad.{IsFirstBad};
 ghost use Rattle.command_csv.specs.Reads.{Reads};
 ghost use Rattle.life_args.specs.Words.{AskForNothing};
 ghost use Rattle.office_state.specs.Journals.{Opens, OpensToNone};
+ghost use Rattle.watcher_set.specs.Limits.{most_watchers};
 ghost use Rattle.life_app.specs.Obeys.{Does, Obeys};
 ghost use Rattle.life_app.specs.Script.{IsUnreadable, asks_for_values};
 ghost use Rattle.life_app.specs.Valuing.{HasBadFile, HasItsBasis, IsPastTheEnd, SaysBadFile, position_of};
@@ -31,6 +33,7 @@ use policy_types::Watcher;
 use std::alloc::Global;
 use std::sync::Wait;
 use std::thread::Threads;
+use watcher_set::{Watchers, Watching};
 
 /// What the program leaves: its exit status, and the disk.
 pub struct Ended<D> {
@@ -39,8 +42,9 @@ pub struct Ended<D> {
 }
 
 /// Does what the words ask for. The words `run` read a script from the input to its end, fetch a basis from the shelf where
-/// a line asks for values, open the office on the disk, answer each line, and write the transcript; `value` fetches a basis from the shelf, opens the office and writes what
-/// each policy is worth. The watchers aren't used yet.
+/// a line asks for values, open the office on the disk, answer each line, and write the transcript, and behind it what the
+/// watchers report of the accepted postings; `value` fetches a basis from the shelf, opens the office and writes what each
+/// policy is worth; `state` writes the books. Where nothing is run the watchers are dropped.
 pub fn life<R: Threads + Wait + Sync, S: Source, K: Sink, H: Shelf, D: Disk + Send, G: Gate + Sync>(
     rt: &R,
     alloc: Global,
@@ -52,7 +56,10 @@ pub fn life<R: Threads + Wait + Sync, S: Source, K: Sink, H: Shelf, D: Disk + Se
     watchers: Vec<Box<dyn Watcher + Send>>,
     gate: &G,
 ) -> Ended<D>
-    ensures obeys { Obeys D.Disk disk result.disk words.now (between S.faults S.left input.old input.new)
+    requires few { length watchers.items ≤ most_watchers }
+    requires fresh { AllByRecursion (λ b. noted b ≡ []) watchers.items }
+    ensures obeys { Obeys D.Disk disk result.disk words.now
+        (map (λ b. record { stops = stops b; number = number b }) watchers.items) (between S.faults S.left input.old input.new)
         (between K.faults K.written output.old output.new)
         (shelf_between H.faults H.files shelf.old shelf.new)
         (input.new ≡ input.old) (shelf.new ≡ shelf.old) result.status }
@@ -139,15 +146,16 @@ pub fn life<R: Threads + Wait + Sync, S: Source, K: Sink, H: Shelf, D: Disk + Se
         → (Rose (D.faults disk) (D.faults result.disk) → ⊥)
         → (result.status ≡ 5) ⊎ (result.status ≡ 9) }
 {
-    drop(watchers);
-    let finished = obey(rt, alloc, words, input, output, shelf, disk, gate);
+    let watchers = Watchers::new(watchers);
+    let finished = obey(rt, alloc, words, input, output, shelf, disk, watchers, gate);
     Ended {
         status: finished.ending.status(),
         disk: finished.disk,
     }
 }
 
-fn obey<R: Threads + Wait + Sync, S: Source, K: Sink, H: Shelf, D: Disk + Send, G: Gate + Sync>(
+// Does what the words ask for, with the watchers told of what is accepted.
+fn obey<R: Threads + Wait + Sync, S: Source, K: Sink, H: Shelf, D: Disk + Send, W: Watching + Send, G: Gate + Sync>(
     rt: &R,
     alloc: Global,
     words: &[String],
@@ -155,16 +163,18 @@ fn obey<R: Threads + Wait + Sync, S: Source, K: Sink, H: Shelf, D: Disk + Send, 
     output: &mut K,
     shelf: &mut H,
     disk: D,
+    watchers: W,
     gate: &G,
 ) -> Finished<D>
-    ensures does { Does D.Disk disk result.disk words.now (between S.faults S.left input.old input.new)
+    requires told { W.told watchers [] }
+    ensures does { Does D.Disk disk result.disk words.now (W.handed watchers) (between S.faults S.left input.old input.new)
         (between K.faults K.written output.old output.new)
         (shelf_between H.faults H.files shelf.old shelf.new)
         (input.new ≡ input.old) (shelf.new ≡ shelf.old) result.ending }
     ensures files { H.files shelf.new ≡ H.files shelf.old }
 {
     match read_words(alloc, words) {
-        Ok(Mode::Run { basis }) => run(rt, alloc, &basis, input, output, shelf, disk, gate),
+        Ok(Mode::Run { basis }) => run(rt, alloc, &basis, input, output, shelf, disk, watchers, gate),
         Ok(
             Mode::Value {
                 on,

@@ -1,8 +1,8 @@
 // A run of a script: the basis is fetched where a line asks for values, the office is opened, each lane of the script is run
 // by a caller of its own, the office is closed, then the transcript is written.
-ghost use Rattle.std.specs.Prelude.{◌≡◌, [], if◌then◌else◌, All, IfOk, length};
+ghost use Rattle.std.specs.Prelude.{◌≡◌, ◌≤◌, [], if◌then◌else◌, All, IfOk, length};
 ghost use Rattle.std.specs.List.{list_any};
-ghost use Rattle.lane_runner.specs.Lanes.{is_value, lines_in};
+ghost use Rattle.lane_runner.specs.Lanes.{is_value};
 ghost use Rattle.shared_office.specs.Offices.{IsOfficeHistory};
 ghost use Rattle.shared_office.specs.Starting.{HasStarted};
 ghost use Rattle.turn_lock.specs.Passes.{PassFacts};
@@ -11,8 +11,7 @@ ghost use Rattle.life_app.specs.Outcome.{EndsScript};
 ghost use Rattle.life_app.specs.Script.{asks_for_values};
 ghost use Rattle.life_app.specs.Writing.{between, shelf_between};
 ghost use Rattle.life_app.specs.inside.Parts.{AreScriptLanes};
-ghost use Rattle.life_app.specs.inside.Told.{EndsRan, EndsTold, IsWritable, any_faulted, any_lacked, has_faulted};
-ghost use Rattle.lane_runner.specs.Transcripts.{lacked_memory};
+ghost use Rattle.life_app.specs.inside.Told.{EndsRan, EndsTold, IsWritable, any_faulted, any_lacked, has_faulted, lacks_memory};
 ghost use Rattle.life_app.specs.declared.ending.Ending.TheVariants.{DiskFault, Done, NoMemory as NoRoom};
 
 use crate::ending::Ending;
@@ -25,11 +24,12 @@ use basis_shelf::{NoBasis, fetch_basis};
 use indexmap::IndexMap;
 use lane_runner::{AnsweredLine, Outcome, Transcript, run_lanes};
 use outside_io::{Disk, Gate, Shelf, Sink, Source, write_all};
-use policy_types::{Lane, Line, NoMemory};
+use policy_types::{Lane, Line, NoMemory, Report};
 use shared_office::{Answer, Office, OfficeCalls, OfficePass, close};
 use std::alloc::Global;
 use std::sync::Wait;
 use std::thread::Threads;
+use watcher_set::Watching;
 
 /// What a run leaves: how it ended, and the disk.
 #[derive(Drop)]
@@ -38,9 +38,10 @@ pub struct Finished<D> {
     pub disk: D,
 }
 
-/// Reads a script, opens the office on the disk, answers the script's lines, and writes the transcript. The basis of the
-/// valuations is that of this name; where there are none the shelf isn't touched.
-pub fn run<R: Threads + Wait + Sync, S: Source, K: Sink, H: Shelf, D: Disk + Send, G: Gate + Sync>(
+/// Reads a script, opens the office on the disk, answers the script's lines, and writes the transcript and what the
+/// watchers report of the accepted postings. The basis of the valuations is that of this name; where there are none the
+/// shelf isn't touched.
+pub fn run<R: Threads + Wait + Sync, S: Source, K: Sink, H: Shelf, D: Disk + Send, W: Watching + Send, G: Gate + Sync>(
     rt: &R,
     alloc: Global,
     name: &Name,
@@ -48,9 +49,11 @@ pub fn run<R: Threads + Wait + Sync, S: Source, K: Sink, H: Shelf, D: Disk + Sen
     output: &mut K,
     shelf: &mut H,
     disk: D,
+    watchers: W,
     gate: &G,
 ) -> Finished<D>
-    ensures ends { EndsRun D.Disk disk result.disk name.now (between S.faults S.left input.old input.new)
+    requires told { W.told watchers [] }
+    ensures ends { EndsRun D.Disk disk result.disk name.now (W.handed watchers) (between S.faults S.left input.old input.new)
         (between K.faults K.written output.old output.new) (shelf_between H.faults H.files shelf.old shelf.new)
         (shelf.new ≡ shelf.old) result.ending }
     ensures files { H.files shelf.new ≡ H.files shelf.old }
@@ -58,7 +61,7 @@ pub fn run<R: Threads + Wait + Sync, S: Source, K: Sink, H: Shelf, D: Disk + Sen
     match read_lanes(alloc, input) {
         Ok(script) => {
             let lanes = script.as_slice();
-            run_script(rt, alloc, name, lanes, output, shelf, disk, gate)
+            run_script(rt, alloc, name, lanes, output, shelf, disk, watchers, gate)
         }
         Err(unread) => Finished {
             ending: refuse(alloc, unread, output),
@@ -68,7 +71,7 @@ pub fn run<R: Threads + Wait + Sync, S: Source, K: Sink, H: Shelf, D: Disk + Sen
 }
 
 // Runs the lanes of a script, with the basis that it needs.
-fn run_script<R: Threads + Wait + Sync, K: Sink, H: Shelf, D: Disk + Send, G: Gate + Sync>(
+fn run_script<R: Threads + Wait + Sync, K: Sink, H: Shelf, D: Disk + Send, W: Watching + Send, G: Gate + Sync>(
     rt: &R,
     alloc: Global,
     name: &Name,
@@ -76,22 +79,24 @@ fn run_script<R: Threads + Wait + Sync, K: Sink, H: Shelf, D: Disk + Send, G: Ga
     output: &mut K,
     shelf: &mut H,
     disk: D,
+    watchers: W,
     gate: &G,
 ) -> Finished<D>
     requires lanes { AreScriptLanes lanes.now }
-    ensures ends { EndsLanes D.Disk disk result.disk lanes.now name.now (shelf_between H.faults H.files shelf.old shelf.new)
+    requires told { W.told watchers [] }
+    ensures ends { EndsLanes D.Disk disk result.disk lanes.now name.now (W.handed watchers) (shelf_between H.faults H.files shelf.old shelf.new)
         (between K.faults K.written output.old output.new) (shelf.new ≡ shelf.old) result.ending }
     ensures files { H.files shelf.new ≡ H.files shelf.old }
 {
     if needs_basis(lanes) {
-        return run_by_name(rt, alloc, name, lanes, output, shelf, disk, gate);
+        return run_by_name(rt, alloc, name, lanes, output, shelf, disk, watchers, gate);
     }
     let basis = empty_basis(alloc);
-    run_by(rt, alloc, lanes, &basis, output, disk, gate)
+    run_by(rt, alloc, lanes, &basis, output, disk, watchers, gate)
 }
 
 // Runs lanes by the basis of this name.
-fn run_by_name<R: Threads + Wait + Sync, K: Sink, H: Shelf, D: Disk + Send, G: Gate + Sync>(
+fn run_by_name<R: Threads + Wait + Sync, K: Sink, H: Shelf, D: Disk + Send, W: Watching + Send, G: Gate + Sync>(
     rt: &R,
     alloc: Global,
     name: &Name,
@@ -99,15 +104,17 @@ fn run_by_name<R: Threads + Wait + Sync, K: Sink, H: Shelf, D: Disk + Send, G: G
     output: &mut K,
     shelf: &mut H,
     disk: D,
+    watchers: W,
     gate: &G,
 ) -> Finished<D>
     requires lanes { AreScriptLanes lanes.now }
-    ensures ends { EndsByName D.Disk disk result.disk lanes.now name.now (shelf_between H.faults H.files shelf.old shelf.new)
+    requires told { W.told watchers [] }
+    ensures ends { EndsByName D.Disk disk result.disk lanes.now name.now (W.handed watchers) (shelf_between H.faults H.files shelf.old shelf.new)
         (between K.faults K.written output.old output.new) result.ending }
     ensures files { H.files shelf.new ≡ H.files shelf.old }
 {
     match fetch_basis(alloc, name, shelf) {
-        Ok(basis) => run_by(rt, alloc, lanes, &basis, output, disk, gate),
+        Ok(basis) => run_by(rt, alloc, lanes, &basis, output, disk, watchers, gate),
         Err(cause) => Finished {
             ending: refuse_basis(alloc, cause, output),
             disk,
@@ -116,20 +123,22 @@ fn run_by_name<R: Threads + Wait + Sync, K: Sink, H: Shelf, D: Disk + Send, G: G
 }
 
 // Runs lanes by a basis.
-fn run_by<R: Threads + Wait + Sync, K: Sink, D: Disk + Send, G: Gate + Sync>(
+fn run_by<R: Threads + Wait + Sync, K: Sink, D: Disk + Send, W: Watching + Send, G: Gate + Sync>(
     rt: &R,
     alloc: Global,
     lanes: &[Lane],
     basis: &Basis,
     output: &mut K,
     disk: D,
+    watchers: W,
     gate: &G,
 ) -> Finished<D>
     requires lanes { AreScriptLanes lanes.now }
-    ensures ends { EndsScript D.Disk disk result.disk lanes.now basis.now
+    requires told { W.told watchers [] }
+    ensures ends { EndsScript D.Disk disk result.disk lanes.now basis.now (W.handed watchers)
         (between K.faults K.written output.old output.new) result.ending }
 {
-    match Office::start(alloc, disk, count_lines(lanes)) {
+    match Office::start(alloc, disk, watchers) {
         Ok((office, pass)) => run_office(rt, alloc, lanes, basis, office, pass, output, gate),
         Err(fault) => Finished {
             ending: refuse_journal(alloc, fault.cause, output),
@@ -139,38 +148,44 @@ fn run_by<R: Threads + Wait + Sync, K: Sink, D: Disk + Send, G: Gate + Sync>(
 }
 
 // Runs the lanes, closes the office, and writes the transcript.
-fn run_office<R: Threads + Wait + Sync, K: Sink, D: Disk + Send, G: Gate + Sync>(
+fn run_office<R: Threads + Wait + Sync, K: Sink, D: Disk + Send, W: Watching + Send, G: Gate + Sync>(
     rt: &R,
     alloc: Global,
     lanes: &[Lane],
     basis: &Basis,
-    office: Office<D>,
-    pass: OfficePass<D>,
+    office: Office<D, W>,
+    pass: OfficePass<D, W>,
     output: &mut K,
     gate: &G,
 ) -> Finished<D>
     requires lanes { AreScriptLanes lanes.now }
     requires ours { pass.turnstile ≡ office }
-    requires started { (old : D) × HasStarted D.Disk old (length (lines_in lanes.now)) pass }
+    requires started { (old : D) × ((watchers : W) × HasStarted D.Disk old watchers pass) }
     requires facts { PassFacts IsOfficeHistory pass }
-    ensures ends { (old : D) → HasStarted D.Disk old (length (lines_in lanes.now)) pass
-        → EndsScript D.Disk old result.disk lanes.now basis.now
+    ensures ends { (old : D) (watchers : W) → HasStarted D.Disk old watchers pass
+        → EndsScript D.Disk old result.disk lanes.now basis.now (W.handed watchers)
         (between K.faults K.written output.old output.new) result.ending }
 {
     let mut pass = pass;
     let ran = run_lanes(rt, alloc, &office, &mut pass, lanes, basis, gate);
-    let (disk, _) = close(office, pass);
-    let ending = write_ran(alloc, ran, output);
+    let (disk, _, reports) = close(office, pass);
+    let ending = write_ran(alloc, ran, reports.as_slice(), output);
     Finished { ending, disk }
 }
 
-// Writes what the lanes were answered, or that there was no memory to run them.
-fn write_ran<K: Sink>(alloc: Global, ran: Result<Transcript, NoMemory>, output: &mut K) -> Ending
+// Writes what the lanes were answered and what the auditors report, or that there was no memory to run the lanes.
+fn write_ran<K: Sink>(
+    alloc: Global,
+    ran: Result<Transcript, NoMemory>,
+    reports: &[Report],
+    output: &mut K,
+) -> Ending
     requires writable { IfOk ran (λ transcript. All IsWritable transcript.lines) }
-    ensures ends { EndsRan ran (between K.faults K.written output.old output.new) result }
+    requires few { length reports.now ≤ 16 }
+    ensures ends { EndsRan ran reports.now (between K.faults K.written output.old output.new) result }
 {
     match ran {
-        Ok(transcript) => write_lines(alloc, transcript.lines.as_slice(), output),
+        Ok(transcript) => write_lines(alloc, transcript.lines.as_slice(), reports, output),
         Err(_) => {
             say(output, b"nomemory\n");
             Ending::NoMemory
@@ -178,11 +193,17 @@ fn write_ran<K: Sink>(alloc: Global, ran: Result<Transcript, NoMemory>, output: 
     }
 }
 
-fn write_lines<K: Sink>(alloc: Global, lines: &[AnsweredLine], output: &mut K) -> Ending
+fn write_lines<K: Sink>(
+    alloc: Global,
+    lines: &[AnsweredLine],
+    reports: &[Report],
+    output: &mut K,
+) -> Ending
     requires writable { All IsWritable lines.now }
-    ensures ends { EndsTold lines.now (between K.faults K.written output.old output.new) result }
+    requires few { length reports.now ≤ 16 }
+    ensures ends { EndsTold lines.now reports.now (between K.faults K.written output.old output.new) result }
 {
-    let Ok(text) = transcript(alloc, lines) else {
+    let Ok(text) = transcript(alloc, lines, reports) else {
         return Ending::NoMemory;
     };
     match write_all(output, text.as_slice()) {
@@ -218,7 +239,7 @@ fn faulted(outcome: &Outcome) -> bool
     matches!(*outcome, Outcome::Posted(Answer::DiskFault(_)))
 }
 
-// Whether a valuation found no memory.
+// Whether memory was lacking for a posting or a valuation.
 fn some_lacked(lines: &[AnsweredLine]) -> bool
     ensures { result ≡ any_lacked lines.now }
 {
@@ -226,9 +247,12 @@ fn some_lacked(lines: &[AnsweredLine]) -> bool
 }
 
 fn lacked(outcome: &Outcome) -> bool
-    ensures { result ≡ lacked_memory outcome.now }
+    ensures { result ≡ lacks_memory outcome.now }
 {
-    matches!(*outcome, Outcome::ValueNoMemory)
+    matches!(
+        *outcome,
+        Outcome::Posted(Answer::NoMemory) | Outcome::ValueNoMemory
+    )
 }
 
 // Whether a line of a lane asks for values.
@@ -242,18 +266,6 @@ fn has_value(lines: &[Line]) -> bool
     ensures { result ≡ list_any is_value lines.now }
 {
     lines.iter().any(|line| matches!(*line, Line::Value { .. }))
-}
-
-// How many lines there are in all lanes.
-fn count_lines(lanes: &[Lane]) -> usize
-    requires { AreScriptLanes lanes.now }
-    ensures { result ≡ length (lines_in lanes.now) }
-{
-    let mut count = 0;
-    for lane in lanes {
-        count += lane.lines.as_slice().len();
-    }
-    count
 }
 
 // A basis without rows.

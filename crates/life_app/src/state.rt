@@ -19,16 +19,17 @@ use outside_io::{Disk, Sink, write_all};
 use policy_types::{NoMemory, Policy};
 use statements::{balance, statement};
 use std::alloc::Global;
+use watcher_set::NoWatchers;
 
 /// Writes all policies in order of issue, and the balances.
 pub fn state<K: Sink, D: Disk>(alloc: Global, output: &mut K, disk: D) -> Finished<D>
     ensures { EndsState D.Disk disk result.disk books_text
         (between K.faults K.written output.old output.new) result.ending }
 {
-    match OfficeState::open(alloc, disk) {
+    match OfficeState::open(alloc, disk, NoWatchers) {
         Ok(office) => {
             let text = books(alloc, &office);
-            let (disk, _) = office.close();
+            let (disk, _, _) = office.close();
             Finished {
                 ending: write_text(text, output),
                 disk,
@@ -42,7 +43,7 @@ pub fn state<K: Sink, D: Disk>(alloc: Global, output: &mut K, disk: D) -> Finish
 }
 
 // The text of the books.
-fn books<D: Disk>(alloc: Global, office: &OfficeState<D>) -> Result<Vec<u8>, NoMemory>
+fn books<D: Disk>(alloc: Global, office: &OfficeState<D, NoWatchers>) -> Result<Vec<u8>, NoMemory>
     requires valid { AllByRecursion IsValid (commands_of office.now) }
     ensures { IfOk result (λ text. text.items ≡ books_text (commands_of office.now)) }
 {
@@ -53,7 +54,7 @@ fn books<D: Disk>(alloc: Global, office: &OfficeState<D>) -> Result<Vec<u8>, NoM
 }
 
 // The lines of all policies.
-fn policies<D: Disk>(alloc: Global, office: &OfficeState<D>) -> Result<Vec<u8>, NoMemory>
+fn policies<D: Disk>(alloc: Global, office: &OfficeState<D, NoWatchers>) -> Result<Vec<u8>, NoMemory>
     requires valid { AllByRecursion IsValid (commands_of office.now) }
     ensures { IfOk result (λ text. text.items ≡ flat_map policy_text (book (commands_of office.now))) }
 {

@@ -1,14 +1,14 @@
 // Whole runs, over devices in memory. Texts, statuses and files are written by hand from the formats.
-ghost use Rattle.std.specs.Prelude.{◌≤◌, vec_len};
+ghost use Rattle.std.specs.Prelude.{◌≡◌, ◌≤◌, [], length};
+ghost use Rattle.std.specs.List.{AllByRecursion};
 
 use crate::{Ended, life};
 use memory_disk::MemoryDisk;
 use outside_io::{BytesSink, BytesSource, MapShelf, OpenGate};
-use policy_types::{Attention, Command, NoMemory, Report, Watcher};
+use policy_types::Watcher;
 use std::alloc::{AllocError, Global};
 use std::collections::BTreeMap;
-use std::sync::atomic::{AtomicU32, Ordering};
-use std::sync::{Arc, Wait};
+use std::sync::Wait;
 use std::thread::Threads;
 
 const POLICY: &str = "1,issue,7001,2020-01-01,endowment,0,3,1000.00,400.00\n";
@@ -139,10 +139,11 @@ fn run_over<R: Threads + Wait + Sync>(
         failing_writes,
         shelf,
         disk,
+        Vec::new(alloc),
     )
 }
 
-// Does what the words ask for, over these devices.
+// Does what the words ask for, over these devices and with these watchers.
 fn run_beside<R: Threads + Wait + Sync>(
     rt: &R,
     alloc: Global,
@@ -152,7 +153,11 @@ fn run_beside<R: Threads + Wait + Sync>(
     failing_writes: &[u64],
     shelf: MapShelf,
     disk: MemoryDisk,
-) -> Result<Finished, AllocError> {
+    watchers: Vec<Box<dyn Watcher + Send>>,
+) -> Result<Finished, AllocError>
+    requires few { length watchers.items ≤ 16 }
+    requires fresh { AllByRecursion (λ b. noted b ≡ []) watchers.items }
+{
     let mut shelf = shelf;
     let mut bytes = Vec::new(alloc);
     for piece in script {
@@ -168,7 +173,7 @@ fn run_beside<R: Threads + Wait + Sync>(
         &mut output,
         &mut shelf,
         disk,
-        Vec::new(alloc),
+        watchers,
         &OpenGate,
     );
     Ok(Finished {
@@ -208,7 +213,18 @@ pub(crate) fn run_with<R: Threads + Wait + Sync>(
     disk: MemoryDisk,
 ) -> Result<Finished, AllocError> {
     let words = words_of(alloc, words)?;
-    run_beside(rt, alloc, &words, &[], &[], failing_writes, shelf, disk)
+    let none = Vec::new(alloc);
+    run_beside(
+        rt,
+        alloc,
+        &words,
+        &[],
+        &[],
+        failing_writes,
+        shelf,
+        disk,
+        none,
+    )
 }
 
 // Does what the words ask for beside a shelf.
@@ -221,7 +237,25 @@ pub(crate) fn run_script_with<R: Threads + Wait + Sync>(
     disk: MemoryDisk,
 ) -> Result<Finished, AllocError> {
     let words = words_of(alloc, words)?;
-    run_beside(rt, alloc, &words, script, &[], &[], shelf, disk)
+    let none = Vec::new(alloc);
+    run_beside(rt, alloc, &words, script, &[], &[], shelf, disk, none)
+}
+
+// Does what the words ask for on an empty disk, with these watchers.
+pub(crate) fn run_watched<R: Threads + Wait + Sync>(
+    rt: &R,
+    alloc: Global,
+    words: &[&str],
+    script: &[&str],
+    watchers: Vec<Box<dyn Watcher + Send>>,
+) -> Result<Finished, AllocError>
+    requires few { length watchers.items ≤ 16 }
+    requires fresh { AllByRecursion (λ b. noted b ≡ []) watchers.items }
+{
+    let words = words_of(alloc, words)?;
+    let shelf = MapShelf::new(BTreeMap::new(alloc), Vec::new(alloc));
+    let disk = MemoryDisk::new(alloc, Vec::new(alloc), Vec::new(alloc));
+    run_beside(rt, alloc, &words, script, &[], &[], shelf, disk, watchers)
 }
 
 // Runs a script over a disk.
@@ -288,6 +322,12 @@ fn runs_end_as_they_must(rt: HostRuntime) -> Result<(), AllocError> {
         ),
         run_of(
             &[POLICY, "\n9,lapse,1,2020-01-01\n"],
+            3,
+            "badscript,2,1\n",
+            NOTHING,
+        ),
+        run_of(
+            &[POLICY, "0,lapse,1,2020-01-01\n"],
             3,
             "badscript,2,1\n",
             NOTHING,
@@ -400,84 +440,5 @@ fn files_are_opened_or_refused(rt: HostRuntime) -> Result<(), AllocError> {
     for case in cases.iter() {
         assert!(rt; holds(&rt, rt.alloc(), case)?);
     }
-    Ok(())
-}
-
-// An auditor who counts the calls to it.
-#[derive(Drop)]
-struct Uncalled {
-    calls: Arc<AtomicU32>,
-    heard: Vec<Command>,
-    ghost few: { vec_len heard ≤ 4000000 },
-}
-
-impl Watcher for Uncalled {
-    ghost use Rattle.std.specs.Prelude.{false, ◌-◌, vec_capacity, vec_len};
-
-    ghost noted = { λ w. w.heard.items };
-
-    ghost spare = { λ w. vec_capacity w.heard - vec_len w.heard };
-
-    ghost stops = { λ w h. false };
-
-    ghost number = { λ w h. 0 };
-
-    fn ready(&mut self) -> Result<(), NoMemory> {
-        self.calls.fetch_add(1, Ordering::SeqCst);
-        match self.heard.reserve(1) {
-            Ok(()) => Ok(()),
-            Err(_) => Err(NoMemory),
-        }
-    }
-
-    fn note(&mut self, position: u32, command: &Command) -> Attention {
-        let _ = position;
-        self.calls.fetch_add(1, Ordering::SeqCst);
-        self.heard.push_reserved(*command);
-        Attention::More
-    }
-
-    fn report(&self) -> Report {
-        self.calls.fetch_add(1, Ordering::SeqCst);
-        Report {
-            seen: self.heard.len() as u32,
-            tally: 0,
-        }
-    }
-}
-
-#[test]
-fn a_watcher_is_let_go_and_never_called(rt: HostRuntime) -> Result<(), AllocError> {
-    let alloc = rt.alloc();
-    let calls = Arc::new(alloc, AtomicU32::new(0))?;
-    let mut watchers: Vec<Box<dyn Watcher + Send>> = Vec::new(alloc);
-    let one: Box<dyn Watcher + Send> = Box::new(
-        alloc,
-        Uncalled {
-            calls: calls.clone()?,
-            heard: Vec::new(alloc),
-        },
-    )?;
-    watchers.push(one)?;
-    assert!(rt; Arc::strong_count(&calls) == 2);
-    let words = words_of(alloc, &["run"])?;
-    let mut input = BytesSource::new(Vec::from_slice(alloc, POLICY.as_bytes())?, Vec::new(alloc));
-    let mut output = BytesSink::new(alloc, Vec::new(alloc));
-    let mut shelf = MapShelf::new(BTreeMap::new(alloc), Vec::new(alloc));
-    let disk = MemoryDisk::new(alloc, Vec::new(alloc), Vec::new(alloc));
-    let Ended { status, disk: _ } = life(
-        &rt,
-        alloc,
-        &words,
-        &mut input,
-        &mut output,
-        &mut shelf,
-        disk,
-        watchers,
-        &OpenGate,
-    );
-    assert!(rt; status == 0);
-    assert!(rt; calls.load(Ordering::SeqCst) == 0);
-    assert!(rt; Arc::strong_count(&calls) == 1);
     Ok(())
 }

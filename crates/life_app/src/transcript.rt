@@ -1,5 +1,5 @@
 // The text of a run.
-ghost use Rattle.std.specs.Prelude.{◌≡◌, ◌++◌, ◌<◌, ◌^◌, ℕ, [], ◌∷◌, decimal, IfOk, OnOk};
+ghost use Rattle.std.specs.Prelude.{◌≡◌, ◌++◌, ◌<◌, ◌≤◌, ◌^◌, ℕ, [], ◌∷◌, decimal, length, IfOk, OnOk};
 ghost use Rattle.std.specs.List.{All};
 ghost use Rattle.policy_types.specs.declared.entry.At.{At as AnAt};
 ghost use Rattle.policy_types.specs.declared.script.Line.TheVariants.{Value as ValueLine};
@@ -9,20 +9,36 @@ ghost use Rattle.money_core.specs.CentsText.{cents_text};
 ghost use Rattle.office_state.specs.Posting.{reply_of};
 ghost use Rattle.statements.specs.Lines.{behind_commas};
 ghost use Rattle.life_app.specs.Transcript.{pin_refusal_fields, posting_text, refusal_fields, reply_fields, trim_text, unpinned_text, unvalued_text};
-ghost use Rattle.life_app.specs.inside.Told.{IsPrintable, IsTold, IsWritable, IsWritableOutcome, outcome_text, told_text, told_texts};
+ghost use Rattle.life_app.specs.inside.Told.{IsPrintable, IsTold, IsWritable, IsWritableOutcome, outcome_text, run_text, told_text, told_texts};
 
+use crate::reporting::add_reports;
 use crate::state::add;
 use itoa::Buffer;
 use lane_runner::{AnsweredLine, Outcome};
 use money_core::Text;
 use office_state::Answer;
-use policy_types::{Command, Line, NoMemory, PinRefusal, Refusal};
+use policy_types::{Command, Line, NoMemory, PinRefusal, Refusal, Report};
 use report_text::print_block;
 use statements::{LineWriter, kind_word, status_word};
 use std::alloc::Global;
 
-/// The text of answered lines, one after the other.
-pub fn transcript(alloc: Global, lines: &[AnsweredLine]) -> Result<Vec<u8>, NoMemory>
+/// The text of answered lines, one after the other, and behind them the lines of the auditors' reports.
+pub fn transcript(
+    alloc: Global,
+    lines: &[AnsweredLine],
+    reports: &[Report],
+) -> Result<Vec<u8>, NoMemory>
+    requires writable { All IsWritable lines.now }
+    requires few { length reports.now ≤ 16 }
+    ensures { IfOk result (λ text. text.items ≡ run_text lines.now reports.now) }
+{
+    let mut text = answers(alloc, lines)?;
+    add_reports(alloc, reports, &mut text)?;
+    Ok(text)
+}
+
+// The text of answered lines.
+fn answers(alloc: Global, lines: &[AnsweredLine]) -> Result<Vec<u8>, NoMemory>
     requires writable { All IsWritable lines.now }
     ensures { IfOk result (λ text. text.items ≡ told_texts lines.now) }
 {

@@ -22,6 +22,7 @@ use shared_office::{Office, OfficeCalls, OfficePass, close};
 use snapshot_value::{Valuation, ValueFault};
 use std::alloc::Global;
 use std::sync::Wait;
+use watcher_set::{NoWatchers, Watching};
 
 /// A valuation that no lane of a script asks for.
 const NO_LANE: u8 = 0;
@@ -73,7 +74,7 @@ fn value_by<R: Wait, K: Sink, D: Disk, G: Gate>(
     ensures { EndsValuing D.Disk disk result.disk on at basis.now
         (between K.faults K.written output.old output.new) result.ending }
 {
-    match Office::start(alloc, disk, 0) {
+    match Office::start(alloc, disk, NoWatchers) {
         Ok((office, pass)) => {
             value_office(
                 rt, alloc, on, at, workers, basis, office, pass, output, gate,
@@ -87,24 +88,24 @@ fn value_by<R: Wait, K: Sink, D: Disk, G: Gate>(
 }
 
 // Values an office's policies, closes it, and writes the values.
-fn value_office<R: Wait, K: Sink, D: Disk, G: Gate>(
+fn value_office<R: Wait, K: Sink, D: Disk, W: Watching, G: Gate>(
     rt: &R,
     alloc: Global,
     on: i32,
     at: At,
     workers: u8,
     basis: &Basis,
-    office: Office<D>,
-    pass: OfficePass<D>,
+    office: Office<D, W>,
+    pass: OfficePass<D, W>,
     output: &mut K,
     gate: &G,
 ) -> Finished<D>
     requires day { IsDay on }
     requires workers { (1 ≤ workers) × (workers ≤ 64) }
     requires ours { pass.turnstile ≡ office }
-    requires started { (old : D) × HasStarted D.Disk old 0 pass }
+    requires started { (old : D) × ((watchers : W) × HasStarted D.Disk old watchers pass) }
     requires facts { PassFacts IsOfficeHistory pass }
-    ensures ends { (old : D) → HasStarted D.Disk old 0 pass
+    ensures ends { (old : D) (watchers : W) → HasStarted D.Disk old watchers pass
         → EndsValuing D.Disk old result.disk on at basis.now
         (between K.faults K.written output.old output.new) result.ending }
 {
@@ -112,7 +113,7 @@ fn value_office<R: Wait, K: Sink, D: Disk, G: Gate>(
     let valued = snapshot_value::value(
         rt, alloc, &office, &mut pass, basis, on, at, workers, NO_LANE, gate,
     );
-    let (disk, _) = close(office, pass);
+    let (disk, _, _) = close(office, pass);
     let ending = write_answer(alloc, on, valued.answer, output);
     Finished { ending, disk }
 }

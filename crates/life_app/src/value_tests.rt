@@ -1,5 +1,5 @@
-// What `value` writes after a run, and what a run writes whose script asks for values. The reserves are worked out by hand from the plans and the table, and the texts from
-// the formats.
+// What `value` writes after a run, and what a run writes whose script asks for values. The reserves are worked out by hand
+// from the plans and the table, and the texts from the formats.
 use crate::tests::{Finished, run_on, run_script_with, run_with};
 use memory_disk::MemoryDisk;
 use outside_io::MapShelf;
@@ -619,5 +619,75 @@ fn bases_of_runs_are_needed_or_not(rt: HostRuntime) -> Result<(), AllocError> {
     };
     let ran = run_beside_basis(&rt, alloc, &unasked, &[1])?;
     assert!(rt; ends(&ran, 0, unasked.written));
+    Ok(())
+}
+
+// A script of forty commands, all of which are accepted: five of each of eight policies.
+fn command_line(alloc: Global, place: u32) -> Result<String, AllocError> {
+    let id = place % 8 + 1;
+    match place / 8 {
+        0 => format!(in alloc; "1,issue,{id},2020-01-01,endowment,0,3,1000.00,400.00\n"),
+        1 => format!(in alloc; "1,premium,{id},2020-01-01,400.00\n"),
+        2 => format!(in alloc; "1,alter,{id},2020-06-01,500.00,200.00\n"),
+        3 => format!(in alloc; "1,premium,{id},2021-01-01,200.00\n"),
+        _ => format!(in alloc; "1,claim,{id},2021-02-01\n"),
+    }
+}
+
+// The journal of the first so many of them.
+fn journal_of_first<R: Threads + Wait + Sync>(
+    rt: &R,
+    alloc: Global,
+    count: u32,
+) -> Result<MemoryDisk, AllocError> {
+    let mut script = String::new(alloc);
+    for place in 0..count {
+        script.push_str(&command_line(alloc, place)?)?;
+    }
+    let empty = MemoryDisk::new(alloc, Vec::new(alloc), Vec::new(alloc));
+    let ran = run_on(rt, alloc, &[&script], empty)?;
+    let file = Vec::from_slice(alloc, ran.disk.bytes())?;
+    Ok(MemoryDisk::new(alloc, file, Vec::new(alloc)))
+}
+
+// The first commands of a longer journal are valued as a journal of these alone.
+#[test]
+fn each_position_is_valued_as_a_run_of_so_many(rt: HostRuntime) -> Result<(), AllocError> {
+    let alloc = rt.alloc();
+    let case = run_of(&[], "");
+    for count in 0..=40 {
+        let at = format!(in alloc; "{count}")?;
+        let shelf = shelf_of(alloc, &case, &[])?;
+        let all = journal_of_first(&rt, alloc, 40)?;
+        let words = ["value", "2021-06-01", "--at", &at];
+        let read = run_with(&rt, alloc, &words, &[], shelf, all)?;
+        let shelf = shelf_of(alloc, &case, &[])?;
+        let first = journal_of_first(&rt, alloc, count)?;
+        let alone = run_with(&rt, alloc, &words[..2], &[], shelf, first)?;
+        assert!(rt; first_bytes(count) == alone.disk.bytes().len());
+        assert!(rt; read.status == 0 && alone.status == 0);
+        assert!(rt; read.output.bytes() == alone.output.bytes());
+    }
+    Ok(())
+}
+
+// The bytes of a journal of so many commands.
+fn first_bytes(count: u32) -> usize {
+    18 + 65 * count as usize
+}
+
+// Seventeen lines ask for values, where sixteen may.
+#[test]
+fn too_many_valuations_are_refused(rt: HostRuntime) -> Result<(), AllocError> {
+    let alloc = rt.alloc();
+    let asks: &[&str] = &["1,value,2021-01-01,now,1\n"; 17];
+    let case = run_of(&[], "");
+    for (count, status, written) in [(17, 3, "badscript,17,2\n"), (16, 0, "")] {
+        let shelf = shelf_of(alloc, &case, &[])?;
+        let empty = MemoryDisk::new(alloc, Vec::new(alloc), Vec::new(alloc));
+        let ran = run_script_with(&rt, alloc, &["run"], &asks[..count], shelf, empty)?;
+        assert!(rt; ran.status == status);
+        assert!(rt; status == 0 || ran.output.bytes() == written.as_bytes());
+    }
     Ok(())
 }

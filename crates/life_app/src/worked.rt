@@ -1,6 +1,6 @@
 //! Worked cases of what a run and `state` write, each a theorem over the definitions alone.
 
-ghost use Rattle.life_app.specs.Worked.{ClaimedBooks, ClaimedEntries, OtherLines, PostingLines, RefusalTexts, StatusTexts, TwoClerks};
+ghost use Rattle.life_app.specs.Worked.{ClaimedBooks, ClaimedEntries, OtherLines, PostingLines, RefusalTexts, StatusTexts, TwoClerks, WatcherLines};
 
 /// Each refusal has its word, and its value where it has one.
 pub fn refusal_texts()
@@ -25,6 +25,11 @@ pub fn other_lines()
 /// The lines of two clerks stand in the order of their turns.
 pub fn two_clerks()
     ensures { TwoClerks }
+{}
+
+/// Each auditor has one line, and no auditors have none.
+pub fn watcher_lines()
+    ensures { WatcherLines }
 {}
 
 /// All policies and the balances after a claim.

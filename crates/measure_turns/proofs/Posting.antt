@@ -1,8 +1,10 @@
 -- From the start of an office to its end: what its callers posted.
-use Rattle.std.proofs.Common.{◌≡◌, ℕ, Some, refl, sym, ap, ◌∙◌, subst}
+use Rattle.std.proofs.Common.{◌≡◌, ℕ, List, Some, refl, sym, ap, ◌∙◌, subst}
 use Rattle.std.specs.Option.{unwrap_or}
 use Rattle.outside_io.specs.declared.disks.Disk.{Ghosts}
 use Rattle.policy_types.specs.Accounts.{Booking}
+use Rattle.policy_types.specs.declared.watcher.Report.{Report}
+use Rattle.watcher_set.specs.Noted.{Auditor}
 use Rattle.office_state.specs.Images.{IsLeftBy}
 use Rattle.turn_lock.specs.Passes.{Holding, PassFacts}
 use Rattle.shared_office.specs.Offices.{OfficeOpening, IsOfficeHistory}
@@ -11,10 +13,10 @@ use Rattle.measure_turns.proofs.Taking.{turns_in_all, counted_in_all}
 use Rattle.measure_turns.specs.Posted.{HasPosted, accepts}
 use Rattle.measure_turns.specs.Turns.{AllTake}
 
-module _ {D : Type 0} (g : Ghosts D) (old new : D) (room turns accepted : ℕ) (balances : Booking) (first last : Holding (OfficeOpening D))
-    (started : HasStarted g old room first) (take : AllTake accepts turns accepted first last) (closed : HasClosed g last new balances) (facts : PassFacts IsOfficeHistory last) where
+module _ {D : Type 0} (g : Ghosts D) (old new : D) (auditors : List Auditor) (turns accepted : ℕ) (balances : Booking) (reports : List Report) (first last : Holding (OfficeOpening D))
+    (started : HasStarted g old auditors first) (take : AllTake accepts turns accepted first last) (closed : HasClosed g last new balances reports) (facts : PassFacts IsOfficeHistory last) where
   abbrev began : OfficeOpening D
-  began = record { opening = started.opening; begun = old; room = room }
+  began = record { opening = started.opening; begun = old; auditors = auditors }
 
   -- what the last pass tells of the opening is what the first told
   one_opening : (opening : OfficeOpening D) → last.opening ≡ Some opening → opening ≡ began

@@ -12,6 +12,7 @@ use shared_office::{Answer, Office, OfficeCalls, OfficePass, SharedState, StartF
 use std::alloc::Global;
 use std::sync::Wait;
 use std::thread::Threads;
+use watcher_set::{NoWatchers, Watching};
 
 /// Callers that issue so many policies each.
 #[derive(Clone, Copy)]
@@ -20,14 +21,20 @@ pub struct Issues {
     ghost few: { each ≤ 2 ^ 26 },
 }
 
-impl<D: Disk, R: Wait> Lane<SharedState<D>, R> for Issues {
+impl<D: Disk, W: Watching, R: Wait> Lane<SharedState<D, W>, R> for Issues {
     ghost use Rattle.measure_turns.specs.Posted.{accepts};
 
     ghost turns = { λ issues. issues.each };
 
     ghost counts = { accepts };
 
-    fn run(&self, rt: &R, gate: &Office<D>, pass: &mut OfficePass<D>, place: u32) -> u64 {
+    fn run(
+        &self,
+        rt: &R,
+        gate: &Office<D, W>,
+        pass: &mut OfficePass<D, W>,
+        place: u32,
+    ) -> u64 {
         let mut done = 0;
         let mut accepted = 0;
         while done < self.each {
@@ -80,9 +87,8 @@ pub fn post_issues<D: Disk + Send, R: Threads + Wait + Sync>(
     ensures posted { IfOk result (λ ended. HasPosted D.Disk disk ended.0 (callers * each) ended.1) }
     ensures refused { IfErr result (λ fault. HasNotOpened D.Disk disk fault.disk fault.cause) }
 {
-    let postings = callers * each;
-    let (office, pass) = Office::start(alloc, disk, postings as usize)?;
+    let (office, pass) = Office::start(alloc, disk, NoWatchers)?;
     let (pass, accepted) = lanes(rt, &office, pass, &Issues { each }, 0, callers);
-    let (disk, _) = close(office, pass);
+    let (disk, _, _) = close(office, pass);
     Ok((disk, accepted))
 }

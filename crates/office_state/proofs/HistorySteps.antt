@@ -1,9 +1,9 @@
 -- What one more turn does to what is known of a history
-use Rattle.std.proofs.Common.{◌≡◌, ℕ, ◌≤◌, List, [], ◌∷◌, ◌++◌, length, refl, ap, sym, ◌∙◌, subst, Some, None, Option, Ok, Err, append-nil, append_assoc, arith, inl}
+use Rattle.std.proofs.Common.{◌≡◌, ℕ, ◌+◌, ◌<◌, ◌≤◌, List, [], ◌∷◌, ◌++◌, length, refl, ap, sym, ◌∙◌, subst, Some, None, Option, Ok, Err, append-nil, append_assoc, length-append, arith, inl, inr}
 use Rattle.std.specs.List.{AllByRecursion, filter_map, last_or}
 use Rattle.std.specs.Option.{unwrap_or}
 use Rattle.std.proofs.lemmas.List.Elements.{filter_map-append}
-use Rattle.std.proofs.lemmas.Bool.{cond-true, cond-false, eq-eqb, ne_eqb}
+use Rattle.std.proofs.lemmas.Bool.{cases_lt, cond-true, cond-false, eq-eqb, ne_eqb}
 use Rattle.outside_io.specs.Faults.{Rose}
 use Rattle.policy_types.specs.declared.command.Command.{Command}
 use Rattle.policy_types.specs.declared.policy.Policy.{Policy}
@@ -29,11 +29,17 @@ posting caller command reply = record { caller = caller; call = Post command; re
 abbrev pub faults_met : List Entry → List ℕ
 faults_met history = filter_map (λ (entry : Entry). fault_of entry.reply) history
 
--- a turn that accepts nothing leaves the commands
+-- a turn that accepts nothing leaves what is accepted
+pub accepted-same : (history : List Entry) (entry : Entry) → accepted_of (entry ∷ []) ≡ []
+    → accepted_of (history ++ entry ∷ []) ≡ accepted_of history
+accepted-same history entry none =
+    accepted_of-push history entry ∙ ap (λ cs. accepted_of history ++ cs) none ∙ append-nil (accepted_of history)
+
+-- and the commands
 pub commands-same : (opening : Opening) (history : List Entry) (entry : Entry) → accepted_of (entry ∷ []) ≡ []
     → commands_after opening (history ++ entry ∷ []) ≡ commands_after opening history
 commands-same opening history entry none =
-    ap (λ cs. opening.commands ++ cs) (accepted_of-push history entry ∙ ap (λ cs. accepted_of history ++ cs) none ∙ append-nil (accepted_of history))
+    ap (λ cs. opening.commands ++ cs) (accepted-same history entry none)
 
 pub commands-more : (opening : Opening) (history : List Entry) (caller : ℕ) (command : Command) (position : ℕ)
     → commands_after opening (history ++ posting caller command (Accepted position) ∷ []) ≡ commands_after opening history ++ command ∷ []
@@ -104,6 +110,20 @@ is_full commands command policy decided full =
 pub is_refused : (commands : List Command) (command : Command) (refusal : Refusal)
     → next (policy_of commands (id_of command)) command ≡ Err refusal → refusal_due commands command ≡ Some refusal
 is_refused commands command refusal decided = rw decided refl
+
+-- where more commands may be accepted, fewer than the most were
+pub few_accepted : (opening : Opening) (history : List Entry) (commands : List Command) → commands ≡ commands_after opening history
+    → length commands ≤ 4000000 → (length commands ≡ 4000000 → ⊥) → length (accepted_of history) < 4000000
+few_accepted opening history commands kept few not_full =
+    let all : length commands ≡ length opening.commands + length (accepted_of history) =
+    ap length kept ∙ length-append opening.commands (accepted_of history) in
+    let less : length commands < 4000000 = below (length commands) 4000000 few not_full in omega (arith, all, less)
+  where
+    below : (n m : ℕ) → n ≤ m → (n ≡ m → ⊥) → n < m
+    below n m few other = elim (cases_lt n m) [
+      | inl less ↦ less
+      | inr more ↦ let same : n ≡ m = omega (arith, few, more) in absurd (other same)
+    ]
 
 -- a posting that faulted did so in a longer history too
 faulted-push : (history : List Entry) (command : Command) (after : List Entry) (entry : Entry) → HasFaultedBefore history command after
@@ -197,9 +217,13 @@ due_in opening done (first ∷ before) entry after legal =
     subst (λ turns. IsDue opening turns entry.caller entry.call entry.reply) (append_assoc done (first ∷ []) before)
     (due_in opening (done ++ first ∷ []) before entry after legal.1)
 
-all_in : {X : Type 0} (P : X → Type 0) (xs ys : List X) (x : X) → AllByRecursion P (xs ++ x ∷ ys) → P x
+pub all_in : {X : Type 0} (P : X → Type 0) (xs ys : List X) (x : X) → AllByRecursion P (xs ++ x ∷ ys) → P x
 all_in P [] ys x all = all.0
 all_in P (first ∷ xs) ys x all = all_in P xs ys x all.1
+
+pub all_before : {X : Type 0} (P : X → Type 0) (xs ys : List X) → AllByRecursion P (xs ++ ys) → AllByRecursion P xs
+all_before P [] ys all = tt
+all_before P (x ∷ xs) ys all = (all.0, all_before P xs ys all.1)
 
 -- so a posting faulted only where the disk's count rose since the opening
 pub rose_in : (opening : Opening) (history : List Entry) (command : Command) (now : ℕ) → IsLegalAfter opening [] history

@@ -8,6 +8,7 @@ use Rattle.policy_machine.specs.History.{Opening, opened_on}
 use Rattle.posting_journal.specs.Creation.{OpensToBodies}
 use Rattle.posting_journal.specs.States.{StandsFor as JournalStands, is_clean}
 use Rattle.posting_journal.specs.declared.journal.Journal.{Journal}
+use Rattle.watcher_set.specs.declared.watching.Watching.{Ghosts as WatcherGhosts}
 use Rattle.office_state.specs.declared.faults.StartCause.{StartCause}
 use Rattle.office_state.specs.declared.faults.StartCause.TheVariants.{DiskFault, NotAJournal, BadRecord, NoMemory}
 use Rattle.office_state.specs.declared.state.OfficeState.{OfficeState}
@@ -53,9 +54,10 @@ module _ {D : Type 0} (g : Ghosts D) (old : D) (journal : Journal D g) (started 
     alone = looked_alone g old journal started counts_now reads_image new none.looked;
   }
 
-  module _ (state : OfficeState D g) (made : IsOfficeOf journal old state) where
+  module _ {W : Type 0} {w : WatcherGhosts W} (watchers : W) (fresh : w.told watchers []) (state : OfficeState D W g w)
+      (made : IsOfficeOf journal old watchers state) where
     -- the state with what it was opened on in plain sight
-    abbrev known : OfficeState D g
+    abbrev known : OfficeState D W g w
     known = record state { begun = record state.begun { value = old }; recovered = record state.recovered { value = state.books } }
 
     abbrev opening : Opening
@@ -94,7 +96,7 @@ module _ {D : Type 0} (g : Ghosts D) (old : D) (journal : Journal D g) (started 
       λ honest. started.honesty.1 (made.stays.disk.honesty.1 honest),
     )
 
-    module _ (counts_now : CountsNow g) where
+    module _ (counts_now : CountsNow g) (reads_image : ReadsImage g) where
       leaves_since : g.honest old → LeavesSince g old (disk_of state) opening []
       leaves_since honest =
           let held = λ (image : List ℕ) (opening_image : _). holds_once image (commands_of state) (g.faults old)
@@ -134,6 +136,8 @@ module _ {D : Type 0} (g : Ghosts D) (old : D) (journal : Journal D g) (started 
                 (simp append-nil keeps.valid) (simp append-nil keeps.accepted) (holds honest);
             images_since = leaves_since;
             fault_count = quiet;
+            alone = λ still. looked_alone g old journal started counts_now reads_image (disk_of state) made.stays.disk;
+            told = subst (λ these. w.told these []) (sym made.watched) fresh;
             inside = record {
               later = λ (honest : g.honest old).
                   let looks = made.stays.disk.looks (started.honesty.0 honest) in

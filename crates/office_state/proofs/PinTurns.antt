@@ -5,6 +5,7 @@ use Rattle.std.specs.List.{Contains, fold}
 use Rattle.std.proofs.lemmas.List.{length-map, take_all}
 use Rattle.std.proofs.lemmas.Option.{same_Some}
 use Rattle.outside_io.specs.declared.disks.Disk.{Ghosts}
+use Rattle.watcher_set.specs.declared.watching.Watching.{Ghosts as WatcherGhosts}
 use Rattle.arrayvec.specs.ArrayVec.{ArrayVec}
 use Rattle.policy_types.specs.declared.policy.Policy.{Policy}
 use Rattle.policy_types.specs.declared.entry.Reply.TheVariants.{Pinned}
@@ -38,16 +39,17 @@ least_of : (count : ℕ) (ns : List ℕ) → least_or count ns ≤ count → fol
 least_of count [] few = refl
 least_of count (n ∷ ns) few = fold_least count n count ns ∙ omega (arith, few)
 
-module _ {D : Type 0} {g : Ghosts D} (old : OfficeState D g) (turns : List Entry) (stands : StandsFor old turns)
+module _ {D W : Type 0} {g : Ghosts D} {w : WatcherGhosts W} (old : OfficeState D W g w) (turns : List Entry) (stands : StandsFor old turns)
     (counted : records_in old.journal ≡ length (commands_of old)) where
   abbrev opening : Opening
   opening = opening_of old
 
   -- the state after a turn that leaves journal and books
-  abbrev after : ArrayVec Held → ℕ → OfficeState D g
+  abbrev after : ArrayVec Held → ℕ → OfficeState D W g w
   after pins floor = record {
     journal = old.journal;
     books = old.books;
+    watchers = old.watchers;
     turns = old.turns + 1;
     pins = pins;
     floor = floor;
@@ -58,9 +60,10 @@ module _ {D : Type 0} {g : Ghosts D} (old : OfficeState D g) (turns : List Entry
 
   step : (entry : Entry) → accepted_of (entry ∷ []) ≡ [] → faults_met (entry ∷ []) ≡ [] → IsDue opening turns entry.caller entry.call entry.reply
       → (pins : ArrayVec Held) → pins.items ≡ pins_held (turns ++ entry ∷ []) → (floor : ℕ) → floor ≡ floor_of (turns ++ entry ∷ [])
-      → StandsFor (after pins floor) (turns ++ entry ∷ [])
+      → StandsFor {w = w} (after pins floor) (turns ++ entry ∷ [])
   step entry none quiet due pins pinned floor floored =
       stands_still old turns stands old.books counted entry refl none quiet due pins pinned floor floored
+      old.watchers (λ heard told. told)
 
   floor_still : (entry : Entry) → floor_set entry.reply ≡ None → old.floor ≡ floor_of (turns ++ entry ∷ [])
   floor_still entry none = stands.floor ∙ sym (floor_of-kept turns entry none)
@@ -91,7 +94,7 @@ module _ {D : Type 0} {g : Ghosts D} (old : OfficeState D g) (turns : List Entry
 
   -- all commands are pinned
   pub stands_pin : (caller position : ℕ) (pins : ArrayVec Held) (result : Result PinInfo PinRefusal) → position ≡ length (commands_of old)
-      → Taking pins caller position result → StandsFor (after pins old.floor) (turns ++ pin_turn caller result ∷ [])
+      → Taking pins caller position result → StandsFor {w = w} (after pins old.floor) (turns ++ pin_turn caller result ∷ [])
   stands_pin caller position pins (Ok info) all taken =
       let entry = pin_turn caller (Ok info) in
       let few : length (live_positions turns) < most_pins = omega (arith, live_many, taken.few) in
@@ -111,7 +114,7 @@ module _ {D : Type 0} {g : Ghosts D} (old : OfficeState D g) (turns : List Entry
 
   -- a position is pinned that is neither ahead nor trimmed
   pub stands_pin_at : (caller p : ℕ) (pins : ArrayVec Held) (result : Result PinInfo PinRefusal) → p ≤ length (commands_of old) → old.floor ≤ p
-      → Taking pins caller p result → StandsFor (after pins old.floor) (turns ++ pin_at_turn caller p result ∷ [])
+      → Taking pins caller p result → StandsFor {w = w} (after pins old.floor) (turns ++ pin_at_turn caller p result ∷ [])
   stands_pin_at caller p pins (Ok info) reached kept taken =
       let entry = pin_at_turn caller p (Ok info) in
       let few : length (live_positions turns) < most_pins = omega (arith, live_many, taken.few) in
@@ -136,7 +139,7 @@ module _ {D : Type 0} {g : Ghosts D} (old : OfficeState D g) (turns : List Entry
 
   -- one that is ahead
   pub stands_ahead : (caller p count : ℕ) → count ≡ length (commands_of old) → count < p
-      → StandsFor (after old.pins old.floor) (turns ++ pin_at_turn caller p (Err (Ahead count)) ∷ [])
+      → StandsFor {w = w} (after old.pins old.floor) (turns ++ pin_at_turn caller p (Err (Ahead count)) ∷ [])
   stands_ahead caller p count counted ahead =
       let entry = pin_at_turn caller p (Err (Ahead count)) in
       let due : IsDue opening turns entry.caller entry.call entry.reply =
@@ -145,7 +148,7 @@ module _ {D : Type 0} {g : Ghosts D} (old : OfficeState D g) (turns : List Entry
 
   -- one that lies below the floor
   pub stands_trimmed : (caller p : ℕ) → p ≤ length (commands_of old) → p < old.floor
-      → StandsFor (after old.pins old.floor) (turns ++ pin_at_turn caller p (Err (Trimmed old.floor)) ∷ [])
+      → StandsFor {w = w} (after old.pins old.floor) (turns ++ pin_at_turn caller p (Err (Trimmed old.floor)) ∷ [])
   stands_trimmed caller p reached below =
       let entry = pin_at_turn caller p (Err (Trimmed old.floor)) in
       let due : IsDue opening turns entry.caller entry.call entry.reply =
@@ -166,7 +169,7 @@ module _ {D : Type 0} {g : Ghosts D} (old : OfficeState D g) (turns : List Entry
 
   -- a pin is given up
   pub stands_unpinned : (caller pin : ℕ) (pins : ArrayVec Held) → pins.items ≡ filter (λ (held : Held). not (pin == held.number)) old.pins.items
-      → IsHeldBy (pins_of old) caller pin → StandsFor (after pins old.floor) (turns ++ unpin_turn caller pin ∷ [])
+      → IsHeldBy (pins_of old) caller pin → StandsFor {w = w} (after pins old.floor) (turns ++ unpin_turn caller pin ∷ [])
   stands_unpinned caller pin pins fewer own =
       let entry = unpin_turn caller pin in
       let due : IsDue opening turns entry.caller entry.call entry.reply =
@@ -177,7 +180,7 @@ module _ {D : Type 0} {g : Ghosts D} (old : OfficeState D g) (turns : List Entry
 
   -- the floor is raised
   pub stands_floor : (caller floor : ℕ) → floor ≡ fold min (length (commands_of old)) (map (λ (held : Held). held.position) old.pins.items)
-      → StandsFor (after old.pins floor) (turns ++ trim_turn caller floor ∷ [])
+      → StandsFor {w = w} (after old.pins floor) (turns ++ trim_turn caller floor ∷ [])
   stands_floor caller floor least =
       let entry = trim_turn caller floor in
       let count = length (commands_after opening turns) in
@@ -193,7 +196,7 @@ module _ {D : Type 0} {g : Ghosts D} (old : OfficeState D g) (turns : List Entry
   pub stands_read : (caller pin first : ℕ) (held : Held) (policies : List Policy) → MayRead (pins_of old) caller pin first
       → Contains (pins_of old) held → held.number ≡ pin
       → policies ≡ take 256 (drop first (book (take held.position (commands_of old))))
-      → StandsFor (after old.pins old.floor) (turns ++ read_turn caller pin first policies ∷ [])
+      → StandsFor {w = w} (after old.pins old.floor) (turns ++ read_turn caller pin first policies ∷ [])
   stands_read caller pin first held policies may among number filled =
       let entry = read_turn caller pin first policies in
       let own : IsHeldBy (pins_of old) caller pin = record { held = may.held; among = may.among; number = may.number; holder = may.holder } in
@@ -210,7 +213,7 @@ module _ {D : Type 0} {g : Ghosts D} (old : OfficeState D g) (turns : List Entry
       ) in
       step entry refl refl due old.pins (pins_still entry old.pins (λ n. refl) refl refl) old.floor (floor_still entry refl)
 
-module _ {D : Type 0} {g : Ghosts D} (state : OfficeState D g) (turns : List Entry) (stands : StandsFor state turns) where
+module _ {D W : Type 0} {g : Ghosts D} {w : WatcherGhosts W} (state : OfficeState D W g w) (turns : List Entry) (stands : StandsFor state turns) where
   -- what a caller of a history knows of its pin is what a read and an unpin of it need
   pub held_by_caller : (caller pin : ℕ) (held : ℕ × ℕ) → live_pin turns pin ≡ Some held → IsOwnPin turns caller pin
       → IsHeldBy (pins_of state) caller pin

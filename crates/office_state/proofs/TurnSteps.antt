@@ -17,19 +17,20 @@ use Rattle.policy_machine.specs.Rules.{next}
 use Rattle.policy_machine.specs.History.{Opening, IsDue, IsLegal, accepted_of, commands_after, floor_of, floor_set, pin_of, refusal_due}
 use Rattle.policy_machine.proofs.BookLemmas.{IsAccepted-push}
 use Rattle.policy_machine.proofs.HistoryGrowth.{floor_of-kept}
-use Rattle.policy_machine.proofs.HistoryLemmas.{IsLegalAfter-push}
+use Rattle.policy_machine.proofs.HistoryLemmas.{IsLegalAfter-push, accepted_of-push}
 use Rattle.record_codec.specs.Spelling.{spelling_of}
 use Rattle.posting_journal.specs.Files.{IsJournal}
 use Rattle.posting_journal.specs.Runs.{Leaves}
 use Rattle.posting_journal.specs.States.{StandsFor as JournalStands, IsKept, count_of as records_in, disk_of as disk_under, is_clean}
 use Rattle.posting_journal.specs.declared.journal.Journal.{Journal}
 use Rattle.posting_journal.proofs.Written.{staged_either}
+use Rattle.watcher_set.specs.declared.watching.Watching.{Ghosts as WatcherGhosts}
 use Rattle.arrayvec.specs.ArrayVec.{ArrayVec}
 use Rattle.office_state.specs.declared.books.Books.{Books}
 use Rattle.office_state.specs.declared.held.Held.{Held}
 use Rattle.office_state.specs.declared.state.OfficeState.{OfficeState}
 use Rattle.office_state.specs.declared.answer.Answer.TheVariants.{Accepted as AcceptedAt, DiskFault}
-use Rattle.office_state.specs.Images.{HoldsNow, HoldsOnce, IsLeftBy}
+use Rattle.office_state.specs.Images.{HoldsNow, HoldsOnce, IsLeftBy, IsQuietReply}
 use Rattle.office_state.specs.Journals.{JournalBytes, bodies_of}
 use Rattle.office_state.specs.Pins.{pins_held}
 use Rattle.office_state.specs.Posting.{CrashesIn}
@@ -38,7 +39,7 @@ use Rattle.office_state.specs.States.{begun_of, commands_of, disk_of, opening_of
 use Rattle.office_state.specs.inside.Books.{commands_in}
 use Rattle.office_state.specs.inside.Holding.{IsLeftBehind, JournalHolds}
 use Rattle.office_state.specs.inside.Records.{Records}
-use Rattle.office_state.proofs.HistorySteps.{all_up_to, commands-more, commands-same, faults-same, faults_after-more, faults_after-same, faults_met, faults-more, holds_all, holds_more, holds_once-push, is_due, is_fresh, pending-now, pending-push, posting}
+use Rattle.office_state.proofs.HistorySteps.{accepted-same, all_before, all_in, all_up_to, commands-more, commands-same, faults-same, faults_after-more, faults_after-same, faults_met, faults-more, holds_all, holds_more, holds_once-push, is_due, is_fresh, pending-now, pending-push, posting}
 use Rattle.office_state.proofs.KeepingSteps.{all-more, values-book}
 use Rattle.office_state.proofs.OpeningSteps.{synced_before}
 use Rattle.office_state.proofs.PinSteps.{pins_held-same}
@@ -116,15 +117,6 @@ module _ {D : Type 0} {g : Ghosts D} where
             )
           ]
 
-  -- the commands after the turns are those that the books keep
-  valid_after : (state : OfficeState D g) (turns : List Entry) → commands_of state ≡ commands_after (opening_of state) turns
-      → AllByRecursion IsValid (commands_after (opening_of state) turns)
-  valid_after state turns kept = subst (AllByRecursion IsValid) kept state.books.kept.valid
-
-  accepted_after : (state : OfficeState D g) (turns : List Entry) → commands_of state ≡ commands_after (opening_of state) turns
-      → IsAccepted (commands_after (opening_of state) turns)
-  accepted_after state turns kept = subst IsAccepted kept state.books.kept.accepted
-
   -- what is known of the images since the opening goes on with a turn
   since_on : (begun old new : D) (opening : Opening) (turns : List Entry) (entry : Entry) (P : List ℕ → Type 0)
       → g.clock begun ≤ g.clock old → LeavesSince g begun old opening turns → Leaves g old new P
@@ -166,7 +158,17 @@ module _ {D : Type 0} {g : Ghosts D} where
     );
   }
 
-  module _ (old : OfficeState D g) (turns : List Entry) (stands : StandsFor old turns) where
+module _ {D W : Type 0} {g : Ghosts D} {w : WatcherGhosts W} where
+  -- the commands after the turns are those that the books keep
+  valid_after : (state : OfficeState D W g w) (turns : List Entry) → commands_of state ≡ commands_after (opening_of state) turns
+      → AllByRecursion IsValid (commands_after (opening_of state) turns)
+  valid_after state turns kept = subst (AllByRecursion IsValid) kept state.books.kept.valid
+
+  accepted_after : (state : OfficeState D W g w) (turns : List Entry) → commands_of state ≡ commands_after (opening_of state) turns
+      → IsAccepted (commands_after (opening_of state) turns)
+  accepted_after state turns kept = subst IsAccepted kept state.books.kept.accepted
+
+  module _ (old : OfficeState D W g w) (turns : List Entry) (stands : StandsFor old turns) where
     abbrev opening : Opening
     opening = opening_of old
 
@@ -179,9 +181,10 @@ module _ {D : Type 0} {g : Ghosts D} where
         → IsDue opening turns entry.caller entry.call entry.reply
         → (pins : ArrayVec Held) → pins.items ≡ pins_held (turns ++ entry ∷ [])
         → (floor : ℕ) → floor ≡ floor_of (turns ++ entry ∷ [])
-        → StandsFor (record { journal = old.journal; books = books; turns = old.turns + 1; pins = pins; floor = floor; begun = old.begun; recovered = old.recovered; counted = counted })
+        → (watchers : W) → ((heard : List Command) → w.told old.watchers heard → w.told watchers heard)
+        → StandsFor {w = w} (record { journal = old.journal; books = books; watchers = watchers; turns = old.turns + 1; pins = pins; floor = floor; begun = old.begun; recovered = old.recovered; counted = counted })
         (turns ++ entry ∷ [])
-    stands_still books counted entry as_was none quiet due pins pinned floor floored =
+    stands_still books counted entry as_was none quiet due pins pinned floor floored watchers told =
         let same : commands_after opening (turns ++ entry ∷ []) ≡ commands = commands-same opening turns entry none in
         let kept : commands_in books ≡ commands_after opening (turns ++ entry ∷ []) = as_was ∙ stands.kept ∙ sym same in
         let holds : g.honest (disk_of old) → JournalHolds old.journal opening (turns ++ entry ∷ []) = λ honest.
@@ -205,6 +208,8 @@ module _ {D : Type 0} {g : Ghosts D} where
           images_since = λ (honest : g.honest (begun_of old)).
               since_still (begun_of old) (disk_of old) opening turns entry (stands.images_since honest);
           fault_count = stands.fault_count ∙ sym (faults_after-same opening turns entry quiet);
+          alone = λ still. stands.alone (all_before (λ (e : Entry). IsQuietReply e.reply) turns (entry ∷ []) still);
+          told = subst (w.told watchers) (sym (accepted-same turns entry none)) (told (accepted_of turns) stands.told);
           inside = record {
             later = stands.inside.later;
             opened = stands.inside.opened;
@@ -213,10 +218,11 @@ module _ {D : Type 0} {g : Ghosts D} where
           };
         }
 
-    -- it stands for the same turns with other books of the same commands
+    -- it stands for the same turns with other books of the same commands, and watchers who were told of the same
     pub stands_with : (books : Books) (counted : records_in old.journal ≡ length (commands_in books)) → commands_in books ≡ commands_of old
-        → StandsFor (record { journal = old.journal; books = books; turns = old.turns; pins = old.pins; floor = old.floor; begun = old.begun; recovered = old.recovered; counted = counted }) turns
-    stands_with books counted as_was =
+        → (watchers : W) → ((heard : List Command) → w.told old.watchers heard → w.told watchers heard)
+        → StandsFor {w = w} (record { journal = old.journal; books = books; watchers = watchers; turns = old.turns; pins = old.pins; floor = old.floor; begun = old.begun; recovered = old.recovered; counted = counted }) turns
+    stands_with books counted as_was watchers told =
         let kept : commands_in books ≡ commands = as_was ∙ stands.kept in
         record {
           history = record { legal = stands.history.legal; counted = ap length kept };
@@ -230,6 +236,8 @@ module _ {D : Type 0} {g : Ghosts D} where
           images_now = stands.images_now;
           images_since = stands.images_since;
           fault_count = stands.fault_count;
+          alone = stands.alone;
+          told = told (accepted_of turns) stands.told;
           inside = stands.inside;
         }
 
@@ -323,9 +331,10 @@ module _ {D : Type 0} {g : Ghosts D} where
         -- a posting that was accepted
         module _ (books : Books) (counted : records_in journal ≡ length (commands_in books)) (count : ℕ) (value : T)
             (quiet : g.faults (disk_under journal) ≡ g.faults (disk_of old)) (more : commands_in books ≡ commands_of old ++ command ∷ [])
-            (few : length (commands_of old) ≡ 4000000 → ⊥) (ok : result ≡ Ok value) (position : count ≡ length (commands_in books)) where
+            (few : length (commands_of old) ≡ 4000000 → ⊥) (ok : result ≡ Ok value) (position : count ≡ length (commands_in books))
+            (watchers : W) (told : (heard : List Command) → w.told old.watchers heard → w.told watchers (heard ++ command ∷ [])) where
           pub stands_accepted : (caller : ℕ)
-              → StandsFor (record { journal = journal; books = books; turns = old.turns + 1; pins = old.pins; floor = old.floor; begun = old.begun; recovered = old.recovered; counted = counted })
+              → StandsFor {w = w} (record { journal = journal; books = books; watchers = watchers; turns = old.turns + 1; pins = old.pins; floor = old.floor; begun = old.begun; recovered = old.recovered; counted = counted })
               (turns ++ posting caller command (Accepted count) ∷ [])
           stands_accepted caller =
               let entry = posting caller command (Accepted count) in
@@ -354,6 +363,8 @@ module _ {D : Type 0} {g : Ghosts D} where
                 images_since = λ (honest : g.honest (begun_of old)). since_more entry honest
                     (λ image file. holds_all opening (turns ++ entry ∷ []) image (rw grown file));
                 fault_count = quiet ∙ stands.fault_count ∙ sym (faults_after-same opening turns entry refl);
+                alone = λ still. absurd (all_in (λ (e : Entry). IsQuietReply e.reply) turns [] entry still);
+                told = subst (w.told watchers) (sym (accepted_of-push turns entry)) (told (accepted_of turns) stands.told);
                 inside = record {
                   later = λ (honest : g.honest (begun_of old)).
                       omega (arith, stands.inside.later honest, (moments (stands.honesty.0 honest)).later);
@@ -369,7 +380,7 @@ module _ {D : Type 0} {g : Ghosts D} where
             (later : g.faults (disk_of old) ≤ g.faults (disk_under journal)) (rose : Rose (g.faults (disk_of old)) (g.faults (disk_under journal)))
             (err : result ≡ Err error) where
           pub stands_faulted : (caller : ℕ)
-              → StandsFor (record { journal = journal; books = old.books; turns = old.turns + 1; pins = old.pins; floor = old.floor; begun = old.begun; recovered = old.recovered; counted = counted })
+              → StandsFor {w = w} (record { journal = journal; books = old.books; watchers = old.watchers; turns = old.turns + 1; pins = old.pins; floor = old.floor; begun = old.begun; recovered = old.recovered; counted = counted })
               (turns ++ posting caller command (Faulted count) ∷ [])
           stands_faulted caller =
               let entry = posting caller command (Faulted count) in
@@ -413,6 +424,8 @@ module _ {D : Type 0} {g : Ghosts D} where
                 images_since = λ (honest : g.honest (begun_of old)). since_more entry honest
                     (λ image file. holds_more opening (turns ++ entry ∷ []) command image (pending-now turns caller command count) (rw same file));
                 fault_count = sym told ∙ sym (faults_after-more opening turns caller command count);
+                alone = λ still. absurd (all_in (λ (e : Entry). IsQuietReply e.reply) turns [] entry still);
+                told = subst (w.told old.watchers) (sym (accepted-same turns entry refl)) stands.told;
                 inside = record {
                   later = λ (honest : g.honest (begun_of old)).
                       omega (arith, stands.inside.later honest, (moments (stands.honesty.0 honest)).later);
@@ -425,7 +438,7 @@ module _ {D : Type 0} {g : Ghosts D} where
               }
 
   -- the disk that an office leaves
-  pub left_by : (state : OfficeState D g) (turns : List Entry) → StandsFor state turns
+  pub left_by : (state : OfficeState D W g w) (turns : List Entry) → StandsFor state turns
       → IsLeftBy g (begun_of state) (disk_of state) (opening_of state) turns
   left_by state turns stands = record {
     honesty = stands.honesty;
@@ -433,4 +446,5 @@ module _ {D : Type 0} {g : Ghosts D} where
     now = stands.images_now;
     since = λ honest. (stands.images_since honest).since;
     synced = λ honest. (stands.images_since honest).synced;
+    alone = stands.alone;
   }

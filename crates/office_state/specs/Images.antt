@@ -1,11 +1,12 @@
 -- What the images of a disk hold, on which an office was opened
 use Rattle.std.specs.Prelude.{◌≡◌, ◌⊎◌, ◌↔◌, ℕ, List, [], ◌∷◌, ◌++◌, None}
-use Rattle.std.specs.List.{filter_map, last_or}
+use Rattle.std.specs.List.{AllByRecursion, filter_map, last_or}
 use Rattle.std.specs.Option.{unwrap_or}
 use Rattle.outside_io.specs.declared.disks.Disk.{Ghosts}
 use Rattle.policy_types.specs.declared.command.Command.{Command}
 use Rattle.policy_types.specs.declared.entry.Call.TheVariants.{Post}
-use Rattle.policy_types.specs.declared.entry.Reply.TheVariants.{Faulted}
+use Rattle.policy_types.specs.declared.entry.Reply.{Reply}
+use Rattle.policy_types.specs.declared.entry.Reply.TheVariants.{Accepted, Faulted}
 use Rattle.policy_types.specs.declared.entry.Entry.{Entry}
 use Rattle.policy_machine.specs.History.{Opening, accepted_of, commands_after, fault_of}
 use Rattle.posting_journal.specs.Creation.{IsUnfinished}
@@ -68,23 +69,14 @@ abbrev pub faults_after : Opening → List Entry → ℕ
 faults_after opening history =
     unwrap_or (last_or None (filter_map (λ (entry : Entry). fault_of entry.reply) history)) opening.faults
 
--- The disk on which an office was opened, and what became of it in the history. Since the opening began a crash leaves
--- what it might have left before, or an image of the history; since the end of a sync the second alone.
-pub record IsLeftBy {D : Type 0} (g : Ghosts D) (old new : D) (opening : Opening) (history : List Entry) : Type 0 where
-  pub honesty : (g.honest old) ↔ (g.honest new)
-  pub faults : g.faults new ≡ faults_after opening history
-  pub now : g.honest old → (image : List ℕ) → g.may_leave new image → HoldsNow opening history image
-  pub since : g.honest old → (image : List ℕ) → g.left_since new (g.clock old) image
-      → g.may_leave old image ⊎ HoldsOnce opening history image
-  pub synced : g.honest old → (mid : D) × IsSynced g old mid new × HoldsSince g new (g.clock mid) opening history
-
 -- the file opens to some commands, and so does the image
 abbrev pub OpensAlike : List ℕ → List ℕ → Type 0
 OpensAlike bytes image = (commands : List Command) × Opens bytes commands × Opens image commands
 
--- A disk on which no office ran. Since the call a crash leaves what it might have left before, or what opens to the
--- commands to which the file opened. Either the disk was only looked at, or since the end of a sync a crash leaves what
--- was read before the call, or what opens alike. No file but an unfinished creation is written to.
+-- A disk on which no office ran, or one at which no posting was accepted or met a fault. Since the call a crash leaves
+-- what it might have left before, or what opens to the commands to which the file opened. Either the disk was only
+-- looked at, or since the end of a sync a crash leaves what was read before the call, or what opens alike. No file but an
+-- unfinished creation is written to.
 pub record IsLeftAlone {D : Type 0} (g : Ghosts D) (old new : D) : Type 0 where
   pub honesty : (g.honest old) ↔ (g.honest new)
   pub unwritten : g.honest old → ¬ IsUnfinished (g.reads old) → LooksOn g old new
@@ -93,3 +85,25 @@ pub record IsLeftAlone {D : Type 0} (g : Ghosts D) (old new : D) : Type 0 where
   pub synced : g.honest old → LooksOn g old new
       ⊎ ((mid : D) × IsSynced g old mid new × ((image : List ℕ) → g.left_since new (g.clock mid) image
       → (image ≡ g.reads old) ⊎ OpensAlike (g.reads old) image))
+
+-- any reply but that of an accepted posting, or of one that met a fault
+abbrev pub IsQuietReply : Reply → Type 0
+IsQuietReply (Accepted position) = ⊥
+IsQuietReply (Faulted count) = ⊥
+IsQuietReply _ = Unit {0}
+
+-- no posting of the history was accepted, and none met a fault of the disk
+abbrev pub AreQuiet : List Entry → Type 0
+AreQuiet history = AllByRecursion (λ (entry : Entry). IsQuietReply entry.reply) history
+
+-- The disk on which an office was opened, and what became of it in the history. Since the opening began a crash leaves
+-- what it might have left before, or an image of the history; since the end of a sync the second alone. Where
+-- no posting was accepted or met a fault, the disk is left alone.
+pub record IsLeftBy {D : Type 0} (g : Ghosts D) (old new : D) (opening : Opening) (history : List Entry) : Type 0 where
+  pub honesty : (g.honest old) ↔ (g.honest new)
+  pub faults : g.faults new ≡ faults_after opening history
+  pub now : g.honest old → (image : List ℕ) → g.may_leave new image → HoldsNow opening history image
+  pub since : g.honest old → (image : List ℕ) → g.left_since new (g.clock old) image
+      → g.may_leave old image ⊎ HoldsOnce opening history image
+  pub synced : g.honest old → (mid : D) × IsSynced g old mid new × HoldsSince g new (g.clock mid) opening history
+  pub alone : AreQuiet history → IsLeftAlone g old new

@@ -4,6 +4,7 @@ use Rattle.outside_io.specs.declared.disks.Disk.{Ghosts}
 use Rattle.outside_io.specs.Faults.{Rose}
 use Rattle.posting_journal.specs.Creation.{IsUnfinished}
 use Rattle.posting_journal.specs.Runs.{LooksOn}
+use Rattle.watcher_set.specs.declared.watching.Watching.{Ghosts as WatcherGhosts}
 use Rattle.office_state.specs.declared.faults.StartCause.{StartCause}
 use Rattle.office_state.specs.declared.faults.StartCause.TheVariants.{DiskFault}
 use Rattle.office_state.specs.declared.state.OfficeState.{OfficeState}
@@ -14,7 +15,7 @@ use Rattle.office_state.specs.Standing.{StandsFor}
 
 -- The office is that of the commands to which the disk's file opened, and stands for no turns yet. The disk didn't
 -- fail. No file but an unfinished creation was written to.
-pub record HasOpened {D : Type 0} {g : Ghosts D} (old : D) (state : OfficeState D g) : Type 0 where
+pub record HasOpened {D W : Type 0} {g : Ghosts D} {w : WatcherGhosts W} (old : D) (state : OfficeState D W g w) : Type 0 where
   pub begun : begun_of state ≡ old
   pub stands : StandsFor state []
   pub quiet : g.faults (disk_of state) ≡ g.faults old

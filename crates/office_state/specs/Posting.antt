@@ -24,10 +24,6 @@ reply_of NoMemory = Blank
 abbrev pub turn_of : ℕ → Command → Answer → Entry
 turn_of caller command answer = record { caller = caller; call = Post command; reply = reply_of answer }
 
-abbrev pub HasNoMemory : Answer → Type 0
-HasNoMemory NoMemory = Unit {0}
-HasNoMemory _ = ⊥
-
 -- the answers that come before anything is written
 abbrev pub IsBeforeWriting : Answer → Type 0
 IsBeforeWriting (RefusedFor refusal) = Unit {0}

@@ -4,16 +4,18 @@ use Rattle.outside_io.specs.declared.disks.Disk.{Ghosts}
 use Rattle.policy_types.specs.declared.entry.Entry.{Entry}
 use Rattle.policy_machine.specs.Accounts.{ledger_of}
 use Rattle.policy_machine.specs.Book.{book}
-use Rattle.policy_machine.specs.History.{Opening, IsLegal, commands_after, floor_of}
+use Rattle.policy_machine.specs.History.{Opening, IsLegal, accepted_of, commands_after, floor_of}
 use Rattle.posting_journal.specs.Opening.{IsSynced}
+use Rattle.watcher_set.specs.declared.watching.Watching.{Ghosts as WatcherGhosts}
 use Rattle.office_state.specs.declared.state.OfficeState.{OfficeState}
-use Rattle.office_state.specs.Images.{HoldsNow, HoldsOnce, HoldsSince, faults_after}
+use Rattle.office_state.specs.Images.{AreQuiet, HoldsNow, HoldsOnce, HoldsSince, IsLeftAlone, faults_after}
 use Rattle.office_state.specs.Pins.{pins_held}
 use Rattle.office_state.specs.States.{balances_of, begun_of, commands_of, count_of, disk_of, floor_kept, opening_of, pins_of, policies_of, turns_of}
 use Rattle.office_state.specs.inside.Holding.{Holds}
 
 -- the turns are a legal history from the opening on, and the count is that of the commands after it
-pub record IsHistory {D : Type 0} {g : Ghosts D} (state : OfficeState D g) (turns : List Entry) : Type 0 where
+pub record IsHistory {D W : Type 0} {g : Ghosts D} {w : WatcherGhosts W} (state : OfficeState D W g w) (turns : List Entry)
+    : Type 0 where
   pub legal : IsLegal (opening_of state) turns
   pub counted : count_of state ≡ length (commands_after (opening_of state) turns)
 
@@ -24,7 +26,8 @@ pub record LeavesSince {D : Type 0} (g : Ghosts D) (begun now : D) (opening : Op
       ⊎ HoldsOnce opening turns image
   pub synced : (mid : D) × IsSynced g begun mid now × HoldsSince g now (g.clock mid) opening turns
 
-pub record StandsFor {D : Type 0} {g : Ghosts D} (state : OfficeState D g) (turns : List Entry) : Type 0 where
+pub record StandsFor {D W : Type 0} {g : Ghosts D} {w : WatcherGhosts W} (state : OfficeState D W g w) (turns : List Entry)
+    : Type 0 where
   pub history : IsHistory state turns
   pub kept : commands_of state ≡ commands_after (opening_of state) turns
   pub policies : policies_of state ≡ book (commands_after (opening_of state) turns)
@@ -39,4 +42,8 @@ pub record StandsFor {D : Type 0} {g : Ghosts D} (state : OfficeState D g) (turn
   -- what a crash at some moment since the opening began might have left
   pub images_since : g.honest (begun_of state) → LeavesSince g (begun_of state) (disk_of state) (opening_of state) turns
   pub fault_count : g.faults (disk_of state) ≡ faults_after (opening_of state) turns
+  -- while no posting was accepted or met a fault, the disk is left as opening it left it
+  pub alone : AreQuiet turns → IsLeftAlone g (begun_of state) (disk_of state)
+  -- its watchers were told of just the accepted commands, in their order
+  pub told : w.told state.watchers (accepted_of turns)
   pub inside : Holds (begun_of state) state.journal (opening_of state) turns

@@ -4,7 +4,7 @@ ghost use Rattle.std.specs.List.{Contains};
 ghost use Rattle.policy_types.specs.declared.entry.Entry.{Entry};
 ghost use Rattle.office_state.specs.Pins.{MayRead};
 ghost use Rattle.office_state.specs.Standing.{StandsFor};
-ghost use Rattle.office_state.specs.States.{disk_of, opened_of, pins_of, room_of, turns_of};
+ghost use Rattle.office_state.specs.States.{disk_of, opened_of, pins_of, turns_of};
 ghost use Rattle.office_state.specs.Turning.{read_turn};
 ghost use Rattle.office_state.specs.declared.held.Held.{Held as AHeld};
 
@@ -15,6 +15,7 @@ use outside_io::Disk;
 use policy_types::{NoMemory, Policy};
 use std::alloc::Global;
 use std::marker::Model;
+use watcher_set::Watching;
 
 /// Policies in order of issue, with room for 256. Contracts see it as their list.
 #[derive(Drop)]
@@ -51,7 +52,7 @@ impl Batch {
     }
 }
 
-impl<D: Disk> OfficeState<D> {
+impl<D: Disk, W: Watching> OfficeState<D, W> {
     /// The live pin of this number, if there is one.
     pub fn held(&self, pin: u64) -> Option<Held>
         ensures found { IfSome result (λ held. Contains (pins_of self.now) held × (held.number ≡ pin)) }
@@ -72,7 +73,6 @@ impl<D: Disk> OfficeState<D> {
         requires held { MayRead (pins_of self.old) caller pin first }
         ensures opened { opened_of self.new ≡ opened_of self.old }
         ensures disk { disk_of self.new ≡ disk_of self.old }
-        ensures room { room_of self.new ≡ room_of self.old }
         ensures stands { (history : List Entry) → StandsFor self.old history
             → StandsFor self.new (history ++ read_turn caller pin first batch.new ∷ []) }
     {

@@ -1,5 +1,5 @@
 // The books: the accepted commands, and the policies and balances that they leave.
-ghost use Rattle.std.specs.Prelude.{◌≡◌, ◌+◌, ◌<◌, ◌≤◌, ◌++◌, [], ◌∷◌, Ok, Some, IsOk, IfOk, OnOk, length, take, slice_get};
+ghost use Rattle.std.specs.Prelude.{◌≡◌, ◌+◌, ◌<◌, ◌≤◌, ◌++◌, [], ◌∷◌, Ok, Some, IfOk, OnOk, length, take, slice_get};
 ghost use Rattle.policy_types.specs.Limits.{most_commands};
 ghost use Rattle.policy_types.specs.Valid.{IsValid, id_of};
 ghost use Rattle.policy_machine.specs.Accounts.{ledger_of};
@@ -49,8 +49,6 @@ impl Books {
     pub(crate) fn reserve(&mut self, additional: usize) -> Result<(), NoMemory>
         ensures commands { commands_in self.new ≡ commands_in self.old }
         ensures done { OnOk result (additional ≤ room_in self.new) }
-        ensures room { room_in self.old ≤ room_in self.new }
-        ensures succeeds { additional ≤ room_in self.old → IsOk result }
     {
         if self.commands.reserve(additional).is_err() {
             return Err(NoMemory);

@@ -1,6 +1,7 @@
 // An office is opened on a disk: its journal is opened, and each record is decided anew, in order.
-ghost use Rattle.std.specs.Prelude.{◌≡◌, ◌↔◌, IfOk, IfErr};
+ghost use Rattle.std.specs.Prelude.{◌≡◌, ◌↔◌, [], IfOk, IfErr};
 ghost use Rattle.office_state.specs.Opening.{HasOpened, HasNotOpened};
+ghost use Rattle.office_state.specs.States.{auditors_of};
 ghost use Rattle.office_state.specs.inside.Replays.{IsOfficeOf, HasNoOffice, as_cause};
 
 use crate::books::Books;
@@ -12,16 +13,20 @@ use outside_io::Disk;
 use posting_journal::{Journal, JournalCause};
 use std::alloc::Global;
 use std::snapshot::Snapshot;
+use watcher_set::Watching;
 
-impl<D: Disk> OfficeState<D> {
-    /// The office of the disk's journal. Over any file but an unfinished creation nothing is written.
-    pub fn open(alloc: Global, disk: D) -> Result<OfficeState<D>, StartFault<D>>
+impl<D: Disk, W: Watching> OfficeState<D, W> {
+    /// The office of the disk's journal, with watchers who were told of nothing. Over any file but an unfinished creation
+    /// nothing is written.
+    pub fn open(alloc: Global, disk: D, watchers: W) -> Result<OfficeState<D, W>, StartFault<D>>
+        requires { W.told watchers [] }
         ensures opened { IfOk result (λ state. HasOpened disk state) }
+        ensures auditors { IfOk result (λ state. auditors_of state ≡ W.handed watchers) }
         ensures refused { IfErr result (λ fault. HasNotOpened D.Disk disk fault.disk fault.cause) }
     {
         let begun = Snapshot::of(&disk);
         match Journal::start(disk) {
-            Ok(journal) => office_of(alloc, journal, begun),
+            Ok(journal) => office_of(alloc, journal, begun, watchers),
             Err(fault) => Err(StartFault {
                 cause: cause_of(fault.cause),
                 disk: fault.disk,
@@ -42,12 +47,13 @@ fn cause_of(cause: JournalCause) -> StartCause
 }
 
 // The office of a journal that was opened.
-fn office_of<D: Disk>(
+fn office_of<D: Disk, W: Watching>(
     alloc: Global,
     journal: Journal<D>,
     begun: Snapshot<D>,
-) -> Result<OfficeState<D>, StartFault<D>>
-    ensures opened { IfOk result (λ state. IsOfficeOf journal begun.value state) }
+    watchers: W,
+) -> Result<OfficeState<D, W>, StartFault<D>>
+    ensures opened { IfOk result (λ state. IsOfficeOf journal begun.value watchers state) }
     ensures none { IfErr result (λ fault. HasNoOffice journal fault.disk fault.cause) }
 {
     let mut journal = journal;
@@ -63,6 +69,7 @@ fn office_of<D: Disk>(
             Ok(OfficeState {
                 journal,
                 books,
+                watchers,
                 turns: 0,
                 pins: ArrayVec::new(),
                 floor: 0,

@@ -1,47 +1,38 @@
 // A command is posted.
-ghost use Rattle.std.specs.Prelude.{◌≡◌, ◌↔◌, ◌+◌, ◌^◌, ◌≤◌, ◌<◌, ◌++◌, [], ◌∷◌, Ok, OnOk, IsOk, List, ℕ};
+ghost use Rattle.std.specs.Prelude.{◌≡◌, ◌↔◌, ◌^◌, ◌≤◌, ◌<◌, ◌++◌, [], ◌∷◌, Ok, OnOk, List, ℕ};
 ghost use Rattle.policy_types.specs.Valid.{IsValid, id_of};
+ghost use Rattle.policy_types.specs.declared.command.Command.{Command as ACommand};
 ghost use Rattle.policy_types.specs.declared.entry.Entry.{Entry};
 ghost use Rattle.policy_machine.specs.Book.{policy_of};
 ghost use Rattle.policy_machine.specs.Rules.{next};
-ghost use Rattle.office_state.specs.Posting.{CrashesIn, HasNoMemory, IsBeforeWriting, turn_of};
+ghost use Rattle.office_state.specs.Posting.{CrashesIn, IsBeforeWriting, turn_of};
 ghost use Rattle.office_state.specs.Standing.{StandsFor};
-ghost use Rattle.office_state.specs.States.{commands_of, disk_of, opened_of, opening_of, room_of, turns_of};
+ghost use Rattle.office_state.specs.States.{commands_of, disk_of, opened_of, opening_of, turns_of};
+ghost use Rattle.office_state.specs.inside.Books.{commands_in, room_in};
 ghost use Rattle.office_state.specs.inside.Turns.{one_more};
 
 use crate::answer::Answer;
+use crate::books::Books;
 use crate::recording::record;
 use crate::state::OfficeState;
 use outside_io::Disk;
 use policy_types::{Command, NoMemory, Policy, Refusal};
 use record_codec::encode;
+use watcher_set::Watching;
 
 /// The most commands that may be accepted.
 const MOST_COMMANDS: u32 = 4_000_000;
 
-impl<D: Disk> OfficeState<D> {
-    /// Makes room, so that this many postings can't lack memory.
-    pub fn reserve(&mut self, postings: usize) -> Result<(), NoMemory>
-        ensures opened { opened_of self.new ≡ opened_of self.old }
-        ensures disk { disk_of self.new ≡ disk_of self.old }
-        ensures done { OnOk result (postings ≤ room_of self.new) }
-        ensures room { room_of self.old ≤ room_of self.new }
-        ensures succeeds { postings ≤ room_of self.old → IsOk result }
-        ensures stands { (history : List Entry) → StandsFor self.old history → StandsFor self.new history }
-    {
-        self.books.reserve(postings)
-    }
-
-    /// Answers a caller's command. It is accepted only once its record outlives a crash; what is refused, or lacks
-    /// memory, touches nothing.
+impl<D: Disk, W: Watching> OfficeState<D, W> {
+    /// Answers a caller's command. First all memory is taken. The command is accepted only once its record outlives a
+    /// crash, and then the watchers are told of it; what is refused, or lacks memory, touches nothing.
     pub fn post(&mut self, caller: u64, command: &Command) -> Answer
         requires turns { turns_of self.old < 2 ^ 62 }
         requires valid { IsValid command.now }
+        requires stands { (history : List Entry) × StandsFor self.old history }
         ensures opened { opened_of self.new ≡ opened_of self.old }
         ensures honesty { (D.honest (disk_of self.old)) ↔ (D.honest (disk_of self.new)) }
         ensures unwritten { IsBeforeWriting result → disk_of self.new ≡ disk_of self.old }
-        ensures room { room_of self.old ≤ room_of self.new + 1 }
-        ensures memory { 1 ≤ room_of self.old → HasNoMemory result → ⊥ }
         ensures stands { (history : List Entry) → StandsFor self.old history
             → StandsFor self.new (history ++ turn_of caller command.now result ∷ []) }
         ensures crash { (history : List Entry) → StandsFor self.old history → D.honest (disk_of self.old)
@@ -56,18 +47,17 @@ impl<D: Disk> OfficeState<D> {
     // Answers a command, in a turn that isn't counted yet.
     fn decide(&mut self, command: &Command) -> Answer
         requires valid { IsValid command.now }
+        requires stands { (history : List Entry) × StandsFor self.old history }
         ensures opened { opened_of self.new ≡ opened_of self.old }
         ensures honesty { (D.honest (disk_of self.old)) ↔ (D.honest (disk_of self.new)) }
         ensures turns { turns_of self.new ≡ turns_of self.old }
         ensures unwritten { IsBeforeWriting result → disk_of self.new ≡ disk_of self.old }
-        ensures room { room_of self.old ≤ room_of self.new + 1 }
-        ensures memory { 1 ≤ room_of self.old → HasNoMemory result → ⊥ }
         ensures stands { (history : List Entry) (caller : ℕ) → StandsFor self.old history
             → StandsFor (one_more self.new) (history ++ turn_of caller command.now result ∷ []) }
         ensures crash { (history : List Entry) → StandsFor self.old history → D.honest (disk_of self.old)
             → CrashesIn D.Disk (disk_of self.old) (disk_of self.new) (opening_of self.old) history command.now result }
     {
-        if self.books.reserve(1).is_err() {
+        if take_memory(&mut self.books, &mut self.watchers).is_err() {
             return Answer::NoMemory;
         }
         match self.books.decision(command) {
@@ -76,17 +66,17 @@ impl<D: Disk> OfficeState<D> {
         }
     }
 
-    // Records a command that the rules accept, and keeps it.
+    // Records a command that the rules accept, keeps it, and tells the watchers.
     fn accept(&mut self, command: &Command, policy: Policy) -> Answer
         requires valid { IsValid command.now }
+        requires stands { (history : List Entry) × StandsFor self.old history }
         requires accepted { next (policy_of (commands_of self.old) (id_of command.now)) command.now ≡ Ok policy }
-        requires room { 1 ≤ room_of self.old }
+        requires room { 1 ≤ room_in self.old.books }
+        requires ready { W.has_room self.old.watchers }
         ensures opened { opened_of self.new ≡ opened_of self.old }
         ensures honesty { (D.honest (disk_of self.old)) ↔ (D.honest (disk_of self.new)) }
         ensures turns { turns_of self.new ≡ turns_of self.old }
         ensures unwritten { IsBeforeWriting result → disk_of self.new ≡ disk_of self.old }
-        ensures room { room_of self.old ≤ room_of self.new + 1 }
-        ensures memory { HasNoMemory result → ⊥ }
         ensures stands { (history : List Entry) (caller : ℕ) → StandsFor self.old history
             → StandsFor (one_more self.new) (history ++ turn_of caller command.now result ∷ []) }
         ensures crash { (history : List Entry) → StandsFor self.old history → D.honest (disk_of self.old)
@@ -98,9 +88,23 @@ impl<D: Disk> OfficeState<D> {
         match record(&mut self.journal, &encode(command)) {
             Ok(()) => {
                 self.books.keep(command, policy);
-                Answer::Accepted(self.books.count())
+                let position = self.books.count();
+                self.watchers.note(position, command);
+                Answer::Accepted(position)
             }
             Err(fault) => Answer::DiskFault(fault.count),
         }
     }
+}
+
+// Takes the memory that a posting may need: that of the books, and that of the watchers.
+fn take_memory<W: Watching>(books: &mut Books, watchers: &mut W) -> Result<(), NoMemory>
+    ensures commands { commands_in books.new ≡ commands_in books.old }
+    ensures handed { W.handed watchers.new ≡ W.handed watchers.old }
+    ensures told { (commands : List ACommand) → W.told watchers.old commands → W.told watchers.new commands }
+    ensures room { OnOk result (1 ≤ room_in books.new) }
+    ensures ready { OnOk result (W.has_room watchers.new) }
+{
+    books.reserve(1)?;
+    watchers.ready()
 }

@@ -4,16 +4,19 @@ ghost use Rattle.policy_types.specs.declared.entry.Entry.{Entry};
 ghost use Rattle.money_ledgers.specs.Balances.{balances};
 ghost use Rattle.policy_machine.specs.Accounts.{ledger_of};
 ghost use Rattle.policy_machine.specs.Book.{book};
+ghost use Rattle.policy_machine.specs.History.{accepted_of};
+ghost use Rattle.watcher_set.specs.Noted.{reports_of};
 ghost use Rattle.office_state.specs.Images.{IsLeftBy};
 ghost use Rattle.office_state.specs.Standing.{StandsFor};
-ghost use Rattle.office_state.specs.States.{begun_of, commands_of, count_of, disk_of, opening_of, turns_of};
+ghost use Rattle.office_state.specs.States.{auditors_of, begun_of, commands_of, count_of, disk_of, opening_of, turns_of};
 
 use crate::state::OfficeState;
 use money_ledgers::Ledger;
 use outside_io::Disk;
 use policy_types::Policy;
+use watcher_set::{Reports, Watching};
 
-impl<D: Disk> OfficeState<D> {
+impl<D: Disk, W: Watching> OfficeState<D, W> {
     /// How many commands are accepted.
     pub fn count(&self) -> u32
         ensures { result ≡ count_of self.now }
@@ -53,15 +56,19 @@ impl<D: Disk> OfficeState<D> {
         self.books.policy(index, p)
     }
 
-    /// Gives back the disk, and the ledger.
-    pub fn close(self) -> (D, Ledger)
+    /// Gives back the disk, and the ledger, and the reports of the watchers.
+    pub fn close(self) -> (D, Ledger, Reports)
         ensures disk { result.0 ≡ disk_of self }
         ensures ledger { balances result.1 ≡ ledger_of (commands_of self) }
         ensures left { (history : List Entry) → StandsFor self history
             → IsLeftBy D.Disk (begun_of self) result.0 (opening_of self) history }
+        ensures reports { (history : List Entry) → StandsFor self history
+            → result.2 ≡ reports_of (auditors_of self) (accepted_of history) }
     {
         let ledger = self.books.ledger();
-        let OfficeState { journal, .. } = self;
-        (journal.release(), ledger)
+        let OfficeState {
+            journal, watchers, ..
+        } = self;
+        (journal.release(), ledger, watchers.finish())
     }
 }

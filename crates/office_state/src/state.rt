@@ -7,12 +7,15 @@ use crate::held::Pins;
 use outside_io::Disk;
 use posting_journal::Journal;
 use std::snapshot::Snapshot;
+use watcher_set::Watching;
 
 /// An office on its disk: each accepted command stands in its journal, and all of them are kept in memory.
 #[derive(Drop)]
-pub struct OfficeState<D: Disk> {
+pub struct OfficeState<D: Disk, W: Watching> {
     pub(crate) journal: Journal<D>,
     pub(crate) books: Books,
+    // Who is told of each accepted command.
+    pub(crate) watchers: W,
     // How many turns it answered.
     pub(crate) turns: u64,
     pub(crate) pins: Pins,

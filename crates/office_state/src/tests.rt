@@ -1,14 +1,36 @@
 // Offices on disks in memory: the rows of postings that an office answers, what it then shows, and what it opens to
 // again. Days, amounts and balances are worked by hand from the rules.
+ghost use Rattle.std.specs.Prelude.{[]};
+
 use crate::{Answer, Batch, OfficeState, PinInfo, StartCause};
 use memory_disk::MemoryDisk;
 use money_ledgers::Ledger;
-use policy_types::{Command, PinRefusal, Plan, Policy, Refusal, Status};
+use policy_types::{
+    Command, NoMemory, PinRefusal, Plan, Policy, Refusal, Report, Status, Watcher,
+};
 use posting_journal::Journal;
 use record_codec::encode;
 use std::alloc::{AllocError, Global};
+use std::marker::Model;
+use watcher_set::{CountWatcher, NoWatchers, PremiumWatcher, Reports, Watchers, Watching};
 
-type Office = OfficeState<MemoryDisk>;
+/// An office that stands for some history of its turns.
+#[derive(Drop)]
+struct Desk<W: Watching> {
+    office: OfficeState<MemoryDisk, W>,
+}
+
+impl<W: Watching> Model for Desk<W> {
+    ghost use Rattle.std.specs.Prelude.{List};
+    ghost use Rattle.policy_types.specs.declared.entry.Entry.{Entry};
+    ghost use Rattle.office_state.specs.Standing.{StandsFor};
+
+    ghost Value = { Unit {0} };
+
+    ghost view = { λ _. tt };
+
+    ghost invariant = { λ desk. (history : List Entry) × StandsFor desk.office history };
+}
 
 // An office is asked only while it answered fewer turns.
 const MOST_TURNS: u64 = 1 << 62;
@@ -108,29 +130,53 @@ fn refused(command: Command, refusal: Refusal) -> Posting {
     }
 }
 
-fn office_on(
+fn lacking_memory(command: Command) -> Posting {
+    Posting {
+        command,
+        answer: Answer::NoMemory,
+    }
+}
+
+// An office on these bytes, with watchers who were told of nothing.
+fn watched_on<W: Watching>(
     alloc: Global,
     bytes: &[u8],
     failing: &[u64],
-) -> Result<Result<Office, StartCause>, AllocError> {
+    watchers: W,
+) -> Result<Result<Desk<W>, StartCause>, AllocError>
+    requires { W.told watchers [] }
+{
     let disk = MemoryDisk::new(
         alloc,
         Vec::from_slice(alloc, bytes)?,
         Vec::from_slice(alloc, failing)?,
     );
-    match OfficeState::open(alloc, disk) {
-        Ok(office) => Ok(Ok(office)),
+    match OfficeState::open(alloc, disk, watchers) {
+        Ok(office) => Ok(Ok(Desk { office })),
         Err(fault) => Ok(Err(fault.cause)),
     }
 }
 
-// Whether the office answers so, one after the other.
-fn answers(office: &mut Office, postings: &[Posting]) -> bool {
+fn office_on(
+    alloc: Global,
+    bytes: &[u8],
+    failing: &[u64],
+) -> Result<Result<Desk<NoWatchers>, StartCause>, AllocError> {
+    watched_on(alloc, bytes, failing, NoWatchers)
+}
+
+// Whether the office answers a posting so.
+fn answers_one<W: Watching>(desk: &mut Desk<W>, posting: &Posting) -> bool {
+    if MOST_TURNS <= desk.office.turns() || !posting.command.is_valid() {
+        return false;
+    }
+    desk.office.post(1, &posting.command) == posting.answer
+}
+
+// Whether it answers so, one after the other.
+fn answers<W: Watching>(desk: &mut Desk<W>, postings: &[Posting]) -> bool {
     for posting in postings {
-        if MOST_TURNS <= office.turns() || !posting.command.is_valid() {
-            return false;
-        }
-        if office.post(1, &posting.command) != posting.answer {
+        if !answers_one(desk, posting) {
             return false;
         }
     }
@@ -138,12 +184,12 @@ fn answers(office: &mut Office, postings: &[Posting]) -> bool {
 }
 
 // Whether just these policies stood there after so many commands.
-fn shows(office: &Office, position: u32, policies: &[Policy]) -> bool {
-    if office.count() < position || office.policies(position) as usize != policies.len() {
+fn shows<W: Watching>(desk: &Desk<W>, position: u32, policies: &[Policy]) -> bool {
+    if desk.office.count() < position || desk.office.policies(position) as usize != policies.len() {
         return false;
     }
-    for index in 0..office.policies(position) {
-        if office.policy(index, position) != policies[index as usize] {
+    for index in 0..desk.office.policies(position) {
+        if desk.office.policy(index, position) != policies[index as usize] {
             return false;
         }
     }
@@ -217,18 +263,19 @@ fn rows_of_postings(rt: HostRuntime) -> Result<(), AllocError> {
         },
     ];
     for row in rows.iter() {
-        let Ok(mut office) = office_on(alloc, &[], &[])? else {
+        let Ok(mut desk) = office_on(alloc, &[], &[])? else {
             panic!(rt; "no office");
         };
-        assert!(rt; answers(&mut office, row.postings));
-        assert!(rt; shows(&office, office.count(), &[row.policy]));
-        let (disk, balances) = office.close();
+        assert!(rt; answers(&mut desk, row.postings));
+        assert!(rt; shows(&desk, desk.office.count(), &[row.policy]));
+        let (disk, balances, reports) = desk.office.close();
+        assert!(rt; reports.as_slice().is_empty());
         assert_eq!(rt; balances, row.ledger);
         let Ok(again) = office_on(alloc, disk.bytes(), &[])? else {
             panic!(rt; "not opened again");
         };
-        assert!(rt; shows(&again, again.count(), &[row.policy]));
-        assert_eq!(rt; again.ledger(), row.ledger);
+        assert!(rt; shows(&again, again.office.count(), &[row.policy]));
+        assert_eq!(rt; again.office.ledger(), row.ledger);
     }
     Ok(())
 }
@@ -237,26 +284,25 @@ fn rows_of_postings(rt: HostRuntime) -> Result<(), AllocError> {
 #[test]
 fn policies_at_each_position(rt: HostRuntime) -> Result<(), AllocError> {
     let alloc = rt.alloc();
-    let Ok(mut office) = office_on(alloc, &[], &[])? else {
+    let Ok(mut desk) = office_on(alloc, &[], &[])? else {
         panic!(rt; "no office");
     };
-    assert!(rt; office.reserve(4).is_ok());
     let postings = [
         accepted(issue(7001, NEW_YEAR), 1),
         accepted(premium(NEW_YEAR), 2),
         accepted(issue(3, NEW_YEAR), 3),
         accepted(premium(18538), 4),
     ];
-    assert!(rt; answers(&mut office, &postings));
+    assert!(rt; answers(&mut desk, &postings));
     let first = policy(7001, NEW_YEAR, NEW_YEAR, 0, Status::InForce, 0);
     let paid = policy(7001, NEW_YEAR, NEW_YEAR, 1, Status::InForce, 0);
     let paid_twice = policy(7001, NEW_YEAR, 18538, 2, Status::InForce, 0);
     let other = policy(3, NEW_YEAR, NEW_YEAR, 0, Status::InForce, 0);
-    assert!(rt; shows(&office, 0, &[]));
-    assert!(rt; shows(&office, 1, &[first]));
-    assert!(rt; shows(&office, 2, &[paid]));
-    assert!(rt; shows(&office, 3, &[paid, other]));
-    assert!(rt; shows(&office, 4, &[paid_twice, other]));
+    assert!(rt; shows(&desk, 0, &[]));
+    assert!(rt; shows(&desk, 1, &[first]));
+    assert!(rt; shows(&desk, 2, &[paid]));
+    assert!(rt; shows(&desk, 3, &[paid, other]));
+    assert!(rt; shows(&desk, 4, &[paid_twice, other]));
     Ok(())
 }
 
@@ -265,7 +311,7 @@ fn policies_at_each_position(rt: HostRuntime) -> Result<(), AllocError> {
 fn a_posting_that_faults(rt: HostRuntime) -> Result<(), AllocError> {
     let alloc = rt.alloc();
     // A creation makes 9 calls, a posting 4.
-    let Ok(mut office) = office_on(alloc, &[], &[29])? else {
+    let Ok(mut desk) = office_on(alloc, &[], &[29])? else {
         panic!(rt; "no office");
     };
     let faulted = Posting {
@@ -279,17 +325,17 @@ fn a_posting_that_faults(rt: HostRuntime) -> Result<(), AllocError> {
         accepted(issue(4, NEW_YEAR), 4),
         faulted,
     ];
-    assert!(rt; answers(&mut office, &postings));
-    assert_eq!(rt; office.count(), 4);
-    assert!(rt; answers(&mut office, &[accepted(issue(6, NEW_YEAR), 5)]));
-    let (disk, _) = office.close();
+    assert!(rt; answers(&mut desk, &postings));
+    assert_eq!(rt; desk.office.count(), 4);
+    assert!(rt; answers(&mut desk, &[accepted(issue(6, NEW_YEAR), 5)]));
+    let (disk, _, _) = desk.office.close();
     let Ok(again) = office_on(alloc, disk.bytes(), &[])? else {
         panic!(rt; "not opened again");
     };
     let mut ids = [0; 5];
-    assert_eq!(rt; again.policies(again.count()), 5);
-    for index in 0..again.policies(again.count()) {
-        ids[index as usize] = again.policy(index, again.count()).id;
+    assert_eq!(rt; again.office.policies(again.office.count()), 5);
+    for index in 0..again.office.policies(again.office.count()) {
+        ids[index as usize] = again.office.policy(index, again.office.count()).id;
     }
     assert_eq!(rt; ids, [1, 2, 3, 4, 6]);
     Ok(())
@@ -357,38 +403,38 @@ fn pinned(number: u64, position: u32, policies: u32) -> Result<PinInfo, PinRefus
 }
 
 // Whether the office answers so.
-fn pins_so(office: &mut Office, pinning: Pinning) -> bool {
-    if MOST_TURNS <= office.turns() {
+fn pins_so(desk: &mut Desk<NoWatchers>, pinning: Pinning) -> bool {
+    if MOST_TURNS <= desk.office.turns() {
         return false;
     }
     match pinning {
-        Pinning::Now(answer) => office.pin(1) == answer,
-        Pinning::At(p, answer) => office.pin_at(1, p) == answer,
-        Pinning::Trim(floor) => office.trim(1) == floor,
-        Pinning::Unpin(pin) => gives_up(office, pin),
+        Pinning::Now(answer) => desk.office.pin(1) == answer,
+        Pinning::At(p, answer) => desk.office.pin_at(1, p) == answer,
+        Pinning::Trim(floor) => desk.office.trim(1) == floor,
+        Pinning::Unpin(pin) => gives_up(desk, pin),
     }
 }
 
-fn gives_up(office: &mut Office, pin: u64) -> bool {
-    let Some(held) = office.held(pin) else {
+fn gives_up(desk: &mut Desk<NoWatchers>, pin: u64) -> bool {
+    let Some(held) = desk.office.held(pin) else {
         return false;
     };
-    if MOST_TURNS <= office.turns() || held.caller != 1 {
+    if MOST_TURNS <= desk.office.turns() || held.caller != 1 {
         return false;
     }
-    office.unpin(1, pin);
-    office.held(pin).is_none()
+    desk.office.unpin(1, pin);
+    desk.office.held(pin).is_none()
 }
 
 // Reads a batch of a pin, if the caller holds it.
-fn reads(office: &mut Office, pin: u64, first: u32, batch: &mut Batch) -> bool {
-    let Some(held) = office.held(pin) else {
+fn reads(desk: &mut Desk<NoWatchers>, pin: u64, first: u32, batch: &mut Batch) -> bool {
+    let Some(held) = desk.office.held(pin) else {
         return false;
     };
-    if MOST_TURNS <= office.turns() || held.caller != 1 || held.policies < first {
+    if MOST_TURNS <= desk.office.turns() || held.caller != 1 || held.policies < first {
         return false;
     }
-    office.read(1, pin, first, batch);
+    desk.office.read(1, pin, first, batch);
     true
 }
 
@@ -408,7 +454,7 @@ fn holds(batch: &Batch, many: usize, ids: (u32, u32)) -> bool {
 #[test]
 fn positions_that_are_pinned(rt: HostRuntime) -> Result<(), AllocError> {
     let alloc = rt.alloc();
-    let Ok(mut office) = office_on(alloc, &[], &[])? else {
+    let Ok(mut desk) = office_on(alloc, &[], &[])? else {
         panic!(rt; "no office");
     };
     let postings = [
@@ -449,13 +495,13 @@ fn positions_that_are_pinned(rt: HostRuntime) -> Result<(), AllocError> {
         Pinning::At(4, pinned(29, 4, 3)),
     ];
     for pinning in empty {
-        assert!(rt; pins_so(&mut office, pinning));
+        assert!(rt; pins_so(&mut desk, pinning));
     }
-    assert!(rt; answers(&mut office, &postings));
+    assert!(rt; answers(&mut desk, &postings));
     for pinning in full {
-        assert!(rt; pins_so(&mut office, pinning));
+        assert!(rt; pins_so(&mut desk, pinning));
     }
-    assert_eq!(rt; office.turns(), 30);
+    assert_eq!(rt; desk.office.turns(), 30);
     Ok(())
 }
 
@@ -468,13 +514,13 @@ fn sent<T: Send>(value: T) -> T {
 #[test]
 fn seventeen_pins(rt: HostRuntime) -> Result<(), AllocError> {
     let alloc = rt.alloc();
-    let Ok(mut office) = office_on(alloc, &[], &[])? else {
+    let Ok(mut desk) = office_on(alloc, &[], &[])? else {
         panic!(rt; "no office");
     };
     for number in 0..16 {
-        assert!(rt; pins_so(&mut office, Pinning::Now(pinned(number, 0, 0))));
+        assert!(rt; pins_so(&mut desk, Pinning::Now(pinned(number, 0, 0))));
     }
-    let mut office = sent(office);
+    let mut desk = sent(desk);
     let rows = [
         Pinning::Now(Err(PinRefusal::PinsFull)),
         Pinning::At(1, Err(PinRefusal::Ahead(0))),
@@ -484,7 +530,7 @@ fn seventeen_pins(rt: HostRuntime) -> Result<(), AllocError> {
         Pinning::Now(Err(PinRefusal::PinsFull)),
     ];
     for row in rows {
-        assert!(rt; pins_so(&mut office, row));
+        assert!(rt; pins_so(&mut desk, row));
     }
     Ok(())
 }
@@ -493,35 +539,35 @@ fn seventeen_pins(rt: HostRuntime) -> Result<(), AllocError> {
 #[test]
 fn reads_at_a_pins_position(rt: HostRuntime) -> Result<(), AllocError> {
     let alloc = rt.alloc();
-    let Ok(mut office) = office_on(alloc, &[], &[])? else {
+    let Ok(mut desk) = office_on(alloc, &[], &[])? else {
         panic!(rt; "no office");
     };
     let Ok(mut batch) = Batch::new(alloc) else {
         panic!(rt; "no batch");
     };
-    assert!(rt; answers(&mut office, &[accepted(issue(7001, NEW_YEAR), 1)]));
-    assert!(rt; pins_so(&mut office, Pinning::Now(pinned(1, 1, 1))));
+    assert!(rt; answers(&mut desk, &[accepted(issue(7001, NEW_YEAR), 1)]));
+    assert!(rt; pins_so(&mut desk, Pinning::Now(pinned(1, 1, 1))));
     let fresh = [policy(7001, NEW_YEAR, NEW_YEAR, 0, Status::InForce, 0)];
-    assert!(rt; reads(&mut office, 1, 0, &mut batch));
+    assert!(rt; reads(&mut desk, 1, 0, &mut batch));
     assert_eq!(rt; batch.policies(), &fresh[..]);
     let later = [
         accepted(premium(NEW_YEAR), 2),
         accepted(issue(3, NEW_YEAR), 3),
         accepted(premium(18538), 4),
     ];
-    assert!(rt; answers(&mut office, &later));
-    assert!(rt; pins_so(&mut office, Pinning::At(3, pinned(6, 3, 2))));
-    assert!(rt; reads(&mut office, 1, 0, &mut batch));
+    assert!(rt; answers(&mut desk, &later));
+    assert!(rt; pins_so(&mut desk, Pinning::At(3, pinned(6, 3, 2))));
+    assert!(rt; reads(&mut desk, 1, 0, &mut batch));
     assert_eq!(rt; batch.policies(), &fresh[..]);
     let paid = [
         policy(7001, NEW_YEAR, NEW_YEAR, 1, Status::InForce, 0),
         policy(3, NEW_YEAR, NEW_YEAR, 0, Status::InForce, 0),
     ];
-    assert!(rt; reads(&mut office, 6, 0, &mut batch));
+    assert!(rt; reads(&mut desk, 6, 0, &mut batch));
     assert_eq!(rt; batch.policies(), &paid[..]);
-    assert!(rt; reads(&mut office, 6, 1, &mut batch));
+    assert!(rt; reads(&mut desk, 6, 1, &mut batch));
     assert_eq!(rt; batch.policies(), &paid[1..]);
-    assert!(rt; reads(&mut office, 6, 2, &mut batch));
+    assert!(rt; reads(&mut desk, 6, 2, &mut batch));
     assert_eq!(rt; batch.policies().len(), 0);
     Ok(())
 }
@@ -530,17 +576,17 @@ fn reads_at_a_pins_position(rt: HostRuntime) -> Result<(), AllocError> {
 #[test]
 fn batches_of_many_policies(rt: HostRuntime) -> Result<(), AllocError> {
     let alloc = rt.alloc();
-    let Ok(mut office) = office_on(alloc, &[], &[])? else {
+    let Ok(mut desk) = office_on(alloc, &[], &[])? else {
         panic!(rt; "no office");
     };
     let Ok(mut batch) = Batch::new(alloc) else {
         panic!(rt; "no batch");
     };
     for id in 1..301 {
-        assert!(rt; answers(&mut office, &[accepted(issue(id, NEW_YEAR), id)]));
+        assert!(rt; answers(&mut desk, &[accepted(issue(id, NEW_YEAR), id)]));
     }
-    assert!(rt; pins_so(&mut office, Pinning::Now(pinned(300, 300, 300))));
-    assert!(rt; pins_so(&mut office, Pinning::At(299, pinned(301, 299, 299))));
+    assert!(rt; pins_so(&mut desk, Pinning::Now(pinned(300, 300, 300))));
+    assert!(rt; pins_so(&mut desk, Pinning::At(299, pinned(301, 299, 299))));
     let rows = [
         (300, 0, 256, (1, 256)),
         (300, 256, 44, (257, 300)),
@@ -552,8 +598,121 @@ fn batches_of_many_policies(rt: HostRuntime) -> Result<(), AllocError> {
         (301, 299, 0, (0, 0)),
     ];
     for (pin, first, policies, ids) in rows {
-        assert!(rt; reads(&mut office, pin, first, &mut batch));
+        assert!(rt; reads(&mut desk, pin, first, &mut batch));
         assert!(rt; holds(&batch, policies, ids));
     }
+    Ok(())
+}
+
+// Watchers who find no memory in one call, and note nothing.
+#[derive(Drop)]
+struct Forgetful {
+    calls: u32,
+    refused: u32,
+    nobody: NoWatchers,
+}
+
+impl Watching for Forgetful {
+    ghost handed = { λ _. [] };
+
+    ghost told = { λ _ _. Unit {0} };
+
+    ghost has_room = { λ _. Unit {0} };
+
+    fn ready(&mut self) -> Result<(), NoMemory> {
+        self.calls = self.calls.saturating_add(1);
+        if self.calls == self.refused {
+            return Err(NoMemory);
+        }
+        Ok(())
+    }
+
+    fn note(&mut self, _position: u32, _command: &Command) {}
+
+    fn finish(self) -> Reports {
+        self.nobody.finish()
+    }
+}
+
+// The second of three postings lacks the watchers' memory: it changes nothing, and the third has the next position.
+#[test]
+fn watchers_without_memory(rt: HostRuntime) -> Result<(), AllocError> {
+    let alloc = rt.alloc();
+    let watchers = Forgetful {
+        calls: 0,
+        refused: 2,
+        nobody: NoWatchers,
+    };
+    let Ok(mut desk) = watched_on(alloc, &[], &[], watchers)? else {
+        panic!(rt; "no office");
+    };
+    let first = policy(7001, NEW_YEAR, NEW_YEAR, 0, Status::InForce, 0);
+    let other = policy(3, NEW_YEAR, NEW_YEAR, 0, Status::InForce, 0);
+    assert!(rt; answers(&mut desk, &[accepted(issue(7001, NEW_YEAR), 1)]));
+    assert!(rt; answers(&mut desk, &[lacking_memory(premium(NEW_YEAR))]));
+    assert!(rt; desk.office.count() == 1 && shows(&desk, 1, &[first]));
+    assert!(rt; desk.office.ledger() == ledger(0, 0, 0, 0) && desk.office.turns() == 2);
+    assert!(rt; answers(&mut desk, &[accepted(issue(3, NEW_YEAR), 2)]));
+    let (disk, _, _) = desk.office.close();
+    let Ok(again) = office_on(alloc, disk.bytes(), &[])? else {
+        panic!(rt; "not opened again");
+    };
+    assert!(rt; again.office.count() == 2 && shows(&again, 2, &[first, other]));
+    Ok(())
+}
+
+// The reports of watchers at the end of an office that answers so.
+fn reports_after<W: Watching>(
+    alloc: Global,
+    failing: &[u64],
+    watchers: W,
+    postings: &[Posting],
+) -> Result<Option<Reports>, AllocError>
+    requires { W.told watchers [] }
+{
+    let Ok(mut desk) = watched_on(alloc, &[], failing, watchers)? else {
+        return Ok(None);
+    };
+    if !answers(&mut desk, postings) {
+        return Ok(None);
+    }
+    let (_, _, reports) = desk.office.close();
+    Ok(Some(reports))
+}
+
+// Five issues and a premium are accepted, an issue is refused and another meets a fault. One watcher counts to three, the
+// other hears all six.
+#[test]
+fn reports_of_two_watchers(rt: HostRuntime) -> Result<(), AllocError> {
+    let alloc = rt.alloc();
+    let mut boxes: Vec<Box<dyn Watcher + Send>> = Vec::new(alloc);
+    boxes.push(Box::new(alloc, CountWatcher::new(alloc, 3))?)?;
+    boxes.push(Box::new(alloc, PremiumWatcher::new(alloc))?)?;
+    let faulted = Posting {
+        command: issue(5, NEW_YEAR),
+        answer: Answer::DiskFault(1),
+    };
+    let postings = [
+        accepted(issue(7001, NEW_YEAR), 1),
+        accepted(issue(2, NEW_YEAR), 2),
+        refused(issue(2, NEW_YEAR), Refusal::Taken),
+        accepted(issue(3, NEW_YEAR), 3),
+        accepted(premium(NEW_YEAR), 4),
+        accepted(issue(4, NEW_YEAR), 5),
+        faulted,
+        accepted(issue(6, NEW_YEAR), 6),
+    ];
+    // A creation makes 9 calls, a posting 4.
+    let Some(reports) = reports_after(alloc, &[33], Watchers::new(boxes), &postings)? else {
+        panic!(rt; "not answered so");
+    };
+    let expected = [
+        Report { seen: 3, tally: 3 },
+        Report {
+            seen: 6,
+            tally: 40_000,
+        },
+    ];
+    assert_eq!(rt; reports.as_slice(), expected.as_slice());
     Ok(())
 }

@@ -3,20 +3,20 @@ ghost use Rattle.std.specs.Prelude.{◌≡◌, ◌^◌, ◌<◌, ◌++◌, [], �
 ghost use Rattle.std.specs.List.{fold};
 ghost use Rattle.policy_types.specs.declared.entry.Entry.{Entry};
 ghost use Rattle.office_state.specs.Standing.{StandsFor};
-ghost use Rattle.office_state.specs.States.{disk_of, opened_of, room_of, turns_of};
+ghost use Rattle.office_state.specs.States.{disk_of, opened_of, turns_of};
 ghost use Rattle.office_state.specs.Turning.{trim_turn};
 
 use crate::held::Pins;
 use crate::state::OfficeState;
 use outside_io::Disk;
+use watcher_set::Watching;
 
-impl<D: Disk> OfficeState<D> {
+impl<D: Disk, W: Watching> OfficeState<D, W> {
     /// Raises the floor to the least position of a live pin, or to the count where none is live, and gives it.
     pub fn trim(&mut self, caller: u64) -> u32
         requires turns { turns_of self.old < 2 ^ 62 }
         ensures opened { opened_of self.new ≡ opened_of self.old }
         ensures disk { disk_of self.new ≡ disk_of self.old }
-        ensures room { room_of self.new ≡ room_of self.old }
         ensures stands { (history : List Entry) → StandsFor self.old history
             → StandsFor self.new (history ++ trim_turn caller result ∷ []) }
     {

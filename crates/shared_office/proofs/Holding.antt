@@ -15,6 +15,7 @@ use Rattle.policy_types.specs.declared.entry.PinRefusal.{PinRefusal}
 use Rattle.policy_types.specs.declared.entry.Entry.{Entry}
 use Rattle.policy_machine.specs.History.{Opening, IsDue, IsLegal, IsLegalAfter, IsOwnPin, gives_up, live_pin}
 use Rattle.policy_machine.proofs.HistoryGrowth.{Answered, answered_at, live_of_some, slice_get-front, slice_get-middle}
+use Rattle.watcher_set.specs.declared.watching.Watching.{Ghosts as WatcherGhosts}
 use Rattle.office_state.specs.declared.held.Held.{Held}
 use Rattle.office_state.specs.declared.held.PinInfo.{PinInfo}
 use Rattle.office_state.specs.declared.state.OfficeState.{OfficeState}
@@ -193,7 +194,7 @@ live opening history seen made caller pin legal begins own holds =
         ap (list_any (gives pin.number)) later
         ∙ kept_by_owner opening (at.0.front ++ turn ∷ []) at.0.back caller pin.number turn here refl later_legal own_kept
 
-module _ {D : Type 0} {g : Ghosts D} (state : OfficeState D g) (history seen made : List Entry) (caller : ℕ) (pin : Held)
+module _ {D W : Type 0} {g : Ghosts D} {w : WatcherGhosts W} (state : OfficeState D W g w) (history seen made : List Entry) (caller : ℕ) (pin : Held)
     (stood : StandsFor state history) (begins : StartsWith history seen) (own : entries_of history caller ≡ made)
     (holds : HasMadePin pin caller seen made) where
   -- the state knows it as the caller's
@@ -260,7 +261,7 @@ asks_only (Read n first) pin asks = absurd asks
 asks_only (Unpin n) pin asks = absurd asks
 asks_only Trim pin asks = absurd asks
 
-module _ {D : Type 0} (turn : ℕ) (call : Call) (old new : Holding (OfficeOpening D)) (asks : AsksForPin call)
+module _ {D W : Type 0} (turn : ℕ) (call : Call) (old new : Holding (OfficeOpening D W)) (asks : AsksForPin call)
     (facts : PassFacts IsOfficeHistory old) where
   -- the turn of a pin that was taken
   abbrev taking : (info : PinInfo) → Entry
@@ -281,7 +282,7 @@ module _ {D : Type 0} (turn : ℕ) (call : Call) (old new : Holding (OfficeOpeni
 
   took : (info : PinInfo) → TakesTurn turn (taking info) old new → HoldsPin new (the_pin info)
   took info takes =
-      subst (λ (pass : Holding (OfficeOpening D)). HoldsPin pass (the_pin info)) (sym takes.new_is) (record {
+      subst (λ (pass : Holding (OfficeOpening D W)). HoldsPin pass (the_pin info)) (sym takes.new_is) (record {
         call = call;
         asked = asks;
         holder = refl;

@@ -1,29 +1,34 @@
 -- How a shared office begins and ends
-use Rattle.std.specs.Prelude.{◌≡◌, ℕ, Some}
+use Rattle.std.specs.Prelude.{◌≡◌, List, Some}
 use Rattle.outside_io.specs.declared.disks.Disk.{Ghosts}
 use Rattle.policy_types.specs.Accounts.{Booking}
+use Rattle.policy_types.specs.declared.watcher.Report.{Report}
 use Rattle.policy_machine.specs.Accounts.{ledger_of}
-use Rattle.policy_machine.specs.History.{Opening, commands_after}
+use Rattle.policy_machine.specs.History.{Opening, accepted_of, commands_after}
+use Rattle.watcher_set.specs.Noted.{reports_of}
+use Rattle.watcher_set.specs.declared.watching.Watching.{Ghosts as WatcherGhosts}
 use Rattle.office_state.specs.Images.{IsLeftBy}
 use Rattle.office_state.specs.Journals.{Opens}
 use Rattle.turn_lock.specs.Passes.{Holding, IsFirst, OwnsAll}
 use Rattle.shared_office.specs.Offices.{OfficeOpening}
 
--- The office was opened on the commands of the disk's file and the disk's count of faults, with room for so many
--- postings. Its first pass has all turns and all shares.
-pub record HasStarted {D : Type 0} (g : Ghosts D) (old : D) (postings : ℕ) (pass : Holding (OfficeOpening D))
+-- The office was opened on the commands of the disk's file and the disk's count of faults, with these watchers. Its first
+-- pass has all turns and all shares.
+pub record HasStarted {D W : Type 0} (g : Ghosts D) (old : D) (watchers : W) (pass : Holding (OfficeOpening D W))
     : Type 0 where
   pub opening : Opening
-  pub first : IsFirst (record { opening = opening; begun = old; room = postings }) pass
+  pub first : IsFirst (record { opening = opening; begun = old; watchers = watchers }) pass
   pub faults : opening.faults ≡ g.faults old
   pub opened : g.honest old → Opens (g.reads old) opening.commands
 
 -- The pass has seen the whole history, and each entry is its own or that of a caller whose pass was taken back. The disk
--- is left by this history, from the office's opening on, and the balances are those of its accepted commands.
-pub record HasClosed {D : Type 0} (g : Ghosts D) (pass : Holding (OfficeOpening D)) (new : D) (balances : Booking)
-    : Type 0 where
-  pub opening : OfficeOpening D
+-- is left by this history, from the office's opening on, and the balances are those of its accepted commands. The
+-- reports are those of the auditors that were handed in, of the commands that were accepted in this history.
+pub record HasClosed {D W : Type 0} (g : Ghosts D) (w : WatcherGhosts W) (pass : Holding (OfficeOpening D W)) (new : D)
+    (balances : Booking) (told : List Report) : Type 0 where
+  pub opening : OfficeOpening D W
   pub opened : pass.opening ≡ Some opening
   pub whole : OwnsAll pass
   pub disk : IsLeftBy g opening.begun new opening.opening pass.seen
   pub ledger : balances ≡ ledger_of (commands_after opening.opening pass.seen)
+  pub reports : told ≡ reports_of (w.handed opening.watchers) (accepted_of pass.seen)

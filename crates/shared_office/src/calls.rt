@@ -1,10 +1,9 @@
 // The calls of an office, each through a shared reference and a caller's pass.
-ghost use Rattle.std.specs.Prelude.{◌≡◌, ◌≤◌, ℕ, IfOk, IfErr};
+ghost use Rattle.std.specs.Prelude.{◌≡◌, ◌≤◌, [], IfOk, IfErr};
 ghost use Rattle.money_ledgers.specs.Balances.{balances};
 ghost use Rattle.policy_types.specs.Valid.{IsValid};
 ghost use Rattle.policy_types.specs.declared.entry.Call.TheVariants.{Pin as PinCall, PinAt};
 ghost use Rattle.office_state.specs.Opening.{HasNotOpened, HasOpened};
-ghost use Rattle.office_state.specs.States.{room_of};
 ghost use Rattle.office_state.specs.Posting.{turn_of};
 ghost use Rattle.office_state.specs.Turning.{read_turn, trim_turn, unpin_turn};
 ghost use Rattle.turn_lock.specs.Passes.{PassFacts, TableId, TakesTurn, all_shares};
@@ -22,32 +21,36 @@ use office_state::{Answer, Held, OfficeState, PinInfo, StartCause, StartFault};
 use outside_io::Disk;
 use policy_types::{Command, PinRefusal};
 use std::alloc::Global;
+use std::snapshot::Snapshot;
 use std::sync::Wait;
 use turn_lock::{NoRoom, Pass, Turned, Turnstile};
+use watcher_set::{Reports, Watching};
 
 /// An office that several callers share. `enter` and `leave` are the lock's own.
-pub type Office<D> = Turnstile<SharedState<D>>;
+pub type Office<D, W> = Turnstile<SharedState<D, W>>;
 
 /// One caller's right to take turns at an office.
-pub type OfficePass<D> = Pass<SharedState<D>>;
+pub type OfficePass<D, W> = Pass<SharedState<D, W>>;
 
 /// The calls of an office that is open. Each but `start` takes one turn of the caller's pass.
-pub trait OfficeCalls<D: Disk> {
+pub trait OfficeCalls<D: Disk, W: Watching> {
     // Which office it is.
     ghost office: { Self → TableId };
 
-    /// The office of the disk's journal, with room for so many postings, and its first pass.
+    /// The office of the disk's journal, with watchers who were told of nothing yet, and its first pass. They are dropped
+    /// where no office is opened.
     fn start(
         alloc: Global,
         disk: D,
-        postings: usize,
-    ) -> Result<(Self, OfficePass<D>), StartFault<D>>
-        ensures started { IfOk result (λ made. HasStarted D.Disk disk postings made.1
+        watchers: W,
+    ) -> Result<(Self, OfficePass<D, W>), StartFault<D>>
+        requires told { W.told watchers [] }
+        ensures started { IfOk result (λ made. HasStarted D.Disk disk watchers made.1
             × (made.1.turnstile ≡ office made.0) × PassFacts IsOfficeHistory made.1) }
         ensures refused { IfErr result (λ fault. HasNotOpened D.Disk disk fault.disk fault.cause) };
 
     /// Posts a command.
-    fn post<R: Wait>(&self, rt: &R, pass: &mut OfficePass<D>, command: &Command) -> Turned<Answer>
+    fn post<R: Wait>(&self, rt: &R, pass: &mut OfficePass<D, W>, command: &Command) -> Turned<Answer>
         requires ours { pass.old.turnstile ≡ office self.now }
         requires left { 1 ≤ pass.old.left }
         requires valid { IsValid command.now }
@@ -56,7 +59,7 @@ pub trait OfficeCalls<D: Disk> {
         ensures pins { KeepsPins pass.old pass.new };
 
     /// Pins the newest position. It is refused only where as many pins are live as may be.
-    fn pin<R: Wait>(&self, rt: &R, pass: &mut OfficePass<D>) -> Turned<Result<Pin, PinRefusal>>
+    fn pin<R: Wait>(&self, rt: &R, pass: &mut OfficePass<D, W>) -> Turned<Result<Pin, PinRefusal>>
         requires ours { pass.old.turnstile ≡ office self.now }
         requires left { 1 ≤ pass.old.left }
         ensures turn { TakesTurn result.turn (pinning_turn pass.old.caller PinCall result.answer) pass.old pass.new }
@@ -68,7 +71,7 @@ pub trait OfficeCalls<D: Disk> {
     fn pin_at<R: Wait>(
         &self,
         rt: &R,
-        pass: &mut OfficePass<D>,
+        pass: &mut OfficePass<D, W>,
         p: u32,
     ) -> Turned<Result<Pin, PinRefusal>>
         requires ours { pass.old.turnstile ≡ office self.now }
@@ -83,7 +86,7 @@ pub trait OfficeCalls<D: Disk> {
     fn read<R: Wait>(
         &self,
         rt: &R,
-        pass: &mut OfficePass<D>,
+        pass: &mut OfficePass<D, W>,
         pin: &Pin,
         first: u32,
         batch: &mut Batch,
@@ -97,7 +100,7 @@ pub trait OfficeCalls<D: Disk> {
         ensures pins { KeepsPins pass.old pass.new };
 
     /// Gives a pin up, and gives the turn. The pass keeps its other pins.
-    fn unpin<R: Wait>(&self, rt: &R, pass: &mut OfficePass<D>, pin: Pin) -> u64
+    fn unpin<R: Wait>(&self, rt: &R, pass: &mut OfficePass<D, W>, pin: Pin) -> u64
         requires ours { pass.old.turnstile ≡ office self.now }
         requires left { 1 ≤ pass.old.left }
         requires held { HoldsPin pass.old pin }
@@ -106,7 +109,7 @@ pub trait OfficeCalls<D: Disk> {
         ensures pins { KeepsOtherPins pin.number pass.old pass.new };
 
     /// Raises the floor to the least position of a live pin, or to the count where none is live, and gives it.
-    fn trim<R: Wait>(&self, rt: &R, pass: &mut OfficePass<D>) -> Turned<u32>
+    fn trim<R: Wait>(&self, rt: &R, pass: &mut OfficePass<D, W>) -> Turned<u32>
         requires ours { pass.old.turnstile ≡ office self.now }
         requires left { 1 ≤ pass.old.left }
         ensures turn { TakesTurn result.turn (trim_turn pass.old.caller result.answer) pass.old pass.new }
@@ -114,26 +117,27 @@ pub trait OfficeCalls<D: Disk> {
         ensures pins { KeepsPins pass.old pass.new };
 }
 
-impl<D: Disk> OfficeCalls<D> for Office<D> {
+impl<D: Disk, W: Watching> OfficeCalls<D, W> for Office<D, W> {
     ghost office = { λ office. office };
 
     fn start(
         alloc: Global,
         disk: D,
-        postings: usize,
-    ) -> Result<(Office<D>, OfficePass<D>), StartFault<D>> {
-        let shared = opened(alloc, disk, postings)?;
-        match Turnstile::new(alloc, shared) {
+        watchers: W,
+    ) -> Result<(Office<D, W>, OfficePass<D, W>), StartFault<D>> {
+        let handed = Snapshot::of(&watchers);
+        let state = OfficeState::open(alloc, disk, watchers)?;
+        match Turnstile::new(alloc, SharedState { state, handed }) {
             Ok(made) => Ok(made),
             Err(NoRoom { value }) => Err(without_memory(value.into_state())),
         }
     }
 
-    fn post<R: Wait>(&self, rt: &R, pass: &mut OfficePass<D>, command: &Command) -> Turned<Answer> {
+    fn post<R: Wait>(&self, rt: &R, pass: &mut OfficePass<D, W>, command: &Command) -> Turned<Answer> {
         self.turn(rt, pass, Post { command })
     }
 
-    fn pin<R: Wait>(&self, rt: &R, pass: &mut OfficePass<D>) -> Turned<Result<Pin, PinRefusal>> {
+    fn pin<R: Wait>(&self, rt: &R, pass: &mut OfficePass<D, W>) -> Turned<Result<Pin, PinRefusal>> {
         let caller = pass.caller();
         let Turned { turn, answer } = self.turn(rt, pass, PinNewest);
         pin_taken(turn, caller, answer)
@@ -142,7 +146,7 @@ impl<D: Disk> OfficeCalls<D> for Office<D> {
     fn pin_at<R: Wait>(
         &self,
         rt: &R,
-        pass: &mut OfficePass<D>,
+        pass: &mut OfficePass<D, W>,
         p: u32,
     ) -> Turned<Result<Pin, PinRefusal>> {
         let caller = pass.caller();
@@ -153,7 +157,7 @@ impl<D: Disk> OfficeCalls<D> for Office<D> {
     fn read<R: Wait>(
         &self,
         rt: &R,
-        pass: &mut OfficePass<D>,
+        pass: &mut OfficePass<D, W>,
         pin: &Pin,
         first: u32,
         batch: &mut Batch,
@@ -171,48 +175,35 @@ impl<D: Disk> OfficeCalls<D> for Office<D> {
         turn
     }
 
-    fn unpin<R: Wait>(&self, rt: &R, pass: &mut OfficePass<D>, pin: Pin) -> u64 {
+    fn unpin<R: Wait>(&self, rt: &R, pass: &mut OfficePass<D, W>, pin: Pin) -> u64 {
         let held = pin.held();
         pin.spend();
         self.turn(rt, pass, Unpin { pin: held }).turn
     }
 
-    fn trim<R: Wait>(&self, rt: &R, pass: &mut OfficePass<D>) -> Turned<u32> {
+    fn trim<R: Wait>(&self, rt: &R, pass: &mut OfficePass<D, W>) -> Turned<u32> {
         self.turn(rt, pass, Trim)
     }
 }
 
-/// Gives back the disk, and the ledger. The pass has all shares.
-pub fn close<D: Disk>(office: Office<D>, pass: OfficePass<D>) -> (D, Ledger)
+/// Gives back the disk, with the ledger and what the watchers have to say. The pass has all shares.
+pub fn close<D: Disk, W: Watching>(
+    office: Office<D, W>,
+    pass: OfficePass<D, W>,
+) -> (D, Ledger, Reports)
     requires ours { pass.turnstile ≡ office }
     requires all { pass.shares ≡ all_shares }
-    ensures closed { HasClosed D.Disk pass result.0 (balances result.1) }
+    ensures closed { HasClosed D.Disk W.Watching pass result.0 (balances result.1) result.2 }
     ensures facts { PassFacts IsOfficeHistory pass }
 {
     office.close(pass).into_state().close()
 }
 
-// The state of the disk's journal, with room for so many postings.
-fn opened<D: Disk>(alloc: Global, disk: D, postings: usize) -> Result<SharedState<D>, StartFault<D>>
-    ensures opened { IfOk result (λ shared. HasOpened disk shared.state × (shared.room ≡ postings)
-        × (postings ≤ room_of shared.state)) }
-    ensures refused { IfErr result (λ fault. HasNotOpened D.Disk disk fault.disk fault.cause) }
-{
-    let mut state = OfficeState::open(alloc, disk)?;
-    if state.reserve(postings).is_err() {
-        return Err(without_memory(state));
-    }
-    Ok(SharedState {
-        state,
-        room: postings,
-    })
-}
-
-// The disk of an office for which there was no memory.
-fn without_memory<D: Disk>(state: OfficeState<D>) -> StartFault<D>
+// The disk of an office for which there was no memory. Nobody hears what the watchers have to say.
+fn without_memory<D: Disk, W: Watching>(state: OfficeState<D, W>) -> StartFault<D>
     ensures { (old : D) → HasOpened old state → HasNotOpened D.Disk old result.disk result.cause }
 {
-    let (disk, _) = state.close();
+    let (disk, _, _) = state.close();
     StartFault {
         cause: StartCause::NoMemory,
         disk,

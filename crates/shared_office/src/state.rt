@@ -4,44 +4,46 @@ use outside_io::Disk;
 use std::marker::Model;
 use std::snapshot::Snapshot;
 use turn_lock::Stands;
+use watcher_set::Watching;
 
-/// An office's state, and for how many postings room was made when it was opened.
+/// An office's state under the lock.
 #[derive(Drop)]
-pub struct SharedState<D: Disk> {
-    pub(crate) state: OfficeState<D>,
-    pub(crate) room: usize,
+pub struct SharedState<D: Disk, W: Watching> {
+    pub(crate) state: OfficeState<D, W>,
+    // The watchers as they were handed in, for contracts alone.
+    pub(crate) handed: Snapshot<W>,
 }
 
-impl<D: Disk> SharedState<D> {
+impl<D: Disk, W: Watching> SharedState<D, W> {
     ghost use Rattle.std.specs.Prelude.{◌≡◌};
 
-    pub(crate) fn into_state(self) -> OfficeState<D>
+    pub(crate) fn into_state(self) -> OfficeState<D, W>
         ensures { result ≡ self.state }
     {
-        let SharedState { state, room: _ } = self;
+        let SharedState { state, handed: _ } = self;
         state
     }
 }
 
 /// What an office was opened on. No value of it is made.
-pub struct OpenedOn<D: Disk> {
-    state: Snapshot<SharedState<D>>,
+pub struct OpenedOn<D: Disk, W: Watching> {
+    state: Snapshot<SharedState<D, W>>,
 }
 
-impl<D: Disk> Model for OpenedOn<D> {
+impl<D: Disk, W: Watching> Model for OpenedOn<D, W> {
     ghost use Rattle.shared_office.specs.Offices.{OfficeOpening};
     ghost use Rattle.shared_office.specs.inside.Standing.{opening_on};
 
-    ghost Value = { OfficeOpening D };
+    ghost Value = { OfficeOpening D W };
 
     ghost view = { λ o. opening_on o.state.value };
 }
 
-impl<D: Disk> Stands for SharedState<D> {
+impl<D: Disk, W: Watching> Stands for SharedState<D, W> {
     ghost use Rattle.shared_office.specs.Offices.{IsOfficeHistory};
     ghost use Rattle.shared_office.specs.inside.Standing.{SharedStandsFor, is_history, opening_on};
 
-    type Opening = OpenedOn<D>;
+    type Opening = OpenedOn<D, W>;
 
     ghost opening = { λ shared. opening_on shared };
 

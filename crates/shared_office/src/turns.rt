@@ -4,6 +4,7 @@ use office_state::{Answer, Batch, Held, PinInfo};
 use outside_io::Disk;
 use policy_types::{Command, PinRefusal};
 use turn_lock::Turn;
+use watcher_set::Watching;
 
 /// A command is posted.
 #[derive(Clone, Copy)]
@@ -11,7 +12,7 @@ pub struct Post<'a> {
     pub command: &'a Command,
 }
 
-impl<'a, D: Disk> Turn<SharedState<D>> for Post<'a> {
+impl<'a, D: Disk, W: Watching> Turn<SharedState<D, W>> for Post<'a> {
     ghost use Rattle.std.specs.Prelude.{refl};
     ghost use Rattle.policy_types.specs.Valid.{IsValid};
     ghost use Rattle.office_state.specs.Posting.{turn_of};
@@ -22,7 +23,7 @@ impl<'a, D: Disk> Turn<SharedState<D>> for Post<'a> {
 
     ghost entry = { λ post caller answer. turn_of caller post.command.now answer };
 
-    fn run(self, value: &mut SharedState<D>, caller: u64) -> Answer {
+    fn run(self, value: &mut SharedState<D, W>, caller: u64) -> Answer {
         value.state.post(caller, self.command)
     }
 
@@ -33,7 +34,7 @@ impl<'a, D: Disk> Turn<SharedState<D>> for Post<'a> {
 #[derive(Clone, Copy)]
 pub struct PinNewest;
 
-impl<D: Disk> Turn<SharedState<D>> for PinNewest {
+impl<D: Disk, W: Watching> Turn<SharedState<D, W>> for PinNewest {
     ghost use Rattle.std.specs.Prelude.{refl};
     ghost use Rattle.office_state.specs.Turning.{pin_turn};
 
@@ -43,7 +44,7 @@ impl<D: Disk> Turn<SharedState<D>> for PinNewest {
 
     ghost entry = { λ _ caller answer. pin_turn caller answer };
 
-    fn run(self, value: &mut SharedState<D>, caller: u64) -> Result<PinInfo, PinRefusal> {
+    fn run(self, value: &mut SharedState<D, W>, caller: u64) -> Result<PinInfo, PinRefusal> {
         value.state.pin(caller)
     }
 
@@ -56,7 +57,7 @@ pub struct PinPosition {
     pub position: u32,
 }
 
-impl<D: Disk> Turn<SharedState<D>> for PinPosition {
+impl<D: Disk, W: Watching> Turn<SharedState<D, W>> for PinPosition {
     ghost use Rattle.std.specs.Prelude.{refl};
     ghost use Rattle.office_state.specs.Turning.{pin_at_turn};
 
@@ -66,7 +67,7 @@ impl<D: Disk> Turn<SharedState<D>> for PinPosition {
 
     ghost entry = { λ pin caller answer. pin_at_turn caller pin.position answer };
 
-    fn run(self, value: &mut SharedState<D>, caller: u64) -> Result<PinInfo, PinRefusal> {
+    fn run(self, value: &mut SharedState<D, W>, caller: u64) -> Result<PinInfo, PinRefusal> {
         value.state.pin_at(caller, self.position)
     }
 
@@ -81,7 +82,7 @@ pub struct ReadPart {
     pub batch: Batch,
 }
 
-impl<D: Disk> Turn<SharedState<D>> for ReadPart {
+impl<D: Disk, W: Watching> Turn<SharedState<D, W>> for ReadPart {
     ghost use Rattle.std.specs.Prelude.{refl, ◌≤◌};
     ghost use Rattle.office_state.specs.Turning.{read_turn};
     ghost use Rattle.shared_office.specs.Pins.{HasMadePin};
@@ -92,7 +93,7 @@ impl<D: Disk> Turn<SharedState<D>> for ReadPart {
 
     ghost entry = { λ read caller answer. read_turn caller read.pin.number read.first answer };
 
-    fn run(self, value: &mut SharedState<D>, caller: u64) -> Batch {
+    fn run(self, value: &mut SharedState<D, W>, caller: u64) -> Batch {
         let ReadPart {
             pin,
             first,
@@ -111,7 +112,7 @@ pub struct Unpin {
     pub pin: Held,
 }
 
-impl<D: Disk> Turn<SharedState<D>> for Unpin {
+impl<D: Disk, W: Watching> Turn<SharedState<D, W>> for Unpin {
     ghost use Rattle.std.specs.Prelude.{refl};
     ghost use Rattle.office_state.specs.Turning.{unpin_turn};
     ghost use Rattle.shared_office.specs.Pins.{HasMadePin};
@@ -122,7 +123,7 @@ impl<D: Disk> Turn<SharedState<D>> for Unpin {
 
     ghost entry = { λ unpin caller answer. unpin_turn caller unpin.pin.number };
 
-    fn run(self, value: &mut SharedState<D>, caller: u64) {
+    fn run(self, value: &mut SharedState<D, W>, caller: u64) {
         value.state.unpin(caller, self.pin.number);
     }
 
@@ -133,7 +134,7 @@ impl<D: Disk> Turn<SharedState<D>> for Unpin {
 #[derive(Clone, Copy)]
 pub struct Trim;
 
-impl<D: Disk> Turn<SharedState<D>> for Trim {
+impl<D: Disk, W: Watching> Turn<SharedState<D, W>> for Trim {
     ghost use Rattle.std.specs.Prelude.{refl};
     ghost use Rattle.office_state.specs.Turning.{trim_turn};
 
@@ -143,7 +144,7 @@ impl<D: Disk> Turn<SharedState<D>> for Trim {
 
     ghost entry = { λ _ caller answer. trim_turn caller answer };
 
-    fn run(self, value: &mut SharedState<D>, caller: u64) -> u32 {
+    fn run(self, value: &mut SharedState<D, W>, caller: u64) -> u32 {
         value.state.trim(caller)
     }
 

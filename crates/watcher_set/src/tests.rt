@@ -70,7 +70,7 @@ fn are_fresh(boxes: &[Box<dyn Watcher + Send>]) -> bool
 }
 
 // Tells the set of the commands. After each the token has as many owners as are expected.
-fn told<W: Watching + Send + Drop>(
+fn told<W: Watching + Send>(
     rt: &impl Abort,
     mut watchers: W,
     commands: &[Command],

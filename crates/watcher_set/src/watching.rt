@@ -8,7 +8,7 @@ use crate::reports::Reports;
 use policy_types::{Command, NoMemory};
 
 /// A set of auditors, who are told of each accepted command.
-pub trait Watching {
+pub trait Watching: Drop {
     /// The auditors as they were handed in, in their order.
     ghost handed: { Self → List Auditor };
 

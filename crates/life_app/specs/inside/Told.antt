@@ -1,5 +1,5 @@
--- What answers can be written, and the text of what is told of answered lines
-use Rattle.std.specs.Prelude.{◌≡◌, ◌⊎◌, ◌≤◌, ◌<◌, ℕ, ◌^◌, Bool, true, false, List, [], codes, length, Result, Ok, Err}
+-- What answers can be written, the text of what is told of answered lines, and how a run ends by it
+use Rattle.std.specs.Prelude.{◌≡◌, ◌⊎◌, ◌≤◌, ◌<◌, ℕ, ◌^◌, Bool, true, false, List, [], ◌++◌, codes, length, Result, Ok, Err}
 use Rattle.std.specs.List.{flat_map, list_any}
 use Rattle.outside_io.specs.Faults.{Rose}
 use Rattle.outside_io.specs.Streams.{AppendsPart}
@@ -8,20 +8,20 @@ use Rattle.policy_types.specs.declared.refusal.Refusal.TheVariants.{Taken, Unkno
 use Rattle.policy_types.specs.declared.script.Line.{Line}
 use Rattle.policy_types.specs.declared.script.Line.TheVariants.{Post, Value, Trim}
 use Rattle.policy_types.specs.declared.watcher.NoMemory.{NoMemory as Lack}
+use Rattle.policy_types.specs.declared.watcher.Report.{Report}
 use Rattle.life_dates.specs.Calendar.{IsDay, IsTermDay}
 use Rattle.office_state.specs.declared.answer.Answer.{Answer}
 use Rattle.office_state.specs.declared.answer.Answer.TheVariants.{Accepted, Refused, DiskFault, NoMemory}
 use Rattle.office_state.specs.Posting.{reply_of}
 use Rattle.report_text.specs.Block.{AreSummable, block_text}
 use Rattle.snapshot_value.specs.declared.valuation.Valuation.{Valuation}
-use Rattle.lane_runner.specs.Transcripts.{lacked_memory}
 use Rattle.lane_runner.specs.declared.transcript.AnsweredLine.{AnsweredLine as ToldLine}
 use Rattle.lane_runner.specs.declared.transcript.Outcome.{Outcome}
 use Rattle.lane_runner.specs.declared.transcript.Outcome.TheVariants.{Posted, Trimmed, Valued, ValueRefused, ValueNoMemory}
 use Rattle.lane_runner.specs.declared.transcript.Transcript.{Transcript}
 use Rattle.life_app.specs.declared.ending.Ending.{Ending}
 use Rattle.life_app.specs.declared.ending.Ending.TheVariants.{Done, WriteFault, DiskFault as DiskFailed, NoMemory as NoRoom}
-use Rattle.life_app.specs.Transcript.{posting_text, trim_text, unpinned_text, unvalued_text}
+use Rattle.life_app.specs.Transcript.{posting_text, reports_text, trim_text, unpinned_text, unvalued_text}
 use Rattle.life_app.specs.Writing.{Stream, WroteAll, WroteLine, WroteNothing}
 
 abbrev pub is_faulted : Answer → Bool
@@ -46,12 +46,10 @@ IsPrintable (NotMatured end) = IsTermDay end
 IsPrintable (OverSettled outstanding) = outstanding < 2 ^ 63
 IsPrintable Full = Unit {0}
 
--- memory wasn't lacking, and a refusal can be written
+-- a refusal can be written
 abbrev pub IsTold : Answer → Type 0
-IsTold (Accepted position) = Unit {0}
 IsTold (Refused refusal) = IsPrintable refusal
-IsTold (DiskFault count) = Unit {0}
-IsTold NoMemory = ⊥
+IsTold _ = Unit {0}
 
 -- the rows of a valuation can be summed and written
 pub record IsWritableBlock (valuation : Valuation) : Type 0 where
@@ -93,23 +91,34 @@ has_faulted _ = false
 abbrev pub any_faulted : List ToldLine → Bool
 any_faulted lines = list_any (λ (told : ToldLine). has_faulted told.outcome) lines
 
+-- memory was lacking for the line's posting, or for its valuation
+abbrev pub lacks_memory : Outcome → Bool
+lacks_memory (Posted NoMemory) = true
+lacks_memory ValueNoMemory = true
+lacks_memory _ = false
+
 abbrev pub any_lacked : List ToldLine → Bool
-any_lacked lines = list_any (λ (told : ToldLine). lacked_memory told.outcome) lines
+any_lacked lines = list_any (λ (told : ToldLine). lacks_memory told.outcome) lines
+
+-- the text of a run: what is told of the lines, then the auditors' reports
+abbrev pub run_text : List ToldLine → List Report → List ℕ
+run_text lines reports = told_texts lines ++ reports_text reports
 
 -- How a run ends whose lines were answered: by what was written of its text, and then by whether the disk failed in one of
--- them, or memory was wanting
-abbrev pub EndsTold : List ToldLine → Stream → Ending → Type 0
-EndsTold lines output Done = (any_faulted lines ≡ false) × (any_lacked lines ≡ false) × WroteAll output (told_texts lines)
-EndsTold lines output DiskFailed = (any_faulted lines ≡ true) × WroteAll output (told_texts lines)
-EndsTold lines output WriteFault =
-    Rose output.faults_before output.faults_after × AppendsPart output.before output.after (told_texts lines)
-EndsTold lines output NoRoom =
-    WroteNothing output (told_texts lines)
-    ⊎ ((any_faulted lines ≡ false) × (any_lacked lines ≡ true) × WroteAll output (told_texts lines))
-EndsTold lines output _ = ⊥
+-- them, or memory was lacking
+abbrev pub EndsTold : List ToldLine → List Report → Stream → Ending → Type 0
+EndsTold lines reports output Done =
+    (any_faulted lines ≡ false) × (any_lacked lines ≡ false) × WroteAll output (run_text lines reports)
+EndsTold lines reports output DiskFailed = (any_faulted lines ≡ true) × WroteAll output (run_text lines reports)
+EndsTold lines reports output WriteFault =
+    Rose output.faults_before output.faults_after × AppendsPart output.before output.after (run_text lines reports)
+EndsTold lines reports output NoRoom =
+    WroteNothing output (run_text lines reports)
+    ⊎ ((any_faulted lines ≡ false) × (any_lacked lines ≡ true) × WroteAll output (run_text lines reports))
+EndsTold lines reports output _ = ⊥
 
 -- the lanes were run, or there was no memory to run them
-abbrev pub EndsRan : Result Transcript Lack → Stream → Ending → Type 0
-EndsRan (Ok transcript) output ending = EndsTold transcript.lines output ending
-EndsRan (Err lack) output NoRoom = WroteLine output (codes "nomemory")
-EndsRan (Err lack) output _ = ⊥
+abbrev pub EndsRan : Result Transcript Lack → List Report → Stream → Ending → Type 0
+EndsRan (Ok transcript) reports output ending = EndsTold transcript.lines reports output ending
+EndsRan (Err lack) reports output NoRoom = WroteLine output (codes "nomemory")
+EndsRan (Err lack) reports output _ = ⊥

@@ -12,6 +12,7 @@ use Rattle.posting_journal.specs.States.{StandsFor, count_of, disk_of, is_clean}
 use Rattle.posting_journal.specs.declared.journal.Journal.{Journal}
 use Rattle.posting_journal.specs.declared.faults.JournalCause.{JournalCause}
 use Rattle.posting_journal.specs.declared.faults.JournalCause.TheVariants.{DiskFault as FaultyDisk, NotAJournal as IsNoJournal, BadRecord as IsBadRecord}
+use Rattle.watcher_set.specs.declared.watching.Watching.{Ghosts as WatcherGhosts}
 use Rattle.office_state.specs.declared.books.Books.{Books}
 use Rattle.office_state.specs.declared.faults.StartCause.{StartCause}
 use Rattle.office_state.specs.declared.faults.StartCause.TheVariants.{DiskFault, NotAJournal, BadRecord, NoMemory}
@@ -89,7 +90,8 @@ HasStopped journal disk NoMemory = IsQuiet journal disk
 HasStopped journal disk NotAJournal = ⊥
 
 -- the office of a journal's records, before any turn
-pub record IsOfficeOf {D : Type 0} {g : Ghosts D} (journal : Journal D g) (disk : D) (state : OfficeState D g) : Type 0 where
+pub record IsOfficeOf {D W : Type 0} {g : Ghosts D} {w : WatcherGhosts W} (journal : Journal D g) (disk : D) (watchers : W)
+    (state : OfficeState D W g w) : Type 0 where
   pub stays : StaysAs journal state.journal
   pub replayed : AreReplayed journal state.journal state.books (count_of journal)
   pub turns : state.turns ≡ 0
@@ -97,6 +99,7 @@ pub record IsOfficeOf {D : Type 0} {g : Ghosts D} (journal : Journal D g) (disk 
   pub floor : state.floor ≡ 0
   pub recovered : state.recovered.value ≡ state.books
   pub begun : state.begun.value ≡ disk
+  pub watched : state.watchers ≡ watchers
 
 -- a journal's records make no office, for a cause
 pub record HasNoOffice {D : Type 0} {g : Ghosts D} (journal : Journal D g) (disk : D) (cause : StartCause) : Type 0 where

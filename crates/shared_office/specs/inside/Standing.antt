@@ -1,5 +1,5 @@
--- The shared state stands for the history of its turns
-use Rattle.std.specs.Prelude.{◌+◌, ◌≤◌, List, length}
+-- What the shared state was opened on, and the histories for which it stands
+use Rattle.std.specs.Prelude.{◌≡◌, ◌≤◌, List, length}
 use Rattle.std.specs.List.{AllByRecursion}
 use Rattle.std.proofs.Common.{subst}
 use Rattle.outside_io.specs.declared.disks.Disk.{Ghosts}
@@ -7,28 +7,31 @@ use Rattle.policy_types.specs.declared.command.Command.{Command}
 use Rattle.policy_types.specs.declared.entry.Entry.{Entry}
 use Rattle.policy_types.specs.Limits.{most_commands}
 use Rattle.policy_types.specs.Valid.{IsValid}
+use Rattle.watcher_set.specs.declared.watching.Watching.{Ghosts as WatcherGhosts}
 use Rattle.office_state.specs.Standing.{StandsFor}
-use Rattle.office_state.specs.States.{begun_of, opening_of, room_of}
-use Rattle.shared_office.specs.Offices.{FirstFoundMemory, IsOfficeHistory, OfficeOpening, postings_of}
+use Rattle.office_state.specs.States.{auditors_of, begun_of, opening_of}
+use Rattle.shared_office.specs.Offices.{IsOfficeHistory, OfficeOpening}
 use Rattle.shared_office.specs.declared.state.SharedState.{SharedState}
 
-module _ {D : Type 0} {g : Ghosts D} where
+module _ {D W : Type 0} {g : Ghosts D} {w : WatcherGhosts W} where
   -- what it was opened on
-  abbrev pub opening_on : SharedState D g → OfficeOpening D
-  opening_on shared = record { opening = opening_of shared.state; begun = begun_of shared.state; room = shared.room }
+  abbrev pub opening_on : SharedState D W g w → OfficeOpening D W
+  opening_on shared = record {
+    opening = opening_of shared.state;
+    begun = begun_of shared.state;
+    watchers = shared.handed.value;
+  }
 
-  -- the room that was made is used up by postings alone
-  pub record SharedStandsFor (shared : SharedState D g) (history : List Entry) : Type 0 where
+  -- the state stands for the history, and its auditors are those that were handed in
+  pub record SharedStandsFor (shared : SharedState D W g w) (history : List Entry) : Type 0 where
     pub state : StandsFor shared.state history
-    pub room : shared.room ≤ room_of shared.state + length (postings_of history)
-    pub memory : FirstFoundMemory shared.room history
+    pub handed : auditors_of shared.state ≡ w.handed shared.handed.value
 
-  -- such a history is one of the office
-  pub is_history : (shared : SharedState D g) (history : List Entry) → SharedStandsFor shared history
+  -- a history for which it stands is one of the office
+  pub is_history : (shared : SharedState D W g w) (history : List Entry) → SharedStandsFor shared history
       → IsOfficeHistory (opening_on shared) history
   is_history shared history stood = record {
     legal = stood.state.history.legal;
-    memory = stood.memory;
     valid = subst (AllByRecursion IsValid) stood.state.kept shared.state.books.kept.valid;
     few = subst (λ (commands : List Command). length commands ≤ most_commands) stood.state.kept shared.state.books.kept.few;
   }

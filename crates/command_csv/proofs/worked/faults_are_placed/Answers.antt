@@ -1,23 +1,56 @@
-use Rattle.std.proofs.Common.{refl, [], ◌∷◌, codes, pos, arith, lit≤}
+use Rattle.std.proofs.Common.{refl, [], ◌∷◌, ◌++◌, codes, pos, arith, lit≤}
 use Rattle.std.specs.Fmt.{digits}
 use Rattle.std.proofs.lemmas.Int.{ints}
 use Rattle.csv.proofs.OnLiterals.{csv_on_literals}
 use Rattle.life_dates.specs.Calendar.{date_of, date_at, year_of, month_of, days_before, days_before_year, days_of_months}
 use Rattle.life_dates.specs.DayText.{day_text}
+use Rattle.std.specs.List.{AllZip}
 use Rattle.std.specs.Prelude.{decimal, replicate}
 use Rattle.policy_types.specs.declared.command.Command.TheVariants.{Lapse}
 use Rattle.policy_types.specs.declared.entry.At.TheVariants.{Now}
+use Rattle.policy_types.specs.declared.script.Line.{Line}
 use Rattle.policy_types.specs.declared.script.Line.TheVariants.{Post, Value, Trim}
 use Rattle.command_csv.specs.Spelling.{by_first, row_fields}
-use Rattle.command_csv.proofs.Lines.{surplus}
-use Rattle.command_csv.proofs.WorkedScripts.{row_is, rows_again, bad_clerk, no_day, no_workers, no_room}
+use Rattle.command_csv.specs.Reads.{IsRowOf, IsScriptLine, most_valuations}
+use Rattle.command_csv.proofs.Lines.{entry_of, surplus}
+use Rattle.command_csv.proofs.WorkedScripts.{row_is, row_of, rows_again, rows_both, bad_clerk, no_day, no_workers, no_room}
 use Rattle.command_csv.proofs.worked.faults_are_placed.Goals as goal
+
+abbrev valued : Line
+valued = Value (pos 18262) Now 1
+
+-- half of the valuations by clerk 1, and half by clerk 8
+sixteen_rows : AllZip IsRowOf (replicate 8 (row_fields (entry_of 1 valued)) ++ replicate 8 (row_fields (entry_of 8 valued))) (replicate 8 (entry_of 1 valued) ++ replicate 8 (entry_of 8 valued))
+sixteen_rows =
+    let right : IsScriptLine valued = ((omega (arith, ints), omega (arith, ints)), tt, (lit≤ tt, lit≤ tt)) in
+    let first = rows_again 8 (row_fields (entry_of 1 valued)) (entry_of 1 valued) (row_of 1 valued (lit≤ tt, lit≤ tt) right) in
+    let last = rows_again 8 (row_fields (entry_of 8 valued)) (entry_of 8 valued) (row_of 8 valued (lit≤ tt, lit≤ tt) right) in
+    rows_both (replicate 8 (row_fields (entry_of 1 valued))) (replicate 8 (row_fields (entry_of 8 valued))) (replicate 8 (entry_of 1 valued)) (replicate 8 (entry_of 8 valued)) first last
 
 pub returns-clause-clerk : goal.returns-clause-clerk
 unfolding csv_on_literals digits day_text date_of date_at year_of month_of days_before days_before_year days_of_months
 returns-clause-clerk c =
     let rest = codes "lapse" ∷ codes "1" ∷ codes "2020-01-01" ∷ [] in
-    record { before = []; faulty = codes "9" ∷ rest; after = []; rows = refl; number = refl; entries = []; right = record { each = tt; few = lit≤ tt }; bad = bad_clerk rest }
+    record { before = []; faulty = decimal 9 ∷ rest; after = []; rows = refl; number = refl; entries = []; right = record { each = tt; few = lit≤ tt }; bad = bad_clerk 0 9 rest (omega arith) (λ h. omega (arith, h)) }
+
+pub returns-clause-clerk_0 : goal.returns-clause-clerk_0
+unfolding csv_on_literals digits
+returns-clause-clerk_0 c = record {
+  before = row_fields (entry_of 8 Trim) ∷ [];
+  faulty = decimal 0 ∷ codes "trim" ∷ [];
+  after = [];
+  rows = refl;
+  number = refl;
+  entries = entry_of 8 Trim ∷ [];
+  right = record { each = (row_of 8 Trim (lit≤ tt, lit≤ tt) tt, tt); few = lit≤ tt };
+  bad = bad_clerk 0 0 (codes "trim" ∷ []) (omega arith) (λ h. omega (arith, h));
+}
+
+pub returns-clause-clerk_first : goal.returns-clause-clerk_first
+unfolding csv_on_literals digits
+returns-clause-clerk_first c =
+    let rest = codes "lapsed" ∷ [] in
+    record { before = []; faulty = decimal 9 ∷ rest; after = []; rows = refl; number = refl; entries = []; right = record { each = tt; few = lit≤ tt }; bad = bad_clerk 0 9 rest (omega arith) (λ h. omega (arith, h)) }
 
 pub returns-clause-missing : goal.returns-clause-missing
 unfolding csv_on_literals digits day_text date_of date_at year_of month_of days_before days_before_year days_of_months
@@ -78,15 +111,29 @@ returns-clause-workers c = record {
 pub returns-clause-valuations : goal.returns-clause-valuations
 unfolding csv_on_literals digits day_text date_of date_at year_of month_of days_before days_before_year days_of_months
 returns-clause-valuations c =
-    let first = Value (pos 18262) Now 1 in
-    let row = row_fields (by_first first) in
+    let rest = codes "value" ∷ day_text (pos 18262) ∷ codes "now" ∷ codes "1" ∷ [] in
     record {
-      before = replicate 16 row;
-      faulty = row;
+      before = replicate 8 (decimal 1 ∷ rest) ++ replicate 8 (decimal 8 ∷ rest);
+      faulty = decimal 5 ∷ rest;
       after = [];
       rows = refl;
       number = refl;
-      entries = replicate 16 (by_first first);
-      right = record { each = rows_again 16 row (by_first first) (row_is first ((omega (arith, ints), omega (arith, ints)), tt, (lit≤ tt, lit≤ tt))); few = lit≤ tt };
-      bad = no_room (day_text (pos 18262) ∷ codes "now" ∷ codes "1" ∷ []);
+      entries = replicate 8 (entry_of 1 valued) ++ replicate 8 (entry_of 8 valued);
+      right = record { each = sixteen_rows; few = lit≤ tt };
+      bad = no_room 5 (day_text (pos 18262) ∷ codes "now" ∷ codes "1" ∷ []) (lit≤ tt, lit≤ tt);
+    }
+
+pub returns-clause-valuations_of_none : goal.returns-clause-valuations_of_none
+unfolding csv_on_literals digits day_text date_of date_at year_of month_of days_before days_before_year days_of_months
+returns-clause-valuations_of_none c =
+    let rest = codes "value" ∷ day_text (pos 18262) ∷ codes "now" ∷ codes "1" ∷ [] in
+    record {
+      before = replicate 8 (decimal 1 ∷ rest) ++ replicate 8 (decimal 8 ∷ rest);
+      faulty = decimal 9 ∷ rest;
+      after = [];
+      rows = refl;
+      number = refl;
+      entries = replicate 8 (entry_of 1 valued) ++ replicate 8 (entry_of 8 valued);
+      right = record { each = sixteen_rows; few = lit≤ tt };
+      bad = bad_clerk most_valuations 9 rest (omega arith) (λ h. omega (arith, h));
     }

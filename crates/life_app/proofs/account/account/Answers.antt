@@ -1,9 +1,8 @@
 use Rattle.std.proofs.Common.{[]}
-use Rattle.office_state.specs.States.{opening_of}
+use Rattle.office_state.specs.States.{begun_of, opening_of}
 use Rattle.life_app.specs.Books.{policy_account}
 use Rattle.life_app.specs.Stating.{IsStated}
-use Rattle.life_app.proofs.RunSteps.{opened_alone, opened_left}
-use Rattle.life_app.proofs.StateSteps.{ends_reading, ends_refused}
+use Rattle.life_app.proofs.StateSteps.{ends_reading, ends_refused, opened_left}
 use Rattle.life_app.proofs.account.account.Goals as goal
 
 pub returns-in-Ok : goal.returns-in-Ok
@@ -12,8 +11,7 @@ returns-in-Ok g c =
     let closed = c.close-disk.ensures.left [] opened.stands in
     ends_reading g.D.Disk g.met.D.Disk.counts_now g.met.D.Disk.reads_as_image c.args.disk c.close-disk.result.0 c.write_account.result.disk c.args.id _
     (opening_of c.in-Ok.office).commands opened.opened
-    (opened_left g.D.Disk c.args.disk c.close-disk.result.0 c.in-Ok.office opened closed)
-    (opened_alone g.D.Disk c.args.disk c.close-disk.result.0 c.in-Ok.office opened c.close-disk.ensures.disk closed)
+    (opened_left g.D.Disk (begun_of c.in-Ok.office) c.args.disk c.close-disk.result.0 (opening_of c.in-Ok.office).commands opened.begun closed)
     c.write_account.result.ending c.write_account.ensures
 
 pub returns-in-Err : goal.returns-in-Err

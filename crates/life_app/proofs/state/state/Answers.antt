@@ -1,9 +1,8 @@
 use Rattle.std.proofs.Common.{◌≡◌, ◌∙◌, [], append-nil}
-use Rattle.office_state.specs.States.{commands_of, opening_of}
+use Rattle.office_state.specs.States.{begun_of, commands_of, opening_of}
 use Rattle.life_app.specs.Books.{books_text}
 use Rattle.life_app.specs.Stating.{IsStated}
-use Rattle.life_app.proofs.RunSteps.{opened_alone, opened_left}
-use Rattle.life_app.proofs.StateSteps.{ends_refused, ends_text}
+use Rattle.life_app.proofs.StateSteps.{ends_refused, ends_text, opened_left}
 use Rattle.life_app.proofs.state.state.Goals as goal
 
 pub returns-in-Ok : goal.returns-in-Ok
@@ -12,8 +11,8 @@ returns-in-Ok g c =
     let closed = c.close-disk.ensures.left [] opened.stands in
     let all : commands_of c.in-Ok.office ≡ (opening_of c.in-Ok.office).commands = opened.stands.kept ∙ append-nil (opening_of c.in-Ok.office).commands in
     ends_text g.D.Disk c.args.disk c.close-disk.result.0 books_text _ (opening_of c.in-Ok.office).commands c.write_text.result c.books-text.result
-    opened.opened (opened_left g.D.Disk c.args.disk c.close-disk.result.0 c.in-Ok.office opened closed)
-    (opened_alone g.D.Disk c.args.disk c.close-disk.result.0 c.in-Ok.office opened c.close-disk.ensures.disk closed)
+    opened.opened
+    (opened_left g.D.Disk (begun_of c.in-Ok.office) c.args.disk c.close-disk.result.0 (opening_of c.in-Ok.office).commands opened.begun closed)
     (rw all at c.books-text.ensures) c.write_text.ensures
 
 pub returns-in-Err : goal.returns-in-Err

@@ -4,7 +4,7 @@ use Rattle.measure_turns.proofs.issues.post_issues.Goals as goal
 
 pub returns-clause-posted : goal.returns-clause-posted
 returns-clause-posted g c =
-    has_posted g.D.Disk c.args.disk c.close-disk.result.0 _ (c.args.callers * c.args.each) c.lanes-pass.result.1 _ c.in_ok-office.pass c.lanes-pass.result.0
+    has_posted g.D.Disk c.args.disk c.close-disk.result.0 _ (c.args.callers * c.args.each) c.lanes-pass.result.1 _ _ c.in_ok-office.pass c.lanes-pass.result.0
     c.in_ok-office.ensures.started.0
     c.lanes-pass.ensures.take
     c.close-disk.ensures.closed

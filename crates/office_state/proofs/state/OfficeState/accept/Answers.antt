@@ -5,10 +5,10 @@ use Rattle.policy_types.specs.declared.refusal.Refusal.TheVariants.{Full}
 use Rattle.policy_types.specs.Valid.{id_of}
 use Rattle.policy_machine.specs.Book.{policy_of}
 use Rattle.policy_machine.specs.Rules.{next}
-use Rattle.policy_machine.specs.History.{commands_after}
+use Rattle.policy_machine.specs.History.{accepted_of, commands_after}
 use Rattle.office_state.specs.Standing.{StandsFor}
-use Rattle.office_state.specs.States.{opening_of}
-use Rattle.office_state.proofs.HistorySteps.{is_full, posting}
+use Rattle.office_state.specs.States.{commands_of, opening_of}
+use Rattle.office_state.proofs.HistorySteps.{few_accepted, is_full, posting}
 use Rattle.office_state.proofs.TurnSteps.{crash_accepted, crash_faulted, posted_floor, posted_pins, stands_accepted, stands_faulted, stands_still}
 use Rattle.office_state.proofs.state.OfficeState.accept.Goals as goal
 
@@ -22,17 +22,28 @@ returns-then-count-eq-MOST_COMMANDS-clause-stands g c = λ (history : List Entry
     (is_full (commands_after (opening_of old) history) command c.args.policy decided full)
     old.pins (stands.pins ∙ posted_pins history caller command (Refused Full) refl)
     old.floor (stands.floor ∙ posted_floor history caller command (Refused Full) refl)
+    old.watchers (λ heard told. told)
+
+pub note-requires-clause-few : goal.note-requires-clause-few
+note-requires-clause-few g c =
+    let (history, stands) = c.requires.stands in (
+      accepted_of history,
+      stands.told,
+      few_accepted (opening_of c.args.self.now) history (commands_of c.args.self.now) stands.kept c.args.self.now.books.kept.few
+          (λ full. c.if-count-eq-MOST_COMMANDS.false (c.count.ensures ∙ full)),
+    )
 
 pub returns-in-Ok-clause-stands : goal.returns-in-Ok-clause-stands
 returns-in-Ok-clause-stands g c = λ (history : List Entry) (caller : ℕ) (stands : StandsFor c.args.self.now history).
     stands_accepted c.args.self.now history stands c.args.command.now c.args.policy c.record.new.journal c.record.result c.requires.valid
-    c.requires.accepted (rw c.encode.ensures at c.record.ensures.records) c.record.ensures.disk.honesty c.keep.new.self _ c.count-in-Ok.result c.in-Ok.field-0
-    c.in-Ok.ensures.disk.quiet c.keep.ensures.commands (λ full. c.if-count-eq-MOST_COMMANDS.false (c.count.ensures ∙ full)) c.in-Ok.is c.count-in-Ok.ensures caller
+    c.requires.accepted (rw c.encode.ensures at c.record.ensures.records) c.record.ensures.disk.honesty c.keep.new.self _ c.count-position.result c.in-Ok.field-0
+    c.in-Ok.ensures.disk.quiet c.keep.ensures.commands (λ full. c.if-count-eq-MOST_COMMANDS.false (c.count.ensures ∙ full)) c.in-Ok.is c.count-position.ensures
+    c.note.new.self c.note.ensures.told caller
 
 pub returns-in-Ok-clause-crash : goal.returns-in-Ok-clause-crash
 returns-in-Ok-clause-crash g c = λ (history : List Entry) (stands : StandsFor c.args.self.now history).
     crash_accepted c.args.self.now history stands c.args.command.now c.args.policy c.record.new.journal c.record.result c.requires.valid
-    c.requires.accepted (rw c.encode.ensures at c.record.ensures.records) c.in-Ok.field-0 c.in-Ok.is c.count-in-Ok.result
+    c.requires.accepted (rw c.encode.ensures at c.record.ensures.records) c.in-Ok.field-0 c.in-Ok.is c.count-position.result
 
 pub returns-in-Err-clause-stands : goal.returns-in-Err-clause-stands
 returns-in-Err-clause-stands g c = λ (history : List Entry) (caller : ℕ) (stands : StandsFor c.args.self.now history).

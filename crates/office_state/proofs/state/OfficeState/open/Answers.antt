@@ -1,5 +1,5 @@
 -- What start tells of the disk, and what the replay tells of the journal.
-use Rattle.std.proofs.Common.{subst}
+use Rattle.std.proofs.Common.{ap, subst}
 use Rattle.std.proofs.lemmas.Result.{MatchResult-weaker}
 use Rattle.office_state.specs.inside.Replays.{IsOfficeOf}
 use Rattle.office_state.proofs.OpeningSteps.{IsStarted, not_started}
@@ -17,9 +17,14 @@ returns-in-Ok-clause-opened g c =
       opens = start.opens;
     } in
     MatchResult-weaker c.office_of.result c.office_of.ensures.opened
-    (λ state made. made_office g.D.Disk c.args.disk c.in-Ok.journal started state
-    (subst (λ begun. IsOfficeOf c.in-Ok.journal begun state) c.of-begun.ensures made) g.met.D.Disk.counts_now)
+    (λ state made. made_office g.D.Disk c.args.disk c.in-Ok.journal started c.args.watchers c.requires state
+    (subst (λ begun. IsOfficeOf c.in-Ok.journal begun c.args.watchers state) c.of-begun.ensures made)
+    g.met.D.Disk.counts_now g.met.D.Disk.reads_as_image)
     (λ fault u. u)
+
+pub returns-in-Ok-clause-auditors : goal.returns-in-Ok-clause-auditors
+returns-in-Ok-clause-auditors g c =
+    MatchResult-weaker c.office_of.result c.office_of.ensures.opened (λ state made. ap g.W.Watching.handed made.watched) (λ fault u. u)
 
 pub returns-in-Ok-clause-refused : goal.returns-in-Ok-clause-refused
 returns-in-Ok-clause-refused g c =

@@ -1,6 +1,6 @@
 use Rattle.std.proofs.Common.{◌≡◌, ◌++◌, drop}
 use Rattle.life_app.specs.inside.Told.{told_texts}
-use Rattle.life_app.proofs.transcript.transcript.Given as goal
+use Rattle.life_app.proofs.transcript.answers.Given as goal
 
 -- the text so far and that of what is left are that of all
 abbrev pub invariant-loop-line : goal.invariant-loop-line
