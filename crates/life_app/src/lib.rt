@@ -7,8 +7,10 @@ mod clerk_tests;
 #[cfg(test)]
 mod disk_tests;
 mod ending;
+mod generate;
 mod intake;
 mod laws;
+mod load;
 #[cfg(test)]
 mod policy_tests;
 mod program;
