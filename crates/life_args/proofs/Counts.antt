@@ -1,8 +1,7 @@
 -- What the readers of modes whose words are numbers answer
-use Rattle.std.proofs.Common.{◌≡◌, ◌∙◌, ℕ, ◌≤◌, ap, sym, refl, subst, List, [], ◌∷◌, Option, Result, Ok, Err, codes}
+use Rattle.std.proofs.Common.{◌≡◌, ℕ, sym, refl, subst, List, [], ◌∷◌, Option, Ok, Err, codes}
 use Rattle.clap.specs.Words.{App, Text, fault_of, first_value, first_of, found_of, matches_of}
 use Rattle.clap.specs.declared.parser.matches.ArgMatches.{ArgMatches}
-use Rattle.clap.proofs.WalkLemmas.{first_value-rows}
 use Rattle.life_args.specs.declared.fault.WordsFault.{WordsFault}
 use Rattle.life_args.specs.declared.mode.Mode.{Mode}
 use Rattle.life_args.specs.declared.mode.Mode.TheVariants.{Run, Value, State, Generate, Load}

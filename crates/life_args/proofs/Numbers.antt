@@ -1,12 +1,12 @@
 -- The modes whose words are numbers: their commands take them, and their values say the mode
 use Rattle.std.proofs.Common.{◌≡◌, ◌≤◌, ◌^◌, ◌<◌, ℕ, true, false, List, [], ◌∷◌, length, Option, Some, None, refl, sym, ap, ◌∙◌, subst, arith, inl, inr, codes, decimal}
-use Rattle.std.specs.Prelude.{⊤}
 use Rattle.clap.specs.Walk.{Row, Text, first_of}
 use Rattle.clap.specs.Simple.{matches_of}
 use Rattle.clap.specs.Faults.{fault_of, is_simple_and_free}
 use Rattle.life_args.specs.Pieces.{Piece, bare, apart, joined, spelled, bare_values, IsAmong, HasOnly}
 use Rattle.life_args.specs.Words.{IsGenerate, IsLoad}
 use Rattle.life_args.specs.inside.Commands.{HasHyphens, IsNumberIn, generate_app, load_app}
+use Rattle.life_args.proofs.Lexing.{IsPlain}
 use Rattle.life_args.proofs.Tables.{Argument, placed}
 use Rattle.life_args.proofs.Walks.{HasPlaces, uses}
 use Rattle.life_args.proofs.Repeats.{AreApart, IsFound, found, pairs, place_uses, values_for}
@@ -53,8 +53,8 @@ places_found : (left : List Text) (pieces : List Piece) (rows : List Row) → Ha
     → (name : Text) → IsFound (values_for name (pairs left (bare_values pieces))) (found name rows)
 places_found left pieces rows only finds name = subst (λ vs. IsFound vs (found name rows)) (place_uses [] name left pieces only (λ among. among)) (finds name)
 
-plain_number : (most n : ℕ) → most < 2 ^ 64 → n ≤ most → (rest : List Text) → EachPlain rest → EachPlain (decimal n ∷ rest)
-plain_number most n small high rest each = (plain_decimal (decimal n) n (omega arith) refl, each)
+plain_number : (most n : ℕ) → most < 2 ^ 64 → n ≤ most → IsPlain (decimal n)
+plain_number most n small high = plain_decimal (decimal n) n (omega arith) refl
 
 -- ---- `generate`
 
@@ -137,8 +137,10 @@ pub generate_reads : (words : List Text) (seed count lanes : ℕ) → IsGenerate
     → (fault_of generate_app words ≡ []) × GenerateSays (matches_of generate_app words) seed count lanes × (HasHyphens words → ⊥)
 generate_reads words seed count lanes is =
     let pieces : List Piece = bare (decimal seed) ∷ bare (decimal count) ∷ bare (decimal lanes) ∷ [] in
-    let plain : EachPlain (bare_values pieces) =
-    plain_number 2147483647 seed (omega arith) is.seed_in _ (plain_number 100000 count (omega arith) is.count_in.1 _ (plain_number 8 lanes (omega arith) is.lanes_in.1 [] tt)) in
+    let plain : EachPlain (bare_values pieces) = (
+      plain_number 2147483647 seed (omega arith) is.seed_in,
+      (plain_number 100000 count (omega arith) is.count_in.1, (plain_number 8 lanes (omega arith) is.lanes_in.1, tt)),
+    ) in
     let taken = pieces_taken (codes "generate") generate_table tt three three_places three_others three_apart pieces tt (omega arith) plain
     (λ one among. absurd among) (λ one among. absurd among) (λ rows finds. refl) in
     let rows = leaf_rows generate_table (spelled pieces) in
@@ -243,9 +245,13 @@ pub load_reads : (words : List Text) (seed count lanes workers : ℕ) → IsLoad
     → (fault_of load_app words ≡ []) × LoadSays (matches_of load_app words) seed count lanes workers × (HasHyphens words → ⊥)
 load_reads words seed count lanes workers is =
     let pieces : List Piece = bare (decimal seed) ∷ bare (decimal count) ∷ bare (decimal lanes) ∷ bare (decimal workers) ∷ [] in
-    let plain : EachPlain (bare_values pieces) =
-    plain_number 2147483647 seed (omega arith) is.seed_in _ (plain_number 100000 count (omega arith) is.count_in.1 _
-    (plain_number 8 lanes (omega arith) is.lanes_in.1 _ (plain_number 64 workers (omega arith) is.workers_in.1 [] tt))) in
+    let plain : EachPlain (bare_values pieces) = (
+      plain_number 2147483647 seed (omega arith) is.seed_in,
+      (
+        plain_number 100000 count (omega arith) is.count_in.1,
+        (plain_number 8 lanes (omega arith) is.lanes_in.1, (plain_number 64 workers (omega arith) is.workers_in.1, tt)),
+      ),
+    ) in
     let taken = pieces_taken (codes "load") load_table tt four four_places four_others four_apart pieces tt (omega arith) plain
     (λ one among. absurd among) (λ one among. absurd among) (λ rows finds. refl) in
     let rows = leaf_rows load_table (spelled pieces) in
