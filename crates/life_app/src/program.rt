@@ -23,6 +23,8 @@ ghost use Rattle.life_app.specs.inside.Valued.{SaysNoMode};
 
 use crate::account::account;
 use crate::ending::Ending;
+use crate::generate::generate;
+use crate::load::load;
 use crate::refusing::say;
 use crate::run::{Finished, run};
 use crate::state::state;
@@ -187,6 +189,20 @@ fn obey<R: Threads + Wait + Sync, S: Source, K: Sink, H: Shelf, D: Disk + Send, 
         ),
         Ok(Mode::State { id: None }) => state(alloc, output, disk),
         Ok(Mode::State { id: Some(id) }) => account(alloc, id, output, disk),
+        Ok(Mode::Generate { seed, count, lanes }) => Finished {
+            ending: generate(alloc, seed, count, lanes, output),
+            disk,
+        },
+        Ok(
+            Mode::Load {
+                seed,
+                count,
+                lanes,
+                workers,
+            },
+        ) => load(
+            rt, alloc, seed, count, lanes, workers, output, shelf, disk, gate,
+        ),
         Err(fault) => Finished {
             ending: refuse_words(fault, output),
             disk,
