@@ -154,9 +154,9 @@ dry_same number on at workers turn (Ok valuation) = refl
 dry_same number on at workers turn (Err (Pin why)) = refl
 dry_same number on at workers turn (Err NoMemory) = refl
 
-module _ {D : Type 0} (basis : List Dated) (number : ℕ) where
+module _ {D W : Type 0} (basis : List Dated) (number : ℕ) where
   -- no lines
-  pub answered_none : (pass : Holding (OfficeOpening D)) → PassFacts IsOfficeHistory pass → HasAnswered basis number [] pass pass []
+  pub answered_none : (pass : Holding (OfficeOpening D W)) → PassFacts IsOfficeHistory pass → HasAnswered basis number [] pass pass []
   answered_none pass facts = record {
     answered = [];
     theirs = tt;
@@ -171,7 +171,7 @@ module _ {D : Type 0} (basis : List Dated) (number : ℕ) where
   }
 
   -- some, and then some
-  pub answered_more : (lines next : List Line) (old mid new : Holding (OfficeOpening D)) (tolds more : List TranscriptLine)
+  pub answered_more : (lines next : List Line) (old mid new : Holding (OfficeOpening D W)) (tolds more : List TranscriptLine)
       → HasAnswered basis number lines old mid tolds → HasAnswered basis number next mid new more
       → HasAnswered basis number (lines ++ next) old new (tolds ++ more)
   answered_more lines next old mid new tolds more first then = record {
@@ -225,10 +225,10 @@ module _ {D : Type 0} (basis : List Dated) (number : ℕ) where
       moves one told below is =
           subst (λ (seen : List Entry). IsTold then.opened.opening seen basis one told) (sym then.grows.begins.1)
           (told_later then.opened.opening mid.seen then.grows.begins.0 basis one told below
-          (subst (λ (opened : OfficeOpening D). IsTold opened.opening mid.seen basis one told) same is))
+          (subst (λ (opened : OfficeOpening D W). IsTold opened.opening mid.seen basis one told) same is))
 
   -- one line more
-  pub answered_next : (asked : List Line) (i : ℕ) (d : Line) (old mid new : Holding (OfficeOpening D)) (tolds more : List TranscriptLine) (told : TranscriptLine)
+  pub answered_next : (asked : List Line) (i : ℕ) (d : Line) (old mid new : Holding (OfficeOpening D W)) (tolds more : List TranscriptLine) (told : TranscriptLine)
       → i < length asked → more ≡ tolds ++ told ∷ []
       → HasAnswered basis number (take i asked) old mid tolds → HasAnswered basis number (get_or asked i d ∷ []) mid new (told ∷ [])
       → HasAnswered basis number (take (i + 1) asked) old new more
@@ -239,13 +239,13 @@ module _ {D : Type 0} (basis : List Dated) (number : ℕ) where
       (subst (HasAnswered basis number (take i asked ++ get_or asked i d ∷ []) old new) (sym one_more)
       (answered_more (take i asked) (get_or asked i d ∷ []) old mid new tolds (told ∷ []) so_far next))
 
-  turn_reached : (turn : ℕ) (entry : Entry) (old new : Holding (OfficeOpening D)) → TakesTurn turn entry old new → turn < length new.seen
+  turn_reached : (turn : ℕ) (entry : Entry) (old new : Holding (OfficeOpening D W)) → TakesTurn turn entry old new → turn < length new.seen
   turn_reached turn entry old new takes =
       let long : length new.seen ≡ length (old.seen ++ takes.between) + 1 =
-      ap (λ (p : Holding (OfficeOpening D)). length p.seen) takes.new_is ∙ length-append (old.seen ++ takes.between) (entry ∷ []) in
+      ap (λ (p : Holding (OfficeOpening D W)). length p.seen) takes.new_is ∙ length-append (old.seen ++ takes.between) (entry ∷ []) in
       omega (arith, long, takes.place)
 
-  pub answered_post : (command : Command) (turn : ℕ) (answer : Answer) (old new : Holding (OfficeOpening D)) → 1 ≤ old.left
+  pub answered_post : (command : Command) (turn : ℕ) (answer : Answer) (old new : Holding (OfficeOpening D W)) → 1 ≤ old.left
       → TakesTurn turn (turn_of old.caller command answer) old new → PassFacts IsOfficeHistory new
       → HasAnswered basis number (Post command ∷ []) old new
       (record { lane = number; turn = turn; line = Post command; outcome = Posted answer } ∷ [])
@@ -262,7 +262,7 @@ module _ {D : Type 0} (basis : List Dated) (number : ℕ) where
     tells = (record { lane = refl; line = refl; turn = refl; outcome = refl }, tt);
   }
 
-  pub answered_trim : (turn floor : ℕ) (old new : Holding (OfficeOpening D)) → 1 ≤ old.left
+  pub answered_trim : (turn floor : ℕ) (old new : Holding (OfficeOpening D W)) → 1 ≤ old.left
       → TakesTurn turn (trim_turn old.caller floor) old new → PassFacts IsOfficeHistory new
       → HasAnswered basis number (Trim ∷ []) old new (record { lane = number; turn = turn; line = Trim; outcome = Trimmed floor } ∷ [])
   answered_trim turn floor old new some takes facts = record {
@@ -278,7 +278,7 @@ module _ {D : Type 0} (basis : List Dated) (number : ℕ) where
     tells = (record { lane = refl; line = refl; turn = refl; outcome = refl }, tt);
   }
 
-  pub answered_value : (on : ℤ) (at : At) (workers turn : ℕ) (answer : Result Valuation ValueFault) (old new : Holding (OfficeOpening D))
+  pub answered_value : (on : ℤ) (at : At) (workers turn : ℕ) (answer : Result Valuation ValueFault) (old new : Holding (OfficeOpening D W))
       → HasValued basis on at workers old new turn answer
       → HasAnswered basis number (Value on at workers ∷ []) old new (valued_line number on at workers turn answer ∷ [])
   answered_value on at workers turn answer old new v = record {

@@ -38,11 +38,11 @@ only_others (entry ∷ history) number others none all = by (entry.caller == num
 
 -- A pass that made nothing, and into which none was taken back, has run lanes, and has seen the whole history: this is
 -- that of the lanes' callers.
-pub lanes_merged : {D : Type 0} (legal : OfficeOpening D → List Entry → Type 0) (basis : List Dated) (lanes : List Lane)
-    (old new : Holding (OfficeOpening D)) (transcript : Transcript) → old.made ≡ [] → old.ended ≡ []
+pub lanes_merged : {D W : Type 0} (legal : OfficeOpening D W → List Entry → Type 0) (basis : List Dated) (lanes : List Lane)
+    (old new : Holding (OfficeOpening D W)) (transcript : Transcript) → old.made ≡ [] → old.ended ≡ []
     → HasAnsweredLanes basis lanes old new transcript → PassFacts legal new → OwnsAll new
     → IsMerge new.seen lanes transcript.callers (dry_of transcript.lines)
-lanes_merged {D} legal basis lanes old new transcript no_entry no_page has facts whole = record {
+lanes_merged {D} {W} legal basis lanes old new transcript no_entry no_page has facts whole = record {
   distinct = has.pass.distinct;
   theirs = only_others new.seen new.caller transcript.callers (facts.paged.0 ∙ has.pass.made ∙ no_entry)
       (subst (λ (numbers : List ℕ). AllByRecursion (λ (entry : Entry). Contains (new.caller ∷ numbers) entry.caller) new.seen) numbers whole);

@@ -62,8 +62,8 @@ turns_are opening history basis (one ∷ answered) [] all = absurd all
 turns_are opening history basis (one ∷ answered) (told ∷ tolds) all =
     let rest = turns_are opening history basis answered tolds all.1 in λ i. all.0.turn i ∷ rest i
 
-abbrev pub items_in : {D : Type 0} → List (Seat D) → List TranscriptLine
-items_in {D} seats = flat_map (λ (seat : Seat D). seat.1.items) seats
+abbrev pub items_in : {D W : Type 0} → List (Seat D W) → List TranscriptLine
+items_in {D} {W} seats = flat_map (λ (seat : Seat D W). seat.1.items) seats
 
 drier : (lines tolds : List TranscriptLine) → ((told : TranscriptLine) → In told tolds → In told lines)
     → (x : ℕ) → Contains (dry_of tolds) x → Contains (dry_of lines) x
@@ -71,14 +71,14 @@ drier lines tolds within x dry =
     let found = dry_from x tolds dry in
     subst (Contains (dry_of lines)) found.1.2 (dry_to found.0 lines (within found.0 found.1.0) found.1.1)
 
-module _ {D : Type 0} (opening : Opening) (history : List Entry) (basis : List Dated) where
-  abbrev answered_in : (lanes : List Lane) (seats : List (Seat D)) → AreLanesOf opening history basis lanes seats → List AnsweredLine
+module _ {D W : Type 0} (opening : Opening) (history : List Entry) (basis : List Dated) where
+  abbrev answered_in : (lanes : List Lane) (seats : List (Seat D W)) → AreLanesOf opening history basis lanes seats → List AnsweredLine
   answered_in [] [] are = []
   answered_in [] (seat ∷ seats) are = absurd are
   answered_in (lane ∷ lanes) [] are = absurd are
   answered_in (lane ∷ lanes) (seat ∷ seats) are = are.0.answered ++ answered_in lanes seats are.1
 
-  tells_in : (lanes : List Lane) (seats : List (Seat D)) (are : AreLanesOf opening history basis lanes seats)
+  tells_in : (lanes : List Lane) (seats : List (Seat D W)) (are : AreLanesOf opening history basis lanes seats)
       → AllZip (IsTold opening history basis) (answered_in lanes seats are) (items_in seats)
   tells_in [] [] are = tt
   tells_in [] (seat ∷ seats) are = absurd are
@@ -87,7 +87,7 @@ module _ {D : Type 0} (opening : Opening) (history : List Entry) (basis : List D
       zip_append (IsTold opening history basis) are.0.answered (answered_in lanes seats are.1) seat.1.items (items_in seats) are.0.tells
       (tells_in lanes seats are.1)
 
-  places_in : (lanes : List Lane) (seats : List (Seat D)) (are : AreLanesOf opening history basis lanes seats)
+  places_in : (lanes : List Lane) (seats : List (Seat D W)) (are : AreLanesOf opening history basis lanes seats)
       → AllByRecursion (λ (one : AnsweredLine). (caller : ℕ) × (In caller (callers_in seats) × IsAt history caller one.first.0)) (answered_in lanes seats are)
   places_in [] [] are = tt
   places_in [] (seat ∷ seats) are = absurd are
@@ -102,7 +102,7 @@ module _ {D : Type 0} (opening : Opening) (history : List Entry) (basis : List D
       (λ (one : AnsweredLine). (caller : ℕ) × (In caller (callers_in (seat ∷ seats)) × IsAt history caller one.first.0))
       (λ one at. (at.0, (inr at.1.0, at.1.1))) (answered_in lanes seats are.1) (places_in lanes seats are.1))
 
-  distinct_in : (lanes : List Lane) (seats : List (Seat D)) (are : AreLanesOf opening history basis lanes seats) → IsDistinct nat_eq (callers_in seats)
+  distinct_in : (lanes : List Lane) (seats : List (Seat D W)) (are : AreLanesOf opening history basis lanes seats) → IsDistinct nat_eq (callers_in seats)
       → IsDistinct nat_eq (firsts (answered_in lanes seats are))
   unfolding IsDistinct
   distinct_in [] [] are apart = tt
@@ -133,7 +133,7 @@ module _ {D : Type 0} (opening : Opening) (history : List Entry) (basis : List D
           (at_one_caller history seat.0.caller there.0 other.first.0 (subst (IsAt history seat.0.caller) same at) there.1.1)))
           (answered_in lanes seats are.1) (places_in lanes seats are.1))
 
-  clerks_in : (lanes : List Lane) (seats : List (Seat D)) (are : AreLanesOf opening history basis lanes seats)
+  clerks_in : (lanes : List Lane) (seats : List (Seat D W)) (are : AreLanesOf opening history basis lanes seats)
       → AllByRecursion (λ (one : AnsweredLine). In one.clerk (numbers lanes)) (answered_in lanes seats are)
   clerks_in [] [] are = tt
   clerks_in [] (seat ∷ seats) are = absurd are
@@ -146,7 +146,7 @@ module _ {D : Type 0} (opening : Opening) (history : List Entry) (basis : List D
       (λ one its. inr its) (answered_in lanes seats are.1) (clerks_in lanes seats are.1))
 
   module _ (lines : List TranscriptLine) where
-    lane_answers : (lane : Lane) (seat : Seat D) (is : IsLaneOf opening history basis lane seat.0.caller seat.1.items)
+    lane_answers : (lane : Lane) (seat : Seat D W) (is : IsLaneOf opening history basis lane seat.0.caller seat.1.items)
         → ((told : TranscriptLine) → In told seat.1.items → In told lines)
         → AllByRecursion (λ (one : AnsweredLine). AnswersLine (dry_of lines) one.line (turns_in one)) is.answered
     lane_answers lane seat is within =
@@ -154,7 +154,7 @@ module _ {D : Type 0} (opening : Opening) (history : List Entry) (basis : List D
         (λ (one : AnsweredLine). AnswersLine (dry_of lines) one.line (turns_in one))
         (λ one. answers_drier (dry_of seat.1.items) (dry_of lines) (drier lines seat.1.items within) one.line (turns_in one)) is.answered is.answers
 
-    answers_in : (lanes : List Lane) (seats : List (Seat D)) (are : AreLanesOf opening history basis lanes seats)
+    answers_in : (lanes : List Lane) (seats : List (Seat D W)) (are : AreLanesOf opening history basis lanes seats)
         → ((told : TranscriptLine) → In told (items_in seats) → In told lines)
         → AllByRecursion (λ (one : AnsweredLine). AnswersLine (dry_of lines) one.line (turns_in one)) (answered_in lanes seats are)
     answers_in [] [] are within = tt
@@ -165,7 +165,7 @@ module _ {D : Type 0} (opening : Opening) (history : List Entry) (basis : List D
         (lane_answers lane seat are.0 (λ told is. within told (in_front told seat.1.items (items_in seats) is)))
         (answers_in lanes seats are.1 (λ told is. within told (in_back told seat.1.items (items_in seats) is)))
 
-    lanes_answered : (lanes : List Lane) (seats : List (Seat D)) → AreLanesOf opening history basis lanes seats
+    lanes_answered : (lanes : List Lane) (seats : List (Seat D W)) → AreLanesOf opening history basis lanes seats
         → ((told : TranscriptLine) → In told (items_in seats) → In told lines) → AnswersLanes (dry_of lines) history lanes (callers_in seats)
     lanes_answered [] [] are within = tt
     lanes_answered [] (seat ∷ seats) are within = absurd are
@@ -179,7 +179,7 @@ module _ {D : Type 0} (opening : Opening) (history : List Entry) (basis : List D
     )
 
   -- where all lines rise, those of each clerk are its lane's
-  each_of : (all : List AnsweredLine) → Rises 0 all → (lanes : List Lane) (seats : List (Seat D)) (are : AreLanesOf opening history basis lanes seats)
+  each_of : (all : List AnsweredLine) → Rises 0 all → (lanes : List Lane) (seats : List (Seat D W)) (are : AreLanesOf opening history basis lanes seats)
       → AreRising (numbers lanes) → ((z : AnsweredLine) → In z all → In z.clerk (numbers lanes) → In z (answered_in lanes seats are))
       → ((z : AnsweredLine) → In z (answered_in lanes seats are) → In z all) → AreOfLanes all history lanes (callers_in seats)
   each_of all rises [] [] are rising there back = tt
@@ -221,7 +221,7 @@ module _ {D : Type 0} (opening : Opening) (history : List Entry) (basis : List D
           (rises_of history seat.0.caller are.0.answered are.0.turns) found given
 
 -- the transcript, whose lines are those of all lanes by rising turns
-module _ {D : Type 0} (basis : List Dated) (lanes : List Lane) (old new : Holding (OfficeOpening D)) (seats : List (Seat D))
+module _ {D W : Type 0} (basis : List Dated) (lanes : List Lane) (old new : Holding (OfficeOpening D W)) (seats : List (Seat D W))
     (lines : List TranscriptLine) (right : AreRightLanes lanes) (facts : PassFacts IsOfficeHistory new)
     (has_run : HasRun old new (callers_in seats)) (are : AreLanesOf facts.lawful.0.opening new.seen basis lanes seats)
     (moved : IsPermutation (items_in seats) lines)

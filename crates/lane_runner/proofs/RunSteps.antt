@@ -60,17 +60,17 @@ needed_each (lane ∷ lanes) most few = (
   needed_each lanes most (omega (arith, few, needed_append lane.lines (lines_in lanes))),
 )
 
-module _ {D : Type 0} where
-  abbrev pub callers_in : List (Seat D) → List ℕ
-  callers_in seats = map (λ (seat : Seat D). seat.0.caller) seats
+module _ {D W : Type 0} where
+  abbrev pub callers_in : List (Seat D W) → List ℕ
+  callers_in seats = map (λ (seat : Seat D W). seat.0.caller) seats
 
-  abbrev pub AreLanesOf : Opening → List Entry → List Dated → List Lane → List (Seat D) → Type 0
+  abbrev pub AreLanesOf : Opening → List Entry → List Dated → List Lane → List (Seat D W) → Type 0
   AreLanesOf opening history basis [] [] = Unit {0}
   AreLanesOf opening history basis (lane ∷ lanes) (seat ∷ seats) =
       IsLaneOf opening history basis lane seat.0.caller seat.1.items × AreLanesOf opening history basis lanes seats
   AreLanesOf _ _ _ _ _ = ⊥
 
-  shares_stay : (basis : List Dated) (lanes : List Lane) (olds news : List (Seat D)) → HaveRun basis lanes olds news → all_shares_in news ≡ all_shares_in olds
+  shares_stay : (basis : List Dated) (lanes : List Lane) (olds news : List (Seat D W)) → HaveRun basis lanes olds news → all_shares_in news ≡ all_shares_in olds
   shares_stay basis [] [] [] run = refl
   shares_stay basis [] [] (new ∷ news) run = absurd run
   shares_stay basis [] (old ∷ olds) news run = absurd run
@@ -79,7 +79,7 @@ module _ {D : Type 0} where
   shares_stay basis (lane ∷ lanes) (old ∷ olds) (new ∷ news) run =
       omega (arith, run.0.answered.grows.shares, shares_stay basis lanes olds news run.1)
 
-  left_after : (basis : List Dated) (lanes : List Lane) (olds news : List (Seat D)) → HaveRun basis lanes olds news
+  left_after : (basis : List Dated) (lanes : List Lane) (olds news : List (Seat D W)) → HaveRun basis lanes olds news
       → all_left olds ≤ all_left news + turns_needed (lines_in lanes)
   left_after basis [] [] [] run = omega arith
   left_after basis [] [] (new ∷ news) run = absurd run
@@ -89,7 +89,7 @@ module _ {D : Type 0} where
   left_after basis (lane ∷ lanes) (old ∷ olds) (new ∷ news) run =
       omega (arith, run.0.answered.grows.left, run.0.answered.few, left_after basis lanes olds news run.1, needed_append lane.lines (lines_in lanes))
 
-  pub seats_many : (basis : List Dated) (lanes : List Lane) (olds news : List (Seat D)) → HaveRun basis lanes olds news → length olds ≡ length lanes
+  pub seats_many : (basis : List Dated) (lanes : List Lane) (olds news : List (Seat D W)) → HaveRun basis lanes olds news → length olds ≡ length lanes
   seats_many basis [] [] [] run = refl
   seats_many basis [] [] (new ∷ news) run = absurd run
   seats_many basis [] (old ∷ olds) news run = absurd run
@@ -98,8 +98,8 @@ module _ {D : Type 0} where
   seats_many basis (lane ∷ lanes) (old ∷ olds) (new ∷ news) run = ap suc (seats_many basis lanes olds news run.1)
 
   -- passes that were entered have no page of an ended caller, and their runs add none
-  none_ended : (basis : List Dated) (first : Holding (OfficeOpening D)) (lanes : List Lane) (olds news : List (Seat D)) → HaveRun basis lanes olds news
-      → AllByRecursion (λ (seat : Seat D). IsFresh first seat.0) olds → AllByRecursion (λ (seat : Seat D). seat.0.ended ≡ []) news
+  none_ended : (basis : List Dated) (first : Holding (OfficeOpening D W)) (lanes : List Lane) (olds news : List (Seat D W)) → HaveRun basis lanes olds news
+      → AllByRecursion (λ (seat : Seat D W). IsFresh first seat.0) olds → AllByRecursion (λ (seat : Seat D W). seat.0.ended ≡ []) news
   none_ended basis first [] [] [] run fresh = tt
   none_ended basis first [] [] (new ∷ news) run fresh = absurd run
   none_ended basis first [] (old ∷ olds) news run fresh = absurd run
@@ -109,32 +109,32 @@ module _ {D : Type 0} where
       (run.0.answered.grows.ended ∙ fresh.0.ended, none_ended basis first lanes olds news run.1 fresh.1)
 
   -- the pages of the passes are those of their callers in the whole history
-  pages_are : (history : List Entry) (seats : List (Seat D)) → AllByRecursion (λ (seat : Seat D). seat.0.ended ≡ []) seats
-      → AllByRecursion (λ (page : Page). entries_of history page.0 ≡ page.1) (flat_map (λ (seat : Seat D). pages seat.0) seats)
-      → flat_map (λ (seat : Seat D). pages seat.0) seats ≡ map (λ caller. (caller, entries_of history caller)) (callers_in seats)
+  pages_are : (history : List Entry) (seats : List (Seat D W)) → AllByRecursion (λ (seat : Seat D W). seat.0.ended ≡ []) seats
+      → AllByRecursion (λ (page : Page). entries_of history page.0 ≡ page.1) (flat_map (λ (seat : Seat D W). pages seat.0) seats)
+      → flat_map (λ (seat : Seat D W). pages seat.0) seats ≡ map (λ caller. (caller, entries_of history caller)) (callers_in seats)
   pages_are history [] none paged = refl
   pages_are history (seat ∷ seats) none paged =
-      let here : flat_map (λ (one : Seat D). pages one.0) (seat ∷ seats)
-      ≡ (seat.0.caller, seat.0.made) ∷ flat_map (λ (one : Seat D). pages one.0) seats
-      = ap (λ (ended : List Page). (seat.0.caller, seat.0.made) ∷ ended ++ flat_map (λ (one : Seat D). pages one.0) seats) none.0 in
+      let here : flat_map (λ (one : Seat D W). pages one.0) (seat ∷ seats)
+      ≡ (seat.0.caller, seat.0.made) ∷ flat_map (λ (one : Seat D W). pages one.0) seats
+      = ap (λ (ended : List Page). (seat.0.caller, seat.0.made) ∷ ended ++ flat_map (λ (one : Seat D W). pages one.0) seats) none.0 in
       let all = subst (AllByRecursion (λ (page : Page). entries_of history page.0 ≡ page.1)) here paged in
-      here ∙ ap (λ made. (seat.0.caller, made) ∷ flat_map (λ (one : Seat D). pages one.0) seats) (sym all.0)
+      here ∙ ap (λ made. (seat.0.caller, made) ∷ flat_map (λ (one : Seat D W). pages one.0) seats) (sym all.0)
       ∙ ap (λ (rest : List Page). (seat.0.caller, entries_of history seat.0.caller) ∷ rest) (pages_are history seats none.1 all.1)
 
   -- the lanes' entries are those of their pages
-  made_are : (history : List Entry) (seats : List (Seat D)) → AllByRecursion (λ (seat : Seat D). seat.0.ended ≡ []) seats
-      → AllByRecursion (λ (page : Page). entries_of history page.0 ≡ page.1) (flat_map (λ (seat : Seat D). pages seat.0) seats)
-      → AllByRecursion (λ (seat : Seat D). entries_of history seat.0.caller ≡ seat.0.made) seats
+  made_are : (history : List Entry) (seats : List (Seat D W)) → AllByRecursion (λ (seat : Seat D W). seat.0.ended ≡ []) seats
+      → AllByRecursion (λ (page : Page). entries_of history page.0 ≡ page.1) (flat_map (λ (seat : Seat D W). pages seat.0) seats)
+      → AllByRecursion (λ (seat : Seat D W). entries_of history seat.0.caller ≡ seat.0.made) seats
   made_are history [] none paged = tt
   made_are history (seat ∷ seats) none paged =
-      let here : flat_map (λ (one : Seat D). pages one.0) (seat ∷ seats)
-      ≡ (seat.0.caller, seat.0.made) ∷ flat_map (λ (one : Seat D). pages one.0) seats
-      = ap (λ (ended : List Page). (seat.0.caller, seat.0.made) ∷ ended ++ flat_map (λ (one : Seat D). pages one.0) seats) none.0 in
+      let here : flat_map (λ (one : Seat D W). pages one.0) (seat ∷ seats)
+      ≡ (seat.0.caller, seat.0.made) ∷ flat_map (λ (one : Seat D W). pages one.0) seats
+      = ap (λ (ended : List Page). (seat.0.caller, seat.0.made) ∷ ended ++ flat_map (λ (one : Seat D W). pages one.0) seats) none.0 in
       let all = subst (AllByRecursion (λ (page : Page). entries_of history page.0 ≡ page.1)) here paged in
       (all.0, made_are history seats none.1 all.1)
 
   -- a lane that was run in a seat, as the whole history has it
-  lane_of_seat : (basis : List Dated) (first : Holding (OfficeOpening D)) (opened : OfficeOpening D) (history : List Entry) (lane : Lane) (old new : Seat D)
+  lane_of_seat : (basis : List Dated) (first : Holding (OfficeOpening D W)) (opened : OfficeOpening D W) (history : List Entry) (lane : Lane) (old new : Seat D W)
       → first.opening ≡ Some opened → IsFresh first old.0 → HasRunIn basis lane old new → StartsWith history new.0.seen
       → entries_of history new.0.caller ≡ new.0.made → IsLaneOf opened.opening history basis lane new.0.caller new.1.items
   lane_of_seat basis first opened history lane old new is fresh run begins made = record {
@@ -163,12 +163,12 @@ module _ {D : Type 0} where
       moves one told below is_told =
           subst (λ (h : List Entry). IsTold opened.opening h basis one told) (sym begins.1)
           (told_later opened.opening new.0.seen begins.0 basis one told below
-          (subst (λ (o : OfficeOpening D). IsTold o.opening new.0.seen basis one told) same is_told))
+          (subst (λ (o : OfficeOpening D W). IsTold o.opening new.0.seen basis one told) same is_told))
 
-  lanes_of_seats : (basis : List Dated) (first : Holding (OfficeOpening D)) (opened : OfficeOpening D) (history : List Entry) (lanes : List Lane)
-      (olds news : List (Seat D)) → first.opening ≡ Some opened → AllByRecursion (λ (seat : Seat D). IsFresh first seat.0) olds
-      → HaveRun basis lanes olds news → AllByRecursion (λ (seat : Seat D). StartsWith history seat.0.seen) news
-      → AllByRecursion (λ (seat : Seat D). entries_of history seat.0.caller ≡ seat.0.made) news
+  lanes_of_seats : (basis : List Dated) (first : Holding (OfficeOpening D W)) (opened : OfficeOpening D W) (history : List Entry) (lanes : List Lane)
+      (olds news : List (Seat D W)) → first.opening ≡ Some opened → AllByRecursion (λ (seat : Seat D W). IsFresh first seat.0) olds
+      → HaveRun basis lanes olds news → AllByRecursion (λ (seat : Seat D W). StartsWith history seat.0.seen) news
+      → AllByRecursion (λ (seat : Seat D W). entries_of history seat.0.caller ≡ seat.0.made) news
       → AreLanesOf opened.opening history basis lanes news
   lanes_of_seats basis first opened history [] [] [] is fresh run begins made = tt
   lanes_of_seats basis first opened history [] [] (new ∷ news) is fresh run begins made = absurd run
@@ -180,7 +180,7 @@ module _ {D : Type 0} where
     lanes_of_seats basis first opened history lanes olds news is fresh.1 run.1 begins.1 made.1,
   )
 
-  pub news_many : (basis : List Dated) (lanes : List Lane) (olds news : List (Seat D)) → HaveRun basis lanes olds news → length news ≡ length lanes
+  pub news_many : (basis : List Dated) (lanes : List Lane) (olds news : List (Seat D W)) → HaveRun basis lanes olds news → length news ≡ length lanes
   news_many basis [] [] [] run = refl
   news_many basis [] [] (new ∷ news) run = absurd run
   news_many basis [] (old ∷ olds) news run = absurd run
@@ -189,8 +189,8 @@ module _ {D : Type 0} where
   news_many basis (lane ∷ lanes) (old ∷ olds) (new ∷ news) run = ap suc (news_many basis lanes olds news run.1)
 
   -- as many lines are told of as the lanes have
-  pub told_many : (basis : List Dated) (lanes : List Lane) (olds news : List (Seat D)) → HaveRun basis lanes olds news
-      → length (flat_map (λ (seat : Seat D). seat.1.items) news) ≡ length (lines_in lanes)
+  pub told_many : (basis : List Dated) (lanes : List Lane) (olds news : List (Seat D W)) → HaveRun basis lanes olds news
+      → length (flat_map (λ (seat : Seat D W). seat.1.items) news) ≡ length (lines_in lanes)
   told_many basis [] [] [] run = refl
   told_many basis [] [] (new ∷ news) run = absurd run
   told_many basis [] (old ∷ olds) news run = absurd run
@@ -200,12 +200,12 @@ module _ {D : Type 0} where
       let here : length new.1.items ≡ length lane.lines =
       sym (zip_length (IsTold run.0.answered.opened.opening new.0.seen basis) run.0.answered.answered new.1.items run.0.answered.tells)
       ∙ sym (length-map run.0.answered.answered (λ (one : AnsweredLine). one.line)) ∙ ap length run.0.answered.asked in
-      length-append new.1.items (flat_map (λ (seat : Seat D). seat.1.items) news)
+      length-append new.1.items (flat_map (λ (seat : Seat D W). seat.1.items) news)
       ∙ (λ i. here i + told_many basis lanes olds news run.1 i) ∙ sym (length-append lane.lines (lines_in lanes))
 
-  pub seats_ours : (basis : List Dated) (office : TableId) (first : Holding (OfficeOpening D)) (lanes : List Lane) (olds news : List (Seat D))
-      → HaveRun basis lanes olds news → AllByRecursion (λ (seat : Seat D). IsFresh first seat.0) olds → first.turnstile ≡ office
-      → AllByRecursion (λ (seat : Seat D). seat.0.turnstile ≡ office) news
+  pub seats_ours : (basis : List Dated) (office : TableId) (first : Holding (OfficeOpening D W)) (lanes : List Lane) (olds news : List (Seat D W))
+      → HaveRun basis lanes olds news → AllByRecursion (λ (seat : Seat D W). IsFresh first seat.0) olds → first.turnstile ≡ office
+      → AllByRecursion (λ (seat : Seat D W). seat.0.turnstile ≡ office) news
   seats_ours basis office first [] [] [] run fresh ours = tt
   seats_ours basis office first [] [] (new ∷ news) run fresh ours = absurd run
   seats_ours basis office first [] (old ∷ olds) news run fresh ours = absurd run
@@ -214,8 +214,8 @@ module _ {D : Type 0} where
   seats_ours basis office first (lane ∷ lanes) (old ∷ olds) (new ∷ news) run fresh ours =
       (run.0.answered.grows.turnstile ∙ fresh.0.turnstile ∙ ours, seats_ours basis office first lanes olds news run.1 fresh.1 ours)
 
-  ready : (office : TableId) (first : Holding (OfficeOpening D)) (lanes : List Lane) (seats : List (Seat D))
-      → AllZip IsRoomFor lanes (map (λ (seat : Seat D). seat.1) seats) → AllByRecursion (λ (seat : Seat D). IsFresh first seat.0) seats
+  ready : (office : TableId) (first : Holding (OfficeOpening D W)) (lanes : List Lane) (seats : List (Seat D W))
+      → AllZip IsRoomFor lanes (map (λ (seat : Seat D W). seat.1) seats) → AllByRecursion (λ (seat : Seat D W). IsFresh first seat.0) seats
       → first.turnstile ≡ office → AllByRecursion IsRightLane lanes → AllByRecursion (λ (lane : Lane). turns_needed lane.lines ≤ 33554432) lanes
       → AllZip (IsReady office) lanes seats
   ready office first [] [] room fresh ours right few = tt
@@ -232,7 +232,7 @@ module _ {D : Type 0} where
   )
 
   -- the lanes may be run in the seats that were entered for them
-  pub are_ready : (office : TableId) (old kept : Holding (OfficeOpening D)) (lanes : List Lane) (rooms : List (Vec TranscriptLine Global)) (seats : List (Seat D))
+  pub are_ready : (office : TableId) (old kept : Holding (OfficeOpening D W)) (lanes : List Lane) (rooms : List (Vec TranscriptLine Global)) (seats : List (Seat D W))
       → AreRightLanes lanes → AllZip IsRoomFor lanes rooms → HasEntered old kept rooms seats → old.turnstile ≡ office
       → AllZip (IsReady office) lanes seats
   are_ready office old kept lanes rooms seats right fitting entered ours =
@@ -240,15 +240,15 @@ module _ {D : Type 0} where
       (recursion_from_All IsRightLane lanes right.right)
       (needed_each lanes 33554432 (omega (arith, needed_most (lines_in lanes), right.lines, right.values)))
 
-  module _ (basis : List Dated) (lanes : List Lane) (old kept new : Holding (OfficeOpening D)) (rooms : List (Vec TranscriptLine Global))
-      (olds news : List (Seat D)) (right : AreRightLanes lanes) (entered : HasEntered old kept rooms olds)
+  module _ (basis : List Dated) (lanes : List Lane) (old kept new : Holding (OfficeOpening D W)) (rooms : List (Vec TranscriptLine Global))
+      (olds news : List (Seat D W)) (right : AreRightLanes lanes) (entered : HasEntered old kept rooms olds)
       (run : HaveRun basis lanes olds news) (left : HasLeft kept new news) (facts_old : PassFacts IsOfficeHistory old)
       (facts : PassFacts IsOfficeHistory new) where
-    ended_none : AllByRecursion (λ (seat : Seat D). seat.0.ended ≡ []) news
+    ended_none : AllByRecursion (λ (seat : Seat D W). seat.0.ended ≡ []) news
     ended_none = none_ended basis old lanes olds news run entered.fresh
 
     abbrev added : List Page
-    added = flat_map (λ (seat : Seat D). pages seat.0) news
+    added = flat_map (λ (seat : Seat D W). pages seat.0) news
 
     ended_is : new.ended ≡ kept.ended ++ added
     ended_is = left.ended

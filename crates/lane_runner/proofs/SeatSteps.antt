@@ -90,16 +90,16 @@ room_next n left shares turns parts =
     let some : shares_to_enter n + shares_to_enter n ≤ shares = parts in
     (omega (arith, more, turns_enough n), omega (arith, some, shares_enough n))
 
-module _ {D : Type 0} where
-  left_push : (seats : List (Seat D)) (seat : Seat D) → all_left (seats ++ seat ∷ []) ≡ all_left seats + seat.0.left
+module _ {D W : Type 0} where
+  left_push : (seats : List (Seat D W)) (seat : Seat D W) → all_left (seats ++ seat ∷ []) ≡ all_left seats + seat.0.left
   left_push [] seat = omega arith
   left_push (one ∷ seats) seat = omega (arith, left_push seats seat)
 
-  shares_push : (seats : List (Seat D)) (seat : Seat D) → all_shares_in (seats ++ seat ∷ []) ≡ all_shares_in seats + seat.0.shares
+  shares_push : (seats : List (Seat D W)) (seat : Seat D W) → all_shares_in (seats ++ seat ∷ []) ≡ all_shares_in seats + seat.0.shares
   shares_push [] seat = omega arith
   shares_push (one ∷ seats) seat = omega (arith, shares_push seats seat)
 
-  pub entered_none : (pass : Holding (OfficeOpening D)) → HasEntered pass pass [] []
+  pub entered_none : (pass : Holding (OfficeOpening D W)) → HasEntered pass pass [] []
   entered_none pass = record {
     turnstile = refl;
     opening = refl;
@@ -113,59 +113,59 @@ module _ {D : Type 0} where
     rooms_are = refl;
   }
 
-  module _ (mid new given : Holding (OfficeOpening D)) (n : ℕ) (left : turns_to_enter (suc n) ≤ mid.left) (enters : Enters mid new given) where
+  module _ (mid new given : Holding (OfficeOpening D W)) (n : ℕ) (left : turns_to_enter (suc n) ≤ mid.left) (enters : Enters mid new given) where
     left_enough : turns_to_enter n + turns_to_enter n + 1 ≤ mid.left
     left_enough = left
 
     given_left : given.left ≡ (mid.left - 1) / 2
-    given_left = ap (λ (p : Holding (OfficeOpening D)). p.left) enters.given_is
+    given_left = ap (λ (p : Holding (OfficeOpening D W)). p.left) enters.given_is
 
     new_left : new.left ≡ mid.left - 1 - (mid.left - 1) / 2
-    new_left = ap (λ (p : Holding (OfficeOpening D)). p.left) enters.kept_is
+    new_left = ap (λ (p : Holding (OfficeOpening D W)). p.left) enters.kept_is
 
     pub left_next : turns_to_enter n ≤ new.left
     left_next = omega (arith, left_enough, new_left)
 
-    pub entered_more : (old : Holding (OfficeOpening D)) (rooms : List (Vec TranscriptLine Global)) (seats : List (Seat D)) (lines : Vec TranscriptLine Global)
+    pub entered_more : (old : Holding (OfficeOpening D W)) (rooms : List (Vec TranscriptLine Global)) (seats : List (Seat D W)) (lines : Vec TranscriptLine Global)
         → HasEntered old mid rooms seats → PassFacts IsOfficeHistory given
         → HasEntered old new (rooms ++ lines ∷ []) (seats ++ (given, lines) ∷ [])
     entered_more old rooms seats lines so_far facts = record {
-      turnstile = ap (λ (p : Holding (OfficeOpening D)). p.turnstile) enters.kept_is ∙ so_far.turnstile;
-      opening = ap (λ (p : Holding (OfficeOpening D)). p.opening) enters.kept_is ∙ so_far.opening;
-      caller = ap (λ (p : Holding (OfficeOpening D)). p.caller) enters.kept_is ∙ so_far.caller;
-      seen = ap (λ (p : Holding (OfficeOpening D)). p.seen) enters.kept_is ∙ so_far.seen;
-      made = ap (λ (p : Holding (OfficeOpening D)). p.made) enters.kept_is ∙ so_far.made;
-      ended = ap (λ (p : Holding (OfficeOpening D)). p.ended) enters.kept_is ∙ so_far.ended;
+      turnstile = ap (λ (p : Holding (OfficeOpening D W)). p.turnstile) enters.kept_is ∙ so_far.turnstile;
+      opening = ap (λ (p : Holding (OfficeOpening D W)). p.opening) enters.kept_is ∙ so_far.opening;
+      caller = ap (λ (p : Holding (OfficeOpening D W)). p.caller) enters.kept_is ∙ so_far.caller;
+      seen = ap (λ (p : Holding (OfficeOpening D W)). p.seen) enters.kept_is ∙ so_far.seen;
+      made = ap (λ (p : Holding (OfficeOpening D W)). p.made) enters.kept_is ∙ so_far.made;
+      ended = ap (λ (p : Holding (OfficeOpening D W)). p.ended) enters.kept_is ∙ so_far.ended;
       left = omega (arith, left_enough, given_left, new_left, so_far.left, left_push seats (given, lines), length-append seats ((given, lines) ∷ []));
       shares =
-          let kept_shares : new.shares ≡ mid.shares - mid.shares / 2 = ap (λ (p : Holding (OfficeOpening D)). p.shares) enters.kept_is in
-          let given_shares : given.shares ≡ mid.shares / 2 = ap (λ (p : Holding (OfficeOpening D)). p.shares) enters.given_is in
+          let kept_shares : new.shares ≡ mid.shares - mid.shares / 2 = ap (λ (p : Holding (OfficeOpening D W)). p.shares) enters.kept_is in
+          let given_shares : given.shares ≡ mid.shares / 2 = ap (λ (p : Holding (OfficeOpening D W)). p.shares) enters.given_is in
           omega (arith, kept_shares, given_shares, so_far.shares, shares_push seats (given, lines));
-      fresh = all_append (λ (seat : Seat D). IsFresh old seat.0) seats ((given, lines) ∷ []) so_far.fresh (
+      fresh = all_append (λ (seat : Seat D W). IsFresh old seat.0) seats ((given, lines) ∷ []) so_far.fresh (
         record {
-          turnstile = ap (λ (p : Holding (OfficeOpening D)). p.turnstile) enters.given_is ∙ so_far.turnstile;
-          opening = ap (λ (p : Holding (OfficeOpening D)). p.opening) enters.given_is ∙ so_far.opening;
-          seen = ap (λ (p : Holding (OfficeOpening D)). p.seen) enters.given_is ∙ so_far.seen;
-          made = ap (λ (p : Holding (OfficeOpening D)). p.made) enters.given_is;
-          ended = ap (λ (p : Holding (OfficeOpening D)). p.ended) enters.given_is;
+          turnstile = ap (λ (p : Holding (OfficeOpening D W)). p.turnstile) enters.given_is ∙ so_far.turnstile;
+          opening = ap (λ (p : Holding (OfficeOpening D W)). p.opening) enters.given_is ∙ so_far.opening;
+          seen = ap (λ (p : Holding (OfficeOpening D W)). p.seen) enters.given_is ∙ so_far.seen;
+          made = ap (λ (p : Holding (OfficeOpening D W)). p.made) enters.given_is;
+          ended = ap (λ (p : Holding (OfficeOpening D W)). p.ended) enters.given_is;
           left = omega (arith, left_enough, given_left, turns_enough n);
           facts = facts;
         },
         tt,
       );
       rooms_are =
-          map-append (λ (seat : Seat D). seat.1) seats ((given, lines) ∷ [])
+          map-append (λ (seat : Seat D W). seat.1) seats ((given, lines) ∷ [])
           ∙ ap (λ (front : List (Vec TranscriptLine Global)). front ++ lines ∷ []) so_far.rooms_are;
     }
 
-  pub shares_next : (mid new given : Holding (OfficeOpening D)) (n : ℕ) → shares_to_enter (suc n) ≤ mid.shares → Enters mid new given
+  pub shares_next : (mid new given : Holding (OfficeOpening D W)) (n : ℕ) → shares_to_enter (suc n) ≤ mid.shares → Enters mid new given
       → shares_to_enter n ≤ new.shares
   shares_next mid new given n shares enters =
       let enough : shares_to_enter n + shares_to_enter n ≤ mid.shares = shares in
-      let kept_shares : new.shares ≡ mid.shares - mid.shares / 2 = ap (λ (p : Holding (OfficeOpening D)). p.shares) enters.kept_is in
+      let kept_shares : new.shares ≡ mid.shares - mid.shares / 2 = ap (λ (p : Holding (OfficeOpening D W)). p.shares) enters.kept_is in
       omega (arith, enough, kept_shares)
 
-  pub left_none : (pass : Holding (OfficeOpening D)) → HasLeft pass pass []
+  pub left_none : (pass : Holding (OfficeOpening D W)) → HasLeft pass pass []
   left_none pass = record {
     turnstile = refl;
     opening = refl;
@@ -178,36 +178,36 @@ module _ {D : Type 0} where
     ended = sym (append-nil pass.ended);
   }
 
-  pub left_more : (old mid new gone : Holding (OfficeOpening D)) (seats : List (Seat D)) (lines : Vec TranscriptLine Global)
+  pub left_more : (old mid new gone : Holding (OfficeOpening D W)) (seats : List (Seat D W)) (lines : Vec TranscriptLine Global)
       → HasLeft old mid seats → Leaves gone mid new → HasLeft old new (seats ++ (gone, lines) ∷ [])
   left_more old mid new gone seats lines so_far leaves = record {
-    turnstile = ap (λ (p : Holding (OfficeOpening D)). p.turnstile) leaves.new_is ∙ so_far.turnstile;
-    opening = ap (λ (p : Holding (OfficeOpening D)). p.opening) leaves.new_is ∙ so_far.opening;
-    caller = ap (λ (p : Holding (OfficeOpening D)). p.caller) leaves.new_is ∙ so_far.caller;
-    made = ap (λ (p : Holding (OfficeOpening D)). p.made) leaves.new_is ∙ so_far.made;
+    turnstile = ap (λ (p : Holding (OfficeOpening D W)). p.turnstile) leaves.new_is ∙ so_far.turnstile;
+    opening = ap (λ (p : Holding (OfficeOpening D W)). p.opening) leaves.new_is ∙ so_far.opening;
+    caller = ap (λ (p : Holding (OfficeOpening D W)). p.caller) leaves.new_is ∙ so_far.caller;
+    made = ap (λ (p : Holding (OfficeOpening D W)). p.made) leaves.new_is ∙ so_far.made;
     left =
-        let new_left : new.left ≡ mid.left + gone.left = ap (λ (p : Holding (OfficeOpening D)). p.left) leaves.new_is in
+        let new_left : new.left ≡ mid.left + gone.left = ap (λ (p : Holding (OfficeOpening D W)). p.left) leaves.new_is in
         omega (arith, new_left, so_far.left, left_push seats (gone, lines));
     shares =
-        let new_shares : new.shares ≡ mid.shares + gone.shares = ap (λ (p : Holding (OfficeOpening D)). p.shares) leaves.new_is in
+        let new_shares : new.shares ≡ mid.shares + gone.shares = ap (λ (p : Holding (OfficeOpening D W)). p.shares) leaves.new_is in
         omega (arith, new_shares, so_far.shares, shares_push seats (gone, lines));
     begins = starts_trans new.seen mid.seen old.seen leaves.begins_old so_far.begins;
-    each = all_append (λ (seat : Seat D). StartsWith new.seen seat.0.seen) seats ((gone, lines) ∷ [])
-        (all_weaker (λ (seat : Seat D). StartsWith mid.seen seat.0.seen) (λ (seat : Seat D). StartsWith new.seen seat.0.seen)
+    each = all_append (λ (seat : Seat D W). StartsWith new.seen seat.0.seen) seats ((gone, lines) ∷ [])
+        (all_weaker (λ (seat : Seat D W). StartsWith mid.seen seat.0.seen) (λ (seat : Seat D W). StartsWith new.seen seat.0.seen)
         (λ seat starts. starts_trans new.seen mid.seen seat.0.seen leaves.begins_old starts) seats so_far.each)
         (leaves.begins_gone, tt);
     ended =
-        ap (λ (p : Holding (OfficeOpening D)). p.ended) leaves.new_is
+        ap (λ (p : Holding (OfficeOpening D W)). p.ended) leaves.new_is
         ∙ ap (λ (front : List Page). front ++ pages gone) so_far.ended
-        ∙ append_assoc old.ended (flat_map (λ (seat : Seat D). pages seat.0) seats) (pages gone)
+        ∙ append_assoc old.ended (flat_map (λ (seat : Seat D W). pages seat.0) seats) (pages gone)
         ∙ ap (λ (back : List Page). old.ended ++ back)
-        (ap (λ (back : List Page). flat_map (λ (seat : Seat D). pages seat.0) seats ++ back) (sym (append-nil (pages gone)))
-        ∙ sym (flat_map-append (λ (seat : Seat D). pages seat.0) seats ((gone, lines) ∷ [])));
+        (ap (λ (back : List Page). flat_map (λ (seat : Seat D W). pages seat.0) seats ++ back) (sym (append-nil (pages gone)))
+        ∙ sym (flat_map-append (λ (seat : Seat D W). pages seat.0) seats ((gone, lines) ∷ [])));
   }
 
   -- each lane was run in its seat, where it was so at each place
-  pub have_run : (basis : List Dated) (lanes : List Lane) (olds news : List (Seat D)) → length lanes ≡ length olds → length lanes ≡ length news
-      → ((i : ℕ) (lane : Lane) (old new : Seat D) → slice_get lanes i ≡ Some lane → slice_get olds i ≡ Some old → slice_get news i ≡ Some new
+  pub have_run : (basis : List Dated) (lanes : List Lane) (olds news : List (Seat D W)) → length lanes ≡ length olds → length lanes ≡ length news
+      → ((i : ℕ) (lane : Lane) (old new : Seat D W) → slice_get lanes i ≡ Some lane → slice_get olds i ≡ Some old → slice_get news i ≡ Some new
       → HasRunIn basis lane old new)
       → HaveRun basis lanes olds news
   have_run basis [] [] [] same_olds same_news at = tt
@@ -221,31 +221,31 @@ module _ {D : Type 0} where
   )
 
   -- there is room for the lines of one more
-  pub lines_fit : (all yielded rest : List (Seat D)) (seat : Seat D) (capacity : ℕ) → all ≡ yielded ++ seat ∷ rest
-      → length (flat_map (λ (one : Seat D). one.1.items) all) ≤ capacity
-      → length (flat_map (λ (one : Seat D). one.1.items) yielded) + length seat.1.items ≤ capacity
+  pub lines_fit : (all yielded rest : List (Seat D W)) (seat : Seat D W) (capacity : ℕ) → all ≡ yielded ++ seat ∷ rest
+      → length (flat_map (λ (one : Seat D W). one.1.items) all) ≤ capacity
+      → length (flat_map (λ (one : Seat D W). one.1.items) yielded) + length seat.1.items ≤ capacity
   lines_fit all yielded rest seat capacity is enough =
-      let split : flat_map (λ (one : Seat D). one.1.items) all
-      ≡ flat_map (λ (one : Seat D). one.1.items) yielded ++ (seat.1.items ++ flat_map (λ (one : Seat D). one.1.items) rest)
-      = ap (flat_map (λ (one : Seat D). one.1.items)) is ∙ flat_map-append (λ (one : Seat D). one.1.items) yielded (seat ∷ rest) in
+      let split : flat_map (λ (one : Seat D W). one.1.items) all
+      ≡ flat_map (λ (one : Seat D W). one.1.items) yielded ++ (seat.1.items ++ flat_map (λ (one : Seat D W). one.1.items) rest)
+      = ap (flat_map (λ (one : Seat D W). one.1.items)) is ∙ flat_map-append (λ (one : Seat D W). one.1.items) yielded (seat ∷ rest) in
       let long = ap length split in
       omega (
         arith,
         long,
         enough,
-        length-append (flat_map (λ (one : Seat D). one.1.items) yielded) (seat.1.items ++ flat_map (λ (one : Seat D). one.1.items) rest),
-        length-append seat.1.items (flat_map (λ (one : Seat D). one.1.items) rest),
+        length-append (flat_map (λ (one : Seat D W). one.1.items) yielded) (seat.1.items ++ flat_map (λ (one : Seat D W). one.1.items) rest),
+        length-append seat.1.items (flat_map (λ (one : Seat D W). one.1.items) rest),
       )
 
-  pub callers_push : (seats : List (Seat D)) (seat : Seat D) (callers : List ℕ) (number : ℕ) → callers ≡ map (λ (one : Seat D). one.0.caller) seats
-      → number ≡ seat.0.caller → callers ++ number ∷ [] ≡ map (λ (one : Seat D). one.0.caller) (seats ++ seat ∷ [])
+  pub callers_push : (seats : List (Seat D W)) (seat : Seat D W) (callers : List ℕ) (number : ℕ) → callers ≡ map (λ (one : Seat D W). one.0.caller) seats
+      → number ≡ seat.0.caller → callers ++ number ∷ [] ≡ map (λ (one : Seat D W). one.0.caller) (seats ++ seat ∷ [])
   callers_push seats seat callers number are is =
-      (λ i. are i ++ is i ∷ []) ∙ sym (map-append (λ (one : Seat D). one.0.caller) seats (seat ∷ []))
+      (λ i. are i ++ is i ∷ []) ∙ sym (map-append (λ (one : Seat D W). one.0.caller) seats (seat ∷ []))
 
-  pub items_push : (seats : List (Seat D)) (seat : Seat D) (lines : List TranscriptLine) → lines ≡ flat_map (λ (one : Seat D). one.1.items) seats
-      → lines ++ seat.1.items ≡ flat_map (λ (one : Seat D). one.1.items) (seats ++ seat ∷ [])
+  pub items_push : (seats : List (Seat D W)) (seat : Seat D W) (lines : List TranscriptLine) → lines ≡ flat_map (λ (one : Seat D W). one.1.items) seats
+      → lines ++ seat.1.items ≡ flat_map (λ (one : Seat D W). one.1.items) (seats ++ seat ∷ [])
   items_push seats seat lines are =
-      (ap (λ (front : List TranscriptLine). front ++ seat.1.items) are ∙ ap (λ (back : List TranscriptLine). flat_map (λ (one : Seat D). one.1.items) seats ++ back) (sym (append-nil seat.1.items))) ∙ sym (flat_map-append (λ (one : Seat D). one.1.items) seats (seat ∷ []))
+      (ap (λ (front : List TranscriptLine). front ++ seat.1.items) are ∙ ap (λ (back : List TranscriptLine). flat_map (λ (one : Seat D W). one.1.items) seats ++ back) (sym (append-nil seat.1.items))) ∙ sym (flat_map-append (λ (one : Seat D W). one.1.items) seats (seat ∷ []))
 
 turns_few : (n : ℕ) → n ≤ 8 → turns_to_enter n ≤ 1099511627776
 turns_few zero few = omega arith

@@ -73,13 +73,13 @@ pub record HasRun {Opening : Type 0} (old new : Holding Opening) (callers : List
 
 -- Each lane was run by a caller of its own: every line is answered once, in the order of its lane, by that caller's turns
 -- in the history that the pass has seen. The transcript has these lines at the places of their first turns.
-pub record HasAnsweredLanes {D : Type 0} (basis : List Dated) (lanes : List Lane) (old new : Holding (OfficeOpening D))
+pub record HasAnsweredLanes {D W : Type 0} (basis : List Dated) (lanes : List Lane) (old new : Holding (OfficeOpening D W))
     (transcript : Transcript) : Type 0 where
   pub pass : HasRun old new transcript.callers
   pub answers : AnswersLanes (dry_of transcript.lines) new.seen lanes transcript.callers
   pub answered : List AnsweredLine
   pub lines : AreLinesOf answered new.seen lanes transcript.callers (dry_of transcript.lines)
-  pub opened : OfficeOpening D
+  pub opened : OfficeOpening D W
   pub opening : new.opening ≡ Some opened
   pub told : AllZip (IsTold opened.opening new.seen basis) answered transcript.lines
   pub dry : AreDry (dry_of transcript.lines) transcript.lines

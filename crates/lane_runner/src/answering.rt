@@ -18,13 +18,14 @@ use snapshot_value::{Valuation, ValueFault, value};
 use std::alloc::Global;
 use std::sync::Wait;
 use turn_lock::Turned;
+use watcher_set::Watching;
 
 /// Answers the lines of a lane, for which there is room.
-pub fn answer_lane<D: Disk, G: Gate, R: Wait>(
+pub fn answer_lane<D: Disk, W: Watching, G: Gate, R: Wait>(
     rt: &R,
     alloc: Global,
-    office: &Office<D>,
-    pass: &mut OfficePass<D>,
+    office: &Office<D, W>,
+    pass: &mut OfficePass<D, W>,
     lane: &Lane,
     basis: &Basis,
     gate: &G,
@@ -51,11 +52,11 @@ pub fn answer_lane<D: Disk, G: Gate, R: Wait>(
     );
 }
 
-fn answer_lines<D: Disk, G: Gate, R: Wait>(
+fn answer_lines<D: Disk, W: Watching, G: Gate, R: Wait>(
     rt: &R,
     alloc: Global,
-    office: &Office<D>,
-    pass: &mut OfficePass<D>,
+    office: &Office<D, W>,
+    pass: &mut OfficePass<D, W>,
     number: u8,
     asked: &[Line],
     basis: &Basis,
@@ -79,11 +80,11 @@ fn answer_lines<D: Disk, G: Gate, R: Wait>(
 }
 
 // Answers a line.
-fn answer_line<D: Disk, G: Gate, R: Wait>(
+fn answer_line<D: Disk, W: Watching, G: Gate, R: Wait>(
     rt: &R,
     alloc: Global,
-    office: &Office<D>,
-    pass: &mut OfficePass<D>,
+    office: &Office<D, W>,
+    pass: &mut OfficePass<D, W>,
     lane: u8,
     line: &Line,
     basis: &Basis,
@@ -105,10 +106,10 @@ fn answer_line<D: Disk, G: Gate, R: Wait>(
     }
 }
 
-fn answer_post<D: Disk, R: Wait>(
+fn answer_post<D: Disk, W: Watching, R: Wait>(
     rt: &R,
-    office: &Office<D>,
-    pass: &mut OfficePass<D>,
+    office: &Office<D, W>,
+    pass: &mut OfficePass<D, W>,
     lane: u8,
     command: Command,
 ) -> AnsweredLine
@@ -127,10 +128,10 @@ fn answer_post<D: Disk, R: Wait>(
     }
 }
 
-fn answer_trim<D: Disk, R: Wait>(
+fn answer_trim<D: Disk, W: Watching, R: Wait>(
     rt: &R,
-    office: &Office<D>,
-    pass: &mut OfficePass<D>,
+    office: &Office<D, W>,
+    pass: &mut OfficePass<D, W>,
     lane: u8,
 ) -> AnsweredLine
     requires ours { pass.old.turnstile ≡ office.now }
@@ -147,11 +148,11 @@ fn answer_trim<D: Disk, R: Wait>(
     }
 }
 
-fn answer_value<D: Disk, G: Gate, R: Wait>(
+fn answer_value<D: Disk, W: Watching, G: Gate, R: Wait>(
     rt: &R,
     alloc: Global,
-    office: &Office<D>,
-    pass: &mut OfficePass<D>,
+    office: &Office<D, W>,
+    pass: &mut OfficePass<D, W>,
     lane: u8,
     on: i32,
     at: At,

@@ -18,15 +18,16 @@ use shared_office::{Office, OfficePass};
 use std::alloc::Global;
 use std::sync::Wait;
 use std::thread::{Threads, for_each_mut};
+use watcher_set::Watching;
 
 // A lane's pass, and its answered lines.
-type Seat<D> = (OfficePass<D>, Vec<AnsweredLine>);
+type Seat<D, W> = (OfficePass<D, W>, Vec<AnsweredLine>);
 
 // The memory for what lanes answer.
 #[derive(Drop)]
-struct Room<D: Disk> {
+struct Room<D: Disk, W: Watching> {
     rooms: Vec<Vec<AnsweredLine>>,
-    seats: Vec<Seat<D>>,
+    seats: Vec<Seat<D, W>>,
     callers: Vec<u64>,
     lines: Vec<AnsweredLine>,
 }
@@ -35,11 +36,11 @@ struct Room<D: Disk> {
 ///
 /// The memory for the lines is taken before the first turn: where it is wanting, no turn is taken and the pass stays. The
 /// gate is called with a lane's number and 0 before each of its lines, and in a valuation with `k` after its `k`-th batch.
-pub fn run_lanes<D: Disk + Send, G: Gate + Sync, R: Threads + Wait + Sync>(
+pub fn run_lanes<D: Disk + Send, W: Watching + Send, G: Gate + Sync, R: Threads + Wait + Sync>(
     rt: &R,
     alloc: Global,
-    office: &Office<D>,
-    pass: &mut OfficePass<D>,
+    office: &Office<D, W>,
+    pass: &mut OfficePass<D, W>,
     lanes: &[Lane],
     basis: &Basis,
     gate: &G,
@@ -53,20 +54,20 @@ pub fn run_lanes<D: Disk + Send, G: Gate + Sync, R: Threads + Wait + Sync>(
     ensures facts { PassFacts IsOfficeHistory pass.new }
 {
     pass.caller();
-    let room = room_for::<D>(alloc, lanes)?;
+    let room = room_for::<D, W>(alloc, lanes)?;
     Ok(run_in(rt, alloc, office, pass, lanes, basis, gate, room))
 }
 
 // Runs lanes, for whose lines there is room.
-fn run_in<D: Disk + Send, G: Gate + Sync, R: Threads + Wait + Sync>(
+fn run_in<D: Disk + Send, W: Watching + Send, G: Gate + Sync, R: Threads + Wait + Sync>(
     rt: &R,
     alloc: Global,
-    office: &Office<D>,
-    pass: &mut OfficePass<D>,
+    office: &Office<D, W>,
+    pass: &mut OfficePass<D, W>,
     lanes: &[Lane],
     basis: &Basis,
     gate: &G,
-    room: Room<D>,
+    room: Room<D, W>,
 ) -> Transcript
     requires lanes { AreRightLanes lanes.now }
     requires ours { pass.old.turnstile ≡ office.now }
@@ -110,7 +111,7 @@ fn order(lines: &mut [AnsweredLine])
 }
 
 // Takes the memory for what is answered to lanes.
-fn room_for<D: Disk>(alloc: Global, lanes: &[Lane]) -> Result<Room<D>, NoMemory>
+fn room_for<D: Disk, W: Watching>(alloc: Global, lanes: &[Lane]) -> Result<Room<D, W>, NoMemory>
     requires few { length (lines_in lanes.now) ≤ 2 ^ 24 }
     ensures { IfOk result (λ room. HasRoom lanes.now room.rooms room.seats room.callers room.lines) }
 {
@@ -157,11 +158,11 @@ fn count_lines(lanes: &[Lane]) -> usize
 }
 
 // Gives each lane a pass of its own.
-fn enter_all<D: Disk>(
-    office: &Office<D>,
-    pass: &mut OfficePass<D>,
+fn enter_all<D: Disk, W: Watching>(
+    office: &Office<D, W>,
+    pass: &mut OfficePass<D, W>,
     rooms: Vec<Vec<AnsweredLine>>,
-    seats: &mut Vec<Seat<D>>,
+    seats: &mut Vec<Seat<D, W>>,
 )
     requires ours { pass.old.turnstile ≡ office.now }
     requires left { turns_to_enter (length rooms.items) ≤ pass.old.left }
@@ -177,14 +178,14 @@ fn enter_all<D: Disk>(
 }
 
 // Runs each lane in its seat, all at the same time.
-fn run_seats<D: Disk + Send, G: Gate + Sync, R: Threads + Wait + Sync>(
+fn run_seats<D: Disk + Send, W: Watching + Send, G: Gate + Sync, R: Threads + Wait + Sync>(
     rt: &R,
     alloc: Global,
-    office: &Office<D>,
+    office: &Office<D, W>,
     lanes: &[Lane],
     basis: &Basis,
     gate: &G,
-    seats: &mut Vec<Seat<D>>,
+    seats: &mut Vec<Seat<D, W>>,
 )
     requires ready { AllZip (IsReady office.now) lanes.now seats.old.items }
     ensures run { HaveRun basis.now lanes.now seats.old.items seats.new.items }
@@ -192,14 +193,14 @@ fn run_seats<D: Disk + Send, G: Gate + Sync, R: Threads + Wait + Sync>(
     run_all(rt, alloc, office, lanes, basis, gate, seats.as_mut_slice());
 }
 
-fn run_all<D: Disk + Send, G: Gate + Sync, R: Threads + Wait + Sync>(
+fn run_all<D: Disk + Send, W: Watching + Send, G: Gate + Sync, R: Threads + Wait + Sync>(
     rt: &R,
     alloc: Global,
-    office: &Office<D>,
+    office: &Office<D, W>,
     lanes: &[Lane],
     basis: &Basis,
     gate: &G,
-    seats: &mut [Seat<D>],
+    seats: &mut [Seat<D, W>],
 )
     requires ready { AllZip (IsReady office.now) lanes.now seats.old }
     ensures run { HaveRun basis.now lanes.now seats.old seats.new }
@@ -208,7 +209,7 @@ fn run_all<D: Disk + Send, G: Gate + Sync, R: Threads + Wait + Sync>(
         rt,
         seats,
         lanes.len().max(1),
-        &|index, seat: &mut Seat<D>|
+        &|index, seat: &mut Seat<D, W>|
             requires { (index < length lanes.now) × IsReadyAt office.now lanes.now index seat.now }
             ensures { HasRunAt basis.entry.now lanes.entry.now index seat.entry.now seat.exit.now }
         {
@@ -228,10 +229,10 @@ fn run_all<D: Disk + Send, G: Gate + Sync, R: Threads + Wait + Sync>(
 }
 
 // Takes the passes of all lanes back, and puts their lines together.
-fn leave_all<D: Disk>(
-    office: &Office<D>,
-    pass: &mut OfficePass<D>,
-    seats: Vec<Seat<D>>,
+fn leave_all<D: Disk, W: Watching>(
+    office: &Office<D, W>,
+    pass: &mut OfficePass<D, W>,
+    seats: Vec<Seat<D, W>>,
     callers: &mut Vec<u64>,
     all: &mut Vec<AnsweredLine>,
 )

@@ -369,14 +369,14 @@ module _ {D W : Type 0} (basis : List Dated) (lanes : List Lane) (first closing 
       let one = pair.0 in
       elim (lacked_which line.0.outcome line.2) [
         | inl posted ↦ inl (
-            one.first.0,
-            (
-              one.first.1,
-              placed one pair.1,
-              told_blank one.line one.first.1.reply (commands_after opened.opening (take one.first.0 closing.seen)) basis
-                  (subst (IsOutcome (commands_after opened.opening (take one.first.0 closing.seen)) basis one.line one.first.1.reply) posted pair.2.outcome),
-            ),
-          )
+          one.first.0,
+          (
+            one.first.1,
+            placed one pair.1,
+            told_blank one.line one.first.1.reply (commands_after opened.opening (take one.first.0 closing.seen)) basis
+                (subst (IsOutcome (commands_after opened.opening (take one.first.0 closing.seen)) basis one.line one.first.1.reply) posted pair.2.outcome),
+          ),
+        )
         | inr valued ↦
             let kept = has_filter (λ (line : ToldLine). lacked_memory line.outcome) transcript.lines line.0 valued line.1 in
             inr (line.0.turn, contains_of_has dry line.0.turn (has_map (λ (line : ToldLine). line.turn) _ line.0 kept))

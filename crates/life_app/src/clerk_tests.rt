@@ -29,10 +29,10 @@ fn two_clerks_have_their_lines_in_order(rt: HostRuntime) -> Result<(), AllocErro
         "2,lapse,9,2020-01-01\n1,premium,7001,2020-01-01,400.00\n2,mature,9,2020-01-01\n",
         "1,issue,7001,2020-01-01,endowment,0,3,1000.00,400.00\n1,claim,7001,2020-06-01\n",
     ];
-    let first =
-        "1,issue,7001,accepted,1\n1,premium,7001,accepted,2\n1,issue,7001,refused,taken\n\
+    let first = "1,issue,7001,accepted,1\n1,premium,7001,accepted,2\n1,issue,7001,refused,taken\n\
         1,claim,7001,accepted,3\n";
-    let second = "2,claim,9,refused,unknown\n2,lapse,9,refused,unknown\n2,mature,9,refused,unknown\n";
+    let second =
+        "2,claim,9,refused,unknown\n2,lapse,9,refused,unknown\n2,mature,9,refused,unknown\n";
     let disk = MemoryDisk::new(alloc, Vec::new(alloc), Vec::new(alloc));
     let ran = run_on(&rt, alloc, &script, disk)?;
     let text = ran.output.bytes();

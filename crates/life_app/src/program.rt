@@ -157,7 +157,15 @@ pub fn life<R: Threads + Wait + Sync, S: Source, K: Sink, H: Shelf, D: Disk + Se
 }
 
 // Does what the words ask for, with the watchers told of what is accepted.
-fn obey<R: Threads + Wait + Sync, S: Source, K: Sink, H: Shelf, D: Disk + Send, W: Watching + Send, G: Gate + Sync>(
+fn obey<
+    R: Threads + Wait + Sync,
+    S: Source,
+    K: Sink,
+    H: Shelf,
+    D: Disk + Send,
+    W: Watching + Send,
+    G: Gate + Sync,
+>(
     rt: &R,
     alloc: Global,
     words: &[String],
@@ -176,7 +184,9 @@ fn obey<R: Threads + Wait + Sync, S: Source, K: Sink, H: Shelf, D: Disk + Send, 
     ensures files { H.files shelf.new ≡ H.files shelf.old }
 {
     match read_words(alloc, words) {
-        Ok(Mode::Run { basis }) => run(rt, alloc, &basis, input, output, shelf, disk, watchers, gate),
+        Ok(Mode::Run { basis }) => run(
+            rt, alloc, &basis, input, output, shelf, disk, watchers, gate,
+        ),
         Ok(
             Mode::Value {
                 on,

@@ -41,7 +41,15 @@ pub struct Finished<D> {
 /// Reads a script, opens the office on the disk, answers the script's lines, and writes the transcript and what the
 /// watchers report of the accepted postings. The basis of the valuations is that of this name; where there are none the
 /// shelf isn't touched.
-pub fn run<R: Threads + Wait + Sync, S: Source, K: Sink, H: Shelf, D: Disk + Send, W: Watching + Send, G: Gate + Sync>(
+pub fn run<
+    R: Threads + Wait + Sync,
+    S: Source,
+    K: Sink,
+    H: Shelf,
+    D: Disk + Send,
+    W: Watching + Send,
+    G: Gate + Sync,
+>(
     rt: &R,
     alloc: Global,
     name: &Name,
@@ -71,7 +79,14 @@ pub fn run<R: Threads + Wait + Sync, S: Source, K: Sink, H: Shelf, D: Disk + Sen
 }
 
 // Runs the lanes of a script, with the basis that it needs.
-fn run_script<R: Threads + Wait + Sync, K: Sink, H: Shelf, D: Disk + Send, W: Watching + Send, G: Gate + Sync>(
+fn run_script<
+    R: Threads + Wait + Sync,
+    K: Sink,
+    H: Shelf,
+    D: Disk + Send,
+    W: Watching + Send,
+    G: Gate + Sync,
+>(
     rt: &R,
     alloc: Global,
     name: &Name,
@@ -96,7 +111,14 @@ fn run_script<R: Threads + Wait + Sync, K: Sink, H: Shelf, D: Disk + Send, W: Wa
 }
 
 // Runs lanes by the basis of this name.
-fn run_by_name<R: Threads + Wait + Sync, K: Sink, H: Shelf, D: Disk + Send, W: Watching + Send, G: Gate + Sync>(
+fn run_by_name<
+    R: Threads + Wait + Sync,
+    K: Sink,
+    H: Shelf,
+    D: Disk + Send,
+    W: Watching + Send,
+    G: Gate + Sync,
+>(
     rt: &R,
     alloc: Global,
     name: &Name,
@@ -148,7 +170,13 @@ fn run_by<R: Threads + Wait + Sync, K: Sink, D: Disk + Send, W: Watching + Send,
 }
 
 // Runs the lanes, closes the office, and writes the transcript.
-fn run_office<R: Threads + Wait + Sync, K: Sink, D: Disk + Send, W: Watching + Send, G: Gate + Sync>(
+fn run_office<
+    R: Threads + Wait + Sync,
+    K: Sink,
+    D: Disk + Send,
+    W: Watching + Send,
+    G: Gate + Sync,
+>(
     rt: &R,
     alloc: Global,
     lanes: &[Lane],

@@ -54,7 +54,10 @@ fn books<D: Disk>(alloc: Global, office: &OfficeState<D, NoWatchers>) -> Result<
 }
 
 // The lines of all policies.
-fn policies<D: Disk>(alloc: Global, office: &OfficeState<D, NoWatchers>) -> Result<Vec<u8>, NoMemory>
+fn policies<D: Disk>(
+    alloc: Global,
+    office: &OfficeState<D, NoWatchers>,
+) -> Result<Vec<u8>, NoMemory>
     requires valid { AllByRecursion IsValid (commands_of office.now) }
     ensures { IfOk result (λ text. text.items ≡ flat_map policy_text (book (commands_of office.now))) }
 {

@@ -6,6 +6,7 @@ ghost use Rattle.shared_office.specs.Starting.{HasStarted};
 ghost use Rattle.turn_lock.specs.Passes.{PassFacts};
 ghost use Rattle.life_app.specs.Valuing.{EndsValue, EndsValuing};
 ghost use Rattle.life_app.specs.Writing.{between, shelf_between};
+ghost use Rattle.life_app.specs.inside.Told.{IsWritableBlock};
 ghost use Rattle.life_app.specs.inside.Valued.{EndsAnswer, IsLoneAnswer};
 
 use crate::ending::Ending;

@@ -51,8 +51,8 @@ next_read pin policies k low =
 pub starts_within : (policies k : ℕ) → k < reads_needed policies → policies_per_read * k ≤ policies
 starts_within policies k low = omega (arith, low)
 
-module _ {D : Type 0} (basis : List Dated) (on : ℤ) (pin : Held) where
-  pub parts_none : (pass : Holding (OfficeOpening D)) (rows : List Row) → rows ≡ [] → HasReadParts basis on pin 0 rows pass pass
+module _ {D W : Type 0} (basis : List Dated) (on : ℤ) (pin : Held) where
+  pub parts_none : (pass : Holding (OfficeOpening D W)) (rows : List Row) → rows ≡ [] → HasReadParts basis on pin 0 rows pass pass
   parts_none pass rows none = record {
     reads = [];
     grows = grows_none pass;
@@ -61,7 +61,7 @@ module _ {D : Type 0} (basis : List Dated) (on : ℤ) (pin : Held) where
     adds = subst (AddsRows basis on [] []) (sym none) (adds_none basis on []);
   }
 
-  pub parts_more : (k : ℕ) (part : List Policy) (rows more : List Row) (old mid new : Holding (OfficeOpening D))
+  pub parts_more : (k : ℕ) (part : List Policy) (rows more : List Row) (old mid new : Holding (OfficeOpening D W))
       → k < reads_needed pin.policies → HasReadParts basis on pin k rows old mid → HasReadPart pin k part mid new
       → AddsRows basis on part rows more → HasReadParts basis on pin (k + 1) more old new
   parts_more k part rows more old mid new low so_far one adds = record {
@@ -81,7 +81,7 @@ module _ {D : Type 0} (basis : List Dated) (on : ℤ) (pin : Held) where
         (subst (λ policies. AddsRows basis on policies rows more) there adds));
   }
 
-  module _ (k : ℕ) (old mid : Holding (OfficeOpening D)) (rows : List Row) (is : IsKnown old pin)
+  module _ (k : ℕ) (old mid : Holding (OfficeOpening D W)) (rows : List Row) (is : IsKnown old pin)
       (so_far : HasReadParts basis on pin k rows old mid) where
     -- turns are left for the next
     pub turns_left : k < reads_needed pin.policies → 15999 ≤ old.left → 1 ≤ mid.left
@@ -90,7 +90,7 @@ module _ {D : Type 0} (basis : List Dated) (on : ℤ) (pin : Held) where
         let calls : length (calls_of so_far.reads) ≡ length (take k (reads_of pin.number pin.policies)) = ap length so_far.calls in
         omega (arith, reads, calls, length-take k (reads_of pin.number pin.policies), so_far.grows.left, low, is.few, left)
 
-    module _ (part : List Policy) (new : Holding (OfficeOpening D)) (one : HasReadPart pin k part mid new) where
+    module _ (part : List Policy) (new : Holding (OfficeOpening D W)) (one : HasReadPart pin k part mid new) where
       part_is : part ≡ take policies_per_read (drop (policies_per_read * k) (policies_at old pin.position))
       part_is = one.filled ∙ ap (λ policies. take policies_per_read (drop (policies_per_read * k) policies)) so_far.stays
 

@@ -33,21 +33,21 @@ book_length commands =
     let same : length (map (λ (p : Policy). p.id) (book commands)) ≡ length (book commands) = length-map (book commands) (λ (p : Policy). p.id) in
     omega (arith, ids, same, length-issues commands)
 
-module _ {D : Type 0} where
-  pub policies_by : (pass : Holding (OfficeOpening D)) (opened : OfficeOpening D) (position : ℕ) → pass.opening ≡ Some opened
+module _ {D W : Type 0} where
+  pub policies_by : (pass : Holding (OfficeOpening D W)) (opened : OfficeOpening D W) (position : ℕ) → pass.opening ≡ Some opened
       → policies_at pass position ≡ book_at opened.opening pass.seen position
   policies_by pass opened position is = rw is refl
 
   -- what is known of a pin that the pass holds
-  pub record IsKnown (pass : Holding (OfficeOpening D)) (pin : Held) : Type 0 where
-    pub opened : OfficeOpening D
+  pub record IsKnown (pass : Holding (OfficeOpening D W)) (pin : Held) : Type 0 where
+    pub opened : OfficeOpening D W
     pub opening : pass.opening ≡ Some opened
     pub reached : pin.position ≤ length (commands_after opened.opening pass.seen)
     pub counted : length (policies_at pass pin.position) ≡ pin.policies
     pub few : pin.policies ≤ most_commands
     pub sound : AllByRecursion IsSound (policies_at pass pin.position)
 
-  pub known : (pass : Holding (OfficeOpening D)) (pin : Held) → PassFacts IsOfficeHistory pass → HoldsPin pass pin → IsKnown pass pin
+  pub known : (pass : Holding (OfficeOpening D W)) (pin : Held) → PassFacts IsOfficeHistory pass → HoldsPin pass pin → IsKnown pass pin
   known pass pin facts holds = record {
     opened = opened;
     opening = facts.lawful.1;
@@ -60,7 +60,7 @@ module _ {D : Type 0} where
         (book-sound (take pin.position commands) (all-take _ pin.position commands facts.lawful.2.valid));
   }
     where
-      opened : OfficeOpening D
+      opened : OfficeOpening D W
       opened = facts.lawful.0
 
       commands : List Command
@@ -78,7 +78,7 @@ module _ {D : Type 0} where
       there = (PinsHold-legal opened.opening pass.seen facts.lawful.2.legal.due).pins_in pin.number pin.position pin.policies is_live
 
   -- they stay, whatever the pass sees further
-  pub stays : (old new : Holding (OfficeOpening D)) (pin : Held) → IsKnown old pin → new.opening ≡ old.opening
+  pub stays : (old new : Holding (OfficeOpening D W)) (pin : Held) → IsKnown old pin → new.opening ≡ old.opening
       → StartsWith new.seen old.seen → policies_at new pin.position ≡ policies_at old pin.position
   stays old new pin is same begins =
       policies_by new is.opened pin.position (same ∙ is.opening)
@@ -87,7 +87,7 @@ module _ {D : Type 0} where
       ∙ sym (policies_by old is.opened pin.position is.opening)
 
   -- a read of the pin
-  pub part_read : (turn k : ℕ) (part : List Policy) (old new : Holding (OfficeOpening D)) (pin : Held) → 1 ≤ old.left
+  pub part_read : (turn k : ℕ) (part : List Policy) (old new : Holding (OfficeOpening D W)) (pin : Held) → 1 ≤ old.left
       → TakesTurn turn (read_turn old.caller pin.number (policies_per_read * k) part) old new
       → PassFacts IsOfficeHistory old → PassFacts IsOfficeHistory new → HoldsPin old pin → HoldsPin new pin
       → HasReadPart pin k part old new
@@ -114,5 +114,5 @@ module _ {D : Type 0} where
 
       there : slice_get new.seen (length (old.seen ++ takes.between)) ≡ Some entry
       there =
-          ap (λ (p : Holding (OfficeOpening D)). slice_get p.seen (length (old.seen ++ takes.between))) takes.new_is
+          ap (λ (p : Holding (OfficeOpening D W)). slice_get p.seen (length (old.seen ++ takes.between))) takes.new_is
           ∙ slice_get-middle (old.seen ++ takes.between) [] entry

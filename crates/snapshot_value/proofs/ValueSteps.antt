@@ -31,9 +31,9 @@ use Rattle.snapshot_value.proofs.Growth.{grows_more, grows_one}
 use Rattle.snapshot_value.proofs.PartSteps.{length-reads_of}
 use Rattle.snapshot_value.proofs.PinSteps.{IsKnown, known, policies_by}
 
-module _ {D : Type 0} (basis : List Dated) (on : ℤ) (pin : Held) where
+module _ {D W : Type 0} (basis : List Dated) (on : ℤ) (pin : Held) where
   -- the reads of a pin are so few
-  few_reads : (old mid : Holding (OfficeOpening D)) (rows : List Row) → IsKnown old pin → (read : HasReadAll basis on pin rows old mid)
+  few_reads : (old mid : Holding (OfficeOpening D W)) (rows : List Row) → IsKnown old pin → (read : HasReadAll basis on pin rows old mid)
       → length read.reads ≤ 15625
   few_reads old mid rows is read =
       let calls : length (calls_of read.reads) ≡ length read.reads = length-map read.reads (λ (turn : Placed). turn.1.call) in
@@ -41,18 +41,18 @@ module _ {D : Type 0} (basis : List Dated) (on : ℤ) (pin : Held) where
       omega (arith, calls, same, length-reads_of pin.number pin.policies, is.few)
 
   -- so a turn is left to give it up
-  left_after : (old mid : Holding (OfficeOpening D)) (rows : List Row) → IsKnown old pin → HasReadAll basis on pin rows old mid
+  left_after : (old mid : Holding (OfficeOpening D W)) (rows : List Row) → IsKnown old pin → HasReadAll basis on pin rows old mid
       → 15999 ≤ old.left → 1 ≤ mid.left
   left_after old mid rows is read left = omega (arith, few_reads old mid rows is read, read.grows.left, left)
 
-  pub turn_left : (old mid : Holding (OfficeOpening D)) (read : Result (List Row) Lack) → PassFacts IsOfficeHistory old → HoldsPin old pin
+  pub turn_left : (old mid : Holding (OfficeOpening D W)) (read : Result (List Row) Lack) → PassFacts IsOfficeHistory old → HoldsPin old pin
       → HasRead basis on pin old mid read → 15999 ≤ old.left → 1 ≤ mid.left
   turn_left old mid (Ok rows) facts holds read left = left_after old mid rows (known old pin facts holds) read left
   turn_left old mid (Err lack) facts holds read left =
-      let same : mid.left ≡ old.left = ap (λ (p : Holding (OfficeOpening D)). p.left) read in omega (arith, same, left)
+      let same : mid.left ≡ old.left = ap (λ (p : Holding (OfficeOpening D W)). p.left) read in omega (arith, same, left)
 
   -- it is given up after all reads
-  pub given_up : (turn : ℕ) (old mid new : Holding (OfficeOpening D)) (rows : List Row) (valuation : Valuation)
+  pub given_up : (turn : ℕ) (old mid new : Holding (OfficeOpening D W)) (rows : List Row) (valuation : Valuation)
       → PassFacts IsOfficeHistory old → HoldsPin old pin → 15999 ≤ old.left → HasReadAll basis on pin rows old mid → TakesTurn turn (unpin_turn mid.caller pin.number) mid new
       → valuation.position ≡ pin.position → valuation.on ≡ on → valuation.rows ≡ rows → HasValuedPin basis on pin old new (Ok valuation)
   given_up turn old mid new rows valuation facts holds left read takes position day same = record {
@@ -75,12 +75,12 @@ module _ {D : Type 0} (basis : List Dated) (on : ℤ) (pin : Held) where
       last = (turn, unpin_turn mid.caller pin.number)
 
   -- or at once
-  pub given_up_at_once : (turn : ℕ) (old mid new : Holding (OfficeOpening D)) → 15999 ≤ old.left → mid ≡ old
+  pub given_up_at_once : (turn : ℕ) (old mid new : Holding (OfficeOpening D W)) → 15999 ≤ old.left → mid ≡ old
       → TakesTurn turn (unpin_turn mid.caller pin.number) mid new → HasValuedPin basis on pin old new (Err NoMemory)
   given_up_at_once turn old mid new left same takes = record {
     later = (turn, unpin_turn old.caller pin.number) ∷ [];
     grows = grows_one turn (unpin_turn old.caller pin.number) old new (omega (arith, left))
-        (subst (λ (p : Holding (OfficeOpening D)). TakesTurn turn (unpin_turn p.caller pin.number) p new) same takes);
+        (subst (λ (p : Holding (OfficeOpening D W)). TakesTurn turn (unpin_turn p.caller pin.number) p new) same takes);
     few = omega arith;
     follows = refl;
   }
@@ -96,9 +96,9 @@ nothing_posted caller (Position p) (Err refusal) = refl
 take_front : {X : Type 0} (n : ℕ) (front back : List X) → n ≡ length front → take n (front ++ back) ≡ front
 take_front n front back is = take-append-le n front back (omega (arith, is)) ∙ take_all n front (omega (arith, is))
 
-module _ {D : Type 0} (basis : List Dated) (on : ℤ) (at : At) (workers turn : ℕ) (old : Holding (OfficeOpening D)) where
+module _ {D W : Type 0} (basis : List Dated) (on : ℤ) (at : At) (workers turn : ℕ) (old : Holding (OfficeOpening D W)) where
   -- the position couldn't be pinned
-  pub refused : (new : Holding (OfficeOpening D)) (refusal : PinRefusal) → 1 ≤ old.left
+  pub refused : (new : Holding (OfficeOpening D W)) (refusal : PinRefusal) → 1 ≤ old.left
       → TakesTurn turn (pinning_turn old.caller (pin_call at) (Err refusal)) old new → PassFacts IsOfficeHistory new
       → HasValued basis on at workers old new turn (Err (Pin refusal))
   refused new refusal left takes facts = record {
@@ -113,7 +113,7 @@ module _ {D : Type 0} (basis : List Dated) (on : ℤ) (at : At) (workers turn : 
     answered = refl;
   }
 
-  module _ (mid new : Holding (OfficeOpening D)) (pin : Held) (left : 1 ≤ old.left)
+  module _ (mid new : Holding (OfficeOpening D W)) (pin : Held) (left : 1 ≤ old.left)
       (takes : TakesTurn turn (pinning_turn old.caller (pin_call at) (Ok pin)) old mid) (number : pin.number ≡ turn) where
     abbrev entry : Entry
     entry = pinning_turn old.caller (pin_call at) (Ok pin)
@@ -137,7 +137,7 @@ module _ {D : Type 0} (basis : List Dated) (on : ℤ) (at : At) (workers turn : 
       seen_is : new.seen ≡ (old.seen ++ takes.between) ++ (entry ∷ grows.1.begins.0)
       seen_is =
           grows.1.begins.1
-          ∙ ap (λ (p : Holding (OfficeOpening D)). p.seen ++ grows.1.begins.0) takes.new_is
+          ∙ ap (λ (p : Holding (OfficeOpening D W)). p.seen ++ grows.1.begins.0) takes.new_is
           ∙ append_assoc (old.seen ++ takes.between) (entry ∷ []) grows.1.begins.0
 
       before : take turn new.seen ≡ old.seen ++ takes.between
@@ -148,7 +148,7 @@ module _ {D : Type 0} (basis : List Dated) (on : ℤ) (at : At) (workers turn : 
       -- the commands before the pin's turn are those after it
       commands_stay : commands_after is.opened.opening mid.seen ≡ commands_after is.opened.opening (take turn new.seen)
       commands_stay =
-          ap (λ (p : Holding (OfficeOpening D)). commands_after is.opened.opening p.seen) takes.new_is
+          ap (λ (p : Holding (OfficeOpening D W)). commands_after is.opened.opening p.seen) takes.new_is
           ∙ commands_after-append is.opened.opening (old.seen ++ takes.between) (entry ∷ [])
           ∙ ap (λ more. commands_after is.opened.opening (old.seen ++ takes.between) ++ more) (nothing_posted old.caller at (Ok pin))
           ∙ append-nil (commands_after is.opened.opening (old.seen ++ takes.between))
@@ -186,7 +186,7 @@ module _ {D : Type 0} (basis : List Dated) (on : ℤ) (at : At) (workers turn : 
         }
 
     -- it is none of the pins that the pass held before
-    pub keeps : (new : Holding (OfficeOpening D)) → KeepsPins old mid → KeepsOtherPins pin.number mid new → KeepsPins old new
+    pub keeps : (new : Holding (OfficeOpening D W)) → KeepsPins old mid → KeepsOtherPins pin.number mid new → KeepsPins old new
     keeps new kept others other holds = others other apart (kept other holds)
       where
         apart : other.number ≢ pin.number

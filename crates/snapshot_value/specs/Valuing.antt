@@ -64,14 +64,14 @@ dry_pins turn _ = []
 
 -- A caller's valuation. Its turns are the pin's, then those of the reads and of giving the pin up; they answer a
 -- script's line that asks for this valuation, and the answer is of the position that was pinned.
-pub record HasValued {D : Type 0} (basis : List Dated) (on : ℤ) (at : At) (workers : ℕ)
-    (old new : Holding (OfficeOpening D)) (turn : ℕ) (answer : Result Valuation ValueFault) : Type 0 where
+pub record HasValued {D W : Type 0} (basis : List Dated) (on : ℤ) (at : At) (workers : ℕ)
+    (old new : Holding (OfficeOpening D W)) (turn : ℕ) (answer : Result Valuation ValueFault) : Type 0 where
   pub pin : Placed
   pub later : List Placed
   pub grows : Grows old new (pin ∷ later)
   pub few : length (pin ∷ later) ≤ most_turns
   pub place : pin.0 ≡ turn
   pub answers : AnswersLine (dry_pins turn answer) (Value on at workers) (pin ∷ later)
-  pub opened : OfficeOpening D
+  pub opened : OfficeOpening D W
   pub opening : new.opening ≡ Some opened
   pub answered : IsAnswered (commands_after opened.opening (take turn new.seen)) basis on pin.1.reply answer

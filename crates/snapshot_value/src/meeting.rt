@@ -14,6 +14,7 @@ use std::sync::Wait;
 use std::sync::atomic::{AtomicBool, Ordering};
 use std::test::Fail;
 use std::thread::{Threads, join, yield_now};
+use watcher_set::{NoWatchers, Watching};
 
 // A gate that lets another caller go on after the first part, and waits until it is done.
 #[derive(Drop)]
@@ -41,11 +42,11 @@ fn wait_for<R: Wait>(rt: &R, flag: &AtomicBool) {
 }
 
 // Whether the newest position is valued as that of three hundred issues.
-fn value_issues<D: Disk, R: Wait>(
+fn value_issues<D: Disk, W: Watching, R: Wait>(
     rt: &R,
     alloc: Global,
-    office: &Office<D>,
-    pass: &mut OfficePass<D>,
+    office: &Office<D, W>,
+    pass: &mut OfficePass<D, W>,
     basis: &Basis,
     meeting: &Meeting,
 ) -> bool
@@ -73,10 +74,10 @@ fn value_issues<D: Disk, R: Wait>(
 }
 
 // Lapses the last of the policies and issues another, when the first part was read.
-fn post_between<D: Disk, R: Wait>(
+fn post_between<D: Disk, W: Watching, R: Wait>(
     rt: &R,
-    office: &Office<D>,
-    pass: &mut OfficePass<D>,
+    office: &Office<D, W>,
+    pass: &mut OfficePass<D, W>,
     meeting: &Meeting,
 )
     requires { pass.old.turnstile ≡ office.now }
@@ -97,13 +98,13 @@ fn post_between<D: Disk, R: Wait>(
 }
 
 // Both callers at once. Gives whether the valuation came out right.
-fn both<D: Disk + Send, R: Threads + Wait + Sync>(
+fn both<D: Disk + Send, W: Watching + Send, R: Threads + Wait + Sync>(
     rt: &R,
     alloc: Global,
-    office: &Office<D>,
-    mut pass: OfficePass<D>,
+    office: &Office<D, W>,
+    mut pass: OfficePass<D, W>,
     basis: &Basis,
-) -> (OfficePass<D>, bool)
+) -> (OfficePass<D, W>, bool)
     requires { (pass.turnstile ≡ office.now) × (3 ≤ pass.left) × (2 ≤ pass.shares) }
     ensures { (result.0.turnstile ≡ pass.turnstile) × (result.0.shares ≡ pass.shares) }
 {
@@ -115,14 +116,14 @@ fn both<D: Disk + Send, R: Threads + Wait + Sync>(
     let meeting_ref = &meeting;
     let ((mut pass, right), other) = join(
         rt,
-        move || -> (OfficePass<D>, bool)
+        move || -> (OfficePass<D, W>, bool)
             requires { pass.turnstile ≡ office.now }
             ensures { (result.0.turnstile ≡ pass.turnstile) × (result.0.shares ≡ pass.shares) }
         {
             let right = value_issues(rt, alloc, office, &mut pass, basis, meeting_ref);
             (pass, right)
         },
-        move || -> OfficePass<D>
+        move || -> OfficePass<D, W>
             requires { other.turnstile ≡ office.now }
             ensures { (result.turnstile ≡ other.turnstile) × (result.shares ≡ other.shares) }
         {
@@ -135,11 +136,11 @@ fn both<D: Disk + Send, R: Threads + Wait + Sync>(
 }
 
 // How many policies there are at last, and the status of the one that lapsed.
-fn at_last<D: Disk, R: Wait>(
+fn at_last<D: Disk, W: Watching, R: Wait>(
     rt: &R,
     alloc: Global,
-    office: &Office<D>,
-    pass: &mut OfficePass<D>,
+    office: &Office<D, W>,
+    pass: &mut OfficePass<D, W>,
     basis: &Basis,
 ) -> Option<(usize, Status)>
     requires { pass.old.turnstile ≡ office.now }
@@ -172,7 +173,7 @@ fn postings_between_the_parts_change_no_row(rt: HostRuntime) -> Result<(), Fail>
     let alloc = rt.alloc();
     let basis = flat_basis(alloc)?;
     let empty = MemoryDisk::new(alloc, Vec::new(alloc), Vec::new(alloc));
-    let Ok((office, mut pass)) = Office::start(alloc, empty, 302) else {
+    let Ok((office, mut pass)) = Office::start(alloc, empty, NoWatchers) else {
         return Err("an office".into());
     };
     issue_all(&rt, &office, &mut pass, 300);

@@ -15,6 +15,7 @@ use policy_value::{ColumnCache, Row, Rows, row};
 use shared_office::{Batch, Office, OfficeCalls, OfficePass, Pin};
 use std::alloc::Global;
 use std::sync::Wait;
+use watcher_set::Watching;
 
 /// The policies that a read gives at most.
 const POLICIES_PER_READ: u32 = 256;
@@ -23,11 +24,11 @@ const POLICIES_PER_READ: u32 = 256;
 const SHAPES_KEPT: u8 = 64;
 
 /// Takes the memory that a valuation needs, then reads and values the policies of a pin.
-pub fn rows_of<D: Disk, G: Gate, R: Wait>(
+pub fn rows_of<D: Disk, W: Watching, G: Gate, R: Wait>(
     rt: &R,
     alloc: Global,
-    office: &Office<D>,
-    pass: &mut OfficePass<D>,
+    office: &Office<D, W>,
+    pass: &mut OfficePass<D, W>,
     pin: &Pin,
     basis: &Basis,
     on: i32,
@@ -54,10 +55,10 @@ pub fn rows_of<D: Disk, G: Gate, R: Wait>(
 }
 
 // Reads the policies of a pin and adds their rows, for which there is room.
-fn add_parts<D: Disk, G: Gate, R: Wait>(
+fn add_parts<D: Disk, W: Watching, G: Gate, R: Wait>(
     rt: &R,
-    office: &Office<D>,
-    pass: &mut OfficePass<D>,
+    office: &Office<D, W>,
+    pass: &mut OfficePass<D, W>,
     pin: &Pin,
     basis: &Basis,
     on: i32,
@@ -85,10 +86,10 @@ fn add_parts<D: Disk, G: Gate, R: Wait>(
 }
 
 // Reads the k-th part of a pin's policies, from 0.
-fn read_part<D: Disk, R: Wait>(
+fn read_part<D: Disk, W: Watching, R: Wait>(
     rt: &R,
-    office: &Office<D>,
-    pass: &mut OfficePass<D>,
+    office: &Office<D, W>,
+    pass: &mut OfficePass<D, W>,
     pin: &Pin,
     k: u32,
     batch: &mut Batch,

@@ -16,6 +16,7 @@ use std::cell::Cell;
 use std::sync::Wait;
 use std::test::Fail;
 use turn_lock::Turned;
+use watcher_set::{NoWatchers, Watching};
 
 /// 2021-01-01 and 2022-01-01, one and two years after the policies are issued.
 pub(crate) const ONE_YEAR: i32 = 18_628;
@@ -76,10 +77,10 @@ pub(crate) fn flat_basis(alloc: Global) -> Result<Basis, Fail> {
 }
 
 // Posts a command where it is valid and a turn is left.
-pub(crate) fn post<D: Disk, R: Wait>(
+pub(crate) fn post<D: Disk, W: Watching, R: Wait>(
     rt: &R,
-    office: &Office<D>,
-    pass: &mut OfficePass<D>,
+    office: &Office<D, W>,
+    pass: &mut OfficePass<D, W>,
     command: &Command,
 )
     requires { pass.old.turnstile ≡ office.now }
@@ -92,10 +93,10 @@ pub(crate) fn post<D: Disk, R: Wait>(
 }
 
 // Issues so many policies.
-pub(crate) fn issue_all<D: Disk, R: Wait>(
+pub(crate) fn issue_all<D: Disk, W: Watching, R: Wait>(
     rt: &R,
-    office: &Office<D>,
-    pass: &mut OfficePass<D>,
+    office: &Office<D, W>,
+    pass: &mut OfficePass<D, W>,
     policies: u32,
 )
     requires { pass.old.turnstile ≡ office.now }
@@ -142,11 +143,11 @@ pub(crate) fn is_of(
 type Case = (At, i32, u32, u32, Row, u64);
 
 // Values at each of the positions, and gives the number of the case that came out otherwise.
-fn first_wrong<D: Disk, R: Wait>(
+fn first_wrong<D: Disk, W: Watching, R: Wait>(
     rt: &R,
     alloc: Global,
-    office: &Office<D>,
-    pass: &mut OfficePass<D>,
+    office: &Office<D, W>,
+    pass: &mut OfficePass<D, W>,
     basis: &Basis,
     cases: &[Case],
 ) -> Option<usize>
@@ -174,11 +175,11 @@ fn first_wrong<D: Disk, R: Wait>(
 }
 
 // The statuses of the first policies now, and the answer at a position of more commands than there are.
-fn now_and_ahead<D: Disk, R: Wait>(
+fn now_and_ahead<D: Disk, W: Watching, R: Wait>(
     rt: &R,
     alloc: Global,
-    office: &Office<D>,
-    pass: &mut OfficePass<D>,
+    office: &Office<D, W>,
+    pass: &mut OfficePass<D, W>,
     basis: &Basis,
 ) -> Option<(u32, Status, ValueFault)>
     requires { pass.old.turnstile ≡ office.now }
@@ -223,7 +224,7 @@ fn positions_are_valued(rt: HostRuntime) -> Result<(), Fail> {
     let alloc = rt.alloc();
     let basis = flat_basis(alloc)?;
     let empty = MemoryDisk::new(alloc, Vec::new(alloc), Vec::new(alloc));
-    let Ok((office, mut pass)) = Office::start(alloc, empty, 301) else {
+    let Ok((office, mut pass)) = Office::start(alloc, empty, NoWatchers) else {
         return Err("an office".into());
     };
     issue_all(&rt, &office, &mut pass, 300);

@@ -16,17 +16,18 @@ use shared_office::{Office, OfficeCalls, OfficePass, Pin};
 use std::alloc::Global;
 use std::sync::Wait;
 use turn_lock::Turned;
+use watcher_set::Watching;
 
 /// Values the policies at a position on a day, in days since 1970-01-01, and gives the turn of the pin.
 ///
 /// The position is pinned, and the memory taken; then batches of 256 policies are read and valued, and the gate is
 /// called with the lane's number and `k` after the `k`-th of them. Whatever is answered, the pin is given up. The
 /// policies are valued one after the other, whatever number of workers is asked for.
-pub fn value<D: Disk, G: Gate, R: Wait>(
+pub fn value<D: Disk, W: Watching, G: Gate, R: Wait>(
     rt: &R,
     alloc: Global,
-    office: &Office<D>,
-    pass: &mut OfficePass<D>,
+    office: &Office<D, W>,
+    pass: &mut OfficePass<D, W>,
     basis: &Basis,
     on: i32,
     at: At,
@@ -56,10 +57,10 @@ pub fn value<D: Disk, G: Gate, R: Wait>(
 }
 
 // Pins the newest position, or the one that is asked for.
-fn pin_as_asked<D: Disk, R: Wait>(
+fn pin_as_asked<D: Disk, W: Watching, R: Wait>(
     rt: &R,
-    office: &Office<D>,
-    pass: &mut OfficePass<D>,
+    office: &Office<D, W>,
+    pass: &mut OfficePass<D, W>,
     at: At,
 ) -> Turned<Result<Pin, PinRefusal>>
     requires ours { pass.old.turnstile ≡ office.now }
@@ -76,11 +77,11 @@ fn pin_as_asked<D: Disk, R: Wait>(
 }
 
 // Values the policies of a pin, and gives it up.
-fn value_pin<D: Disk, G: Gate, R: Wait>(
+fn value_pin<D: Disk, W: Watching, G: Gate, R: Wait>(
     rt: &R,
     alloc: Global,
-    office: &Office<D>,
-    pass: &mut OfficePass<D>,
+    office: &Office<D, W>,
+    pass: &mut OfficePass<D, W>,
     pin: Pin,
     basis: &Basis,
     on: i32,

@@ -39,7 +39,7 @@ outcome_of (Err (Pin refusal)) = ValueRefused refusal
 outcome_of (Err NoMemory) = ValueNoMemory
 
 -- the lines were answered in order by turns of the pass's caller, and this is told of them
-pub record HasAnswered {D : Type 0} (basis : List Dated) (number : ℕ) (lines : List Line) (old new : Holding (OfficeOpening D))
+pub record HasAnswered {D W : Type 0} (basis : List Dated) (number : ℕ) (lines : List Line) (old new : Holding (OfficeOpening D W))
     (tolds : List TranscriptLine) : Type 0 where
   pub answered : List AnsweredLine
   pub theirs : AllByRecursion (λ (one : AnsweredLine). one.clerk ≡ number) answered
@@ -48,13 +48,13 @@ pub record HasAnswered {D : Type 0} (basis : List Dated) (number : ℕ) (lines :
   pub few : length (flat_map turns_in answered) ≤ turns_needed lines
   pub answers : AllByRecursion (λ (one : AnsweredLine). AnswersLine (dry_of tolds) one.line (turns_in one)) answered
   pub reached : AllByRecursion (λ (one : AnsweredLine). one.first.0 < length new.seen) answered
-  pub opened : OfficeOpening D
+  pub opened : OfficeOpening D W
   pub opening : new.opening ≡ Some opened
   pub tells : AllZip (IsTold opened.opening new.seen basis) answered tolds
 
 -- a lane's pass, and the memory for its lines
-abbrev pub Seat : Type 0 → Type 0
-Seat D = Holding (OfficeOpening D) × Vec TranscriptLine Global
+abbrev pub Seat : Type 0 → Type 0 → Type 0
+Seat D W = Holding (OfficeOpening D W) × Vec TranscriptLine Global
 
 -- nothing stands in it yet, and there is room for the lane's lines
 pub record IsRoomFor (lane : Lane) (memory : Vec TranscriptLine Global) : Type 0 where
@@ -62,7 +62,7 @@ pub record IsRoomFor (lane : Lane) (memory : Vec TranscriptLine Global) : Type 0
   pub enough : length lane.lines ≤ vec_capacity memory
 
 -- the memory for lanes: a room for each, and room for as many passes and callers, and for all lines
-pub record HasRoom {D : Type 0} (lanes : List Lane) (rooms : Vec (Vec TranscriptLine Global) Global) (seats : Vec (Seat D) Global)
+pub record HasRoom {D W : Type 0} (lanes : List Lane) (rooms : Vec (Vec TranscriptLine Global) Global) (seats : Vec (Seat D W) Global)
     (callers : Vec ℕ Global) (lines : Vec TranscriptLine Global) : Type 0 where
   pub fitting : AllZip IsRoomFor lanes rooms.items
   pub no_seats : seats.items ≡ []
@@ -81,18 +81,18 @@ abbrev pub shares_to_enter : ℕ → ℕ
 shares_to_enter zero = 1
 shares_to_enter (suc n) = shares_to_enter n + shares_to_enter n
 
-module _ {D : Type 0} where
+module _ {D W : Type 0} where
   -- what all passes have left, and their shares
-  abbrev pub all_left : List (Seat D) → ℕ
+  abbrev pub all_left : List (Seat D W) → ℕ
   all_left [] = 0
   all_left (seat ∷ seats) = seat.0.left + all_left seats
 
-  abbrev pub all_shares_in : List (Seat D) → ℕ
+  abbrev pub all_shares_in : List (Seat D W) → ℕ
   all_shares_in [] = 0
   all_shares_in (seat ∷ seats) = seat.0.shares + all_shares_in seats
 
   -- a pass that was entered has turns enough, and has made none
-  pub record IsFresh (old given : Holding (OfficeOpening D)) : Type 0 where
+  pub record IsFresh (old given : Holding (OfficeOpening D W)) : Type 0 where
     pub turnstile : given.turnstile ≡ old.turnstile
     pub opening : given.opening ≡ old.opening
     pub seen : given.seen ≡ old.seen
@@ -102,7 +102,7 @@ module _ {D : Type 0} where
     pub facts : PassFacts IsOfficeHistory given
 
   -- passes were entered, one for each room
-  pub record HasEntered (old new : Holding (OfficeOpening D)) (rooms : List (Vec TranscriptLine Global)) (seats : List (Seat D))
+  pub record HasEntered (old new : Holding (OfficeOpening D W)) (rooms : List (Vec TranscriptLine Global)) (seats : List (Seat D W))
       : Type 0 where
     pub turnstile : new.turnstile ≡ old.turnstile
     pub opening : new.opening ≡ old.opening
@@ -112,35 +112,35 @@ module _ {D : Type 0} where
     pub ended : new.ended ≡ old.ended
     pub left : new.left + all_left seats + length seats ≡ old.left
     pub shares : new.shares + all_shares_in seats ≡ old.shares
-    pub fresh : AllByRecursion (λ (seat : Seat D). IsFresh old seat.0) seats
-    pub rooms_are : map (λ (seat : Seat D). seat.1) seats ≡ rooms
+    pub fresh : AllByRecursion (λ (seat : Seat D W). IsFresh old seat.0) seats
+    pub rooms_are : map (λ (seat : Seat D W). seat.1) seats ≡ rooms
 
   -- the lane may be run in this seat
-  pub record IsReady (office : TableId) (lane : Lane) (seat : Seat D) : Type 0 where
+  pub record IsReady (office : TableId) (lane : Lane) (seat : Seat D W) : Type 0 where
     pub right : IsRightLane lane
     pub ours : seat.0.turnstile ≡ office
     pub left : turns_needed lane.lines ≤ seat.0.left
     pub room : IsRoomFor lane seat.1
 
   -- the lane was run in this seat
-  pub record HasRunIn (basis : List Dated) (lane : Lane) (old new : Seat D) : Type 0 where
+  pub record HasRunIn (basis : List Dated) (lane : Lane) (old new : Seat D W) : Type 0 where
     pub answered : HasAnswered basis lane.number lane.lines old.0 new.0 new.1.items
     pub facts : PassFacts IsOfficeHistory new.0
 
-  abbrev pub IsReadyAt : TableId → List Lane → ℕ → Seat D → Type 0
+  abbrev pub IsReadyAt : TableId → List Lane → ℕ → Seat D W → Type 0
   IsReadyAt office lanes index seat = (lane : Lane) → slice_get lanes index ≡ Some lane → IsReady office lane seat
 
-  abbrev pub HasRunAt : List Dated → List Lane → ℕ → Seat D → Seat D → Type 0
+  abbrev pub HasRunAt : List Dated → List Lane → ℕ → Seat D W → Seat D W → Type 0
   HasRunAt basis lanes index old new = (lane : Lane) → slice_get lanes index ≡ Some lane → HasRunIn basis lane old new
 
   -- each lane was run in its seat
-  abbrev pub HaveRun : List Dated → List Lane → List (Seat D) → List (Seat D) → Type 0
+  abbrev pub HaveRun : List Dated → List Lane → List (Seat D W) → List (Seat D W) → Type 0
   HaveRun basis [] [] [] = Unit {0}
   HaveRun basis (lane ∷ lanes) (old ∷ olds) (new ∷ news) = HasRunIn basis lane old new × HaveRun basis lanes olds news
   HaveRun _ _ _ _ = ⊥
 
   -- the passes were taken back
-  pub record HasLeft (old new : Holding (OfficeOpening D)) (seats : List (Seat D)) : Type 0 where
+  pub record HasLeft (old new : Holding (OfficeOpening D W)) (seats : List (Seat D W)) : Type 0 where
     pub turnstile : new.turnstile ≡ old.turnstile
     pub opening : new.opening ≡ old.opening
     pub caller : new.caller ≡ old.caller
@@ -148,5 +148,5 @@ module _ {D : Type 0} where
     pub left : new.left ≡ old.left + all_left seats
     pub shares : new.shares ≡ old.shares + all_shares_in seats
     pub begins : StartsWith new.seen old.seen
-    pub each : AllByRecursion (λ (seat : Seat D). StartsWith new.seen seat.0.seen) seats
-    pub ended : new.ended ≡ old.ended ++ flat_map (λ (seat : Seat D). pages seat.0) seats
+    pub each : AllByRecursion (λ (seat : Seat D W). StartsWith new.seen seat.0.seen) seats
+    pub ended : new.ended ≡ old.ended ++ flat_map (λ (seat : Seat D W). pages seat.0) seats

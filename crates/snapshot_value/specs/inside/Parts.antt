@@ -35,17 +35,17 @@ pub record AddsRows (basis : List Dated) (on : ℤ) (policies : List Policy) (ol
   pub each : AllZip (IsRowOf basis on) policies added
   pub within : AllByRecursion (λ (row : Row). IsWithin most_amount row.worth) added
 
-module _ {D : Type 0} where
+module _ {D W : Type 0} where
   -- the policies at a position, by what the pass has seen
-  abbrev pub policies_at : Holding (OfficeOpening D) → ℕ → List Policy
+  abbrev pub policies_at : Holding (OfficeOpening D W) → ℕ → List Policy
   policies_at pass position = after pass.opening
     where
-      after : Option (OfficeOpening D) → List Policy
+      after : Option (OfficeOpening D W) → List Policy
       after None = []
       after (Some opened) = book_at opened.opening pass.seen position
 
   -- the read of a pin's k-th part
-  pub record HasReadPart (pin : Held) (k : ℕ) (part : List Policy) (old new : Holding (OfficeOpening D)) : Type 0 where
+  pub record HasReadPart (pin : Held) (k : ℕ) (part : List Policy) (old new : Holding (OfficeOpening D W)) : Type 0 where
     pub read : Placed
     pub grows : Grows old new (read ∷ [])
     pub call : read.1.call ≡ Read pin.number (policies_per_read * k)
@@ -54,7 +54,7 @@ module _ {D : Type 0} where
 
   -- the first k reads of a pin, and the rows of the policies that they gave
   pub record HasReadParts (basis : List Dated) (on : ℤ) (pin : Held) (k : ℕ) (rows : List Row)
-      (old new : Holding (OfficeOpening D)) : Type 0 where
+      (old new : Holding (OfficeOpening D W)) : Type 0 where
     pub reads : List Placed
     pub grows : Grows old new reads
     pub calls : calls_of reads ≡ take k (reads_of pin.number pin.policies)
@@ -63,20 +63,20 @@ module _ {D : Type 0} where
 
   -- all reads of a pin, and the rows of its policies
   pub record HasReadAll (basis : List Dated) (on : ℤ) (pin : Held) (rows : List Row)
-      (old new : Holding (OfficeOpening D)) : Type 0 where
+      (old new : Holding (OfficeOpening D W)) : Type 0 where
     pub reads : List Placed
     pub grows : Grows old new reads
     pub calls : calls_of reads ≡ reads_of pin.number pin.policies
     pub all : AreRowsOf basis on (policies_at old pin.position) rows
 
   -- so it is, or nothing was read for want of memory
-  abbrev pub HasRead : List Dated → ℤ → Held → Holding (OfficeOpening D) → Holding (OfficeOpening D)
+  abbrev pub HasRead : List Dated → ℤ → Held → Holding (OfficeOpening D W) → Holding (OfficeOpening D W)
       → Result (List Row) Lack → Type 0
   HasRead basis on pin old new (Ok rows) = HasReadAll basis on pin rows old new
   HasRead basis on pin old new (Err lack) = new ≡ old
 
   -- what follows a pin, and what is answered
-  abbrev pub FollowsPinned : List Dated → ℤ → Held → Holding (OfficeOpening D) → List Call
+  abbrev pub FollowsPinned : List Dated → ℤ → Held → Holding (OfficeOpening D W) → List Call
       → Result Valuation ValueFault → Type 0
   FollowsPinned basis on pin old calls (Ok valuation) =
       (calls ≡ reads_of pin.number pin.policies ++ Unpin pin.number ∷ [])
@@ -86,7 +86,7 @@ module _ {D : Type 0} where
   FollowsPinned basis on pin old calls (Err (Pin refusal)) = ⊥
 
   -- a pin's policies were valued or memory was wanting, and the pin was given up
-  pub record HasValuedPin (basis : List Dated) (on : ℤ) (pin : Held) (old new : Holding (OfficeOpening D))
+  pub record HasValuedPin (basis : List Dated) (on : ℤ) (pin : Held) (old new : Holding (OfficeOpening D W))
       (answer : Result Valuation ValueFault) : Type 0 where
     pub later : List Placed
     pub grows : Grows old new later
