@@ -11,6 +11,9 @@ pub mod ToldSteps
 pub mod LoneSteps
 pub mod RunSteps
 pub mod LookSteps
+pub mod LoadCounts
+pub mod LoadTurns
+pub mod LoadSteps
 pub mod StateSteps
 pub mod ReadingSteps
 pub mod ReadOnlySteps

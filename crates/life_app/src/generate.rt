@@ -10,13 +10,7 @@ use outside_io::Sink;
 use std::alloc::Global;
 
 /// Writes the script of so many policies drawn from a seed, dealt out to the lanes.
-pub fn generate<K: Sink>(
-    alloc: Global,
-    seed: u32,
-    count: u32,
-    lanes: u8,
-    output: &mut K,
-) -> Ending
+pub fn generate<K: Sink>(alloc: Global, seed: u32, count: u32, lanes: u8, output: &mut K) -> Ending
     requires seed { seed < 2 ^ 31 }
     requires count { (1 ≤ count) × (count ≤ 100000) }
     requires lanes { (1 ≤ lanes) × (lanes ≤ 8) }

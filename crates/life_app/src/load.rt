@@ -15,6 +15,7 @@ use crate::run::{Finished, ending_of};
 use crate::unvalued::refuse_basis;
 use basis_book::{Basis, Name};
 use basis_shelf::fetch_basis;
+use itoa::Buffer;
 use lane_runner::{AnsweredLine, Outcome, run_lanes};
 use load_maker::make_lanes;
 use money_core::Text;
@@ -121,9 +122,7 @@ fn load_by<R: Threads + Wait + Sync, K: Sink, D: Disk + Send, G: Gate + Sync>(
     let lanes = script.as_slice();
     match Office::start(alloc, disk, NoWatchers) {
         Ok((office, pass)) => {
-            load_office(
-                rt, alloc, lanes, workers, basis, office, pass, output, gate,
-            )
+            load_office(rt, alloc, lanes, workers, basis, office, pass, output, gate)
         }
         Err(fault) => Finished {
             ending: refuse_journal(alloc, fault.cause, output),
@@ -133,7 +132,13 @@ fn load_by<R: Threads + Wait + Sync, K: Sink, D: Disk + Send, G: Gate + Sync>(
 }
 
 // Runs lanes at an office, values its policies then, closes it, and writes the line.
-fn load_office<R: Threads + Wait + Sync, K: Sink, D: Disk + Send, W: Watching + Send, G: Gate + Sync>(
+fn load_office<
+    R: Threads + Wait + Sync,
+    K: Sink,
+    D: Disk + Send,
+    W: Watching + Send,
+    G: Gate + Sync,
+>(
     rt: &R,
     alloc: Global,
     lanes: &[Lane],
@@ -175,12 +180,7 @@ fn load_office<R: Threads + Wait + Sync, K: Sink, D: Disk + Send, W: Watching + 
         gate,
     );
     let (disk, _, _) = close(office, pass);
-    let ending = write_loaded(
-        alloc,
-        transcript.lines.as_slice(),
-        valued.answer,
-        output,
-    );
+    let ending = write_loaded(alloc, transcript.lines.as_slice(), valued.answer, output);
     Finished { ending, disk }
 }
 
@@ -191,7 +191,6 @@ fn write_loaded<K: Sink>(
     answer: Result<Valuation, ValueFault>,
     output: &mut K,
 ) -> Ending
-    requires few { length lines.now < 2 ^ 32 }
     requires answer { IsLoadAnswer answer }
     ensures { EndsLoaded lines.now answer (between K.faults K.written output.old output.new) result }
 {
@@ -201,13 +200,7 @@ fn write_loaded<K: Sink>(
     }
 }
 
-fn write_line<K: Sink>(
-    alloc: Global,
-    lines: &[AnsweredLine],
-    rows: &Rows,
-    output: &mut K,
-) -> Ending
-    requires few { length lines.now < 2 ^ 32 }
+fn write_line<K: Sink>(alloc: Global, lines: &[AnsweredLine], rows: &Rows, output: &mut K) -> Ending
     requires rows { length rows.now ≤ 4000000 }
     requires bounded { AreSummable rows.now }
     ensures { EndsLine lines.now rows.now (between K.faults K.written output.old output.new) result }
@@ -224,17 +217,13 @@ fn write_line<K: Sink>(
 }
 
 // How many postings were accepted.
-fn count_accepted(lines: &[AnsweredLine]) -> u32
-    requires { length lines.now < 2 ^ 32 }
+fn count_accepted(lines: &[AnsweredLine]) -> usize
     ensures { result ≡ accepted_lines lines.now }
 {
-    let mut count = 0;
-    for line in lines {
-        if accepted(&line.outcome) {
-            count += 1;
-        }
-    }
-    count
+    lines
+        .iter()
+        .filter(|line| accepted(&line.outcome))
+        .count()
 }
 
 fn accepted(outcome: &Outcome) -> bool
@@ -244,17 +233,10 @@ fn accepted(outcome: &Outcome) -> bool
 }
 
 // How many postings were refused.
-fn count_refused(lines: &[AnsweredLine]) -> u32
-    requires { length lines.now < 2 ^ 32 }
+fn count_refused(lines: &[AnsweredLine]) -> usize
     ensures { result ≡ refused_lines lines.now }
 {
-    let mut count = 0;
-    for line in lines {
-        if refused(&line.outcome) {
-            count += 1;
-        }
-    }
-    count
+    lines.iter().filter(|line| refused(&line.outcome)).count()
 }
 
 fn refused(outcome: &Outcome) -> bool
@@ -264,7 +246,7 @@ fn refused(outcome: &Outcome) -> bool
 }
 
 // The line of a load, as `load,2,0,1,0.00,0.00,1`.
-fn load_line(alloc: Global, accepted: u32, refused: u32, rows: &Rows) -> Result<Text, NoMemory>
+fn load_line(alloc: Global, accepted: usize, refused: usize, rows: &Rows) -> Result<Text, NoMemory>
     requires rows { length rows.now ≤ 4000000 }
     requires bounded { AreSummable rows.now }
     ensures { IfOk result (λ text. text ≡ load_text accepted refused rows.now) }
@@ -272,8 +254,9 @@ fn load_line(alloc: Global, accepted: u32, refused: u32, rows: &Rows) -> Result<
     let totals = Totals::of(rows);
     let mut line = LineWriter::new(alloc);
     line.first("load")?;
-    line.number(accepted)?;
-    line.number(refused)?;
+    let mut buffer = Buffer::new();
+    line.word(buffer.format(accepted as u64))?;
+    line.word(buffer.format(refused as u64))?;
     line.number(rows.as_slice().len() as u32)?;
     line.cents(totals.lower as i64)?;
     line.cents(totals.upper as i64)?;

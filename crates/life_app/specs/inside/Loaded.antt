@@ -10,7 +10,6 @@ use Rattle.office_state.specs.declared.answer.Answer.TheVariants.{Accepted, Refu
 use Rattle.policy_value.specs.declared.worth.Row.{Row}
 use Rattle.snapshot_value.specs.declared.valuation.Valuation.{Valuation}
 use Rattle.snapshot_value.specs.declared.valuation.ValueFault.{ValueFault}
-use Rattle.snapshot_value.specs.declared.valuation.ValueFault.TheVariants.{Pin, NoMemory as NoValues}
 use Rattle.lane_runner.specs.Lanes.{lines_in}
 use Rattle.lane_runner.specs.declared.transcript.AnsweredLine.{AnsweredLine as ToldLine}
 use Rattle.lane_runner.specs.declared.transcript.Outcome.{Outcome}
@@ -43,11 +42,10 @@ accepted_lines lines = count_by (λ (told : ToldLine). tells_accepted told.outco
 abbrev pub refused_lines : List ToldLine → ℕ
 refused_lines lines = count_by (λ (told : ToldLine). tells_refused told.outcome) lines
 
--- the valuation behind the lanes: its rows can be written, or it found no memory
+-- the rows of a valuation can be written
 abbrev pub IsLoadAnswer : Result Valuation ValueFault → Type 0
 IsLoadAnswer (Ok valuation) = IsWritableBlock valuation
-IsLoadAnswer (Err NoValues) = Unit {0}
-IsLoadAnswer (Err (Pin refusal)) = ⊥
+IsLoadAnswer (Err fault) = Unit {0}
 
 -- what is written of the lines of a load and the rows of its valuation, and then by what is told of the lines
 abbrev pub EndsLine : List ToldLine → List Row → Stream → Ending → Type 0
