@@ -18,4 +18,5 @@ pub mod StateSteps
 pub mod ReadingSteps
 pub mod ReadOnlySteps
 pub mod ValueStatus
+pub mod LoadStatus
 pub mod ProgramSteps

@@ -146,9 +146,9 @@ module _ (test : Entry → Bool) where
       → count_by test history ≡ sum_by (λ (one : AnsweredLine). worth test one.first.1) answered
   counted answered history lanes callers are rising distinct clerks theirs single =
       let lines = summed (λ (one : AnsweredLine). one.clerk) (λ (one : AnsweredLine). worth test one.first.1) (map (λ (lane : Lane). lane.number) lanes) answered
-          (distinct_if_rising (map (λ (lane : Lane). lane.number) lanes) rising) clerks in
+      (distinct_if_rising (map (λ (lane : Lane). lane.number) lanes) rising) clerks in
       let turns = summed (λ (turn : Placed). turn.1.caller) (λ (turn : Placed). worth test turn.1) callers (enumerate_from 0 history) distinct
-          (λ turn has. theirs turn.1 (entry_of 0 history turn has)) in
+      (λ turn has. theirs turn.1 (entry_of 0 history turn has)) in
       let both = of_lanes answered history lanes callers are single in
       let places = in_places 0 history in
       omega (arith, lines, turns, both, places)

@@ -224,9 +224,9 @@ module _ {D W : Type 0} (g : Ghosts D) (w : WatcherGhosts W) (old disk : D) (lan
       ≡ load_text (length (accepted_of closing.seen)) (refused_in closing.seen) rows
   text_is rows =
       let accepted = accepted_is ran.opened.opening mid.seen basis lanes transcript.callers (dry_of transcript.lines) ran.answered transcript.lines ran.lines ran.told
-          right.script.right.rising ran.pass.distinct theirs postings in
+      right.script.right.rising ran.pass.distinct theirs postings in
       let refused = refused_is ran.opened.opening mid.seen basis lanes transcript.callers (dry_of transcript.lines) ran.answered transcript.lines ran.lines ran.told
-          right.script.right.rising ran.pass.distinct theirs postings in
+      right.script.right.rising ran.pass.distinct theirs postings in
       let all_accepted : accepted_lines transcript.lines ≡ length (accepted_of closing.seen) = sym accepted ∙ sym (ap (λ (cs : List Command). length cs) same_accepted) in
       let all_refused : refused_lines transcript.lines ≡ refused_in closing.seen = sym refused ∙ sym same_refused in
       ap (λ n. load_text n (refused_lines transcript.lines) rows) all_accepted ∙ ap (λ n. load_text (length (accepted_of closing.seen)) n rows) all_refused
@@ -318,13 +318,13 @@ module _ {D W : Type 0} (g : Ghosts D) (w : WatcherGhosts W) (old disk : D) (lan
   a_blank : any_lacked transcript.lines ≡ true → HasBlank closing.seen
   a_blank some = elim (all_told.some_lacked some) [
     | inl blank ↦ (
-        blank.0,
-        (
-          blank.1.0,
-          subst (λ (h : List Entry). slice_get h blank.0 ≡ Some blank.1.0) (sym behind.seen) (in_front mid.seen behind.rest blank.0 blank.1.0 blank.1.1),
-          blank.1.2,
-        ),
-      )
+      blank.0,
+      (
+        blank.1.0,
+        subst (λ (h : List Entry). slice_get h blank.0 ≡ Some blank.1.0) (sym behind.seen) (in_front mid.seen behind.rest blank.0 blank.1.0 blank.1.1),
+        blank.1.2,
+      ),
+    )
     | inr dry ↦ absurd (none_in (dry.0) (subst (λ (ns : List ℕ). Contains ns dry.0) no_dry dry.1))
   ]
     where

@@ -220,10 +220,7 @@ fn write_line<K: Sink>(alloc: Global, lines: &[AnsweredLine], rows: &Rows, outpu
 fn count_accepted(lines: &[AnsweredLine]) -> usize
     ensures { result ≡ accepted_lines lines.now }
 {
-    lines
-        .iter()
-        .filter(|line| accepted(&line.outcome))
-        .count()
+    lines.iter().filter(|line| accepted(&line.outcome)).count()
 }
 
 fn accepted(outcome: &Outcome) -> bool
