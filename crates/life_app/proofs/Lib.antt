@@ -12,6 +12,7 @@ pub mod LoneSteps
 pub mod RunSteps
 pub mod LookSteps
 pub mod LoadCounts
+pub mod LoadLanes
 pub mod LoadTurns
 pub mod LoadSteps
 pub mod StateSteps

@@ -1,5 +1,5 @@
 -- How many postings of a history were accepted and refused is what is told of the lines that they answer
-use Rattle.std.proofs.Common.{◌≡◌, ℕ, ◌+◌, ◌<◌, ◌==◌, Bool, true, false, cond, List, [], ◌∷◌, ◌++◌, length, map, refl, ap, sym, ◌∙◌, subst, inl, inr, arith}
+use Rattle.std.proofs.Common.{◌≡◌, ℕ, ◌+◌, ◌<◌, ◌==◌, Bool, true, false, cond, List, [], ◌∷◌, ◌++◌, length, map, take, refl, ap, sym, ◌∙◌, subst, inl, inr, arith}
 use Rattle.std.specs.Prelude.{nat_eq}
 use Rattle.std.specs.List.{AllByRecursion, AllZip, Contains, IsDistinct, cons_option, count_by, enumerate_from, filter, flat_map, sum_by}
 use Rattle.std.proofs.lemmas.Bool.{cond-false, cond-true, eq-eqb, eqb-false, false≢true, ne_eqb}
@@ -14,7 +14,7 @@ use Rattle.policy_types.specs.declared.entry.Reply.TheVariants.{Accepted, Refuse
 use Rattle.policy_types.specs.declared.script.Line.{Line}
 use Rattle.policy_types.specs.declared.script.Line.TheVariants.{Post, Value, Trim}
 use Rattle.policy_types.specs.declared.script.Lane.{Lane}
-use Rattle.policy_machine.specs.History.{Opening, accepted_by, accepted_of}
+use Rattle.policy_machine.specs.History.{Opening, accepted_by, accepted_of, commands_after}
 use Rattle.policy_machine.specs.Merge.{AnswersLine, Placed, turns_of}
 use Rattle.office_state.specs.declared.answer.Answer.{Answer}
 use Rattle.office_state.specs.declared.answer.Answer.TheVariants.{Accepted as AnAccepted, Refused as ARefused, DiskFault, NoMemory}
@@ -37,7 +37,7 @@ module _ {A : Type 0} (key : A → ℕ) (size : A → ℕ) where
 
   none : (ns : List ℕ) → by_keys ns [] ≡ 0
   none [] = refl
-  none (n ∷ ns) = none ns
+  none (n ∷ ns) = let rest = none ns in omega (arith, rest)
 
   kept : (n : ℕ) (x : A) (xs : List A) → key x ≡ n → sum_by size (filter (λ x. key x == n) (x ∷ xs)) ≡ size x + sum_by size (filter (λ x. key x == n) xs)
   kept n x xs is =
@@ -178,19 +178,19 @@ is_acceptance _ _ = false
 
 one_more : (call : Call) (reply : Reply) (commands : List Command) → length (cons_option (accepted_by call reply) commands) ≡ cond (is_acceptance call reply) 1 0 + length commands
 one_more (PostCall command) (Accepted position) commands = omega arith
-one_more (PostCall command) (Refused refusal) commands = refl
-one_more (PostCall command) (Faulted count) commands = refl
-one_more (PostCall command) (Pinned position policies) commands = refl
-one_more (PostCall command) (PinRefused refusal) commands = refl
-one_more (PostCall command) (Slice policies) commands = refl
-one_more (PostCall command) Unpinned commands = refl
-one_more (PostCall command) (Floor floor) commands = refl
-one_more (PostCall command) Blank commands = refl
-one_more Pin reply commands = refl
-one_more (PinAt p) reply commands = refl
-one_more (Read pin first) reply commands = refl
-one_more (Unpin pin) reply commands = refl
-one_more TrimCall reply commands = refl
+one_more (PostCall command) (Refused refusal) commands = omega arith
+one_more (PostCall command) (Faulted count) commands = omega arith
+one_more (PostCall command) (Pinned position policies) commands = omega arith
+one_more (PostCall command) (PinRefused refusal) commands = omega arith
+one_more (PostCall command) (Slice policies) commands = omega arith
+one_more (PostCall command) Unpinned commands = omega arith
+one_more (PostCall command) (Floor floor) commands = omega arith
+one_more (PostCall command) Blank commands = omega arith
+one_more Pin reply commands = omega arith
+one_more (PinAt p) reply commands = omega arith
+one_more (Read pin first) reply commands = omega arith
+one_more (Unpin pin) reply commands = omega arith
+one_more TrimCall reply commands = omega arith
 
 accepted_counted : (history : List Entry) → length (accepted_of history) ≡ count_by (λ (entry : Entry). is_acceptance entry.call entry.reply) history
 accepted_counted [] = refl
@@ -256,13 +256,14 @@ module _ (opening : Opening) (history : List Entry) (basis : List Dated) (lanes 
       ∙ alike (IsTold opening history basis) (λ (one : AnsweredLine). worth (λ (entry : Entry). test entry.call entry.reply) one.first.1)
       (λ (line : ToldLine). cond (tells line.outcome) 1 0) answered told one_pair pairs
     where
-      one_pair : (one : AnsweredLine) (line : ToldLine) → Has answered one → IsTold opening history basis one line
-          → worth (λ (entry : Entry). test entry.call entry.reply) one.first.1 ≡ cond (tells line.outcome) 1 0
-      one_pair one line has is =
-          let turn = only_turn dry one.line one.first one.rest (postings one has) (answers one has) in
-          let outcome = subst (λ (l : Line). IsOutcome _ basis l one.first.1.reply line.outcome) turn.1.1 is.outcome in
-          ap (λ (b : Bool). cond b 1 0)
-          (ap (λ (c : Call). test c one.first.1.reply) turn.1.2 ∙ agree turn.1.0 one.first.1.reply line.outcome _ outcome)
+      one_pair : (this : AnsweredLine) (line : ToldLine) → Has answered this → IsTold opening history basis this line
+          → worth (λ (entry : Entry). test entry.call entry.reply) this.first.1 ≡ cond (tells line.outcome) 1 0
+      one_pair this line has is =
+          let turn = only_turn dry this.line this.first this.rest (postings this has) (answers this has) in
+          let commands : List Command = commands_after opening (take this.first.0 history) in
+          let outcome = subst (λ (l : Line). IsOutcome commands basis l this.first.1.reply line.outcome) turn.1.1 is.outcome in
+          ap {B = ℕ} (λ (b : Bool). cond b 1 0)
+          (ap (λ (c : Call). test c this.first.1.reply) turn.1.2 ∙ agree turn.1.0 this.first.1.reply line.outcome commands outcome)
 
   pub accepted_is : length (accepted_of history) ≡ accepted_lines told
   accepted_is = accepted_counted history ∙ tested is_acceptance tells_accepted (λ command reply outcome commands is. accepted_told command reply outcome commands basis is)

@@ -25,7 +25,7 @@ use Rattle.policy_types.specs.declared.script.Lane.{Lane}
 use Rattle.policy_types.specs.declared.watcher.Report.{Report}
 use Rattle.policy_machine.specs.Book.{book}
 use Rattle.policy_machine.specs.History.{Opening, IsDue, IsLegal, IsLegalAfter, accepted_by, accepted_of, commands_after, opened_on}
-use Rattle.policy_machine.specs.Merge.{IsMerge}
+use Rattle.policy_machine.specs.Merge.{AnswersLine, IsMerge}
 use Rattle.policy_value.specs.declared.worth.Row.{Row}
 use Rattle.watcher_set.specs.declared.watching.Watching.{Ghosts as WatcherGhosts}
 use Rattle.office_state.specs.declared.faults.StartCause.{StartCause}
@@ -40,7 +40,7 @@ use Rattle.snapshot_value.specs.declared.valuation.ValueFault.{ValueFault}
 use Rattle.snapshot_value.specs.declared.valuation.ValueFault.TheVariants.{Pin as NoPin, NoMemory as NoValues}
 use Rattle.turn_lock.specs.History.{entries_of}
 use Rattle.turn_lock.specs.Passes.{Holding, Page, PassFacts, callers as numbers_of}
-use Rattle.lane_runner.specs.AnsweredLines.{AnsweredLine}
+use Rattle.lane_runner.specs.AnsweredLines.{AnsweredLine, turns_in}
 use Rattle.lane_runner.specs.Lanes.{lines_in}
 use Rattle.lane_runner.specs.Transcripts.{HasAnsweredLanes, IsOutcome, IsTold, dry_of, lacked_memory}
 use Rattle.lane_runner.specs.declared.transcript.AnsweredLine.{AnsweredLine as ToldLine}
@@ -90,7 +90,7 @@ not_refused TrimCall reply quiet = refl
 none_refused : (history : List Entry) → ArePostless history → refused_in history ≡ 0
 none_refused [] quiet = refl
 none_refused (entry ∷ history) quiet =
-    let first = ap (λ (b : Bool). cond b 1 0) (not_refused entry.call entry.reply quiet.0) in
+    let first = ap {B = ℕ} (λ (b : Bool). cond b 1 0) (not_refused entry.call entry.reply quiet.0) in
     let rest = none_refused history quiet.1 in
     let whole = sum_by-cons (λ (entry : Entry). cond (is_refusal entry.call entry.reply) 1 0) entry history in
     omega (arith, first, rest, whole)
@@ -310,10 +310,12 @@ module _ {D W : Type 0} (g : Ghosts D) (w : WatcherGhosts W) (old disk : D) (lan
       one : (line : ToldLine) → Has transcript.lines line → lacked_memory line.outcome ≡ false
       one line has =
           let pair = zip_right (IsTold ran.opened.opening mid.seen basis) ran.answered transcript.lines line ran.told has in
-          let answers = of_all (λ (one : AnsweredLine). _) ran.answered pair.0 ran.lines.turns pair.1 in
-          let turn = only_turn (dry_of transcript.lines) pair.0.line pair.0.first pair.0.rest (postings pair.0 pair.1) answers in
-          posting_found turn.1.0 pair.0.first.1.reply line.outcome _ basis
-          (subst (λ (l : Line). IsOutcome _ basis l pair.0.first.1.reply line.outcome) turn.1.1 pair.2.outcome)
+          let this = pair.0 in
+          let commands : List Command = commands_after ran.opened.opening (take this.first.0 mid.seen) in
+          let answers = of_all (λ (answered : AnsweredLine). AnswersLine (dry_of transcript.lines) answered.line (turns_in answered)) ran.answered this ran.lines.turns pair.1 in
+          let turn = only_turn (dry_of transcript.lines) this.line this.first this.rest (postings this pair.1) answers in
+          posting_found turn.1.0 this.first.1.reply line.outcome commands basis
+          (subst (λ (l : Line). IsOutcome commands basis l this.first.1.reply line.outcome) turn.1.1 pair.2.outcome)
 
   a_blank : any_lacked transcript.lines ≡ true → HasBlank closing.seen
   a_blank some = elim (all_told.some_lacked some) [

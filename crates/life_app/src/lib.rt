@@ -12,6 +12,8 @@ mod intake;
 mod laws;
 mod load;
 #[cfg(test)]
+mod load_tests;
+#[cfg(test)]
 mod policy_tests;
 mod program;
 mod refusing;
