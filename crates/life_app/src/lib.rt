@@ -2,6 +2,7 @@
 #![tactic(auto)]
 
 mod account;
+mod auditors;
 #[cfg(test)]
 mod clerk_tests;
 #[cfg(test)]

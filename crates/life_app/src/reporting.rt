@@ -1,5 +1,5 @@
 // The lines of the auditors' reports.
-ghost use Rattle.std.specs.Prelude.{◌≡◌, ◌++◌, ◌≤◌, IfOk, OnOk, length};
+ghost use Rattle.std.specs.Prelude.{◌≡◌, ◌≤◌, IfOk, length};
 ghost use Rattle.life_app.specs.Transcript.{reports_text, watcher_text};
 
 use crate::state::add;
@@ -9,18 +9,19 @@ use policy_types::{NoMemory, Report};
 use statements::LineWriter;
 use std::alloc::Global;
 
-/// Adds a line for each report, numbered from 1.
-pub fn add_reports(alloc: Global, reports: &[Report], text: &mut Vec<u8>) -> Result<(), NoMemory>
+/// The lines of the reports, numbered from 1.
+pub fn report_lines(alloc: Global, reports: &[Report]) -> Result<Vec<u8>, NoMemory>
     requires few { length reports.now ≤ 16 }
-    ensures { OnOk result (text.new.items ≡ text.old.items ++ reports_text reports.now) }
+    ensures { IfOk result (λ text. text.items ≡ reports_text reports.now) }
 {
+    let mut text = Vec::new(alloc);
     let mut number = 0;
     for report in reports {
         number += 1;
         let line = watcher_line(alloc, number, report)?;
-        add(text, line.as_slice())?;
+        add(&mut text, line.as_slice())?;
     }
-    Ok(())
+    Ok(text)
 }
 
 // The line of a report.

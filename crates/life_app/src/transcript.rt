@@ -11,7 +11,7 @@ ghost use Rattle.statements.specs.Lines.{behind_commas};
 ghost use Rattle.life_app.specs.Transcript.{pin_refusal_fields, posting_text, refusal_fields, reply_fields, trim_text, unpinned_text, unvalued_text};
 ghost use Rattle.life_app.specs.inside.Told.{IsPrintable, IsTold, IsWritable, IsWritableOutcome, outcome_text, run_text, told_text, told_texts};
 
-use crate::reporting::add_reports;
+use crate::reporting::report_lines;
 use crate::state::add;
 use itoa::Buffer;
 use lane_runner::{AnsweredLine, Outcome};
@@ -33,7 +33,8 @@ pub fn transcript(
     ensures { IfOk result (λ text. text.items ≡ run_text lines.now reports.now) }
 {
     let mut text = answers(alloc, lines)?;
-    add_reports(alloc, reports, &mut text)?;
+    let more = report_lines(alloc, reports)?;
+    add(&mut text, more.as_slice())?;
     Ok(text)
 }
 

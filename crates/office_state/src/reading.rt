@@ -67,7 +67,9 @@ impl<D: Disk, W: Watching> OfficeState<D, W> {
     {
         let ledger = self.books.ledger();
         let OfficeState {
-            journal, watchers, ..
+            journal,
+            watchers,
+            ..
         } = self;
         (journal.release(), ledger, watchers.finish())
     }

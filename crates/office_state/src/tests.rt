@@ -5,9 +5,7 @@ ghost use Rattle.std.specs.Prelude.{[]};
 use crate::{Answer, Batch, OfficeState, PinInfo, StartCause};
 use memory_disk::MemoryDisk;
 use money_ledgers::Ledger;
-use policy_types::{
-    Command, NoMemory, PinRefusal, Plan, Policy, Refusal, Report, Status, Watcher,
-};
+use policy_types::{Command, NoMemory, PinRefusal, Plan, Policy, Refusal, Report, Status, Watcher};
 use posting_journal::Journal;
 use record_codec::encode;
 use std::alloc::{AllocError, Global};

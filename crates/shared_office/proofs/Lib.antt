@@ -1,2 +1,3 @@
 pub mod Starting
 pub mod Holding
+pub mod Crossing

@@ -1,0 +1,25 @@
+-- An office may be shared by threads, and a pass may go to another, where the disk and the watchers may go to another. A
+-- `join` whose closures hold them lists `crosses_office` in the answers to its `Send` goals, for which `search` alone takes too long.
+use denote.RattleType.{RattleType}
+use denote.Param.Send.{IsSend, IsSync, sendable}
+use Rattle.std.proofs.Crossing.{crosses}
+use Rattle.atomic_table.proofs.shared.Shared.TheSendSync as table
+use Rattle.atomic_table.proofs.send_lease.SendLease.TheSendSync as lease
+use Rattle.atomic_table.proofs.shared.Seat.TheSendSync as seat
+use Rattle.outside_io.specs.declared.disks.Disk.{Ghosts}
+use Rattle.watcher_set.specs.declared.watching.Watching.{Ghosts as WatcherGhosts}
+use Rattle.turn_lock.specs.declared.stands.Stands.{Ghosts as StandsGhosts}
+use Rattle.turn_lock.specs.contracts.pass.Pass as pass
+use Rattle.turn_lock.specs.contracts.turnstile.Turnstile as turnstile
+use Rattle.shared_office.specs.contracts.state.SharedState.{the_row}
+
+pub state_crosses : (D W : RattleType) (g : Ghosts D.Denot) (w : WatcherGhosts W.Denot) → IsSend D → IsSend W → IsSend (the_row D W g w)
+state_crosses D W g w d s = search (sendable, crosses) depth 40 fits 50000
+
+pub pass_crosses : (T O : RattleType) (g : StandsGhosts T.Denot O.Denot) → IsSend T → IsSend (pass.the_row T O g)
+pass_crosses T O g s = search (seat.the_send, sendable) depth 20
+
+pub office_crosses : (T O : RattleType) (g : StandsGhosts T.Denot O.Denot) → IsSend T → IsSync (turnstile.the_row T O g)
+office_crosses T O g s = search (table.the_sync, lease.the_sync, sendable, crosses) depth 30
+
+pub ruleset crosses_office = (state_crosses, pass_crosses, office_crosses)
