@@ -47,7 +47,8 @@ pub struct Ended<D> {
 /// Does what the words ask for. The words `run` read a script from the input to its end, fetch a basis from the shelf where
 /// a line asks for values, open the office on the disk, answer each line, and write the transcript, and behind it what the
 /// watchers report of the accepted postings; `value` fetches a basis from the shelf, opens the office and writes what each
-/// policy is worth; `state` writes the books. Where nothing is run the watchers are dropped.
+/// policy is worth; `state` writes the books; `generate` writes a generated script; `load` runs one, values all policies
+/// then, and writes a line about it. But in `run` the watchers are dropped.
 pub fn life<R: Threads + Wait + Sync, S: Source, K: Sink, H: Shelf, D: Disk + Send, G: Gate + Sync>(
     rt: &R,
     alloc: Global,
