@@ -14,6 +14,7 @@ pub mod LookSteps
 pub mod LoadCounts
 pub mod LoadLanes
 pub mod LoadTurns
+pub mod LoadPins
 pub mod LoadSteps
 pub mod StateSteps
 pub mod ReadingSteps

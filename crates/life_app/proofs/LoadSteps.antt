@@ -17,6 +17,7 @@ use Rattle.policy_types.specs.declared.entry.At.TheVariants.{Now}
 use Rattle.policy_types.specs.declared.entry.Call.{Call}
 use Rattle.policy_types.specs.declared.entry.Call.TheVariants.{Post as PostCall, Pin as PinCall, PinAt, Read, Unpin, Trim as TrimCall}
 use Rattle.policy_types.specs.declared.entry.Entry.{Entry}
+use Rattle.policy_types.specs.declared.entry.PinRefusal.{PinRefusal}
 use Rattle.policy_types.specs.declared.entry.Reply.{Reply}
 use Rattle.policy_types.specs.declared.entry.Reply.TheVariants.{Accepted, Refused, Faulted, Pinned, PinRefused, Slice, Unpinned, Floor, Blank}
 use Rattle.policy_types.specs.declared.script.Line.{Line}
@@ -59,6 +60,7 @@ use Rattle.life_app.specs.inside.Told.{IsWritableBlock, any_faulted, any_lacked}
 use Rattle.life_app.proofs.FaultSteps.{rose_in}
 use Rattle.life_app.proofs.ListSteps.{Has, all_and, all_has, has_of_contains, of_all, zip_right}
 use Rattle.life_app.proofs.LoadCounts.{accepted_is, only_turn, refused_is}
+use Rattle.life_app.proofs.LoadPins.{entries_post, not_full}
 use Rattle.life_app.proofs.LoadTurns.{IsBehind, is_behind}
 use Rattle.life_app.proofs.LoneSteps.{ArePostless, none_accepted}
 use Rattle.life_app.proofs.ToldSteps.{Telling, line_in, page_numbers, same_opened, telling}
@@ -70,6 +72,10 @@ legal_back : (opening : Opening) (before xs ys : List Entry) → IsLegalAfter op
 legal_back opening before [] ys legal = subst (λ (b : List Entry). IsLegalAfter opening b ys) (sym (append-nil before)) legal
 legal_back opening before (x ∷ xs) ys legal =
     subst (λ (b : List Entry). IsLegalAfter opening b ys) (append_assoc before (x ∷ []) xs) (legal_back opening (before ++ x ∷ []) xs ys legal.1)
+
+legal_front : (opening : Opening) (before xs ys : List Entry) → IsLegalAfter opening before (xs ++ ys) → IsLegalAfter opening before xs
+legal_front opening before [] ys legal = tt
+legal_front opening before (x ∷ xs) ys legal = (legal.0, legal_front opening (before ++ x ∷ []) xs ys legal.1)
 
 answered_turns : (opening : Opening) (before history : List Entry) → IsLegalAfter opening before history → ArePostless history
     → AllByRecursion (λ (entry : Entry). IsAnswered entry.reply) history
@@ -111,6 +117,19 @@ pinned_if_dry commands basis (Slice policies) is = absurd is
 pinned_if_dry commands basis Unpinned is = absurd is
 pinned_if_dry commands basis (Floor floor) is = absurd is
 pinned_if_dry commands basis Blank is = absurd is
+
+-- one whose pin was refused
+refused_pin : (commands : List Command) (basis : List Dated) (reply : Reply) (why : PinRefusal) → IsValueAnswer commands basis load_day reply (Err (NoPin why))
+    → (refusal : PinRefusal) × (reply ≡ PinRefused refusal)
+refused_pin commands basis (PinRefused refusal) why is = (refusal, refl)
+refused_pin commands basis (Pinned position policies) why is = absurd is
+refused_pin commands basis (Accepted position) why is = absurd is
+refused_pin commands basis (Refused refusal) why is = absurd is
+refused_pin commands basis (Faulted count) why is = absurd is
+refused_pin commands basis (Slice policies) why is = absurd is
+refused_pin commands basis Unpinned why is = absurd is
+refused_pin commands basis (Floor floor) why is = absurd is
+refused_pin commands basis Blank why is = absurd is
 
 -- what is known of the rows of a valuation of all commands
 record AreLastRows (commands : List Command) (basis : List Dated) (valuation : Valuation) : Type 0 where
@@ -363,12 +382,21 @@ module _ {D W : Type 0} (g : Ghosts D) (w : WatcherGhosts W) (old disk : D) (lan
         inr (inr (line_of (WroteAll output) LackMemory short.2 (all_unfaulted short.0, inl (a_blank short.1))))
     ends_line output _ ends = absurd ends
 
+  mid_legal : IsLegalAfter started.opening [] mid.seen
+  mid_legal = legal_front started.opening [] mid.seen behind.rest (subst (IsLegalAfter started.opening []) behind.seen behind.history.legal.due)
+
   pub load_answer : IsLoadAnswer answer
   load_answer = by answer refl
     where
       by : (given : Result Valuation ValueFault) → answer ≡ given → IsLoadAnswer given
       by (Ok valuation) is = (last valuation is).writable
-      by (Err fault) is = tt
+      by (Err NoValues) is = tt
+      by (Err (NoPin refusal)) is =
+          let said = subst (IsValueAnswer (commands_after opened.opening mid.seen) basis load_day behind.pin.reply) is behind.answered in
+          let refused = refused_pin (commands_after opened.opening mid.seen) basis behind.pin.reply refusal said in
+          not_full started.opening mid.seen behind.pin.caller refused.0 mid_legal
+          (λ entry has. entries_post (dry_of transcript.lines) mid.seen lanes transcript.callers right.postings ran.answers entry has (theirs entry has))
+          (subst (IsDue started.opening mid.seen behind.pin.caller PinCall) refused.1 behind.due)
 
   pub ends_loaded : (output : Stream) (ending : Ending) → EndsLoaded transcript.lines answer output ending
       → EndsLoading g old disk lanes workers basis output ending
@@ -377,8 +405,9 @@ module _ {D W : Type 0} (g : Ghosts D) (w : WatcherGhosts W) (old disk : D) (lan
       by : (given : Result Valuation ValueFault) → answer ≡ given → (ending : Ending) → EndsLoaded transcript.lines given output ending
           → EndsLoading g old disk lanes workers basis output ending
       by (Ok valuation) is ending ends = ends_line valuation is output ending ends
-      by (Err fault) is NoMemory ends = inr (inl (load_of (HasNoLine output) ends))
-      by (Err fault) is _ ends = absurd ends
+      by (Err NoValues) is NoMemory ends = inr (inl (load_of (HasNoLine output) ends))
+      by (Err NoValues) is _ ends = absurd ends
+      by (Err (NoPin refusal)) is ending ends = absurd ends
 
 -- where there was no memory to run the lanes, nothing was turned
 pub ends_unrun : {D W : Type 0} (g : Ghosts D) (w : WatcherGhosts W) (old disk : D) (lanes : List Lane) (workers : ℕ) (basis : List Dated) (watchers : W)

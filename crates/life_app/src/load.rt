@@ -196,7 +196,8 @@ fn write_loaded<K: Sink>(
 {
     match answer {
         Ok(valuation) => write_line(alloc, lines, &valuation.rows, output),
-        Err(_) => Ending::NoMemory,
+        Err(ValueFault::NoMemory) => Ending::NoMemory,
+        Err(ValueFault::Pin(_)) => unreachable!(),
     }
 }
 

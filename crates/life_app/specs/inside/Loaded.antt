@@ -10,6 +10,7 @@ use Rattle.office_state.specs.declared.answer.Answer.TheVariants.{Accepted, Refu
 use Rattle.policy_value.specs.declared.worth.Row.{Row}
 use Rattle.snapshot_value.specs.declared.valuation.Valuation.{Valuation}
 use Rattle.snapshot_value.specs.declared.valuation.ValueFault.{ValueFault}
+use Rattle.snapshot_value.specs.declared.valuation.ValueFault.TheVariants.{Pin, NoMemory as NoValues}
 use Rattle.lane_runner.specs.Lanes.{lines_in}
 use Rattle.lane_runner.specs.declared.transcript.AnsweredLine.{AnsweredLine as ToldLine}
 use Rattle.lane_runner.specs.declared.transcript.Outcome.{Outcome}
@@ -42,10 +43,11 @@ accepted_lines lines = count_by (λ (told : ToldLine). tells_accepted told.outco
 abbrev pub refused_lines : List ToldLine → ℕ
 refused_lines lines = count_by (λ (told : ToldLine). tells_refused told.outcome) lines
 
--- the rows of a valuation can be written
+-- the answers to a valuation behind postings alone: its rows, which can be written, or that it found no memory
 abbrev pub IsLoadAnswer : Result Valuation ValueFault → Type 0
 IsLoadAnswer (Ok valuation) = IsWritableBlock valuation
-IsLoadAnswer (Err fault) = Unit {0}
+IsLoadAnswer (Err NoValues) = Unit {0}
+IsLoadAnswer (Err (Pin refusal)) = ⊥
 
 -- what is written of the lines of a load and the rows of its valuation, and then by what is told of the lines
 abbrev pub EndsLine : List ToldLine → List Row → Stream → Ending → Type 0
@@ -66,5 +68,5 @@ EndsLine lines rows output _ = ⊥
 -- the same, where nothing is written of a valuation that found no memory
 abbrev pub EndsLoaded : List ToldLine → Result Valuation ValueFault → Stream → Ending → Type 0
 EndsLoaded lines (Ok valuation) output ending = EndsLine lines valuation.rows output ending
-EndsLoaded lines (Err fault) output NoMemory = Appends output.before output.after []
+EndsLoaded lines (Err NoValues) output NoMemory = Appends output.before output.after []
 EndsLoaded lines (Err fault) output _ = ⊥
