@@ -6,11 +6,13 @@ use Rattle.life_app.proofs.LoadSteps.{ends_loaded, load_answer}
 use Rattle.life_app.proofs.load.load_office.Goals as goal
 
 pub write_loaded-ending-requires : goal.write_loaded-ending-requires
-write_loaded-ending-requires g c κs within =
+write_loaded-ending-requires g c =
     let started = c.requires.started.1 in
-    load_answer g.D.Disk g.W.Watching c.requires.started.0 c.close-disk-2.result.0 c.args.lanes.now c.args.workers c.value-valued.result.turn c.args.basis.now started.0
-    c.args.pass c.run_lanes.new.pass c.value-valued.new.pass _ _ c.in-Ok.transcript c.value-valued.result.answer started.1 c.in-Ok.ensures.answered
-    c.in-Ok.ensures.facts c.value-valued.ensures.valued c.close-disk-2.ensures.facts c.close-disk-2.ensures.closed c.requires.lanes
+    record {
+      answer = load_answer g.D.Disk g.W.Watching c.requires.started.0 c.close-disk-2.result.0 c.args.lanes.now c.args.workers c.value-valued.result.turn
+          c.args.basis.now started.0 c.args.pass c.run_lanes.new.pass c.value-valued.new.pass _ _ c.in-Ok.transcript c.value-valued.result.answer started.1
+          c.in-Ok.ensures.answered c.in-Ok.ensures.facts c.value-valued.ensures.valued c.close-disk-2.ensures.facts c.close-disk-2.ensures.closed c.requires.lanes;
+    }
 
 pub returns : goal.returns
 returns g c =
