@@ -2,8 +2,8 @@
 use Rattle.std.proofs.Common.{◌≡◌, ℕ, ◌+◌, ◌<◌, ◌==◌, Bool, true, false, cond, List, [], ◌∷◌, ◌++◌, length, map, take, refl, ap, sym, ◌∙◌, subst, inl, inr, arith}
 use Rattle.std.specs.Prelude.{nat_eq}
 use Rattle.std.specs.List.{AllByRecursion, AllZip, Contains, IsDistinct, cons_option, count_by, enumerate_from, filter, flat_map, sum_by}
-use Rattle.std.proofs.lemmas.Bool.{cond-false, cond-true, eq-eqb, eqb-false, false≢true, ne_eqb}
-use Rattle.std.proofs.lemmas.List.Sums.{sum_by-append, sum_by-cons}
+use Rattle.std.proofs.lemmas.Bool.{cond-false, cond-true, eq-eqb, eqb-false, ne_eqb}
+use Rattle.std.proofs.lemmas.List.Sums.{sum_by-cons}
 use Rattle.basis_book.specs.Dated.{Dated}
 use Rattle.policy_types.specs.declared.command.Command.{Command}
 use Rattle.policy_types.specs.declared.entry.Call.{Call}
@@ -15,11 +15,9 @@ use Rattle.policy_types.specs.declared.script.Line.{Line}
 use Rattle.policy_types.specs.declared.script.Line.TheVariants.{Post, Value, Trim}
 use Rattle.policy_types.specs.declared.script.Lane.{Lane}
 use Rattle.policy_machine.specs.History.{Opening, accepted_by, accepted_of, commands_after}
-use Rattle.policy_machine.specs.Merge.{AnswersLine, Placed, turns_of}
-use Rattle.office_state.specs.declared.answer.Answer.{Answer}
+use Rattle.policy_machine.specs.Merge.{AnswersLine, Placed}
 use Rattle.office_state.specs.declared.answer.Answer.TheVariants.{Accepted as AnAccepted, Refused as ARefused, DiskFault, NoMemory}
 use Rattle.lane_runner.specs.AnsweredLines.{AnsweredLine, AreLinesOf, AreOfLanes, AreRising, lines_by, turns_in}
-use Rattle.lane_runner.specs.Lanes.{lines_in}
 use Rattle.lane_runner.specs.Transcripts.{IsOutcome, IsTold}
 use Rattle.lane_runner.specs.declared.transcript.AnsweredLine.{AnsweredLine as ToldLine}
 use Rattle.lane_runner.specs.declared.transcript.Outcome.{Outcome}
@@ -27,7 +25,7 @@ use Rattle.lane_runner.specs.declared.transcript.Outcome.TheVariants.{Posted, Tr
 use Rattle.load_maker.specs.GeneratedLanes.{IsValidPosting}
 use Rattle.life_app.specs.Loading.{is_refusal, refused_in}
 use Rattle.life_app.specs.inside.Loaded.{accepted_lines, refused_lines, tells_accepted, tells_refused}
-use Rattle.life_app.proofs.ListSteps.{Has, has_of_contains, has_enumerate, has_filter, of_all, of_enumerate, of_filter}
+use Rattle.life_app.proofs.ListSteps.{Has, has_of_contains, of_all, of_filter}
 
 -- Sums over a list, key by key.
 module _ {A : Type 0} (key : A → ℕ) (size : A → ℕ) where

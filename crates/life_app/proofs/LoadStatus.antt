@@ -1,8 +1,7 @@
 -- What the exit status tells of a generated script, written or run
-use Rattle.std.proofs.Common.{◌≡◌, ℕ, ◌⊎◌, List, codes, refl, sym, ap, subst, inl, inr, Option, Some, pos}
+use Rattle.std.proofs.Common.{◌≡◌, ℕ, ◌⊎◌, List, codes, refl, ap, subst, inl, inr, Option, Some, pos}
 use Rattle.std.specs.Prelude.{IfSome}
 use Rattle.outside_io.specs.Faults.{Rose}
-use Rattle.outside_io.specs.Streams.{AppendsPart}
 use Rattle.outside_io.specs.declared.disks.Disk.{Ghosts}
 use Rattle.policy_types.specs.declared.command.Command.{Command}
 use Rattle.policy_types.specs.declared.entry.At.TheVariants.{Now}
@@ -12,7 +11,6 @@ use Rattle.policy_machine.specs.History.{Opening}
 use Rattle.basis_book.specs.Dated.{Dated}
 use Rattle.basis_shelf.specs.Bases.{IsBasis}
 use Rattle.basis_shelf.specs.FirstBad.{IsFirstBad}
-use Rattle.basis_shelf.specs.Lines.{bad_basis_text}
 use Rattle.basis_shelf.specs.declared.fault.BadBasis.{BadBasis as ABadBasis}
 use Rattle.basis_shelf.proofs.OneBasis.{basis_or_bad}
 use Rattle.load_maker.specs.GeneratedLanes.{generated_lanes}
@@ -21,10 +19,10 @@ use Rattle.office_state.proofs.OpeningSteps.{finished}
 use Rattle.life_app.specs.declared.ending.Ending.{Ending}
 use Rattle.life_app.specs.declared.ending.Ending.TheVariants.{Done, Usage, BadBasis, BadJournal, WriteFault, DiskFault, NoMemory, Ahead}
 use Rattle.life_app.specs.Generating.{EndsGenerate}
-use Rattle.life_app.specs.Loading.{EndsBegun, EndsLoad, EndsLoading, IsLoadOf}
+use Rattle.life_app.specs.Loading.{EndsLoad, EndsLoading, IsLoadOf}
 use Rattle.life_app.specs.Status.{status_of}
 use Rattle.life_app.specs.Valuing.{EndsNoBasis, SaysBadFile}
-use Rattle.life_app.specs.Writing.{Shelving, Stream, WroteOrFailed}
+use Rattle.life_app.specs.Writing.{Shelving, Stream}
 use Rattle.life_app.proofs.ReadOnlySteps.{opens_to_none}
 use Rattle.life_app.proofs.ValueStatus.{bad_refused, basis_refused}
 

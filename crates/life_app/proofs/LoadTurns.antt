@@ -1,13 +1,11 @@
 -- The turns of a valuation behind those of lanes: nobody else turned meanwhile
-use Rattle.std.proofs.Common.{◌≡◌, ◌≢◌, ℕ, zero, suc, ◌+◌, ◌-◌, ◌≤◌, ◌==◌, Bool, true, false, cond, List, [], ◌∷◌, ◌++◌, length, map, take, Option, Some, Result, refl, ap, sym, ◌∙◌, subst, inl, inr, arith, append-nil, length-append}
+use Rattle.std.proofs.Common.{◌≡◌, ◌≢◌, ℕ, ◌+◌, ◌==◌, false, List, [], ◌∷◌, ◌++◌, length, map, take, Some, Result, refl, ap, sym, ◌∙◌, subst, inl, inr, arith, append-nil, length-append}
 use Rattle.std.specs.Prelude.{nat_eq, slice_get}
 use Rattle.std.specs.List.{AllByRecursion, Contains, IsDistinct, enumerate_from, filter}
-use Rattle.std.proofs.lemmas.Bool.{cond-false, cond-true, eq-eqb, ne_eqb}
-use Rattle.std.proofs.lemmas.List.{map-append, take_all}
+use Rattle.std.proofs.lemmas.Bool.{cond-false, eq-eqb, ne_eqb}
 use Rattle.std.proofs.lemmas.List.Elements.{filter-append}
 use Rattle.std.proofs.Math.Seq.{take-append_seam}
 use Rattle.basis_book.specs.Dated.{Dated}
-use Rattle.policy_types.specs.declared.command.Command.{Command}
 use Rattle.policy_types.specs.declared.entry.At.TheVariants.{Now}
 use Rattle.policy_types.specs.declared.entry.Call.{Call}
 use Rattle.policy_types.specs.declared.entry.Call.TheVariants.{Pin}
@@ -18,7 +16,7 @@ use Rattle.policy_types.specs.declared.script.Lane.{Lane}
 use Rattle.policy_machine.specs.History.{IsDue, commands_after}
 use Rattle.policy_machine.specs.Merge.{AnswersLanes, AnswersLine, AnswersLines, Placed, turns_of}
 use Rattle.turn_lock.specs.History.{entries_of}
-use Rattle.turn_lock.specs.Passes.{Holding, OwnsAll, Page, PassFacts, callers as numbers_of, pages}
+use Rattle.turn_lock.specs.Passes.{Holding, OwnsAll, Page, PassFacts, callers as numbers_of}
 use Rattle.shared_office.specs.Offices.{IsOfficeHistory, OfficeOpening}
 use Rattle.snapshot_value.specs.Valuing.{HasValued, IsAnswered, dry_pins}
 use Rattle.snapshot_value.specs.declared.valuation.Valuation.{Valuation}
@@ -26,7 +24,7 @@ use Rattle.snapshot_value.specs.declared.valuation.ValueFault.{ValueFault}
 use Rattle.lane_runner.specs.Lanes.{lines_in}
 use Rattle.load_maker.specs.GeneratedLanes.{IsValidPosting}
 use Rattle.life_app.specs.Loading.{load_day, valuation_lane}
-use Rattle.life_app.proofs.ListSteps.{Has, all_and, all_has, has_filter, has_left, has_of_contains, of_all, of_filter, of_map}
+use Rattle.life_app.proofs.ListSteps.{Has, all_has, has_filter, has_of_contains, of_all, of_map}
 use Rattle.life_app.proofs.LoneSteps.{ArePostless, all_own, entries_in, postless_entries, same_first, same_rest}
 use Rattle.life_app.proofs.ToldSteps.{same_opened}
 use Rattle.life_app.proofs.TurnSteps.{due_at, posts, quiet_follow, quiet_pin, quiet_turns}

@@ -5,7 +5,6 @@ use Rattle.std.specs.List.{AllByRecursion, count_by}
 use Rattle.outside_io.specs.Faults.{Rose}
 use Rattle.outside_io.specs.Streams.{AppendsPart}
 use Rattle.policy_types.specs.declared.script.Lane.{Lane}
-use Rattle.office_state.specs.declared.answer.Answer.{Answer}
 use Rattle.office_state.specs.declared.answer.Answer.TheVariants.{Accepted, Refused}
 use Rattle.policy_value.specs.declared.worth.Row.{Row}
 use Rattle.snapshot_value.specs.declared.valuation.Valuation.{Valuation}
