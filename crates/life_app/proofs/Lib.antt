@@ -11,8 +11,14 @@ pub mod ToldSteps
 pub mod LoneSteps
 pub mod RunSteps
 pub mod LookSteps
+pub mod LoadCounts
+pub mod LoadLanes
+pub mod LoadTurns
+pub mod LoadPins
+pub mod LoadSteps
 pub mod StateSteps
 pub mod ReadingSteps
 pub mod ReadOnlySteps
 pub mod ValueStatus
+pub mod LoadStatus
 pub mod ProgramSteps

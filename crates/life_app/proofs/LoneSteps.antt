@@ -54,10 +54,10 @@ no_command (Read pin first) reply quiet = refl
 no_command (Unpin pin) reply quiet = refl
 no_command Trim reply quiet = refl
 
-abbrev ArePostless : List Entry → Type 0
+abbrev pub ArePostless : List Entry → Type 0
 ArePostless history = AllByRecursion (λ (entry : Entry). posts entry.call ≡ false) history
 
-none_accepted : (history : List Entry) → ArePostless history → accepted_of history ≡ []
+pub none_accepted : (history : List Entry) → ArePostless history → accepted_of history ≡ []
 none_accepted [] quiet = refl
 none_accepted (entry ∷ history) quiet =
     ap (λ first. cons_option first (accepted_of history)) (no_command entry.call entry.reply quiet.0) ∙ none_accepted history quiet.1
@@ -127,21 +127,21 @@ module _ {D : Type 0} (g : Ghosts D) (old new : D) (opening : Opening) (history 
   }
 
 -- where all turns are of one caller
-all_own : (caller n : ℕ) (history : List Entry) → AllByRecursion (λ (entry : Entry). entry.caller ≡ caller) history
+pub all_own : (caller n : ℕ) (history : List Entry) → AllByRecursion (λ (entry : Entry). entry.caller ≡ caller) history
     → filter (λ (turn : Placed). turn.1.caller == caller) (enumerate_from n history) ≡ enumerate_from n history
 all_own caller n [] own = refl
 all_own caller n (entry ∷ history) own =
     let here : (entry.caller == caller) ≡ true = eq-eqb entry.caller caller own.0 in
     cond-true (entry.caller == caller) _ _ here ∙ ap (λ later. (n, entry) ∷ later) (all_own caller (n + 1) history own.1)
 
-entries_in : (n : ℕ) (history : List Entry) → map (λ (turn : Placed). turn.1) (enumerate_from n history) ≡ history
+pub entries_in : (n : ℕ) (history : List Entry) → map (λ (turn : Placed). turn.1) (enumerate_from n history) ≡ history
 entries_in n [] = refl
 entries_in n (entry ∷ history) = ap (λ later. entry ∷ later) (entries_in (n + 1) history)
 
-same_first : {A : Type 0} (x y : A) (xs ys : List A) → x ∷ xs ≡ y ∷ ys → x ≡ y
+pub same_first : {A : Type 0} (x y : A) (xs ys : List A) → x ∷ xs ≡ y ∷ ys → x ≡ y
 same_first x y xs ys same = cc
 
-same_rest : {A : Type 0} (x y : A) (xs ys : List A) → x ∷ xs ≡ y ∷ ys → xs ≡ ys
+pub same_rest : {A : Type 0} (x y : A) (xs ys : List A) → x ∷ xs ≡ y ∷ ys → xs ≡ ys
 same_rest x y xs ys same = cc
 
 first_turn : (seen : List Entry) (pin : Placed) (later : List Placed) → enumerate_from 0 seen ≡ pin ∷ later
@@ -154,7 +154,7 @@ first_turn (entry ∷ seen) pin later same =
       ap (λ (p : Placed). p.1 ∷ seen) first ∙ ap (λ more. pin.1 ∷ more) (sym (entries_in 1 seen) ∙ ap (map (λ (turn : Placed). turn.1)) rest),
     )
 
-postless_entries : (turns : List Placed) → AllByRecursion (λ (turn : Placed). posts turn.1.call ≡ false) turns
+pub postless_entries : (turns : List Placed) → AllByRecursion (λ (turn : Placed). posts turn.1.call ≡ false) turns
     → ArePostless (map (λ (turn : Placed). turn.1) turns)
 postless_entries [] quiet = tt
 postless_entries (turn ∷ turns) quiet = (quiet.0, postless_entries turns quiet.1)

@@ -1,5 +1,5 @@
 -- What the exit status tells of the words, the script, the basis and the file
-use Rattle.std.proofs.Common.{◌≡◌, ℕ, ◌≤◌, ◌<◌, ◌⊎◌, ℤ, List, [], ◌∷◌, length, refl, ap, sym, ◌∙◌, subst, inl, inr, Option, None, Some, String, Global, arith}
+use Rattle.std.proofs.Common.{◌≡◌, ℕ, ◌≤◌, ◌<◌, ◌⊎◌, ℤ, List, [], ◌∷◌, length, refl, ap, sym, ◌∙◌, subst, inl, inr, Option, None, Some, String, Global, codes, arith}
 use Rattle.std.specs.Prelude.{◌==◌, if◌then◌else◌, IfSome, pos, true}
 use Rattle.std.proofs.lemmas.Bool.{cases_lt, false≢true}
 use Rattle.outside_io.specs.declared.disks.Disk.{Ghosts}
@@ -22,7 +22,7 @@ use Rattle.command_csv.proofs.OneReading.{one_reading as reads_once}
 use Rattle.life_args.proofs.Once.{words_ask_once}
 use Rattle.life_args.specs.Words.{AskFor, AskForNothing}
 use Rattle.life_args.specs.declared.mode.Mode.{Mode}
-use Rattle.life_args.specs.declared.mode.Mode.TheVariants.{Run, Value, State}
+use Rattle.life_args.specs.declared.mode.Mode.TheVariants.{Run, Value, State, Generate, Load}
 use Rattle.office_state.specs.Journals.{Opens, OpensToNone}
 use Rattle.office_state.proofs.OpeningSteps.{finished}
 use Rattle.life_app.specs.declared.ending.Ending.{Ending}
@@ -34,8 +34,9 @@ use Rattle.life_app.specs.Script.{EndsUnread, IsReadAs, IsReadable, IsRefused, I
 use Rattle.life_app.specs.Stating.{IsStated}
 use Rattle.life_app.specs.Status.{status_of}
 use Rattle.life_app.specs.Valuing.{EndsNoBasis, EndsValue, HasBadFile, HasItsBasis, IsAhead, IsPastTheEnd, SaysBadFile, position_of}
-use Rattle.life_app.specs.Words.{AskForRun, AskForState, AskForValue}
+use Rattle.life_app.specs.Words.{AskForGenerate, AskForLoad, AskForRun, AskForState, AskForValue}
 use Rattle.life_app.specs.Writing.{Shelving, Stream}
+use Rattle.life_app.proofs.LoadStatus.{generate_to_end, load_ahead, load_as_before, load_bad_file, load_refused, load_to_end, load_unfit, load_usage}
 use Rattle.life_app.proofs.ReadOnlySteps.{opens_to_none, read_as_before, read_refused, read_to_end}
 use Rattle.life_app.proofs.ValueStatus.{bad_refused, basis_refused, value_as_before, value_beyond, value_refused, value_to_end, value_unfit}
 
@@ -286,6 +287,8 @@ module _ {D : Type 0} (g : Ghosts D) (old new : D) (auditors : List Auditor) whe
     ]
     mode_usage (State None) ends = ends.2
     mode_usage (State (Some id)) ends = ends.2
+    mode_usage (Generate seed count lanes) ends = ends.3
+    mode_usage (Load seed count lanes workers) ends = load_usage g old new seed count lanes workers shelf output ends.1
 
     usage_only : Does g old new words auditors input output shelf InputStays ShelfStays Usage → AskForNothing words
     usage_only does = elim does [
@@ -299,7 +302,7 @@ module _ {D : Type 0} (g : Ghosts D) (old new : D) (auditors : List Auditor) whe
     mode_bad_file (Run name) asked ends = elim ends [
       | inl read ↦
           let bad = lanes_bad_file read.lanes name shelf output ShelfStays read.ends in
-          (name, (bad.1.0, inr (asked, (read.lanes, read.read, bad.0)), bad.1.1, bad.1.2))
+          (name, (bad.1.0, inr (inl (asked, (read.lanes, read.read, bad.0))), bad.1.1, bad.1.2))
       | inr unread ↦ absurd unread.2
     ]
     mode_bad_file (Value on at workers name) asked ends = elim ends.1 [
@@ -311,6 +314,10 @@ module _ {D : Type 0} (g : Ghosts D) (old new : D) (auditors : List Auditor) whe
     ]
     mode_bad_file (State None) asked ends = absurd ends.2
     mode_bad_file (State (Some id)) asked ends = absurd ends.2
+    mode_bad_file (Generate seed count lanes) asked ends = absurd ends.3
+    mode_bad_file (Load seed count lanes workers) asked ends =
+        let bad = load_bad_file g old new seed count lanes workers shelf output ends.1 in
+        (codes "basis.csv", (bad.0, inr (inr ((seed, (count, (lanes, (workers, asked)))), refl)), bad.1, bad.2))
 
     bad_file_only : Does g old new words auditors input output shelf InputStays ShelfStays BadBasis → HasBadFile words input.before shelf.files output
     bad_file_only does = elim does [
@@ -340,6 +347,8 @@ module _ {D : Type 0} (g : Ghosts D) (old new : D) (auditors : List Auditor) whe
     ]
     mode_ahead (State None) asked ends = absurd ends.2
     mode_ahead (State (Some id)) asked ends = absurd ends.2
+    mode_ahead (Generate seed count lanes) asked ends = absurd ends.3
+    mode_ahead (Load seed count lanes workers) asked ends = absurd (load_ahead g old new seed count lanes workers shelf output ends.1)
 
     past_the_end_only : Does g old new words auditors input output shelf InputStays ShelfStays Ahead → IsPastTheEnd g old words
     past_the_end_only does = elim does [
@@ -361,6 +370,9 @@ module _ {D : Type 0} (g : Ghosts D) (old new : D) (auditors : List Auditor) whe
     mode_as_before (State (Some id)) ending ends honest none =
         read_as_before g old new (IsStated g old new (policy_account id)) output ending ends.2 (never_stated (policy_account id) honest none)
         honest none
+    mode_as_before (Generate seed count lanes) ending ends honest none = ap g.reads ends.2
+    mode_as_before (Load seed count lanes workers) ending ends honest none =
+        load_as_before g old new seed count lanes workers shelf output ending ends.1 honest none
 
     module _ (ending : Ending) (does : Does g old new words auditors input output shelf InputStays ShelfStays ending) where
       ran : (name : List ℕ) → AskForRun words name → EndsRun g old new name auditors input output shelf ShelfStays ending ⊎ (status_of ending ≡ 9)
@@ -463,6 +475,43 @@ module _ {D : Type 0} (g : Ghosts D) (old new : D) (auditors : List Auditor) whe
         | inl ends ↦ read_refused g old new (IsStated g old new (policy_account id)) output ending ends.2 (never_stated (policy_account id) honest none) disk_held
         | inr without ↦ inr without
       ]
+
+      pub generated : AskForGenerate words → (Rose output.faults_before output.faults_after → ⊥)
+          → (status_of ending ≡ 0) ⊎ (status_of ending ≡ 9)
+      generated (seed, (count, (lanes, asked))) output_held = elim (as_asked ending does (Generate seed count lanes) asked) [
+        | inl ends ↦ generate_to_end seed count lanes output ending ends.3 output_held
+        | inr none ↦ inr none
+      ]
+
+      pub loaded : (files : List ℕ → Option (List ℕ)) (basis : List Dated) (commands : List Command) → AskForLoad words
+          → shelf.files ≡ Some files → IsBasis files (codes "basis.csv") basis → g.honest old → Opens (g.reads old) commands
+          → (Rose shelf.faults_before shelf.faults_after → ⊥) → (Rose output.faults_before output.faults_after → ⊥)
+          → (Rose (g.faults old) (g.faults new) → ⊥) → (status_of ending ≡ 0) ⊎ (status_of ending ≡ 9)
+      loaded files basis commands (seed, (count, (lanes, (workers, asked)))) told is honest opens shelf_held output_held disk_held =
+          elim (as_asked ending does (Load seed count lanes workers) asked) [
+            | inl ends ↦ load_to_end g old new seed count lanes workers shelf output files told ending basis commands ends.1 is honest opens
+                shelf_held output_held disk_held
+            | inr none ↦ inr none
+          ]
+
+      pub unloaded : (files : List ℕ → Option (List ℕ)) (basis : List Dated) → AskForLoad words
+          → shelf.files ≡ Some files → IsBasis files (codes "basis.csv") basis → g.honest old → OpensToNone (g.reads old)
+          → (Rose shelf.faults_before shelf.faults_after → ⊥) → (Rose (g.faults old) (g.faults new) → ⊥)
+          → (status_of ending ≡ 5) ⊎ (status_of ending ≡ 9)
+      unloaded files basis (seed, (count, (lanes, (workers, asked)))) told is honest none shelf_held disk_held =
+          elim (as_asked ending does (Load seed count lanes workers) asked) [
+            | inl ends ↦ load_refused g old new seed count lanes workers shelf output files told ending basis ends.1 is honest none shelf_held disk_held
+            | inr without ↦ inr without
+          ]
+
+      pub unfit_load : (bad : ABadBasis) (files : List ℕ → Option (List ℕ)) → AskForLoad words → shelf.files ≡ Some files
+          → IsFirstBad files (codes "basis.csv") bad → (Rose shelf.faults_before shelf.faults_after → ⊥)
+          → SaysBadFile bad output (status_of ending) ⊎ (status_of ending ≡ 9)
+      unfit_load bad files (seed, (count, (lanes, (workers, asked)))) told first shelf_held =
+          elim (as_asked ending does (Load seed count lanes workers) asked) [
+            | inl ends ↦ load_unfit g old new seed count lanes workers shelf output files told ending bad ends.1 first shelf_held
+            | inr none ↦ inr none
+          ]
 
       -- the script was read as these lanes
       one_reading : (bytes : List ℕ) (lanes read : List Lane) → input.before ≡ Some bytes → Reads bytes lanes → IsReadAs input.before read → read ≡ lanes

@@ -61,7 +61,7 @@ line_turn answered history (lane ∷ lanes) (caller ∷ callers) one turn are (i
     line_turn answered history lanes callers one turn are.2 later has there
 
 -- and its line is one of a lane's
-line_in : (answered : List AnsweredLine) (history : List Entry) (lanes : List Lane) (callers : List ℕ) (one : AnsweredLine)
+pub line_in : (answered : List AnsweredLine) (history : List Entry) (lanes : List Lane) (callers : List ℕ) (one : AnsweredLine)
     → AreOfLanes answered history lanes callers → Has (map (λ (lane : Lane). lane.number) lanes) one.clerk → Has answered one
     → Has (lines_in lanes) one.line
 line_in answered history [] callers one are clerk has = absurd clerk
@@ -91,7 +91,7 @@ turn_line answered history (lane ∷ lanes) (other ∷ callers) entry are (inr l
     turn_line answered history lanes callers entry are.2 later has
 
 -- each caller's number of its page
-page_numbers : (history : List Entry) (ns : List ℕ) → map (λ (page : Page). page.0) (map (λ n. (n, entries_of history n)) ns) ≡ ns
+pub page_numbers : (history : List Entry) (ns : List ℕ) → map (λ (page : Page). page.0) (map (λ n. (n, entries_of history n)) ns) ≡ ns
 page_numbers history [] = refl
 page_numbers history (n ∷ ns) = ap (λ more. n ∷ more) (page_numbers history ns)
 

@@ -7,6 +7,8 @@ pub mod Outcome
 pub mod Books
 pub mod Stating
 pub mod Valuing
+pub mod Generating
+pub mod Loading
 pub mod Obeys
 pub mod Crashes
 pub mod Worked

@@ -8,6 +8,8 @@ use Rattle.watcher_set.specs.Noted.{Auditor}
 use Rattle.basis_book.specs.Dated.{Dated}
 use Rattle.basis_shelf.specs.Bases.{IsBasis}
 use Rattle.life_app.specs.Books.{books_text, policy_account}
+use Rattle.life_app.specs.Generating.{EndsGenerate}
+use Rattle.life_app.specs.Loading.{EndsLoad}
 use Rattle.life_app.specs.Outcome.{EndsScript}
 use Rattle.life_app.specs.Script.{EndsUnread, IsReadAs, asks_for_values}
 use Rattle.life_app.specs.Stating.{EndsState}
@@ -18,7 +20,7 @@ use Rattle.life_app.specs.declared.ending.Ending.{Ending}
 use Rattle.life_app.specs.declared.ending.Ending.TheVariants.{Usage, NoMemory}
 use Rattle.life_args.specs.Words.{AskFor, AskForNothing}
 use Rattle.life_args.specs.declared.mode.Mode.{Mode}
-use Rattle.life_args.specs.declared.mode.Mode.TheVariants.{Run, Value, State}
+use Rattle.life_args.specs.declared.mode.Mode.TheVariants.{Run, Value, State, Generate, Load}
 
 -- the shelf has this basis under the name, and a script's run ended so by it
 pub record EndsScriptBy {D : Type 0} (g : Ghosts D) (old new : D) (lanes : List Lane) (name : List ℕ) (auditors : List Auditor)
@@ -55,7 +57,8 @@ EndsRun g old new name auditors input output shelf ShelfStays ending =
     EndsRead g old new name auditors input output shelf ShelfStays ending
     ⊎ ((new ≡ old) × ShelfStays × EndsUnread input output ending)
 
--- how each mode ends; `run` alone reads the input and has the auditors told, and `state` leaves the shelf
+-- how each mode ends; `run` alone reads the input and has the auditors told, `state` leaves the shelf, and `generate` the
+-- disk too
 abbrev pub EndsMode : {D : Type 0} → Ghosts D → D → D → Mode → List Auditor → Stream → Stream → Shelving
     → (InputStays ShelfStays : Type 0) → Ending → Type 0
 EndsMode g old new (Run basis) auditors input output shelf InputStays ShelfStays ending =
@@ -66,6 +69,10 @@ EndsMode g old new (State None) auditors input output shelf InputStays ShelfStay
     InputStays × ShelfStays × EndsState g old new books_text output ending
 EndsMode g old new (State (Some id)) auditors input output shelf InputStays ShelfStays ending =
     InputStays × ShelfStays × EndsState g old new (policy_account id) output ending
+EndsMode g old new (Generate seed count lanes) auditors input output shelf InputStays ShelfStays ending =
+    InputStays × ShelfStays × (new ≡ old) × EndsGenerate seed count lanes output ending
+EndsMode g old new (Load seed count lanes workers) auditors input output shelf InputStays ShelfStays ending =
+    InputStays × EndsLoad g old new seed count lanes workers shelf output ending
 
 -- why the words weren't obeyed, in a line: they ask for nothing, or there was no memory to read them
 abbrev pub SaysUnasked : List (String Global) → Stream → Ending → Type 0

@@ -22,7 +22,7 @@ use Rattle.office_state.specs.Images.{IsLeftBy}
 use Rattle.office_state.specs.Journals.{Opens}
 use Rattle.life_app.specs.Script.{IsReadAs, asks_for_values}
 use Rattle.life_app.specs.Stating.{EndsReadOnly}
-use Rattle.life_app.specs.Words.{AskForRun, AskForValue}
+use Rattle.life_app.specs.Words.{AskForLoad, AskForRun, AskForValue}
 use Rattle.life_app.specs.Writing.{Shelving, Stream, WroteLine, WroteOrFailed}
 use Rattle.life_app.specs.declared.ending.Ending.{Ending}
 use Rattle.life_app.specs.declared.ending.Ending.TheVariants.{Ahead, BadBasis as NoRightBasis, NoMemory, ReadFault}
@@ -88,11 +88,13 @@ abbrev pub EndsValue : {D : Type 0} → Ghosts D → D → D → ℤ → At → 
 EndsValue g old new on at name shelf output ending =
     EndsByBasis g old new on at name shelf output ending ⊎ ((new ≡ old) × EndsNoBasis name shelf output ending)
 
--- the words need the basis of this name: they ask for values, or to run a script of which a line does
+-- the words need the basis of this name: they ask for values, or to run a script of which a line does, or to run a
+-- generated script
 abbrev pub NeedBasis : List (String Global) → Option (List ℕ) → List ℕ → Type 0
 NeedBasis words script name =
     ((on : ℤ) × ((at : At) × AskForValue words on at name))
     ⊎ (AskForRun words name × ((lanes : List Lane) × IsReadAs script lanes × (asks_for_values lanes ≡ true)))
+    ⊎ (AskForLoad words × (name ≡ codes "basis.csv"))
 
 -- the words need a basis of which a file is bad, and the first bad one is named
 abbrev pub HasBadFile : List (String Global) → Option (List ℕ) → Option (List ℕ → Option (List ℕ)) → Stream → Type 0

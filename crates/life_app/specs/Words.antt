@@ -3,7 +3,7 @@ use Rattle.std.specs.Prelude.{ℕ, ℤ, List, Option, String}
 use Rattle.std.specs.Global.{Global}
 use Rattle.policy_types.specs.declared.entry.At.{At}
 use Rattle.life_args.specs.Words.{AskFor}
-use Rattle.life_args.specs.declared.mode.Mode.TheVariants.{Run, Value, State}
+use Rattle.life_args.specs.declared.mode.Mode.TheVariants.{Run, Value, State, Generate, Load}
 
 -- the words ask to run a script, with the basis of this name for its valuations
 abbrev pub AskForRun : List (String Global) → List ℕ → Type 0
@@ -16,3 +16,12 @@ AskForState words = (id : Option ℕ) × AskFor words (State id)
 -- the words ask for the values on a day, at a position, by the basis of this name
 abbrev pub AskForValue : List (String Global) → ℤ → At → List ℕ → Type 0
 AskForValue words on at name = (workers : ℕ) × AskFor words (Value on at workers name)
+
+-- the words ask to write a generated script
+abbrev pub AskForGenerate : List (String Global) → Type 0
+AskForGenerate words = (seed : ℕ) × ((count : ℕ) × ((lanes : ℕ) × AskFor words (Generate seed count lanes)))
+
+-- the words ask to run a generated script and to value its policies
+abbrev pub AskForLoad : List (String Global) → Type 0
+AskForLoad words =
+    (seed : ℕ) × ((count : ℕ) × ((lanes : ℕ) × ((workers : ℕ) × AskFor words (Load seed count lanes workers))))

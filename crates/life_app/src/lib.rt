@@ -8,8 +8,12 @@ mod clerk_tests;
 #[cfg(test)]
 mod disk_tests;
 mod ending;
+mod generate;
 mod intake;
 mod laws;
+mod load;
+#[cfg(test)]
+mod load_tests;
 #[cfg(test)]
 mod policy_tests;
 mod program;

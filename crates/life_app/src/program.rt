@@ -1,5 +1,5 @@
 // The top call: all that the program does, over any devices.
-ghost use Rattle.std.specs.Prelude.{◌≡◌, ◌≤◌, ◌<◌, ◌⊎◌, ℕ, ℤ, true, List, [], map, Option, Some, IfSome, length};
+ghost use Rattle.std.specs.Prelude.{◌≡◌, ◌≤◌, ◌<◌, ◌⊎◌, ℕ, ℤ, true, List, [], map, Option, Some, IfSome, length, codes};
 ghost use Rattle.std.specs.List.{AllByRecursion};
 ghost use Rattle.outside_io.specs.Faults.{Rose};
 ghost use Rattle.policy_types.specs.declared.command.Command.{Command as ACommand};
@@ -17,13 +17,15 @@ ghost use Rattle.watcher_set.specs.Limits.{most_watchers};
 ghost use Rattle.life_app.specs.Obeys.{Does, Obeys};
 ghost use Rattle.life_app.specs.Script.{IsUnreadable, asks_for_values};
 ghost use Rattle.life_app.specs.Valuing.{HasBadFile, HasItsBasis, IsPastTheEnd, SaysBadFile, position_of};
-ghost use Rattle.life_app.specs.Words.{AskForRun, AskForState, AskForValue};
+ghost use Rattle.life_app.specs.Words.{AskForGenerate, AskForLoad, AskForRun, AskForState, AskForValue};
 ghost use Rattle.life_app.specs.Writing.{between, shelf_between};
 ghost use Rattle.life_app.specs.inside.Valued.{SaysNoMode};
 
 use crate::account::account;
 use crate::auditors::Auditors;
 use crate::ending::Ending;
+use crate::generate::generate;
+use crate::load::load;
 use crate::refusing::say;
 use crate::run::{Finished, run};
 use crate::state::state;
@@ -45,7 +47,8 @@ pub struct Ended<D> {
 /// Does what the words ask for. The words `run` read a script from the input to its end, fetch a basis from the shelf where
 /// a line asks for values, open the office on the disk, answer each line, and write the transcript, and behind it what the
 /// watchers report of the accepted postings; `value` fetches a basis from the shelf, opens the office and writes what each
-/// policy is worth; `state` writes the books. Where nothing is run the watchers are dropped.
+/// policy is worth; `state` writes the books; `generate` writes a generated script; `load` runs one, values all policies
+/// then, and writes a line about it. But in `run` the watchers are dropped.
 pub fn life<R: Threads + Wait + Sync, S: Source, K: Sink, H: Shelf, D: Disk + Send, G: Gate + Sync>(
     rt: &R,
     alloc: Global,
@@ -146,6 +149,30 @@ pub fn life<R: Threads + Wait + Sync, S: Source, K: Sink, H: Shelf, D: Disk + Se
         → (Rose (H.faults shelf.old) (H.faults shelf.new) → ⊥)
         → (Rose (D.faults disk) (D.faults result.disk) → ⊥)
         → (result.status ≡ 5) ⊎ (result.status ≡ 9) }
+
+    // A generated script is written to an output that doesn't fail, but for want of memory.
+    ensures generated { AskForGenerate words.now
+        → (Rose (K.faults output.old) (K.faults output.new) → ⊥) → (result.status ≡ 0) ⊎ (result.status ≡ 9) }
+
+    // A generated script is run and valued where the shelf has the basis and the disk's file opens to some commands, on
+    // devices that don't fail, and is refused with 5 where the file opens to none, but for want of memory.
+    ensures loaded { (files : List ℕ → Option (List ℕ)) (basis : List AnEntry) (commands : List ACommand) → AskForLoad words.now
+        → H.files shelf.old ≡ Some files → IsBasis files (codes "basis.csv") basis
+        → D.honest disk → Opens (D.reads disk) commands
+        → (Rose (H.faults shelf.old) (H.faults shelf.new) → ⊥)
+        → (Rose (K.faults output.old) (K.faults output.new) → ⊥)
+        → (Rose (D.faults disk) (D.faults result.disk) → ⊥)
+        → (result.status ≡ 0) ⊎ (result.status ≡ 9) }
+    ensures unloaded { (files : List ℕ → Option (List ℕ)) (basis : List AnEntry) → AskForLoad words.now
+        → H.files shelf.old ≡ Some files → IsBasis files (codes "basis.csv") basis
+        → D.honest disk → OpensToNone (D.reads disk)
+        → (Rose (H.faults shelf.old) (H.faults shelf.new) → ⊥)
+        → (Rose (D.faults disk) (D.faults result.disk) → ⊥)
+        → (result.status ≡ 5) ⊎ (result.status ≡ 9) }
+    ensures unfit_load { (bad : ABadBasis) (files : List ℕ → Option (List ℕ)) → AskForLoad words.now
+        → H.files shelf.old ≡ Some files → IsFirstBad files (codes "basis.csv") bad
+        → (Rose (H.faults shelf.old) (H.faults shelf.new) → ⊥)
+        → SaysBadFile bad (between K.faults K.written output.old output.new) result.status ⊎ (result.status ≡ 9) }
 {
     let watchers = Auditors::new(watchers);
     let finished = obey(rt, alloc, words, input, output, shelf, disk, watchers, gate);
@@ -198,6 +225,20 @@ fn obey<
         ),
         Ok(Mode::State { id: None }) => state(alloc, output, disk),
         Ok(Mode::State { id: Some(id) }) => account(alloc, id, output, disk),
+        Ok(Mode::Generate { seed, count, lanes }) => Finished {
+            ending: generate(alloc, seed, count, lanes, output),
+            disk,
+        },
+        Ok(
+            Mode::Load {
+                seed,
+                count,
+                lanes,
+                workers,
+            },
+        ) => load(
+            rt, alloc, seed, count, lanes, workers, output, shelf, disk, gate,
+        ),
         Err(fault) => Finished {
             ending: refuse_words(fault, output),
             disk,

@@ -240,8 +240,8 @@ fn write_lines<K: Sink>(
     }
 }
 
-// The ending of a run whose transcript is written.
-fn ending_of(lines: &[AnsweredLine]) -> Ending
+/// The ending of a run whose transcript is written.
+pub fn ending_of(lines: &[AnsweredLine]) -> Ending
     ensures { result ≡ (if any_faulted lines.now then DiskFault
         else if any_lacked lines.now then NoRoom else Done) }
 {

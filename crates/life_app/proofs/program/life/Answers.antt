@@ -46,3 +46,15 @@ returns-clause-unvalued g c = rw c.status.ensures (step.unvalued g.D.Disk c.args
 
 pub returns-clause-unfit_run : goal.returns-clause-unfit_run
 returns-clause-unfit_run g c = rw c.status.ensures (step.unfit_run g.D.Disk c.args.disk c.obey-finished.result.disk _ c.args.words.now _ _ _ _ _ c.obey-finished.result.ending c.obey-finished.ensures.does)
+
+pub returns-clause-generated : goal.returns-clause-generated
+returns-clause-generated g c = rw c.status.ensures (step.generated g.D.Disk c.args.disk c.obey-finished.result.disk _ c.args.words.now _ _ _ _ _ c.obey-finished.result.ending c.obey-finished.ensures.does)
+
+pub returns-clause-loaded : goal.returns-clause-loaded
+returns-clause-loaded g c = rw c.status.ensures (step.loaded g.D.Disk c.args.disk c.obey-finished.result.disk _ c.args.words.now _ _ _ _ _ c.obey-finished.result.ending c.obey-finished.ensures.does)
+
+pub returns-clause-unloaded : goal.returns-clause-unloaded
+returns-clause-unloaded g c = rw c.status.ensures (step.unloaded g.D.Disk c.args.disk c.obey-finished.result.disk _ c.args.words.now _ _ _ _ _ c.obey-finished.result.ending c.obey-finished.ensures.does)
+
+pub returns-clause-unfit_load : goal.returns-clause-unfit_load
+returns-clause-unfit_load g c = rw c.status.ensures (step.unfit_load g.D.Disk c.args.disk c.obey-finished.result.disk _ c.args.words.now _ _ _ _ _ c.obey-finished.result.ending c.obey-finished.ensures.does)
