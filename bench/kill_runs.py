@@ -173,6 +173,7 @@ def reopen(office, count, new, drawn):
     status = office.start(taken + [new], "reopened").wait()
     wanted = "".join("1,issue,%d,refused,taken\n" % policy for policy in taken)
     wanted += "1,issue,%d,accepted,%d\n" % (new, count + 1)
+    wanted += "watcher,1,1,1\nwatcher,2,1,0\n"
     answered = read_bytes(office.path("reopened.out")).decode("latin-1")
     need(status == 0, "status %d on reopening, with %r" % (status, answered))
     need(answered == wanted, "the answers on reopening are %r, wanted %r" % (answered, wanted))

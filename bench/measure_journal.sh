@@ -51,7 +51,7 @@ def run(words, script=os.devnull):
     with open(script) as lines:
         start = time.perf_counter()
         ran = subprocess.run(words, stdin=lines, stdout=subprocess.PIPE, check=True)
-        return ran.stdout.decode().splitlines()[-1:], time.perf_counter() - start
+        return ran.stdout.decode().splitlines()[-3:-2], time.perf_counter() - start
 
 def remove(*names):
     for name in names:

@@ -52,7 +52,7 @@ echo "badjournal,notajournal" >"$work/notajournal"
 printf 'AAAAAAAAAAAAAAAAAA' >"$work/foreign"
 mkdir "$work/made" && (cd "$work/made" && "$program" run <"$script" >"$work/transcript")
 cp "$work/made/journal.life" "$work/journal"
-sed 's/accepted,[0-9]*/refused,taken/' "$work/transcript" >"$work/taken"
+sed -e 's/accepted,[0-9]*/refused,taken/' -e 's/^\(watcher,[12]\),.*/\1,0,0/' "$work/transcript" >"$work/taken"
 
 # the program itself, and the launcher, whose own commands must not take such a place either
 while read -r closed before status printed after; do

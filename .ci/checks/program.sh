@@ -41,10 +41,13 @@ leaves_none() {
 first=$root/examples/first-issues
 second=$root/examples/second-day
 nothing=$work/nothing
+none_watched=$work/none-watched
 empty=$work/empty
 front=$work/front
 one_day=$work/one-day
 : >"$nothing"
+# what the two auditors of the program report of a run that accepts nothing
+printf 'watcher,1,0,0\nwatcher,2,0,0\n' >"$none_watched"
 # a journal without records, and the front of one with policy 7001, by hand from docs/FORMATS.md
 printf '\001LIFEJRNL\000\001\000\100\000\000\000\000\000' >"$empty"
 {
@@ -68,13 +71,13 @@ judge $? 0 "$second.transcript"
 
 begin "empty script"
 "$root/life" run </dev/null >out
-judge $? 0 "$nothing"
+judge $? 0 "$none_watched"
 leaves "$empty"
 
 begin "unfinished creation"
 head -c 10 /dev/zero >journal.life
 "$root/life" run </dev/null >out
-judge $? 0 "$nothing"
+judge $? 0 "$none_watched"
 leaves "$empty"
 
 begin "foreign file"
@@ -134,12 +137,14 @@ begin "size limit"
 for n in 1 2 3 4 5 6 7 8 9; do echo "1,issue,$n,2020-01-01,endowment,0,3,1000.00,400.00"; done >nine.csv
 for n in 1 2 3 4 5 6 7; do echo "1,issue,$n,accepted,$n"; done >wanted
 for n in 8 9; do echo "1,issue,$n,fault"; done >>wanted
+printf 'watcher,1,7,7\nwatcher,2,7,0\n' >>wanted
 (ulimit -f 1 && "$root/life" run <nine.csv >out)
 judge $? 8 wanted
 {
     head -n 7 wanted | sed 's/accepted,.*/refused,taken/'
     echo "1,issue,8,accepted,8"
     echo "1,issue,9,accepted,9"
+    printf 'watcher,1,2,2\nwatcher,2,2,0\n'
 } >again
 "$root/life" run <nine.csv >out
 judge $? 0 again

@@ -42,7 +42,7 @@ for round in range(ROUNDS):
     ended = [end(run) for run in runs]
     accepted = []
     for (status, out), first in zip(ended, (1, 1 + POSTINGS)):
-        lines = out.splitlines()
+        lines = [line for line in out.splitlines() if not line.startswith("watcher,")]
         if status == 8 and lines == ["diskfault"]:
             met += 1
         elif status == 0 and len(lines) == POSTINGS and all(",accepted," in line for line in lines):
