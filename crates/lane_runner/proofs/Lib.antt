@@ -5,3 +5,4 @@ pub mod RunSteps
 pub mod MergeSteps
 pub mod LaneSteps
 pub mod FirstPass
+pub mod Crossing

@@ -3,7 +3,7 @@ use Rattle.std.proofs.Common.{◌≡◌, ℕ, zero, suc, ◌+◌, ◌-◌, ◌�
 use Rattle.std.specs.Prelude.{◌||◌, slice_get}
 use Rattle.std.specs.List.{AllByRecursion, AllZip, Contains, enumerate_from, filter, flat_map, list_any}
 use Rattle.std.proofs.lemmas.Bool.{cond-false, cond-true}
-use Rattle.std.proofs.lemmas.List.Elements.{Contains-append_cases, Contains-push_cases}
+use Rattle.std.proofs.lemmas.List.Elements.{Contains-append_cases, Contains-append_right, Contains-push_cases}
 
 -- x is one of the list
 abbrev pub Has : {A : Type 0} → List A → A → Type 0
@@ -23,9 +23,7 @@ has_of_contains (y ∷ ys) x among = elim (Contains-append_cases (y ∷ []) ys x
 pub contains_of_has : {A : Type 0} (xs : List A) (x : A) → Has xs x → Contains xs x
 contains_of_has [] x has = absurd has
 contains_of_has (y ∷ ys) x (inl same) = (0, omega arith, same)
-contains_of_has (y ∷ ys) x (inr later) =
-    let there = contains_of_has ys x later in
-    (there.0 + 1, (let below = there.1 in omega (arith, below)), there.2)
+contains_of_has (y ∷ ys) x (inr later) = Contains-append_right (y ∷ []) ys x (contains_of_has ys x later)
 
 -- what holds of all is what holds of each
 pub all_has : {A : Type 0} (P : A → Type 0) (xs : List A) → ((x : A) → Has xs x → P x) → AllByRecursion P xs
@@ -76,12 +74,12 @@ of_map f (x ∷ xs) y (inl same) = (x, inl refl, same)
 of_map f (x ∷ xs) y (inr later) = let found = of_map f xs y later in (found.0, inr found.1, found.2)
 
 pub has_filter : {A : Type 0} (p : A → Bool) (xs : List A) (x : A) → p x ≡ true → Has xs x → Has (filter p xs) x
-has_filter p [] x yes has = absurd has
-has_filter p (y ∷ ys) x yes (inl same) =
-    let here : p y ≡ true = ap p same ∙ yes in
+has_filter p [] x passes has = absurd has
+has_filter p (y ∷ ys) x passes (inl same) =
+    let here : p y ≡ true = ap p same ∙ passes in
     let kept : filter p (y ∷ ys) ≡ y ∷ filter p ys = cond-true (p y) _ _ here in
     subst (λ l. Has l x) (sym kept) (inl same)
-has_filter {A = A} p (y ∷ ys) x yes (inr later) = by (p y) refl (has_filter p ys x yes later)
+has_filter {A = A} p (y ∷ ys) x passes (inr later) = by (p y) refl (has_filter p ys x passes later)
   where
     by : (b : Bool) → p y ≡ b → Has (filter p ys) x → Has (filter p (y ∷ ys)) x
     by true is there =

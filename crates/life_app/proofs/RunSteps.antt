@@ -141,7 +141,7 @@ module _ {D W : Type 0} (g : Ghosts D) (w : WatcherGhosts W) (old disk : D) (lan
   pub ends_ran : (ran : Result Transcript Lack) (output : Stream) (ending : Ending) → IfOk ran (HasAnsweredLanes basis lanes first closing)
       → OnErr ran (closing ≡ first) → EndsRan ran reports output ending → EndsScript g old disk lanes basis auditors output ending
   ends_ran (Ok transcript) output ending answered same ends = ends_told transcript answered output ending ends
-  ends_ran (Err lack) output NoMemory answered same ends = inl (ends, untouched same)
+  ends_ran (Err lack) output NoMemory answered same ends = let left = untouched same in inl (ends, left.0, left.1)
   ends_ran (Err lack) output _ answered same ends = absurd ends
 
 refused_long : (told : Option (List ℕ)) (output : Stream) → IfSome told (λ t. most_script_bytes < length t)

@@ -1,8 +1,9 @@
 -- How `value` ends, by what its parts did
-use Rattle.std.proofs.Common.{◌≡◌, ℕ, ◌≤◌, ◌<◌, ℤ, List, [], ◌++◌, length, take, refl, ap, sym, ◌∙◌, subst, inl, inr, Option, Some, Result, Ok, Err, arith}
-use Rattle.std.specs.Prelude.{IfSome}
-use Rattle.std.specs.List.{AllZip}
-use Rattle.std.proofs.lemmas.List.Elements.{All-weaker}
+use Rattle.std.proofs.Common.{◌≡◌, ℕ, ◌≤◌, ◌<◌, ℤ, List, [], ◌++◌, length, take, get_or, refl, ap, sym, ◌∙◌, subst, inl, inr, Option, Some, Result, Ok, Err, arith}
+use Rattle.std.specs.Prelude.{IfSome, slice_get}
+use Rattle.std.specs.List.{AllByRecursion, AllZip}
+use Rattle.std.proofs.lemmas.List.Elements.{All-from_recursion, All-weaker}
+use Rattle.std.proofs.lemmas.Option.{slice_get-get_or}
 use Rattle.outside_io.specs.Faults.{Rose}
 use Rattle.outside_io.specs.Streams.{AppendsPart}
 use Rattle.outside_io.specs.declared.disks.Disk.{Ghosts}
@@ -18,7 +19,11 @@ use Rattle.policy_types.specs.declared.entry.PinRefusal.{PinRefusal}
 use Rattle.policy_types.specs.declared.entry.PinRefusal.TheVariants.{Ahead as PastTheEnd, Trimmed, PinsFull}
 use Rattle.policy_types.specs.declared.entry.Reply.{Reply}
 use Rattle.policy_types.specs.declared.entry.Reply.TheVariants.{Accepted, Refused, Faulted, Pinned, PinRefused, Slice, Unpinned, Floor, Blank}
+use Rattle.policy_types.specs.declared.policy.Policy.{Policy}
+use Rattle.policy_types.specs.Valid.{IsValid}
 use Rattle.policy_machine.specs.Book.{book}
+use Rattle.policy_machine.specs.Rules.{IsSound}
+use Rattle.policy_machine.proofs.BookLemmas.{book-sound}
 use Rattle.policy_machine.specs.History.{Opening, IsDue, commands_after, opened_on}
 use Rattle.policy_machine.specs.Merge.{pin_call}
 use Rattle.policy_value.specs.Rows.{IsWithin}
@@ -38,6 +43,16 @@ use Rattle.life_app.specs.Valuing.{EndsNoBasis, EndsValuing, IsBeyond, IsValuati
 use Rattle.life_app.specs.Writing.{Shelving, Stream, WroteAll}
 use Rattle.life_app.specs.inside.Told.{IsWritableBlock}
 use Rattle.life_app.specs.inside.Valued.{EndsAnswer, EndsValued, IsLoneAnswer, SaysAhead, SaysNoBasis}
+use Rattle.life_app.proofs.ListSteps.{all_take}
+
+-- the policies of valid commands are sound, each of them
+pub policy_sound : (commands : List Command) (position index : ℕ) (policy : Policy) → AllByRecursion IsValid commands
+    → index < length (book (take position commands)) → slice_get (book (take position commands)) index ≡ Some policy → IsSound policy
+policy_sound commands position index policy valid within here =
+    let policies = book (take position commands) in
+    let sound = All-from_recursion IsSound policies (book-sound (take position commands) (all_take IsValid position commands valid)) in
+    let same : get_or policies index policy ≡ policy = (let found = slice_get-get_or policies index policy within in cc) in
+    subst IsSound same (sound index policy within)
 
 -- bounds within an amount of insurance can be added up
 pub within_summable : (amount : ℕ) (worth : Worth) → amount ≤ 10000000000 → IsWithin amount worth → IsSummable worth

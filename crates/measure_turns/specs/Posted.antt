@@ -4,8 +4,9 @@ use Rattle.outside_io.specs.declared.disks.Disk.{Ghosts}
 use Rattle.policy_types.specs.declared.entry.Entry.{Entry}
 use Rattle.policy_types.specs.declared.entry.Reply.{Reply}
 use Rattle.policy_types.specs.declared.entry.Reply.TheVariants.{Accepted}
+use Rattle.policy_machine.specs.History.{Opening}
 use Rattle.office_state.specs.Images.{IsLeftBy}
-use Rattle.shared_office.specs.Offices.{OfficeOpening, IsOfficeHistory}
+use Rattle.shared_office.specs.Offices.{IsOfficeHistory}
 
 abbrev pub is_acceptance : Reply → Bool
 is_acceptance (Accepted count) = true
@@ -15,13 +16,12 @@ is_acceptance _ = false
 abbrev pub accepts : Entry → Bool
 accepts entry = is_acceptance entry.reply
 
--- The office of this disk had a legal history of so many turns, of which so many were acceptances, and the disk is left
--- by it
-pub record HasPosted {D : Type 0} (g : Ghosts D) (old new : D) (turns accepted : ℕ) : Type 0 where
-  pub opening : OfficeOpening D
-  pub begun : opening.begun ≡ old
+-- The office of this disk, with these watchers, had a legal history of so many turns, of which so many were acceptances,
+-- and the disk is left by it
+pub record HasPosted {D W : Type 0} (g : Ghosts D) (old : D) (watchers : W) (new : D) (turns accepted : ℕ) : Type 0 where
+  pub opening : Opening
   pub history : List Entry
-  pub legal : IsOfficeHistory opening history
-  pub disk : IsLeftBy g old new opening.opening history
+  pub legal : IsOfficeHistory (record { opening = opening; begun = old; watchers = watchers }) history
+  pub disk : IsLeftBy g old new opening history
   pub turns_are : length history ≡ turns
   pub accepted_are : count_by accepts history ≡ accepted

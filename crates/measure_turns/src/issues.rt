@@ -1,5 +1,5 @@
 // Callers that issue policies through the office that they share.
-ghost use Rattle.std.specs.Prelude.{◌≡◌, ◌≤◌, ◌^◌, ◌*◌, IfOk, IfErr, cond};
+ghost use Rattle.std.specs.Prelude.{◌≡◌, ◌≤◌, ◌^◌, ◌*◌, [], IfOk, IfErr, cond};
 ghost use Rattle.policy_types.specs.Valid.{IsId, IsValid};
 ghost use Rattle.office_state.specs.Posting.{reply_of};
 ghost use Rattle.office_state.specs.Opening.{HasNotOpened};
@@ -12,7 +12,7 @@ use shared_office::{Answer, Office, OfficeCalls, OfficePass, SharedState, StartF
 use std::alloc::Global;
 use std::sync::Wait;
 use std::thread::Threads;
-use watcher_set::{NoWatchers, Watching};
+use watcher_set::Watching;
 
 /// Callers that issue so many policies each.
 #[derive(Clone, Copy)]
@@ -28,13 +28,7 @@ impl<D: Disk, W: Watching, R: Wait> Lane<SharedState<D, W>, R> for Issues {
 
     ghost counts = { accepts };
 
-    fn run(
-        &self,
-        rt: &R,
-        gate: &Office<D, W>,
-        pass: &mut OfficePass<D, W>,
-        place: u32,
-    ) -> u64 {
+    fn run(&self, rt: &R, gate: &Office<D, W>, pass: &mut OfficePass<D, W>, place: u32) -> u64 {
         let mut done = 0;
         let mut accepted = 0;
         while done < self.each {
@@ -73,21 +67,23 @@ fn issue(id: u32) -> Command
     }
 }
 
-/// So many callers issue so many policies each at the office of the disk's journal. Gives the disk back, and how many
-/// were accepted. The caller of place `p` issues the numbers `p + 1`, `p + 33`, `p + 65` and so on.
-pub fn post_issues<D: Disk + Send, R: Threads + Wait + Sync>(
+/// So many callers issue so many policies each at the office of the disk's journal, which tells the watchers. Gives the
+/// disk back, and how many were accepted. The caller of place `p` issues the numbers `p + 1`, `p + 33`, `p + 65` and so on.
+pub fn post_issues<D: Disk + Send, W: Watching + Send, R: Threads + Wait + Sync>(
     rt: &R,
     alloc: Global,
     disk: D,
+    watchers: W,
     callers: u32,
     each: u32,
 ) -> Result<(D, u64), StartFault<D>>
+    requires told { W.told watchers [] }
     requires callers { (1 ≤ callers) × (callers ≤ 32) }
     requires each { each ≤ 2 ^ 26 }
-    ensures posted { IfOk result (λ ended. HasPosted D.Disk disk ended.0 (callers * each) ended.1) }
+    ensures posted { IfOk result (λ ended. HasPosted D.Disk disk watchers ended.0 (callers * each) ended.1) }
     ensures refused { IfErr result (λ fault. HasNotOpened D.Disk disk fault.disk fault.cause) }
 {
-    let (office, pass) = Office::start(alloc, disk, NoWatchers)?;
+    let (office, pass) = Office::start(alloc, disk, watchers)?;
     let (pass, accepted) = lanes(rt, &office, pass, &Issues { each }, 0, callers);
     let (disk, _, _) = close(office, pass);
     Ok((disk, accepted))

@@ -25,6 +25,7 @@ use std::sync::Barrier;
 use std::sync::atomic::AtomicBool;
 use std::{env, io};
 use waiting::Waiting;
+use watcher_set::NoWatchers;
 
 /// How many callers wait, with the one that works.
 const WAITING: u32 = 8;
@@ -76,7 +77,8 @@ fn main(rt: HostRuntime) -> io::Result<ExitCode> {
                 return Ok(ExitCode::from(2));
             }
             let disk = FileDisk::at(rt, "journal.life");
-            let Ok((disk, accepted)) = post_issues(&rt, alloc, disk, callers, each) else {
+            let Ok((disk, accepted)) = post_issues(&rt, alloc, disk, NoWatchers, callers, each)
+            else {
                 return Ok(ExitCode::from(8));
             };
             drop(disk);

@@ -39,18 +39,19 @@ pub trait OfficeCalls<D: Disk, W: Watching> {
 
     /// The office of the disk's journal, with watchers who were told of nothing yet, and its first pass. They are dropped
     /// where no office is opened.
-    fn start(
-        alloc: Global,
-        disk: D,
-        watchers: W,
-    ) -> Result<(Self, OfficePass<D, W>), StartFault<D>>
+    fn start(alloc: Global, disk: D, watchers: W) -> Result<(Self, OfficePass<D, W>), StartFault<D>>
         requires told { W.told watchers [] }
         ensures started { IfOk result (λ made. HasStarted D.Disk disk watchers made.1
             × (made.1.turnstile ≡ office made.0) × PassFacts IsOfficeHistory made.1) }
         ensures refused { IfErr result (λ fault. HasNotOpened D.Disk disk fault.disk fault.cause) };
 
     /// Posts a command.
-    fn post<R: Wait>(&self, rt: &R, pass: &mut OfficePass<D, W>, command: &Command) -> Turned<Answer>
+    fn post<R: Wait>(
+        &self,
+        rt: &R,
+        pass: &mut OfficePass<D, W>,
+        command: &Command,
+    ) -> Turned<Answer>
         requires ours { pass.old.turnstile ≡ office self.now }
         requires left { 1 ≤ pass.old.left }
         requires valid { IsValid command.now }
@@ -133,7 +134,12 @@ impl<D: Disk, W: Watching> OfficeCalls<D, W> for Office<D, W> {
         }
     }
 
-    fn post<R: Wait>(&self, rt: &R, pass: &mut OfficePass<D, W>, command: &Command) -> Turned<Answer> {
+    fn post<R: Wait>(
+        &self,
+        rt: &R,
+        pass: &mut OfficePass<D, W>,
+        command: &Command,
+    ) -> Turned<Answer> {
         self.turn(rt, pass, Post { command })
     }
 

@@ -148,7 +148,12 @@ fn each_callers_postings_in_its_order(rt: HostRuntime) -> Result<(), AllocError>
 }
 
 // Caller 7 waits until the others are done, for so many looks at most, and then issues a policy.
-fn late<D: Disk, W: Watching, R: Wait>(rt: &R, office: &Office<D, W>, pass: &mut OfficePass<D, W>, done: &AtomicBool)
+fn late<D: Disk, W: Watching, R: Wait>(
+    rt: &R,
+    office: &Office<D, W>,
+    pass: &mut OfficePass<D, W>,
+    done: &AtomicBool,
+)
     requires { pass.old.turnstile ≡ office.now }
     ensures { (pass.new.turnstile ≡ pass.old.turnstile) × (pass.new.shares ≡ pass.old.shares) }
 {

@@ -3,3 +3,4 @@ pub mod RowSteps
 pub mod PinSteps
 pub mod PartSteps
 pub mod ValueSteps
+pub mod Crossing

@@ -1,5 +1,11 @@
 use Rattle.std.proofs.Common.{◌≡◌, ◌≤◌, ◌<◌, length, sym, ap, ◌∙◌, subst, arith}
+use denote.Param.SendFields.{declared_sync, as_row_sync}
+use denote.Param.Send.{sendable}
+use Rattle.std.proofs.Crossing.{crosses, sync}
+use Rattle.shared_office.proofs.Crossing.{crosses_office}
+use Rattle.snapshot_value.proofs.Crossing.{basis_crosses, six_sync}
 use Rattle.lane_runner.specs.inside.Parts.{HasRunIn, IsReady}
+use Rattle.lane_runner.proofs.Crossing.{line_crosses, lane_crosses}
 use Rattle.lane_runner.proofs.SeatSteps.{got, have_run, zip_at, zip_length}
 use Rattle.lane_runner.proofs.running.run_all.Goals as goal
 
@@ -21,3 +27,10 @@ returns g c =
           (subst (λ (n : _). HasRunIn c.args.basis.now lane changes.1.argument.now n) (changes.1.left ∙ (got c.for_each_mut.new.s i new old at_new).0)
           (changes.1.call lane at_lane)));
     }
+
+pub for_each_mut-requires-send-T : goal.for_each_mut-requires-send-T
+for_each_mut-requires-send-T g c κs within = search (crosses_office, line_crosses, sendable, crosses) depth 20
+
+pub for_each_mut-requires-sync-F : goal.for_each_mut-requires-sync-F
+for_each_mut-requires-sync-F g c κs within =
+    search (crosses_office, lane_crosses, basis_crosses, sync, six_sync, declared_sync, as_row_sync, sendable, crosses) depth 20

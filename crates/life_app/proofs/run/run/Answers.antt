@@ -4,10 +4,10 @@ use Rattle.life_app.proofs.RunSteps.{ends_script, ends_unread}
 use Rattle.life_app.proofs.ScriptSteps.{script_lanes}
 use Rattle.life_app.proofs.run.run.Goals as goal
 
-pub run_script-requires : goal.run_script-requires
-run_script-requires g c =
+pub run_script-requires-clause-lanes : goal.run_script-requires-clause-lanes
+run_script-requires-clause-lanes g c κs within =
     let read = c.in-Ok.ensures.ok in
-    record { lanes = rw c.as_slice-lanes.ensures (script_lanes read.0 _ read.1 read.2) }
+    rw c.as_slice-lanes.ensures (script_lanes read.0 _ read.1 read.2)
 
 pub returns-in-Ok-clause-ends : goal.returns-in-Ok-clause-ends
 returns-in-Ok-clause-ends g c =

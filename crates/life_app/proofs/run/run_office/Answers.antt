@@ -12,5 +12,6 @@ returns g c = record {
   ends = λ old watchers started.
       ends_ran g.D.Disk g.W.Watching old c.close-disk.result.0 c.args.lanes.now c.args.basis.now watchers c.args.pass c.run_lanes-ran.new.pass
       _ _ started c.close-disk.ensures.facts c.close-disk.ensures.closed c.requires.lanes c.run_lanes-ran.result
-      _ c.write_ran-ending.result c.run_lanes-ran.ensures.answered c.run_lanes-ran.ensures.refused c.write_ran-ending.ensures.ends;
+      _ c.write_ran-ending.result c.run_lanes-ran.ensures.answered c.run_lanes-ran.ensures.refused
+      (rw c.as_slice.ensures.value at c.write_ran-ending.ensures.ends);
 }

@@ -7,7 +7,7 @@ use Rattle.life_app.proofs.value.value_by.Goals as goal
 pub returns-in-Ok : goal.returns-in-Ok
 returns-in-Ok g c =
     let on : to_z w32 (of_z w32 c.args.on) ≡ c.args.on = to_z-of_z w32 c.args.on c.ranges.on in
-    rw on at (c.value_office.ensures.ends c.args.disk c.in-Ok.ensures.started.0)
+    rw on at (c.value_office.ensures.ends c.args.disk _ c.in-Ok.ensures.started.0)
 
 pub returns-in-Err : goal.returns-in-Err
 returns-in-Err g c =
