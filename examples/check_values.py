@@ -100,8 +100,9 @@ def reserve(rates_from, last, age, n, h, matures, v, t):
     return max(benefit - beta * annuity, 0)
 
 
-def worth(policy, basis, on):
-    """The year, and the exact value in cents or a word."""
+def worth(policy, basis, on, known=None):
+    """The year, and the exact value in cents or a word. `known` keeps exact reserves for further policies of the basis."""
+    known = {} if known is None else known
     if policy["status"] != "inforce" or policy["issued"] > on:
         return 0, Fraction(0)
     picked = [entry for entry in basis if entry[0] <= policy["issued"]]
@@ -119,8 +120,10 @@ def worth(policy, basis, on):
     if rates[age - first] > Fraction(1, 2):
         return 0, "ratehigh"
     t = min(completed(policy["issued"], on), n)
-    exact = reserve(lambda start: rates[start - first:], last, age, n, h, plan != "term", v, t)
-    return t, policy["amount"] * exact
+    case = (picked[-1][0], age, n, h, plan != "term", t)
+    if case not in known:
+        known[case] = reserve(lambda start: rates[start - first:], last, age, n, h, plan != "term", v, t)
+    return t, policy["amount"] * known[case]
 
 
 def cents(text):
@@ -137,9 +140,9 @@ def main():
         found = bodies(file.read())[:int(head[3])]
     on, policies, basis = datetime.date.fromisoformat(head[2]), policies_after(found), read_basis(sys.argv[2])
     wrong = head[:2] != ["0", "value"] or int(head[4]) != len(policies) or len(rows) != len(policies)
-    sums, words = [0, 0], 0
+    sums, words, known = [0, 0], 0, {}
     for (number, policy), row in zip(policies.items(), rows):
-        t, exact = worth(policy, basis, on)
+        t, exact = worth(policy, basis, on, known)
         right = row[:4] == ["row", str(number), policy["status"], str(t)]
         if isinstance(exact, str):
             words += 1

@@ -1,15 +1,12 @@
 -- A script with a first fault isn't read, and has no other first fault
 use Rattle.std.proofs.Common.{◌≡◌, ℕ, ◌+◌, ◌-◌, ◌≤◌, List, [], ◌∷◌, ◌++◌, length, take, suc, refl, ap, sym, ◌∙◌, subst, inl, inr, arith}
-use Rattle.std.specs.List.{AllZip, All}
+use Rattle.std.specs.List.{AllZip}
 use Rattle.std.proofs.lemmas.Bool.{cases_order}
 use Rattle.std.proofs.lemmas.List.{take-take}
-use Rattle.std.proofs.lemmas.List.Elements.{All-from_recursion}
-use Rattle.policy_types.specs.declared.script.Line.{Line}
 use Rattle.policy_types.specs.declared.script.Lane.{Lane}
-use Rattle.command_csv.specs.Rows.{rows_of}
 use Rattle.command_csv.specs.declared.row.ClerkLine.{ClerkLine}
 use Rattle.command_csv.specs.Spelling.{row_fields}
-use Rattle.command_csv.specs.Reads.{IsScriptLine, IsRowOf, HasRoom, Reads, FitsUpTo, IsFirstBadField, IsFirstFault, all_lines, valuations_in, most_valuations, lane_of, lanes_of}
+use Rattle.command_csv.specs.Reads.{IsRowOf, HasRoom, Reads, FitsUpTo, IsFirstBadField, IsFirstFault, all_lines, valuations_in, most_valuations}
 use Rattle.command_csv.proofs.Clerks.{valuations-cons, room_first, room_behind}
 use Rattle.command_csv.proofs.OneReading.{one_entry}
 

@@ -368,7 +368,8 @@ fn long_script(alloc: Global, most: usize, front: &[u8], piece: &[u8]) -> Result
 // A script of 16 MiB is dealt out to eight clerks, and isn't refused for memory where there is enough.
 #[test]
 fn longest_script(rt: HostRuntime) -> Result<(), Fail> {
-    let piece = b"8,lapse,1,2022-02-02\n1,lapse,1,2022-02-02\n7,lapse,1,2022-02-02\n2,lapse,1,2022-02-02
+    let piece =
+        b"8,lapse,1,2022-02-02\n1,lapse,1,2022-02-02\n7,lapse,1,2022-02-02\n2,lapse,1,2022-02-02
 6,lapse,1,2022-02-02\n3,lapse,1,2022-02-02\n5,lapse,1,2022-02-02\n4,lapse,1,2022-02-02\n";
     let script = long_script(rt.alloc(), MOST_BYTES, b"", piece)?;
     assert!(rt; script.len() <= MOST_BYTES);

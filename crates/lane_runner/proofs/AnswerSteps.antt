@@ -1,5 +1,5 @@
 -- The answered lines of one pass, put together
-use Rattle.std.proofs.Common.{◌≡◌, ℕ, zero, suc, ◌+◌, ◌≤◌, ◌<◌, ◌==◌, Bool, true, false, ℤ, List, [], ◌∷◌, ◌++◌, length, map, take, get_or, Option, Some, Result, Ok, Err, refl, ap, sym, ◌∙◌, subst, append-nil, append_assoc, length-append, arith}
+use Rattle.std.proofs.Common.{◌≡◌, ℕ, zero, suc, ◌+◌, ◌≤◌, ◌<◌, ℤ, List, [], ◌∷◌, ◌++◌, length, map, take, get_or, Some, Result, Ok, Err, refl, ap, sym, ◌∙◌, subst, append-nil, length-append, arith}
 use Rattle.std.specs.List.{AllByRecursion, AllZip, Contains, filter, flat_map}
 use Rattle.std.proofs.lemmas.List.{map-append}
 use Rattle.std.proofs.lemmas.List.Concat.{flat_map-append}
@@ -9,7 +9,6 @@ use Rattle.basis_book.specs.Dated.{Dated}
 use Rattle.policy_types.specs.declared.command.Command.{Command}
 use Rattle.policy_types.specs.declared.entry.At.{At}
 use Rattle.policy_types.specs.declared.entry.Call.{Call}
-use Rattle.policy_types.specs.declared.entry.Call.TheVariants.{Unpin}
 use Rattle.policy_types.specs.declared.entry.Entry.{Entry}
 use Rattle.policy_types.specs.declared.entry.Reply.{Reply}
 use Rattle.policy_types.specs.declared.entry.Reply.TheVariants.{Accepted, Refused, Faulted, Pinned, PinRefused, Slice, Unpinned, Floor, Blank}
@@ -23,13 +22,12 @@ use Rattle.office_state.specs.Turning.{trim_turn}
 use Rattle.turn_lock.specs.Passes.{Holding, PassFacts, TakesTurn}
 use Rattle.shared_office.specs.Offices.{IsOfficeHistory, OfficeOpening}
 use Rattle.snapshot_value.specs.Growing.{Grows}
-use Rattle.snapshot_value.specs.Valuing.{HasValued, IsAnswered, dry_pins, most_turns}
+use Rattle.snapshot_value.specs.Valuing.{HasValued, IsAnswered, dry_pins}
 use Rattle.snapshot_value.specs.declared.valuation.Valuation.{Valuation}
 use Rattle.snapshot_value.specs.declared.valuation.ValueFault.{ValueFault}
 use Rattle.snapshot_value.specs.declared.valuation.ValueFault.TheVariants.{Pin, NoMemory}
 use Rattle.snapshot_value.proofs.Growth.{grows_more, grows_none, grows_one}
 use Rattle.lane_runner.specs.declared.transcript.AnsweredLine.{AnsweredLine as TranscriptLine}
-use Rattle.lane_runner.specs.declared.transcript.Outcome.{Outcome}
 use Rattle.lane_runner.specs.declared.transcript.Outcome.TheVariants.{Posted, Trimmed}
 use Rattle.lane_runner.specs.AnsweredLines.{AnsweredLine, turns_in}
 use Rattle.lane_runner.specs.Transcripts.{IsOutcome, IsTold, dry_of, lacked_memory}

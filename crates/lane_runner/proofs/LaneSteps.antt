@@ -1,12 +1,9 @@
 -- The transcript of all lanes
-use Rattle.std.proofs.Common.{◌≡◌, ◌⊎◌, ℕ, zero, suc, ◌+◌, ◌≤◌, ◌<◌, ◌^◌, ◌==◌, nat_eq, Bool, true, false, List, [], ◌∷◌, ◌++◌, length, map, get_or, Option, Some, slice_get, Vec, vec_capacity, inl, inr, refl, ap, sym, ◌∙◌, subst, append-nil, length-append, arith}
-use Rattle.std.specs.Global.{Global}
-use Rattle.std.specs.List.{All, AllByRecursion, AllZip, Contains, IsDistinct, filter, flat_map}
+use Rattle.std.proofs.Common.{◌≡◌, ◌⊎◌, ℕ, ◌<◌, ◌==◌, nat_eq, Bool, true, false, List, [], ◌∷◌, ◌++◌, map, inl, inr, refl, ap, sym, ◌∙◌, subst, arith}
+use Rattle.std.specs.List.{AllByRecursion, AllZip, Contains, IsDistinct, flat_map}
 use Rattle.std.specs.List.Sorted.{IsNonDecreasingBy, IsPermutation}
 use Rattle.std.proofs.lemmas.Bool.{eq-eqb, eqb-true, false≢true}
-use Rattle.std.proofs.lemmas.Bool.Decides.{eqb_tells}
 use Rattle.std.proofs.lemmas.List.{map-append}
-use Rattle.std.proofs.lemmas.List.Elements.{recursion_from_All}
 use Rattle.std.proofs.lemmas.List.Sorted.{IsPermutation-map, IsPermutation-sym}
 use Rattle.std.proofs.lemmas.Map.Keys.{IsDistinct-IsPermutation}
 use Rattle.basis_book.specs.Dated.{Dated}
@@ -18,8 +15,7 @@ use Rattle.policy_machine.specs.Merge.{AnswersLanes, AnswersLine, AnswersLines, 
 use Rattle.turn_lock.specs.Passes.{Holding, PassFacts}
 use Rattle.shared_office.specs.Offices.{IsOfficeHistory, OfficeOpening}
 use Rattle.lane_runner.specs.declared.transcript.AnsweredLine.{AnsweredLine as TranscriptLine}
-use Rattle.lane_runner.specs.declared.transcript.Transcript.{Transcript}
-use Rattle.lane_runner.specs.AnsweredLines.{AnsweredLine, AreLinesOf, AreOfLanes, AreRising, lines_by, turns_in}
+use Rattle.lane_runner.specs.AnsweredLines.{AnsweredLine, AreOfLanes, AreRising, lines_by, turns_in}
 use Rattle.lane_runner.specs.Lanes.{AreRightLanes}
 use Rattle.lane_runner.specs.Transcripts.{HasAnsweredLanes, HasRun, IsTold, dry_of}
 use Rattle.lane_runner.specs.inside.Parts.{Seat}

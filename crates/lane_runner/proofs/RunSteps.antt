@@ -1,10 +1,9 @@
 -- What the pass knows of all lanes when their passes are taken back
-use Rattle.std.proofs.Common.{◌≡◌, ℕ, zero, suc, ◌+◌, ◌-◌, ◌*◌, ◌≤◌, ◌<◌, ◌^◌, ◌==◌, nat_eq, Bool, true, false, List, [], ◌∷◌, ◌++◌, length, map, Option, Some, Vec, refl, ap, sym, ◌∙◌, subst, append-nil, append_assoc, length-append, arith}
+use Rattle.std.proofs.Common.{◌≡◌, ℕ, suc, ◌+◌, ◌*◌, ◌≤◌, ◌<◌, nat_eq, List, [], ◌∷◌, ◌++◌, length, map, Some, Vec, refl, ap, sym, ◌∙◌, subst, length-append, arith}
 use Rattle.std.specs.Global.{Global}
-use Rattle.std.specs.List.{AllByRecursion, AllZip, Contains, IsDistinct, filter, flat_map}
+use Rattle.std.specs.List.{AllByRecursion, AllZip, IsDistinct, filter, flat_map}
 use Rattle.std.proofs.lemmas.List.{length-map, map-append}
 use Rattle.std.proofs.lemmas.List.Elements.{recursion_from_All}
-use Rattle.std.proofs.lemmas.List.Concat.{flat_map-append}
 use Rattle.basis_book.specs.Dated.{Dated}
 use Rattle.policy_types.specs.declared.entry.Entry.{Entry}
 use Rattle.policy_types.specs.declared.script.Line.{Line}
@@ -13,13 +12,13 @@ use Rattle.policy_types.specs.declared.script.Lane.{Lane}
 use Rattle.policy_machine.specs.History.{Opening}
 use Rattle.policy_machine.specs.Merge.{AnswersLine, Placed, turns_of}
 use Rattle.turn_lock.specs.History.{StartsWith, entries_of}
-use Rattle.turn_lock.specs.Passes.{Holding, Page, PassFacts, TableId, callers, pages}
+use Rattle.turn_lock.specs.Passes.{Holding, Page, PassFacts, TableId, pages}
 use Rattle.shared_office.specs.Offices.{IsOfficeHistory, OfficeOpening}
 use Rattle.lane_runner.specs.declared.transcript.AnsweredLine.{AnsweredLine as TranscriptLine}
 use Rattle.lane_runner.specs.AnsweredLines.{AnsweredLine, turns_in}
 use Rattle.lane_runner.specs.Lanes.{AreRightLanes, IsRightLane, is_value, lines_in}
 use Rattle.lane_runner.specs.Transcripts.{HasRun, IsTold, dry_of}
-use Rattle.lane_runner.specs.inside.Parts.{HasEntered, HasLeft, HasRunIn, HaveRun, IsFresh, IsReady, IsRoomFor, Seat, all_left, all_shares_in, turns_for, turns_needed}
+use Rattle.lane_runner.specs.inside.Parts.{HasEntered, HasLeft, HasRunIn, HaveRun, IsFresh, IsReady, IsRoomFor, Seat, all_left, all_shares_in, turns_needed}
 use Rattle.lane_runner.proofs.Places.{no_turns, turns_stay}
 use Rattle.lane_runner.proofs.AnswerSteps.{all_later, needed_append, told_later, zip_moved}
 use Rattle.lane_runner.proofs.SeatSteps.{zip_length}

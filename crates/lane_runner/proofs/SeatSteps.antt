@@ -1,12 +1,11 @@
 -- Passes that are entered for lanes, and taken back
-use Rattle.std.proofs.Common.{◌≡◌, ℕ, zero, suc, ◌+◌, ◌-◌, ◌*◌, ◌/◌, ◌≤◌, ◌<◌, ◌^◌, List, [], ◌∷◌, ◌++◌, length, map, take, drop, get_or, Option, Some, None, slice_get, Vec, refl, ap, sym, ◌∙◌, subst, append-nil, append_assoc, length-append, arith}
+use Rattle.std.proofs.Common.{◌≡◌, ℕ, zero, suc, ◌+◌, ◌-◌, ◌/◌, ◌≤◌, ◌<◌, ◌^◌, List, [], ◌∷◌, ◌++◌, length, map, take, drop, get_or, Some, slice_get, Vec, refl, ap, sym, ◌∙◌, subst, append-nil, append_assoc, length-append, arith}
 use Rattle.std.specs.Global.{Global}
-use Rattle.std.specs.List.{AllByRecursion, AllZip, flat_map}
+use Rattle.std.specs.List.{AllZip, flat_map}
 use Rattle.std.proofs.lemmas.List.{map-append}
 use Rattle.std.proofs.lemmas.List.Concat.{flat_map-append}
 use Rattle.basis_book.specs.Dated.{Dated}
 use Rattle.policy_types.specs.declared.entry.Entry.{Entry}
-use Rattle.policy_types.specs.declared.script.Line.{Line}
 use Rattle.policy_types.specs.declared.script.Lane.{Lane}
 use Rattle.turn_lock.specs.History.{StartsWith}
 use Rattle.turn_lock.specs.Passes.{Enters, Holding, Leaves, Page, PassFacts, pages}

@@ -1,5 +1,5 @@
 -- The lanes that may be run
-use Rattle.std.specs.Prelude.{ℕ, ◌+◌, ◌*◌, ◌≤◌, ◌^◌, Bool, true, false, List, [], ◌∷◌, All, length, map}
+use Rattle.std.specs.Prelude.{◌≤◌, ◌^◌, Bool, true, false, List, All, length, map}
 use Rattle.std.specs.List.{filter, flat_map}
 use Rattle.policy_types.specs.Valid.{IsValid}
 use Rattle.policy_types.specs.declared.script.Line.{Line}

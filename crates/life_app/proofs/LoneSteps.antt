@@ -1,5 +1,5 @@
 -- An office at which one caller turned, to value its policies
-use Rattle.std.proofs.Common.{◌≡◌, ℕ, ◌+◌, ◌==◌, ℤ, true, false, List, [], ◌∷◌, ◌++◌, length, map, take, Some, None, Option, Result, refl, ap, sym, ◌∙◌, subst, inl, inr, append-nil}
+use Rattle.std.proofs.Common.{◌≡◌, ℕ, ◌+◌, ◌==◌, ℤ, true, false, List, [], ◌∷◌, ◌++◌, map, take, Some, None, Result, refl, ap, sym, ◌∙◌, subst, inl, inr, append-nil}
 use Rattle.std.specs.List.{AllByRecursion, Contains, cons_option, enumerate_from, filter, filter_map, last_or}
 use Rattle.std.specs.Option.{unwrap_or}
 use Rattle.std.proofs.lemmas.Bool.{cond-true, eq-eqb, false≢true}
@@ -21,7 +21,7 @@ use Rattle.office_state.specs.Journals.{JournalBytes, Opens}
 use Rattle.shared_office.specs.Offices.{IsOfficeHistory, OfficeOpening}
 use Rattle.shared_office.specs.Starting.{HasClosed, HasStarted}
 use Rattle.watcher_set.specs.declared.watching.Watching.{Ghosts as WatcherGhosts}
-use Rattle.turn_lock.specs.Passes.{Holding, OwnsAll, PassFacts, callers}
+use Rattle.turn_lock.specs.Passes.{Holding, PassFacts, callers}
 use Rattle.snapshot_value.specs.Valuing.{HasValued, IsAnswered as IsValueAnswer}
 use Rattle.snapshot_value.specs.declared.valuation.Valuation.{Valuation}
 use Rattle.snapshot_value.specs.declared.valuation.ValueFault.{ValueFault}

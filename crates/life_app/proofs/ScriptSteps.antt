@@ -1,6 +1,6 @@
 -- The lanes of a script that was read can be run
 use Rattle.std.proofs.Common.{◌≡◌, ℕ, zero, suc, ◌+◌, ◌≤◌, ◌<◌, ◌==◌, Bool, true, false, cond, List, [], ◌∷◌, ◌++◌, length, map, Option, Some, None, refl, ap, sym, ◌∙◌, subst, inl, inr, arith, append-nil, length-append}
-use Rattle.std.specs.List.{All, AllByRecursion, AllZip, filter, flat_map}
+use Rattle.std.specs.List.{AllByRecursion, AllZip, filter}
 use Rattle.std.proofs.lemmas.Bool.{cond-false, cond-true, eqb-true, ne_eqb}
 use Rattle.std.proofs.lemmas.Grind.{flat_map-append}
 use Rattle.std.proofs.lemmas.List.{length-map, map-append}
@@ -18,7 +18,7 @@ use Rattle.command_csv.specs.declared.row.ClerkLine.{ClerkLine}
 use Rattle.command_csv.proofs.Clerks.{all_right}
 use Rattle.command_csv.proofs.Records.{rows_few}
 use Rattle.lane_runner.specs.AnsweredLines.{AreRising}
-use Rattle.lane_runner.specs.Lanes.{AreRightLanes, IsRightLane, IsRightLine, is_value, lines_in}
+use Rattle.lane_runner.specs.Lanes.{IsRightLane, IsRightLine, is_value, lines_in}
 use Rattle.life_app.specs.Script.{most_script_bytes}
 use Rattle.life_app.specs.inside.Parts.{AreScriptLanes}
 use Rattle.life_app.proofs.ListSteps.{Has, all_and, all_has, has_either, has_flat_map, of_all, of_filter, of_map, has_map}

@@ -1,9 +1,9 @@
 -- What is told of the lanes that were run, against the history of their office
-use Rattle.std.proofs.Common.{◌≡◌, ◌↔◌, ◌⊎◌, ℕ, ℤ, ◌+◌, ◌-◌, ◌≤◌, ◌==◌, Bool, true, false, List, [], ◌∷◌, ◌++◌, length, map, take, Option, Some, refl, ap, sym, ◌∙◌, subst, inl, inr, arith, append-nil}
+use Rattle.std.proofs.Common.{◌≡◌, ◌⊎◌, ℕ, ◌-◌, ◌==◌, Bool, true, false, List, [], ◌∷◌, ◌++◌, map, take, Some, refl, ap, sym, ◌∙◌, subst, inl, inr, arith}
 use Rattle.std.specs.Prelude.{All, slice_get}
-use Rattle.std.specs.List.{AllByRecursion, AllZip, Contains, IsDistinct, enumerate_from, filter, filter_map, flat_map, list_any}
+use Rattle.std.specs.List.{AllByRecursion, AllZip, Contains, enumerate_from}
 use Rattle.std.proofs.lemmas.Bool.{eq-eqb, false≢true}
-use Rattle.std.proofs.lemmas.List.Elements.{All-from_recursion, All-weaker, filter_map-append}
+use Rattle.std.proofs.lemmas.List.Elements.{All-from_recursion, filter_map-append}
 use Rattle.basis_book.specs.Dated.{Dated}
 use Rattle.policy_types.specs.Valid.{IsValid}
 use Rattle.policy_types.specs.declared.command.Command.{Command}
@@ -11,26 +11,21 @@ use Rattle.policy_types.specs.declared.entry.Call.{Call}
 use Rattle.policy_types.specs.declared.entry.Call.TheVariants.{Post as PostCall}
 use Rattle.policy_types.specs.declared.entry.Entry.{Entry}
 use Rattle.policy_types.specs.declared.entry.Reply.{Reply}
-use Rattle.policy_types.specs.declared.entry.Reply.TheVariants.{Blank, Faulted, Pinned}
+use Rattle.policy_types.specs.declared.entry.Reply.TheVariants.{Blank, Faulted}
 use Rattle.policy_types.specs.declared.script.Line.{Line}
 use Rattle.policy_types.specs.declared.script.Line.TheVariants.{Post, Value, Trim}
 use Rattle.policy_types.specs.declared.script.Lane.{Lane}
 use Rattle.policy_machine.specs.History.{Opening, IsDue, accepted_by, accepted_of, commands_after}
 use Rattle.policy_machine.specs.Merge.{AnswersLine, IsMerge, Placed, turns_of}
-use Rattle.policy_value.specs.Rows.{IsWithin}
-use Rattle.policy_value.specs.declared.worth.Row.{Row}
-use Rattle.report_text.specs.Block.{AreSummable, IsSummable}
 use Rattle.command_csv.specs.Reads.{IsScriptLine}
 use Rattle.office_state.specs.Images.{HasFaulted}
 use Rattle.office_state.specs.Posting.{reply_of}
 use Rattle.office_state.specs.declared.answer.Answer.{Answer}
 use Rattle.office_state.specs.declared.answer.Answer.TheVariants.{Accepted, Refused, DiskFault, NoMemory}
 use Rattle.shared_office.specs.Offices.{IsOfficeHistory, OfficeOpening}
-use Rattle.snapshot_value.specs.Valuing.{AreRowsOf, IsSnapshot}
-use Rattle.snapshot_value.specs.declared.valuation.Valuation.{Valuation}
 use Rattle.turn_lock.specs.History.{entries_of}
 use Rattle.turn_lock.specs.Passes.{Holding, IsFirst, OwnsAll, Page, PassFacts, callers as numbers_of}
-use Rattle.lane_runner.specs.AnsweredLines.{AnsweredLine, AreLinesOf, AreOfLanes, lines_by, turns_in}
+use Rattle.lane_runner.specs.AnsweredLines.{AnsweredLine, AreOfLanes, lines_by, turns_in}
 use Rattle.lane_runner.specs.Lanes.{lines_in}
 use Rattle.lane_runner.specs.Transcripts.{HasAnsweredLanes, IsOutcome, IsTold as IsToldOf, dry_of, lacked_memory}
 use Rattle.lane_runner.specs.declared.transcript.AnsweredLine.{AnsweredLine as ToldLine}
@@ -40,9 +35,9 @@ use Rattle.lane_runner.specs.declared.transcript.Transcript.{Transcript}
 use Rattle.life_app.specs.Outcome.{ArePins, HasBlank, IsAnswered, IsPinned, IsUnfaulted}
 use Rattle.life_app.specs.Transcript.{IsTranscript}
 use Rattle.life_app.specs.inside.Parts.{AreScriptLanes}
-use Rattle.life_app.specs.inside.Told.{IsTold, IsWritable, IsWritableBlock, IsWritableOutcome, any_faulted, any_lacked, has_faulted, is_faulted, lacks_memory, told_texts}
+use Rattle.life_app.specs.inside.Told.{IsTold, IsWritable, IsWritableOutcome, any_faulted, any_lacked, has_faulted, is_faulted, lacks_memory, told_texts}
 use Rattle.life_app.proofs.AnswerSteps.{is_told}
-use Rattle.life_app.proofs.ListSteps.{Has, all_has, any_none, any_some, contains_of_has, front_back, has_at, has_enumerate, has_filter, has_flat_map, has_left, has_map, has_of_contains, has_right, of_all, of_enumerate, of_filter, of_flat_map, of_map, parted, zip_left, zip_right}
+use Rattle.life_app.proofs.ListSteps.{Has, all_has, any_none, any_some, contains_of_has, front_back, has_enumerate, has_filter, has_flat_map, has_left, has_map, has_of_contains, has_right, of_all, of_enumerate, of_filter, of_flat_map, of_map, parted, zip_left, zip_right}
 use Rattle.life_app.proofs.TextSteps.{transcript_of}
 use Rattle.life_app.proofs.TurnSteps.{due_at, posted_first, posts, quiet_reply, unfaulted_if_answered}
 use Rattle.life_app.proofs.ValueSteps.{block_writable}

@@ -1,10 +1,8 @@
 -- The turns of a legal history, and which of them are postings
-use Rattle.std.proofs.Common.{◌≡◌, ℕ, zero, suc, ◌+◌, ◌*◌, ◌≤◌, ◌==◌, Bool, true, false, List, [], ◌∷◌, ◌++◌, length, map, take, Option, Some, refl, ap, sym, ◌∙◌, subst, inl, inr, arith, append-nil, append_assoc, length-append}
+use Rattle.std.proofs.Common.{◌≡◌, ℕ, zero, suc, ◌*◌, Bool, true, false, List, [], ◌∷◌, ◌++◌, map, take, Some, refl, ap, sym, ◌∙◌, subst, inl, inr, append-nil, append_assoc}
 use Rattle.std.specs.Prelude.{slice_get}
-use Rattle.std.specs.List.{AllByRecursion, Contains, enumerate_from, filter, flat_map}
-use Rattle.std.proofs.lemmas.Bool.{cond-false, cond-true, eq-eqb, false≢true}
-use Rattle.std.proofs.lemmas.List.{map-append, take_all}
-use Rattle.std.proofs.lemmas.List.Elements.{filter-append}
+use Rattle.std.specs.List.{AllByRecursion}
+use Rattle.std.proofs.lemmas.Bool.{false≢true}
 use Rattle.policy_types.specs.declared.command.Command.{Command}
 use Rattle.policy_types.specs.declared.entry.At.{At}
 use Rattle.policy_types.specs.declared.entry.At.TheVariants.{Now, Position}
@@ -15,14 +13,11 @@ use Rattle.policy_types.specs.declared.entry.Reply.TheVariants.{Accepted, Refuse
 use Rattle.policy_types.specs.declared.entry.Entry.{Entry}
 use Rattle.policy_types.specs.declared.script.Line.{Line}
 use Rattle.policy_types.specs.declared.script.Line.TheVariants.{Post as PostLine, Value, Trim}
-use Rattle.policy_types.specs.declared.script.Lane.{Lane}
 use Rattle.policy_machine.specs.History.{Opening, IsDue, IsLegalAfter}
-use Rattle.policy_machine.specs.Merge.{AnswersLanes, AnswersLine, AnswersLines, FollowsPin, Placed, pin_call, reads_of, turns_of}
-use Rattle.lane_runner.specs.Lanes.{lines_in}
-use Rattle.turn_lock.specs.History.{entries_of}
+use Rattle.policy_machine.specs.Merge.{AnswersLine, FollowsPin, Placed, pin_call, reads_of}
 use Rattle.office_state.specs.Images.{IsQuietReply}
 use Rattle.life_app.specs.Outcome.{IsAnswered, IsUnfaulted}
-use Rattle.life_app.proofs.ListSteps.{Has, all_and, all_has, all_map, all_take, has_at, has_enumerate, has_filter, of_all, of_enumerate, of_filter}
+use Rattle.life_app.proofs.ListSteps.{Has, all_and, all_map, all_take, of_all}
 
 -- whether the call posts a command
 abbrev pub posts : Call → Bool

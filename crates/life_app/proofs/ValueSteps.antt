@@ -1,5 +1,5 @@
 -- How `value` ends, by what its parts did
-use Rattle.std.proofs.Common.{◌≡◌, ℕ, ◌≤◌, ◌<◌, ℤ, List, [], ◌++◌, length, take, get_or, refl, ap, sym, ◌∙◌, subst, inl, inr, Option, Some, Result, Ok, Err, arith}
+use Rattle.std.proofs.Common.{◌≡◌, ℕ, ◌≤◌, ◌<◌, ℤ, List, [], length, take, get_or, refl, ap, sym, ◌∙◌, subst, inl, inr, Some, Result, Ok, Err, arith}
 use Rattle.std.specs.Prelude.{IfSome, slice_get}
 use Rattle.std.specs.List.{AllByRecursion, AllZip}
 use Rattle.std.proofs.lemmas.List.Elements.{All-from_recursion, All-weaker}
@@ -39,7 +39,7 @@ use Rattle.snapshot_value.specs.declared.valuation.ValueFault.{ValueFault}
 use Rattle.snapshot_value.specs.declared.valuation.ValueFault.TheVariants.{Pin, NoMemory as NoValues}
 use Rattle.life_app.specs.declared.ending.Ending.{Ending}
 use Rattle.life_app.specs.declared.ending.Ending.TheVariants.{Done, Ahead, BadBasis, ReadFault, WriteFault, NoMemory}
-use Rattle.life_app.specs.Valuing.{EndsNoBasis, EndsValuing, IsBeyond, IsValuation, IsValued, position_of}
+use Rattle.life_app.specs.Valuing.{EndsNoBasis, EndsValuing, IsValuation, position_of}
 use Rattle.life_app.specs.Writing.{Shelving, Stream, WroteAll}
 use Rattle.life_app.specs.inside.Told.{IsWritableBlock}
 use Rattle.life_app.specs.inside.Valued.{EndsAnswer, EndsValued, IsLoneAnswer, SaysAhead, SaysNoBasis}

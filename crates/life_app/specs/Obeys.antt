@@ -1,5 +1,5 @@
 -- What the program does at its words, over its devices, and the status with which it ends
-use Rattle.std.specs.Prelude.{◌≡◌, ℕ, ◌⊎◌, true, false, List, [], codes, Option, Some, None, IfSome, String}
+use Rattle.std.specs.Prelude.{◌≡◌, ℕ, ◌⊎◌, true, false, List, [], codes, Some, None, IfSome, String}
 use Rattle.std.specs.Global.{Global}
 use Rattle.std.specs.Io.KnownBytes.{IsAtEnd}
 use Rattle.outside_io.specs.declared.disks.Disk.{Ghosts}

@@ -1,5 +1,5 @@
 -- The script on the input, and how a run ends that has none
-use Rattle.std.specs.Prelude.{◌≡◌, ℕ, ◌<◌, ◌≤◌, ◌⊎◌, Bool, List, ◌∷◌, ◌++◌, length, codes, decimal, Option, IfSome}
+use Rattle.std.specs.Prelude.{ℕ, ◌<◌, ◌≤◌, ◌⊎◌, Bool, List, ◌∷◌, ◌++◌, length, codes, decimal, Option, IfSome}
 use Rattle.std.specs.List.{list_any}
 use Rattle.outside_io.specs.Faults.{Rose}
 use Rattle.policy_types.specs.declared.script.Lane.{Lane}

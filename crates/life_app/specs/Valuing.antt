@@ -1,5 +1,5 @@
 -- How `value` ends: what was written of the policies at a position of the disk's file, by the basis on the shelf
-use Rattle.std.specs.Prelude.{◌≡◌, ℕ, ◌<◌, ◌≤◌, ◌⊎◌, ℤ, true, List, [], ◌∷◌, ◌++◌, length, take, codes, decimal, Option, Some, IfSome, String}
+use Rattle.std.specs.Prelude.{◌≡◌, ℕ, ◌<◌, ◌≤◌, ◌⊎◌, ℤ, true, List, [], ◌++◌, length, take, codes, decimal, Option, Some, IfSome, String}
 use Rattle.std.specs.Global.{Global}
 use Rattle.std.specs.List.{AllZip}
 use Rattle.outside_io.specs.Faults.{Rose}

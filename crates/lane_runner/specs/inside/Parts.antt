@@ -1,10 +1,10 @@
 -- The parts of running lanes
-use Rattle.std.specs.Prelude.{◌≡◌, ℕ, zero, suc, ◌+◌, ◌≤◌, ◌<◌, ◌^◌, Option, Some, slice_get, List, [], ◌∷◌, ◌++◌, length, map, Result, Ok, Err, Vec, vec_capacity}
+use Rattle.std.specs.Prelude.{◌≡◌, ℕ, zero, suc, ◌+◌, ◌≤◌, ◌<◌, Some, slice_get, List, [], ◌∷◌, ◌++◌, length, map, Result, Ok, Err, Vec, vec_capacity}
 use Rattle.std.specs.Global.{Global}
 use Rattle.std.specs.List.{AllByRecursion, AllZip, flat_map}
 use Rattle.basis_book.specs.Dated.{Dated}
 use Rattle.policy_types.specs.declared.script.Line.{Line}
-use Rattle.policy_types.specs.declared.script.Line.TheVariants.{Post, Value, Trim}
+use Rattle.policy_types.specs.declared.script.Line.TheVariants.{Value}
 use Rattle.policy_types.specs.declared.script.Lane.{Lane}
 use Rattle.policy_machine.specs.Merge.{AnswersLine}
 use Rattle.turn_lock.specs.History.{StartsWith}

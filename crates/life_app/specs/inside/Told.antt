@@ -11,7 +11,7 @@ use Rattle.policy_types.specs.declared.watcher.NoMemory.{NoMemory as Lack}
 use Rattle.policy_types.specs.declared.watcher.Report.{Report}
 use Rattle.life_dates.specs.Calendar.{IsDay, IsTermDay}
 use Rattle.office_state.specs.declared.answer.Answer.{Answer}
-use Rattle.office_state.specs.declared.answer.Answer.TheVariants.{Accepted, Refused, DiskFault, NoMemory}
+use Rattle.office_state.specs.declared.answer.Answer.TheVariants.{Refused, DiskFault, NoMemory}
 use Rattle.office_state.specs.Posting.{reply_of}
 use Rattle.report_text.specs.Block.{AreSummable, block_text}
 use Rattle.snapshot_value.specs.declared.valuation.Valuation.{Valuation}

@@ -22,12 +22,24 @@ returns c =
     reads _ (entry_of 8 Trim ∷ entry_of 3 first ∷ entry_of 1 second ∷ entry_of 3 Trim ∷ entry_of 8 valued ∷ entry_of 1 third ∷ [])
     (row_fields (entry_of 8 Trim) ∷ row_fields (entry_of 3 first) ∷ row_fields (entry_of 1 second) ∷ row_fields (entry_of 3 Trim) ∷ row_fields (entry_of 8 valued) ∷ row_fields (entry_of 1 third) ∷ []) refl
     record {
-      each = (row_of 8 Trim (lit≤ tt, lit≤ tt) tt,
-          (row_of 3 first (lit≤ tt, lit≤ tt) ((lit≤ tt, lit≤ tt), (omega (arith, ints), omega (arith, ints))),
-          (row_of 1 second (lit≤ tt, lit≤ tt) ((lit≤ tt, lit≤ tt), (omega (arith, ints), omega (arith, ints))),
-          (row_of 3 Trim (lit≤ tt, lit≤ tt) tt,
-          (row_of 8 valued (lit≤ tt, lit≤ tt) ((omega (arith, ints), omega (arith, ints)), tt, (lit≤ tt, lit≤ tt)),
-          (row_of 1 third (lit≤ tt, lit≤ tt) ((lit≤ tt, lit≤ tt), (omega (arith, ints), omega (arith, ints))),
-          tt))))));
+      each = (
+        row_of 8 Trim (lit≤ tt, lit≤ tt) tt,
+        (
+          row_of 3 first (lit≤ tt, lit≤ tt) ((lit≤ tt, lit≤ tt), (omega (arith, ints), omega (arith, ints))),
+          (
+            row_of 1 second (lit≤ tt, lit≤ tt) ((lit≤ tt, lit≤ tt), (omega (arith, ints), omega (arith, ints))),
+            (
+              row_of 3 Trim (lit≤ tt, lit≤ tt) tt,
+              (
+                row_of 8 valued (lit≤ tt, lit≤ tt) ((omega (arith, ints), omega (arith, ints)), tt, (lit≤ tt, lit≤ tt)),
+                (
+                  row_of 1 third (lit≤ tt, lit≤ tt) ((lit≤ tt, lit≤ tt), (omega (arith, ints), omega (arith, ints))),
+                  tt,
+                ),
+              ),
+            ),
+          ),
+        ),
+      );
       few = lit≤ tt;
     }

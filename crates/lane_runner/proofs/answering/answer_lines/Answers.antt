@@ -1,4 +1,4 @@
-use Rattle.std.proofs.Common.{refl, sym, subst, [], ◌+◌, ◌∙◌, arith, rules}
+use Rattle.std.proofs.Common.{refl, sym, subst, [], ◌∙◌, arith, rules}
 use Rattle.lane_runner.specs.inside.Parts.{HasAnswered}
 use Rattle.lane_runner.proofs.AnswerSteps.{answered_next, answered_none, next_left}
 use Rattle.lane_runner.proofs.answering.answer_lines.Goals as goal

@@ -1,4 +1,4 @@
-use Rattle.std.proofs.Common.{◌≡◌, length, take, vec_len, vec_capacity}
+use Rattle.std.proofs.Common.{◌≡◌, take, vec_len, vec_capacity}
 use Rattle.turn_lock.specs.Passes.{PassFacts}
 use Rattle.shared_office.specs.Offices.{IsOfficeHistory}
 use Rattle.lane_runner.specs.inside.Parts.{HasAnswered}

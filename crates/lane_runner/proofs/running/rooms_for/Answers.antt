@@ -1,4 +1,4 @@
-use Rattle.std.proofs.Common.{◌≤◌, ◌+◌, List, length, take, sym, subst, arith}
+use Rattle.std.proofs.Common.{◌≤◌, ◌+◌, length, take, sym, subst, arith}
 use Rattle.std.specs.List.{AllZip}
 use Rattle.lane_runner.specs.inside.Parts.{IsRoomFor}
 use Rattle.lane_runner.proofs.SeatSteps.{zip_next_is}

@@ -1,4 +1,4 @@
-use Rattle.std.proofs.Common.{◌≡◌, ◌≤◌, ◌<◌, length, sym, ap, ◌∙◌, subst, arith}
+use Rattle.std.proofs.Common.{◌≡◌, length, sym, ◌∙◌, subst, arith}
 use denote.Param.SendFields.{declared_sync, as_row_sync}
 use denote.Param.Send.{sendable}
 use Rattle.std.proofs.Crossing.{crosses, sync}

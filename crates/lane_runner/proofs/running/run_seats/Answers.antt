@@ -1,4 +1,4 @@
-use Rattle.std.proofs.Common.{◌≡◌, List, length, sym, ◌∙◌, subst, rules}
+use Rattle.std.proofs.Common.{◌≡◌, length, sym, ◌∙◌, subst, rules}
 use Rattle.lane_runner.specs.inside.Parts.{HaveRun}
 use Rattle.lane_runner.proofs.SeatSteps.{slice_whole}
 use Rattle.lane_runner.proofs.RunSteps.{news_many, seats_many}

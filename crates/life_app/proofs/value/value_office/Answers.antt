@@ -1,4 +1,4 @@
-use Rattle.std.proofs.Common.{◌≡◌, ◌∙◌, arith, subst, sym, w32, to_z, of_z}
+use Rattle.std.proofs.Common.{◌≡◌, w32, to_z, of_z}
 use Rattle.std.proofs.lemmas.Int.{to_z-of_z}
 use Rattle.life_app.proofs.LoneSteps.{ends_lone, is_lone}
 use Rattle.life_app.proofs.value.value_office.Goals as goal

@@ -1,0 +1,88 @@
+"""Runs the program on random scripts of eight clerks, and checks what it prints and leaves.
+
+usage: python3 run_scripts.py PROGRAM ROOT FOLDER QUICK SCRIPTS [FIRST_SEED]
+
+Two scripts run in each new folder, the second on the journal of the first; in one of four the first has a book of many
+policies, so that a valuation takes several reads and others post and trim between them. One folder of four is made in
+FOLDER, on a real disk, where a posting takes long and the others wait; three are made in QUICK. Where a run isn't right,
+its files are left.
+"""
+import collections
+import os
+import shutil
+import subprocess
+import sys
+
+from scripts import Book, draws, folder_for, journal_of, make_book, make_script
+from check_transcript import Wrong, book_of, bytes_of, check, read_basis, rows_in
+from read_journal import bodies
+
+REASONS = 14
+MANY = 1200
+
+
+def run_pair(program, root, folder, seed, known, seen):
+    """Two scripts one after the other in a new folder."""
+    folder_for(folder, root)
+    path = lambda name: os.path.join(folder, name)
+    draw, basis = draws(seed), read_basis(path("basis.csv"))
+    if seed % 4 == 1:
+        with open(path("journal.life"), "wb") as file:
+            file.write(journal_of(make_book(draw, MANY)))
+    for number in (1, 2):
+        before = bytes_of(path("journal.life"))
+        script = make_script(draw, book_of(bodies(before)) if before else Book())
+        for name, text in ((f"script-{number}", script.encode()), (f"before-{number}", before)):
+            with open(path(name), "wb") as file:
+                file.write(text)
+        with open(path(f"script-{number}"), "rb") as file, open(path(f"transcript-{number}"), "wb") as out:
+            status = subprocess.run([program, "run"], cwd=folder, stdin=file, stdout=out).returncode
+        text = bytes_of(path(f"transcript-{number}")).decode("ascii")
+        try:
+            if status != 0:
+                raise Wrong(f"status {status}, printed {text[:200]!r}")
+            check(script, text, before, bytes_of(path("journal.life")), basis, known)
+        except (Wrong, SystemExit) as wrong:
+            sys.exit(f"stress: script {number} of seed {seed} in {folder}: {wrong}")
+        count(text, len(before) // 65, seen)
+    shutil.rmtree(folder)
+
+
+def count(text, accepted, seen):
+    """What there was to be seen in a transcript."""
+    changes, last = 0, None
+    for line in rows_in(text):
+        if line[0] in ("row", "total", "watcher"):
+            continue
+        seen["lines"] += 1
+        changes += last not in (None, line[0])
+        last = line[0]
+        if line[1] == "trim":
+            seen["trims"] += 1
+            seen["trims below the count"] += int(line[2]) < accepted
+        elif line[1] == "value":
+            seen["valuations"] += line[3] != "refused"
+            seen["valuations " + line[4]] += line[3] == "refused"
+        else:
+            seen[line[3] + (" " + line[4] if line[3] == "refused" else "")] += 1
+            accepted += line[3] == "accepted"
+    seen["changes of clerk"] += changes
+
+
+def main():
+    program, root, folder, quick, scripts = sys.argv[1:6]
+    first, known, seen = int((sys.argv[6:] or ["0"])[0]), {}, collections.Counter()
+    for pair in range(int(scripts) // 2):
+        place = os.path.join(quick if pair % 4 else folder, f"pair-{pair}")
+        run_pair(program, root, place, first + pair, known, seen)
+    reasons = [what for what in seen if what.startswith("refused ")]
+    if len(reasons) < REASONS or not seen["valuations"] or not seen["trims"]:
+        sys.exit(f"stress: too little was tried: {dict(seen)}")
+    refused = sum(seen[what] for what in reasons)
+    print(f"stress: {scripts} scripts of eight clerks, {seen['lines']} lines: {seen['accepted']} accepted, {refused} refused for "
+          f"{len(reasons)} reasons, {seen['valuations']} valuations, {seen['trims']} trims of which {seen['trims below the count']} "
+          f"below the count; the clerk changes {seen['changes of clerk']} times")
+
+
+if __name__ == "__main__":
+    main()
