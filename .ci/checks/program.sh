@@ -311,5 +311,84 @@ for position in 0 1 7 19 27; do
     python3 -B "$root/examples/check_values.py" journal.life basis.csv block >out || complain "at $position: $(cat out)"
 done
 
+# two clerks and two valuations: whichever way their lines lie, the checker of transcripts has to accept it
+begin "two clerks"
+cp "$root/examples/basis.csv" "$root/examples/q.xml" "$root/examples/g.xml" .
+"$root/life" run <"$root/examples/two-clerks.csv" >out || complain "status $?"
+python3 -B "$root/examples/check_transcript.py" "$root/examples/two-clerks.csv" out /dev/null journal.life basis.csv >verdict ||
+    complain "$(cat verdict)"
+
+begin_with_basis "a valuation in a script"
+printf '%s\n' "$policy" 1,value,2021-01-01,now,1 1,value,2021-01-01,2,1 1,trim 1,value,2021-01-01,0,64 >script
+{
+    echo "1,issue,7001,accepted,1"
+    sed 's/^0,/1,/' "$valued"
+    printf '1,value,2021-01-01,refused,ahead,1\n1,trim,1\n1,value,2021-01-01,refused,trimmed,1\n'
+    printf 'watcher,1,1,1\nwatcher,2,1,0\n'
+} >wanted
+"$root/life" run <script >out
+judge $? 0 wanted
+
+begin "no basis for a script that asks for values"
+printf '%s\n' "$policy" 1,value,2021-01-01,now,1 >script
+echo "badbasis,basis.csv,0,absent" >wanted
+"$root/life" run <script >out
+judge $? 4 wanted
+leaves_none
+
+begin "lanes out of range and one valuation too many"
+for lane in 0 9; do
+    echo "$lane,lapse,1,2020-01-01" >script
+    echo "badscript,1,1" >wanted
+    "$root/life" run <script >out
+    judge $? 3 wanted
+done
+for n in 1 2 3 4 5 6 7 8 9 10 11 12 13 14 15 16 17; do echo "$((n % 8 + 1)),value,2021-01-01,now,1"; done >script
+echo "badscript,17,2" >wanted
+"$root/life" run <script >out
+judge $? 3 wanted
+leaves_none
+
+begin "generated script"
+printf '1,issue,1,2008-11-03,endowment,44,18,996000.00,19920.00\n1,premium,1,2008-11-03,19920.00\n' >wanted
+"$root/life" generate 1 1 1 </dev/null >out
+judge $? 0 wanted
+leaves_none
+echo usage >wanted
+for words in "generate 1 0 1" "generate 1 100001 1" "generate 1 1 9" "generate 2147483648 1 1" "load 1 1 1" \
+    "load 1 0 1 1" "load 1 1 0 1" "load 1 1 1 65"; do
+    # shellcheck disable=SC2086
+    "$root/life" $words </dev/null >out
+    judge $? 2 wanted
+    leaves_none
+done
+
+begin_with_basis "load"
+echo "load,2,0,1,0.00,0.00,1" >wanted
+"$root/life" load 1 1 1 1 </dev/null >out
+judge $? 0 wanted
+rm journal.life
+echo "load,400,0,200,0.00,0.00,200" >wanted
+"$root/life" load 1 200 4 1 </dev/null >out
+judge $? 0 wanted
+[ "$(wc -c <journal.life)" -eq 26018 ] || complain "there aren't 400 records"
+
+go_on "load over its own journal"
+echo "load,0,400,200,0.00,0.00,200" >wanted
+"$root/life" load 1 200 4 1 </dev/null >out
+judge $? 0 wanted
+[ "$(wc -c <journal.life)" -eq 26018 ] || complain "the journal was changed"
+
+begin "generated script through run"
+"$root/life" generate 7 50 8 </dev/null >script
+"$root/life" run <script >out || complain "status $?"
+[ "$(grep -c ',accepted,' out)" -eq 100 ] || complain "not all rows are accepted"
+cp "$root/examples/basis.csv" "$root/examples/q.xml" "$root/examples/g.xml" .
+"$root/life" value 2020-12-31 </dev/null >block
+rm journal.life
+"$root/life" load 7 50 8 4 </dev/null >out
+echo "load,100,0,50,$(sed -n 's/^total,//p' block)" >wanted
+judge 0 0 wanted
+
 [ "$failed" = 0 ] && echo "program: the program runs as a user runs it"
 exit "$failed"
