@@ -8,5 +8,10 @@ python3 "$root/bench/kill_runs.py" 10 --folder "$work" --seed 1 >"$work/out" || 
     echo "kills: failed" >&2
     exit 1
 }
+mkdir "$work/lanes"
+python3 -B "$root/bench/kill_lanes.py" 8 "$work/lanes" >"$work/out" || {
+    echo "kills: failed with eight clerks" >&2
+    exit 1
+}
 rm -rf "$work"
-echo "kills: ten killed runs reopen to what was open"
+echo "kills: ten killed runs of one clerk and eight of eight clerks reopen to what was open"

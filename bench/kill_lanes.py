@@ -1,0 +1,73 @@
+#!/usr/bin/env python3
+"""Kills runs of eight clerks at random moments, and looks at the file that is left each time.
+
+usage: python3 bench/kill_lanes.py ROUNDS FOLDER    (python3 and its standard library; the program has to be built)
+
+All records from before have to be there, and of each clerk's postings the first so many, in order, once each. Then the
+program has to open the file to just these records. The same file goes on from round to round.
+"""
+import os
+import random
+import subprocess
+import sys
+import time
+
+PROGRAM = os.path.join(os.path.dirname(os.path.abspath(__file__)), "../crates/life_cli/out/life_cli")
+CLERKS, POSTINGS_EACH, LONGEST_SECONDS = 8, 400, 0.9
+
+
+def policies_of(journal):
+    """The numbers of the policies in the open records, in order."""
+    if not os.path.exists(journal):
+        return []
+    image = open(journal, "rb").read()
+    if len(image) < 18 or image[0] != 1:
+        return []
+    found, gate = [], 17
+    while image[gate] == 1:
+        found.append(int.from_bytes(image[gate + 5:gate + 9], "big"))
+        gate += 65
+    return found
+
+
+def need(right, message):
+    if not right:
+        sys.exit("kill_lanes: " + message)
+
+
+def kill_one(folder, first):
+    """Kills a run whose policies are numbered from there on; gives each clerk's numbers, and whether it had answered."""
+    numbers = range(first, first + CLERKS * POSTINGS_EACH)
+    lanes = [[n for n in numbers if n % CLERKS == clerk] for clerk in range(CLERKS)]
+    rows = "".join(f"{n % CLERKS + 1},issue,{n},2020-01-01,endowment,0,3,1000.00,400.00\n" for n in numbers)
+    run = subprocess.Popen([PROGRAM, "run"], cwd=folder, stdin=subprocess.PIPE, stdout=subprocess.PIPE)
+    run.stdin.write(rows.encode())
+    run.stdin.close()
+    time.sleep(random.uniform(0, LONGEST_SECONDS))
+    run.kill()
+    answered = run.stdout.read()
+    run.wait()
+    return lanes, answered
+
+
+def main(rounds, folder):
+    random.seed(1)
+    journal, kept, cut = os.path.join(folder, "journal.life"), [], 0
+    for number in range(rounds):
+        lanes, answered = kill_one(folder, 1 + number * CLERKS * POSTINGS_EACH)
+        left = policies_of(journal)
+        need(left[:len(kept)] == kept, "an earlier record is lost")
+        new = left[len(kept):]
+        for lane in lanes:
+            own = [n for n in new if n in set(lane)]
+            need(own == lane[:len(own)], "a clerk's records aren't the first of its postings, in order")
+        need(len(new) == len(set(new)) and len(new) <= CLERKS * POSTINGS_EACH, "a record stands twice")
+        need(not answered or len(new) == CLERKS * POSTINGS_EACH, "the run had answered, and records are missing")
+        cut += 0 < len(new) < CLERKS * POSTINGS_EACH
+        state = subprocess.run([PROGRAM, "state"], cwd=folder, stdin=subprocess.DEVNULL, capture_output=True)
+        need(state.returncode == 0 and state.stdout.endswith(b"\ncount,%d\n" % len(left)), "it opens to other records")
+        kept = left
+    print(f"{rounds} runs of eight clerks killed, {cut} of them amid their postings: nothing is lost")
+
+
+main(int(sys.argv[1]), sys.argv[2])
