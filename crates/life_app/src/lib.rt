@@ -2,24 +2,8 @@
 #![tactic(auto)]
 
 mod auditors;
-#[cfg(test)]
-mod clerk_tests;
-#[cfg(test)]
-mod disk_tests;
 mod laws;
-#[cfg(test)]
-mod load_tests;
-#[cfg(test)]
-mod policy_tests;
 mod program;
-#[cfg(test)]
-mod state_tests;
-#[cfg(test)]
-mod tests;
-#[cfg(test)]
-mod value_tests;
-#[cfg(test)]
-mod watcher_tests;
 pub mod worked;
 
 pub use laws::{

@@ -1,5 +1,5 @@
 // A disk: one file, whose bytes are read and written by place.
-ghost use Rattle.std.specs.Prelude.{◌≡◌, ℕ, ◌+◌, ◌-◌, ◌≤◌, ◌↔◌, List, length, take, drop, IfOk, OnOk};
+ghost use Rattle.std.specs.Prelude.{◌≡◌, ℕ, ◌+◌, ◌-◌, ◌≤◌, List, length, take, drop, IfOk, OnOk};
 ghost use Rattle.outside_io.specs.Disks.{HasDiskCause, Looks, Writes, Syncs, Elapses};
 
 use crate::Failed;
@@ -10,11 +10,14 @@ use crate::Failed;
 /// and the part past the old end, may hold any bytes after a crash, and the length may lie anywhere
 /// between the old and the new; bytes outside stay. A write that fails counts as a write of its
 /// range. After a sync that succeeds a crash leaves what a read gives.
+///
+/// Honesty is said of a disk as it stands: a later answer of a real one may break it, so what a call did
+/// is said where the disk that comes back is honest, which it was before then too.
 pub trait Disk {
     /// How many faults it has had.
     ghost faults: { Self → ℕ };
 
-    /// It follows the disk model, and nobody else writes it.
+    /// Each answer that it gave so far is one that the disk model allows, and nobody else writes it.
     ghost honest: { Self → Type 0 };
 
     /// What reads give, where it is honest.
@@ -36,42 +39,42 @@ pub trait Disk {
     /// How many bytes there are.
     fn len(&mut self) -> Result<u64, Failed>
         ensures cause { HasDiskCause (faults self.old) (faults self.new) result }
-        ensures honesty { (honest self.old) ↔ (honest self.new) }
-        ensures length { honest self.old → IfOk result (λ n. n ≡ length (reads self.old)) }
-        ensures facts { honest self.old
+        ensures honesty { honest self.new → honest self.old }
+        ensures length { honest self.new → IfOk result (λ n. n ≡ length (reads self.old)) }
+        ensures facts { honest self.new
             → Looks (reads self.old) (reads self.new) (may_leave self.old) (may_leave self.new) }
-        ensures time { honest self.old → Elapses (clock self.old) (clock self.new)
+        ensures time { honest self.new → Elapses (clock self.old) (clock self.new)
             (left_since self.old) (left_since self.new) (may_leave self.new) };
 
     /// Fills the buffer with the bytes from a place on.
     fn read(&mut self, at: u64, buf: &mut [u8]) -> Result<(), Failed>
         requires { honest self.old → at + length buf.old ≤ length (reads self.old) }
         ensures cause { HasDiskCause (faults self.old) (faults self.new) result }
-        ensures honesty { (honest self.old) ↔ (honest self.new) }
-        ensures bytes { honest self.old
+        ensures honesty { honest self.new → honest self.old }
+        ensures bytes { honest self.new
             → OnOk result (buf.new ≡ take (length buf.old) (drop at (reads self.old))) }
-        ensures facts { honest self.old
+        ensures facts { honest self.new
             → Looks (reads self.old) (reads self.new) (may_leave self.old) (may_leave self.new) }
-        ensures time { honest self.old → Elapses (clock self.old) (clock self.new)
+        ensures time { honest self.new → Elapses (clock self.old) (clock self.new)
             (left_since self.old) (left_since self.new) (may_leave self.new) };
 
     /// Writes over what is there, and past the end.
     fn write_at(&mut self, at: u64, bytes: &[u8]) -> Result<(), Failed>
         requires { honest self.old → at ≤ length (reads self.old) }
         ensures cause { HasDiskCause (faults self.old) (faults self.new) result }
-        ensures honesty { (honest self.old) ↔ (honest self.new) }
-        ensures facts { honest self.old → Writes at bytes.now result (reads self.old)
+        ensures honesty { honest self.new → honest self.old }
+        ensures facts { honest self.new → Writes at bytes.now result (reads self.old)
             (reads self.new) (may_leave self.old) (may_leave self.new) }
-        ensures time { honest self.old → Elapses (clock self.old) (clock self.new)
+        ensures time { honest self.new → Elapses (clock self.old) (clock self.new)
             (left_since self.old) (left_since self.new) (may_leave self.new) };
 
     /// Makes safe what was written.
     fn sync(&mut self) -> Result<(), Failed>
         ensures cause { HasDiskCause (faults self.old) (faults self.new) result }
-        ensures honesty { (honest self.old) ↔ (honest self.new) }
-        ensures facts { honest self.old → Syncs result (reads self.old) (reads self.new)
+        ensures honesty { honest self.new → honest self.old }
+        ensures facts { honest self.new → Syncs result (reads self.old) (reads self.new)
             (may_leave self.old) (may_leave self.new) }
-        ensures time { honest self.old → Elapses (clock self.old) (clock self.new)
+        ensures time { honest self.new → Elapses (clock self.old) (clock self.new)
             (left_since self.old) (left_since self.new) (may_leave self.new) };
 
     /// What is read is one of the images.
