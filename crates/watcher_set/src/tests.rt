@@ -91,7 +91,7 @@ fn told<W: Watching + Send>(
     Ok(watchers.finish())
 }
 
-// Five issues with a watcher of the first three.
+// Five issues with a watcher of the first three, in no box.
 #[test]
 fn done_and_dropped_at_the_third(rt: HostRuntime) -> Result<(), Fail> {
     let alloc = rt.alloc();
@@ -100,12 +100,12 @@ fn done_and_dropped_at_the_third(rt: HostRuntime) -> Result<(), Fail> {
         count: CountWatcher::new(alloc, 3),
         _token: token.clone()?,
     };
-    let mut boxes: Vec<Box<dyn Watcher + Send>> = Vec::new(alloc);
-    boxes.push(Box::new(alloc, guest)?)?;
+    let mut guests = Vec::new(alloc);
+    guests.push(guest)?;
     let commands = [issue(1), issue(2), issue(3), issue(4), issue(5)];
     let reports = told(
         &rt,
-        Watchers::new(boxes),
+        Watchers::new(guests),
         &commands,
         &token,
         &[2, 2, 1, 1, 1],
@@ -176,7 +176,8 @@ fn none_and_sixteen(rt: HostRuntime) -> Result<(), Fail> {
     let commands = [issue(1), issue(2), issue(3)];
     let none = told(&rt, NoWatchers, &commands, &token, &[])?;
     assert!(rt; none.as_slice().is_empty());
-    let none = told(&rt, Watchers::new(Vec::new(alloc)), &commands, &token, &[])?;
+    let nobody: Vec<CountWatcher> = Vec::new(alloc);
+    let none = told(&rt, Watchers::new(nobody), &commands, &token, &[])?;
     assert!(rt; none.as_slice().is_empty());
     let mut boxes: Vec<Box<dyn Watcher + Send>> = Vec::new(alloc);
     for limit in 1..17 {
