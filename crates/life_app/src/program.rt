@@ -22,7 +22,6 @@ ghost use Rattle.life_app.specs.Writing.{between, shelf_between};
 ghost use Rattle.life_app.specs.inside.Valued.{SaysNoMode};
 
 use crate::account::account;
-use crate::auditors::Auditors;
 use crate::ending::Ending;
 use crate::generate::generate;
 use crate::load::load;
@@ -36,7 +35,7 @@ use policy_types::Watcher;
 use std::alloc::Global;
 use std::sync::Wait;
 use std::thread::Threads;
-use watcher_set::Watching;
+use watcher_set::{Watchers, Watching};
 
 /// What the program leaves: its exit status, and the disk.
 pub struct Ended<D> {
@@ -174,7 +173,7 @@ pub fn life<R: Threads + Wait + Sync, S: Source, K: Sink, H: Shelf, D: Disk + Se
         → (Rose (H.faults shelf.old) (H.faults shelf.new) → ⊥)
         → SaysBadFile bad (between K.faults K.written output.old output.new) result.status ⊎ (result.status ≡ 9) }
 {
-    let watchers = Auditors::new(watchers);
+    let watchers = Watchers::new(watchers);
     let finished = obey(rt, alloc, words, input, output, shelf, disk, watchers, gate);
     Ended {
         status: finished.ending.status(),

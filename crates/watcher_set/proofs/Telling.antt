@@ -86,21 +86,16 @@ module _ {B : Type 0} (g : Ghosts B) where
       subst (λ list. length list < most_commands) (sym told.noted) few
   one_few commands few auditor (Reported report) told = tt
 
-  all_fresh : {C : Type 0} (watcher_in : C → B) (boxes : List C)
-      → AllByRecursion (λ box. g.noted (watcher_in box) ≡ []) boxes
-      → AllZip (IsTold g []) (map (λ box. auditor_of g (watcher_in box)) boxes)
-      (map (λ box. Listening (watcher_in box)) boxes)
-  all_fresh watcher_in [] fresh = tt
-  all_fresh watcher_in (box ∷ boxes) fresh = (
-    record { noted = fresh.0; goes_on = refl; stops = λ list. refl; number = λ list. refl },
-    all_fresh watcher_in boxes fresh.1,
-  )
+  all_fresh : (watchers : List B) → AllByRecursion (λ watcher. g.noted watcher ≡ []) watchers
+      → AllZip (IsTold g []) (map (auditor_of g) watchers) (map Listening watchers)
+  all_fresh [] fresh = tt
+  all_fresh (watcher ∷ watchers) fresh =
+      (record { noted = fresh.0; goes_on = refl; stops = λ list. refl; number = λ list. refl }, all_fresh watchers fresh.1)
 
   -- no round has come yet, and each has noted nothing
-  pub AreTold-fresh : {C : Type 0} (watcher_in : C → B) (boxes : List C)
-      → AllByRecursion (λ box. g.noted (watcher_in box) ≡ []) boxes
-      → AreTold g [] (map (λ box. auditor_of g (watcher_in box)) boxes) (map (λ box. Listening (watcher_in box)) boxes)
-  AreTold-fresh watcher_in boxes fresh = record { each = all_fresh watcher_in boxes fresh }
+  pub AreTold-fresh : (watchers : List B) → AllByRecursion (λ watcher. g.noted watcher ≡ []) watchers
+      → AreTold g [] (map (auditor_of g) watchers) (map Listening watchers)
+  AreTold-fresh watchers fresh = record { each = all_fresh watchers fresh }
 
   -- a round that readies
   pub AreTold-still : (commands : List Command) (auditors : List Auditor) (old new : List (Place B))
