@@ -14,10 +14,11 @@ use Rattle.policy_machine.specs.Merge.{AnswersLine, Placed, turns_of}
 use Rattle.turn_lock.specs.History.{StartsWith, entries_of}
 use Rattle.turn_lock.specs.Passes.{Holding, Page, PassFacts, TableId, pages}
 use Rattle.shared_office.specs.Offices.{IsOfficeHistory, OfficeOpening}
-use Rattle.lane_runner.specs.declared.transcript.AnsweredLine.{AnsweredLine as TranscriptLine}
+use Rattle.lane_runner.specs.declared.transcript.TranscriptLine.{TranscriptLine}
 use Rattle.lane_runner.specs.AnsweredLines.{AnsweredLine, turns_in}
-use Rattle.lane_runner.specs.Lanes.{AreRightLanes, IsRightLane, is_value, lines_in}
-use Rattle.lane_runner.specs.Transcripts.{HasRun, IsTold, dry_of}
+use Rattle.lane_runner.specs.Lanes.{AreRightLanes, IsRightLane, is_value}
+use Rattle.policy_types.specs.Lanes.{lines_in}
+use Rattle.lane_runner.specs.Transcripts.{HasRunLanes, IsTold, dry_of}
 use Rattle.lane_runner.specs.inside.Parts.{HasEntered, HasLeft, HasRunIn, HaveRun, IsFresh, IsReady, IsRoomFor, Seat, all_left, all_shares_in, turns_needed}
 use Rattle.lane_runner.proofs.Places.{no_turns, turns_stay}
 use Rattle.lane_runner.proofs.AnswerSteps.{all_later, needed_append, told_later, zip_moved}
@@ -259,7 +260,7 @@ module _ {D W : Type 0} where
     added_is : added ≡ map (λ caller. (caller, entries_of new.seen caller)) (callers_in news)
     added_is = pages_are new.seen news ended_none paged
 
-    pub has_run : HasRun old new (callers_in news)
+    pub has_run : HasRunLanes old new (callers_in news)
     has_run = record {
       turnstile = left.turnstile ∙ entered.turnstile;
       opening = left.opening ∙ entered.opening;

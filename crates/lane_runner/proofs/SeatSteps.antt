@@ -10,8 +10,8 @@ use Rattle.policy_types.specs.declared.script.Lane.{Lane}
 use Rattle.turn_lock.specs.History.{StartsWith}
 use Rattle.turn_lock.specs.Passes.{Enters, Holding, Leaves, Page, PassFacts, pages}
 use Rattle.shared_office.specs.Offices.{IsOfficeHistory, OfficeOpening}
-use Rattle.lane_runner.specs.declared.transcript.AnsweredLine.{AnsweredLine as TranscriptLine}
-use Rattle.lane_runner.specs.Lanes.{lines_in}
+use Rattle.lane_runner.specs.declared.transcript.TranscriptLine.{TranscriptLine}
+use Rattle.policy_types.specs.Lanes.{lines_in}
 use Rattle.lane_runner.specs.inside.Parts.{HasEntered, HasLeft, HasRunIn, HaveRun, IsFresh, Seat, all_left, all_shares_in, shares_to_enter, turns_to_enter}
 use Rattle.lane_runner.proofs.AnswerSteps.{all_append, all_weaker}
 

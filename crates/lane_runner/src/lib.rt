@@ -12,4 +12,4 @@ mod transcript;
 mod trials;
 
 pub use running::run_lanes;
-pub use transcript::{AnsweredLine, AnsweredLines, Callers, Outcome, Transcript};
+pub use transcript::{TranscriptLine, TranscriptLines, Callers, Outcome, Transcript};

@@ -9,10 +9,9 @@ use Rattle.policy_types.specs.declared.script.Line.TheVariants.{Post, Value, Tri
 use Rattle.policy_types.specs.declared.script.Lane.{Lane}
 use Rattle.policy_types.specs.declared.watcher.NoMemory.{NoMemory as Lack}
 use Rattle.command_csv.specs.Reads.{IsScriptLine}
-use Rattle.lane_runner.specs.AnsweredLines.{AreRising}
-use Rattle.lane_runner.specs.Lanes.{IsRightLane, IsRightLine, is_value, lines_in}
+use Rattle.policy_types.specs.Lanes.{AreRising, lines_in}
+use Rattle.lane_runner.specs.Lanes.{IsRightLane, IsRightLine, is_value}
 use Rattle.load_maker.specs.GeneratedLanes.{AreDealt, IsValidPosting}
-use Rattle.load_maker.specs.GeneratedLanes.{AreRising as LanesRise}
 use Rattle.load_maker.specs.GeneratedScript.{generated_text}
 use Rattle.life_app.specs.declared.ending.Ending.{Ending}
 use Rattle.life_app.specs.declared.ending.Ending.TheVariants.{Done, WriteFault, NoMemory}

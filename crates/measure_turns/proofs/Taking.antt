@@ -4,7 +4,7 @@ use Rattle.std.proofs.lemmas.List.Sums.{sum_by-cons, sum_by-append, sum_by_push}
 use Rattle.policy_types.specs.declared.entry.Entry.{Entry}
 use Rattle.turn_lock.specs.Passes.{Holding, Page, PassFacts, TakesTurn, Enters, Leaves, IsFirst, OwnsAll, pages}
 use Rattle.measure_turns.proofs.Spread.{all_turns, all_counted}
-use Rattle.measure_turns.specs.Turns.{Takes, AllTake, HasRoom, turns_of, counted_of}
+use Rattle.measure_turns.specs.Turns.{Takes, AllTake, HasRoom, turns_known, counted_of}
 
 more_few : (b : Bool) (count turns : ℕ) → count ≤ turns → count + cond b 1 0 ≤ turns + 1
 more_few true count turns few = omega arith
@@ -99,8 +99,8 @@ module _ {O : Type 0} (counts : Entry → Bool) where
       let kept_shares : kept.shares ≡ old.shares - old.shares / 2 = ap (λ (p : Holding O). p.shares) keeps in
       let given_shares : given.shares ≡ old.shares / 2 = ap (λ (p : Holding O). p.shares) gives in
       let new_shares : new.shares ≡ one.shares + gone.shares = ap (λ (p : Holding O). p.shares) leaves.new_is in
-      let kept_turns : turns_of kept ≡ turns_of old = ap (λ (p : Holding O). turns_of p) keeps in
-      let given_turns : turns_of given ≡ 0 = ap (λ (p : Holding O). turns_of p) gives in
+      let kept_turns : turns_known kept ≡ turns_known old = ap (λ (p : Holding O). turns_known p) keeps in
+      let given_turns : turns_known given ≡ 0 = ap (λ (p : Holding O). turns_known p) gives in
       let kept_counted : counted_of counts kept ≡ counted_of counts old = ap (λ (p : Holding O). counted_of counts p) keeps in
       let given_counted : counted_of counts given ≡ 0 = ap (λ (p : Holding O). counted_of counts p) gives in
       let one_shares = first.shares in
@@ -122,7 +122,7 @@ module _ {O : Type 0} (legal : O → List Entry → Type 0) (counts : Entry → 
     (is_first : IsFirst opening first) (take : AllTake counts turns count first last) (facts : PassFacts legal last) (owns : OwnsAll last) where
   pub turns_in_all : length last.seen ≡ turns
   turns_in_all =
-      let none : turns_of first ≡ 0 =
+      let none : turns_known first ≡ 0 =
       ap (λ ended. sum_by (λ (p : Page). length p.1) ((first.caller, first.made) ∷ ended)) is_first.ended
       ∙ ap (λ made. sum_by (λ (p : Page). length p.1) ((first.caller, made) ∷ [])) is_first.made in
       let made = take.made in

@@ -14,7 +14,7 @@ use Rattle.shared_office.specs.Offices.{OfficeOpening}
 
 -- The office was opened on the commands of the disk's file and the disk's count of faults, with these watchers. Its first
 -- pass has all turns and all shares.
-pub record HasStarted {D W : Type 0} (g : Ghosts D) (old : D) (watchers : W) (pass : Holding (OfficeOpening D W))
+pub record HasStartedOffice {D W : Type 0} (g : Ghosts D) (old : D) (watchers : W) (pass : Holding (OfficeOpening D W))
     : Type 0 where
   pub opening : Opening
   pub first : IsFirst (record { opening = opening; begun = old; watchers = watchers }) pass

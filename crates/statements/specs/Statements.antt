@@ -9,7 +9,8 @@ use Rattle.policy_types.specs.Accounts.{Booking}
 use Rattle.policy_types.specs.Valid.{day_of}
 use Rattle.life_dates.specs.DayText.{day_text}
 use Rattle.money_core.specs.CentsText.{cents_text, signed_cents_text}
-use Rattle.statements.specs.Words.{kind_word, plan_word, status_word}
+use Rattle.statements.specs.Words.{kind_word, status_word}
+use Rattle.policy_types.specs.Words.{plan_word}
 use Rattle.statements.specs.Lines.{line_of}
 
 -- the terms of a policy's insurance
@@ -51,8 +52,8 @@ statement_text entries policy =
     flat_map (λ (entry : ℕ × Command). entry_text entry.0 entry.1) entries ++ policy_text policy
 
 -- the line of one account
-unfoldable pub account_text : List ℕ → ℤ → List ℕ
-account_text account balance = line_of (codes "balance") (account ∷ signed_cents_text balance ∷ [])
+unfoldable pub account_line : List ℕ → ℤ → List ℕ
+account_line account balance = line_of (codes "balance") (account ∷ signed_cents_text balance ∷ [])
 
 -- the line of the number of accepted commands
 unfoldable pub count_text : ℕ → List ℕ
@@ -61,8 +62,8 @@ count_text count = line_of (codes "count") (decimal count ∷ [])
 -- the four balances, and how many commands were accepted
 abbrev pub balance_text : Booking → ℕ → List ℕ
 balance_text ledger count =
-    account_text (codes "cash") ledger.cash ++ account_text (codes "premiums") ledger.premiums
-    ++ account_text (codes "incurred") ledger.incurred ++ account_text (codes "payable") ledger.payable
+    account_line (codes "cash") ledger.cash ++ account_line (codes "premiums") ledger.premiums
+    ++ account_line (codes "incurred") ledger.incurred ++ account_line (codes "payable") ledger.payable
     ++ count_text count
 
 -- a policy's amounts, none above 100,000,000.00

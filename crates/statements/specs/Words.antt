@@ -2,8 +2,6 @@
 use Rattle.std.specs.Prelude.{ℕ, List, codes}
 use Rattle.policy_types.specs.declared.command.Command.{Command}
 use Rattle.policy_types.specs.declared.command.Command.TheVariants.{Issue, Premium, Alter, Lapse, Reinstate, Claim, Settle, Mature}
-use Rattle.policy_types.specs.declared.command.Plan.{Plan}
-use Rattle.policy_types.specs.declared.command.Plan.TheVariants.{Term, Whole, Endowment, Limited}
 use Rattle.policy_types.specs.declared.policy.Status.{Status}
 use Rattle.policy_types.specs.declared.policy.Status.TheVariants.{InForce, Lapsed, Claimed, Matured, Expired, Settled}
 
@@ -17,12 +15,6 @@ kind_word (Reinstate id day amount) = codes "reinstate"
 kind_word (Claim id day) = codes "claim"
 kind_word (Settle id day amount) = codes "settle"
 kind_word (Mature id day) = codes "mature"
-
-abbrev pub plan_word : Plan → List ℕ
-plan_word Term = codes "term"
-plan_word Whole = codes "whole"
-plan_word Endowment = codes "endowment"
-plan_word Limited = codes "limited"
 
 abbrev pub status_word : Status → List ℕ
 status_word InForce = codes "inforce"

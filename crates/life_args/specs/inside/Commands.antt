@@ -48,10 +48,10 @@ Takes app words (Err Usage) = fault_of app words ≢ []
 Takes app words (Err NoMemory) = ⊤
 
 -- what is asked holds of the answer, or of nothing, or memory was refused
-abbrev pub Gives : {T : Type 0} → (T → Type 0) → Result T WordsFault → Type 0
-Gives IsAsked (Ok answer) = IsAsked answer
-Gives {T} IsAsked (Err Usage) = (answer : T) → IsAsked answer → ⊥
-Gives IsAsked (Err NoMemory) = ⊤
+abbrev pub GivesAsked : {T : Type 0} → (T → Type 0) → Result T WordsFault → Type 0
+GivesAsked IsAsked (Ok answer) = IsAsked answer
+GivesAsked {T} IsAsked (Err Usage) = (answer : T) → IsAsked answer → ⊥
+GivesAsked IsAsked (Err NoMemory) = ⊤
 
 -- there is a value, and it is that of the day
 abbrev pub IsDayIn : Option (List ℕ) → ℤ → Type 0
