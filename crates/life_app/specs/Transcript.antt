@@ -22,7 +22,7 @@ use Rattle.snapshot_value.specs.Valuing.{IsValuedRow}
 use Rattle.life_dates.specs.DayText.{day_text}
 use Rattle.money_core.specs.CentsText.{cents_text}
 use Rattle.statements.specs.Lines.{line_of}
-use Rattle.statements.specs.Words.{kind_word, status_word}
+use Rattle.policy_types.specs.Words.{kind_word, status_word}
 use Rattle.lane_runner.specs.AnsweredLines.{AnsweredLine}
 
 -- why a posting was refused: a word, and the value where the refusal holds one

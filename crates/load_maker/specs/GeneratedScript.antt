@@ -5,7 +5,7 @@ use Rattle.policy_types.specs.Valid.{day_of, id_of}
 use Rattle.life_dates.specs.DayText.{day_text}
 use Rattle.statements.specs.Lines.{line_of}
 use Rattle.statements.specs.Statements.{term_fields}
-use Rattle.statements.specs.Words.{kind_word}
+use Rattle.policy_types.specs.Words.{kind_word}
 use Rattle.load_maker.specs.GeneratedRows.{ScriptRow, generated_rows}
 
 -- a row's text: lane, kind, the policy's number, day, and what else the command holds

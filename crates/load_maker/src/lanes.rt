@@ -31,7 +31,7 @@ pub fn make_lanes(alloc: Global, seed: u32, count: u32, lanes: u8) -> Result<Scr
 }
 
 // The lines of one lane. All policies are drawn, since each is drawn from what the one before left.
-#[tactic(auto, unfolding(crate::specs::Generator::number_after))]
+#[tactic(auto, unfolding(crate::specs::Generator::state_after))]
 fn make_lines(
     alloc: Global,
     seed: u32,

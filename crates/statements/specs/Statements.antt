@@ -9,8 +9,7 @@ use Rattle.policy_types.specs.Accounts.{Booking}
 use Rattle.policy_types.specs.Valid.{day_of}
 use Rattle.life_dates.specs.DayText.{day_text}
 use Rattle.money_core.specs.CentsText.{cents_text, signed_cents_text}
-use Rattle.statements.specs.Words.{kind_word, status_word}
-use Rattle.policy_types.specs.Words.{plan_word}
+use Rattle.policy_types.specs.Words.{kind_word, plan_word, status_word}
 use Rattle.statements.specs.Lines.{line_of}
 
 -- the terms of a policy's insurance

@@ -1,7 +1,6 @@
 // The words of scripts, transcripts and statements.
 ghost use Rattle.std.specs.Prelude.{◌≡◌};
-ghost use Rattle.policy_types.specs.Words as named;
-ghost use Rattle.statements.specs.Words as spec;
+ghost use Rattle.policy_types.specs.Words as spec;
 
 use policy_types::{Command, Plan, Status};
 
@@ -23,7 +22,7 @@ pub fn kind_word(command: &Command) -> &'static str
 
 /// The word of a plan.
 pub fn plan_word(plan: Plan) -> &'static str
-    ensures { result.now ≡ named.plan_word plan }
+    ensures { result.now ≡ spec.plan_word plan }
 {
     match plan {
         Plan::Term => "term",
