@@ -3,8 +3,8 @@ use Rattle.std.specs.Prelude.{ℕ, List, ◌∷◌, decimal}
 use Rattle.std.specs.List.{flat_map}
 use Rattle.policy_types.specs.Valid.{day_of, id_of}
 use Rattle.life_dates.specs.DayText.{day_text}
-use Rattle.statements.specs.Lines.{line_of}
-use Rattle.statements.specs.Statements.{term_fields}
+use Rattle.text_lines.specs.Lines.{line_of}
+use Rattle.text_lines.specs.Fields.{term_fields}
 use Rattle.policy_types.specs.Words.{kind_word}
 use Rattle.load_maker.specs.GeneratedRows.{ScriptRow, generated_rows}
 

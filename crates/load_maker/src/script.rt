@@ -5,8 +5,8 @@ ghost use Rattle.load_maker.specs.GeneratedScript.{generated_text};
 use crate::generator::Generator;
 use crate::rows::write_rows;
 use policy_types::NoMemory;
-use statements::LineWriter;
 use std::alloc::Global;
+use text_lines::LineWriter;
 
 /// The script of `count` policies drawn from the seed, numbered from 1 and dealt out to the lanes in turn: for each
 /// the row that issues it and the row of its first premium.

@@ -3,11 +3,10 @@ ghost use Rattle.std.specs.Prelude.{◌≡◌, ◌++◌, IfOk, OnOk};
 ghost use Rattle.money_ledgers.specs.Balances.{balances};
 ghost use Rattle.statements.specs.Statements.{account_line, balance_text, count_text};
 
-use crate::writer::LineWriter;
-use money_core::Text;
 use money_ledgers::Ledger;
 use policy_types::NoMemory;
 use std::alloc::Global;
+use text_lines::{LineWriter, Text};
 
 /// The lines of the four balances, and of the number of accepted commands.
 pub fn balance(alloc: Global, ledger: &Ledger, count: u32) -> Result<Text, NoMemory>
