@@ -6,7 +6,7 @@ use Rattle.policy_types.specs.declared.policy.Policy.{Policy}
 use Rattle.policy_types.specs.Valid.{id_of}
 use Rattle.policy_machine.specs.Accounts.{ledger_of}
 use Rattle.policy_machine.specs.Book.{book, policy_of}
-use Rattle.statements.specs.Lines.{line_of}
+use Rattle.text_lines.specs.Lines.{line_of}
 use Rattle.statements.specs.Statements.{balance_text, policy_text, statement_text}
 
 -- all policies in order of issue, the four balances, and the number of commands

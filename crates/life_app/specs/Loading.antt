@@ -25,7 +25,7 @@ use Rattle.snapshot_value.specs.Valuing.{IsValuedRow}
 use Rattle.office_state.specs.Images.{IsLeftAlone, IsLeftBy}
 use Rattle.office_state.specs.Journals.{Opens}
 use Rattle.money_core.specs.CentsText.{cents_text}
-use Rattle.statements.specs.Lines.{line_of}
+use Rattle.text_lines.specs.Lines.{line_of}
 use Rattle.load_maker.specs.GeneratedLanes.{generated_lanes}
 use Rattle.life_app.specs.Outcome.{AreAnswered, AreAny, ArePins, HaveAFault, IsRefusedJournal, LackMemory}
 use Rattle.life_app.specs.Valuing.{EndsNoBasis}

@@ -21,7 +21,7 @@ use Rattle.report_text.specs.Block.{block_text}
 use Rattle.snapshot_value.specs.Valuing.{IsValuedRow}
 use Rattle.life_dates.specs.DayText.{day_text}
 use Rattle.money_core.specs.CentsText.{cents_text}
-use Rattle.statements.specs.Lines.{line_of}
+use Rattle.text_lines.specs.Lines.{line_of}
 use Rattle.policy_types.specs.Words.{kind_word, status_word}
 use Rattle.lane_runner.specs.AnsweredLines.{AnsweredLine}
 

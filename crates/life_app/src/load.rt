@@ -16,19 +16,18 @@ use crate::unvalued::refuse_basis;
 use basis_book::{Basis, Name};
 use basis_shelf::fetch_basis;
 use itoa::Buffer;
-use lane_runner::{TranscriptLine, Outcome, run_lanes};
+use lane_runner::{Outcome, TranscriptLine, run_lanes};
 use load_maker::make_lanes;
-use money_core::Text;
 use outside_io::{Disk, Gate, Shelf, Sink, write_all};
 use policy_types::{At, Lane, NoMemory};
 use policy_value::Rows;
 use report_text::Totals;
 use shared_office::{Answer, Office, OfficeCalls, OfficePass, close};
 use snapshot_value::{Valuation, ValueFault};
-use statements::LineWriter;
 use std::alloc::Global;
 use std::sync::Wait;
 use std::thread::Threads;
+use text_lines::{LineWriter, Text};
 use watcher_set::{NoWatchers, Watching};
 
 /// 2020-12-31, in days since 1970-01-01.
@@ -201,7 +200,12 @@ fn write_loaded<K: Sink>(
     }
 }
 
-fn write_line<K: Sink>(alloc: Global, lines: &[TranscriptLine], rows: &Rows, output: &mut K) -> Ending
+fn write_line<K: Sink>(
+    alloc: Global,
+    lines: &[TranscriptLine],
+    rows: &Rows,
+    output: &mut K,
+) -> Ending
     requires rows { length rows.now ≤ 4000000 }
     requires bounded { AreSummable rows.now }
     ensures { EndsLine lines.now rows.now (between K.faults K.written output.old output.new) result }

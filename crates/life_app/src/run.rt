@@ -22,7 +22,7 @@ use crate::unvalued::refuse_basis;
 use basis_book::{Basis, BasisRows, Name};
 use basis_shelf::{NoBasis, fetch_basis};
 use indexmap::IndexMap;
-use lane_runner::{TranscriptLine, Outcome, Transcript, run_lanes};
+use lane_runner::{Outcome, Transcript, TranscriptLine, run_lanes};
 use outside_io::{Disk, Gate, Shelf, Sink, Source, write_all};
 use policy_types::{Lane, Line, NoMemory, Report};
 use shared_office::{Answer, Office, OfficeCalls, OfficePass, close};

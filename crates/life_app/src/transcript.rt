@@ -7,20 +7,19 @@ ghost use Rattle.life_dates.specs.Calendar.{IsDay, IsTermDay};
 ghost use Rattle.life_dates.specs.DayText.{day_text};
 ghost use Rattle.money_core.specs.CentsText.{cents_text};
 ghost use Rattle.office_state.specs.Posting.{reply_of};
-ghost use Rattle.statements.specs.Lines.{behind_commas};
+ghost use Rattle.text_lines.specs.Lines.{behind_commas};
 ghost use Rattle.life_app.specs.Transcript.{pin_refusal_fields, posting_text, refusal_fields, reply_fields, trim_text, unpinned_text, unvalued_text};
 ghost use Rattle.life_app.specs.inside.Told.{IsPrintable, IsToldAnswer, IsWritable, IsWritableOutcome, outcome_text, run_text, told_text, told_texts};
 
 use crate::reporting::report_lines;
 use crate::state::add;
 use itoa::Buffer;
-use lane_runner::{TranscriptLine, Outcome};
-use money_core::Text;
+use lane_runner::{Outcome, TranscriptLine};
 use office_state::Answer;
 use policy_types::{Command, Line, NoMemory, PinRefusal, Refusal, Report};
 use report_text::print_block;
-use statements::{LineWriter, kind_word, status_word};
 use std::alloc::Global;
+use text_lines::{LineWriter, Text, kind_word, status_word};
 
 /// The text of answered lines, one after the other, and behind them the lines of the auditors' reports.
 pub fn transcript(
