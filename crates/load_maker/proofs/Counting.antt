@@ -8,14 +8,14 @@ use Rattle.policy_types.specs.declared.script.Line.TheVariants.{Post}
 use Rattle.policy_types.specs.declared.script.Lane.{Lane}
 use Rattle.load_maker.specs.GeneratedRows.{ScriptRow}
 use Rattle.load_maker.specs.GeneratedLanes.{IsValidPosting, lane_with, dealt_lanes, dealt_lines}
-use Rattle.policy_types.specs.Lanes.{lines_in, AreRising}
+use Rattle.policy_types.specs.Lanes.{AreRising, lines_in, numbers_of}
 use Rattle.load_maker.proofs.Drawing.{IsRowFor, all_and}
 
 -- lanes with numbers below one
 abbrev AreBelow : ℕ → List Lane → Type 0
 AreBelow n lanes = AllByRecursion (λ (lane : Lane). lane.number < n) lanes
 
-rising_push : (lanes : List Lane) (last : Lane) → AreRising lanes → AreBelow last.number lanes → AreRising (lanes ++ last ∷ [])
+rising_push : (lanes : List Lane) (last : Lane) → AreRising (numbers_of lanes) → AreBelow last.number lanes → AreRising (numbers_of (lanes ++ last ∷ []))
 rising_push [] last rising below = tt
 rising_push (lane ∷ []) last rising below = (below.0, tt)
 rising_push (lane ∷ next ∷ lanes) last rising below = (rising.0, rising_push (next ∷ lanes) last rising.1 below.1)
@@ -25,7 +25,7 @@ below_next [] n m more below = tt
 below_next (lane ∷ lanes) n m more below = (omega (arith, more, below.0), below_next lanes n m more below.1)
 
 pub record AreNumbered (lanes : List Lane) (n : ℕ) : Type 0 where
-  pub rising : AreRising lanes
+  pub rising : AreRising (numbers_of lanes)
   pub below : AllByRecursion (λ (lane : Lane). lane.number < suc n) lanes
   pub few : length lanes ≤ n
 
