@@ -8,11 +8,17 @@ import sys
 # Names with two meanings, and why they stay.
 ALLOWED = {
     "Holds": "of bytes at a place in outside_io, of an office's state in an inner definition of office_state",
-    "StandsFor": "the journal's state and the office's stand for their history in the same sense",
+    "StandsFor": "a journal's state and an office's stand for their history in the same sense",
+    "count_of": "of a journal's records and of the commands of the office that keeps it",
+    "disk_of": "of a journal and of the office that keeps it: the same disk",
+    "own": "of a policy's commands in policy_machine, of a seat's page in an inner definition of turn_lock",
     "put": "of bytes in memory_disk, of policies in an inner definition of office_state",
+    "turns_of": "of a caller's turns in a history, and of how many turns an office answered",
 }
 
-DEFINITION = re.compile(r"^(?:(?:abbrev|unfoldable)\s+)?pub\s+(?:(?:record|data)\s+)?(?!mod\s|use\s)([^\s:{(]+)")
+DEFINITION = re.compile(
+    r"(?:pub\s+(?!mod\s|use\s|record\s|data\s)|\s*(?:(?:abbrev|unfoldable)\s+pub|pub\s+(?:record|data))\s+)([^\s:{(]+)"
+)
 
 
 def definitions(top: pathlib.Path) -> dict[str, set[str]]:

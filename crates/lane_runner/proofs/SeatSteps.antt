@@ -8,7 +8,7 @@ use Rattle.basis_book.specs.Dated.{Dated}
 use Rattle.policy_types.specs.declared.entry.Entry.{Entry}
 use Rattle.policy_types.specs.declared.script.Lane.{Lane}
 use Rattle.turn_lock.specs.History.{StartsWith}
-use Rattle.turn_lock.specs.Passes.{Enters, Holding, Leaves, Page, PassFacts, pages}
+use Rattle.turn_lock.specs.Passes.{Enters, Holding, LeavesLock, Page, PassFacts, pages}
 use Rattle.shared_office.specs.Offices.{IsOfficeHistory, OfficeOpening}
 use Rattle.lane_runner.specs.declared.transcript.TranscriptLine.{TranscriptLine}
 use Rattle.policy_types.specs.Lanes.{lines_in}
@@ -178,7 +178,7 @@ module _ {D W : Type 0} where
   }
 
   pub left_more : (old mid new gone : Holding (OfficeOpening D W)) (seats : List (Seat D W)) (lines : Vec TranscriptLine Global)
-      → HasLeft old mid seats → Leaves gone mid new → HasLeft old new (seats ++ (gone, lines) ∷ [])
+      → HasLeft old mid seats → LeavesLock gone mid new → HasLeft old new (seats ++ (gone, lines) ∷ [])
   left_more old mid new gone seats lines so_far leaves = record {
     turnstile = ap (λ (p : Holding (OfficeOpening D W)). p.turnstile) leaves.new_is ∙ so_far.turnstile;
     opening = ap (λ (p : Holding (OfficeOpening D W)). p.opening) leaves.new_is ∙ so_far.opening;

@@ -8,7 +8,7 @@ ghost use Rattle.lane_runner.specs.declared.transcript.TranscriptLine.{Transcrip
 ghost use Rattle.lane_runner.specs.Lanes.{AreRightLanes};
 ghost use Rattle.policy_types.specs.Lanes.{lines_in};
 ghost use Rattle.lane_runner.specs.Transcripts.{HasAnsweredLanes};
-ghost use Rattle.lane_runner.specs.inside.Parts.{HasEntered, HasLeft, HasLaneRoom, HasRunAt, HaveRun, IsReady, IsReadyAt, IsRoomFor, shares_to_enter, turns_to_enter};
+ghost use Rattle.lane_runner.specs.inside.Parts.{HasEntered, HasLeft, HasLaneRoom, HasRunAt, HaveRun, IsReadySeat, IsReadyAt, IsRoomFor, shares_to_enter, turns_to_enter};
 
 use crate::answering::answer_lane;
 use crate::transcript::{TranscriptLine, TranscriptLines, Callers, Transcript};
@@ -188,7 +188,7 @@ fn run_seats<D: Disk + Send, W: Watching + Send, G: Gate + Sync, R: Threads + Wa
     gate: &G,
     seats: &mut Vec<Seat<D, W>>,
 )
-    requires ready { AllZip (IsReady office.now) lanes.now seats.old.items }
+    requires ready { AllZip (IsReadySeat office.now) lanes.now seats.old.items }
     ensures run { HaveRun basis.now lanes.now seats.old.items seats.new.items }
 {
     run_all(rt, alloc, office, lanes, basis, gate, seats.as_mut_slice());
@@ -203,7 +203,7 @@ fn run_all<D: Disk + Send, W: Watching + Send, G: Gate + Sync, R: Threads + Wait
     gate: &G,
     seats: &mut [Seat<D, W>],
 )
-    requires ready { AllZip (IsReady office.now) lanes.now seats.old }
+    requires ready { AllZip (IsReadySeat office.now) lanes.now seats.old }
     ensures run { HaveRun basis.now lanes.now seats.old seats.new }
 {
     for_each_mut(

@@ -16,7 +16,7 @@ use Rattle.life_args.specs.declared.mode.Mode.{Mode}
 use Rattle.life_args.specs.declared.mode.Mode.TheVariants.{Run, Value, State, Generate, Load}
 use Rattle.life_args.specs.Values.{IsPositionOr, AreWorkersOr, IsBasisOr, IsPolicyOr}
 use Rattle.life_args.specs.Words.{AreWords, AskFor, AskForNothing, IsFaultOf, IsRun, IsValue, IsState}
-use Rattle.life_args.specs.inside.Commands.{GivesAsked, HasHyphens, IsDayIn, Takes, run_app, value_app, state_app}
+use Rattle.life_args.specs.inside.Commands.{GivesAsked, HasHyphens, IsDayIn, TakesWords, run_app, value_app, state_app}
 use Rattle.life_args.proofs.Modes.{ValuesSay, differ, run_says, run_reads, value_says, value_reads, state_says, state_reads}
 use Rattle.life_args.proofs.Numbers.{generate_reads, load_reads}
 use Rattle.life_args.proofs.Texts.{text_of_day, day_of_text}
@@ -107,7 +107,7 @@ state_only words (Generate seed count lanes) are = absurd (differ (codes "state"
 state_only words (Load seed count lanes workers) are = absurd (differ (codes "state") (codes "load") refl are.0)
 
 -- a value that was got is the first of its row
-pub found_is : (app : App) (words : List Text) (matches : ArgMatches) (id : Text) (given : Option Text) → Takes app words (Ok matches) → given ≡ first_value (found_of matches) id
+pub found_is : (app : App) (words : List Text) (matches : ArgMatches) (id : Text) (given : Option Text) → TakesWords app words (Ok matches) → given ≡ first_value (found_of matches) id
     → given ≡ first_of id (matches_of app words)
 found_is app words matches id given takes is = is ∙ first_value-rows (found_of matches) id ∙ ap (first_of id) takes.1
 
@@ -120,7 +120,7 @@ pub refusal : {T : Type 0} (P : T → Type 0) (fault : WordsFault) → GivesAske
 refusal P Usage given is = given
 refusal P NoMemory given is = cc
 
-pub untaken : (app : App) (words : List Text) (fault : WordsFault) → Takes app words (Err fault) → fault ≡ Usage → fault_of app words ≢ []
+pub untaken : (app : App) (words : List Text) (fault : WordsFault) → TakesWords app words (Err fault) → fault ≡ Usage → fault_of app words ≢ []
 untaken app words Usage takes is = takes
 untaken app words NoMemory takes is = cc
 
@@ -130,16 +130,16 @@ module _ (app : App) (words : List Text) (is : app ≡ run_app) where
   run_taken : (basis : List ℕ) → IsRun words basis → (fault_of app words ≡ []) × IsBasisOr (first_of (codes "basis") (matches_of app words)) basis
   run_taken basis asked = subst (λ (a : App). (fault_of a words ≡ []) × IsBasisOr (first_of (codes "basis") (matches_of a words)) basis) (sym is) (let read = run_reads words basis asked in (read.0, read.1))
 
-  pub run_untaken : (fault : WordsFault) → Takes app words (Err fault) → GivesAsked (AreWords (codes "run" ∷ words)) (Err fault)
+  pub run_untaken : (fault : WordsFault) → TakesWords app words (Err fault) → GivesAsked (AreWords (codes "run" ∷ words)) (Err fault)
   run_untaken fault takes = refused (AreWords (codes "run" ∷ words)) fault (λ usage mode are. let asked = run_only words mode are in untaken app words fault takes usage (run_taken asked.0 asked.1).0)
 
-  pub run_basis : (matches : ArgMatches) (given : Option Text) (fault : WordsFault) → Takes app words (Ok matches) → given ≡ first_value (found_of matches) (codes "basis")
+  pub run_basis : (matches : ArgMatches) (given : Option Text) (fault : WordsFault) → TakesWords app words (Ok matches) → given ≡ first_value (found_of matches) (codes "basis")
       → GivesAsked (IsBasisOr given) (Err fault) → GivesAsked (AreWords (codes "run" ∷ words)) (Err fault)
   run_basis matches given fault takes got none = refused (AreWords (codes "run" ∷ words)) fault (λ usage mode are.
       let asked = run_only words mode are in
       refusal (IsBasisOr given) fault none usage asked.0 (subst (λ (o : Option Text). IsBasisOr o asked.0) (sym (found_is app words matches (codes "basis") given takes got)) (run_taken asked.0 asked.1).1))
 
-  pub run_is : (matches : ArgMatches) (given : Option Text) (basis : List ℕ) → (HasHyphens words → ⊥) → Takes app words (Ok matches) → given ≡ first_value (found_of matches) (codes "basis")
+  pub run_is : (matches : ArgMatches) (given : Option Text) (basis : List ℕ) → (HasHyphens words → ⊥) → TakesWords app words (Ok matches) → given ≡ first_value (found_of matches) (codes "basis")
       → IsBasisOr given basis → AreWords (codes "run" ∷ words) (Run basis)
   run_is matches given basis free takes got said =
       let taken = subst (λ (a : App). fault_of a words ≡ []) is takes.0 in
@@ -152,16 +152,16 @@ module _ (app : App) (words : List Text) (is : app ≡ state_app) where
   state_taken : (id : Option ℕ) → IsState words id → (fault_of app words ≡ []) × IsPolicyOr (first_of (codes "id") (matches_of app words)) id
   state_taken id asked = subst (λ (a : App). (fault_of a words ≡ []) × IsPolicyOr (first_of (codes "id") (matches_of a words)) id) (sym is) (let read = state_reads words id asked in (read.0, read.1))
 
-  pub state_untaken : (fault : WordsFault) → Takes app words (Err fault) → GivesAsked (AreWords (codes "state" ∷ words)) (Err fault)
+  pub state_untaken : (fault : WordsFault) → TakesWords app words (Err fault) → GivesAsked (AreWords (codes "state" ∷ words)) (Err fault)
   state_untaken fault takes = refused (AreWords (codes "state" ∷ words)) fault (λ usage mode are. let asked = state_only words mode are in untaken app words fault takes usage (state_taken asked.0 asked.1).0)
 
-  pub state_id : (matches : ArgMatches) (given : Option Text) (fault : WordsFault) → Takes app words (Ok matches) → given ≡ first_value (found_of matches) (codes "id")
+  pub state_id : (matches : ArgMatches) (given : Option Text) (fault : WordsFault) → TakesWords app words (Ok matches) → given ≡ first_value (found_of matches) (codes "id")
       → GivesAsked (IsPolicyOr given) (Err fault) → GivesAsked (AreWords (codes "state" ∷ words)) (Err fault)
   state_id matches given fault takes got none = refused (AreWords (codes "state" ∷ words)) fault (λ usage mode are.
       let asked = state_only words mode are in
       refusal (IsPolicyOr given) fault none usage asked.0 (subst (λ (o : Option Text). IsPolicyOr o asked.0) (sym (found_is app words matches (codes "id") given takes got)) (state_taken asked.0 asked.1).1))
 
-  pub state_is : (matches : ArgMatches) (given : Option Text) (id : Option ℕ) → (HasHyphens words → ⊥) → Takes app words (Ok matches) → given ≡ first_value (found_of matches) (codes "id")
+  pub state_is : (matches : ArgMatches) (given : Option Text) (id : Option ℕ) → (HasHyphens words → ⊥) → TakesWords app words (Ok matches) → given ≡ first_value (found_of matches) (codes "id")
       → IsPolicyOr given id → AreWords (codes "state" ∷ words) (State id)
   state_is matches given id free takes got said =
       let taken = subst (λ (a : App). fault_of a words ≡ []) is takes.0 in
@@ -175,11 +175,11 @@ module _ (app : App) (words : List Text) (is : app ≡ value_app) where
   value_taken on position workers basis asked =
       subst (λ (a : App). (fault_of a words ≡ []) × ValuesSay (matches_of a words) on position workers basis) (sym is) (let read = value_reads words on position workers basis asked in (read.0, read.1))
 
-  pub value_untaken : (fault : WordsFault) → Takes app words (Err fault) → GivesAsked (AreWords (codes "value" ∷ words)) (Err fault)
+  pub value_untaken : (fault : WordsFault) → TakesWords app words (Err fault) → GivesAsked (AreWords (codes "value" ∷ words)) (Err fault)
   value_untaken fault takes = refused (AreWords (codes "value" ∷ words)) fault (λ usage mode are.
       let asked = value_only words mode are in untaken app words fault takes usage (value_taken asked.0 asked.1 asked.2 asked.3 asked.4).0)
 
-  module _ (matches : ArgMatches) (takes : Takes app words (Ok matches)) where
+  module _ (matches : ArgMatches) (takes : TakesWords app words (Ok matches)) where
     pub value_day : (given : Option Text) (fault : WordsFault) → given ≡ first_value (found_of matches) (codes "on") → GivesAsked (IsDayIn given) (Err fault) → GivesAsked (AreWords (codes "value" ∷ words)) (Err fault)
     value_day given fault got none = refused (AreWords (codes "value" ∷ words)) fault (λ usage mode are.
         let asked = value_only words mode are in

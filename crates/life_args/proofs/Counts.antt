@@ -6,7 +6,7 @@ use Rattle.life_args.specs.declared.fault.WordsFault.{WordsFault}
 use Rattle.life_args.specs.declared.mode.Mode.{Mode}
 use Rattle.life_args.specs.declared.mode.Mode.TheVariants.{Run, Value, State, Generate, Load}
 use Rattle.life_args.specs.Words.{AreWords, IsGenerate, IsLoad}
-use Rattle.life_args.specs.inside.Commands.{GivesAsked, HasHyphens, IsNumberIn, Takes, generate_app, load_app}
+use Rattle.life_args.specs.inside.Commands.{GivesAsked, HasHyphens, IsNumberIn, TakesWords, generate_app, load_app}
 use Rattle.life_args.proofs.Answering.{found_is, refusal, refused, untaken}
 use Rattle.life_args.proofs.Modes.{differ}
 use Rattle.life_args.proofs.Numbers.{GenerateSays, LoadSays, generate_reads, generate_says, load_reads, load_says}
@@ -27,7 +27,7 @@ load_only words (Load seed count lanes workers) are = (seed, count, lanes, worke
 
 -- a number that isn't there, or out of its bounds
 missing : (app : App) (words : List Text) (matches : ArgMatches) (name : Text) (given : Option Text) (fault : WordsFault) (least most : ℕ) (P : Mode → Type 0)
-    → Takes app words (Ok matches) → given ≡ first_value (found_of matches) name → GivesAsked (IsNumberIn least most given) (Err fault)
+    → TakesWords app words (Ok matches) → given ≡ first_value (found_of matches) name → GivesAsked (IsNumberIn least most given) (Err fault)
     → ((mode : Mode) → P mode → (n : ℕ) × IsNumberIn least most (first_of name (matches_of app words)) n) → GivesAsked P (Err fault)
 missing app words matches name given fault least most P takes got none said = refused P fault (λ usage mode are.
     let one = said mode are in
@@ -40,11 +40,11 @@ module _ (app : App) (words : List Text) (is : app ≡ generate_app) where
   generate_taken seed count lanes asked =
       subst (λ (a : App). (fault_of a words ≡ []) × GenerateSays (matches_of a words) seed count lanes) (sym is) (let read = generate_reads words seed count lanes asked in (read.0, read.1))
 
-  pub generate_untaken : (fault : WordsFault) → Takes app words (Err fault) → GivesAsked (AreWords (codes "generate" ∷ words)) (Err fault)
+  pub generate_untaken : (fault : WordsFault) → TakesWords app words (Err fault) → GivesAsked (AreWords (codes "generate" ∷ words)) (Err fault)
   generate_untaken fault takes = refused (AreWords (codes "generate" ∷ words)) fault (λ usage mode are.
       let asked = generate_only words mode are in untaken app words fault takes usage (generate_taken asked.0 asked.1 asked.2 asked.3).0)
 
-  module _ (matches : ArgMatches) (takes : Takes app words (Ok matches)) where
+  module _ (matches : ArgMatches) (takes : TakesWords app words (Ok matches)) where
     abbrev generate_said : (mode : Mode) → AreWords (codes "generate" ∷ words) mode → (seed : ℕ) × (count : ℕ) × (lanes : ℕ) × GenerateSays (matches_of app words) seed count lanes
     generate_said mode are = let asked = generate_only words mode are in (asked.0, asked.1, asked.2, (generate_taken asked.0 asked.1 asked.2 asked.3).1)
 
@@ -86,11 +86,11 @@ module _ (app : App) (words : List Text) (is : app ≡ load_app) where
   load_taken seed count lanes workers asked =
       subst (λ (a : App). (fault_of a words ≡ []) × LoadSays (matches_of a words) seed count lanes workers) (sym is) (let read = load_reads words seed count lanes workers asked in (read.0, read.1))
 
-  pub load_untaken : (fault : WordsFault) → Takes app words (Err fault) → GivesAsked (AreWords (codes "load" ∷ words)) (Err fault)
+  pub load_untaken : (fault : WordsFault) → TakesWords app words (Err fault) → GivesAsked (AreWords (codes "load" ∷ words)) (Err fault)
   load_untaken fault takes = refused (AreWords (codes "load" ∷ words)) fault (λ usage mode are.
       let asked = load_only words mode are in untaken app words fault takes usage (load_taken asked.0 asked.1 asked.2 asked.3 asked.4).0)
 
-  module _ (matches : ArgMatches) (takes : Takes app words (Ok matches)) where
+  module _ (matches : ArgMatches) (takes : TakesWords app words (Ok matches)) where
     abbrev load_said : (mode : Mode) → AreWords (codes "load" ∷ words) mode → (seed : ℕ) × (count : ℕ) × (lanes : ℕ) × (workers : ℕ) × LoadSays (matches_of app words) seed count lanes workers
     load_said mode are = let asked = load_only words mode are in (asked.0, asked.1, asked.2, asked.3, (load_taken asked.0 asked.1 asked.2 asked.3 asked.4).1)
 

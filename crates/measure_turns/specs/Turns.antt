@@ -32,7 +32,7 @@ module _ {Opening : Type 0} where
     pub counted : counted_of counts new ≡ counted_of counts old + count
 
   -- a pass has what so many callers need who take so many turns each, and who get theirs by halving it again and again
-  pub record HasRoom (turns callers : ℕ) (pass : Holding Opening) : Type 0 where
+  pub record HasTurnsLeft (turns callers : ℕ) (pass : Holding Opening) : Type 0 where
     pub few : turns < 2 ^ 32
     pub own : turns ≤ pass.left
     pub halved : callers * 2 ^ 34 ≤ pass.left + 2 + 2 ^ 34

@@ -26,7 +26,7 @@ use Rattle.snapshot_value.specs.Valuing.{AreValuedRows, HasValued, AnswersPin, d
 use Rattle.snapshot_value.specs.declared.valuation.Valuation.{Valuation}
 use Rattle.snapshot_value.specs.declared.valuation.ValueFault.{ValueFault}
 use Rattle.snapshot_value.specs.declared.valuation.ValueFault.TheVariants.{Pin, NoMemory}
-use Rattle.snapshot_value.specs.inside.Parts.{FollowsPinned, HasRead, HasReadAll, HasValuedPin, calls_of, policies_at, reads_needed}
+use Rattle.snapshot_value.specs.inside.Parts.{FollowsPinned, HasReadRows, HasReadAll, HasValuedPin, calls_of, policies_at, reads_needed}
 use Rattle.snapshot_value.proofs.Growth.{grows_more, grows_one}
 use Rattle.snapshot_value.proofs.PartSteps.{length-reads_of}
 use Rattle.snapshot_value.proofs.PinSteps.{IsKnown, known, policies_by}
@@ -46,7 +46,7 @@ module _ {D W : Type 0} (basis : List Dated) (on : ℤ) (pin : Held) where
   left_after old mid rows is read left = omega (arith, few_reads old mid rows is read, read.grows.left, left)
 
   pub turn_left : (old mid : Holding (OfficeOpening D W)) (read : Result (List Row) Lack) → PassFacts IsOfficeHistory old → HoldsPin old pin
-      → HasRead basis on pin old mid read → 15999 ≤ old.left → 1 ≤ mid.left
+      → HasReadRows basis on pin old mid read → 15999 ≤ old.left → 1 ≤ mid.left
   turn_left old mid (Ok rows) facts holds read left = left_after old mid rows (known old pin facts holds) read left
   turn_left old mid (Err lack) facts holds read left =
       let same : mid.left ≡ old.left = ap (λ (p : Holding (OfficeOpening D W)). p.left) read in omega (arith, same, left)

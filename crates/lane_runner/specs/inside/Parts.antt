@@ -117,7 +117,7 @@ module _ {D W : Type 0} where
     pub rooms_are : map (λ (seat : Seat D W). seat.1) seats ≡ rooms
 
   -- the lane may be run in this seat
-  pub record IsReady (office : TableId) (lane : Lane) (seat : Seat D W) : Type 0 where
+  pub record IsReadySeat (office : TableId) (lane : Lane) (seat : Seat D W) : Type 0 where
     pub right : IsRightLane lane
     pub ours : seat.0.turnstile ≡ office
     pub left : turns_needed lane.lines ≤ seat.0.left
@@ -129,7 +129,7 @@ module _ {D W : Type 0} where
     pub facts : PassFacts IsOfficeHistory new.0
 
   abbrev pub IsReadyAt : TableId → List Lane → ℕ → Seat D W → Type 0
-  IsReadyAt office lanes index seat = (lane : Lane) → slice_get lanes index ≡ Some lane → IsReady office lane seat
+  IsReadyAt office lanes index seat = (lane : Lane) → slice_get lanes index ≡ Some lane → IsReadySeat office lane seat
 
   abbrev pub HasRunAt : List Dated → List Lane → ℕ → Seat D W → Seat D W → Type 0
   HasRunAt basis lanes index old new = (lane : Lane) → slice_get lanes index ≡ Some lane → HasRunIn basis lane old new

@@ -42,10 +42,10 @@ load_app = with_rule (with_rule (with_rule (with_rule (command_app (codes "load"
     (value_rule (codes "seed"))) (value_rule (codes "count"))) (value_rule (codes "lanes"))) (value_rule (codes "workers"))
 
 -- the command takes the words and these are its matches, or it doesn't take them
-abbrev pub Takes : App → List Text → Result ArgMatches WordsFault → Type 0
-Takes app words (Ok matches) = (fault_of app words ≡ []) × (rows_of (found_of matches) ≡ matches_of app words)
-Takes app words (Err Usage) = fault_of app words ≢ []
-Takes app words (Err NoMemory) = ⊤
+abbrev pub TakesWords : App → List Text → Result ArgMatches WordsFault → Type 0
+TakesWords app words (Ok matches) = (fault_of app words ≡ []) × (rows_of (found_of matches) ≡ matches_of app words)
+TakesWords app words (Err Usage) = fault_of app words ≢ []
+TakesWords app words (Err NoMemory) = ⊤
 
 -- what is asked holds of the answer, or of nothing, or memory was refused
 abbrev pub GivesAsked : {T : Type 0} → (T → Type 0) → Result T WordsFault → Type 0

@@ -70,10 +70,10 @@ module _ {D W : Type 0} where
     pub all : AreValuedRows basis on (policies_at old pin.position) rows
 
   -- so it is, or nothing was read for want of memory
-  abbrev pub HasRead : List Dated → ℤ → Held → Holding (OfficeOpening D W) → Holding (OfficeOpening D W)
+  abbrev pub HasReadRows : List Dated → ℤ → Held → Holding (OfficeOpening D W) → Holding (OfficeOpening D W)
       → Result (List Row) Lack → Type 0
-  HasRead basis on pin old new (Ok rows) = HasReadAll basis on pin rows old new
-  HasRead basis on pin old new (Err lack) = new ≡ old
+  HasReadRows basis on pin old new (Ok rows) = HasReadAll basis on pin rows old new
+  HasReadRows basis on pin old new (Err lack) = new ≡ old
 
   -- what follows a pin, and what is answered
   abbrev pub FollowsPinned : List Dated → ℤ → Held → Holding (OfficeOpening D W) → List Call
