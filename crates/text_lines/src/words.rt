@@ -1,6 +1,6 @@
 // The words of scripts, transcripts and statements.
 ghost use Rattle.std.specs.Prelude.{◌≡◌};
-ghost use Rattle.statements.specs.Words as spec;
+ghost use Rattle.policy_types.specs.Words as spec;
 
 use policy_types::{Command, Plan, Status};
 

@@ -1,13 +1,17 @@
 // Lines of output.
-ghost use Rattle.std.specs.Prelude.{◌≡◌, ◌++◌, [], ◌∷◌, OnOk, decimal};
+ghost use Rattle.std.specs.Prelude.{◌≡◌, ◌≤◌, ◌++◌, [], ◌∷◌, OnOk, decimal};
 ghost use Rattle.life_dates.specs.Calendar.{IsTermDay};
 ghost use Rattle.life_dates.specs.DayText.{day_text};
 ghost use Rattle.money_core.specs.CentsText.{signed_cents_text};
+ghost use Rattle.text_lines.specs.Fields.{insurance_fields};
+ghost use Rattle.text_lines.specs.Lines.{behind_commas};
 
+use crate::bytes::Text;
+use crate::words::plan_word;
 use itoa::Buffer;
 use life_dates::print_day;
-use money_core::{Text, print_cents};
-use policy_types::NoMemory;
+use money_core::print_cents;
+use policy_types::{NoMemory, Plan};
 use std::alloc::Global;
 use std::marker::Model;
 
@@ -77,6 +81,26 @@ impl LineWriter {
     {
         self.add(b",")?;
         self.add(&print_day(day))
+    }
+
+    /// Further fields, the terms of a policy's insurance, with its amounts in cents.
+    pub fn insurance(
+        &mut self,
+        plan: Plan,
+        age: u8,
+        years: u8,
+        amount: u64,
+        premium: u64,
+    ) -> Result<(), NoMemory>
+        requires { (amount ≤ 10000000000) × (premium ≤ 10000000000) }
+        ensures { OnOk result (self.new
+            ≡ self.old ++ behind_commas (insurance_fields plan age years amount premium)) }
+    {
+        self.word(plan_word(plan))?;
+        self.number(age as u32)?;
+        self.number(years as u32)?;
+        self.cents(amount as i64)?;
+        self.cents(premium as i64)
     }
 
     /// Ends the line.

@@ -18,6 +18,7 @@ kind_word (Claim id day) = codes "claim"
 kind_word (Settle id day amount) = codes "settle"
 kind_word (Mature id day) = codes "mature"
 
+-- a plan's name
 abbrev pub plan_word : Plan → List ℕ
 plan_word Term = codes "term"
 plan_word Whole = codes "whole"
