@@ -1,8 +1,8 @@
 // The items are cut into as many pieces of work as there are workers, each of which goes through its own.
-ghost use Rattle.std.specs.Prelude.{◌≡◌, ◌≤◌, ◌<◌, ◌++◌, IfOk, length};
+ghost use Rattle.std.specs.Prelude.{◌≡◌, ◌≤◌, ◌<◌, ◌++◌, IfOk, length, map};
 ghost use Rattle.std.specs.List.{AllByRecursion, AllZip};
 ghost use Rattle.std.specs.Thread.{IsSync, IsSend};
-ghost use Rattle.parallel_value.specs.Pieces.{TakeAll, AreValues, AreAsBefore, IsAsBefore};
+ghost use Rattle.parallel_value.specs.Pieces.{AreAsBefore, AreBoth, AreValues, Compute, IsAsBefore, TakeAll};
 
 use crate::{NoMemory, Piece};
 use std::alloc::Global;
@@ -19,6 +19,7 @@ pub fn map_in<R: Threads + Sync, I: Sync, O: Send + Drop, P: Piece<I, O> + Send>
     requires workers { (1 ≤ length pieces.old) × (length pieces.old ≤ 64) }
     requires taken { TakeAll P.takes pieces.old items.now }
     ensures values { IfOk result (λ values. AreValues P.gives pieces.old items.now values.items) }
+    ensures function { (f : I → O) → Compute P.gives pieces.old f → IfOk result (λ values. values.items ≡ map f items.now) }
     ensures pieces { AreAsBefore P.takes P.gives pieces.old pieces.new }
 {
     map_halves(rt, alloc, pieces, items)
@@ -134,7 +135,7 @@ fn both<O: Drop>(
     front: Result<Vec<O>, NoMemory>,
     back: Result<Vec<O>, NoMemory>,
 ) -> Result<Vec<O>, NoMemory>
-    ensures { IfOk result (λ values. IfOk front (λ one. IfOk back (λ other. values.items ≡ one.items ++ other.items))) }
+    ensures { IfOk result (λ values. AreBoth front back values.items) }
 {
     let mut front = front?;
     let mut back = back?;
