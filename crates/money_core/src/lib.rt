@@ -5,8 +5,6 @@ mod bytes;
 mod number;
 mod parse;
 mod print;
-#[cfg(test)]
-mod tests;
 
 pub use bytes::Text;
 pub use number::parse_number;

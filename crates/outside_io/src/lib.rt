@@ -35,6 +35,3 @@ pub use real_streams::{StdSink, StdSource};
 pub use shelves::{SHELF_LIMIT, Shelf};
 pub use step_count::Steps;
 pub use writing::{Sink, write_all};
-
-#[cfg(test)]
-mod tests;

@@ -7,8 +7,6 @@ mod entry;
 mod policy;
 mod refusal;
 mod script;
-#[cfg(test)]
-mod tests;
 mod watcher;
 
 pub use command::{

@@ -4,8 +4,6 @@
 mod balances;
 mod entries;
 mod policies;
-#[cfg(test)]
-mod tests;
 mod words;
 mod writer;
 

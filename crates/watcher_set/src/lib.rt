@@ -9,8 +9,6 @@ mod place;
 mod premiums;
 mod reports;
 mod rounds;
-#[cfg(test)]
-mod tests;
 mod watchers;
 mod watching;
 
