@@ -83,6 +83,10 @@ module _ {D : Type 0} (g : Ghosts D) (begun : D) (opening : Opening) where
   pub keeps_first : (disk : D) → HasKept g begun disk opening [] → KeepsAccepted g begun disk opening []
   keeps_first disk kept front rest same = subst (HasKept g begun disk opening) (sym (no_front front rest same)) kept
 
+  -- a history of which the turns before the first are asked for
+  pub keeps_none : (disk : D) (history : List Entry) → KeepsAccepted g begun disk opening history → KeepsAccepted g begun disk opening []
+  keeps_none disk history keeps = keeps_first disk (keeps [] history refl)
+
   -- while later calls leave images that hold at least as much
   kept_on : (old new : D) (turns : List Entry) (P : List ℕ → Type 0) → Leaves g old new P
       → ((image : List ℕ) → P image → HoldsAtLeast (commands_after opening turns) image)
