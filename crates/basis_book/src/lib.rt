@@ -10,8 +10,6 @@ mod name;
 mod points;
 mod reading;
 mod row;
-#[cfg(test)]
-mod tests;
 
 pub use basis::Basis;
 pub use fault::{BasisFault, NoSuchTable};

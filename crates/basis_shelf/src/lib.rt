@@ -8,8 +8,6 @@ mod rows;
 mod shelf_file;
 mod tables;
 mod telling;
-#[cfg(test)]
-mod tests;
 
 pub use fault::{BadBasis, BasisWord, NoBasis};
 pub use fetching::fetch_basis;

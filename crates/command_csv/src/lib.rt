@@ -14,6 +14,3 @@ pub use fault::ScriptFault;
 pub use laws::{faults_are_exact, lanes_are_whole, readings_are_one, scripts_are_judged};
 pub use reader::read_script;
 pub use worked::{faults_are_placed, lanes_are_dealt, lines_are_written, odd_scripts_are_read};
-
-#[cfg(test)]
-mod tests;

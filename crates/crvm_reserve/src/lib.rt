@@ -5,8 +5,6 @@
 mod basis;
 mod bounds;
 mod premium;
-#[cfg(test)]
-mod tests;
 
 pub use basis::basis_premium;
 pub use bounds::reserve_bounds;

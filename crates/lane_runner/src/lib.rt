@@ -2,14 +2,8 @@
 #![tactic(auto)]
 
 mod answering;
-#[cfg(test)]
-mod gates;
 mod running;
-#[cfg(test)]
-mod tests;
 mod transcript;
-#[cfg(test)]
-mod trials;
 
 pub use running::run_lanes;
-pub use transcript::{AnsweredLine, AnsweredLines, Callers, Outcome, Transcript};
+pub use transcript::{TranscriptLine, TranscriptLines, Callers, Outcome, Transcript};

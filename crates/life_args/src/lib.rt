@@ -11,8 +11,6 @@ mod mode;
 mod reading;
 mod run;
 mod state;
-#[cfg(test)]
-mod tests;
 mod value;
 mod values;
 

@@ -5,8 +5,6 @@
 
 mod calendar;
 mod laws;
-#[cfg(test)]
-mod tests;
 mod text;
 mod years;
 

@@ -5,8 +5,6 @@ mod generator;
 mod lanes;
 mod rows;
 mod script;
-#[cfg(test)]
-mod tests;
 mod worked;
 
 pub use lanes::make_lanes;

@@ -9,6 +9,3 @@ mod in_memory;
 
 pub use disk_call::DiskCall;
 pub use in_memory::MemoryDisk;
-
-#[cfg(test)]
-mod tests;

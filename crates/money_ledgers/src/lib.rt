@@ -4,7 +4,5 @@
 #![tactic(auto)]
 
 mod ledger;
-#[cfg(test)]
-mod tests;
 
 pub use ledger::Ledger;

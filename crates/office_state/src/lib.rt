@@ -15,8 +15,6 @@ mod reading;
 mod recording;
 mod replaying;
 mod state;
-#[cfg(test)]
-mod tests;
 mod trimming;
 mod windows;
 

@@ -3,8 +3,6 @@
 
 mod fault;
 mod shaping;
-#[cfg(test)]
-mod tests;
 
 pub use fault::NotValued;
 pub use shaping::shape;

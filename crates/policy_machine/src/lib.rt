@@ -10,8 +10,6 @@ mod laws;
 mod ledgers;
 mod premiums;
 mod terms;
-#[cfg(test)]
-mod tests;
 pub mod worked;
 
 pub use decision::decide;

@@ -2,13 +2,12 @@
 //! the trait of the auditors.
 #![tactic(auto)]
 
+mod boxed;
 mod command;
 mod entry;
 mod policy;
 mod refusal;
 mod script;
-#[cfg(test)]
-mod tests;
 mod watcher;
 
 pub use command::{

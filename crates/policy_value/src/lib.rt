@@ -2,8 +2,6 @@
 #![tactic(auto)]
 
 mod cache;
-#[cfg(test)]
-mod tests;
 mod valuing;
 mod worth;
 

@@ -16,6 +16,3 @@ mod starting;
 pub use faults::{DiskFault, JournalCause, JournalFault};
 pub use journal::Journal;
 pub use laws::{one_list_of_bodies, refused_files_open_to_none};
-
-#[cfg(test)]
-mod tests;

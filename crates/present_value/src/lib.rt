@@ -4,8 +4,6 @@
 mod pair;
 mod quotient;
 mod reciprocal;
-#[cfg(test)]
-mod tests;
 mod valuation;
 mod year;
 

@@ -4,8 +4,6 @@
 mod fault;
 mod shape;
 mod table;
-#[cfg(test)]
-mod tests;
 
 pub use fault::RatesFault;
 pub use shape::Shape;

@@ -5,8 +5,6 @@ mod body;
 mod codec;
 mod fields;
 mod laws;
-#[cfg(test)]
-mod tests;
 pub mod worked;
 
 pub use codec::{decode, encode};

@@ -3,8 +3,6 @@
 
 mod block;
 mod rows;
-#[cfg(test)]
-mod tests;
 mod totals;
 mod worked;
 

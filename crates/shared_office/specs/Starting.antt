@@ -15,7 +15,7 @@ use Rattle.shared_office.specs.Offices.{OfficeOpening}
 -- The office was opened on a list of commands and the disk's count of faults, with these watchers. Its first pass has all
 -- turns and all shares. Where the disk that the office then holds is honest, it was so before, and the commands are
 -- those of its file; that the disk which an office leaves says the same stands in what closing tells.
-pub record HasStarted {D W : Type 0} (g : Ghosts D) (old : D) (watchers : W) (pass : Holding (OfficeOpening D W))
+pub record HasStartedOffice {D W : Type 0} (g : Ghosts D) (old : D) (watchers : W) (pass : Holding (OfficeOpening D W))
     : Type 0 where
   pub opening : Opening
   pub first : IsFirst (record { opening = opening; begun = old; watchers = watchers }) pass

@@ -6,8 +6,6 @@ mod batch;
 mod calls;
 mod pin;
 mod state;
-#[cfg(test)]
-mod tests;
 mod turns;
 
 pub use batch::Batch;

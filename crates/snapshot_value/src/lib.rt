@@ -1,11 +1,7 @@
 //! A valuation of the policies at a pinned position, while other callers go on posting.
 #![tactic(auto)]
 
-#[cfg(test)]
-mod meeting;
 mod reading;
-#[cfg(test)]
-mod tests;
 mod valuation;
 mod valuing;
 

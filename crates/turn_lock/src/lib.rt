@@ -15,6 +15,3 @@ pub use pass::Pass;
 pub use stands::Stands;
 pub use turn::{Turn, Turned};
 pub use turnstile::{NoRoom, Turnstile};
-
-#[cfg(test)]
-mod tests;

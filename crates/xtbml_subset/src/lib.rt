@@ -15,8 +15,6 @@ mod row;
 mod search;
 mod state;
 mod table;
-#[cfg(test)]
-mod tests;
 mod text;
 mod token;
 

@@ -1,0 +1,21 @@
+//! Tests of what stands at the bottom: commands, cents, days, the rules, the accounts, the texts of entries, made scripts.
+#![tactic(auto)]
+
+#[cfg(test)]
+mod life_dates_tests;
+#[cfg(test)]
+mod load_maker_tests;
+#[cfg(test)]
+mod money_core_tests;
+#[cfg(test)]
+mod money_ledgers_tests;
+#[cfg(test)]
+mod policy_machine_rows;
+#[cfg(test)]
+mod policy_machine_tests;
+#[cfg(test)]
+mod policy_types_tests;
+#[cfg(test)]
+mod statements_tests;
+#[cfg(test)]
+mod text_lines_tests;

@@ -1,0 +1,113 @@
+// Each command after others, answered by the rules.
+ghost use Rattle.policy_machine.specs.Rules.{IsSound};
+ghost use Rattle.std.specs.Prelude.{IfOk, IfSome};
+
+use crate::policy_machine_rows::{ROWS, State, Step};
+use Plan::{Endowment, Limited};
+use Status::InForce;
+use Step::{Alter, Claim, Issue, Lapse, Mature, Pay, Reinstate, Settle};
+use policy_machine::decide;
+use policy_types::{Command, Plan, Policy, Refusal, Status};
+use std::process::Abort;
+
+fn command(step: Step) -> Command {
+    let id = 7001;
+    match step {
+        Issue(plan) => Command::Issue {
+            id,
+            day: 18_262,
+            plan,
+            age: 40,
+            years: if plan == Endowment { 5 } else { 2 },
+            amount: 100_000,
+            premium: 15_000,
+        },
+        Pay(day, amount) => Command::Premium { id, day, amount },
+        Alter(day, amount, premium) => Command::Alter {
+            id,
+            day,
+            amount,
+            premium,
+        },
+        Lapse(day) => Command::Lapse { id, day },
+        Reinstate(day, amount) => Command::Reinstate { id, day, amount },
+        Claim(day) => Command::Claim { id, day },
+        Settle(day, amount) => Command::Settle { id, day, amount },
+        Mature(day) => Command::Mature { id, day },
+    }
+}
+
+fn state(policy: Policy) -> State {
+    let Policy {
+        last,
+        amount,
+        premium,
+        paid,
+        status,
+        outstanding,
+        ..
+    } = policy;
+    (last, amount, premium, paid, status, outstanding)
+}
+
+// The answer to a valid command that names the policy's number.
+fn answer(rt: &impl Abort, policy: Option<Policy>, command: Command) -> Result<Policy, Refusal>
+    requires { IfSome policy IsSound }
+    ensures { IfOk result IsSound }
+{
+    assert!(rt; command.is_valid());
+    match policy {
+        Some(policy) => {
+            assert!(rt; policy.id == command.id());
+            decide(Some(&policy), &command)
+        }
+        None => decide(None, &command),
+    }
+}
+
+// The policy after steps that are all accepted.
+fn after(rt: &impl Abort, steps: &[Step]) -> Option<Policy>
+    ensures { IfSome result IsSound }
+{
+    let mut policy = None;
+    for step in steps {
+        policy = match answer(rt, policy, command(*step)) {
+            Ok(policy) => Some(policy),
+            Err(_) => {
+                assert!(rt; false);
+                None
+            }
+        };
+    }
+    policy
+}
+
+#[test]
+fn each_command_is_answered_by_the_rules(rt: HostRuntime) {
+    for row in &ROWS {
+        let (name, before, step, wanted) = *row;
+        let found = match answer(&rt, after(&rt, before), command(step)) {
+            Ok(policy) => Ok(state(policy)),
+            Err(refusal) => Err(refusal),
+        };
+        assert_eq!(rt; found, wanted, "{name}");
+    }
+}
+
+#[test]
+fn an_issue_makes_the_policy(rt: HostRuntime) {
+    let policy = Policy {
+        id: 7001,
+        plan: Limited,
+        age: 40,
+        years: 2,
+        amount: 100_000,
+        premium: 15_000,
+        issued: 18_262,
+        last: 18_262,
+        paid: 0,
+        status: InForce,
+        outstanding: 0,
+    };
+    assert_eq!(rt; after(&rt, &[Issue(Limited)]), Some(policy));
+}

@@ -1,0 +1,11 @@
+//! Tests of the devices, of the disk in memory, of records and of the journal.
+#![tactic(auto)]
+
+#[cfg(test)]
+mod memory_disk_tests;
+#[cfg(test)]
+mod outside_io_tests;
+#[cfg(test)]
+mod posting_journal_tests;
+#[cfg(test)]
+mod record_codec_tests;

@@ -1,0 +1,118 @@
+// The devices in memory fail where they are told to, and the real ones write, read and find real
+// files.
+use outside_io::*;
+use std::collections::BTreeMap;
+use std::fs;
+use std::fs::File;
+use std::test::Fail;
+
+const TEXT: &[u8] = b"three words here";
+
+#[test]
+fn devices_in_memory(rt: HostRuntime) -> Result<(), Fail> {
+    let alloc = rt.alloc();
+    let cases = [
+        (0, 16, None),
+        (3, 16, None),
+        (1, 16, Some(ReadAllFault::ReadFault)),
+        (2, 16, Some(ReadAllFault::ReadFault)),
+        (2, 15, Some(ReadAllFault::TooLong)),
+    ];
+    for (failing, limit, fault) in cases {
+        let mut source = BytesSource::new(TEXT.to_vec(alloc)?, vec![in alloc; failing]?);
+        let right = match read_all(alloc, &mut source, limit) {
+            Ok(bytes) => fault.is_none() && bytes.as_slice() == TEXT,
+            Err(e) => fault == Some(e),
+        };
+        assert!(rt; right, "call {failing} fails");
+    }
+    let mut sink = BytesSink::new(alloc, vec![in alloc; 2]?);
+    let first = write_all(&mut sink, b"one ");
+    let second = write_all(&mut sink, b"two ");
+    let third = write_all(&mut sink, b"three");
+    assert!(rt; (first, second, third) == (Ok(()), Err(WriteFault), Ok(())));
+    assert!(rt; sink.bytes() == b"one three".as_slice());
+    Ok(())
+}
+
+// A disk that a thread can take.
+fn write_and_sync<D: Disk + Send>(disk: &mut D, at: u64, bytes: &[u8]) -> Result<(), Failed>
+    requires { D.honest disk.old → ⊥ }
+{
+    disk.write_at(at, bytes)?;
+    disk.sync()
+}
+
+#[test]
+fn a_real_file_is_a_disk(rt: HostRuntime) -> Result<(), Fail> {
+    let name = "outside_io_disk.test";
+    let _ = fs::remove_file(&rt, name);
+    let mut disk = FileDisk::at(rt.clone()?, name);
+    assert!(rt;
+        fs::metadata(&rt, name).is_err(),
+        "nothing before the first call"
+    );
+    let empty = disk.len();
+    let first = write_and_sync(&mut disk, 0, b"a first line");
+    let second = write_and_sync(&mut disk, 2, b"FIRST");
+    assert!(rt; (empty, first, second) == (Ok(0), Ok(()), Ok(())));
+    drop(disk);
+    let mut again = FileDisk::at(rt.clone()?, name);
+    let mut part = [0; 7];
+    let length = again.len();
+    let inside = again.read(1, &mut part);
+    let beyond = again.read(6, &mut [0; 7]);
+    assert!(rt; (length, inside, beyond) == (Ok(12), Ok(()), Err(Failed)));
+    assert!(rt; (part, again.faults()) == (*b" FIRST ", 1));
+    // while one holds the file another is refused, and writes nothing
+    let mut other = FileDisk::at(rt.clone()?, name);
+    let refused = write_and_sync(&mut other, 0, b"over it");
+    assert!(rt; (refused, other.faults(), again.len()) == (Err(Failed), 1, Ok(12)));
+    drop(again);
+    assert!(rt; (other.len(), other.faults()) == (Ok(12), 1));
+    fs::remove_file(&rt, name)?;
+    Ok(())
+}
+
+// A write that the device refuses, and a sync that it can't make, are faults.
+#[test]
+fn a_full_device_fails(rt: HostRuntime) -> Result<(), Fail> {
+    let mut full = FileDisk::at(rt.clone()?, "/dev/full");
+    let written = full.write_at(0, b"a line");
+    let synced = full.sync();
+    assert!(rt; (written, synced, full.faults()) == (Err(Failed), Err(Failed), 2));
+    Ok(())
+}
+
+#[test]
+fn real_streams_and_shelves(rt: HostRuntime) -> Result<(), Fail> {
+    let alloc = rt.alloc();
+    let name = "outside_io_stream.test";
+    let mut sink = StdSink::new(File::create(&rt, name)?);
+    let written = write_all(&mut sink, b"two\nlines");
+    let mut closed = StdSink::new(File::open(&rt, name)?);
+    let refused = write_all(&mut closed, b"x");
+    assert!(rt; (written, refused, closed.faults()) == (Ok(()), Err(WriteFault), 1));
+    let mut shelf = FolderShelf::new(rt.clone()?);
+    let Ok(bytes) = shelf.fetch(alloc, name) else {
+        return Err(Fail::new("not found"));
+    };
+    assert!(rt; bytes.as_slice() == b"two\nlines".as_slice());
+    File::create(&rt, name)?.set_len(4_194_305)?;
+    let long = shelf.fetch(alloc, name).err();
+    fs::remove_file(&rt, name)?;
+    let absent = shelf.fetch(alloc, name).err();
+    let folder = shelf.fetch(alloc, ".").err();
+    assert!(rt; (long, absent) == (Some(FetchFault::TooLong), Some(FetchFault::Absent)));
+    assert!(rt; (folder, shelf.faults()) == (Some(FetchFault::Failed), 1));
+    let mut files = BTreeMap::new(alloc);
+    let _ = files.insert(String::from_str(alloc, "q.xml")?, b"<Y/>".to_vec(alloc)?)?;
+    let mut shelf = MapShelf::new(files, vec![in alloc; 3]?);
+    let found = shelf.fetch(alloc, "q.xml").is_ok();
+    let absent = shelf.fetch(alloc, "g.xml").err();
+    let failed = shelf.fetch(alloc, "q.xml").err();
+    assert!(rt;
+        (found, absent, failed) == (true, Some(FetchFault::Absent), Some(FetchFault::Failed))
+    );
+    Ok(())
+}

@@ -1,0 +1,129 @@
+// Lanes that are run on an office in memory.
+ghost use Rattle.std.specs.Prelude.{◌≡◌, ◌≤◌, [], ◌∷◌, All, IsTrue, length, map};
+ghost use Rattle.std.specs.List.{AllByRecursion, filter};
+ghost use Rattle.policy_types.specs.Lanes.{AreRising};
+ghost use Rattle.lane_runner.specs.Lanes.{AreRightLanes, IsRightLane, IsRightLine, is_value};
+ghost use Rattle.policy_types.specs.Lanes.{lines_in};
+
+use crate::offices::{flat_basis, issue_all};
+use basis_book::Basis;
+use lane_runner::{Transcript, run_lanes};
+use memory_disk::MemoryDisk;
+use outside_io::{Disk, Gate};
+use policy_types::{Lane, Line};
+use shared_office::{Office, OfficeCalls, OfficePass, close};
+use std::alloc::Global;
+use std::sync::Wait;
+use std::test::Fail;
+use std::thread::Threads;
+use watcher_set::{NoWatchers, Reports, Watching};
+
+// Whether these lanes may be run.
+fn are_right(lanes: &[Lane]) -> bool
+    ensures { IsTrue result → AreRightLanes lanes.now }
+{
+    lanes.len() <= 8 && follow(0, 1 << 24, 16, lanes)
+}
+
+// Whether these lanes have numbers that rise above this one, and right lines, so many and so many valuations at most.
+fn follow(number: u8, lines: usize, values: usize, lanes: &[Lane]) -> bool
+    ensures rising { IsTrue result → AreRising (number ∷ map (λ lane. lane.number) lanes.now) }
+    ensures right { IsTrue result → AllByRecursion IsRightLane lanes.now }
+    ensures lines { IsTrue result → length (lines_in lanes.now) ≤ lines }
+    ensures values { IsTrue result → length (filter is_value (lines_in lanes.now)) ≤ values }
+{
+    let Some((lane, rest)) = lanes.split_first() else {
+        return true;
+    };
+    let asked = lane.lines.as_slice();
+    let valued = count_values(asked);
+    if lane.number <= number || asked.len() > lines || valued > values || !have_right(asked) {
+        return false;
+    }
+    follow(lane.number, lines - asked.len(), values - valued, rest)
+}
+
+fn count_values(lines: &[Line]) -> usize
+    ensures { result ≡ length (filter is_value lines.now) }
+{
+    lines.iter().filter(|line| is_valuation(line)).count()
+}
+
+fn is_valuation(line: &Line) -> bool
+    ensures { result ≡ is_value line.now }
+{
+    match *line {
+        Line::Value { .. } => true,
+        _ => false,
+    }
+}
+
+fn have_right(lines: &[Line]) -> bool
+    ensures { IsTrue result → All IsRightLine lines.now }
+{
+    lines.iter().all(|line| is_right(line))
+}
+
+fn is_right(line: &Line) -> bool
+    ensures { IsTrue result → IsRightLine line.now }
+{
+    match *line {
+        Line::Post(command) => command.is_valid(),
+        Line::Value { workers, .. } => 1 <= workers && workers <= 64,
+        Line::Trim => true,
+    }
+}
+
+// Runs lanes where they may be run.
+fn run_right<D: Disk + Send, W: Watching + Send, G: Gate + Sync, R: Threads + Wait + Sync>(
+    rt: &R,
+    alloc: Global,
+    office: &Office<D, W>,
+    pass: &mut OfficePass<D, W>,
+    lanes: &[Lane],
+    basis: &Basis,
+    gate: &G,
+) -> Result<Transcript, Fail>
+    requires { pass.old.turnstile ≡ office.now }
+    ensures { (pass.new.turnstile ≡ pass.old.turnstile) × (pass.new.shares ≡ pass.old.shares) }
+{
+    if pass.left() < 1 << 40 || pass.shares() < 1 << 10 || !are_right(lanes) {
+        return Err("right lanes".into());
+    }
+    run_lanes(rt, alloc, office, pass, lanes, basis, gate).map_err(|_| "memory".into())
+}
+
+/// Runs these lanes on an office where the policies of the numbers from 1 to this one were issued, and closes it. Gives what
+/// the watchers have to say too.
+pub fn run_watched<W: Watching + Send, G: Gate + Sync, R: Threads + Wait + Sync>(
+    rt: &R,
+    alloc: Global,
+    watchers: W,
+    issued: u32,
+    lanes: &[Lane],
+    gate: &G,
+) -> Result<(Transcript, Reports), Fail>
+    requires { W.told watchers [] }
+{
+    let basis = flat_basis(alloc)?;
+    let empty = MemoryDisk::new(alloc, Vec::new(alloc), Vec::new(alloc));
+    let Ok((office, mut pass)) = Office::start(alloc, empty, watchers) else {
+        return Err("an office".into());
+    };
+    issue_all(rt, &office, &mut pass, issued);
+    let run = run_right(rt, alloc, &office, &mut pass, lanes, &basis, gate);
+    let (_, _, reports) = close(office, pass);
+    Ok((run?, reports))
+}
+
+/// The same where nobody watches.
+pub fn run_on<G: Gate + Sync, R: Threads + Wait + Sync>(
+    rt: &R,
+    alloc: Global,
+    issued: u32,
+    lanes: &[Lane],
+    gate: &G,
+) -> Result<Transcript, Fail> {
+    let (transcript, _) = run_watched(rt, alloc, NoWatchers, issued, lanes, gate)?;
+    Ok(transcript)
+}

@@ -1,0 +1,15 @@
+//! Tests of valuations at a shared office and of the lanes of a script.
+#![tactic(auto)]
+
+#[cfg(test)]
+mod lane_gates;
+#[cfg(test)]
+mod lane_runner_tests;
+#[cfg(test)]
+mod lane_trials;
+#[cfg(test)]
+mod offices;
+#[cfg(test)]
+mod snapshot_meeting;
+#[cfg(test)]
+mod snapshot_value_tests;

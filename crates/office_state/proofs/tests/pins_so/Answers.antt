@@ -1,6 +1,0 @@
-use Rattle.std.proofs.Common.{[], ◌∷◌, ◌++◌}
-use Rattle.office_state.proofs.tests.pins_so.Goals as goal
-
-pub invariant_of-desk-in-Trim : goal.invariant_of-desk-in-Trim
-invariant_of-desk-in-Trim c =
-    let stood = c.desk.invariant in (stood.0 ++ _ ∷ [], c.trim.ensures.stands stood.0 stood.1)

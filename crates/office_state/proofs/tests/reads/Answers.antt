@@ -1,6 +1,0 @@
-use Rattle.std.proofs.Common.{[], ◌∷◌, ◌++◌}
-use Rattle.office_state.proofs.tests.reads.Goals as goal
-
-pub invariant_of-desk : goal.invariant_of-desk
-invariant_of-desk c =
-    let stood = c.desk.invariant in (stood.0 ++ _ ∷ [], c.read.ensures.stands stood.0 stood.1)

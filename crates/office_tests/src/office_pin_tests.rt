@@ -1,0 +1,226 @@
+// The pins of an office: what they hold, what they read, and the floors that they leave.
+use crate::office_desk::{Desk, MOST_TURNS, accepted, answers, office_on, policy, refused};
+use crate::policies::{NEW_YEAR, issue, premium};
+use office_state::{Batch, PinInfo};
+use policy_types::{PinRefusal, Refusal, Status};
+use std::alloc::AllocError;
+use watcher_set::NoWatchers;
+
+// A call of one caller that concerns pins, and its answer.
+#[derive(Clone, Copy)]
+enum Pinning {
+    Now(Result<PinInfo, PinRefusal>),
+    At(u32, Result<PinInfo, PinRefusal>),
+    Trim(u32),
+    Unpin(u64),
+}
+
+fn pinned(number: u64, position: u32, policies: u32) -> Result<PinInfo, PinRefusal> {
+    Ok(PinInfo {
+        number,
+        position,
+        policies,
+    })
+}
+
+// Whether the office answers so.
+fn pins_so(desk: &mut Desk<NoWatchers>, pinning: Pinning) -> bool {
+    if MOST_TURNS <= desk.office.turns() {
+        return false;
+    }
+    match pinning {
+        Pinning::Now(answer) => desk.office.pin(1) == answer,
+        Pinning::At(p, answer) => desk.office.pin_at(1, p) == answer,
+        Pinning::Trim(floor) => desk.office.trim(1) == floor,
+        Pinning::Unpin(pin) => gives_up(desk, pin),
+    }
+}
+
+fn gives_up(desk: &mut Desk<NoWatchers>, pin: u64) -> bool {
+    let Some(held) = desk.office.held(pin) else {
+        return false;
+    };
+    if MOST_TURNS <= desk.office.turns() || held.caller != 1 {
+        return false;
+    }
+    desk.office.unpin(1, pin);
+    desk.office.held(pin).is_none()
+}
+
+// Reads a batch of a pin, if the caller holds it.
+fn reads(desk: &mut Desk<NoWatchers>, pin: u64, first: u32, batch: &mut Batch) -> bool {
+    let Some(held) = desk.office.held(pin) else {
+        return false;
+    };
+    if MOST_TURNS <= desk.office.turns() || held.caller != 1 || held.policies < first {
+        return false;
+    }
+    desk.office.read(1, pin, first, batch);
+    true
+}
+
+// Whether the batch has so many policies, the first and the last of these numbers.
+fn holds(batch: &Batch, many: usize, ids: (u32, u32)) -> bool {
+    let policies = batch.policies();
+    if policies.len() != many {
+        return false;
+    }
+    match (policies.first(), policies.last()) {
+        (Some(first), Some(last)) => (first.id, last.id) == ids,
+        _ => many == 0,
+    }
+}
+
+// Three policies, then pins below, at and above the count, and the floors that they leave.
+#[test]
+fn positions_that_are_pinned(rt: HostRuntime) -> Result<(), AllocError> {
+    let alloc = rt.alloc();
+    let Ok(mut desk) = office_on(alloc, &[], &[])? else {
+        panic!(rt; "no office");
+    };
+    let postings = [
+        accepted(issue(7001, NEW_YEAR), 1),
+        accepted(premium(NEW_YEAR), 2),
+        accepted(issue(3, NEW_YEAR), 3),
+        refused(issue(3, NEW_YEAR), Refusal::Taken),
+        accepted(issue(4, NEW_YEAR), 4),
+    ];
+    let empty = [
+        Pinning::At(1, Err(PinRefusal::Ahead(0))),
+        Pinning::At(0, pinned(1, 0, 0)),
+        Pinning::Trim(0),
+        Pinning::Unpin(1),
+        Pinning::Trim(0),
+    ];
+    // The postings take turns 5 to 9.
+    let full = [
+        Pinning::At(5, Err(PinRefusal::Ahead(4))),
+        Pinning::Now(pinned(11, 4, 3)),
+        Pinning::At(3, pinned(12, 3, 2)),
+        Pinning::At(2, pinned(13, 2, 1)),
+        Pinning::At(3, pinned(14, 3, 2)),
+        Pinning::Trim(2),
+        Pinning::At(1, Err(PinRefusal::Trimmed(2))),
+        Pinning::At(2, pinned(17, 2, 1)),
+        Pinning::Unpin(13),
+        Pinning::Trim(2),
+        Pinning::Unpin(17),
+        Pinning::Trim(3),
+        Pinning::At(2, Err(PinRefusal::Trimmed(3))),
+        Pinning::Unpin(12),
+        Pinning::Unpin(14),
+        Pinning::Unpin(11),
+        Pinning::Trim(4),
+        Pinning::At(3, Err(PinRefusal::Trimmed(4))),
+        Pinning::At(5, Err(PinRefusal::Ahead(4))),
+        Pinning::At(4, pinned(29, 4, 3)),
+    ];
+    for pinning in empty {
+        assert!(rt; pins_so(&mut desk, pinning));
+    }
+    assert!(rt; answers(&mut desk, &postings));
+    for pinning in full {
+        assert!(rt; pins_so(&mut desk, pinning));
+    }
+    assert_eq!(rt; desk.office.turns(), 30);
+    Ok(())
+}
+
+// What may go from one thread to another.
+fn sent<T: Send>(value: T) -> T {
+    value
+}
+
+// Sixteen pins are taken, and the next only once one of them was given up. The office may go to another thread between.
+#[test]
+fn seventeen_pins(rt: HostRuntime) -> Result<(), AllocError> {
+    let alloc = rt.alloc();
+    let Ok(mut desk) = office_on(alloc, &[], &[])? else {
+        panic!(rt; "no office");
+    };
+    for number in 0..16 {
+        assert!(rt; pins_so(&mut desk, Pinning::Now(pinned(number, 0, 0))));
+    }
+    let mut desk = sent(desk);
+    let rows = [
+        Pinning::Now(Err(PinRefusal::PinsFull)),
+        Pinning::At(1, Err(PinRefusal::Ahead(0))),
+        Pinning::At(0, Err(PinRefusal::PinsFull)),
+        Pinning::Unpin(3),
+        Pinning::Now(pinned(20, 0, 0)),
+        Pinning::Now(Err(PinRefusal::PinsFull)),
+    ];
+    for row in rows {
+        assert!(rt; pins_so(&mut desk, row));
+    }
+    Ok(())
+}
+
+// A policy that its poster reads back, and as it was once more was posted.
+#[test]
+fn reads_at_a_pins_position(rt: HostRuntime) -> Result<(), AllocError> {
+    let alloc = rt.alloc();
+    let Ok(mut desk) = office_on(alloc, &[], &[])? else {
+        panic!(rt; "no office");
+    };
+    let Ok(mut batch) = Batch::new(alloc) else {
+        panic!(rt; "no batch");
+    };
+    assert!(rt; answers(&mut desk, &[accepted(issue(7001, NEW_YEAR), 1)]));
+    assert!(rt; pins_so(&mut desk, Pinning::Now(pinned(1, 1, 1))));
+    let fresh = [policy(7001, NEW_YEAR, NEW_YEAR, 0, Status::InForce, 0)];
+    assert!(rt; reads(&mut desk, 1, 0, &mut batch));
+    assert_eq!(rt; batch.policies(), &fresh[..]);
+    let later = [
+        accepted(premium(NEW_YEAR), 2),
+        accepted(issue(3, NEW_YEAR), 3),
+        accepted(premium(18538), 4),
+    ];
+    assert!(rt; answers(&mut desk, &later));
+    assert!(rt; pins_so(&mut desk, Pinning::At(3, pinned(6, 3, 2))));
+    assert!(rt; reads(&mut desk, 1, 0, &mut batch));
+    assert_eq!(rt; batch.policies(), &fresh[..]);
+    let paid = [
+        policy(7001, NEW_YEAR, NEW_YEAR, 1, Status::InForce, 0),
+        policy(3, NEW_YEAR, NEW_YEAR, 0, Status::InForce, 0),
+    ];
+    assert!(rt; reads(&mut desk, 6, 0, &mut batch));
+    assert_eq!(rt; batch.policies(), &paid[..]);
+    assert!(rt; reads(&mut desk, 6, 1, &mut batch));
+    assert_eq!(rt; batch.policies(), &paid[1..]);
+    assert!(rt; reads(&mut desk, 6, 2, &mut batch));
+    assert_eq!(rt; batch.policies().len(), 0);
+    Ok(())
+}
+
+// Three hundred policies, read in batches of 256 at most, as they stand and as 299 stood.
+#[test]
+fn batches_of_many_policies(rt: HostRuntime) -> Result<(), AllocError> {
+    let alloc = rt.alloc();
+    let Ok(mut desk) = office_on(alloc, &[], &[])? else {
+        panic!(rt; "no office");
+    };
+    let Ok(mut batch) = Batch::new(alloc) else {
+        panic!(rt; "no batch");
+    };
+    for id in 1..301 {
+        assert!(rt; answers(&mut desk, &[accepted(issue(id, NEW_YEAR), id)]));
+    }
+    assert!(rt; pins_so(&mut desk, Pinning::Now(pinned(300, 300, 300))));
+    assert!(rt; pins_so(&mut desk, Pinning::At(299, pinned(301, 299, 299))));
+    let rows = [
+        (300, 0, 256, (1, 256)),
+        (300, 256, 44, (257, 300)),
+        (300, 45, 255, (46, 300)),
+        (300, 300, 0, (0, 0)),
+        (301, 0, 256, (1, 256)),
+        (301, 256, 43, (257, 299)),
+        (301, 43, 256, (44, 299)),
+        (301, 299, 0, (0, 0)),
+    ];
+    for (pin, first, policies, ids) in rows {
+        assert!(rt; reads(&mut desk, pin, first, &mut batch));
+        assert!(rt; holds(&batch, policies, ids));
+    }
+    Ok(())
+}

@@ -1,0 +1,138 @@
+// Watchers of an office: those who find no memory, and the reports of those who do.
+ghost use Rattle.std.specs.Prelude.{[]};
+
+use crate::office_desk::{
+    Posting, accepted, answers, office_on, policy, refused, shows, watched_on,
+};
+use crate::policies::{NEW_YEAR, issue, premium};
+use money_ledgers::Ledger;
+use office_state::Answer;
+use policy_types::{Command, NoMemory, Refusal, Report, Status, Watcher};
+use std::alloc::{AllocError, Global};
+use watcher_set::{CountWatcher, NoWatchers, PremiumWatcher, Reports, Watchers, Watching};
+
+fn lacking_memory(command: Command) -> Posting {
+    Posting {
+        command,
+        answer: Answer::NoMemory,
+    }
+}
+
+// Watchers who find no memory in one call, and note nothing.
+#[derive(Drop)]
+struct Forgetful {
+    calls: u32,
+    refused: u32,
+    nobody: NoWatchers,
+}
+
+impl Watching for Forgetful {
+    ghost handed = { λ _. [] };
+
+    ghost told = { λ _ _. Unit {0} };
+
+    ghost has_room = { λ _. Unit {0} };
+
+    fn ready(&mut self) -> Result<(), NoMemory> {
+        self.calls = self.calls.saturating_add(1);
+        if self.calls == self.refused {
+            return Err(NoMemory);
+        }
+        Ok(())
+    }
+
+    fn note(&mut self, _position: u32, _command: &Command) {}
+
+    fn finish(self) -> Reports {
+        self.nobody.finish()
+    }
+}
+
+// The second of three postings lacks the watchers' memory: it changes nothing, and the third has the next position.
+#[test]
+fn watchers_without_memory(rt: HostRuntime) -> Result<(), AllocError> {
+    let alloc = rt.alloc();
+    let watchers = Forgetful {
+        calls: 0,
+        refused: 2,
+        nobody: NoWatchers,
+    };
+    let Ok(mut desk) = watched_on(alloc, &[], &[], watchers)? else {
+        panic!(rt; "no office");
+    };
+    let first = policy(7001, NEW_YEAR, NEW_YEAR, 0, Status::InForce, 0);
+    let other = policy(3, NEW_YEAR, NEW_YEAR, 0, Status::InForce, 0);
+    let nothing = Ledger {
+        cash: 0,
+        premiums: 0,
+        incurred: 0,
+        payable: 0,
+    };
+    assert!(rt; answers(&mut desk, &[accepted(issue(7001, NEW_YEAR), 1)]));
+    assert!(rt; answers(&mut desk, &[lacking_memory(premium(NEW_YEAR))]));
+    assert!(rt; desk.office.count() == 1 && shows(&desk, 1, &[first]));
+    assert!(rt; desk.office.ledger() == nothing && desk.office.turns() == 2);
+    assert!(rt; answers(&mut desk, &[accepted(issue(3, NEW_YEAR), 2)]));
+    let (disk, _, _) = desk.office.close();
+    let Ok(again) = office_on(alloc, disk.bytes(), &[])? else {
+        panic!(rt; "not opened again");
+    };
+    assert!(rt; again.office.count() == 2 && shows(&again, 2, &[first, other]));
+    Ok(())
+}
+
+// The reports of watchers at the end of an office that answers so.
+fn reports_after<W: Watching>(
+    alloc: Global,
+    failing: &[u64],
+    watchers: W,
+    postings: &[Posting],
+) -> Result<Option<Reports>, AllocError>
+    requires { W.told watchers [] }
+{
+    let Ok(mut desk) = watched_on(alloc, &[], failing, watchers)? else {
+        return Ok(None);
+    };
+    if !answers(&mut desk, postings) {
+        return Ok(None);
+    }
+    let (_, _, reports) = desk.office.close();
+    Ok(Some(reports))
+}
+
+// Five issues and a premium are accepted, an issue is refused and another meets a fault. One watcher counts to three, the
+// other hears all six.
+#[test]
+fn reports_of_two_watchers(rt: HostRuntime) -> Result<(), AllocError> {
+    let alloc = rt.alloc();
+    let mut boxes: Vec<Box<dyn Watcher + Send>> = Vec::new(alloc);
+    boxes.push(Box::new(alloc, CountWatcher::new(alloc, 3))?)?;
+    boxes.push(Box::new(alloc, PremiumWatcher::new(alloc))?)?;
+    let faulted = Posting {
+        command: issue(5, NEW_YEAR),
+        answer: Answer::DiskFault(1),
+    };
+    let postings = [
+        accepted(issue(7001, NEW_YEAR), 1),
+        accepted(issue(2, NEW_YEAR), 2),
+        refused(issue(2, NEW_YEAR), Refusal::Taken),
+        accepted(issue(3, NEW_YEAR), 3),
+        accepted(premium(NEW_YEAR), 4),
+        accepted(issue(4, NEW_YEAR), 5),
+        faulted,
+        accepted(issue(6, NEW_YEAR), 6),
+    ];
+    // A creation makes 9 calls, a posting 4.
+    let Some(reports) = reports_after(alloc, &[33], Watchers::new(boxes), &postings)? else {
+        panic!(rt; "not answered so");
+    };
+    let expected = [
+        Report { seen: 3, tally: 3 },
+        Report {
+            seen: 6,
+            tally: 40_000,
+        },
+    ];
+    assert_eq!(rt; reports.as_slice(), expected.as_slice());
+    Ok(())
+}

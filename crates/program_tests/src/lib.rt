@@ -1,0 +1,27 @@
+//! Tests of the program whole, over devices in memory.
+#![tactic(auto)]
+
+#[cfg(test)]
+mod clerk_tests;
+#[cfg(test)]
+mod devices;
+#[cfg(test)]
+mod disk_tests;
+#[cfg(test)]
+mod load_tests;
+#[cfg(test)]
+mod policy_tests;
+#[cfg(test)]
+mod run_tests;
+#[cfg(test)]
+mod state_tests;
+#[cfg(test)]
+mod value_cases;
+#[cfg(test)]
+mod value_fault_tests;
+#[cfg(test)]
+mod value_script_tests;
+#[cfg(test)]
+mod value_tests;
+#[cfg(test)]
+mod watcher_tests;

@@ -1,0 +1,76 @@
+// Generated scripts, written and run. The rows and the sums are worked out by hand from the formats: every generated age
+// lies past the table.
+use crate::devices::{Finished, run_with};
+use crate::value_cases::{FLAT, Q, add, ends};
+use memory_disk::MemoryDisk;
+use outside_io::MapShelf;
+use std::alloc::{AllocError, Global};
+use std::collections::BTreeMap;
+use std::sync::Wait;
+use std::thread::Threads;
+
+const ROWS: &str = "1,issue,1,2008-11-03,endowment,44,18,996000.00,19920.00\n\
+    1,premium,1,2008-11-03,19920.00\n";
+
+// What the words do over a shelf with this basis and table Q, and a disk with these bytes.
+fn done<R: Threads + Wait + Sync>(
+    rt: &R,
+    alloc: Global,
+    words: &[&str],
+    basis: &str,
+    bytes: &[u8],
+) -> Result<Finished, AllocError> {
+    let mut files = BTreeMap::new(alloc);
+    add(alloc, &mut files, "basis.csv", basis)?;
+    add(alloc, &mut files, "q.xml", Q)?;
+    let shelf = MapShelf::new(files, Vec::new(alloc));
+    let disk = MemoryDisk::new(alloc, Vec::from_slice(alloc, bytes)?, Vec::new(alloc));
+    run_with(rt, alloc, words, &[], shelf, disk)
+}
+
+#[test]
+fn scripts_are_generated(rt: HostRuntime) -> Result<(), AllocError> {
+    let made = done(&rt, rt.alloc(), &["generate", "1", "1", "1"], FLAT, &[])?;
+    assert!(rt; ends(&made, 0, ROWS));
+    assert!(rt; made.disk.calls().is_empty());
+    Ok(())
+}
+
+#[test]
+fn generated_scripts_are_run(rt: HostRuntime) -> Result<(), AllocError> {
+    let alloc = rt.alloc();
+    let one = done(&rt, alloc, &["load", "1", "1", "1", "1"], FLAT, &[])?;
+    assert!(rt; ends(&one, 0, "load,2,0,1,0.00,0.00,1\n"));
+    let many = done(&rt, alloc, &["load", "1", "200", "4", "1"], FLAT, &[])?;
+    assert!(rt; ends(&many, 0, "load,400,0,200,0.00,0.00,200\n"));
+    assert_eq!(rt; many.disk.bytes().len(), 26_018);
+    Ok(())
+}
+
+// Over a journal that has the policies already each posting is refused.
+#[test]
+fn loads_go_on_from_a_journal(rt: HostRuntime) -> Result<(), AllocError> {
+    let alloc = rt.alloc();
+    let words = &["load", "1", "3", "2", "1"];
+    let first = done(&rt, alloc, words, FLAT, &[])?;
+    assert!(rt; ends(&first, 0, "load,6,0,3,0.00,0.00,3\n"));
+    let again = done(&rt, alloc, words, FLAT, first.disk.bytes())?;
+    assert!(rt; ends(&again, 0, "load,0,6,3,0.00,0.00,3\n"));
+    assert!(rt; again.disk.bytes() == first.disk.bytes());
+    Ok(())
+}
+
+// A bad basis is named, and the disk isn't touched.
+#[test]
+fn loads_need_a_basis(rt: HostRuntime) -> Result<(), AllocError> {
+    let bad = done(
+        &rt,
+        rt.alloc(),
+        &["load", "1", "1", "1", "1"],
+        "1900-01-01,q.xml\n",
+        &[],
+    )?;
+    assert!(rt; ends(&bad, 4, "badbasis,basis.csv,1,badrow\n"));
+    assert!(rt; bad.disk.calls().is_empty());
+    Ok(())
+}

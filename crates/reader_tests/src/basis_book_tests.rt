@@ -1,0 +1,165 @@
+ghost use Rattle.std.specs.Prelude.{◌≤◌, length};
+
+use basis_book::{
+    Basis, BasisFault, BasisRow, BasisRows, LONGEST_FILE, Name, NoSuchTable, read_basis,
+};
+use indexmap::IndexMap;
+use rate_table::RateTable;
+use std::alloc::Global;
+use std::test::Fail;
+
+fn table(alloc: Global, first_age: u8) -> Result<RateTable, Fail> {
+    let rates = [500_000_000, 1_000_000_000].to_vec(alloc)?;
+    let Ok(table) = RateTable::new(first_age, rates) else {
+        return Err("a table".into());
+    };
+    Ok(table)
+}
+
+/// What a file is read as: the number of its rows, or its fault.
+fn rows_of(alloc: Global, bytes: &[u8]) -> Result<usize, BasisFault>
+    requires { length bytes.now ≤ LONGEST_FILE }
+{
+    match read_basis(alloc, bytes) {
+        Ok(rows) => Ok(rows.as_slice().len()),
+        Err(fault) => Err(fault),
+    }
+}
+
+#[test]
+fn files(rt: HostRuntime) {
+    let cases: [(&[u8], Result<usize, BasisFault>); 26] = [
+        (b"", Ok(0)),
+        (b"1900-01-01,q.xml,0", Ok(1)),
+        (
+            b"1900-01-01,q.xml,0\n\n\n2199-12-31,Q_2-b.xml,2000\n",
+            Ok(2),
+        ),
+        (b"\xef\xbb\xbf1900-01-01,q.xml,0\r\n", Ok(1)),
+        (b"\"1900-01-01\",\"q.xml\",\"0\"\r2000-02-29,7,400", Ok(2)),
+        (
+            b"1900-01-01,q.xml,0\n1900-01-01,q.xml,0\n",
+            Err(BasisFault::NotRising(2)),
+        ),
+        (
+            b"1900-01-02,q.xml,0\n1900-01-01,q.xml,0\nx",
+            Err(BasisFault::NotRising(2)),
+        ),
+        (
+            b"1900-01-02,q.xml,0\n1900-01-01,q.xml,2001\n",
+            Err(BasisFault::BadBasisRow(2)),
+        ),
+        (b"1900-01-01,q.xml", Err(BasisFault::BadBasisRow(1))),
+        (b"1900-01-01,q.xml,0,0", Err(BasisFault::BadBasisRow(1))),
+        (b"\"\"", Err(BasisFault::BadBasisRow(1))),
+        (b"1899-12-31,q.xml,0", Err(BasisFault::BadBasisRow(1))),
+        (b"2200-01-01,q.xml,0", Err(BasisFault::BadBasisRow(1))),
+        (b"2001-02-29,q.xml,0", Err(BasisFault::BadBasisRow(1))),
+        (b"1900-01-01,,0", Err(BasisFault::BadBasisRow(1))),
+        (b"1900-01-01,.xml,0", Err(BasisFault::BadBasisRow(1))),
+        (b"1900-01-01,a/b,0", Err(BasisFault::BadBasisRow(1))),
+        (b"1900-01-01,\xe9,0", Err(BasisFault::BadBasisRow(1))),
+        (b"1900-01-01,q.xml,", Err(BasisFault::BadBasisRow(1))),
+        (b"1900-01-01,q.xml,00", Err(BasisFault::BadBasisRow(1))),
+        (b"1900-01-01,q.xml,007", Err(BasisFault::BadBasisRow(1))),
+        (b"1900-01-01,q.xml,+7", Err(BasisFault::BadBasisRow(1))),
+        (b"1900-01-01,q.xml,2001", Err(BasisFault::BadBasisRow(1))),
+        (b"1900-01-01,q.xml,70000", Err(BasisFault::BadBasisRow(1))),
+        (b"1900-01-01,q.xml,0 ", Err(BasisFault::BadBasisRow(1))),
+        (b"1900-01-01, q.xml,0", Err(BasisFault::BadBasisRow(1))),
+    ];
+    for (bytes, expected) in cases {
+        assert!(rt; bytes.len() <= LONGEST_FILE);
+        assert_eq!(rt; rows_of(rt.alloc(), bytes), expected, "{bytes:?}");
+    }
+}
+
+#[test]
+fn names_and_many_rows(rt: HostRuntime) -> Result<(), Fail> {
+    let alloc = rt.alloc();
+    let mut name = vec![in alloc; b'a'; 64]?;
+    assert!(rt; Name::of(alloc, &name).is_ok_and(|name| name.is_some()));
+    name.push(b'a')?;
+    assert!(rt;
+        Name::of(alloc, &name).is_ok_and(|name| name.is_none()),
+        "65 characters"
+    );
+    let mut file = Vec::new(alloc);
+    for _ in 0..1_000 {
+        file.extend_from_slice(b"x\n")?;
+    }
+    assert!(rt; file.len() <= LONGEST_FILE);
+    assert_eq!(rt; rows_of(alloc, &file), Err(BasisFault::BadBasisRow(1)));
+    file.extend_from_slice(b"1900-01-01,q.xml,0")?;
+    assert!(rt; file.len() <= LONGEST_FILE);
+    assert_eq!(rt; rows_of(alloc, &file), Err(BasisFault::TooManyRows));
+    Ok(())
+}
+
+/// A thousand right rows, one for each month from January 1900 on, whose tables have names of 64 letters.
+fn thousand_rows(alloc: Global) -> Result<Vec<u8>, Fail> {
+    let name = [b'Q'; 64];
+    let mut file = Vec::new(alloc);
+    for month in 0..1_000u32 {
+        let (year, of_year) = (1900 + month / 12, 1 + month % 12);
+        file.extend_from_slice(format!(in alloc; "{year}-{of_year:02}-01,")?.as_bytes())?;
+        file.extend_from_slice(&name)?;
+        file.extend_from_slice(b",2000\n")?;
+    }
+    Ok(file)
+}
+
+#[test]
+fn files_at_their_limits(rt: HostRuntime) -> Result<(), Fail> {
+    let mut file = thousand_rows(rt.alloc())?;
+    assert!(rt; file.len() <= LONGEST_FILE);
+    assert_eq!(rt; rows_of(rt.alloc(), &file), Ok(1_000));
+    let rows = file.len();
+    file.extend_from_slice(b"1983-05-01,q.xml,0\n")?;
+    assert!(rt; file.len() <= LONGEST_FILE);
+    assert_eq!(rt; rows_of(rt.alloc(), &file), Err(BasisFault::TooManyRows));
+    // Empty lines are no rows.
+    file.truncate(rows);
+    file.resize(LONGEST_FILE, b'\n')?;
+    assert_eq!(rt; file.len(), LONGEST_FILE);
+    assert_eq!(rt; rows_of(rt.alloc(), &file), Ok(1_000));
+    Ok(())
+}
+
+#[test]
+fn picks(rt: HostRuntime) -> Result<(), Fail> {
+    let alloc = rt.alloc();
+    let file = b"1970-01-01,a.xml,100\n1970-01-11,b.xml,200\n1970-01-21,a.xml,300\n";
+    assert!(rt; file.len() <= LONGEST_FILE);
+    let mut tables = IndexMap::new(alloc);
+    tables.insert(String::from_str(alloc, "a.xml")?, table(alloc, 10)?)?;
+    let Ok(rows) = read_basis(alloc, file) else {
+        return Err("rows".into());
+    };
+    let missing = Basis::of(rows, tables);
+    assert!(rt; missing.is_err_and(|fault| fault == NoSuchTable(2)));
+    let mut tables = IndexMap::new(alloc);
+    tables.insert(String::from_str(alloc, "b.xml")?, table(alloc, 20)?)?;
+    tables.insert(String::from_str(alloc, "a.xml")?, table(alloc, 10)?)?;
+    let Ok(rows) = read_basis(alloc, file) else {
+        return Err("rows".into());
+    };
+    let Ok(basis) = Basis::of(rows, tables) else {
+        return Err("a basis".into());
+    };
+    let cases = [
+        (-1, None),
+        (0, Some((0, 10, 100))),
+        (9, Some((0, 10, 100))),
+        (10, Some((1, 20, 200))),
+        (19, Some((1, 20, 200))),
+        (20, Some((2, 10, 300))),
+        (84_005, Some((2, 10, 300))),
+    ];
+    for (issued, expected) in cases {
+        let picked = basis.pick(issued);
+        let seen = picked.map(|(index, table, bp)| (index, table.first_age(), bp));
+        assert_eq!(rt; seen, expected, "{issued}");
+    }
+    Ok(())
+}

@@ -1,0 +1,138 @@
+// The lines that scripts spell, and the lanes that they are dealt out to.
+ghost use Rattle.std.specs.Prelude.{◌≤◌, length};
+
+use command_csv::read_script;
+use policy_types::{At, Command, Line, Plan};
+use std::alloc::Global;
+use std::test::Fail;
+
+const MOST_BYTES: usize = 16_777_216;
+
+#[test]
+fn lines_are_read_as_they_are_written(rt: HostRuntime) -> Result<(), Fail> {
+    let script = b"1,issue,7001,2020-01-01,endowment,0,3,1000.00,400.00
+1,premium,7001,2021-01-01,400.00
+1,alter,7001,2021-01-02,500.00,200.00
+1,lapse,7001,2022-02-02
+1,reinstate,7001,2022-03-01,400000000.00
+1,claim,7001,2022-12-31
+1,settle,7001,2023-01-15,0.01
+1,mature,4294967295,2199-12-31
+1,value,2020-01-01,now,64
+1,trim
+1,value,2022-02-02,4000000,1
+";
+    let id = 7001;
+    let commands = [
+        Command::Issue {
+            id,
+            day: 18_262,
+            plan: Plan::Endowment,
+            age: 0,
+            years: 3,
+            amount: 100_000,
+            premium: 40_000,
+        },
+        Command::Premium {
+            id,
+            day: 18_628,
+            amount: 40_000,
+        },
+        Command::Alter {
+            id,
+            day: 18_629,
+            amount: 50_000,
+            premium: 20_000,
+        },
+        Command::Lapse { id, day: 19_025 },
+        Command::Reinstate {
+            id,
+            day: 19_052,
+            amount: 40_000_000_000,
+        },
+        Command::Claim { id, day: 19_357 },
+        Command::Settle {
+            id,
+            day: 19_372,
+            amount: 1,
+        },
+        Command::Mature {
+            id: 4_294_967_295,
+            day: 84_005,
+        },
+    ];
+    let others = [
+        Line::Value {
+            on: 18_262,
+            at: At::Now,
+            workers: 64,
+        },
+        Line::Trim,
+        Line::Value {
+            on: 19_025,
+            at: At::Position(4_000_000),
+            workers: 1,
+        },
+    ];
+    let script = read_script(rt.alloc(), script)?;
+    let [lane] = script.as_slice() else {
+        return Err("one lane")?;
+    };
+    assert_eq!(rt; lane.number, 1);
+    let lines = lane.lines.as_slice();
+    assert_eq!(rt; lines.len(), commands.len() + others.len());
+    for i in 0..commands.len() {
+        assert!(rt; i < lines.len());
+        assert_eq!(rt; lines[i], Line::Post(commands[i]), "row {i}");
+    }
+    for i in 0..others.len() {
+        assert!(rt; commands.len() + i < lines.len());
+        assert_eq!(rt; lines[commands.len() + i], others[i], "row {i} behind");
+    }
+    Ok(())
+}
+
+// Of each lane its number, and of its lines the policies that lapse, with 0 for a trim.
+fn dealt(alloc: Global, script: &[u8]) -> Result<Vec<u32>, Fail>
+    requires { length script.now ≤ MOST_BYTES }
+{
+    let script = read_script(alloc, script)?;
+    let mut dealt = Vec::new(alloc);
+    for lane in script.as_slice() {
+        dealt.push(u32::from(lane.number))?;
+        for line in lane.lines.as_slice() {
+            match line {
+                Line::Post(Command::Lapse { id, .. }) => dealt.push(*id)?,
+                _ => dealt.push(0)?,
+            }
+        }
+    }
+    Ok(dealt)
+}
+
+// Lanes stand by number, whichever comes first, each with its rows in order; a clerk without rows has none.
+#[test]
+fn lanes_are_dealt_out(rt: HostRuntime) -> Result<(), Fail> {
+    let cases: [(&[u8], &[u32]); 4] = [
+        (b"8,trim", &[8, 0]),
+        (
+            b"8,lapse,81,2020-01-01\n1,lapse,11,2020-01-01\n8,trim\n1,trim\n8,lapse,82,2020-01-01",
+            &[1, 11, 0, 8, 81, 0, 82],
+        ),
+        (
+            b"3,lapse,31,2020-01-01\n2,lapse,21,2020-01-01\n7,lapse,71,2020-01-01\n2,lapse,22,2020-01-01
+7,lapse,72,2020-01-01\n3,lapse,32,2020-01-01\n3,lapse,33,2020-01-01\n2,lapse,23,2020-01-01",
+            &[2, 21, 22, 23, 3, 31, 32, 33, 7, 71, 72],
+        ),
+        (
+            b"8,trim\n7,trim\n6,trim\n5,trim\n4,trim\n3,trim\n2,trim\n1,trim\n",
+            &[1, 0, 2, 0, 3, 0, 4, 0, 5, 0, 6, 0, 7, 0, 8, 0],
+        ),
+    ];
+    for (script, want) in cases {
+        assert!(rt; script.len() <= MOST_BYTES);
+        let dealt = dealt(rt.alloc(), script)?;
+        assert!(rt; dealt.as_slice() == want, "{script:?}");
+    }
+    Ok(())
+}

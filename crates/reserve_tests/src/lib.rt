@@ -1,0 +1,15 @@
+//! Tests of the values: shapes, present values, reserves, rows of a valuation and their text.
+#![tactic(auto)]
+
+#[cfg(test)]
+mod crvm_reserve_tests;
+#[cfg(test)]
+mod parallel_value_tests;
+#[cfg(test)]
+mod plan_benefits_tests;
+#[cfg(test)]
+mod policy_value_tests;
+#[cfg(test)]
+mod present_value_tests;
+#[cfg(test)]
+mod report_text_tests;

@@ -1,0 +1,224 @@
+ghost use Rattle.std.specs.Prelude.{IsTrue, length, ◌≤◌};
+ghost use Rattle.report_text.specs.Block.{IsSummable, AreSummable};
+
+use policy_types::Status;
+use policy_value::{NotValued, Row, Rows, Worth};
+use report_text::{Totals, print_block, print_row, print_total};
+use std::alloc::Global;
+use std::test::Fail;
+
+/// 2021-01-01, in days since 1970-01-01.
+const ON: i32 = 18_628;
+/// 200,000,000.00, the greatest bound.
+const GREATEST: u64 = 20_000_000_000;
+
+const MOST_ROWS: u32 = 4_000_000;
+
+/// The row of policy 7001, in force.
+fn row(t: u8, worth: Worth) -> Row {
+    Row {
+        id: 7001,
+        status: Status::InForce,
+        t,
+        worth,
+    }
+}
+
+/// A row with bounds.
+fn valued(t: u8, lo: u64, hi: u64) -> Row {
+    row(t, Worth::Bounds { lo, hi })
+}
+
+fn is_summable(worth: Worth) -> bool
+    ensures { IsTrue result → IsSummable worth }
+{
+    match worth {
+        Worth::Bounds { lo, hi } => lo <= GREATEST && hi <= GREATEST,
+        Worth::Word(_) => true,
+    }
+}
+
+fn are_summable(rows: &Rows) -> bool
+    ensures bounded { IsTrue result → AreSummable rows.now }
+    ensures few { IsTrue result → length rows.now ≤ 4000000 }
+{
+    let rows = rows.as_slice();
+    rows.len() <= MOST_ROWS as usize && rows.iter().all(|row| is_summable(row.worth))
+}
+
+/// The same row so many times.
+fn copies(alloc: Global, count: u32, row: Row) -> Result<Rows, Fail> {
+    let mut rows = Vec::new(alloc);
+    for _ in 0..count {
+        rows.push(row)?;
+    }
+    Ok(Rows::new(rows))
+}
+
+// A row with each status and each word, and at its limits.
+#[test]
+fn rows(rt: HostRuntime) -> Result<(), Fail> {
+    let past_the_table = row(0, Worth::Word(NotValued::PastTable));
+    let mut lapsed = valued(0, 0, 0);
+    lapsed.status = Status::Lapsed;
+    let mut claimed = lapsed;
+    claimed.status = Status::Claimed;
+    let mut matured = lapsed;
+    matured.status = Status::Matured;
+    let mut expired = lapsed;
+    expired.status = Status::Expired;
+    let mut settled = lapsed;
+    settled.status = Status::Settled;
+    let mut last = valued(131, GREATEST, GREATEST);
+    last.id = u32::MAX;
+    for (row, expected) in [
+        // an endowment, a term and a limited life of 1000.00
+        (
+            valued(1, 12_722, 12_723),
+            "row,7001,inforce,1,127.22,127.23\n",
+        ),
+        (
+            valued(3, 100_000, 100_000),
+            "row,7001,inforce,3,1000.00,1000.00\n",
+        ),
+        (valued(1, 0, 1), "row,7001,inforce,1,0.00,0.01\n"),
+        (valued(2, 2_777, 2_778), "row,7001,inforce,2,27.77,27.78\n"),
+        (
+            valued(1, 33_138, 33_139),
+            "row,7001,inforce,1,331.38,331.39\n",
+        ),
+        (past_the_table, "row,7001,inforce,0,pasttable\n"),
+        (
+            row(0, Worth::Word(NotValued::NoBasis)),
+            "row,7001,inforce,0,nobasis\n",
+        ),
+        (
+            row(0, Worth::Word(NotValued::BelowTable)),
+            "row,7001,inforce,0,belowtable\n",
+        ),
+        (
+            row(0, Worth::Word(NotValued::RateHigh)),
+            "row,7001,inforce,0,ratehigh\n",
+        ),
+        (lapsed, "row,7001,lapsed,0,0.00,0.00\n"),
+        (claimed, "row,7001,claimed,0,0.00,0.00\n"),
+        (matured, "row,7001,matured,0,0.00,0.00\n"),
+        (expired, "row,7001,expired,0,0.00,0.00\n"),
+        (settled, "row,7001,settled,0,0.00,0.00\n"),
+        (
+            last,
+            "row,4294967295,inforce,131,200000000.00,200000000.00\n",
+        ),
+    ] {
+        assert!(rt; is_summable(row.worth));
+        let Ok(text) = print_row(rt.alloc(), &row) else {
+            return Err("memory for a row".into());
+        };
+        assert_eq!(rt; text.as_slice(), expected.as_bytes());
+    }
+    Ok(())
+}
+
+// The totals of none, of 300 policies, of policies without a value, and at the limits.
+#[test]
+fn totals(rt: HostRuntime) -> Result<(), Fail> {
+    for (count, row, expected) in [
+        (0, valued(1, 12_722, 12_723), "total,0.00,0.00,0\n"),
+        (1, valued(0, 0, 0), "total,0.00,0.00,0\n"),
+        (
+            1,
+            row(0, Worth::Word(NotValued::PastTable)),
+            "total,0.00,0.00,1\n",
+        ),
+        (
+            300,
+            valued(1, 12_722, 12_723),
+            "total,38166.00,38169.00,0\n",
+        ),
+        (
+            MOST_ROWS,
+            valued(131, GREATEST - 1, GREATEST),
+            "total,799999999960000.00,800000000000000.00,0\n",
+        ),
+        (
+            MOST_ROWS,
+            row(0, Worth::Word(NotValued::NoBasis)),
+            "total,0.00,0.00,4000000\n",
+        ),
+    ] {
+        let rows = copies(rt.alloc(), count, row)?;
+        assert!(rt; are_summable(&rows));
+        let Ok(text) = print_total(rt.alloc(), &rows) else {
+            return Err("memory for a total".into());
+        };
+        assert_eq!(rt; text.as_slice(), expected.as_bytes());
+    }
+    let rows = copies(rt.alloc(), 300, valued(1, 12_722, 12_723))?;
+    assert!(rt; are_summable(&rows));
+    let expected = Totals {
+        lower: 3_816_600,
+        upper: 3_816_900,
+        unvalued: 0,
+    };
+    assert_eq!(rt; Totals::of(&rows), expected);
+    Ok(())
+}
+
+// Whole valuations: of no policy, of one, and of some of which one has no value.
+#[test]
+fn blocks(rt: HostRuntime) -> Result<(), Fail> {
+    let endowment = valued(1, 12_722, 12_723);
+    let mut past_the_table = row(0, Worth::Word(NotValued::PastTable));
+    past_the_table.id = 7002;
+    for (lane, on, position, rows, expected) in [
+        (
+            0,
+            ON,
+            0,
+            [].as_slice(),
+            "0,value,2021-01-01,0,0\ntotal,0.00,0.00,0\n",
+        ),
+        (
+            1,
+            ON,
+            1,
+            [endowment].as_slice(),
+            "1,value,2021-01-01,1,1\nrow,7001,inforce,1,127.22,127.23\ntotal,127.22,127.23,0\n",
+        ),
+        (
+            8,
+            84_005,
+            4_000_000,
+            [endowment, past_the_table, endowment].as_slice(),
+            "8,value,2199-12-31,4000000,3\nrow,7001,inforce,1,127.22,127.23\nrow,7002,inforce,0,pasttable\n\
+                row,7001,inforce,1,127.22,127.23\ntotal,254.44,254.46,1\n",
+        ),
+    ] {
+        let rows = Rows::new(rows.to_vec(rt.alloc())?);
+        assert!(rt; are_summable(&rows));
+        let Ok(text) = print_block(rt.alloc(), lane, on, position, &rows) else {
+            return Err("memory for a block".into());
+        };
+        assert_eq!(rt; text.as_slice(), expected.as_bytes());
+    }
+    Ok(())
+}
+
+// The longest valuation, by its length, its first and its last lines. Built, it takes a second; `rt try` doesn't end it
+// within the minute that a test has.
+#[test]
+fn most_policies(rt: HostRuntime) -> Result<(), Fail> {
+    let rows = copies(rt.alloc(), MOST_ROWS, valued(1, GREATEST, GREATEST))?;
+    assert!(rt; are_summable(&rows));
+    let Ok(text) = print_block(rt.alloc(), 8, -25_567, MOST_ROWS, &rows) else {
+        return Err("memory for the longest block".into());
+    };
+    let start =
+        "8,value,1900-01-01,4000000,4000000\nrow,7001,inforce,1,200000000.00,200000000.00\n";
+    let end =
+        "row,7001,inforce,1,200000000.00,200000000.00\ntotal,800000000000000.00,800000000000000.00,0\n";
+    assert_eq!(rt; text.as_slice().len(), 35 + 4_000_000 * 45 + 46);
+    assert!(rt; text.as_slice().starts_with(start.as_bytes()));
+    assert!(rt; text.as_slice().ends_with(end.as_bytes()));
+    Ok(())
+}

@@ -1,9 +1,0 @@
-use Rattle.std.proofs.Common.{◌≡◌}
-use Rattle.shared_office.proofs.tests.issues_and_pays.Given as goal
-
-abbrev pub invariant-loop-n : goal.invariant-loop-n
-invariant-loop-n g l =
-    record {
-      turnstile : l.pass.turnstile ≡ l.fn.pass.turnstile;
-      shares : l.pass.shares ≡ l.fn.pass.shares;
-    }

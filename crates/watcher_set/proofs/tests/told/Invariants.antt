@@ -1,7 +1,0 @@
-use Rattle.std.proofs.Common.{◌≡◌, List, length}
-use Rattle.policy_types.specs.declared.command.Command.{Command}
-use Rattle.watcher_set.proofs.tests.told.Given as goal
-
-abbrev pub invariant-loop-place : goal.invariant-loop-place
-invariant-loop-place g l =
-    (commands : List Command) × g.W.Watching.told l.watchers commands × (length commands ≡ l.place)
