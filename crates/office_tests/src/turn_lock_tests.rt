@@ -1,4 +1,4 @@
-// Turns of several threads on one counter: each answers the count of all turns before it, whoever waits is woken, and
+// Turns of several threads on one counter: each answers the count of all turns before it, whoever waits gets its turn, and
 // all shares come back.
 ghost use Rattle.std.specs.Prelude.{◌≡◌, IfOk};
 ghost use Rattle.turn_lock.specs.Passes.{all_shares};
@@ -149,7 +149,7 @@ fn every_turn_sees_all_before_it(rt: HostRuntime) -> Result<(), Fail> {
         ("two callers", 2, 100, 0),
         ("eight callers", 8, 1000, 0),
         ("more callers than processors", 32, 100, 0),
-        ("callers that park while one works", 6, 5, 5000),
+        ("callers that wait while one works", 6, 5, 5000),
     ];
     for (name, callers, turns, yields) in cases {
         let counted = count(&rt, rt.alloc(), callers, turns, yields);

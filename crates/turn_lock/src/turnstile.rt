@@ -10,16 +10,18 @@ use crate::seats::{Board, Place, SharedBoard, VALUE};
 use crate::stands::Stands;
 use crate::steps::{draw, hand_on, join, name, split};
 use crate::turn::{Turn, Turned};
-use crate::waiting::{wait, wake};
+use crate::waiting::wait;
 use atomic_table::{Refused, Table};
 use std::alloc::Global;
 use std::marker::{Brand, Model};
 use std::snapshot::Snapshot;
-use std::sync::Wait;
+use std::sync::{Mutex, Wait};
 
-/// A lock by tickets round a value. Contracts see which turnstile it is.
+/// A lock round a value, whose turns are one history. Contracts see which turnstile it is.
 pub struct Turnstile<T: Stands> {
     board: Board<T>,
+    /// Who takes a turn holds the door: others sleep at it, before they draw a ticket. No contract rests on it.
+    door: Mutex<()>,
 }
 
 impl<T: Stands> Model for Turnstile<T> {
@@ -40,7 +42,7 @@ pub struct NoRoom<T> {
 }
 
 impl<T: Stands> Turnstile<T> {
-    ghost use Rattle.turn_lock.specs.Passes.{PassFacts, all_shares, IsFirst, Enters, Leaves, TakesTurn, OwnsAll};
+    ghost use Rattle.turn_lock.specs.Passes.{PassFacts, all_shares, IsFirst, Enters, LeavesLock, TakesTurn, OwnsAll};
 
     /// A turnstile round this value, and its first pass, which has all turns and all shares.
     pub fn new(alloc: Global, value: T) -> Result<(Turnstile<T>, Pass<T>), NoRoom<T>>
@@ -49,6 +51,7 @@ impl<T: Stands> Turnstile<T> {
         ensures facts { IfOk result (λ made. PassFacts T.legal made.1) }
         ensures err { IfErr result (λ refused. refused.value ≡ value) }
     {
+        let door = Mutex::new(());
         let first = Snapshot::of(&value);
         let mut slots = Vec::new(alloc);
         if let Err(failed) = slots.push(Some(value)) {
@@ -65,7 +68,7 @@ impl<T: Stands> Turnstile<T> {
                     left: 1 << 62,
                     shares: 1 << 32,
                 };
-                Ok((Turnstile { board }, pass))
+                Ok((Turnstile { board, door }, pass))
             }
             Err(Refused { mut slots }) => {
                 let value = slots.pop().unwrap().unwrap();
@@ -100,7 +103,7 @@ impl<T: Stands> Turnstile<T> {
     /// Takes another pass back, with all that it has. It waits for nobody and takes no memory.
     pub fn leave(&self, gone: Pass<T>, pass: &mut Pass<T>)
         requires ours { (gone.turnstile ≡ self.now) × (pass.old.turnstile ≡ self.now) }
-        ensures leaves { Leaves gone pass.old pass.new }
+        ensures leaves { LeavesLock gone pass.old pass.new }
         ensures facts { PassFacts T.legal pass.new }
     {
         let left = gone.left();
@@ -110,8 +113,8 @@ impl<T: Stands> Turnstile<T> {
         pass.shares += shares;
     }
 
-    /// Takes a turn: waits until all that drew a ticket before are served, runs the call on the value, and hands on.
-    /// It takes no memory of its own.
+    /// Takes a turn: waits until nobody else is in one, runs the call on the value, and hands on. It takes no memory of
+    /// its own.
     pub fn turn<C: Turn<T>, R: Wait>(
         &self,
         rt: &R,
@@ -125,9 +128,11 @@ impl<T: Stands> Turnstile<T> {
         ensures facts { PassFacts T.legal pass.new }
     {
         let shared = &self.board.shared;
+        let door = self.door.lock(rt);
         let ticket = draw(shared, &mut pass.place);
         let value = wait(rt, shared, &mut pass.place, ticket);
         let turned = serve(shared, &mut pass.place, value, call, pass.caller);
+        drop(door);
         pass.left -= 1;
         turned
     }
@@ -142,7 +147,7 @@ impl<T: Stands> Turnstile<T> {
         ensures whole { OwnsAll pass }
         ensures facts { PassFacts T.legal pass }
     {
-        let Turnstile { board } = self;
+        let Turnstile { board, door: _ } = self;
         let mut closed = board.close_with(pass.into_place());
         let value = closed.take(VALUE).unwrap();
         closed.free();
@@ -150,7 +155,7 @@ impl<T: Stands> Turnstile<T> {
     }
 }
 
-/// Runs the call on the value that is out with the seat, hands on, and wakes who waits.
+/// Runs the call on the value that is out with the seat, and hands on.
 fn serve<T: Stands, C: Turn<T>>(
     board: &SharedBoard<T>,
     place: &mut Place<T>,
@@ -170,6 +175,5 @@ fn serve<T: Stands, C: Turn<T>>(
     let asked = Snapshot::of(&call);
     let answer = call.run(&mut value, caller);
     let turn = hand_on::<T, Brand, C>(board, place, value, &asked, caller, &answer);
-    wake(board, turn);
     Turned { turn, answer }
 }
