@@ -8,7 +8,7 @@ root=$(cd "$(dirname "$0")/../.." && pwd) || exit 2
 work=$(mktemp -d) || exit 2
 trap 'rm -rf "$work"' EXIT
 if [ -n "${LIFE_PROGRAM:-}" ]; then
-    program=$LIFE_PROGRAM
+    program=$(readlink -f -- "$LIFE_PROGRAM")
     life=$work/life
     printf '#!/bin/sh\ntrap "" XFSZ\nexec "%s" "$@"\n' "$program" >"$life"
     chmod +x "$life"
