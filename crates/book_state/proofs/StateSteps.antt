@@ -35,7 +35,7 @@ use Rattle.program_endings.specs.Writing.{Stream, WroteAll}
 use Rattle.program_endings.specs.Texts.{EndsText}
 use Rattle.program_endings.proofs.ListSteps.{all_take}
 use Rattle.book_state.specs.declared.rereading.Account.{Account}
-use Rattle.book_state.specs.Books.{account_text, entries_of, policy_account}
+use Rattle.book_state.specs.Books.{account_text, policy_entries, policy_account}
 use Rattle.book_state.specs.Stating.{EndsState, IsStated}
 use Rattle.book_state.specs.inside.Rereading.{EndsReading, HasNotRead, HasRead, IsAccounted}
 use Rattle.book_state.proofs.LookSteps.{alone_still, file_left, finished_left, later_left, left_renamed, left_still}
@@ -46,7 +46,7 @@ account_is : {D : Type 0} {g : Ghosts D} {old new : D} {id : ℕ} (account : Acc
 account_is {id = id} account read =
     let commands = read.commands in
     ap (λ es. account_text es account.id account.policy) read.holds.entries
-    ∙ ap (λ p. account_text (entries_of commands account.id) account.id p) read.holds.policy
+    ∙ ap (λ p. account_text (policy_entries commands account.id) account.id p) read.holds.policy
     ∙ ap (λ n. policy_account n commands) read.named
 
 -- an office that was opened on this disk and closed

@@ -1,20 +1,20 @@
 // One policy's entries, and the policy as they left it. The journal's records are read again for them.
 ghost use Rattle.std.specs.Prelude.{◌≡◌, List, [], ◌∷◌, codes, decimal, IfOk};
 ghost use Rattle.policy_types.specs.declared.command.Command.{Command as ACommand};
-ghost use Rattle.statements.specs.Lines.{line_of};
+ghost use Rattle.text_lines.specs.Lines.{line_of};
 ghost use Rattle.book_state.specs.Books.{account_text, policy_account};
 ghost use Rattle.book_state.specs.Stating.{EndsState};
 ghost use Rattle.program_endings.specs.Writing.{between};
 ghost use Rattle.book_state.specs.inside.Rereading.{EndsReading, IsAccount};
 
 use crate::rereading::{Account, read_again};
-use money_core::Text;
 use office_state::OfficeState;
 use outside_io::{Disk, Sink};
 use policy_types::NoMemory;
 use program_endings::{Finished, refuse_journal, write_text};
-use statements::{LineWriter, statement};
+use statements::statement;
 use std::alloc::Global;
+use text_lines::{LineWriter, Text};
 use watcher_set::NoWatchers;
 
 /// Writes the entries of the policy of this number, and the policy as they left it.

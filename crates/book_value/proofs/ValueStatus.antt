@@ -8,7 +8,7 @@ use Rattle.policy_types.specs.declared.command.Command.{Command}
 use Rattle.policy_types.specs.declared.entry.At.{At}
 use Rattle.basis_book.specs.Dated.{Dated}
 use Rattle.basis_shelf.specs.Bases.{IsBasis}
-use Rattle.basis_shelf.specs.FirstBad.{IsFirstBad}
+use Rattle.basis_shelf.specs.FirstBad.{IsFirstBadFile}
 use Rattle.basis_shelf.specs.declared.fault.BadBasis.{BadBasis as ABadBasis}
 use Rattle.basis_shelf.proofs.OneBasis.{basis_or_bad}
 use Rattle.office_state.specs.Journals.{Opens, OpensToNone}
@@ -127,7 +127,7 @@ module _ {D : Type 0} (g : Ghosts D) (old new : D) (on : ℤ) (at : At) (output 
           subst (λ (t : Option (List ℕ → Option (List ℕ))). IfSome t (λ fs. IsBasis fs name by.basis)) told by.is
 
       pub value_unfit : (ending : Ending) (bad : ABadBasis) → EndsValue g old new on at name shelf output ending
-          → IsFirstBad files name bad → (Rose shelf.faults_before shelf.faults_after → ⊥)
+          → IsFirstBadFile files name bad → (Rose shelf.faults_before shelf.faults_after → ⊥)
           → SaysBadFile bad output (status_of ending) ⊎ (status_of ending ≡ 9)
       value_unfit ending bad ends first shelf_held = elim ends [
         | inl by ↦ absurd (basis_or_bad files name by.basis bad (has_basis ending by) first)

@@ -17,7 +17,7 @@ use Rattle.policy_machine.specs.Merge.{pin_call}
 use Rattle.report_text.specs.Block.{block_text}
 use Rattle.office_state.specs.Images.{IsLeftBy}
 use Rattle.office_state.specs.Journals.{Opens}
-use Rattle.snapshot_value.specs.Valuing.{IsAnswered, IsRowOf, IsSnapshot}
+use Rattle.snapshot_value.specs.Valuing.{AnswersPin, IsValuedRow, IsSnapshot}
 use Rattle.snapshot_value.specs.declared.valuation.Valuation.{Valuation}
 use Rattle.snapshot_value.specs.declared.valuation.ValueFault.{ValueFault}
 use Rattle.snapshot_value.specs.declared.valuation.ValueFault.TheVariants.{Pin, NoMemory as NoValues}
@@ -55,7 +55,7 @@ module _ (opening : Opening) (caller : ℕ) (on : ℤ) (basis : List Dated) wher
   lone_refusal (Position p) PinsFull due = absurd (let full : 16 ≤ 0 = due.2 in omega (arith, full))
 
   pub lone_answer : (at : At) (reply : Reply) (answer : Result Valuation ValueFault) → IsDue opening [] caller (pin_call at) reply
-      → IsAnswered commands basis on reply answer → IsLoneAnswer answer
+      → AnswersPin commands basis on reply answer → IsLoneAnswer answer
   lone_answer at (Pinned position policies) (Ok valuation) due is = block_writable commands basis on position valuation is
   lone_answer at (Pinned position policies) (Err (Pin why)) due is = absurd is
   lone_answer at (Pinned position policies) (Err NoValues) due is = tt
@@ -85,7 +85,7 @@ module _ (opening : Opening) (caller : ℕ) (on : ℤ) (basis : List Dated) wher
         record {
           reached = place.1;
           rows = valuation.rows;
-          each = subst (λ p. AllZip (IsRowOf basis on) (book (take p commands)) valuation.rows) place.0 snapshot.rows.each;
+          each = subst (λ p. AllZip (IsValuedRow basis on) (book (take p commands)) valuation.rows) place.0 snapshot.rows.each;
           wrote = subst Wrote (ap (λ p. block_text 0 on p valuation.rows) (snapshot.pinned ∙ place.0)) wrote;
         }
 
@@ -103,7 +103,7 @@ module _ (opening : Opening) (caller : ℕ) (on : ℤ) (basis : List Dated) wher
     ends_refused_pin at PinsFull ending due ends = absurd ends
 
     pub lone_ends : (at : At) (reply : Reply) (answer : Result Valuation ValueFault) (ending : Ending) → IsDue opening [] caller (pin_call at) reply
-        → IsAnswered commands basis on reply answer → EndsAnswer on answer output ending → EndsValued commands on at basis output ending
+        → AnswersPin commands basis on reply answer → EndsAnswer on answer output ending → EndsValued commands on at basis output ending
     lone_ends at (Pinned position policies) (Ok valuation) Done due is ends = valuation_of at position policies valuation (WroteAll output) due is ends
     lone_ends at (Pinned position policies) (Ok valuation) WriteFault due is ends =
         (ends.0, valuation_of at position policies valuation (AppendsPart output.before output.after) due is ends.1)

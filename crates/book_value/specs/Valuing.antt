@@ -11,7 +11,7 @@ use Rattle.basis_book.specs.Dated.{Dated}
 use Rattle.basis_shelf.specs.Bases.{IsBasis}
 use Rattle.policy_value.specs.declared.worth.Row.{Row}
 use Rattle.report_text.specs.Block.{block_text}
-use Rattle.snapshot_value.specs.Valuing.{IsRowOf}
+use Rattle.snapshot_value.specs.Valuing.{IsValuedRow}
 use Rattle.office_state.specs.Images.{IsLeftBy}
 use Rattle.office_state.specs.Journals.{Opens}
 use Rattle.program_endings.specs.Texts.{EndsReadOnly}
@@ -31,7 +31,7 @@ pub record IsValuation (commands : List Command) (on : ℤ) (at : At) (basis : L
     : Type 0 where
   pub reached : position_of at (length commands) ≤ length commands
   pub rows : List Row
-  pub each : AllZip (IsRowOf basis on) (book (take (position_of at (length commands)) commands)) rows
+  pub each : AllZip (IsValuedRow basis on) (book (take (position_of at (length commands)) commands)) rows
   pub wrote : Wrote (block_text 0 on (position_of at (length commands)) rows)
 
 -- the policies of the disk's file were valued, and the disk holds its commands still

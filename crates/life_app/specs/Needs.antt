@@ -6,7 +6,7 @@ use Rattle.policy_types.specs.declared.command.Command.{Command}
 use Rattle.policy_types.specs.declared.entry.At.{At}
 use Rattle.policy_types.specs.declared.script.Lane.{Lane}
 use Rattle.policy_types.specs.declared.entry.At.TheVariants.{Position}
-use Rattle.basis_shelf.specs.FirstBad.{IsFirstBad}
+use Rattle.basis_shelf.specs.FirstBad.{IsFirstBadFile}
 use Rattle.basis_shelf.specs.Lines.{bad_basis_text}
 use Rattle.basis_shelf.specs.declared.fault.BadBasis.{BadBasis}
 use Rattle.office_state.specs.Journals.{Opens}
@@ -26,7 +26,7 @@ NeedBasis words script name =
 abbrev pub HasBadFile : List (String Global) → Option (List ℕ) → Option (List ℕ → Option (List ℕ)) → Stream → Type 0
 HasBadFile words script told output =
     (name : List ℕ) × ((bad : BadBasis) × NeedBasis words script name
-    × IfSome told (λ files. IsFirstBad files name bad) × WroteOrFailed output (bad_basis_text bad))
+    × IfSome told (λ files. IsFirstBadFile files name bad) × WroteOrFailed output (bad_basis_text bad))
 
 -- the words ask for values after more commands than the disk's file opens to
 abbrev pub IsPastTheEnd : {D : Type 0} → Ghosts D → D → List (String Global) → Type 0

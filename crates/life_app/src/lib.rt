@@ -1,7 +1,6 @@
 //! The program whole: what its words ask for, over any devices.
 #![tactic(auto)]
 
-mod auditors;
 mod laws;
 mod program;
 pub mod worked;

@@ -3,7 +3,7 @@ use Rattle.std.proofs.Common.{ℕ, ◌≤◌, ℤ, List, arith}
 use Rattle.std.proofs.lemmas.List.Elements.{All-weaker}
 use Rattle.basis_book.specs.Dated.{Dated}
 use Rattle.policy_types.specs.declared.command.Command.{Command}
-use Rattle.policy_value.specs.Rows.{IsWithin}
+use Rattle.policy_value.specs.Rows.{IsWithinAmount}
 use Rattle.policy_value.specs.declared.worth.Row.{Row}
 use Rattle.policy_value.specs.declared.worth.Worth.{Worth}
 use Rattle.policy_value.specs.declared.worth.Worth.TheVariants.{Bounds, Word}
@@ -13,7 +13,7 @@ use Rattle.snapshot_value.specs.declared.valuation.Valuation.{Valuation}
 use Rattle.program_endings.specs.Blocks.{IsWritableBlock}
 
 -- bounds within an amount of insurance can be added up
-pub within_summable : (amount : ℕ) (worth : Worth) → amount ≤ 10000000000 → IsWithin amount worth → IsSummable worth
+pub within_summable : (amount : ℕ) (worth : Worth) → amount ≤ 10000000000 → IsWithinAmount amount worth → IsSummable worth
 within_summable amount (Bounds lo hi) most within = (omega (arith, most, within.0, within.1), omega (arith, most, within.1))
 within_summable amount (Word word) most within = tt
 
@@ -22,6 +22,6 @@ pub block_writable : (commands : List Command) (basis : List Dated) (on : ℤ) (
     → IsWritableBlock valuation
 block_writable commands basis on position valuation snapshot = record {
   few = snapshot.rows.few;
-  bounded = All-weaker (λ (row : Row). IsWithin 10000000000 row.worth) (λ (row : Row). IsSummable row.worth)
+  bounded = All-weaker (λ (row : Row). IsWithinAmount 10000000000 row.worth) (λ (row : Row). IsSummable row.worth)
       (λ row within. within_summable 10000000000 row.worth (omega arith) within) valuation.rows snapshot.rows.within;
 }

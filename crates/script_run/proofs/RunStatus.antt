@@ -10,7 +10,7 @@ use Rattle.policy_types.specs.declared.script.Lane.{Lane}
 use Rattle.watcher_set.specs.Noted.{Auditor}
 use Rattle.basis_book.specs.Dated.{Dated}
 use Rattle.basis_shelf.specs.Bases.{IsBasis}
-use Rattle.basis_shelf.specs.FirstBad.{IsFirstBad}
+use Rattle.basis_shelf.specs.FirstBad.{IsFirstBadFile}
 use Rattle.basis_shelf.specs.declared.fault.BadBasis.{BadBasis as ABadBasis}
 use Rattle.basis_shelf.proofs.OneBasis.{basis_or_bad}
 use Rattle.command_csv.specs.Reads.{Reads}
@@ -115,7 +115,7 @@ module _ {D : Type 0} (g : Ghosts D) (old new : D) (auditors : List Auditor) whe
 
     -- and a bad file is named
     lanes_unfit : (ending : Ending) (bad : ABadBasis) (files : List ℕ → Option (List ℕ)) → EndsLanes g old new lanes name auditors shelf output ShelfStays ending
-        → asks_for_values lanes ≡ true → shelf.files ≡ Some files → IsFirstBad files name bad
+        → asks_for_values lanes ≡ true → shelf.files ≡ Some files → IsFirstBadFile files name bad
         → (Rose shelf.faults_before shelf.faults_after → ⊥) → SaysBadFile bad output (status_of ending) ⊎ (status_of ending ≡ 9)
     lanes_unfit ending bad files ends asks told first shelf_held = elim ends [
       | inl without ↦ absurd (false≢true (sym without.0 ∙ asks))
@@ -222,7 +222,7 @@ module _ {D : Type 0} (g : Ghosts D) (old new : D) (auditors : List Auditor) whe
 
       pub run_unfit : (ending : Ending) (bad : ABadBasis) (files : List ℕ → Option (List ℕ))
           → EndsRun g old new name auditors input output shelf ShelfStays ending
-          → asks_for_values lanes ≡ true → shelf.files ≡ Some files → IsFirstBad files name bad
+          → asks_for_values lanes ≡ true → shelf.files ≡ Some files → IsFirstBadFile files name bad
           → (Rose shelf.faults_before shelf.faults_after → ⊥) → SaysBadFile bad output (status_of ending) ⊎ (status_of ending ≡ 9)
       run_unfit ending bad files ends asks shelf_told first shelf_held = elim (its_lanes ending ends) [
         | inl ran ↦ lanes_unfit lanes name shelf output ShelfStays ending bad files ran asks shelf_told first shelf_held

@@ -4,7 +4,7 @@ ghost use Rattle.std.specs.Prelude.{◌≡◌, ◌≤◌, [], All, IfOk, length}
 ghost use Rattle.std.specs.List.{list_any};
 ghost use Rattle.lane_runner.specs.Lanes.{is_value};
 ghost use Rattle.shared_office.specs.Offices.{IsOfficeHistory};
-ghost use Rattle.shared_office.specs.Starting.{HasStarted};
+ghost use Rattle.shared_office.specs.Starting.{HasStartedOffice};
 ghost use Rattle.turn_lock.specs.Passes.{PassFacts};
 ghost use Rattle.script_run.specs.Running.{EndsByName, EndsLanes, EndsRun};
 ghost use Rattle.script_run.specs.Outcome.{EndsScript};
@@ -19,7 +19,7 @@ use crate::refusing::refuse;
 use basis_book::{Basis, BasisRows, Name};
 use basis_shelf::fetch_basis;
 use indexmap::IndexMap;
-use lane_runner::{AnsweredLine, Transcript, run_lanes};
+use lane_runner::{Transcript, TranscriptLine, run_lanes};
 use outside_io::{Disk, Gate, Shelf, Sink, Source, write_all};
 use policy_types::{Lane, Line, NoMemory, Report};
 use program_endings::{Ending, Finished, lack_memory, refuse_basis, refuse_journal};
@@ -180,9 +180,9 @@ fn run_office<
 ) -> Finished<D>
     requires lanes { AreScriptLanes lanes.now }
     requires ours { pass.turnstile ≡ office }
-    requires started { (old : D) × ((watchers : W) × HasStarted D.Disk old watchers pass) }
+    requires started { (old : D) × ((watchers : W) × HasStartedOffice D.Disk old watchers pass) }
     requires facts { PassFacts IsOfficeHistory pass }
-    ensures ends { (old : D) (watchers : W) → HasStarted D.Disk old watchers pass
+    ensures ends { (old : D) (watchers : W) → HasStartedOffice D.Disk old watchers pass
         → EndsScript D.Disk old result.disk lanes.now basis.now (W.handed watchers)
         (between K.faults K.written output.old output.new) result.ending }
 {
@@ -212,7 +212,7 @@ fn write_ran<K: Sink>(
 
 fn write_lines<K: Sink>(
     alloc: Global,
-    lines: &[AnsweredLine],
+    lines: &[TranscriptLine],
     reports: &[Report],
     output: &mut K,
 ) -> Ending

@@ -22,14 +22,14 @@ use Rattle.office_state.specs.declared.answer.Answer.TheVariants.{Accepted, Refu
 use Rattle.turn_lock.specs.History.{entries_of}
 use Rattle.turn_lock.specs.Passes.{Page}
 use Rattle.lane_runner.specs.AnsweredLines.{AnsweredLine, AreOfLanes, lines_by, turns_in}
-use Rattle.lane_runner.specs.Lanes.{lines_in}
+use Rattle.policy_types.specs.Lanes.{lines_in}
 use Rattle.lane_runner.specs.Transcripts.{IsOutcome, lacked_memory}
 use Rattle.lane_runner.specs.declared.transcript.Outcome.{Outcome}
 use Rattle.lane_runner.specs.declared.transcript.Outcome.TheVariants.{Posted, Trimmed, Valued, ValueRefused, ValueNoMemory}
 use Rattle.program_endings.specs.Replies.{IsAnswered, IsPinned, IsUnfaulted}
 use Rattle.program_endings.proofs.ListSteps.{Has, front_back, has_enumerate, has_filter, has_flat_map, has_left, has_map, has_right, of_filter, of_flat_map}
 use Rattle.program_endings.proofs.BlockSteps.{block_writable}
-use Rattle.transcript_text.specs.Told.{IsTold, IsWritableOutcome, has_faulted, is_faulted, lacks_memory}
+use Rattle.transcript_text.specs.Told.{IsToldAnswer, IsWritableOutcome, has_faulted, is_faulted, lacks_memory}
 
 -- the turns of an answered line are those of a caller
 pub line_turn : (answered : List AnsweredLine) (history : List Entry) (lanes : List Lane) (callers : List ℕ) (one : AnsweredLine) (turn : Placed)
@@ -96,7 +96,7 @@ valid_front opening history k valid =
 
 pub outcome_writable : (line : Line) (reply : Reply) (outcome : Outcome) (commands : List Command) (basis : List Dated)
     → IsOutcome commands basis line reply outcome → IsScriptLine line
-    → ((command : Command) (answer : Answer) → line ≡ Post command → reply ≡ reply_of answer → IsTold answer)
+    → ((command : Command) (answer : Answer) → line ≡ Post command → reply ≡ reply_of answer → IsToldAnswer answer)
     → IsWritableOutcome line outcome
 outcome_writable (Post command) reply (Posted answer) commands basis told right can = can command answer refl told
 outcome_writable Trim reply (Trimmed floor) commands basis told right can = tt

@@ -3,11 +3,10 @@ ghost use Rattle.std.specs.Prelude.{◌≡◌, ◌≤◌, IfOk, length};
 ghost use Rattle.transcript_text.specs.Transcript.{reports_text, watcher_text};
 
 use itoa::Buffer;
-use money_core::Text;
 use policy_types::{NoMemory, Report};
 use program_endings::add;
-use statements::LineWriter;
 use std::alloc::Global;
+use text_lines::{LineWriter, Text};
 
 /// The lines of the reports, numbered from 1.
 pub fn report_lines(alloc: Global, reports: &[Report]) -> Result<Vec<u8>, NoMemory>

@@ -3,12 +3,12 @@ ghost use Rattle.std.specs.Prelude.{◌≡◌, if◌then◌else◌};
 ghost use Rattle.program_endings.specs.declared.ending.Ending.TheVariants.{DiskFault, Done, NoMemory as NoRoom};
 ghost use Rattle.transcript_text.specs.Told.{any_faulted, any_lacked, has_faulted, lacks_memory};
 
-use lane_runner::{AnsweredLine, Outcome};
+use lane_runner::{Outcome, TranscriptLine};
 use program_endings::Ending;
 use shared_office::Answer;
 
 /// The ending of a run whose transcript is written.
-pub fn ending_of(lines: &[AnsweredLine]) -> Ending
+pub fn ending_of(lines: &[TranscriptLine]) -> Ending
     ensures { result ≡ (if any_faulted lines.now then DiskFault
         else if any_lacked lines.now then NoRoom else Done) }
 {
@@ -22,7 +22,7 @@ pub fn ending_of(lines: &[AnsweredLine]) -> Ending
 }
 
 // Whether the disk failed in a posting.
-fn some_faulted(lines: &[AnsweredLine]) -> bool
+fn some_faulted(lines: &[TranscriptLine]) -> bool
     ensures { result ≡ any_faulted lines.now }
 {
     lines.iter().any(|line| faulted(&line.outcome))
@@ -35,7 +35,7 @@ fn faulted(outcome: &Outcome) -> bool
 }
 
 // Whether memory was lacking for a posting or a valuation.
-fn some_lacked(lines: &[AnsweredLine]) -> bool
+fn some_lacked(lines: &[TranscriptLine]) -> bool
     ensures { result ≡ any_lacked lines.now }
 {
     lines.iter().any(|line| lacked(&line.outcome))

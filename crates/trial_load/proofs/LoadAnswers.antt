@@ -16,11 +16,11 @@ use Rattle.policy_types.specs.declared.entry.Reply.TheVariants.{Accepted, Refuse
 use Rattle.policy_types.specs.declared.script.Line.TheVariants.{Post}
 use Rattle.policy_machine.specs.Book.{book}
 use Rattle.policy_machine.specs.History.{Opening, IsDue, IsLegalAfter, commands_after}
-use Rattle.snapshot_value.specs.Valuing.{IsAnswered as IsValueAnswer, IsRowOf}
+use Rattle.snapshot_value.specs.Valuing.{AnswersPin as IsValueAnswer, IsValuedRow}
 use Rattle.snapshot_value.specs.declared.valuation.Valuation.{Valuation}
 use Rattle.snapshot_value.specs.declared.valuation.ValueFault.TheVariants.{Pin as NoPin, NoMemory as NoValues}
 use Rattle.lane_runner.specs.Transcripts.{IsOutcome, dry_of, lacked_memory}
-use Rattle.lane_runner.specs.declared.transcript.AnsweredLine.{AnsweredLine as ToldLine}
+use Rattle.lane_runner.specs.declared.transcript.TranscriptLine.{TranscriptLine}
 use Rattle.lane_runner.specs.declared.transcript.Outcome.{Outcome}
 use Rattle.lane_runner.specs.declared.transcript.Outcome.TheVariants.{Posted, Trimmed, Valued, ValueRefused, ValueNoMemory}
 use Rattle.program_endings.specs.Replies.{IsAnswered, IsPinned}
@@ -97,7 +97,7 @@ refused_pin commands basis Blank why is = absurd is
 -- what is known of the rows of a valuation of all commands
 pub record AreLastRows (commands : List Command) (basis : List Dated) (valuation : Valuation) : Type 0 where
   pub writable : IsWritableBlock valuation
-  pub each : AllZip (IsRowOf basis load_day) (book commands) valuation.rows
+  pub each : AllZip (IsValuedRow basis load_day) (book commands) valuation.rows
 
 pub last_rows : (opening : Opening) (before : List Entry) (caller : ℕ) (basis : List Dated) (reply : Reply) (valuation : Valuation)
     → IsDue opening before caller PinCall reply → IsValueAnswer (commands_after opening before) basis load_day reply (Ok valuation)
@@ -106,7 +106,7 @@ last_rows opening before caller basis (Pinned position policies) valuation due i
     let all = take_all position (commands_after opening before) (omega (arith, due.1)) in
     record {
       writable = block_writable (commands_after opening before) basis load_day position valuation is;
-      each = subst (λ (cs : List Command). AllZip (IsRowOf basis load_day) (book cs) valuation.rows) all is.rows.each;
+      each = subst (λ (cs : List Command). AllZip (IsValuedRow basis load_day) (book cs) valuation.rows) all is.rows.each;
     }
 last_rows opening before caller basis (PinRefused refusal) valuation due is = absurd is
 last_rows opening before caller basis (Accepted position) valuation due is = absurd is
@@ -126,7 +126,7 @@ posting_found command reply (Valued valuation) commands basis told = absurd told
 posting_found command reply (ValueRefused refusal) commands basis told = absurd told
 posting_found command reply ValueNoMemory commands basis told = absurd told
 
-pub none_dry_of : (lines : List ToldLine) → AllByRecursion (λ (line : ToldLine). lacked_memory line.outcome ≡ false) lines → dry_of lines ≡ []
+pub none_dry_of : (lines : List TranscriptLine) → AllByRecursion (λ (line : TranscriptLine). lacked_memory line.outcome ≡ false) lines → dry_of lines ≡ []
 none_dry_of [] none = refl
 none_dry_of (line ∷ lines) none =
-    ap (map (λ (told : ToldLine). told.turn)) (cond-false (lacked_memory line.outcome) _ _ none.0) ∙ none_dry_of lines none.1
+    ap (map (λ (told : TranscriptLine). told.turn)) (cond-false (lacked_memory line.outcome) _ _ none.0) ∙ none_dry_of lines none.1

@@ -4,7 +4,7 @@ use Rattle.outside_io.specs.Faults.{Rose}
 use Rattle.outside_io.specs.Streams.{AppendsPart}
 use Rattle.policy_types.specs.declared.watcher.NoMemory.{NoMemory as Lack}
 use Rattle.policy_types.specs.declared.watcher.Report.{Report}
-use Rattle.lane_runner.specs.declared.transcript.AnsweredLine.{AnsweredLine as ToldLine}
+use Rattle.lane_runner.specs.declared.transcript.TranscriptLine.{TranscriptLine}
 use Rattle.lane_runner.specs.declared.transcript.Transcript.{Transcript}
 use Rattle.program_endings.specs.declared.ending.Ending.{Ending}
 use Rattle.program_endings.specs.declared.ending.Ending.TheVariants.{Done, WriteFault, DiskFault as DiskFailed, NoMemory as NoRoom}
@@ -13,7 +13,7 @@ use Rattle.transcript_text.specs.Told.{any_faulted, any_lacked, run_text}
 
 -- How a run ends whose lines were answered: by what was written of its text, and then by whether the disk failed in one of
 -- them, or memory was lacking
-abbrev pub EndsTold : List ToldLine → List Report → Stream → Ending → Type 0
+abbrev pub EndsTold : List TranscriptLine → List Report → Stream → Ending → Type 0
 EndsTold lines reports output Done =
     (any_faulted lines ≡ false) × (any_lacked lines ≡ false) × WroteAll output (run_text lines reports)
 EndsTold lines reports output DiskFailed = (any_faulted lines ≡ true) × WroteAll output (run_text lines reports)
