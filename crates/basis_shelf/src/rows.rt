@@ -3,7 +3,7 @@ ghost use Rattle.std.specs.Prelude.{◌≡◌, ◌<◌, ◌≤◌, List, IfOk, I
 ghost use Rattle.outside_io.specs.Faults.{Rose};
 ghost use Rattle.outside_io.specs.Shelves.{Files};
 ghost use Rattle.basis_book.specs.Dated.{AreBounded};
-ghost use Rattle.basis_shelf.specs.Bases.{AreRowsOf};
+ghost use Rattle.basis_shelf.specs.Bases.{AreRowsNamed};
 ghost use Rattle.basis_shelf.specs.Answers.{IfBad};
 ghost use Rattle.basis_shelf.specs.inside.Parts.{IsBadBookFile, TellsRows};
 
@@ -15,7 +15,7 @@ use std::alloc::Global;
 
 /// The rows of the basis file.
 pub fn fetch_rows<H: Shelf>(alloc: Global, name: &Name, shelf: &mut H) -> Result<BasisRows, NoBasis>
-    ensures rows { (at : Files) → H.agrees shelf.new at → IfOk result (AreRowsOf at name.now) }
+    ensures rows { (at : Files) → H.agrees shelf.new at → IfOk result (AreRowsNamed at name.now) }
     ensures bounded { IfOk result AreBounded }
     ensures bad { (at : Files) → H.agrees shelf.new at → IfErr result (IfBad (IsBadBookFile at name.now)) }
     ensures agreed { (at : Files) → H.agrees shelf.new at → H.agrees shelf.old at }

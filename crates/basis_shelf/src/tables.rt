@@ -4,7 +4,7 @@ ghost use Rattle.indexmap.specs.IndexMap.{get_by_text};
 ghost use Rattle.outside_io.specs.Faults.{Rose};
 ghost use Rattle.outside_io.specs.Shelves.{Files};
 ghost use Rattle.basis_book.specs.declared.row.BasisRow.{BasisRow as ARow};
-ghost use Rattle.basis_shelf.specs.Bases.{IsTable};
+ghost use Rattle.basis_shelf.specs.Bases.{IsTableNamed};
 ghost use Rattle.basis_shelf.specs.FirstBad.{IsFirstBadRow};
 ghost use Rattle.basis_shelf.specs.Answers.{IfBad};
 ghost use Rattle.basis_shelf.specs.inside.Parts.{AreTables, IsBadTableFile, KeepsKnown, TellsTable, word_of};
@@ -82,7 +82,7 @@ fn fetch_table<H: Shelf>(
     number: u32,
     shelf: &mut H,
 ) -> Result<RateTable, NoBasis>
-    ensures table { (at : Files) → H.agrees shelf.new at → IfOk result (IsTable at name.now) }
+    ensures table { (at : Files) → H.agrees shelf.new at → IfOk result (IsTableNamed at name.now) }
     ensures bad { (at : Files) → H.agrees shelf.new at → IfErr result (IfBad (IsBadTableFile at name.now number)) }
     ensures agreed { (at : Files) → H.agrees shelf.new at → H.agrees shelf.old at }
     ensures failed { IsErrOf result NoBasis.ReadFault → Rose (H.faults shelf.old) (H.faults shelf.new) }
