@@ -7,7 +7,7 @@ trap 'rm -rf "$work"' EXIT
 cd "$work" || exit 2
 "$root/life" run <"$root/examples/small-office.csv" >transcript || exit 2
 "$root/life" state </dev/null >state || exit 2
-python3 "$root/examples/read_journal.py" --ledger journal.life >transactions || exit 1
+python3 "$root/tools/read_journal.py" --ledger journal.life >transactions || exit 1
 sed -n 's/^balance,//p' state | sort >wanted
 
 # lines of an account and its balance, however the program writes them, as those of `state`

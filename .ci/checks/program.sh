@@ -170,7 +170,7 @@ judge $? 0 wanted
 
 go_on "journal read without the program"
 grep -e '^balance,' -e '^count,' "$life_of.state" >wanted
-python3 "$root/examples/read_journal.py" journal.life | grep -e '^balance,' -e '^count,' >out
+python3 "$root/tools/read_journal.py" journal.life | grep -e '^balance,' -e '^count,' >out
 judge 0 0 wanted
 
 office_of=$root/examples/small-office
@@ -184,7 +184,7 @@ judge $? 0 "$office_of.state"
 
 go_on "small office read without the program"
 grep -e '^balance,' -e '^count,' "$office_of.state" >wanted
-python3 "$root/examples/read_journal.py" journal.life | grep -e '^balance,' -e '^count,' >out
+python3 "$root/tools/read_journal.py" journal.life | grep -e '^balance,' -e '^count,' >out
 judge 0 0 wanted
 
 # a policy that the program values; its reserve after a year is worked out by hand from table Q
@@ -304,18 +304,18 @@ begin "values of the small office"
 cp "$root/examples/basis.csv" "$root/examples/q.xml" "$root/examples/g.xml" .
 for day in 2021-01-19 2022-01-20 2023-03-15 2024-03-03 2024-03-12 2060-01-01; do
     "$root/life" value "$day" </dev/null >block || complain "value on $day ended with $?"
-    python3 -B "$root/examples/check_values.py" journal.life basis.csv block >out || complain "on $day: $(cat out)"
+    python3 -B "$root/tools/check_values.py" journal.life basis.csv block >out || complain "on $day: $(cat out)"
 done
 for position in 0 1 7 19 27; do
     "$root/life" value 2024-06-30 --at "$position" </dev/null >block || complain "value at $position ended with $?"
-    python3 -B "$root/examples/check_values.py" journal.life basis.csv block >out || complain "at $position: $(cat out)"
+    python3 -B "$root/tools/check_values.py" journal.life basis.csv block >out || complain "at $position: $(cat out)"
 done
 
 # two clerks and two valuations: whichever way their lines lie, the checker of transcripts has to accept it
 begin "two clerks"
 cp "$root/examples/basis.csv" "$root/examples/q.xml" "$root/examples/g.xml" .
 "$root/life" run <"$root/examples/two-clerks.csv" >out || complain "status $?"
-python3 -B "$root/examples/check_transcript.py" "$root/examples/two-clerks.csv" out /dev/null journal.life basis.csv >verdict ||
+python3 -B "$root/tools/check_transcript.py" "$root/examples/two-clerks.csv" out /dev/null journal.life basis.csv >verdict ||
     complain "$(cat verdict)"
 
 begin_with_basis "a valuation in a script"

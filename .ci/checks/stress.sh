@@ -1,6 +1,6 @@
 #!/bin/sh
 # The program on random scripts of eight clerks: each transcript has to be one history, and the journal has to hold what
-# was accepted (examples/check_transcript.py). Before that the checker itself is tried on changed transcripts.
+# was accepted (tools/check_transcript.py). Before that the checker itself is tried on changed transcripts.
 root=$(cd "$(dirname "$0")/../.." && pwd) || exit 2
 work=$(mktemp -d) || exit 2
 quick=$(mktemp -d -p /dev/shm 2>/dev/null) || quick=$work

@@ -13,12 +13,22 @@ import shutil
 import subprocess
 import sys
 
-from scripts import Book, draws, folder_for, journal_of, make_book, make_script
-from check_transcript import Wrong, book_of, bytes_of, check, read_basis, rows_in
-from read_journal import bodies
+from scripts import draws, folder_for, make_book, make_script
+from check_transcript import check
+from formats import Wrong, printed_rows
+from journals import file_of, read_journal
+from tables import read_basis
 
 REASONS = 14
 MANY = 1200
+
+
+def bytes_of(path):
+    """What a file has, and nothing where there is none."""
+    if not os.path.exists(path):
+        return b""
+    with open(path, "rb") as file:
+        return file.read()
 
 
 def run_pair(program, root, folder, seed, known, seen):
@@ -28,10 +38,10 @@ def run_pair(program, root, folder, seed, known, seen):
     draw, basis = draws(seed), read_basis(path("basis.csv"))
     if seed % 4 == 1:
         with open(path("journal.life"), "wb") as file:
-            file.write(journal_of(make_book(draw, MANY)))
+            file.write(file_of(make_book(draw, MANY).commands))
     for number in (1, 2):
         before = bytes_of(path("journal.life"))
-        script = make_script(draw, book_of(bodies(before)) if before else Book())
+        script = make_script(draw, read_journal(before).book)
         for name, text in ((f"script-{number}", script.encode()), (f"before-{number}", before)):
             with open(path(name), "wb") as file:
                 file.write(text)
@@ -41,8 +51,8 @@ def run_pair(program, root, folder, seed, known, seen):
         try:
             if status != 0:
                 raise Wrong(f"status {status}, printed {text[:200]!r}")
-            check(script, text, before, bytes_of(path("journal.life")), basis, known)
-        except (Wrong, SystemExit) as wrong:
+            check(script.encode(), text, before, bytes_of(path("journal.life")), basis, known)
+        except Wrong as wrong:
             sys.exit(f"stress: script {number} of seed {seed} in {folder}: {wrong}")
         count(text, len(before) // 65, seen)
     shutil.rmtree(folder)
@@ -51,7 +61,7 @@ def run_pair(program, root, folder, seed, known, seen):
 def count(text, accepted, seen):
     """What there was to be seen in a transcript."""
     changes, last = 0, None
-    for line in rows_in(text):
+    for line in printed_rows(text):
         if line[0] in ("row", "total", "watcher"):
             continue
         seen["lines"] += 1

@@ -7,19 +7,21 @@ import os
 import random
 import sys
 
-sys.path.insert(0, os.path.join(os.path.dirname(os.path.abspath(__file__)), "..", "..", "examples"))
+sys.path.insert(0, os.path.join(os.path.dirname(os.path.abspath(__file__)), "..", "..", "tools"))
 import datetime
 import math
 
-from check_transcript import DAY, Book, anniversary, command_of, lanes_of, missed_by, policies_after, years_of
-from check_values import worth
-from read_journal import money
+from commands import Command, words_of
+from formats import FIRST_DAY, LAST_DAY, money
+from reserves import worth
+from rules import EARLY, GRACE, REINSTATEMENT_ANNIVERSARIES, Book, Refusal, anniversary, end_of, missed_by
+from script_lines import lanes_of, read_script
 
 BASIS = "2000-01-01,q.xml,0\n2010-01-01,m.xml,300\n2015-01-01,g.xml,400\n"
 # a table of the ages 20 to 25, where one is likelier to die than not at 22
 MIDDLE = ('<XTbML><Table><Values><Axis><Y t="20">0.01</Y><Y t="21">0.02</Y><Y t="22">0.6</Y><Y t="23">0.1</Y>'
           '<Y t="24">0.25</Y><Y t="25">1</Y></Axis></Values></Table></XTbML>\n')
-FIRST_DAY, LAST_DAY = datetime.date(1900, 1, 1), datetime.date(2199, 12, 31)
+DAY = datetime.timedelta(1)
 # few ages and years for each table, so that few exact values have to be worked out
 YOUNG = [(datetime.date(1999, 6, 1), (0, 1), (2,)), (datetime.date(2004, 2, 29), (0, 1, 2, 3, 4), (2, 3, 4, 5)),
          (datetime.date(2012, 2, 29), (19, 20, 21, 22, 24), (2, 3, 4)), (datetime.date(2016, 2, 29), (85, 100, 110), (2, 5, 9))]
@@ -28,16 +30,16 @@ YOUNG = [(datetime.date(1999, 6, 1), (0, 1), (2,)), (datetime.date(2004, 2, 29),
 def make_issue(draw, number):
     first, ages, years = draw.choice(YOUNG)
     plan, age = draw.choice(["term", "whole", "endowment", "limited"]), draw.choice(ages)
-    return dict(kind="issue", number=number, day=first + draw.randrange(400) * DAY, plan=plan, age=age,
-                years=0 if plan == "whole" else draw.choice(years), amount=draw.randrange(1, 5 * 10**6),
-                premium=draw.randrange(1, 10**5))
+    return Command("issue", number, day=first + draw.randrange(400) * DAY, plan=plan, age=age,
+                   years=0 if plan == "whole" else draw.choice(years), amount=draw.randrange(1, 5 * 10**6),
+                   premium=draw.randrange(1, 10**5))
 
 
 def days_near(draw, policy):
     """A day near one of those by which the policy's commands are judged."""
-    due = anniversary(policy["issued"], policy["paid"])
-    near = [due, due - 90 * DAY, due + 31 * DAY, anniversary(policy["issued"], policy["paid"] + 3),
-            anniversary(policy["issued"], years_of(policy)), policy["last"], policy["last"] + draw.randrange(60) * DAY]
+    due = anniversary(policy.issued, policy.paid)
+    near = [due, due - EARLY, due + GRACE, anniversary(policy.issued, policy.paid + REINSTATEMENT_ANNIVERSARIES),
+            end_of(policy), policy.last, policy.last + draw.randrange(60) * DAY]
     day = draw.choice(near) + draw.choice([-1, 0, 0, 1]) * DAY
     return min(max(day, FIRST_DAY), LAST_DAY)
 
@@ -48,57 +50,47 @@ def make_command(draw, book, number):
     if policy is None and draw.random() < 0.9:
         return make_issue(draw, number)
     policy = policy or book_policy(draw)
-    if policy["status"] == "inforce" and draw.random() < 0.4:
+    if policy.status == "inforce" and draw.random() < 0.4:
         return next_premium(draw, policy, number)
     kinds = {"inforce": ["premium"] * 6 + ["alter", "lapse", "lapse", "claim", "mature", "reinstate", "settle", "issue"],
              "lapsed": ["reinstate"] * 5 + ["premium", "lapse", "claim"],
              "claimed": ["settle"] * 4 + ["premium", "mature"], "matured": ["settle"] * 4 + ["claim", "alter"]}
-    kind = draw.choice(kinds.get(policy["status"], ["premium", "alter", "settle", "mature"]))
+    kind = draw.choice(kinds.get(policy.status, ["premium", "alter", "settle", "mature"]))
     if kind == "issue":
         return make_issue(draw, number)
-    command = dict(kind=kind, number=number, day=days_near(draw, policy))
-    off = draw.choice([0, 0, 0, 0, 1])
+    day, off = days_near(draw, policy), draw.choice([0, 0, 0, 0, 1])
+    amount = premium = 0
     if kind == "premium":
-        command["amount"] = policy["premium"] + off
+        amount = policy.premium + off
     elif kind == "alter":
-        command.update(amount=max(policy["amount"] * 2 // 3, 1) if draw.random() < 0.8 else policy["amount"],
-                       premium=draw.randrange(1, 10**5))
+        amount = max(policy.amount * 2 // 3, 1) if draw.random() < 0.8 else policy.amount
+        premium = draw.randrange(1, 10**5)
     elif kind == "reinstate":
-        command["amount"] = max(missed_by(policy, command["day"]) * policy["premium"] + off, 1)
+        amount = max(missed_by(policy, day) * policy.premium + off, 1)
     elif kind == "settle":
-        command["amount"] = max(draw.choice([policy["outstanding"], policy["outstanding"] // 2]) + off, 1)
-    return command
+        amount = max(draw.choice([policy.outstanding, policy.outstanding // 2]) + off, 1)
+    return Command(kind, number, day, amount=amount, premium=premium)
 
 
 def next_premium(draw, policy, number):
     """The next premium, on a right day where there is one."""
-    due = anniversary(policy["issued"], policy["paid"])
-    day = max(due - draw.randrange(60) * DAY, policy["last"])
-    return dict(kind="premium", number=number, day=min(day, LAST_DAY), amount=policy["premium"])
+    due = anniversary(policy.issued, policy.paid)
+    day = max(due - draw.randrange(60) * DAY, policy.last)
+    return Command("premium", number, min(day, LAST_DAY), amount=policy.premium)
 
 
 def book_policy(draw):
     """The policy of an issue that no book has."""
-    book, command = Book(), make_issue(draw, 1)
-    book.take(command, book.decide(command)[1])
-    return book.policies[1]
+    return Book([make_issue(draw, 1)]).policies[1]
 
 
 def make_book(draw, count):
     """A book of so many policies, which no command has changed."""
-    book = Book()
-    for number in range(1, count + 1):
-        command = make_issue(draw, number)
-        book.take(command, book.decide(command)[1])
-    return book
+    return Book(make_issue(draw, number) for number in range(1, count + 1))
 
 
 def row_of(lane, command):
-    parts = [str(lane), command["kind"], str(command["number"]), str(command["day"])]
-    if command["kind"] == "issue":
-        parts += [command["plan"], str(command["age"]), str(command["years"])]
-    parts += [money(command[name]) for name in ("amount", "premium") if name in command]
-    return ",".join(parts)
+    return ",".join([str(lane), *words_of(command)])
 
 
 def make_script(draw, book):
@@ -109,7 +101,7 @@ def make_script(draw, book):
         lane, what = draw.randrange(1, 9), draw.random()
         if what < 0.04 and asked < 16:
             asked += 1
-            near = max(len(book.records) + draw.randrange(-20, 8), 0)
+            near = max(len(book.commands) + draw.randrange(-20, 8), 0)
             at = draw.choice(["now", "now", near, draw.randrange(near + 1)])
             on = datetime.date(draw.choice([2003, 2006, 2007, 2013, 2014, 2017, 2019]), draw.randrange(1, 13), 28)
             rows.append(f"{lane},value,{on},{at},{draw.choice([1, 2, 8, 64])}")
@@ -120,8 +112,8 @@ def make_script(draw, book):
             # most commands on a policy are one clerk's, so that many come in the order in which they were thought of
             lane = 1 + number % 8 if draw.random() < 0.8 else lane
             command = make_command(draw, book, number)
-            after = book.decide(command)[1]
-            if after:
+            after = book.decide(command)
+            if not isinstance(after, Refusal):
                 book.take(command, after)
             rows.append(row_of(lane, command))
     return "\n".join(rows) + "\n"
@@ -136,7 +128,7 @@ class Office:
         self.accepted = self.premiums = 0
 
     def run(self, script):
-        left = lanes_of(script)
+        left = lanes_of(read_script(script.encode()))
         while any(left.values()) or self.live:
             lane = self.draw.choice([lane for lane in left if left[lane] or lane in self.live])
             if lane not in self.live:
@@ -149,40 +141,41 @@ class Office:
         self.lines.append(f"watcher,2,{self.accepted},{self.premiums}")
         return "\n".join(self.lines) + "\n"
 
-    def take(self, lane, row):
-        count = len(self.book.records)
-        if row[1] == "trim":
+    def take(self, lane, line):
+        count = len(self.book.commands)
+        if line.kind == "trim":
             self.floor = min([position for position, _ in self.live.values()], default=count)
             self.lines.append(f"{lane},trim,{self.floor}")
-        elif row[1] == "value":
-            position = count if row[3] == "now" else int(row[3])
+        elif line.kind == "value":
+            position = count if line.position is None else line.position
             if position > count:
-                self.lines.append(",".join(row[:3] + ["refused", "ahead", str(count)]))
+                self.lines.append(",".join([*line.words[:3], "refused", "ahead", str(count)]))
             elif position < self.floor:
-                self.lines.append(",".join(row[:3] + ["refused", "trimmed", str(self.floor)]))
+                self.lines.append(",".join([*line.words[:3], "refused", "trimmed", str(self.floor)]))
             else:
                 # so many turns to read, and one to give the pin up
                 self.live[lane] = [position, self.draw.choice([0, 1, 2, 8, 20])]
-                self.show(row, position)
+                self.show(line, position)
         else:
-            self.post(row)
+            self.post(line)
 
-    def post(self, row):
-        command = command_of(row)
-        words, after = self.book.decide(command)
-        self.lines.append(",".join(row[:3] + words))
-        if after:
-            self.book.take(command, after)
-            self.accepted += 1
-            self.premiums += command["amount"] if command["kind"] in ("premium", "reinstate") else 0
+    def post(self, line):
+        command, after = line.command, self.book.decide(line.command)
+        if isinstance(after, Refusal):
+            self.lines.append(",".join([*line.words[:3], "refused", *after.words()]))
+            return
+        self.book.take(command, after)
+        self.lines.append(",".join([*line.words[:3], "accepted", str(len(self.book.commands))]))
+        self.accepted += 1
+        self.premiums += command.amount if command.kind in ("premium", "reinstate") else 0
 
-    def show(self, row, position):
-        policies = policies_after(self.book.records[:position])
-        self.lines.append(",".join(row[:3] + [str(position), str(len(policies))]))
+    def show(self, line, position):
+        policies = Book(self.book.commands[:position]).policies
+        self.lines.append(",".join([*line.words[:3], str(position), str(len(policies))]))
         sums, words = [0, 0], 0
         for number, policy in policies.items():
-            year, exact = worth(policy, self.basis, datetime.date.fromisoformat(row[2]), self.known)
-            head = f"row,{number},{policy['status']},{year}"
+            year, exact = worth(policy, self.basis, line.day, self.known)
+            head = f"row,{number},{policy.status},{year}"
             if isinstance(exact, str):
                 words += 1
                 self.lines.append(f"{head},{exact}")
@@ -191,12 +184,6 @@ class Office:
                 sums = [one + other for one, other in zip(sums, bounds)]
                 self.lines.append(f"{head},{money(bounds[0])},{money(bounds[1])}")
         self.lines.append(f"total,{money(sums[0])},{money(sums[1])},{words}")
-
-
-def journal_of(book):
-    """The file of a book."""
-    header = b"\x01LIFEJRNL" + bytes([0, 1, 0, 64, 0, 0, 0, 0])
-    return header + b"".join(b"\x01" + body for body in book.records) + b"\x00"
 
 
 def folder_for(path, root):

@@ -7,9 +7,12 @@ import os
 import re
 import sys
 
-from scripts import Book, Office, draws, folder_for, journal_of, make_script
-from check_transcript import Wrong, book_of, check, read_basis
-from read_journal import bodies, money
+from scripts import Office, draws, folder_for, make_script
+from check_transcript import check
+from formats import Wrong, money
+from journals import file_of, read_journal
+from rules import Book
+from tables import read_basis
 
 SCRIPTS = 4
 PLACES = 6
@@ -95,7 +98,7 @@ def changed_texts(draw, text):
 
 def changed_files(draw, file, before):
     """The journal after the run with one thing changed, and what."""
-    records = bodies(file)
+    records = read_journal(file).commands
     for _ in range(PLACES):
         i = draw.randrange(18, 17 + 65 * len(records))
         yield "a byte of the journal", file[:i] + bytes([file[i] ^ 1 << draw.randrange(8)]) + file[i + 1:]
@@ -117,17 +120,17 @@ def main():
         script_before = make_script(draw, Book())
         book = Book()
         Office(draw, book, basis, known).run(script_before)
-        before = journal_of(book)
-        script = make_script(draw, book_of(bodies(before)))
+        before = file_of(book.commands)
+        script = make_script(draw, read_journal(before).book)
         text = Office(draw, book, basis, known).run(script)
-        after = journal_of(book)
-        check(script, text, before, after, basis, known)
+        after = file_of(book.commands)
+        check(script.encode(), text, before, after, basis, known)
         cases = [(name, "\n".join(lines) + "\n", after) for name, lines in changed_texts(draw, text)]
         cases += [(name, text, file) for name, file in changed_files(draw, after, before)]
         for name, said, file in cases:
             try:
-                check(script, said, before, file, basis, known)
-            except (Wrong, SystemExit):
+                check(script.encode(), said, before, file, basis, known)
+            except Wrong:
                 refused[name] += 1
             else:
                 sys.exit(f"stress: the checker takes a transcript with {name} (seed {seed})")

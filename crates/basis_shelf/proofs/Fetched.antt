@@ -10,9 +10,9 @@ use Rattle.basis_book.specs.Dated.{Dated, dated, IsFirstMissing}
 use Rattle.basis_shelf.specs.declared.fault.BadBasis.{BadBasis}
 use Rattle.basis_shelf.specs.declared.fault.NoBasis.{NoBasis}
 use Rattle.basis_shelf.specs.declared.fault.NoBasis.TheVariants.{Bad, ReadFault, NoMemory}
-use Rattle.basis_shelf.specs.Bases.{IsTable, HasTable, AreRowsOf, IsEntry, IsBasis}
-use Rattle.basis_shelf.specs.FirstBad.{IsBadTable, IsFirstBadRow, IsFirstBad}
-use Rattle.basis_shelf.specs.Answers.{IsDue, Gives, IfBad}
+use Rattle.basis_shelf.specs.Bases.{IsTableNamed, HasTable, AreRowsNamed, IsEntry, IsBasis}
+use Rattle.basis_shelf.specs.FirstBad.{IsBadTable, IsFirstBadRow, IsFirstBadFile}
+use Rattle.basis_shelf.specs.Answers.{IsBasisAnswer, GivesBasis, IfBad}
 use Rattle.basis_shelf.specs.inside.Parts.{IsBadTableFile, AreTables}
 use Rattle.basis_shelf.proofs.OneBasis.{one_answer, at_cut}
 
@@ -23,16 +23,16 @@ known_still v o true h = refl
 known_still v o false h = h
 
 held_at : (files : List ℕ → Option (List ℕ)) (v : Rates) (name other : List ℕ) (o : Option Rates) (b : Bool) → Decides b (name ≡ other)
-    → IsTable files name v → IfSome o (IsTable files other) → IfSome (cond b (Some v) o) (IsTable files other)
-held_at files v name other o true d h k = subst (λ (n : List ℕ). IsTable files n v) (d.0 refl) h
+    → IsTableNamed files name v → IfSome o (IsTableNamed files other) → IfSome (cond b (Some v) o) (IsTableNamed files other)
+held_at files v name other o true d h k = subst (λ (n : List ℕ). IsTableNamed files n v) (d.0 refl) h
 held_at files v name other o false d h k = k
 
 pub tables_still : (told : Option (List ℕ → Option (List ℕ))) (v : Rates) (name : List ℕ) (before now : List ℕ → Option Rates) (same : List ℕ → List ℕ → Bool)
     → ((x y : List ℕ) → Decides (same x y) (x ≡ y)) → ((other : List ℕ) → now other ≡ cond (same name other) (Some v) (before other))
-    → IfSome told (λ files. IsTable files name v) → IfSome told (λ files. AreTables files before → AreTables files now)
+    → IfSome told (λ files. IsTableNamed files name v) → IfSome told (λ files. AreTables files before → AreTables files now)
 tables_still None v name before now same decides is h = tt
 tables_still (Some files) v name before now same decides is h = λ right other.
-    subst (λ (o : Option Rates). IfSome o (IsTable files other)) (sym (is other))
+    subst (λ (o : Option Rates). IfSome o (IsTableNamed files other)) (sym (is other))
     (held_at files v name other (before other) (same name other) (decides name other) h (right other))
 
 pub still_right : (told : Option (List ℕ → Option (List ℕ))) (before now : List ℕ → Option Rates) → IfSome told (λ files. AreTables files before → AreTables files now)
@@ -46,7 +46,7 @@ cut_at : (rows : List BasisRow) (i : ℕ) (row : BasisRow) → i < length rows �
 cut_at rows i row h e =
     sym (take-append-drop i rows) ∙ ap (λ (rest : List BasisRow). take i rows ++ rest) (drop_more rows i row h ∙ ap (λ (r : BasisRow). r ∷ drop (i + 1) rows) (sym e))
 
-has_table : (files : List ℕ → Option (List ℕ)) (name : List ℕ) (o : Option Rates) → IfSome o (IsTable files name) → IsSome o → HasTable files name
+has_table : (files : List ℕ → Option (List ℕ)) (name : List ℕ) (o : Option Rates) → IfSome o (IsTableNamed files name) → IsSome o → HasTable files name
 has_table files name (Some v) h some = (v, h)
 has_table files name None h some = absurd (cc)
 
@@ -76,7 +76,7 @@ pub none_missing : (t : List ℕ → Option Rates) (rows : List BasisRow) (n : �
 none_missing t rows n h k =
     k.missing (at_cut (λ (r : BasisRow). IsSome (t r.table)) k.before k.row k.after (subst (λ (xs : List BasisRow). All (λ (r : BasisRow). IsSome (t r.table)) xs) k.split h))
 
-table_of : (files : List ℕ → Option (List ℕ)) (name : List ℕ) (o : Option Rates) (d : Rates) → IfSome o (IsTable files name) → IsSome o → IsTable files name (unwrap_or o d)
+table_of : (files : List ℕ → Option (List ℕ)) (name : List ℕ) (o : Option Rates) (d : Rates) → IfSome o (IsTableNamed files name) → IsSome o → IsTableNamed files name (unwrap_or o d)
 table_of files name (Some v) d h some = h
 table_of files name None d h some = absurd (cc)
 
@@ -95,7 +95,7 @@ entries_of files t (row ∷ rows) right known =
     (entry_of files t row right (All-head some row rows known), entries_of files t rows right (All-tail some row rows known))
 
 pub basis_is : (told : Option (List ℕ → Option (List ℕ))) (name : List ℕ) (t : List ℕ → Option Rates) (rows : List BasisRow) (basis : List Dated) → basis ≡ map (dated t) rows
-    → IfSome told (λ files. AreRowsOf files name rows) → IfSome told (λ files. AreTables files t) → All (λ (r : BasisRow). IsSome (t r.table)) rows → IfSome told (λ files. IsBasis files name basis)
+    → IfSome told (λ files. AreRowsNamed files name rows) → IfSome told (λ files. AreTables files t) → All (λ (r : BasisRow). IsSome (t r.table)) rows → IfSome told (λ files. IsBasis files name basis)
 basis_is None name t rows basis is file right known = tt
 basis_is (Some files) name t rows basis is file right known = record {
   rows = rows;
@@ -105,14 +105,14 @@ basis_is (Some files) name t rows basis is file right known = record {
 
 -- an answer that is right is the one that is due
 gives_at : (files : List ℕ → Option (List ℕ)) (name : List ℕ) (given : Result (List Dated) NoBasis) (answer : Result (List Dated) BadBasis)
-    → IfOk given (IsBasis files name) → IfErr given (IfBad (IsFirstBad files name)) → IsDue files name answer → Gives given answer
+    → IfOk given (IsBasis files name) → IfErr given (IfBad (IsFirstBadFile files name)) → IsBasisAnswer files name answer → GivesBasis given answer
 gives_at files name (Ok entries) answer right bad due = one_answer files name answer (Ok entries) due right
 gives_at files name (Err (Bad first)) answer right bad due = one_answer files name answer (Err first) due bad
 gives_at files name (Err ReadFault) answer right bad due = tt
 gives_at files name (Err NoMemory) answer right bad due = tt
 
 pub gives_due : (told : Option (List ℕ → Option (List ℕ))) (name : List ℕ) (given : Result (List Dated) NoBasis)
-    → IfSome told (λ files. IfOk given (IsBasis files name)) → IfSome told (λ files. IfErr given (IfBad (IsFirstBad files name)))
-    → IfSome told (λ files. (answer : Result (List Dated) BadBasis) → IsDue files name answer → Gives given answer)
+    → IfSome told (λ files. IfOk given (IsBasis files name)) → IfSome told (λ files. IfErr given (IfBad (IsFirstBadFile files name)))
+    → IfSome told (λ files. (answer : Result (List Dated) BadBasis) → IsBasisAnswer files name answer → GivesBasis given answer)
 gives_due None name given right bad = tt
 gives_due (Some files) name given right bad = λ answer due. gives_at files name given answer right bad due

@@ -2,7 +2,7 @@
 ghost use Rattle.std.specs.Prelude.{◌≡◌, ◌≤◌, List, IfOk, IfErr, IfSome, IsErrOf};
 ghost use Rattle.outside_io.specs.Faults.{Rose};
 ghost use Rattle.basis_book.specs.Dated.{AreBounded};
-ghost use Rattle.basis_shelf.specs.Bases.{AreRowsOf};
+ghost use Rattle.basis_shelf.specs.Bases.{AreRowsNamed};
 ghost use Rattle.basis_shelf.specs.Answers.{IfBad};
 ghost use Rattle.basis_shelf.specs.inside.Parts.{IsBadBookFile, TellsRows};
 
@@ -14,7 +14,7 @@ use std::alloc::Global;
 
 /// The rows of the basis file.
 pub fn fetch_rows<H: Shelf>(alloc: Global, name: &Name, shelf: &mut H) -> Result<BasisRows, NoBasis>
-    ensures rows { IfSome (H.files shelf.old) (λ at. IfOk result (AreRowsOf at name.now)) }
+    ensures rows { IfSome (H.files shelf.old) (λ at. IfOk result (AreRowsNamed at name.now)) }
     ensures bounded { IfOk result AreBounded }
     ensures bad { IfSome (H.files shelf.old) (λ at. IfErr result (IfBad (IsBadBookFile at name.now))) }
     ensures failed { IsErrOf result NoBasis.ReadFault → Rose (H.faults shelf.old) (H.faults shelf.new) }

@@ -3,7 +3,7 @@ ghost use Rattle.std.specs.Prelude.{◌≡◌, ◌≤◌, vec_len, IfOk, IfErr, 
 ghost use Rattle.outside_io.specs.Faults.{Rose};
 ghost use Rattle.basis_shelf.specs.Files.{IsFile};
 ghost use Rattle.basis_shelf.specs.Answers.{IfBad};
-ghost use Rattle.basis_shelf.specs.inside.Parts.{IsTold, IsUnread};
+ghost use Rattle.basis_shelf.specs.inside.Parts.{IsToldOfTable, IsUnread};
 
 use crate::fault::{BadBasis, BasisWord, NoBasis};
 use basis_book::Name;
@@ -13,7 +13,7 @@ use std::alloc::Global;
 
 /// The answer that a file is bad.
 pub fn bad_file(alloc: Global, name: &Name, place: u32, word: BasisWord) -> NoBasis
-    ensures { IsTold name.now place word result }
+    ensures { IsToldOfTable name.now place word result }
 {
     match Name::of(alloc, name.text().as_bytes()) {
         Ok(Some(name)) => NoBasis::Bad(BadBasis { name, place, word }),

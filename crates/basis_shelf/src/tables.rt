@@ -3,7 +3,7 @@ ghost use Rattle.std.specs.Prelude.{◌≡◌, ◌≤◌, ◌+◌, ◌<◌, ℕ,
 ghost use Rattle.indexmap.specs.IndexMap.{get_by_text};
 ghost use Rattle.outside_io.specs.Faults.{Rose};
 ghost use Rattle.basis_book.specs.declared.row.BasisRow.{BasisRow as ARow};
-ghost use Rattle.basis_shelf.specs.Bases.{IsTable};
+ghost use Rattle.basis_shelf.specs.Bases.{IsTableNamed};
 ghost use Rattle.basis_shelf.specs.FirstBad.{IsFirstBadRow};
 ghost use Rattle.basis_shelf.specs.Answers.{IfBad};
 ghost use Rattle.basis_shelf.specs.inside.Parts.{AreTables, IsBadTableFile, KeepsKnown, TellsTable, word_of};
@@ -75,7 +75,7 @@ fn fetch_table<H: Shelf>(
     number: u32,
     shelf: &mut H,
 ) -> Result<RateTable, NoBasis>
-    ensures table { IfSome (H.files shelf.old) (λ at. IfOk result (IsTable at name.now)) }
+    ensures table { IfSome (H.files shelf.old) (λ at. IfOk result (IsTableNamed at name.now)) }
     ensures bad { IfSome (H.files shelf.old) (λ at. IfErr result (IfBad (IsBadTableFile at name.now number))) }
     ensures failed { IsErrOf result NoBasis.ReadFault → Rose (H.faults shelf.old) (H.faults shelf.new) }
     ensures later { H.faults shelf.old ≤ H.faults shelf.new }

@@ -6,7 +6,8 @@ use Rattle.policy_machine.specs.Accounts.{ledger_of}
 use Rattle.policy_machine.specs.Book.{book}
 use Rattle.policy_machine.specs.History.{Opening, opened_on}
 use Rattle.posting_journal.specs.Creation.{OpensToBodies}
-use Rattle.posting_journal.specs.States.{StandsFor as JournalStands, is_clean}
+use Rattle.posting_journal.specs.Starting.{HasStarted}
+use Rattle.posting_journal.specs.States.{StandsFor as JournalStands, disk_of as disk_under, is_clean}
 use Rattle.posting_journal.specs.declared.journal.Journal.{Journal}
 use Rattle.watcher_set.specs.declared.watching.Watching.{Ghosts as WatcherGhosts}
 use Rattle.office_state.specs.declared.faults.StartCause.{StartCause}
@@ -37,20 +38,20 @@ module _ {D : Type 0} (g : Ghosts D) (old : D) (journal : Journal D g) (started 
   faulted new (BadRecord n) stopped = stopped.0 ∙ started.quiet
   faulted new NoMemory stopped = stopped ∙ started.quiet
 
-  shown : (new : D) (cause : StartCause) → HasStopped journal new cause → g.honest old → IsShown (g.reads old) cause
-  shown new (DiskFault count) stopped honest = tt
-  shown new NotAJournal stopped honest = absurd stopped
-  shown new NoMemory stopped honest = tt
-  shown new (BadRecord n) stopped honest =
-      let opened = started.opened honest in
-      unfollowed (g.reads old) n opened.bodies opened.opened
-      (stopped.1 opened.bodies [] (started.honesty.0 honest) opened.stands)
+  shown : (new : D) (cause : StartCause) → (g.honest new → g.honest (disk_under journal)) → HasStopped journal new cause
+      → g.honest new → IsShown (g.reads old) cause
+  shown new (DiskFault count) honesty stopped honest = tt
+  shown new NotAJournal honesty stopped honest = absurd stopped
+  shown new NoMemory honesty stopped honest = tt
+  shown new (BadRecord n) honesty stopped honest =
+      let opened = started.opened (honesty honest) in
+      unfollowed (g.reads old) n opened.bodies opened.opened (stopped.1 opened.bodies [] honest opened.stands)
 
   -- a journal of which no office was made
   pub no_office : CountsNow g → ReadsImage g → (new : D) (cause : StartCause) → HasNoOffice journal new cause → HasNotOpened g old new cause
   no_office counts_now reads_image new cause none = record {
     told = faulted new cause none.why;
-    shown = shown new cause none.why;
+    shown = shown new cause none.looked.honesty none.why;
     alone = looked_alone g old journal started counts_now reads_image new none.looked;
   }
 
@@ -64,40 +65,39 @@ module _ {D : Type 0} (g : Ghosts D) (old : D) (journal : Journal D g) (started 
     opening = opened_on (commands_of state) (g.faults old)
 
     -- what the file opened to is what was replayed
-    same_bodies : (honest : g.honest old) → (started.opened honest).bodies ≡ bodies_of (commands_of state)
-    same_bodies honest =
-        let opened = started.opened honest in
-        all_replayed g journal state.journal state.books made.replayed opened.bodies [] (started.honesty.0 honest) opened.stands
+    started_so : g.honest (disk_of state) → HasStarted old journal
+    started_so honest = started.opened (made.stays.disk.honesty honest)
 
-    opens_replayed : g.honest old → Opens (g.reads old) (commands_of state)
+    same_bodies : (honest : g.honest (disk_of state)) → (started_so honest).bodies ≡ bodies_of (commands_of state)
+    same_bodies honest =
+        let opened = started_so honest in
+        all_replayed g journal state.journal state.books made.replayed opened.bodies [] honest opened.stands
+
+    opens_replayed : g.honest (disk_of state) → Opens (g.reads old) (commands_of state)
     opens_replayed honest =
         opens_commands (g.reads old) (commands_of state) state.books.kept.valid state.books.kept.accepted
-        (subst (OpensToBodies (g.reads old)) (same_bodies honest) (started.opened honest).opened)
+        (subst (OpensToBodies (g.reads old)) (same_bodies honest) (started_so honest).opened)
 
     clean : is_clean state.journal ≡ false → ⊥
     clean unclean =
         let was : is_clean journal ≡ true = started.clean in
         let same : is_clean state.journal ≡ is_clean journal = made.stays.clean in cc
 
-    holds : g.honest old → JournalHolds state.journal opening []
+    holds : g.honest (disk_of state) → JournalHolds state.journal opening []
     holds honest =
-        let opened = started.opened honest in
-        let stands : JournalStands state.journal opened.bodies [] =
-        made.stays.stands opened.bodies [] (started.honesty.0 honest) opened.stands in
+        let opened = started_so honest in
+        let stands : JournalStands state.journal opened.bodies [] = made.stays.stands opened.bodies [] honest opened.stands in
         record {
           last = [];
           stands = simp append-nil (subst (λ (bodies : List (List ℕ)). JournalStands state.journal bodies []) (same_bodies honest) stands);
           pending = λ (unclean : is_clean state.journal ≡ false). absurd (clean unclean);
         }
 
-    honesty : (g.honest old → g.honest (disk_of state)) × (g.honest (disk_of state) → g.honest old)
-    honesty = (
-      λ honest. made.stays.disk.honesty.0 (started.honesty.0 honest),
-      λ honest. started.honesty.1 (made.stays.disk.honesty.1 honest),
-    )
+    honesty : g.honest (disk_of state) → g.honest old
+    honesty honest = started.honesty (made.stays.disk.honesty honest)
 
     module _ (counts_now : CountsNow g) (reads_image : ReadsImage g) where
-      leaves_since : g.honest old → LeavesSince g old (disk_of state) opening []
+      leaves_since : g.honest (disk_of state) → LeavesSince g old (disk_of state) opening []
       leaves_since honest =
           let held = λ (image : List ℕ) (opening_image : _). holds_once image (commands_of state) (g.faults old)
           (opening_keeps (g.reads old) image (commands_of state) (opens_replayed honest) opening_image) in
@@ -132,19 +132,20 @@ module _ {D : Type 0} (g : Ghosts D) (old : D) (journal : Journal D g) (started 
             pins = made.pins;
             floor = made.floor;
             honesty = honesty;
-            images_now = λ (honest : g.honest old). holds_now state.journal opening []
+            opened = opens_replayed;
+            images_now = λ (honest : g.honest (disk_of state)). holds_now state.journal opening []
                 (simp append-nil keeps.valid) (simp append-nil keeps.accepted) (holds honest);
             images_since = leaves_since;
             fault_count = quiet;
             alone = λ still. looked_alone g old journal started counts_now reads_image (disk_of state) made.stays.disk;
             told = subst (λ these. w.told these []) (sym made.watched) fresh;
             inside = record {
-              later = λ (honest : g.honest old).
-                  let looks = made.stays.disk.looks (started.honesty.0 honest) in
-                  omega (arith, started_later g old journal started counts_now honest, looks.time.later);
+              later = λ (honest : g.honest (disk_of state)).
+                  let looks = made.stays.disk.looks honest in
+                  omega (arith, started_later g old journal started counts_now (made.stays.disk.honesty honest), looks.time.later);
               opened = omega (arith, quiet);
               met = tt;
-              journal = λ (honest : g.honest (disk_of state)). holds (honesty.1 honest);
+              journal = holds;
             };
           }
 
@@ -155,7 +156,7 @@ module _ {D : Type 0} (g : Ghosts D) (old : D) (journal : Journal D g) (started 
         quiet = made.replayed.quiet ∙ started.quiet;
         opened = opens_replayed;
         honesty = honesty;
-        unwritten = λ (honest : g.honest old). looked_on g old journal started counts_now (disk_of state) honest made.stays.disk;
+        unwritten = λ (honest : g.honest (disk_of state)). looked_on g old journal started counts_now (disk_of state) honest made.stays.disk;
       }
 
       -- a journal of which an office was made

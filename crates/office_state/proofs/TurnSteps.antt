@@ -202,10 +202,11 @@ module _ {D W : Type 0} {g : Ghosts D} {w : WatcherGhosts W} where
           pins = pinned;
           floor = floored;
           honesty = stands.honesty;
-          images_now = λ (honest : g.honest (begun_of old)). holds_now old.journal opening (turns ++ entry ∷ [])
+          opened = stands.opened;
+          images_now = λ (honest : g.honest (disk_of old)). holds_now old.journal opening (turns ++ entry ∷ [])
               (subst (AllByRecursion IsValid) kept books.kept.valid) (subst IsAccepted kept books.kept.accepted)
-              (holds (stands.honesty.0 honest));
-          images_since = λ (honest : g.honest (begun_of old)).
+              (holds honest);
+          images_since = λ (honest : g.honest (disk_of old)).
               since_still (begun_of old) (disk_of old) opening turns entry (stands.images_since honest);
           fault_count = stands.fault_count ∙ sym (faults_after-same opening turns entry quiet);
           alone = λ still. stands.alone (all_before (λ (e : Entry). IsQuietReply e.reply) turns (entry ∷ []) still);
@@ -233,6 +234,7 @@ module _ {D W : Type 0} {g : Ghosts D} {w : WatcherGhosts W} where
           pins = stands.pins;
           floor = stands.floor;
           honesty = stands.honesty;
+          opened = stands.opened;
           images_now = stands.images_now;
           images_since = stands.images_since;
           fault_count = stands.fault_count;
@@ -265,7 +267,8 @@ module _ {D W : Type 0} {g : Ghosts D} {w : WatcherGhosts W} where
 
     module _ {T E : Type 0} (command : Command) (policy : Policy) (journal : Journal D g) (result : Result T E) (valid : IsValid command)
         (decided : next (policy_of (commands_of old) (id_of command)) command ≡ Ok policy)
-        (records : (bodies : List (List ℕ)) (last : List ℕ) → g.honest (disk_of old) → JournalStands old.journal bodies last
+        (honesty : g.honest (disk_under journal) → g.honest (disk_of old))
+        (records : (bodies : List (List ℕ)) (last : List ℕ) → g.honest (disk_under journal) → JournalStands old.journal bodies last
         → Records old.journal journal bodies last (spelling_of command) result) where
       decided' : next (policy_of commands (id_of command)) command ≡ Ok policy
       decided' = subst (λ cs. next (policy_of cs (id_of command)) command ≡ Ok policy) stands.kept decided
@@ -273,45 +276,45 @@ module _ {D W : Type 0} {g : Ghosts D} {w : WatcherGhosts W} where
       accepted : IsAccepted (commands ++ command ∷ [])
       accepted = IsAccepted-push commands command (accepted_after old turns stands.kept) (ap is_ok decided')
 
-      recorded : (honest : g.honest (disk_of old))
-          → Records old.journal journal (bodies_of commands) (stands.inside.journal honest).last (spelling_of command) result
-      recorded honest = let before = stands.inside.journal honest in records (bodies_of commands) before.last honest before.stands
+      recorded : (honest : g.honest (disk_under journal))
+          → Records old.journal journal (bodies_of commands) (stands.inside.journal (honesty honest)).last (spelling_of command) result
+      recorded honest = let before = stands.inside.journal (honesty honest) in records (bodies_of commands) before.last honest before.stands
 
-      moments : (honest : g.honest (disk_of old)) → Leaves g (disk_of old) (disk_under journal)
+      moments : g.honest (disk_under journal) → Leaves g (disk_of old) (disk_under journal)
           (λ image. HoldsNow opening turns image ⊎ JournalBytes image (commands ++ command ∷ []))
       moments honest =
           let m = (recorded honest).moments in record {
             later = m.later;
-            each = λ image left. during honest command image valid accepted (m.each image left);
+            each = λ image left. during (honesty honest) command image valid accepted (m.each image left);
             before = λ moment image passed left. elim (m.before moment image passed left) [
               | inl earlier ↦ inl earlier
-              | inr now ↦ inr (during honest command image valid accepted now)
+              | inr now ↦ inr (during (honesty honest) command image valid accepted now)
             ];
           }
 
-      since_more : (entry : Entry) → g.honest (begun_of old)
+      since_more : (entry : Entry) → g.honest (disk_under journal)
           → ((image : List ℕ) → JournalBytes image (commands ++ command ∷ []) → HoldsOnce opening (turns ++ entry ∷ []) image)
           → LeavesSince g (begun_of old) (disk_under journal) opening (turns ++ entry ∷ [])
       since_more entry honest holds =
           since_on (begun_of old) (disk_of old) (disk_under journal) opening turns entry
-          (λ image. HoldsNow opening turns image ⊎ JournalBytes image (commands ++ command ∷ [])) (stands.inside.later honest)
-          (stands.images_since honest) (moments (stands.honesty.0 honest))
+          (λ image. HoldsNow opening turns image ⊎ JournalBytes image (commands ++ command ∷ [])) (stands.inside.later (honesty honest))
+          (stands.images_since (honesty honest)) (moments honest)
           (λ image held. elim held [ inl now ↦ now_later opening turns entry image now | inr more ↦ holds image more ])
 
       -- a crash in a posting in which the disk failed
-      pub crash_faulted : (count : ℕ) → g.honest (disk_of old)
+      pub crash_faulted : (count : ℕ) → g.honest (disk_under journal)
           → CrashesIn g (disk_of old) (disk_under journal) opening turns command (DiskFault count)
       crash_faulted count honest = record { during = moments honest; accepted = λ no. absurd no }
 
       module _ (value : T) (ok : result ≡ Ok value) where
-        done : (honest : g.honest (disk_of old)) → JournalStands journal (bodies_of commands ++ spelling_of command ∷ []) []
+        done : g.honest (disk_under journal) → JournalStands journal (bodies_of commands ++ spelling_of command ∷ []) []
             × (is_clean journal ≡ false → ⊥)
         done honest =
             subst (λ r. OnOk r (JournalStands journal (bodies_of commands ++ spelling_of command ∷ []) [] × (is_clean journal ≡ false → ⊥)))
             ok (recorded honest).done
 
         -- a crash in one that was accepted, and after it
-        pub crash_accepted : (count : ℕ) → g.honest (disk_of old)
+        pub crash_accepted : (count : ℕ) → g.honest (disk_under journal)
             → CrashesIn g (disk_of old) (disk_under journal) opening turns command (AcceptedAt count)
         crash_accepted count honest = record {
           during = moments honest;
@@ -327,115 +330,117 @@ module _ {D W : Type 0} {g : Ghosts D} {w : WatcherGhosts W} where
                 by true is file = journal_of_more image commands command (valid_after old turns stands.kept) valid accepted file
                 by false is file = absurd (held.1 is)
 
-      module _ (honesty : (g.honest (disk_of old) → g.honest (disk_under journal)) × (g.honest (disk_under journal) → g.honest (disk_of old))) where
-        -- a posting that was accepted
-        module _ (books : Books) (counted : records_in journal ≡ length (commands_in books)) (count : ℕ) (value : T)
-            (quiet : g.faults (disk_under journal) ≡ g.faults (disk_of old)) (more : commands_in books ≡ commands_of old ++ command ∷ [])
-            (few : length (commands_of old) ≡ 4000000 → ⊥) (ok : result ≡ Ok value) (position : count ≡ length (commands_in books))
-            (watchers : W) (told : (heard : List Command) → w.told old.watchers heard → w.told watchers (heard ++ command ∷ [])) where
-          pub stands_accepted : (caller : ℕ)
-              → StandsFor {w = w} (record { journal = journal; books = books; watchers = watchers; turns = old.turns + 1; pins = old.pins; floor = old.floor; begun = old.begun; recovered = old.recovered; counted = counted })
-              (turns ++ posting caller command (Accepted count) ∷ [])
-          stands_accepted caller =
-              let entry = posting caller command (Accepted count) in
-              let grown : commands_after opening (turns ++ entry ∷ []) ≡ commands ++ command ∷ [] = commands-more opening turns caller command count in
-              let kept : commands_in books ≡ commands_after opening (turns ++ entry ∷ []) =
-              more ∙ ap (λ cs. cs ++ command ∷ []) stands.kept ∙ sym grown in
-              let due : refusal_due commands command ≡ None = is_due commands command policy decided' (λ full. few (ap length stands.kept ∙ full)) in
-              let at : count ≡ length commands + 1 = position ∙ ap length (kept ∙ grown) ∙ length-append commands (command ∷ []) in
-              let holds : g.honest (disk_of old) → JournalHolds journal opening (turns ++ entry ∷ []) = λ honest. record {
-                last = [];
-                stands = rw (grown, map-append spelling_of commands (command ∷ [])) (done value ok honest).0;
-                pending = λ unclean. absurd ((done value ok honest).1 unclean);
-              } in
-              record {
-                history = record { legal = legal-push opening turns entry stands.history.legal (due, at); counted = ap length kept };
-                kept = kept;
-                policies = values-book books.policies books.ledger (commands_in books) books.kept ∙ ap book kept;
-                ledger = books.kept.booked ∙ ap ledger_of kept;
-                turned = turned_more old.turns turns entry stands.turned;
-                pins = stands.pins ∙ posted_pins turns caller command (Accepted count) refl;
-                floor = stands.floor ∙ posted_floor turns caller command (Accepted count) refl;
-                honesty = (λ honest. honesty.0 (stands.honesty.0 honest), λ honest. stands.honesty.1 (honesty.1 honest));
-                images_now = λ (honest : g.honest (begun_of old)). holds_now journal opening (turns ++ entry ∷ [])
-                    (subst (AllByRecursion IsValid) kept books.kept.valid) (subst IsAccepted kept books.kept.accepted)
-                    (holds (stands.honesty.0 honest));
-                images_since = λ (honest : g.honest (begun_of old)). since_more entry honest
-                    (λ image file. holds_all opening (turns ++ entry ∷ []) image (rw grown file));
-                fault_count = quiet ∙ stands.fault_count ∙ sym (faults_after-same opening turns entry refl);
-                alone = λ still. absurd (all_in (λ (e : Entry). IsQuietReply e.reply) turns [] entry still);
-                told = subst (w.told watchers) (sym (accepted_of-push turns entry)) (told (accepted_of turns) stands.told);
-                inside = record {
-                  later = λ (honest : g.honest (begun_of old)).
-                      omega (arith, stands.inside.later honest, (moments (stands.honesty.0 honest)).later);
-                  opened = rw quiet stands.inside.opened;
-                  met = rw (faults-same turns entry refl, quiet) stands.inside.met;
-                  journal = λ honest. holds (honesty.1 honest);
-                };
-              }
+      -- a posting that was accepted
+      module _ (books : Books) (counted : records_in journal ≡ length (commands_in books)) (count : ℕ) (value : T)
+          (quiet : g.faults (disk_under journal) ≡ g.faults (disk_of old)) (more : commands_in books ≡ commands_of old ++ command ∷ [])
+          (few : length (commands_of old) ≡ 4000000 → ⊥) (ok : result ≡ Ok value) (position : count ≡ length (commands_in books))
+          (watchers : W) (told : (heard : List Command) → w.told old.watchers heard → w.told watchers (heard ++ command ∷ [])) where
+        pub stands_accepted : (caller : ℕ)
+            → StandsFor {w = w} (record { journal = journal; books = books; watchers = watchers; turns = old.turns + 1; pins = old.pins; floor = old.floor; begun = old.begun; recovered = old.recovered; counted = counted })
+            (turns ++ posting caller command (Accepted count) ∷ [])
+        stands_accepted caller =
+            let entry = posting caller command (Accepted count) in
+            let grown : commands_after opening (turns ++ entry ∷ []) ≡ commands ++ command ∷ [] = commands-more opening turns caller command count in
+            let kept : commands_in books ≡ commands_after opening (turns ++ entry ∷ []) =
+            more ∙ ap (λ cs. cs ++ command ∷ []) stands.kept ∙ sym grown in
+            let due : refusal_due commands command ≡ None = is_due commands command policy decided' (λ full. few (ap length stands.kept ∙ full)) in
+            let at : count ≡ length commands + 1 = position ∙ ap length (kept ∙ grown) ∙ length-append commands (command ∷ []) in
+            let holds : g.honest (disk_under journal) → JournalHolds journal opening (turns ++ entry ∷ []) = λ honest. record {
+              last = [];
+              stands = rw (grown, map-append spelling_of commands (command ∷ [])) (done value ok honest).0;
+              pending = λ unclean. absurd ((done value ok honest).1 unclean);
+            } in
+            record {
+              history = record { legal = legal-push opening turns entry stands.history.legal (due, at); counted = ap length kept };
+              kept = kept;
+              policies = values-book books.policies books.ledger (commands_in books) books.kept ∙ ap book kept;
+              ledger = books.kept.booked ∙ ap ledger_of kept;
+              turned = turned_more old.turns turns entry stands.turned;
+              pins = stands.pins ∙ posted_pins turns caller command (Accepted count) refl;
+              floor = stands.floor ∙ posted_floor turns caller command (Accepted count) refl;
+              honesty = λ honest. stands.honesty (honesty honest);
+              opened = λ honest. stands.opened (honesty honest);
+              images_now = λ (honest : g.honest (disk_under journal)). holds_now journal opening (turns ++ entry ∷ [])
+                  (subst (AllByRecursion IsValid) kept books.kept.valid) (subst IsAccepted kept books.kept.accepted)
+                  (holds honest);
+              images_since = λ (honest : g.honest (disk_under journal)). since_more entry honest
+                  (λ image file. holds_all opening (turns ++ entry ∷ []) image (rw grown file));
+              fault_count = quiet ∙ stands.fault_count ∙ sym (faults_after-same opening turns entry refl);
+              alone = λ still. absurd (all_in (λ (e : Entry). IsQuietReply e.reply) turns [] entry still);
+              told = subst (w.told watchers) (sym (accepted_of-push turns entry)) (told (accepted_of turns) stands.told);
+              inside = record {
+                later = λ (honest : g.honest (disk_under journal)).
+                    omega (arith, stands.inside.later (honesty honest), (moments honest).later);
+                opened = rw quiet stands.inside.opened;
+                met = rw (faults-same turns entry refl, quiet) stands.inside.met;
+                journal = holds;
+              };
+            }
 
-        -- a posting in which the disk failed
-        module _ (counted : records_in journal ≡ length (commands_of old)) (count : ℕ) (error : E)
-            (few : length (commands_of old) ≡ 4000000 → ⊥) (told : count ≡ g.faults (disk_under journal))
-            (later : g.faults (disk_of old) ≤ g.faults (disk_under journal)) (rose : Rose (g.faults (disk_of old)) (g.faults (disk_under journal)))
-            (err : result ≡ Err error) where
-          pub stands_faulted : (caller : ℕ)
-              → StandsFor {w = w} (record { journal = journal; books = old.books; watchers = old.watchers; turns = old.turns + 1; pins = old.pins; floor = old.floor; begun = old.begun; recovered = old.recovered; counted = counted })
-              (turns ++ posting caller command (Faulted count) ∷ [])
-          stands_faulted caller =
-              let entry = posting caller command (Faulted count) in
-              let same : commands_after opening (turns ++ entry ∷ []) ≡ commands = commands-same opening turns entry refl in
-              let kept : commands_of old ≡ commands_after opening (turns ++ entry ∷ []) = stands.kept ∙ sym same in
-              let due : refusal_due commands command ≡ None = is_due commands command policy decided' (λ full. few (ap length stands.kept ∙ full)) in
-              let fresh = is_fresh opening turns (g.faults (disk_of old)) count stands.inside.opened stands.inside.met (rw told rose) in
-              let failed = λ (honest : g.honest (disk_of old)).
-              subst (λ r. OnErr r ((left : List ℕ) × JournalStands journal (bodies_of commands) left
-              × (is_clean journal ≡ false → (left ≡ spelling_of command) ⊎ ((is_clean old.journal ≡ false)
-              × (left ≡ (stands.inside.journal honest).last)))))
-              err (recorded honest).failed in
-              let holds : g.honest (disk_of old) → JournalHolds journal opening (turns ++ entry ∷ []) = λ honest.
-              record {
-                last = (failed honest).0;
-                stands = rw same (failed honest).1;
-                pending = λ unclean. elim ((failed honest).2 unclean) [
-                  | inl this ↦ record {
-                    command = command;
-                    pending = pending-now turns caller command count;
-                    spelled = this;
-                    valid = valid;
-                    accepted = rw same accepted;
-                  }
-                  | inr earlier ↦ subst (IsLeftBehind opening (turns ++ entry ∷ [])) (sym earlier.1)
-                      (left_still opening turns entry (stands.inside.journal honest).last refl ((stands.inside.journal honest).pending earlier.0))
-                ];
-              } in
-              record {
-                history = record { legal = legal-push opening turns entry stands.history.legal (due, fresh); counted = ap length kept };
-                kept = kept;
-                policies = values-book old.books.policies old.books.ledger (commands_in old.books) old.books.kept ∙ ap book kept;
-                ledger = old.books.kept.booked ∙ ap ledger_of kept;
-                turned = turned_more old.turns turns entry stands.turned;
-                pins = stands.pins ∙ posted_pins turns caller command (Faulted count) refl;
-                floor = stands.floor ∙ posted_floor turns caller command (Faulted count) refl;
-                honesty = (λ honest. honesty.0 (stands.honesty.0 honest), λ honest. stands.honesty.1 (honesty.1 honest));
-                images_now = λ (honest : g.honest (begun_of old)). holds_now journal opening (turns ++ entry ∷ [])
-                    (valid_after old (turns ++ entry ∷ []) kept) (accepted_after old (turns ++ entry ∷ []) kept)
-                    (holds (stands.honesty.0 honest));
-                images_since = λ (honest : g.honest (begun_of old)). since_more entry honest
-                    (λ image file. holds_more opening (turns ++ entry ∷ []) command image (pending-now turns caller command count) (rw same file));
-                fault_count = sym told ∙ sym (faults_after-more opening turns caller command count);
-                alone = λ still. absurd (all_in (λ (e : Entry). IsQuietReply e.reply) turns [] entry still);
-                told = subst (w.told old.watchers) (sym (accepted-same turns entry refl)) stands.told;
-                inside = record {
-                  later = λ (honest : g.honest (begun_of old)).
-                      omega (arith, stands.inside.later honest, (moments (stands.honesty.0 honest)).later);
-                  opened = omega (arith, later, stands.inside.opened);
-                  met = rw (faults-more turns caller command count)
-                      (all-more (λ n. n ≤ g.faults (disk_under journal)) (faults_met turns) count
-                      (all_up_to (g.faults (disk_of old)) (g.faults (disk_under journal)) (faults_met turns) later stands.inside.met) (omega (arith, told)));
-                  journal = λ honest. holds (honesty.1 honest);
-                };
-              }
+      -- a posting in which the disk failed
+      module _ (counted : records_in journal ≡ length (commands_of old)) (count : ℕ) (error : E)
+          (few : length (commands_of old) ≡ 4000000 → ⊥) (told : count ≡ g.faults (disk_under journal))
+          (later : g.faults (disk_of old) ≤ g.faults (disk_under journal)) (rose : Rose (g.faults (disk_of old)) (g.faults (disk_under journal)))
+          (err : result ≡ Err error) where
+        pub stands_faulted : (caller : ℕ)
+            → StandsFor {w = w} (record { journal = journal; books = old.books; watchers = old.watchers; turns = old.turns + 1; pins = old.pins; floor = old.floor; begun = old.begun; recovered = old.recovered; counted = counted })
+            (turns ++ posting caller command (Faulted count) ∷ [])
+        stands_faulted caller =
+            let entry = posting caller command (Faulted count) in
+            let same : commands_after opening (turns ++ entry ∷ []) ≡ commands = commands-same opening turns entry refl in
+            let kept : commands_of old ≡ commands_after opening (turns ++ entry ∷ []) = stands.kept ∙ sym same in
+            let due : refusal_due commands command ≡ None = is_due commands command policy decided' (λ full. few (ap length stands.kept ∙ full)) in
+            let fresh = is_fresh opening turns (g.faults (disk_of old)) count stands.inside.opened stands.inside.met (rw told rose) in
+            let failed = λ (honest : g.honest (disk_under journal)).
+            subst (λ r. OnErr r ((left : List ℕ) × JournalStands journal (bodies_of commands) left
+            × (is_clean journal ≡ false → (left ≡ spelling_of command) ⊎ ((is_clean old.journal ≡ false)
+            × (left ≡ (stands.inside.journal (honesty honest)).last)))))
+            err (recorded honest).failed in
+            let holds : g.honest (disk_under journal) → JournalHolds journal opening (turns ++ entry ∷ []) = λ honest.
+            record {
+              last = (failed honest).0;
+              stands = rw same (failed honest).1;
+              pending = λ unclean. elim ((failed honest).2 unclean) [
+                | inl this ↦ record {
+                  command = command;
+                  pending = pending-now turns caller command count;
+                  spelled = this;
+                  valid = valid;
+                  accepted = rw same accepted;
+                }
+                | inr earlier ↦ subst (IsLeftBehind opening (turns ++ entry ∷ [])) (sym earlier.1)
+                    (left_still opening turns entry (stands.inside.journal (honesty honest)).last refl
+                    ((stands.inside.journal (honesty honest)).pending earlier.0))
+              ];
+            } in
+            record {
+              history = record { legal = legal-push opening turns entry stands.history.legal (due, fresh); counted = ap length kept };
+              kept = kept;
+              policies = values-book old.books.policies old.books.ledger (commands_in old.books) old.books.kept ∙ ap book kept;
+              ledger = old.books.kept.booked ∙ ap ledger_of kept;
+              turned = turned_more old.turns turns entry stands.turned;
+              pins = stands.pins ∙ posted_pins turns caller command (Faulted count) refl;
+              floor = stands.floor ∙ posted_floor turns caller command (Faulted count) refl;
+              honesty = λ honest. stands.honesty (honesty honest);
+              opened = λ honest. stands.opened (honesty honest);
+              images_now = λ (honest : g.honest (disk_under journal)). holds_now journal opening (turns ++ entry ∷ [])
+                  (valid_after old (turns ++ entry ∷ []) kept) (accepted_after old (turns ++ entry ∷ []) kept)
+                  (holds honest);
+              images_since = λ (honest : g.honest (disk_under journal)). since_more entry honest
+                  (λ image file. holds_more opening (turns ++ entry ∷ []) command image (pending-now turns caller command count) (rw same file));
+              fault_count = sym told ∙ sym (faults_after-more opening turns caller command count);
+              alone = λ still. absurd (all_in (λ (e : Entry). IsQuietReply e.reply) turns [] entry still);
+              told = subst (w.told old.watchers) (sym (accepted-same turns entry refl)) stands.told;
+              inside = record {
+                later = λ (honest : g.honest (disk_under journal)).
+                    omega (arith, stands.inside.later (honesty honest), (moments honest).later);
+                opened = omega (arith, later, stands.inside.opened);
+                met = rw (faults-more turns caller command count)
+                    (all-more (λ n. n ≤ g.faults (disk_under journal)) (faults_met turns) count
+                    (all_up_to (g.faults (disk_of old)) (g.faults (disk_under journal)) (faults_met turns) later stands.inside.met) (omega (arith, told)));
+                journal = holds;
+              };
+            }
 
   -- the disk that an office leaves
   pub left_by : (state : OfficeState D W g w) (turns : List Entry) → StandsFor state turns
@@ -443,6 +448,7 @@ module _ {D W : Type 0} {g : Ghosts D} {w : WatcherGhosts W} where
   left_by state turns stands = record {
     honesty = stands.honesty;
     faults = stands.fault_count;
+    opened = stands.opened;
     now = stands.images_now;
     since = λ honest. (stands.images_since honest).since;
     synced = λ honest. (stands.images_since honest).synced;

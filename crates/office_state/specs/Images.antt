@@ -1,5 +1,5 @@
 -- What the images of a disk hold, on which an office was opened
-use Rattle.std.specs.Prelude.{◌≡◌, ◌⊎◌, ◌↔◌, ℕ, List, [], ◌∷◌, ◌++◌, None}
+use Rattle.std.specs.Prelude.{◌≡◌, ◌⊎◌, ℕ, List, [], ◌∷◌, ◌++◌, None}
 use Rattle.std.specs.List.{AllByRecursion, filter_map, last_or}
 use Rattle.std.specs.Option.{unwrap_or}
 use Rattle.outside_io.specs.declared.disks.Disk.{Ghosts}
@@ -73,16 +73,16 @@ faults_after opening history =
 abbrev pub OpensAlike : List ℕ → List ℕ → Type 0
 OpensAlike bytes image = (commands : List Command) × Opens bytes commands × Opens image commands
 
--- A disk on which no office ran, or one at which no posting was accepted or met a fault. Since the call a crash leaves
--- what it might have left before, or what opens to the commands to which the file opened. Either the disk was only
--- looked at, or since the end of a sync a crash leaves what was read before the call, or what opens alike. No file but an
--- unfinished creation is written to.
+-- A disk on which no office ran, or one at which no posting was accepted or met a fault. One that comes back honest was
+-- honest before, and then: Since the call a crash leaves what it might have left before, or what opens to the commands
+-- to which the file opened. Either the disk was only looked at, or since the end of a sync a crash leaves what was read
+-- before the call, or what opens alike. No file but an unfinished creation is written to.
 pub record IsLeftAlone {D : Type 0} (g : Ghosts D) (old new : D) : Type 0 where
-  pub honesty : (g.honest old) ↔ (g.honest new)
-  pub unwritten : g.honest old → ¬ IsUnfinished (g.reads old) → LooksOn g old new
-  pub since : g.honest old → (image : List ℕ) → g.left_since new (g.clock old) image
+  pub honesty : g.honest new → g.honest old
+  pub unwritten : g.honest new → ¬ IsUnfinished (g.reads old) → LooksOn g old new
+  pub since : g.honest new → (image : List ℕ) → g.left_since new (g.clock old) image
       → g.may_leave old image ⊎ OpensAlike (g.reads old) image
-  pub synced : g.honest old → LooksOn g old new
+  pub synced : g.honest new → LooksOn g old new
       ⊎ ((mid : D) × IsSynced g old mid new × ((image : List ℕ) → g.left_since new (g.clock mid) image
       → (image ≡ g.reads old) ⊎ OpensAlike (g.reads old) image))
 
@@ -96,14 +96,16 @@ IsQuietReply _ = Unit {0}
 abbrev pub AreQuiet : List Entry → Type 0
 AreQuiet history = AllByRecursion (λ (entry : Entry). IsQuietReply entry.reply) history
 
--- The disk on which an office was opened, and what became of it in the history. Since the opening began a crash leaves
--- what it might have left before, or an image of the history; since the end of a sync the second alone. Where
--- no posting was accepted or met a fault, the disk is left alone.
+-- The disk on which an office was opened, and what became of it in the history. One that comes back honest was honest
+-- before, and then: Its file had opened to the commands of the opening. Since the opening began a crash leaves what it
+-- might have left before, or an image of the history; since the end of a sync the second alone. Where no posting was
+-- accepted or met a fault, the disk is left alone.
 pub record IsLeftBy {D : Type 0} (g : Ghosts D) (old new : D) (opening : Opening) (history : List Entry) : Type 0 where
-  pub honesty : (g.honest old) ↔ (g.honest new)
+  pub honesty : g.honest new → g.honest old
   pub faults : g.faults new ≡ faults_after opening history
-  pub now : g.honest old → (image : List ℕ) → g.may_leave new image → HoldsNow opening history image
-  pub since : g.honest old → (image : List ℕ) → g.left_since new (g.clock old) image
+  pub opened : g.honest new → Opens (g.reads old) opening.commands
+  pub now : g.honest new → (image : List ℕ) → g.may_leave new image → HoldsNow opening history image
+  pub since : g.honest new → (image : List ℕ) → g.left_since new (g.clock old) image
       → g.may_leave old image ⊎ HoldsOnce opening history image
-  pub synced : g.honest old → (mid : D) × IsSynced g old mid new × HoldsSince g new (g.clock mid) opening history
+  pub synced : g.honest new → (mid : D) × IsSynced g old mid new × HoldsSince g new (g.clock mid) opening history
   pub alone : AreQuiet history → IsLeftAlone g old new

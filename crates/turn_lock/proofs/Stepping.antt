@@ -18,7 +18,7 @@ use Rattle.turn_lock.specs.declared.seats.Stage.TheVariants.{Unnamed, Idle, Queu
 use Rattle.turn_lock.specs.inside.Seats.{IsLive, IsNamed, units_at, units, shares, own, pages, numbers, SeatFacts, named, queued, inside, handed_on, compared}
 use Rattle.turn_lock.specs.inside.Rule.{ticket_at, PageStands, StageStands, SeatStands, SlotStands, LockRule}
 use Rattle.turn_lock.specs.inside.Steps as steps
-use Rattle.turn_lock.specs.inside.Steps.{Sat, IsDue}
+use Rattle.turn_lock.specs.inside.Steps.{Sat, IsTicketDue}
 use Rattle.turn_lock.proofs.Entries.{entries-own, entries-other, entries-none, none_at_start, same_start, starts_more, starts_empty, nested}
 use Rattle.turn_lock.proofs.Pages.{all_weaker, all_append, all_both, all_pages, distinct_head, distinct_one}
 use Rattle.turn_lock.proofs.Totals.{has_place, total_one}
@@ -266,7 +266,7 @@ module _ {T O : Type 0} (opens : T → O) (legal : O → List Entry → Type 0) 
             below = own_below legal opening h r.names r.tickets r.owner r.holder id v is_named k;
             staged = (found, omega arith, ap r.holder (sym now) ∙ st.2, refl);
           } in let was : units v ≡ v.left = named_units v.stage v.left is_named in
-          let told_of : IsDue opens legal stands me n (w, (0, Some x) ∷ me.1) = record {
+          let told_of : IsTicketDue opens legal stands me n (w, (0, Some x) ∷ me.1) = record {
             value = x;
             history = h;
             next_is = refl;

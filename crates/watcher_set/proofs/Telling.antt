@@ -8,7 +8,7 @@ use Rattle.policy_types.specs.Limits.{most_commands}
 use Rattle.watcher_set.specs.Noted.{Auditor, noted_of, is_done, report_of, reports_of}
 use Rattle.watcher_set.specs.declared.place.Place.{Place}
 use Rattle.watcher_set.specs.declared.place.Place.TheVariants.{Listening, Reported}
-use Rattle.watcher_set.specs.Told.{auditor_of, IsTold, Listens, HasReported, HasRoom, AreTold}
+use Rattle.watcher_set.specs.Told.{auditor_of, HasHeard, Listens, HasReported, HasSpareRoom, AreTold}
 use Rattle.watcher_set.specs.inside.Calls.{MayBeTold, Stays, Hears, report_at}
 use Rattle.watcher_set.proofs.Halfway.{AllByRecursion-from_zip, AllZip-then}
 use Rattle.watcher_set.proofs.Noting.{noted_all, is_done-more, noted_of-more, is_done-stays, noted_of-stays}
@@ -25,7 +25,7 @@ report_same a b f h same alike =
 module _ {B : Type 0} (g : Ghosts B) where
   -- what the call that readies one auditor leaves
   abbrev pub Readied : Place B → Place B → Type 0
-  Readied old new = Stays g old new × HasRoom g new
+  Readied old new = Stays g old new × HasSpareRoom g new
 
   pub stays_same : (place : Place B) → Stays g place place
   stays_same (Listening watcher) = (refl, refl, record { stops = λ list. refl; number = λ list. refl })
@@ -33,8 +33,8 @@ module _ {B : Type 0} (g : Ghosts B) where
 
   -- positions are those right behind so many commands
   module _ (before : ℕ) where
-    one_still : (commands : List Command) (auditor : Auditor) (old new : Place B) → IsTold g before commands auditor old
-        → Stays g old new → IsTold g before commands auditor new
+    one_still : (commands : List Command) (auditor : Auditor) (old new : Place B) → HasHeard g before commands auditor old
+        → Stays g old new → HasHeard g before commands auditor new
     one_still commands auditor (Listening old) (Listening new) told stays = record {
       noted = stays.0 ∙ told.noted;
       last = λ some. stays.1 ∙ told.last some;
@@ -56,8 +56,8 @@ module _ {B : Type 0} (g : Ghosts B) where
         ∙ subst (λ list. g.stops watcher (list ++ command ∷ []) ≡ answer) told.noted said
 
     one_more : (commands : List Command) (command : Command) (position : ℕ) → position ≡ before + length commands + 1
-        → (auditor : Auditor) (old new : Place B) → IsTold g before commands auditor old
-        → Hears g position command old new → IsTold g before (commands ++ command ∷ []) auditor new
+        → (auditor : Auditor) (old new : Place B) → HasHeard g before commands auditor old
+        → Hears g position command old new → HasHeard g before (commands ++ command ∷ []) auditor new
     one_more commands command position at auditor (Listening old) (Listening new) told hears = record {
       noted = hears.0 ∙ ap (λ list. list ++ command ∷ []) told.noted;
       last = λ some. let long = length-append commands (command ∷ []) in omega (arith, hears.1);
@@ -78,7 +78,7 @@ module _ {B : Type 0} (g : Ghosts B) where
           (sym (noted_of-stays auditor.stops commands command told.done)) (λ list. refl);
     }
 
-    one_report : (commands : List Command) (auditor : Auditor) (place : Place B) → IsTold g before commands auditor place
+    one_report : (commands : List Command) (auditor : Auditor) (place : Place B) → HasHeard g before commands auditor place
         → report_at g place ≡ report_of commands auditor
     one_report commands auditor (Listening watcher) told =
         report_same (g.noted watcher) (noted_of auditor.stops commands) (g.number watcher) auditor.number
@@ -87,14 +87,14 @@ module _ {B : Type 0} (g : Ghosts B) where
 
     one_next : (commands : List Command) (position : ℕ) → length commands < most_commands
         → position ≡ before + length commands + 1 → (auditor : Auditor) (place : Place B)
-        → IsTold g before commands auditor place → MayBeTold g position place
+        → HasHeard g before commands auditor place → MayBeTold g position place
     one_next commands position few at auditor (Listening watcher) told =
         let long : length (g.noted watcher) ≡ length commands = ap length told.noted in
         (omega arith, omega arith, λ some. let last = told.last (omega arith) in omega arith)
     one_next commands position few at auditor (Reported report) told = tt
 
     all_fresh : (watchers : List B) → AllByRecursion (λ watcher. g.noted watcher ≡ []) watchers
-        → AllZip (IsTold g before []) (map (auditor_of g) watchers) (map Listening watchers)
+        → AllZip (HasHeard g before []) (map (auditor_of g) watchers) (map Listening watchers)
     all_fresh [] fresh = tt
     all_fresh (watcher ∷ watchers) fresh =
         (record { noted = fresh.0; last = λ some. absurd (omega arith); goes_on = refl; stops = λ list. refl; number = λ list. refl }, all_fresh watchers fresh.1)
@@ -108,7 +108,7 @@ module _ {B : Type 0} (g : Ghosts B) where
     pub AreTold-still : (commands : List Command) (auditors : List Auditor) (old new : List (Place B))
         → AreTold g before commands auditors old → AllZip (Stays g) old new → AreTold g before commands auditors new
     AreTold-still commands auditors old new told stay = record {
-      each = AllZip-then (IsTold g before commands) (Stays g) (IsTold g before commands) (one_still commands) auditors old new told.each stay;
+      each = AllZip-then (HasHeard g before commands) (Stays g) (HasHeard g before commands) (one_still commands) auditors old new told.each stay;
     }
 
     -- a round that tells
@@ -116,7 +116,7 @@ module _ {B : Type 0} (g : Ghosts B) where
         → (auditors : List Auditor) (old new : List (Place B)) → AreTold g before commands auditors old
         → AllZip (Hears g position command) old new → AreTold g before (commands ++ command ∷ []) auditors new
     AreTold-more commands command position at auditors old new told hear = record {
-      each = AllZip-then (IsTold g before commands) (Hears g position command) (IsTold g before (commands ++ command ∷ []))
+      each = AllZip-then (HasHeard g before commands) (Hears g position command) (HasHeard g before (commands ++ command ∷ []))
           (one_more commands command position at) auditors old new told.each hear;
     }
 
@@ -125,11 +125,11 @@ module _ {B : Type 0} (g : Ghosts B) where
         → position ≡ before + length commands + 1 → (auditors : List Auditor) (places : List (Place B))
         → AreTold g before commands auditors places → AllByRecursion (MayBeTold g position) places
     AreTold-next commands position few at auditors places told =
-        AllByRecursion-from_zip (IsTold g before commands) (MayBeTold g position) (one_next commands position few at)
+        AllByRecursion-from_zip (HasHeard g before commands) (MayBeTold g position) (one_next commands position few at)
         auditors places told.each
 
     all_reports : (commands : List Command) (auditors : List Auditor) (places : List (Place B))
-        → AllZip (IsTold g before commands) auditors places → map (report_at g) places ≡ reports_of auditors commands
+        → AllZip (HasHeard g before commands) auditors places → map (report_at g) places ≡ reports_of auditors commands
     all_reports commands [] [] told = refl
     all_reports commands [] (place ∷ places) told = absurd told
     all_reports commands (auditor ∷ auditors) [] told = absurd told

@@ -27,19 +27,19 @@ module _ {B : Type 0} (g : Ghosts B) where
     pub done : is_done auditor.stops commands ≡ true
     pub left : report ≡ report_of commands auditor
 
-  abbrev pub IsTold : ℕ → List Command → Auditor → Place B → Type 0
-  IsTold before commands auditor (Listening watcher) = Listens auditor before commands watcher
-  IsTold before commands auditor (Reported report) = HasReported auditor commands report
+  abbrev pub HasHeard : ℕ → List Command → Auditor → Place B → Type 0
+  HasHeard before commands auditor (Listening watcher) = Listens auditor before commands watcher
+  HasHeard before commands auditor (Reported report) = HasReported auditor commands report
 
   -- all of them, each at its own place
   pub record AreTold (before : ℕ) (commands : List Command) (auditors : List Auditor) (places : List (Place B)) : Type 0
       where
-    pub each : AllZip (IsTold before commands) auditors places
+    pub each : AllZip (HasHeard before commands) auditors places
 
   -- there is room for one command more, if it goes on
-  abbrev pub HasRoom : Place B → Type 0
-  HasRoom (Listening watcher) = 1 ≤ g.spare watcher
-  HasRoom (Reported report) = Unit {0}
+  abbrev pub HasSpareRoom : Place B → Type 0
+  HasSpareRoom (Listening watcher) = 1 ≤ g.spare watcher
+  HasSpareRoom (Reported report) = Unit {0}
 
   abbrev pub HaveRoom : List (Place B) → Type 0
-  HaveRoom places = AllByRecursion HasRoom places
+  HaveRoom places = AllByRecursion HasSpareRoom places

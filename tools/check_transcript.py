@@ -1,0 +1,173 @@
+#!/usr/bin/env python3
+"""Checks what `life run` printed for the script of up to eight clerks, and what it left in the journal.
+
+BEFORE and AFTER are journal.life before and after the run, where BEFORE may be absent; BASIS is the basis file, whose
+tables are read from its folder. Written from docs/FORMATS.md and docs/DEFINITIONS.md alone, so that the program can be
+checked without it. The lines in their order have to be one history: each clerk's rows are answered once and in order;
+a posting is accepted at the next position, or refused for the first reason that the rules have; a valuation shows the
+book at its position, with bounds around the exact values; a trim's floor is the position of a pin that may be live, or
+the count. The journal afterwards holds what was accepted, and nothing else. Runs that met a fault of the disk or found
+no memory aren't checked. It ends with status 1 and says where something isn't as it must be.
+"""
+from __future__ import annotations
+
+import argparse
+import os
+from typing import Sequence
+
+from check_values import check_block
+from commands import Command, body_of
+from formats import Wrong, bytes_of, complain, demand, number_of, printed_rows
+from journals import Journal, read_journal
+from reserves import Known
+from rules import Book, Refusal
+from script_lines import Fault, Line, lanes_of, read_script
+from tables import BasisRow, read_basis
+
+# the lines of one valuation, or one other line
+Answer = list
+
+
+def is_block(answer: Answer) -> bool:
+    head = answer[0]
+    return len(head) > 3 and head[1] == "value" and head[3] not in ("refused", "nomemory")
+
+
+def is_whole(answer: Answer) -> bool:
+    return not is_block(answer) or answer[-1][0] == "total"
+
+
+def answers_in(transcript: str) -> tuple[list[Answer], list[list[str]]]:
+    """The lines in order, each with the rows and the total behind it where it is a valuation's, and the watchers' lines."""
+    demand(transcript.endswith("\n") or not transcript, "the last line isn't ended")
+    answers: list[Answer] = []
+    watchers: list[list[str]] = []
+    for line in printed_rows(transcript):
+        if line[0] == "watcher":
+            watchers.append(line)
+            continue
+        demand(not watchers, f"{line} stands behind a watcher's line")
+        if line[0] in ("row", "total"):
+            demand(answers and not is_whole(answers[-1]), f"{line} belongs to no valuation")
+            answers[-1].append(line)
+        else:
+            demand(not answers or is_whole(answers[-1]), f"no total before {line}")
+            answers.append([line])
+    demand(not answers or is_whole(answers[-1]), "no total at the end")
+    return answers, watchers
+
+
+class Run:
+    """The lines so far: what they leave of the script, of the book, of the pins that may be live, and of the floor."""
+
+    def __init__(self, lines: list[Line], book: Book, basis: Sequence[BasisRow], known: Known) -> None:
+        self.left = lanes_of(lines)
+        self.book, self.basis, self.known = book, basis, known
+        self.floor = self.accepted = self.premiums = 0
+        self.pins: dict[int, int] = {}
+
+    def follow(self, answer: Answer) -> None:
+        head = answer[0]
+        lane = number_of(head[0], 1, 8) or 0
+        demand(self.left.get(lane) and len(head) > 2, f"clerk {head[0]} has no row left for {head}")
+        line = self.left[lane].pop(0)
+        # the clerk's last valuation has given up its pin by now
+        self.pins.pop(lane, None)
+        demand(head[1] == line.kind, f"{head} answers {line.row.text}")
+        if line.command:
+            self.post(head, line, line.command)
+        elif line.kind == "trim":
+            self.trim(head)
+        else:
+            self.value(answer, line)
+
+    def post(self, head: list[str], line: Line, command: Command) -> None:
+        answer = self.book.decide(command)
+        if isinstance(answer, Refusal):
+            words = ["refused", *answer.words()]
+        else:
+            words = ["accepted", str(len(self.book.commands) + 1)]
+            self.book.take(command, answer)
+            self.accepted += 1
+            self.premiums += command.amount if command.kind in ("premium", "reinstate") else 0
+        demand(head == [*line.words[:3], *words], f"{line.row.text} is answered {head}, and the rules say {words}")
+
+    def trim(self, head: list[str]) -> None:
+        count = len(self.book.commands)
+        floor = number_of(head[2], 0, count) if len(head) == 3 else None
+        if floor is None:
+            raise Wrong(f"{head} is no trim's line, where {count} commands are accepted")
+        # a pin that may be live is one of which it isn't known that it was given up; where it is the least, it was live
+        demand(floor == count or floor in self.pins.values(),
+               f"{head}: the count is {count}, and pins that may be live are at {sorted(self.pins.values())}")
+        self.floor = floor
+        self.pins = {lane: position for lane, position in self.pins.items() if position >= floor}
+
+    def value(self, answer: Answer, line: Line) -> None:
+        head, count = answer[0], len(self.book.commands)
+        position = count if line.position is None else line.position
+        start = list(line.words[:3])
+        if position > count:
+            demand(head == [*start, "refused", "ahead", str(count)], f"{head}: position {position} is ahead of {count}")
+        elif position < self.floor:
+            demand(head == [*start, "refused", "trimmed", str(self.floor)], f"{head}: position {position} is below {self.floor}")
+        else:
+            demand(head[:4] == [*start, str(position)], f"{head} answers {line.row.text}, and the position is {position}")
+            self.pins[line.lane] = position
+            policies = list(Book(self.book.commands[:position]).policies.values())
+            check_block(answer, policies, self.basis, self.known)
+
+
+def check_journal(after: Journal, commands: list[Command]) -> None:
+    """Demands that the journal holds just these commands."""
+    demand(not after.refused, f"the journal after the run: {after.refused}: {after.why}")
+    found = after.commands
+    for position, (command, wanted) in enumerate(zip(found, commands), 1):
+        demand(command == wanted, f"record {position} of the journal is {body_of(command).hex()}, and was accepted as {body_of(wanted).hex()}")
+    demand(len(found) == len(commands), f"the journal has {len(found)} records of {len(commands)}")
+
+
+def check(script: bytes, transcript: str, before: bytes, after: bytes, basis: Sequence[BasisRow], known: Known | None = None) -> int:
+    """Checks a script, the text of its transcript, the bytes of the journal before and after, and the basis as `read_basis`
+    gives it; says how many lines there are, or raises `Wrong`. `known` keeps exact values for further calls."""
+    lines = read_script(script)
+    if isinstance(lines, Fault):
+        raise Wrong(f"the script is {lines.answer}")
+    begun = read_journal(before)
+    demand(not begun.refused, f"the journal before the run: {begun.refused}: {begun.why}")
+    run = Run(lines, begun.book, basis, {} if known is None else known)
+    answers, watchers = answers_in(transcript)
+    for answer in answers:
+        run.follow(answer)
+    left = [line.row.text for lines in run.left.values() for line in lines]
+    demand(not left, f"rows without an answer: {left}")
+    demand(watchers == [["watcher", "1", str(run.accepted), str(run.accepted)],
+                        ["watcher", "2", str(run.accepted), str(run.premiums)]], f"the watchers' lines: {watchers}")
+    check_journal(read_journal(after), run.book.commands)
+    return len(answers)
+
+
+def asks_for_values(script: bytes) -> bool:
+    lines = read_script(script)
+    return not isinstance(lines, Fault) and any(line.kind == "value" for line in lines)
+
+
+def main() -> None:
+    parser = argparse.ArgumentParser(description=__doc__, formatter_class=argparse.RawDescriptionHelpFormatter)
+    for name, says in (("script", "the script's file"), ("transcript", "what life run printed"),
+                       ("before", "journal.life before the run"), ("after", "journal.life after the run"),
+                       ("basis", "the basis file; it is read where the script has a value line")):
+        parser.add_argument(name, metavar=name.upper(), help=says)
+    words = parser.parse_args()
+    try:
+        script = bytes_of(words.script)
+        basis = read_basis(words.basis) if asks_for_values(script) else []
+        before = bytes_of(words.before) if os.path.exists(words.before) else b""
+        lines = check(script, bytes_of(words.transcript).decode("ascii", "replace"), before, bytes_of(words.after), basis)
+    except Wrong as wrong:
+        complain(f"wrong: {wrong}")
+    print(f"{lines} lines are right")
+
+
+if __name__ == "__main__":
+    main()

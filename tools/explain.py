@@ -1,0 +1,204 @@
+#!/usr/bin/env python3
+"""Explains a refusal of a script or of a basis: the line of an editor, what was found there, and what is wanted.
+
+    explain.py badscript,ROW,FIELD SCRIPT           a script's first fault
+    explain.py badbasis,NAME,PLACE,WORD [FOLDER]    a basis file or a table; the folder (as a rule `.`) has the files
+    explain.py TABLE                                what is taken of a table's file, and what is passed over
+
+The answer is the line that the program printed. It ends with status 1 where the files don't fit the answer, or where a
+table's file isn't taken.
+"""
+from __future__ import annotations
+
+import argparse
+import os
+
+from formats import MOST_BASIS_BYTES, MOST_BASIS_ROWS, MOST_POINTS, Row, Wrong, bytes_of, complain, demand, number_of, rows_in
+from script_lines import Fault, read_script
+from tables import BadBasis, Element, NotXml, basis_rows, factor_of, path_of, read_table, root_of
+
+SHOWN = 60
+BASIS_ROW = ("a row: a day 1900-01-01 to 2199-12-31, the file name of a table (1 to 64 letters, digits, . _ -, the first a letter or "
+             f"a digit), and basis points 0 to {MOST_POINTS} without a leading zero")
+# what is wanted in a table's file where a check applies
+WANTED = {
+    "notdocument": "an XML document: this tag, comment or byte may not stand here, or the file ends too early (no DOCTYPE, no CDATA)",
+    "notable": "the path XTbML, Table, Values, Axis with rates Y in it; it breaks off behind this element",
+    "select": "one axis of ages with ultimate rates; here the rates go by the duration too (a select table)",
+    "scaled": "rates that stand as they are: a ScalingFactor that is absent, empty, 0 or 1",
+    "badage": 'an age: an attribute t with one to three digits, 0 to 130, as in <Y t="35">',
+    "agegap": "an age that is one more than that of the Y before",
+    "badrate": "a rate from 0 to 1 with at most nine places, as 0.00042 or 4.2E-4, and nothing else in the Y",
+}
+CURES = {
+    "badrate": "round the rates to nine decimals; a spreadsheet may have written more",
+    "select": "take the ultimate column as a table of its own",
+    "scaled": "multiply the rates out, and drop the factor",
+}
+
+
+def line_and_column(data: bytes, place: int) -> tuple[int, int]:
+    """The line of an editor and the byte in it, both from 1, of a place in a file."""
+    before = data[:place].replace(b"\r\n", b" \n").replace(b"\r", b"\n")
+    return before.count(b"\n") + 1, place - (before.rfind(b"\n") + 1) + 1
+
+
+def shown(data: bytes) -> str:
+    """The beginning of a text, on one line."""
+    text = data.split(b"\n")[0].rstrip(b"\r").decode("utf-8", "backslashreplace")
+    return text[:SHOWN] + (" .." if len(text) > SHOWN else "")
+
+
+# --- a script ---
+
+def explain_script(answer: str, path: str) -> None:
+    fault = read_script(bytes_of(path))
+    if not isinstance(fault, Fault):
+        raise Wrong(f"{path} has no fault: it isn't the script that was answered {answer}")
+    demand(fault.answer == answer, f"the first fault of {path} is {fault.answer}: it isn't the script that was answered {answer}")
+    if fault.row is None:
+        print(f"{path} is too long\nwanted: {fault.wanted}")
+        return
+    print(f"line {fault.row.line} of {path}, field {fault.field}\n  {fault.row.text}")
+    print(f"found:  {fault.found!r}" if fault.field <= len(fault.row.fields) else f"found:  {fault.found}")
+    print(f"wanted: {fault.wanted}")
+
+
+# --- a basis ---
+
+def row_of(path: str, number: int) -> Row:
+    rows = rows_in(bytes_of(path))
+    demand(1 <= number <= len(rows), f"{path} has {len(rows)} rows: it isn't the file of that answer")
+    return rows[number - 1]
+
+
+def explain_file(name: str, path: str, place: int, word: str) -> None:
+    """A basis file or a table that is absent or too long."""
+    whose = f", which row {place} of the basis names" if place else ""
+    print(f"{name}{whose}: ", end="")
+    if word == "absent":
+        demand(not os.path.lexists(path), f"{path} is there")
+        print(f"there is no such file\nwanted: a file of this name in the folder {os.path.dirname(path) or '.'}")
+        return
+    size = os.path.getsize(path) if os.path.isfile(path) else 0
+    demand(size > MOST_BASIS_BYTES, f"{path} has {size} bytes")
+    print(f"it has {size} bytes\nwanted: at most {MOST_BASIS_BYTES}, which are 4 MiB")
+
+
+def explain_basis_row(path: str, place: int, word: str) -> None:
+    try:
+        basis_rows(bytes_of(path), os.path.basename(path))
+    except BadBasis as bad:
+        demand(bad.word == word, f"the first fault of {path} is {bad}")
+    else:
+        raise Wrong(f"{path} has no bad row")
+    if word == "toomanyrows":
+        print(f"{path} has {len(rows_in(bytes_of(path)))} rows\nwanted: at most {MOST_BASIS_ROWS}")
+        return
+    row = row_of(path, place)
+    wanted = BASIS_ROW if word == "badrow" else f"a day after that of the row before, which is {row_of(path, place - 1).fields[0]}"
+    print(f"line {row.line} of {path}, row {place}\nfound:  {row.text}\nwanted: {wanted}")
+
+
+def explain_table_place(path: str, place: int, word: str) -> None:
+    data = bytes_of(path)
+    demand(place <= len(data), f"{path} has {len(data)} bytes: it isn't the file of that answer")
+    said = check_word(data, os.path.basename(path), place, word)
+    line, column = line_and_column(data, place)
+    print(f"line {line} of {path}, byte {column} in it (byte {place} of the file, counted from 0)")
+    print(f"found:  {shown(data[place:]) or 'the file has ended'}\nwanted: {WANTED[word]}")
+    if said or word in CURES:
+        print(f"cure:   {CURES[word]}" if word in CURES else f"parser: {said}")
+
+
+def check_word(data: bytes, name: str, place: int, word: str) -> str:
+    """Demands that the file has this fault, where the parser can tell; and says what the parser says."""
+    try:
+        read_table(data, name)
+    except BadBasis as bad:
+        demand(str(bad) == f"badbasis,{name},{place},{word}", f"the first fault of {name} is {bad}")
+        return ""
+    except NotXml as wrong:
+        demand(word == "notdocument", str(wrong))
+        return str(wrong)
+    raise Wrong(f"{name} is a table that is taken, as far as an XML parser can tell")
+
+
+def explain_basis(answer: str, folder: str) -> None:
+    words = answer.split(",")
+    place = number_of(words[2], 0, 2**32) if len(words) == 4 else None
+    if place is None:
+        raise Wrong(f"{answer} isn't badbasis,NAME,PLACE,WORD")
+    name, word = words[1], words[3]
+    path = os.path.join(folder, name) if folder != "." else name
+    if word in ("absent", "toolong"):
+        explain_file(name, path, place, word)
+    elif word in ("badrow", "notrising", "toomanyrows"):
+        explain_basis_row(path, place, word)
+    elif word in WANTED:
+        explain_table_place(path, place, word)
+    else:
+        raise Wrong(f"{word} is no word of a bad basis (docs/VALUATION.md)")
+
+
+# --- a table ---
+
+def passed_over(path: list[Element]) -> list[str]:
+    """What of a document isn't read, beside the path to the rates."""
+    root, table, values, axis = path
+    found = []
+    tables = sum(child.name == "Table" for child in root.children)
+    if tables > 1:
+        found.append(f"{tables - 1} further Table: only the first is read")
+    others = sorted({child.name for child in root.children} - {"Table"})
+    others += [f"MetaData/{child.name}" for data in table.children if data.name == "MetaData" for child in data.children
+               if child.name != "ScalingFactor"]
+    further = sum(child.name == "Values" for child in table.children) - 1 + sum(child.name == "Axis" for child in values.children) - 1
+    if further:
+        found.append(f"{further} further Values or Axis in it: only the first is read")
+    extra = sorted({name for row in axis.children if row.name == "Y" for name in row.attributes} - {"t"})
+    if extra:
+        found.append(f"attributes of Y: {', '.join(extra)}")
+    if others:
+        found.append(f"elements: {', '.join(dict.fromkeys(others))}")
+    return found
+
+
+def explain_table(path: str) -> None:
+    data, name = bytes_of(path), os.path.basename(path)
+    demand(len(data) <= MOST_BASIS_BYTES, f"badbasis,{name},..,toolong: {path} has {len(data)} bytes")
+    try:
+        table = read_table(data, name)
+    except BadBasis as bad:
+        place = int(str(bad).split(",")[2])
+        line, _ = line_and_column(data, place)
+        raise Wrong(f"{bad}\nline {line} of {path}: {shown(data[place:])}\nwanted: {WANTED[bad.word]}") from bad
+    found, _ = path_of(root_of(data))
+    factor = factor_of(found[1])
+    print(f"taken of {path}: the rates of the ages {table.first} to {table.last}, from line {line_and_column(data, found[3].at)[0]} on")
+    print(f"  first {float(table.rates[0]):.9f}, last {float(table.rates[-1]):.9f}" + ("" if table.rates[-1] == 1 else ", which is below 1"))
+    print(f"  scaling factor: {factor.text.strip() or 'empty' if factor else 'none'}; the axis is taken as ages, whatever its name says")
+    print("passed over: " + ("; ".join(passed_over(found)) or "nothing"))
+
+
+def main() -> None:
+    parser = argparse.ArgumentParser(description=__doc__, formatter_class=argparse.RawDescriptionHelpFormatter)
+    parser.add_argument("answer", metavar="ANSWER", help="badscript,.. or badbasis,.. as printed, or a table's file")
+    parser.add_argument("files", metavar="SCRIPT | FOLDER", nargs="?", help="the script, or the folder of the basis")
+    words = parser.parse_args()
+    kind = words.answer.split(",")[0]
+    if (kind == "badscript") != (words.files is not None) and kind != "badbasis":
+        parser.error("badscript needs the script's file, and a table nothing else")
+    try:
+        if kind == "badscript":
+            explain_script(words.answer, words.files)
+        elif kind == "badbasis":
+            explain_basis(words.answer, words.files or ".")
+        else:
+            explain_table(words.answer)
+    except Wrong as wrong:
+        complain(wrong)
+
+
+if __name__ == "__main__":
+    main()
