@@ -55,7 +55,7 @@ module _ {D : Type 0} (g : Ghosts D) (old : D) (journal : Journal D g) (started 
     alone = looked_alone g old journal started counts_now reads_image new none.looked;
   }
 
-  module _ {W : Type 0} {w : WatcherGhosts W} (watchers : W) (fresh : w.told watchers []) (state : OfficeState D W g w)
+  module _ {W : Type 0} {w : WatcherGhosts W} (watchers : W) (fresh : (before : ℕ) → w.told watchers before []) (state : OfficeState D W g w)
       (made : IsOfficeOf journal old watchers state) where
     -- the state with what it was opened on in plain sight
     abbrev known : OfficeState D W g w
@@ -138,7 +138,7 @@ module _ {D : Type 0} (g : Ghosts D) (old : D) (journal : Journal D g) (started 
             images_since = leaves_since;
             fault_count = quiet;
             alone = λ still. looked_alone g old journal started counts_now reads_image (disk_of state) made.stays.disk;
-            told = subst (λ these. w.told these []) (sym made.watched) fresh;
+            told = subst (λ these. w.told these (length opening.commands) []) (sym made.watched) (fresh (length opening.commands));
             inside = record {
               later = λ (honest : g.honest (disk_of state)).
                   let looks = made.stays.disk.looks honest in

@@ -33,8 +33,8 @@ module _ {B : Type 0} (g : Ghosts B) where
 
   -- all of them, each at its own place
   pub record AreTold (before : ℕ) (commands : List Command) (auditors : List Auditor) (places : List (Place B)) : Type 0
-      where
-    pub each : AllZip (HasHeard before commands) auditors places
+    where
+      pub each : AllZip (HasHeard before commands) auditors places
 
   -- there is room for one command more, if it goes on
   abbrev pub HasSpareRoom : Place B → Type 0
