@@ -5,6 +5,10 @@ use Rattle.std.proofs.Common.{ap}
 use Rattle.outside_io.specs.declared.failures.FetchFault.{FetchFault}
 use Rattle.outside_io.specs.declared.failures.FetchFault.TheVariants as fault
 
+-- the bytes at each name, where there is a file
+abbrev pub Files : Type 0
+Files = List ℕ → Option (List ℕ)
+
 -- what was told of a file
 pub data Told : Type 0 where
   Found : List ℕ → Told
@@ -23,7 +27,7 @@ IsTold file Absent = file ≡ None
 IsTold file TooLong = IsSomeAnd file (λ bytes. 4194304 < length bytes)
 
 -- each answer is the one that these files give
-abbrev pub Agrees : List Answer → (List ℕ → Option (List ℕ)) → Type 0
+abbrev pub Agrees : List Answer → Files → Type 0
 Agrees [] files = ⊤
 Agrees (answer ∷ earlier) files = Agrees earlier files × IsTold (files answer.name) answer.told
 
@@ -36,13 +40,13 @@ Answers name (Err fault.Failed) before now = now ≡ before
 Answers name (Err fault.NoMemory) before now = now ≡ before
 
 -- these are those files
-abbrev pub AreFiles : (List ℕ → Option (List ℕ)) → (List ℕ → Option (List ℕ)) → Type 0
+abbrev pub AreFiles : Files → Files → Type 0
 AreFiles files at = (name : List ℕ) → at name ≡ files name
 
 -- a shelf that tells its files agrees with them
-pub same_files : (one other : List ℕ → Option (List ℕ)) → Some one ≡ Some other → AreFiles one other
-same_files one other same name = let equal : other ≡ one = cc in ap (λ (at : List ℕ → Option (List ℕ)). at name) equal
+pub same_files : (one other : Files) → Some one ≡ Some other → AreFiles one other
+same_files one other same name = let equal : other ≡ one = cc in ap (λ (at : Files). at name) equal
 
 -- one that tells none
-pub no_files : (files : List ℕ → Option (List ℕ)) (P : Type 0) → None ≡ Some files → P
+pub no_files : (files : Files) (P : Type 0) → None ≡ Some files → P
 no_files files P same = absurd (cc)

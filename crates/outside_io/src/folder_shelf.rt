@@ -1,7 +1,7 @@
 // The files of the folder in which the program runs, as a shelf. It notes its answers, for contracts alone.
 ghost use Rattle.std.specs.Prelude.{◌≡◌, ℕ, ◌<◌, ◌≤◌, [], None, Some, Option, List, length, vec_len, IfOk, IsSomeAnd, IsErrOf};
 ghost use Rattle.outside_io.specs.Faults.{Rose};
-ghost use Rattle.outside_io.specs.Shelves.{Agrees, Answers as Keeps, no_files};
+ghost use Rattle.outside_io.specs.Shelves.{Files, Agrees, Answers as Keeps, no_files};
 
 use crate::answers::Answers;
 use crate::shelves::SHELF_LIMIT;
@@ -47,16 +47,17 @@ impl<R: Files> Shelf for FolderShelf<R> {
     }
 
     fn fetch(&mut self, alloc: Global, name: &str) -> Result<Vec<u8>, FetchFault>
-        ensures agreed { (at : List ℕ → Option (List ℕ)) → Agrees self.new.answers at → Agrees self.old.answers at }
-        ensures found { (at : List ℕ → Option (List ℕ)) → Agrees self.new.answers at
+        ensures agreed { (at : Files) → Agrees self.new.answers at → Agrees self.old.answers at }
+        ensures found { (at : Files) → Agrees self.new.answers at
             → IfOk result (λ bytes. at name.now ≡ Some bytes.items) }
         ensures within { IfOk result (λ bytes. vec_len bytes ≤ SHELF_LIMIT) }
-        ensures absent { (at : List ℕ → Option (List ℕ)) → Agrees self.new.answers at
+        ensures absent { (at : Files) → Agrees self.new.answers at
             → IsErrOf result FetchFault.Absent → at name.now ≡ None }
-        ensures too_long { (at : List ℕ → Option (List ℕ)) → Agrees self.new.answers at
+        ensures too_long { (at : Files) → Agrees self.new.answers at
             → IsErrOf result FetchFault.TooLong
             → IsSomeAnd (at name.now) (λ bytes. SHELF_LIMIT < length bytes) }
         ensures failed { IsErrOf result FetchFault.Failed → Rose self.old.faults self.new.faults }
+        ensures counted { self.old.faults < self.new.faults → IsErrOf result FetchFault.Failed }
         ensures later { self.old.faults ≤ self.new.faults }
         ensures kept { Keeps name.now result self.old.answers self.new.answers }
     {
