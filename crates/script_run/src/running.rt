@@ -9,7 +9,7 @@ ghost use Rattle.turn_lock.specs.Passes.{PassFacts};
 ghost use Rattle.script_run.specs.Running.{EndsByName, EndsLanes, EndsRun};
 ghost use Rattle.script_run.specs.Outcome.{EndsScript};
 ghost use Rattle.script_run.specs.Script.{asks_for_values};
-ghost use Rattle.program_endings.specs.Writing.{between, shelf_between};
+ghost use Rattle.program_endings.specs.Writing.{between, input_between, shelf_between};
 ghost use Rattle.transcript_text.specs.Lanes.{AreScriptLanes};
 ghost use Rattle.script_run.specs.inside.Ran.{EndsRan, EndsTold};
 ghost use Rattle.transcript_text.specs.Told.{IsWritable};
@@ -53,8 +53,8 @@ pub fn run<
     gate: &G,
 ) -> Finished<D>
     requires told { (before : ℕ) → W.told watchers before [] }
-    ensures ends { EndsRun D.Disk disk result.disk name.now (W.handed watchers) (between S.faults S.left input.old input.new)
-        (between K.faults K.written output.old output.new) (shelf_between H.faults H.files shelf.old shelf.new)
+    ensures ends { EndsRun D.Disk disk result.disk name.now (W.handed watchers) (input_between S.faults S.left S.given S.ended input.old input.new)
+        (between K.faults K.written output.old output.new) (shelf_between H.faults H.agrees shelf.old shelf.new)
         (shelf.new ≡ shelf.old) result.ending }
     ensures files { H.files shelf.new ≡ H.files shelf.old }
 {
@@ -91,7 +91,7 @@ fn run_script<
 ) -> Finished<D>
     requires lanes { AreScriptLanes lanes.now }
     requires told { (before : ℕ) → W.told watchers before [] }
-    ensures ends { EndsLanes D.Disk disk result.disk lanes.now name.now (W.handed watchers) (shelf_between H.faults H.files shelf.old shelf.new)
+    ensures ends { EndsLanes D.Disk disk result.disk lanes.now name.now (W.handed watchers) (shelf_between H.faults H.agrees shelf.old shelf.new)
         (between K.faults K.written output.old output.new) (shelf.new ≡ shelf.old) result.ending }
     ensures files { H.files shelf.new ≡ H.files shelf.old }
 {
@@ -123,7 +123,7 @@ fn run_by_name<
 ) -> Finished<D>
     requires lanes { AreScriptLanes lanes.now }
     requires told { (before : ℕ) → W.told watchers before [] }
-    ensures ends { EndsByName D.Disk disk result.disk lanes.now name.now (W.handed watchers) (shelf_between H.faults H.files shelf.old shelf.new)
+    ensures ends { EndsByName D.Disk disk result.disk lanes.now name.now (W.handed watchers) (shelf_between H.faults H.agrees shelf.old shelf.new)
         (between K.faults K.written output.old output.new) result.ending }
     ensures files { H.files shelf.new ≡ H.files shelf.old }
 {
