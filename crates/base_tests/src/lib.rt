@@ -17,3 +17,5 @@ mod policy_machine_tests;
 mod policy_types_tests;
 #[cfg(test)]
 mod statements_tests;
+#[cfg(test)]
+mod text_lines_tests;

@@ -92,9 +92,5 @@ fn whole_numbers_are_read(rt: HostRuntime) -> Result<(), Fail> {
         parse_number(b"18446744073709551615", u64::MAX),
         Some(u64::MAX)
     );
-
-    let text = Text::new(b"0.05".to_vec(rt.alloc())?);
-    assert_eq!(rt; text.as_slice(), b"0.05".as_slice());
-    assert_eq!(rt; text.into_vec().as_slice(), b"0.05".as_slice());
     Ok(())
 }

@@ -9,7 +9,7 @@ use Rattle.basis_book.specs.declared.fault.BasisFault.TheVariants.{TooManyRows, 
 use Rattle.std.proofs.lemmas.List.Elements.{All-nil, All-cons}
 use Rattle.basis_book.specs.Dated.{AreBounded}
 use Rattle.basis_book.specs.Row.{IsRow}
-use Rattle.basis_book.specs.Rows.{DaysRise, IsAfter, Falls, AreRows, StopsAt, IsFirstFall, IsFault}
+use Rattle.basis_book.specs.Rows.{DaysRise, IsAfter, Falls, AreRows, StopsAt, IsFirstFall, IsRowsFault}
 
 DaysRise-push : (rows : List BasisRow) (row : BasisRow) → DaysRise rows → IsAfter rows row.from_day → DaysRise (rows ++ row ∷ [])
 DaysRise-push [] row h a = tt
@@ -39,7 +39,7 @@ StopsAt-more : (rows : List (List (List ℕ))) (n : ℕ) (before : List BasisRow
 StopsAt-more rows n before fields next h =
     record { good = h.good; rest = h.rest ++ next ∷ []; split = ap (λ xs. xs ++ next ∷ []) h.split ∙ append_assoc h.good (fields ∷ h.rest) (next ∷ []); number = h.number; right = h.right }
 
-pub IsFault-more : (rows : List (List (List ℕ))) (next : List (List ℕ)) (fault : BasisFault) → length (rows ++ next ∷ []) ≤ 1000 → IsFault rows fault → IsFault (rows ++ next ∷ []) fault
+pub IsFault-more : (rows : List (List (List ℕ))) (next : List (List ℕ)) (fault : BasisFault) → length (rows ++ next ∷ []) ≤ 1000 → IsRowsFault rows fault → IsRowsFault (rows ++ next ∷ []) fault
 IsFault-more rows next TooManyRows few h = absurd (omega (arith, length_push rows next))
 IsFault-more rows next (BadBasisRow n) few h =
     let b = h.1 in (few, record { before = b.before; fields = b.fields; stops = StopsAt-more rows n b.before b.fields next b.stops; bad = b.bad })

@@ -15,9 +15,9 @@ use Rattle.basis_book.specs.declared.fault.BasisFault.{BasisFault}
 use Rattle.basis_book.specs.declared.fault.BasisFault.TheVariants.{TooManyRows, BadBasisRow, NotRising, NoMemory}
 use Rattle.basis_book.specs.Points.{IsPoints}
 use Rattle.basis_book.specs.Row.{IsRow}
-use Rattle.basis_book.specs.Rows.{DaysRise, IsAfter, Falls, AreRows, StopsAt, IsFirstBad, IsFirstFall, IsFault}
+use Rattle.basis_book.specs.Rows.{DaysRise, IsAfter, Falls, AreRows, StopsAt, IsFirstBad, IsFirstFall, IsRowsFault}
 use Rattle.basis_book.proofs.ListCuts.{compare_cuts}
-use Rattle.basis_book.specs.File.{HasRows, IsBasisFile, IsFileFault, IsDue, Gives}
+use Rattle.basis_book.specs.File.{HasRows, IsBasisFile, IsFileFault, IsBookAnswer, GivesBook}
 
 -- the records of a text are one list
 one_reached : (cfg : Config) (s : State) (xs : List ℕ) (a b : List (List (List ℕ))) → AreRecords cfg s xs a → AreRecords cfg s xs b → a ≡ b
@@ -160,7 +160,7 @@ abbrev IsGiven : BasisFault → Type 0
 IsGiven NoMemory = ⊥
 IsGiven _ = Unit {0}
 
-one_fault : (rows : List (List (List ℕ))) (f g : BasisFault) → IsGiven f → IsGiven g → IsFault rows f → IsFault rows g → f ≡ g
+one_fault : (rows : List (List (List ℕ))) (f g : BasisFault) → IsGiven f → IsGiven g → IsRowsFault rows f → IsRowsFault rows g → f ≡ g
 one_fault rows NoMemory g x y h k = absurd x
 one_fault rows TooManyRows NoMemory x y h k = absurd y
 one_fault rows TooManyRows TooManyRows x y h k = refl
@@ -177,14 +177,14 @@ one_fault rows (NotRising n) (BadBasisRow m) x y h k = absurd (bad_or_fall rows 
 one_fault rows (NotRising n) (NotRising m) x y h k =
     ap (λ (i : ℕ). NotRising i) (one_stop rows n m h.1.before k.1.before h.1.fields k.1.fields h.1.stops k.1.stops (fall_is_wrong rows n h.1) (fall_is_wrong rows m k.1)).0
 
-right_or_fault : (rows : List (List (List ℕ))) (found : List BasisRow) (f : BasisFault) → IsGiven f → length rows ≤ 1000 → AreRows rows found → IsFault rows f → ⊥
+right_or_fault : (rows : List (List (List ℕ))) (found : List BasisRow) (f : BasisFault) → IsGiven f → length rows ≤ 1000 → AreRows rows found → IsRowsFault rows f → ⊥
 right_or_fault rows found NoMemory x few h k = x
 right_or_fault rows found TooManyRows x few h k = omega (arith, k)
 right_or_fault rows found (BadBasisRow n) x few h k = no_wrong rows n found k.1.before k.1.fields h k.1.stops (bad_is_wrong rows n k.1)
 right_or_fault rows found (NotRising n) x few h k = no_wrong rows n found k.1.before k.1.fields h k.1.stops (fall_is_wrong rows n k.1)
 
 -- a fault that is given, as it is stated of a file
-of_file : (bytes : List ℕ) (f : BasisFault) → IsGiven f → IsFileFault bytes f → (rows : List (List (List ℕ))) × HasRows bytes rows × IsFault rows f
+of_file : (bytes : List ℕ) (f : BasisFault) → IsGiven f → IsFileFault bytes f → (rows : List (List (List ℕ))) × HasRows bytes rows × IsRowsFault rows f
 of_file bytes NoMemory x h = absurd x
 of_file bytes TooManyRows x h = h
 of_file bytes (BadBasisRow n) x h = h
@@ -199,7 +199,7 @@ same_fault : (bytes : List ℕ) (f g : BasisFault) → IsGiven f → IsGiven g �
 same_fault bytes f g x y h k =
     let a = of_file bytes f x h in
     let b = of_file bytes g y k in
-    one_fault b.0 f g x y (subst (λ xs. IsFault xs f) (one_file bytes a.0 b.0 a.1 b.1) a.2) b.2
+    one_fault b.0 f g x y (subst (λ xs. IsRowsFault xs f) (one_file bytes a.0 b.0 a.1 b.1) a.2) b.2
 
 not_right_and_wrong : (bytes : List ℕ) (found : List BasisRow) (f : BasisFault) → IsGiven f → IsBasisFile bytes found → IsFileFault bytes f → ⊥
 not_right_and_wrong bytes found f x h k =
@@ -208,14 +208,14 @@ not_right_and_wrong bytes found f x h k =
     right_or_fault b.0 found f x (subst (λ xs. length xs ≤ 1000) rows h.2) (subst (λ xs. AreRows xs found) rows h.3) b.2
 
 -- a file has one answer
-gives_found : (bytes : List ℕ) (found : List BasisRow) (r : Result (List BasisRow) BasisFault) → IsBasisFile bytes found → IfOk r (IsBasisFile bytes) → IfErr r (IsFileFault bytes) → Gives r (Ok found)
+gives_found : (bytes : List ℕ) (found : List BasisRow) (r : Result (List BasisRow) BasisFault) → IsBasisFile bytes found → IfOk r (IsBasisFile bytes) → IfErr r (IsFileFault bytes) → GivesBook r (Ok found)
 gives_found bytes found (Ok x) h ok err = ap (λ (y : List BasisRow). Ok y) (same_rows bytes found x h ok)
 gives_found bytes found (Err NoMemory) h ok err = tt
 gives_found bytes found (Err TooManyRows) h ok err = absurd (not_right_and_wrong bytes found TooManyRows tt h err)
 gives_found bytes found (Err (BadBasisRow n)) h ok err = absurd (not_right_and_wrong bytes found (BadBasisRow n) tt h err)
 gives_found bytes found (Err (NotRising n)) h ok err = absurd (not_right_and_wrong bytes found (NotRising n) tt h err)
 
-gives_fault : (bytes : List ℕ) (f : BasisFault) (r : Result (List BasisRow) BasisFault) → IsGiven f → IsFileFault bytes f → IfOk r (IsBasisFile bytes) → IfErr r (IsFileFault bytes) → Gives r (Err f)
+gives_fault : (bytes : List ℕ) (f : BasisFault) (r : Result (List BasisRow) BasisFault) → IsGiven f → IsFileFault bytes f → IfOk r (IsBasisFile bytes) → IfErr r (IsFileFault bytes) → GivesBook r (Err f)
 gives_fault bytes f (Ok x) g h ok err = absurd (not_right_and_wrong bytes x f g ok h)
 gives_fault bytes f (Err NoMemory) g h ok err = tt
 gives_fault bytes f (Err TooManyRows) g h ok err = ap (λ (y : BasisFault). Err y) (same_fault bytes f TooManyRows g tt h err)
@@ -223,7 +223,7 @@ gives_fault bytes f (Err (BadBasisRow n)) g h ok err = ap (λ (y : BasisFault). 
 gives_fault bytes f (Err (NotRising n)) g h ok err = ap (λ (y : BasisFault). Err y) (same_fault bytes f (NotRising n) g tt h err)
 
 pub gives_due : (bytes : List ℕ) (r : Result (List BasisRow) BasisFault) → IfOk r (IsBasisFile bytes) → IfErr r (IsFileFault bytes)
-    → (answer : Result (List BasisRow) BasisFault) → IsDue bytes answer → Gives r answer
+    → (answer : Result (List BasisRow) BasisFault) → IsBookAnswer bytes answer → GivesBook r answer
 gives_due bytes r ok err (Ok found) h = gives_found bytes found r h ok err
 gives_due bytes r ok err (Err NoMemory) h = absurd h
 gives_due bytes r ok err (Err TooManyRows) h = gives_fault bytes TooManyRows r tt h ok err

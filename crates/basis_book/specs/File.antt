@@ -6,7 +6,7 @@ use Rattle.csv.specs.declared.parser.State.TheVariants as st
 use Rattle.basis_book.specs.declared.row.BasisRow.{BasisRow}
 use Rattle.basis_book.specs.declared.fault.BasisFault.{BasisFault}
 use Rattle.basis_book.specs.declared.fault.BasisFault.TheVariants.{NoMemory}
-use Rattle.basis_book.specs.Rows.{AreRows, IsFault}
+use Rattle.basis_book.specs.Rows.{AreRows, IsRowsFault}
 
 -- the rows of a file, each the list of its fields
 abbrev pub HasRows : List ℕ → List (List (List ℕ)) → Type 0
@@ -19,15 +19,15 @@ IsBasisFile bytes found = (rows : List (List (List ℕ))) × HasRows bytes rows 
 -- the file has this fault. Memory may always be refused.
 abbrev pub IsFileFault : List ℕ → BasisFault → Type 0
 IsFileFault bytes NoMemory = ⊤
-IsFileFault bytes fault = (rows : List (List (List ℕ))) × HasRows bytes rows × IsFault rows fault
+IsFileFault bytes fault = (rows : List (List (List ℕ))) × HasRows bytes rows × IsRowsFault rows fault
 
 -- the one answer to a file, where memory isn't refused
-abbrev pub IsDue : List ℕ → Result (List BasisRow) BasisFault → Type 0
-IsDue bytes (Ok found) = IsBasisFile bytes found
-IsDue bytes (Err NoMemory) = ⊥
-IsDue bytes (Err fault) = IsFileFault bytes fault
+abbrev pub IsBookAnswer : List ℕ → Result (List BasisRow) BasisFault → Type 0
+IsBookAnswer bytes (Ok found) = IsBasisFile bytes found
+IsBookAnswer bytes (Err NoMemory) = ⊥
+IsBookAnswer bytes (Err fault) = IsFileFault bytes fault
 
 -- what is given is this answer, unless memory was refused
-abbrev pub Gives : Result (List BasisRow) BasisFault → Result (List BasisRow) BasisFault → Type 0
-Gives (Err NoMemory) answer = ⊤
-Gives result answer = answer ≡ result
+abbrev pub GivesBook : Result (List BasisRow) BasisFault → Result (List BasisRow) BasisFault → Type 0
+GivesBook (Err NoMemory) answer = ⊤
+GivesBook result answer = answer ≡ result

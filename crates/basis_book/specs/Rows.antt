@@ -55,8 +55,8 @@ pub record IsFirstFall (rows : List (List (List ℕ))) (n : ℕ) : Type 0 where
   pub falls : Falls before row.from_day
 
 -- the fault of the rows: that they are more than 1,000 comes before all others. Memory may always be refused.
-abbrev pub IsFault : List (List (List ℕ)) → BasisFault → Type 0
-IsFault rows TooManyRows = 1000 < length rows
-IsFault rows (BadBasisRow n) = (length rows ≤ 1000) × IsFirstBad rows n
-IsFault rows (NotRising n) = (length rows ≤ 1000) × IsFirstFall rows n
-IsFault rows NoMemory = ⊤
+abbrev pub IsRowsFault : List (List (List ℕ)) → BasisFault → Type 0
+IsRowsFault rows TooManyRows = 1000 < length rows
+IsRowsFault rows (BadBasisRow n) = (length rows ≤ 1000) × IsFirstBad rows n
+IsRowsFault rows (NotRising n) = (length rows ≤ 1000) × IsFirstFall rows n
+IsRowsFault rows NoMemory = ⊤

@@ -4,7 +4,7 @@ ghost use Rattle.basis_book.specs.Dated.{AreBounded};
 ghost use Rattle.basis_book.specs.declared.row.BasisRow.{BasisRow};
 ghost use Rattle.basis_book.specs.declared.fault.BasisFault.{BasisFault as AFault};
 ghost use Rattle.basis_book.specs.inside.Fields.{AreThree};
-ghost use Rattle.basis_book.specs.File.{Gives, HasRows, IsBasisFile, IsDue, IsFileFault};
+ghost use Rattle.basis_book.specs.File.{GivesBook, HasRows, IsBasisFile, IsBookAnswer, IsFileFault};
 ghost use Rattle.basis_book.specs.inside.Judged.{Judged};
 
 use crate::fault::BasisFault;
@@ -26,7 +26,7 @@ pub fn read_basis(alloc: Global, bytes: &[u8]) -> Result<BasisRows, BasisFault>
     ensures faults { IfErr result (IsFileFault bytes.now) }
     // Whatever answer is due is given, unless memory is refused.
     ensures due { (answer : Result (List BasisRow) AFault)
-        → IsDue bytes.now answer → Gives result answer }
+        → IsBookAnswer bytes.now answer → GivesBook result answer }
 {
     read_rows(alloc, bytes)
 }

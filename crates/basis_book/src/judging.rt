@@ -1,7 +1,7 @@
 ghost use Rattle.std.specs.Prelude.{◌≡◌, ℕ, ◌+◌, ◌≤◌, ◌<◌, [], ◌∷◌, ◌++◌, List, OnOk, IfOk, MatchBool, MatchOption, MatchResult, length, Some, None};
 ghost use Rattle.basis_book.specs.declared.row.BasisRow.{BasisRow as ARow};
 ghost use Rattle.basis_book.specs.Row.{IsRow};
-ghost use Rattle.basis_book.specs.Rows.{AreRows, IsAfter, Falls, IsFault};
+ghost use Rattle.basis_book.specs.Rows.{AreRows, IsAfter, Falls, IsRowsFault};
 ghost use Rattle.basis_book.specs.Dated.{AreBounded};
 ghost use Rattle.basis_book.specs.inside.Fields.{AreThree, list_of};
 ghost use Rattle.basis_book.specs.inside.Judged.{Judged};
@@ -62,7 +62,7 @@ fn judge(
         → AreThree row fields.entry → AreRows rows found.old.items
         → number ≡ length rows + 1 → number ≤ 1000
         → MatchResult result (λ _. AreRows (rows ++ row ∷ []) found.new.items)
-        (IsFault (rows ++ row ∷ [])) }
+        (IsRowsFault (rows ++ row ∷ [])) }
 {
     let Some(fields) = fields else {
         return Err(BasisFault::BadBasisRow(number));
@@ -124,7 +124,7 @@ impl Reading {
         ensures { (rows : List (List (List ℕ))) → Judged rows self
             → MatchResult result
             (λ found. (length rows ≤ 1000) × AreRows rows found × AreBounded found)
-            (IsFault rows) }
+            (IsRowsFault rows) }
     {
         if self.count > MOST_ROWS {
             return Err(BasisFault::TooManyRows);

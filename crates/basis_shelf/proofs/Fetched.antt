@@ -1,7 +1,8 @@
--- What was fetched so far, where the shelf tells its files.
-use Rattle.std.proofs.Common.{◌≡◌, ℕ, ◌+◌, ◌<◌, Bool, true, false, cond, List, [], ◌∷◌, ◌++◌, length, map, take, drop, get_or, All, Option, Some, None, IsSome, IfSome, unwrap_or, Result, Ok, Err, IfOk, IfErr, refl, sym, ap, ◌∙◌, subst, arith}
+-- What was fetched so far, of files that the shelf's answers agree with.
+use Rattle.std.proofs.Common.{◌≡◌, ◌⊎◌, inl, inr, ℕ, ◌+◌, ◌<◌, ◌≤◌, Bool, true, false, cond, List, [], ◌∷◌, ◌++◌, length, map, take, drop, get_or, All, Option, Some, None, IsSome, IfSome, unwrap_or, Result, Ok, Err, IfOk, IfErr, refl, sym, ap, ◌∙◌, subst, arith}
 use Rattle.std.specs.List.{AllZip}
 use Rattle.std.specs.Bool.{Decides}
+use Rattle.std.proofs.lemmas.Bool.{cases_lt}
 use Rattle.std.proofs.lemmas.List.{take-append-drop, drop_more, length-take-le}
 use Rattle.std.proofs.lemmas.List.Elements.{All-head, All-tail, All-weaker}
 use Rattle.rate_table.specs.Rates.{Rates}
@@ -10,11 +11,21 @@ use Rattle.basis_book.specs.Dated.{Dated, dated, IsFirstMissing}
 use Rattle.basis_shelf.specs.declared.fault.BadBasis.{BadBasis}
 use Rattle.basis_shelf.specs.declared.fault.NoBasis.{NoBasis}
 use Rattle.basis_shelf.specs.declared.fault.NoBasis.TheVariants.{Bad, ReadFault, NoMemory}
-use Rattle.basis_shelf.specs.Bases.{IsTable, HasTable, AreRowsOf, IsEntry, IsBasis}
-use Rattle.basis_shelf.specs.FirstBad.{IsBadTable, IsFirstBadRow, IsFirstBad}
-use Rattle.basis_shelf.specs.Answers.{IsDue, Gives, IfBad}
+use Rattle.basis_shelf.specs.Bases.{IsTableNamed, HasTable, AreRowsNamed, IsEntry, IsBasis}
+use Rattle.basis_shelf.specs.FirstBad.{IsBadTable, IsFirstBadRow, IsFirstBadFile}
+use Rattle.basis_shelf.specs.Answers.{IsBasisAnswer, GivesBasis, IfBad}
 use Rattle.basis_shelf.specs.inside.Parts.{IsBadTableFile, AreTables}
 use Rattle.basis_shelf.proofs.OneBasis.{one_answer, at_cut}
+
+-- ---- a call that succeeded
+
+rose_or_not : {T E : Type 0} → (before mid now : ℕ) (x : T) (e : E) (r : Result T E) → r ≡ Ok x → (mid < now → r ≡ Err e) → mid ≤ before → (mid < now) ⊎ (now ≤ mid) → now ≤ before
+rose_or_not before mid now x e r is told so_far (inl rose) = absurd (let both = told rose in cc)
+rose_or_not before mid now x e r is told so_far (inr not) = omega arith
+
+-- it left the count of faults
+pub not_risen : {T E : Type 0} → (before mid now : ℕ) (x : T) (e : E) → (mid < now → Ok x ≡ Err e) → mid ≤ before → now ≤ before
+not_risen before mid now x e told so_far = rose_or_not before mid now x e (Ok x) refl told so_far (cases_lt mid now)
 
 -- ---- one table more
 
@@ -23,22 +34,16 @@ known_still v o true h = refl
 known_still v o false h = h
 
 held_at : (files : List ℕ → Option (List ℕ)) (v : Rates) (name other : List ℕ) (o : Option Rates) (b : Bool) → Decides b (name ≡ other)
-    → IsTable files name v → IfSome o (IsTable files other) → IfSome (cond b (Some v) o) (IsTable files other)
-held_at files v name other o true d h k = subst (λ (n : List ℕ). IsTable files n v) (d.0 refl) h
+    → IsTableNamed files name v → IfSome o (IsTableNamed files other) → IfSome (cond b (Some v) o) (IsTableNamed files other)
+held_at files v name other o true d h k = subst (λ (n : List ℕ). IsTableNamed files n v) (d.0 refl) h
 held_at files v name other o false d h k = k
 
-pub tables_still : (told : Option (List ℕ → Option (List ℕ))) (v : Rates) (name : List ℕ) (before now : List ℕ → Option Rates) (same : List ℕ → List ℕ → Bool)
+pub tables_still : (files : List ℕ → Option (List ℕ)) (v : Rates) (name : List ℕ) (before now : List ℕ → Option Rates) (same : List ℕ → List ℕ → Bool)
     → ((x y : List ℕ) → Decides (same x y) (x ≡ y)) → ((other : List ℕ) → now other ≡ cond (same name other) (Some v) (before other))
-    → IfSome told (λ files. IsTable files name v) → IfSome told (λ files. AreTables files before → AreTables files now)
-tables_still None v name before now same decides is h = tt
-tables_still (Some files) v name before now same decides is h = λ right other.
-    subst (λ (o : Option Rates). IfSome o (IsTable files other)) (sym (is other))
+    → IsTableNamed files name v → AreTables files before → AreTables files now
+tables_still files v name before now same decides is h right = λ other.
+    subst (λ (o : Option Rates). IfSome o (IsTableNamed files other)) (sym (is other))
     (held_at files v name other (before other) (same name other) (decides name other) h (right other))
-
-pub still_right : (told : Option (List ℕ → Option (List ℕ))) (before now : List ℕ → Option Rates) → IfSome told (λ files. AreTables files before → AreTables files now)
-    → IfSome told (λ files. AreTables files before) → IfSome told (λ files. AreTables files now)
-still_right None before now h k = tt
-still_right (Some files) before now h k = h k
 
 -- ---- the first row that has no table
 
@@ -46,7 +51,7 @@ cut_at : (rows : List BasisRow) (i : ℕ) (row : BasisRow) → i < length rows �
 cut_at rows i row h e =
     sym (take-append-drop i rows) ∙ ap (λ (rest : List BasisRow). take i rows ++ rest) (drop_more rows i row h ∙ ap (λ (r : BasisRow). r ∷ drop (i + 1) rows) (sym e))
 
-has_table : (files : List ℕ → Option (List ℕ)) (name : List ℕ) (o : Option Rates) → IfSome o (IsTable files name) → IsSome o → HasTable files name
+has_table : (files : List ℕ → Option (List ℕ)) (name : List ℕ) (o : Option Rates) → IfSome o (IsTableNamed files name) → IsSome o → HasTable files name
 has_table files name (Some v) h some = (v, h)
 has_table files name None h some = absurd (cc)
 
@@ -62,13 +67,12 @@ first_row files rows i row t bad within is known right wrong = record {
   wrong = subst (λ (k : ℕ). IsBadTable files row.table (k + 1) bad.word bad.place) (sym (length-take-le i rows (omega arith))) wrong.1;
 }
 
-pub row_is_bad : (told : Option (List ℕ → Option (List ℕ))) (rows : List BasisRow) (i : ℕ) (row : BasisRow) (t : List ℕ → Option Rates) (why : NoBasis) → i < length rows → row ≡ get_or rows i row
-    → All (λ (r : BasisRow). IsSome (t r.table)) (take i rows) → IfSome told (λ files. AreTables files t) → IfSome told (λ files. IfBad (IsBadTableFile files row.table (i + 1)) why)
-    → IfSome told (λ files. IfBad (IsFirstBadRow files rows) why)
-row_is_bad None rows i row t why within is known right wrong = tt
-row_is_bad (Some files) rows i row t (Bad bad) within is known right wrong = first_row files rows i row t bad within is known right wrong
-row_is_bad (Some files) rows i row t ReadFault within is known right wrong = tt
-row_is_bad (Some files) rows i row t NoMemory within is known right wrong = tt
+pub row_is_bad : (files : List ℕ → Option (List ℕ)) (rows : List BasisRow) (i : ℕ) (row : BasisRow) (t : List ℕ → Option Rates) (why : NoBasis) → i < length rows → row ≡ get_or rows i row
+    → All (λ (r : BasisRow). IsSome (t r.table)) (take i rows) → AreTables files t → IfBad (IsBadTableFile files row.table (i + 1)) why
+    → IfBad (IsFirstBadRow files rows) why
+row_is_bad files rows i row t (Bad bad) within is known right wrong = first_row files rows i row t bad within is known right wrong
+row_is_bad files rows i row t ReadFault within is known right wrong = tt
+row_is_bad files rows i row t NoMemory within is known right wrong = tt
 
 -- ---- the whole
 
@@ -76,7 +80,7 @@ pub none_missing : (t : List ℕ → Option Rates) (rows : List BasisRow) (n : �
 none_missing t rows n h k =
     k.missing (at_cut (λ (r : BasisRow). IsSome (t r.table)) k.before k.row k.after (subst (λ (xs : List BasisRow). All (λ (r : BasisRow). IsSome (t r.table)) xs) k.split h))
 
-table_of : (files : List ℕ → Option (List ℕ)) (name : List ℕ) (o : Option Rates) (d : Rates) → IfSome o (IsTable files name) → IsSome o → IsTable files name (unwrap_or o d)
+table_of : (files : List ℕ → Option (List ℕ)) (name : List ℕ) (o : Option Rates) (d : Rates) → IfSome o (IsTableNamed files name) → IsSome o → IsTableNamed files name (unwrap_or o d)
 table_of files name (Some v) d h some = h
 table_of files name None d h some = absurd (cc)
 
@@ -94,25 +98,18 @@ entries_of files t (row ∷ rows) right known =
     let some = λ (r : BasisRow). IsSome (t r.table) in
     (entry_of files t row right (All-head some row rows known), entries_of files t rows right (All-tail some row rows known))
 
-pub basis_is : (told : Option (List ℕ → Option (List ℕ))) (name : List ℕ) (t : List ℕ → Option Rates) (rows : List BasisRow) (basis : List Dated) → basis ≡ map (dated t) rows
-    → IfSome told (λ files. AreRowsOf files name rows) → IfSome told (λ files. AreTables files t) → All (λ (r : BasisRow). IsSome (t r.table)) rows → IfSome told (λ files. IsBasis files name basis)
-basis_is None name t rows basis is file right known = tt
-basis_is (Some files) name t rows basis is file right known = record {
+pub basis_is : (files : List ℕ → Option (List ℕ)) (name : List ℕ) (t : List ℕ → Option Rates) (rows : List BasisRow) (basis : List Dated) → basis ≡ map (dated t) rows
+    → AreRowsNamed files name rows → AreTables files t → All (λ (r : BasisRow). IsSome (t r.table)) rows → IsBasis files name basis
+basis_is files name t rows basis is file right known = record {
   rows = rows;
   file = file;
   each = subst (λ (entries : List Dated). AllZip (IsEntry files) rows entries) (sym is) (entries_of files t rows right known);
 }
 
 -- an answer that is right is the one that is due
-gives_at : (files : List ℕ → Option (List ℕ)) (name : List ℕ) (given : Result (List Dated) NoBasis) (answer : Result (List Dated) BadBasis)
-    → IfOk given (IsBasis files name) → IfErr given (IfBad (IsFirstBad files name)) → IsDue files name answer → Gives given answer
-gives_at files name (Ok entries) answer right bad due = one_answer files name answer (Ok entries) due right
-gives_at files name (Err (Bad first)) answer right bad due = one_answer files name answer (Err first) due bad
-gives_at files name (Err ReadFault) answer right bad due = tt
-gives_at files name (Err NoMemory) answer right bad due = tt
-
-pub gives_due : (told : Option (List ℕ → Option (List ℕ))) (name : List ℕ) (given : Result (List Dated) NoBasis)
-    → IfSome told (λ files. IfOk given (IsBasis files name)) → IfSome told (λ files. IfErr given (IfBad (IsFirstBad files name)))
-    → IfSome told (λ files. (answer : Result (List Dated) BadBasis) → IsDue files name answer → Gives given answer)
-gives_due None name given right bad = tt
-gives_due (Some files) name given right bad = λ answer due. gives_at files name given answer right bad due
+pub gives_due : (files : List ℕ → Option (List ℕ)) (name : List ℕ) (given : Result (List Dated) NoBasis) (answer : Result (List Dated) BadBasis)
+    → IfOk given (IsBasis files name) → IfErr given (IfBad (IsFirstBadFile files name)) → IsBasisAnswer files name answer → GivesBasis given answer
+gives_due files name (Ok entries) answer right bad due = one_answer files name answer (Ok entries) due right
+gives_due files name (Err (Bad first)) answer right bad due = one_answer files name answer (Err first) due bad
+gives_due files name (Err ReadFault) answer right bad due = tt
+gives_due files name (Err NoMemory) answer right bad due = tt

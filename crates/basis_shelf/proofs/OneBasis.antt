@@ -9,8 +9,8 @@ use Rattle.basis_book.proofs.ListCuts.{compare_cuts}
 use Rattle.basis_shelf.specs.declared.fault.BadBasis.{BadBasis}
 use Rattle.basis_shelf.specs.declared.fault.BasisWord.{BasisWord}
 use Rattle.basis_shelf.specs.Bases.{HasTable, IsEntry, IsBasis}
-use Rattle.basis_shelf.specs.FirstBad.{IsBadTable, IsFirstBadRow, IsFirstBad}
-use Rattle.basis_shelf.specs.Answers.{IsDue}
+use Rattle.basis_shelf.specs.FirstBad.{IsBadTable, IsFirstBadRow, IsFirstBadFile}
+use Rattle.basis_shelf.specs.Answers.{IsBasisAnswer}
 use Rattle.basis_shelf.proofs.OneTable.{one_table, one_bad_table, table_or_bad}
 use Rattle.basis_shelf.proofs.OneBook.{one_rows, one_bad_book, rows_or_bad}
 
@@ -78,7 +78,7 @@ one_row files rows a b h k =
       ])
     ]
 
-pub one_first_bad : (files : List ℕ → Option (List ℕ)) (name : List ℕ) (a b : BadBasis) → IsFirstBad files name a → IsFirstBad files name b → a ≡ b
+pub one_first_bad : (files : List ℕ → Option (List ℕ)) (name : List ℕ) (a b : BadBasis) → IsFirstBadFile files name a → IsFirstBadFile files name b → a ≡ b
 one_first_bad files name a b (inl h) (inl k) =
     let same = one_bad_book files name a.place b.place a.word b.word h.1 k.1 in
     same_bad a b (h.0 ∙ sym k.0) same.1 same.0
@@ -101,13 +101,13 @@ basis_or_row files rows entries bad h k =
     table_or_bad files k.row.table (length k.before + 1) bad.place bad.word
     (has_at files k.before k.row k.after entries (subst (λ (xs : List BasisRow). AllZip (IsEntry files) xs entries) k.split h)) k.wrong
 
-pub basis_or_bad : (files : List ℕ → Option (List ℕ)) (name : List ℕ) (entries : List Dated) (bad : BadBasis) → IsBasis files name entries → IsFirstBad files name bad → ⊥
+pub basis_or_bad : (files : List ℕ → Option (List ℕ)) (name : List ℕ) (entries : List Dated) (bad : BadBasis) → IsBasis files name entries → IsFirstBadFile files name bad → ⊥
 basis_or_bad files name entries bad h (inl k) = rows_or_bad files name bad.place bad.word h.rows h.file k.1
 basis_or_bad files name entries bad h (inr k) =
     let same = one_rows files name h.rows k.0 h.file k.1 in
     basis_or_row files k.0 entries bad (subst (λ (rows : List BasisRow). AllZip (IsEntry files) rows entries) same h.each) k.2
 
-pub one_answer : (files : List ℕ → Option (List ℕ)) (name : List ℕ) (a b : Result (List Dated) BadBasis) → IsDue files name a → IsDue files name b → a ≡ b
+pub one_answer : (files : List ℕ → Option (List ℕ)) (name : List ℕ) (a b : Result (List Dated) BadBasis) → IsBasisAnswer files name a → IsBasisAnswer files name b → a ≡ b
 one_answer files name (Ok a) (Ok b) h k = ap (λ (x : List Dated). Ok x) (one_basis files name a b h k)
 one_answer files name (Ok a) (Err b) h k = absurd (basis_or_bad files name a b h k)
 one_answer files name (Err a) (Ok b) h k = absurd (basis_or_bad files name b a k h)

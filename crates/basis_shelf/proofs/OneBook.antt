@@ -3,12 +3,12 @@ use Rattle.std.proofs.Common.{◌≡◌, ℕ, ◌⊎◌, inl, inr, List, Option,
 use Rattle.basis_book.specs.declared.row.BasisRow.{BasisRow}
 use Rattle.basis_book.specs.declared.fault.BasisFault.{BasisFault}
 use Rattle.basis_book.specs.declared.fault.BasisFault.TheVariants as fault
-use Rattle.basis_book.specs.File.{IsBasisFile, IsFileFault, IsDue, Gives}
+use Rattle.basis_book.specs.File.{IsBasisFile, IsFileFault, IsBookAnswer, GivesBook}
 use Rattle.basis_book.proofs.Exact.{gives_due}
 use Rattle.basis_shelf.specs.declared.fault.BasisWord.{BasisWord}
 use Rattle.basis_shelf.specs.declared.fault.BasisWord.TheVariants.{Absent, TooLong, BadRow, NotRising, TooManyRows, NotDocument, NoTable, Select, Scaled, BadAge, AgeGap, BadRate}
 use Rattle.basis_shelf.specs.Files.{IsAbsent, IsTooLong}
-use Rattle.basis_shelf.specs.Bases.{AreRowsOf}
+use Rattle.basis_shelf.specs.Bases.{AreRowsNamed}
 use Rattle.basis_shelf.specs.FirstBad.{AreNoRows, IsBadBook}
 use Rattle.basis_shelf.proofs.OneTable.{one_file, not_absent, not_too_long, not_both}
 
@@ -20,13 +20,13 @@ IsGiven (fault.BadBasisRow row) = Unit {0}
 IsGiven (fault.NotRising row) = Unit {0}
 IsGiven fault.TooManyRows = Unit {0}
 
-due_why : (bytes : List ℕ) (why : BasisFault) → IsGiven why → IsFileFault bytes why → IsDue bytes (Err why)
+due_why : (bytes : List ℕ) (why : BasisFault) → IsGiven why → IsFileFault bytes why → IsBookAnswer bytes (Err why)
 due_why bytes fault.NoMemory g h = absurd g
 due_why bytes (fault.BadBasisRow row) g h = h
 due_why bytes (fault.NotRising row) g h = h
 due_why bytes fault.TooManyRows g h = h
 
-gives_why : (why : BasisFault) (answer : Result (List BasisRow) BasisFault) → IsGiven why → Gives (Err why) answer → answer ≡ Err why
+gives_why : (why : BasisFault) (answer : Result (List BasisRow) BasisFault) → IsGiven why → GivesBook (Err why) answer → answer ≡ Err why
 gives_why fault.NoMemory answer g h = absurd g
 gives_why (fault.BadBasisRow row) answer g h = h
 gives_why (fault.NotRising row) answer g h = h
@@ -54,7 +54,7 @@ rows_or_why bytes rows why g h k = ok_or_err rows why (gives_due bytes (Ok rows)
 ok_same : (a b : List BasisRow) → read b ≡ read a → a ≡ b
 ok_same a b e = cc
 
-pub one_rows : (files : List ℕ → Option (List ℕ)) (name : List ℕ) (a b : List BasisRow) → AreRowsOf files name a → AreRowsOf files name b → a ≡ b
+pub one_rows : (files : List ℕ → Option (List ℕ)) (name : List ℕ) (a b : List BasisRow) → AreRowsNamed files name a → AreRowsNamed files name b → a ≡ b
 one_rows files name a b h k =
     let same = one_file files name h.0 k.0 h.1 k.1 in
     ok_same a b (gives_due k.0 (Ok a) (subst (λ (xs : List ℕ). IsBasisFile xs a) same h.2) tt (Ok b) k.2)
@@ -110,12 +110,12 @@ one_kind files name p q w v (inr (inr h)) (inr (inr k)) =
 pub one_bad_book : (files : List ℕ → Option (List ℕ)) (name : List ℕ) (p q : ℕ) (w v : BasisWord) → IsBadBook files name w p → IsBadBook files name v q → (w ≡ v) × (p ≡ q)
 one_bad_book files name p q w v h k = one_kind files name p q w v (kinds files name p w h) (kinds files name q v k)
 
-rows_or_kind : (files : List ℕ → Option (List ℕ)) (name : List ℕ) (place : ℕ) (word : BasisWord) (rows : List BasisRow) → AreRowsOf files name rows → Kinds files name word place → ⊥
+rows_or_kind : (files : List ℕ → Option (List ℕ)) (name : List ℕ) (place : ℕ) (word : BasisWord) (rows : List BasisRow) → AreRowsNamed files name rows → Kinds files name word place → ⊥
 rows_or_kind files name place word rows h (inl k) = not_absent files name h.0 h.1 k.2
 rows_or_kind files name place word rows h (inr (inl k)) = not_too_long files name h.0 h.1 k.2
 rows_or_kind files name place word rows h (inr (inr k)) =
     let same = one_file files name h.0 k.4.0 h.1 k.4.1 in
     rows_or_why k.4.0 rows k.0 k.3 (subst (λ (xs : List ℕ). IsBasisFile xs rows) same h.2) k.4.2
 
-pub rows_or_bad : (files : List ℕ → Option (List ℕ)) (name : List ℕ) (place : ℕ) (word : BasisWord) (rows : List BasisRow) → AreRowsOf files name rows → IsBadBook files name word place → ⊥
+pub rows_or_bad : (files : List ℕ → Option (List ℕ)) (name : List ℕ) (place : ℕ) (word : BasisWord) (rows : List BasisRow) → AreRowsNamed files name rows → IsBadBook files name word place → ⊥
 rows_or_bad files name place word rows h k = rows_or_kind files name place word rows h (kinds files name place word k)

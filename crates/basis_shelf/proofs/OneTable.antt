@@ -8,7 +8,7 @@ use Rattle.xtbml_subset.specs.declared.fault.TableFault.TheVariants as table
 use Rattle.xtbml_subset.specs.Checks.{parts_of}
 use Rattle.xtbml_subset.specs.inside.Rows.{found_asks}
 use Rattle.xtbml_subset.specs.inside.Walk.{fault_at}
-use Rattle.xtbml_subset.specs.Answers.{IsDue}
+use Rattle.xtbml_subset.specs.Answers.{IsTableAnswer}
 use Rattle.xtbml_subset.proofs.Sounding.{whole_document}
 use Rattle.xtbml_subset.proofs.Matching.{finds_root}
 use Rattle.xtbml_subset.proofs.Judging.{table_one}
@@ -16,7 +16,7 @@ use Rattle.xtbml_subset.proofs.Final.{fault_only, due_by}
 use Rattle.basis_shelf.specs.declared.fault.BasisWord.{BasisWord}
 use Rattle.basis_shelf.specs.declared.fault.BasisWord.TheVariants.{Absent, TooLong, BadRow, NotRising, TooManyRows, NotDocument, NoTable, Select, Scaled, BadAge, AgeGap, BadRate}
 use Rattle.basis_shelf.specs.Files.{IsAbsent, IsTooLong, IsFile}
-use Rattle.basis_shelf.specs.Bases.{IsTable, HasTable}
+use Rattle.basis_shelf.specs.Bases.{IsTableNamed, HasTable}
 use Rattle.basis_shelf.specs.FirstBad.{IsNoTable, IsBadTable}
 use Rattle.basis_shelf.specs.inside.Parts.{word_of}
 
@@ -38,15 +38,15 @@ not_both files name h k = subst (λ (o : Option (List ℕ)). IsSomeAnd o (λ byt
 
 -- ---- the bytes of a table
 
-one_by : (bytes : List ℕ) (a b : Result Rates TableFault) → IsDue bytes a → IsDue bytes b → (at : Option ℕ) → at ≡ fault_at bytes → a ≡ b
+one_by : (bytes : List ℕ) (a b : Result Rates TableFault) → IsTableAnswer bytes a → IsTableAnswer bytes b → (at : Option ℕ) → at ≡ fault_at bytes → a ≡ b
 one_by bytes a b h k (Some at) e = fault_only bytes at a e h ∙ sym (fault_only bytes at b e k)
 one_by bytes a b h k None e =
     let d = whole_document bytes (sym e) in
     let r = finds_root bytes d.0 d.1 in
     table_one (parts_of (found_asks (length bytes)) r.found) a b (due_by bytes r.found r.others a e r.first h) (due_by bytes r.found r.others b e r.first k)
 
-one_due : (bytes other : List ℕ) (a b : Result Rates TableFault) → bytes ≡ other → IsDue bytes a → IsDue other b → a ≡ b
-one_due bytes other a b same h k = one_by other a b (subst (λ (xs : List ℕ). IsDue xs a) same h) k (fault_at other) refl
+one_due : (bytes other : List ℕ) (a b : Result Rates TableFault) → bytes ≡ other → IsTableAnswer bytes a → IsTableAnswer other b → a ≡ b
+one_due bytes other a b same h k = one_by other a b (subst (λ (xs : List ℕ). IsTableAnswer xs a) same h) k (fault_at other) refl
 
 abbrev spelled : Rates → Result Rates TableFault
 spelled a = Ok a
@@ -57,14 +57,14 @@ refused place what = Err (table.Bad place what)
 ok_same : (a b : Rates) → spelled a ≡ spelled b → a ≡ b
 ok_same a b e = cc
 
-pub one_table : (files : List ℕ → Option (List ℕ)) (name : List ℕ) (a b : Rates) → IsTable files name a → IsTable files name b → a ≡ b
+pub one_table : (files : List ℕ → Option (List ℕ)) (name : List ℕ) (a b : Rates) → IsTableNamed files name a → IsTableNamed files name b → a ≡ b
 one_table files name a b h k =
     ok_same a b (one_due h.0 k.0 (Ok a) (Ok b) (one_file files name h.0 k.0 h.1 k.1) (inl h.2) (inl k.2))
 
 ok_or_bad : (a : Rates) (place : ℕ) (what : TableKind) → spelled a ≡ refused place what → ⊥
 ok_or_bad a place what e = absurd (cc)
 
-table_or_none : (files : List ℕ → Option (List ℕ)) (name : List ℕ) (a : Rates) (place : ℕ) (what : TableKind) → IsTable files name a → IsNoTable files name place what → ⊥
+table_or_none : (files : List ℕ → Option (List ℕ)) (name : List ℕ) (a : Rates) (place : ℕ) (what : TableKind) → IsTableNamed files name a → IsNoTable files name place what → ⊥
 table_or_none files name a place what h k =
     ok_or_bad a place what (one_due h.0 k.0 (Ok a) (refused place what) (one_file files name h.0 k.0 h.1 k.1) (inl h.2) k.2)
 
@@ -113,7 +113,7 @@ one_kind files name number p q w v (inr (inr h)) (inr (inr k)) =
 pub one_bad_table : (files : List ℕ → Option (List ℕ)) (name : List ℕ) (number p q : ℕ) (w v : BasisWord) → IsBadTable files name number w p → IsBadTable files name number v q → (w ≡ v) × (p ≡ q)
 one_bad_table files name number p q w v h k = one_kind files name number p q w v (kinds files name number p w h) (kinds files name number q v k)
 
-table_or_kind : (files : List ℕ → Option (List ℕ)) (name : List ℕ) (number place : ℕ) (word : BasisWord) (a : Rates) → IsTable files name a → Kinds files name number word place → ⊥
+table_or_kind : (files : List ℕ → Option (List ℕ)) (name : List ℕ) (number place : ℕ) (word : BasisWord) (a : Rates) → IsTableNamed files name a → Kinds files name number word place → ⊥
 table_or_kind files name number place word a h (inl k) = not_absent files name h.0 h.1 k.2
 table_or_kind files name number place word a h (inr (inl k)) = not_too_long files name h.0 h.1 k.2
 table_or_kind files name number place word a h (inr (inr k)) = table_or_none files name a place k.0 h k.2

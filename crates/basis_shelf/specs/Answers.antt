@@ -5,19 +5,19 @@ use Rattle.basis_shelf.specs.declared.fault.BadBasis.{BadBasis}
 use Rattle.basis_shelf.specs.declared.fault.NoBasis.{NoBasis}
 use Rattle.basis_shelf.specs.declared.fault.NoBasis.TheVariants.{Bad, ReadFault, NoMemory}
 use Rattle.basis_shelf.specs.Bases.{IsBasis}
-use Rattle.basis_shelf.specs.FirstBad.{IsFirstBad}
+use Rattle.basis_shelf.specs.FirstBad.{IsFirstBadFile}
 
 -- the one answer to a name, where neither the shelf fails nor memory is refused
-abbrev pub IsDue : (List ℕ → Option (List ℕ)) → List ℕ → Result (List Dated) BadBasis → Type 0
-IsDue files name (Ok entries) = IsBasis files name entries
-IsDue files name (Err bad) = IsFirstBad files name bad
+abbrev pub IsBasisAnswer : (List ℕ → Option (List ℕ)) → List ℕ → Result (List Dated) BadBasis → Type 0
+IsBasisAnswer files name (Ok entries) = IsBasis files name entries
+IsBasisAnswer files name (Err bad) = IsFirstBadFile files name bad
 
 -- what is given is this answer, unless the shelf failed or memory was refused
-abbrev pub Gives : Result (List Dated) NoBasis → Result (List Dated) BadBasis → Type 0
-Gives (Ok entries) answer = answer ≡ Ok entries
-Gives (Err (Bad bad)) answer = answer ≡ Err bad
-Gives (Err ReadFault) answer = ⊤
-Gives (Err NoMemory) answer = ⊤
+abbrev pub GivesBasis : Result (List Dated) NoBasis → Result (List Dated) BadBasis → Type 0
+GivesBasis (Ok entries) answer = answer ≡ Ok entries
+GivesBasis (Err (Bad bad)) answer = answer ≡ Err bad
+GivesBasis (Err ReadFault) answer = ⊤
+GivesBasis (Err NoMemory) answer = ⊤
 
 -- of a bad file this holds
 abbrev pub IfBad : (BadBasis → Type 0) → NoBasis → Type 0

@@ -2,32 +2,32 @@
 use Rattle.std.specs.Prelude.{◌≡◌, ℕ, List, Option}
 use Rattle.std.specs.List.{AllZip}
 use Rattle.rate_table.specs.Rates.{Rates}
-use Rattle.xtbml_subset.specs.Answers.{Spells}
+use Rattle.xtbml_subset.specs.Answers.{SpellsTable}
 use Rattle.basis_book.specs.declared.row.BasisRow.{BasisRow}
 use Rattle.basis_book.specs.Dated.{Dated}
 use Rattle.basis_book.specs.File.{IsBasisFile}
 use Rattle.basis_shelf.specs.Files.{IsFile}
 
 -- the file of this name spells these rates
-abbrev pub IsTable : (List ℕ → Option (List ℕ)) → List ℕ → Rates → Type 0
-IsTable files name rates = (bytes : List ℕ) × IsFile files name bytes × Spells bytes rates
+abbrev pub IsTableNamed : (List ℕ → Option (List ℕ)) → List ℕ → Rates → Type 0
+IsTableNamed files name rates = (bytes : List ℕ) × IsFile files name bytes × SpellsTable bytes rates
 
 -- the file of this name spells a table
 abbrev pub HasTable : (List ℕ → Option (List ℕ)) → List ℕ → Type 0
-HasTable files name = (rates : Rates) × IsTable files name rates
+HasTable files name = (rates : Rates) × IsTableNamed files name rates
 
 -- the file of this name is a right basis file, and these are its rows
-abbrev pub AreRowsOf : (List ℕ → Option (List ℕ)) → List ℕ → List BasisRow → Type 0
-AreRowsOf files name rows = (bytes : List ℕ) × IsFile files name bytes × IsBasisFile bytes rows
+abbrev pub AreRowsNamed : (List ℕ → Option (List ℕ)) → List ℕ → List BasisRow → Type 0
+AreRowsNamed files name rows = (bytes : List ℕ) × IsFile files name bytes × IsBasisFile bytes rows
 
 -- the entry has the row's day, the table of the name in the row, and the row's basis points
 pub record IsEntry (files : List ℕ → Option (List ℕ)) (row : BasisRow) (entry : Dated) : Type 0 where
   pub from_day : entry.from_day ≡ row.from_day
-  pub table : IsTable files row.table entry.table
+  pub table : IsTableNamed files row.table entry.table
   pub bp : entry.bp ≡ row.bp
 
 -- the basis file of this name is right, and each of its rows has its entry
 pub record IsBasis (files : List ℕ → Option (List ℕ)) (name : List ℕ) (entries : List Dated) : Type 0 where
   pub rows : List BasisRow
-  pub file : AreRowsOf files name rows
+  pub file : AreRowsNamed files name rows
   pub each : AllZip (IsEntry files) rows entries

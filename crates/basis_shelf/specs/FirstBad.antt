@@ -8,12 +8,12 @@ use Rattle.basis_book.specs.File.{IsFileFault}
 use Rattle.xtbml_subset.specs.declared.fault.TableKind.{TableKind}
 use Rattle.xtbml_subset.specs.declared.fault.TableKind.TheVariants as kind
 use Rattle.xtbml_subset.specs.declared.fault.TableFault.TheVariants as table
-use Rattle.xtbml_subset.specs.Answers.{IsDue}
+use Rattle.xtbml_subset.specs.Answers.{IsTableAnswer}
 use Rattle.basis_shelf.specs.declared.fault.BadBasis.{BadBasis}
 use Rattle.basis_shelf.specs.declared.fault.BasisWord.{BasisWord}
 use Rattle.basis_shelf.specs.declared.fault.BasisWord.TheVariants.{Absent, TooLong, BadRow, NotRising, TooManyRows, NotDocument, NoTable, Select, Scaled, BadAge, AgeGap, BadRate}
 use Rattle.basis_shelf.specs.Files.{IsAbsent, IsTooLong, IsFile}
-use Rattle.basis_shelf.specs.Bases.{HasTable, AreRowsOf}
+use Rattle.basis_shelf.specs.Bases.{HasTable, AreRowsNamed}
 
 -- the file of this name is no right basis file, for this fault
 abbrev pub AreNoRows : (List ℕ → Option (List ℕ)) → List ℕ → BasisFault → Type 0
@@ -21,7 +21,7 @@ AreNoRows files name why = (bytes : List ℕ) × IsFile files name bytes × IsFi
 
 -- the file of this name spells no table: the byte place, and what is wrong there
 abbrev pub IsNoTable : (List ℕ → Option (List ℕ)) → List ℕ → ℕ → TableKind → Type 0
-IsNoTable files name at what = (bytes : List ℕ) × IsFile files name bytes × IsDue bytes (Err (table.Bad at what))
+IsNoTable files name at what = (bytes : List ℕ) × IsFile files name bytes × IsTableAnswer bytes (Err (table.Bad at what))
 
 -- the word for the basis file of this name, and the place
 abbrev pub IsBadBook : (List ℕ → Option (List ℕ)) → List ℕ → BasisWord → ℕ → Type 0
@@ -64,7 +64,7 @@ pub record IsFirstBadRow (files : List ℕ → Option (List ℕ)) (rows : List B
   pub wrong : IsBadTable files row.table (length before + 1) bad.word bad.place
 
 -- the basis file is bad; or it is right, and this is the table of the first row that has none
-abbrev pub IsFirstBad : (List ℕ → Option (List ℕ)) → List ℕ → BadBasis → Type 0
-IsFirstBad files name bad =
+abbrev pub IsFirstBadFile : (List ℕ → Option (List ℕ)) → List ℕ → BadBasis → Type 0
+IsFirstBadFile files name bad =
     ((bad.name ≡ name) × IsBadBook files name bad.word bad.place)
-    ⊎ ((rows : List BasisRow) × AreRowsOf files name rows × IsFirstBadRow files rows bad)
+    ⊎ ((rows : List BasisRow) × AreRowsNamed files name rows × IsFirstBadRow files rows bad)

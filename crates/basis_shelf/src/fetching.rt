@@ -1,10 +1,11 @@
-ghost use Rattle.std.specs.Prelude.{◌≡◌, ◌≤◌, List, Result, IfOk, IfErr, IfSome, IsErrOf};
+ghost use Rattle.std.specs.Prelude.{◌≡◌, ◌<◌, ◌≤◌, List, Result, IfOk, IfErr, IsErrOf};
 ghost use Rattle.outside_io.specs.Faults.{Rose};
+ghost use Rattle.outside_io.specs.Shelves.{Files};
 ghost use Rattle.basis_book.specs.Dated.{Dated};
 ghost use Rattle.basis_shelf.specs.declared.fault.BadBasis.{BadBasis as ABadBasis};
 ghost use Rattle.basis_shelf.specs.Bases.{IsBasis};
-ghost use Rattle.basis_shelf.specs.FirstBad.{IsFirstBad};
-ghost use Rattle.basis_shelf.specs.Answers.{Gives, IfBad, IsDue};
+ghost use Rattle.basis_shelf.specs.FirstBad.{IsFirstBadFile};
+ghost use Rattle.basis_shelf.specs.Answers.{GivesBasis, IfBad, IsBasisAnswer};
 
 use crate::fault::NoBasis;
 use crate::rows::fetch_rows;
@@ -18,12 +19,15 @@ use std::alloc::Global;
 /// The basis file is fetched and judged whole. Then each table is fetched and read once for each name, in the order of
 /// the first rows that name them; the first file that is absent, too long or refused is the answer.
 pub fn fetch_basis<H: Shelf>(alloc: Global, name: &Name, shelf: &mut H) -> Result<Basis, NoBasis>
-    ensures basis { IfSome (H.files shelf.old) (λ at. IfOk result (IsBasis at name.now)) }
-    ensures bad { IfSome (H.files shelf.old) (λ at. IfErr result (IfBad (IsFirstBad at name.now))) }
+    ensures basis { (at : Files) → H.agrees shelf.new at → IfOk result (IsBasis at name.now) }
+    ensures bad { (at : Files) → H.agrees shelf.new at → IfErr result (IfBad (IsFirstBadFile at name.now)) }
     // Whatever answer is due is given, unless the shelf fails or memory is refused.
-    ensures due { IfSome (H.files shelf.old) (λ at. (answer : Result (List Dated) ABadBasis)
-        → IsDue at name.now answer → Gives result answer) }
+    ensures due { (at : Files) (answer : Result (List Dated) ABadBasis) → H.agrees shelf.new at
+        → IsBasisAnswer at name.now answer → GivesBasis result answer }
+    ensures agreed { (at : Files) → H.agrees shelf.new at → H.agrees shelf.old at }
     ensures failed { IsErrOf result NoBasis.ReadFault → Rose (H.faults shelf.old) (H.faults shelf.new) }
+    // Where the shelf failed this is told, and nothing else.
+    ensures counted { H.faults shelf.old < H.faults shelf.new → IsErrOf result NoBasis.ReadFault }
     ensures later { H.faults shelf.old ≤ H.faults shelf.new }
     ensures stays { H.files shelf.new ≡ H.files shelf.old }
 {
@@ -32,9 +36,12 @@ pub fn fetch_basis<H: Shelf>(alloc: Global, name: &Name, shelf: &mut H) -> Resul
 
 // The basis file and its tables.
 fn fetch_parts<H: Shelf>(alloc: Global, name: &Name, shelf: &mut H) -> Result<Basis, NoBasis>
-    ensures basis { IfSome (H.files shelf.old) (λ at. IfOk result (IsBasis at name.now)) }
-    ensures bad { IfSome (H.files shelf.old) (λ at. IfErr result (IfBad (IsFirstBad at name.now))) }
+    ensures basis { (at : Files) → H.agrees shelf.new at → IfOk result (IsBasis at name.now) }
+    ensures bad { (at : Files) → H.agrees shelf.new at → IfErr result (IfBad (IsFirstBadFile at name.now)) }
+    ensures agreed { (at : Files) → H.agrees shelf.new at → H.agrees shelf.old at }
     ensures failed { IsErrOf result NoBasis.ReadFault → Rose (H.faults shelf.old) (H.faults shelf.new) }
+    // Where the shelf failed this is told, and nothing else.
+    ensures counted { H.faults shelf.old < H.faults shelf.new → IsErrOf result NoBasis.ReadFault }
     ensures later { H.faults shelf.old ≤ H.faults shelf.new }
     ensures stays { H.files shelf.new ≡ H.files shelf.old }
 {

@@ -3,8 +3,8 @@ ghost use Rattle.std.specs.Prelude.{◌≡◌, ℕ, List, Option};
 ghost use Rattle.rate_table.specs.Rates.{Rates};
 ghost use Rattle.basis_book.specs.Dated.{Dated};
 ghost use Rattle.basis_shelf.specs.declared.fault.BadBasis.{BadBasis};
-ghost use Rattle.basis_shelf.specs.Bases.{HasTable, IsBasis, IsTable};
-ghost use Rattle.basis_shelf.specs.FirstBad.{IsBadTable, IsFirstBad};
+ghost use Rattle.basis_shelf.specs.Bases.{HasTable, IsBasis, IsTableNamed};
+ghost use Rattle.basis_shelf.specs.FirstBad.{IsBadTable, IsFirstBadFile};
 ghost use Rattle.basis_shelf.specs.declared.fault.BasisWord.{BasisWord};
 
 /// A name has one basis at most, or one first bad file, and never both.
@@ -12,15 +12,15 @@ pub fn a_basis_has_one_answer()
     ensures basis { (files : List ℕ → Option (List ℕ)) (name : List ℕ) (one other : List Dated)
         → IsBasis files name one → IsBasis files name other → one ≡ other }
     ensures bad { (files : List ℕ → Option (List ℕ)) (name : List ℕ) (one other : BadBasis)
-        → IsFirstBad files name one → IsFirstBad files name other → one ≡ other }
+        → IsFirstBadFile files name one → IsFirstBadFile files name other → one ≡ other }
     ensures not_both { (files : List ℕ → Option (List ℕ)) (name : List ℕ) (entries : List Dated) (bad : BadBasis)
-        → IsBasis files name entries → IsFirstBad files name bad → ⊥ }
+        → IsBasis files name entries → IsFirstBadFile files name bad → ⊥ }
 {}
 
 /// A file spells one table at most, and no table where it is bad.
 pub fn a_file_has_one_answer()
     ensures table { (files : List ℕ → Option (List ℕ)) (name : List ℕ) (one other : Rates)
-        → IsTable files name one → IsTable files name other → one ≡ other }
+        → IsTableNamed files name one → IsTableNamed files name other → one ≡ other }
     ensures not_both { (files : List ℕ → Option (List ℕ)) (name : List ℕ) (number place : ℕ) (word : BasisWord)
         → HasTable files name → IsBadTable files name number word place → ⊥ }
 {}

@@ -1,8 +1,9 @@
 // The basis file.
-ghost use Rattle.std.specs.Prelude.{◌≡◌, ◌≤◌, List, IfOk, IfErr, IfSome, IsErrOf};
+ghost use Rattle.std.specs.Prelude.{◌≡◌, ◌<◌, ◌≤◌, List, IfOk, IfErr, IsErrOf};
 ghost use Rattle.outside_io.specs.Faults.{Rose};
+ghost use Rattle.outside_io.specs.Shelves.{Files};
 ghost use Rattle.basis_book.specs.Dated.{AreBounded};
-ghost use Rattle.basis_shelf.specs.Bases.{AreRowsOf};
+ghost use Rattle.basis_shelf.specs.Bases.{AreRowsNamed};
 ghost use Rattle.basis_shelf.specs.Answers.{IfBad};
 ghost use Rattle.basis_shelf.specs.inside.Parts.{IsBadBookFile, TellsRows};
 
@@ -14,10 +15,13 @@ use std::alloc::Global;
 
 /// The rows of the basis file.
 pub fn fetch_rows<H: Shelf>(alloc: Global, name: &Name, shelf: &mut H) -> Result<BasisRows, NoBasis>
-    ensures rows { IfSome (H.files shelf.old) (λ at. IfOk result (AreRowsOf at name.now)) }
+    ensures rows { (at : Files) → H.agrees shelf.new at → IfOk result (AreRowsNamed at name.now) }
     ensures bounded { IfOk result AreBounded }
-    ensures bad { IfSome (H.files shelf.old) (λ at. IfErr result (IfBad (IsBadBookFile at name.now))) }
+    ensures bad { (at : Files) → H.agrees shelf.new at → IfErr result (IfBad (IsBadBookFile at name.now)) }
+    ensures agreed { (at : Files) → H.agrees shelf.new at → H.agrees shelf.old at }
     ensures failed { IsErrOf result NoBasis.ReadFault → Rose (H.faults shelf.old) (H.faults shelf.new) }
+    // Where the shelf failed this is told, and nothing else.
+    ensures counted { H.faults shelf.old < H.faults shelf.new → IsErrOf result NoBasis.ReadFault }
     ensures later { H.faults shelf.old ≤ H.faults shelf.new }
     ensures stays { H.files shelf.new ≡ H.files shelf.old }
 {

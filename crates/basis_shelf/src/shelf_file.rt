@@ -1,9 +1,10 @@
 // One file of a shelf.
-ghost use Rattle.std.specs.Prelude.{◌≡◌, ◌≤◌, vec_len, IfOk, IfErr, IfSome, IsErrOf};
+ghost use Rattle.std.specs.Prelude.{◌≡◌, ◌<◌, ◌≤◌, vec_len, IfOk, IfErr, IsErrOf};
 ghost use Rattle.outside_io.specs.Faults.{Rose};
+ghost use Rattle.outside_io.specs.Shelves.{Files};
 ghost use Rattle.basis_shelf.specs.Files.{IsFile};
 ghost use Rattle.basis_shelf.specs.Answers.{IfBad};
-ghost use Rattle.basis_shelf.specs.inside.Parts.{IsTold, IsUnread};
+ghost use Rattle.basis_shelf.specs.inside.Parts.{IsToldOfTable, IsUnread};
 
 use crate::fault::{BadBasis, BasisWord, NoBasis};
 use basis_book::Name;
@@ -13,7 +14,7 @@ use std::alloc::Global;
 
 /// The answer that a file is bad.
 pub fn bad_file(alloc: Global, name: &Name, place: u32, word: BasisWord) -> NoBasis
-    ensures { IsTold name.now place word result }
+    ensures { IsToldOfTable name.now place word result }
 {
     match Name::of(alloc, name.text().as_bytes()) {
         Ok(Some(name)) => NoBasis::Bad(BadBasis { name, place, word }),
@@ -29,10 +30,13 @@ pub fn fetch_file<H: Shelf>(
     place: u32,
     shelf: &mut H,
 ) -> Result<Vec<u8>, NoBasis>
-    ensures file { IfSome (H.files shelf.old) (λ at. IfOk result (λ bytes. IsFile at name.now bytes.items)) }
+    ensures file { (at : Files) → H.agrees shelf.new at → IfOk result (λ bytes. IsFile at name.now bytes.items) }
     ensures within { IfOk result (λ bytes. vec_len bytes ≤ 4194304) }
-    ensures bad { IfSome (H.files shelf.old) (λ at. IfErr result (IfBad (IsUnread at name.now place))) }
+    ensures bad { (at : Files) → H.agrees shelf.new at → IfErr result (IfBad (IsUnread at name.now place)) }
+    ensures agreed { (at : Files) → H.agrees shelf.new at → H.agrees shelf.old at }
     ensures failed { IsErrOf result NoBasis.ReadFault → Rose (H.faults shelf.old) (H.faults shelf.new) }
+    // Where the shelf failed this is told, and nothing else.
+    ensures counted { H.faults shelf.old < H.faults shelf.new → IsErrOf result NoBasis.ReadFault }
     ensures later { H.faults shelf.old ≤ H.faults shelf.new }
     ensures stays { H.files shelf.new ≡ H.files shelf.old }
 {

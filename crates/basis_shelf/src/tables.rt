@@ -1,9 +1,10 @@
 // The tables that the rows of a basis file name.
-ghost use Rattle.std.specs.Prelude.{◌≡◌, ◌≤◌, ◌+◌, ◌<◌, ℕ, List, length, All, IsSome, IfOk, OnOk, IfErr, IfSome, IsErrOf};
+ghost use Rattle.std.specs.Prelude.{◌≡◌, ◌≤◌, ◌+◌, ◌<◌, ℕ, List, length, All, IsSome, IfOk, OnOk, IfErr, IsErrOf};
 ghost use Rattle.indexmap.specs.IndexMap.{get_by_text};
 ghost use Rattle.outside_io.specs.Faults.{Rose};
+ghost use Rattle.outside_io.specs.Shelves.{Files};
 ghost use Rattle.basis_book.specs.declared.row.BasisRow.{BasisRow as ARow};
-ghost use Rattle.basis_shelf.specs.Bases.{IsTable};
+ghost use Rattle.basis_shelf.specs.Bases.{IsTableNamed};
 ghost use Rattle.basis_shelf.specs.FirstBad.{IsFirstBadRow};
 ghost use Rattle.basis_shelf.specs.Answers.{IfBad};
 ghost use Rattle.basis_shelf.specs.inside.Parts.{AreTables, IsBadTableFile, KeepsKnown, TellsTable, word_of};
@@ -25,9 +26,12 @@ pub fn fetch_tables<H: Shelf>(
 ) -> Result<IndexMap<String, RateTable>, NoBasis>
     requires { length rows.now ≤ 1000 }
     ensures known { IfOk result (λ tables. All (λ row. IsSome (get_by_text tables row.table)) rows.now) }
-    ensures right { IfSome (H.files shelf.old) (λ at. IfOk result (λ tables. AreTables at (get_by_text tables))) }
-    ensures bad { IfSome (H.files shelf.old) (λ at. IfErr result (IfBad (IsFirstBadRow at rows.now))) }
+    ensures right { (at : Files) → H.agrees shelf.new at → IfOk result (λ tables. AreTables at (get_by_text tables)) }
+    ensures bad { (at : Files) → H.agrees shelf.new at → IfErr result (IfBad (IsFirstBadRow at rows.now)) }
+    ensures agreed { (at : Files) → H.agrees shelf.new at → H.agrees shelf.old at }
     ensures failed { IsErrOf result NoBasis.ReadFault → Rose (H.faults shelf.old) (H.faults shelf.new) }
+    // Where the shelf failed this is told, and nothing else.
+    ensures counted { H.faults shelf.old < H.faults shelf.new → IsErrOf result NoBasis.ReadFault }
     ensures later { H.faults shelf.old ≤ H.faults shelf.new }
     ensures stays { H.files shelf.new ≡ H.files shelf.old }
 {
@@ -48,10 +52,13 @@ fn add_table<H: Shelf>(
 ) -> Result<(), NoBasis>
     ensures added { OnOk result (IsSome (get_by_text tables.new name.now)) }
     ensures kept { OnOk result (KeepsKnown (get_by_text tables.old) (get_by_text tables.new)) }
-    ensures right { IfSome (H.files shelf.old) (λ at. AreTables at (get_by_text tables.old)
-        → OnOk result (AreTables at (get_by_text tables.new))) }
-    ensures bad { IfSome (H.files shelf.old) (λ at. IfErr result (IfBad (IsBadTableFile at name.now number))) }
+    ensures right { (at : Files) → H.agrees shelf.new at → AreTables at (get_by_text tables.old)
+        → OnOk result (AreTables at (get_by_text tables.new)) }
+    ensures bad { (at : Files) → H.agrees shelf.new at → IfErr result (IfBad (IsBadTableFile at name.now number)) }
+    ensures agreed { (at : Files) → H.agrees shelf.new at → H.agrees shelf.old at }
     ensures failed { IsErrOf result NoBasis.ReadFault → Rose (H.faults shelf.old) (H.faults shelf.new) }
+    // Where the shelf failed this is told, and nothing else.
+    ensures counted { H.faults shelf.old < H.faults shelf.new → IsErrOf result NoBasis.ReadFault }
     ensures later { H.faults shelf.old ≤ H.faults shelf.new }
     ensures stays { H.files shelf.new ≡ H.files shelf.old }
 {
@@ -75,9 +82,12 @@ fn fetch_table<H: Shelf>(
     number: u32,
     shelf: &mut H,
 ) -> Result<RateTable, NoBasis>
-    ensures table { IfSome (H.files shelf.old) (λ at. IfOk result (IsTable at name.now)) }
-    ensures bad { IfSome (H.files shelf.old) (λ at. IfErr result (IfBad (IsBadTableFile at name.now number))) }
+    ensures table { (at : Files) → H.agrees shelf.new at → IfOk result (IsTableNamed at name.now) }
+    ensures bad { (at : Files) → H.agrees shelf.new at → IfErr result (IfBad (IsBadTableFile at name.now number)) }
+    ensures agreed { (at : Files) → H.agrees shelf.new at → H.agrees shelf.old at }
     ensures failed { IsErrOf result NoBasis.ReadFault → Rose (H.faults shelf.old) (H.faults shelf.new) }
+    // Where the shelf failed this is told, and nothing else.
+    ensures counted { H.faults shelf.old < H.faults shelf.new → IsErrOf result NoBasis.ReadFault }
     ensures later { H.faults shelf.old ≤ H.faults shelf.new }
     ensures stays { H.files shelf.new ≡ H.files shelf.old }
 {

@@ -3,10 +3,9 @@ ghost use Rattle.std.specs.Prelude.{◌≡◌, ◌++◌, IfOk, OnOk};
 ghost use Rattle.basis_shelf.specs.Lines as spec;
 
 use crate::fault::{BadBasis, BasisWord};
-use money_core::Text;
 use policy_types::NoMemory;
-use statements::LineWriter;
 use std::alloc::Global;
+use text_lines::{LineWriter, Text};
 
 /// The line of a bad file: `badbasis`, its name, the place and the word, with a line feed.
 pub fn bad_basis_line(alloc: Global, bad: &BadBasis) -> Result<Text, NoMemory>

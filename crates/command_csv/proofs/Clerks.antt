@@ -7,7 +7,7 @@ use Rattle.policy_types.specs.declared.script.Line.{Line}
 use Rattle.policy_types.specs.declared.script.Line.TheVariants.{Post, Value, Trim}
 use Rattle.command_csv.specs.declared.row.ClerkLine.{ClerkLine}
 use Rattle.command_csv.specs.Spelling.{by_first}
-use Rattle.command_csv.specs.Reads.{IsScriptLine, IsRowOf, HasRoom, is_valuation, valuations_in, all_lines, lines_of, lane_of, lanes_of, lanes_up_to, most_valuations}
+use Rattle.command_csv.specs.Reads.{IsScriptLine, IsLineRow, MayStandBehind, is_valuation, valuations_in, all_lines, lines_of, lane_of, lanes_of, lanes_up_to, most_valuations}
 
 pub lines_of_first : (lines : List Line) → lines_of 1 (map by_first lines) ≡ lines
 lines_of_first [] = refl
@@ -25,7 +25,7 @@ lanes_up_first (suc n) lines =
 pub lanes_of_first : (lines : List Line) → lanes_of (map by_first lines) ≡ lane_of 1 lines
 lanes_of_first lines = lanes_up_first 7 lines
 
-pub all_right : (rows : List (List (List ℕ))) (entries : List ClerkLine) → AllZip IsRowOf rows entries → AllByRecursion IsScriptLine (all_lines entries)
+pub all_right : (rows : List (List (List ℕ))) (entries : List ClerkLine) → AllZip IsLineRow rows entries → AllByRecursion IsScriptLine (all_lines entries)
 all_right [] [] h = tt
 all_right [] (entry ∷ entries) h = absurd h
 all_right (row ∷ rows) [] h = absurd h
@@ -40,18 +40,18 @@ pub valuations-cons : (line : Line) (lines : List Line) → valuations_in (line 
 valuations-cons line lines = one_first (is_valuation line) line (filter is_valuation lines)
 
 -- a line that may stand behind so many valuations leaves no more than there may be
-pub room_counted : (valued : ℕ) (line : Line) → valued ≤ most_valuations → HasRoom valued line → valued + valuations_in (line ∷ []) ≤ most_valuations
+pub room_counted : (valued : ℕ) (line : Line) → valued ≤ most_valuations → MayStandBehind valued line → valued + valuations_in (line ∷ []) ≤ most_valuations
 room_counted valued (Post c) few h = omega (arith, few)
 room_counted valued (Value on at workers) few h = omega (arith, h)
 room_counted valued Trim few h = omega (arith, few)
 
 -- and where it doesn't, it may stand there
-pub room_left : (valued : ℕ) (line : Line) → valued + valuations_in (line ∷ []) ≤ most_valuations → HasRoom valued line
+pub room_left : (valued : ℕ) (line : Line) → valued + valuations_in (line ∷ []) ≤ most_valuations → MayStandBehind valued line
 room_left valued (Post c) few = tt
 room_left valued (Value on at workers) few = omega (arith, few)
 room_left valued Trim few = tt
 
-pub room_first : (valued : ℕ) (line : Line) (lines : List Line) → valued + valuations_in (line ∷ lines) ≤ most_valuations → HasRoom valued line
+pub room_first : (valued : ℕ) (line : Line) (lines : List Line) → valued + valuations_in (line ∷ lines) ≤ most_valuations → MayStandBehind valued line
 room_first valued line lines few = room_left valued line (omega (arith, few, valuations-cons line lines))
 
 pub room_behind : (valued : ℕ) (line : Line) (lines : List Line) → valued + valuations_in (line ∷ lines) ≤ most_valuations → valued + valuations_in (line ∷ []) + valuations_in lines ≤ most_valuations

@@ -6,7 +6,7 @@ use Rattle.std.proofs.lemmas.List.{take-take}
 use Rattle.policy_types.specs.declared.script.Lane.{Lane}
 use Rattle.command_csv.specs.declared.row.ClerkLine.{ClerkLine}
 use Rattle.command_csv.specs.Spelling.{row_fields}
-use Rattle.command_csv.specs.Reads.{IsRowOf, HasRoom, Reads, FitsUpTo, IsFirstBadField, IsFirstFault, all_lines, valuations_in, most_valuations}
+use Rattle.command_csv.specs.Reads.{IsLineRow, MayStandBehind, Reads, FitsUpTo, IsFirstBadField, IsFirstScriptFault, all_lines, valuations_in, most_valuations}
 use Rattle.command_csv.proofs.Clerks.{valuations-cons, room_first, room_behind}
 use Rattle.command_csv.proofs.OneReading.{one_entry}
 
@@ -21,14 +21,14 @@ behind_none entries = omega arith
 counted_on : (valued : ℕ) (entry : ClerkLine) (entries : List ClerkLine) → counted valued (entry ∷ entries) ≡ counted (valued + valuations_in (entry.line ∷ [])) entries
 counted_on valued entry entries = omega (arith, valuations-cons entry.line (all_lines entries))
 
-no_line : (valued : ℕ) (row : List (List ℕ)) (field : ℕ) (entry : ClerkLine) (entries : List ClerkLine) → IsFirstBadField (counted valued []) row field → IsRowOf row entry → counted valued (entry ∷ entries) ≤ most_valuations → ⊥
+no_line : (valued : ℕ) (row : List (List ℕ)) (field : ℕ) (entry : ClerkLine) (entries : List ClerkLine) → IsFirstBadField (counted valued []) row field → IsLineRow row entry → counted valued (entry ∷ entries) ≤ most_valuations → ⊥
 no_line valued row field entry entries bad is few =
     let none : counted valued [] ≡ valued = omega arith in
-    let room : HasRoom valued entry.line = room_first valued entry.line (all_lines entries) few in
-    bad.bad (record { entry = entry; allowed = is.allowed; room = subst (λ (n : ℕ). HasRoom n entry.line) (sym none) room; same = ap (take field) is.spelled })
+    let room : MayStandBehind valued entry.line = room_first valued entry.line (all_lines entries) few in
+    bad.bad (record { entry = entry; allowed = is.allowed; room = subst (λ (n : ℕ). MayStandBehind n entry.line) (sym none) room; same = ap (take field) is.spelled })
 
 not_read : (valued : ℕ) (before : List (List (List ℕ))) (lines : List ClerkLine) (row : List (List ℕ)) (after : List (List (List ℕ))) (entries : List ClerkLine) (field : ℕ)
-    → AllZip IsRowOf before lines → IsFirstBadField (counted valued lines) row field → AllZip IsRowOf (before ++ row ∷ after) entries → counted valued entries ≤ most_valuations → ⊥
+    → AllZip IsLineRow before lines → IsFirstBadField (counted valued lines) row field → AllZip IsLineRow (before ++ row ∷ after) entries → counted valued entries ≤ most_valuations → ⊥
 not_read valued [] [] row after [] field right bad h few = h
 not_read valued [] [] row after (entry ∷ entries) field right bad h few = no_line valued row field entry entries bad h.0 few
 not_read valued [] (line ∷ lines) row after entries field right bad h few = absurd right
@@ -41,9 +41,9 @@ not_read valued (x ∷ xs) (line ∷ lines) row after (entry ∷ entries) field 
     let bound : counted (valued + valuations_in (entry.line ∷ [])) entries ≤ most_valuations = room_behind valued entry.line (all_lines entries) few in
     not_read next xs lines row after entries field right.1 (subst (λ (n : ℕ). IsFirstBadField n row field) (counted_on valued line lines) bad) h.1 (subst P same bound)
 
-pub fault_excludes : (bytes : List ℕ) (row field : ℕ) (lanes : List Lane) → IsFirstFault bytes row field → Reads bytes lanes → ⊥
+pub fault_excludes : (bytes : List ℕ) (row field : ℕ) (lanes : List Lane) → IsFirstScriptFault bytes row field → Reads bytes lanes → ⊥
 fault_excludes bytes row field lanes fault reads =
-    let P : List (List (List ℕ)) → Type 0 = λ rows. AllZip IsRowOf rows reads.entries in
+    let P : List (List (List ℕ)) → Type 0 = λ rows. AllZip IsLineRow rows reads.entries in
     not_read 0 fault.before fault.entries fault.faulty fault.after reads.entries field fault.right.each (subst (λ (n : ℕ). IsFirstBadField n fault.faulty field) (behind_none fault.entries) fault.bad) (subst P fault.rows reads.rows.each) (omega (arith, reads.rows.few))
 
 -- what fits up to a place fits up to an earlier one
@@ -64,7 +64,7 @@ one_field valued fields a b first other = elim (cases_order a b) [
 
 -- two ways to stop in one list of rows are one
 one_stop : (valued : ℕ) (xs ys : List (List (List ℕ))) (x y : List (List ℕ)) (x_after y_after : List (List (List ℕ))) (x_entries y_entries : List ClerkLine) (f g : ℕ)
-    → xs ++ x ∷ x_after ≡ ys ++ y ∷ y_after → AllZip IsRowOf xs x_entries → AllZip IsRowOf ys y_entries
+    → xs ++ x ∷ x_after ≡ ys ++ y ∷ y_after → AllZip IsLineRow xs x_entries → AllZip IsLineRow ys y_entries
     → counted valued x_entries ≤ most_valuations → counted valued y_entries ≤ most_valuations
     → IsFirstBadField (counted valued x_entries) x f → IsFirstBadField (counted valued y_entries) y g
     → (length xs ≡ length ys) × (f ≡ g)
@@ -89,14 +89,14 @@ one_stop valued (a ∷ xs) (b ∷ ys) x y xa ya (entry ∷ xe) [] f g e hx hy fx
 one_stop valued (a ∷ xs) (b ∷ ys) x y xa ya (entry ∷ xe) (other ∷ ye) f g e hx hy fx fy bx by =
     let rest : xs ++ x ∷ xa ≡ ys ++ y ∷ ya = cc in
     let rows : a ≡ b = cc in
-    let same : other ≡ entry = one_entry b other entry hy.0 (subst (λ (row : List (List ℕ)). IsRowOf row entry) rows hx.0) in
+    let same : other ≡ entry = one_entry b other entry hy.0 (subst (λ (row : List (List ℕ)). IsLineRow row entry) rows hx.0) in
     let next : ℕ = valued + valuations_in (entry.line ∷ []) in
     let counts : counted valued (other ∷ ye) ≡ counted next ye = counted_on valued other ye ∙ ap (λ (made : ClerkLine). counted (valued + valuations_in (made.line ∷ [])) ye) same in
     let both = one_stop next xs ys x y xa ya xe ye f g rest hx.1 hy.1 (subst (λ (n : ℕ). n ≤ most_valuations) (counted_on valued entry xe) fx) (subst (λ (n : ℕ). n ≤ most_valuations) counts fy)
     (subst (λ (n : ℕ). IsFirstBadField n x f) (counted_on valued entry xe) bx) (subst (λ (n : ℕ). IsFirstBadField n y g) counts by) in
     (ap suc both.0, both.1)
 
-pub one_fault : (bytes : List ℕ) (row other field place : ℕ) → IsFirstFault bytes row field → IsFirstFault bytes other place → (row ≡ other) × (field ≡ place)
+pub one_fault : (bytes : List ℕ) (row other field place : ℕ) → IsFirstScriptFault bytes row field → IsFirstScriptFault bytes other place → (row ≡ other) × (field ≡ place)
 one_fault bytes row other field place a b =
     let both = one_stop 0 a.before b.before a.faulty b.faulty a.after b.after a.entries b.entries field place (sym a.rows ∙ b.rows) a.right.each b.right.each (omega (arith, a.right.few)) (omega (arith, b.right.few))
     (subst (λ (n : ℕ). IsFirstBadField n a.faulty field) (behind_none a.entries) a.bad) (subst (λ (n : ℕ). IsFirstBadField n b.faulty place) (behind_none b.entries) b.bad) in

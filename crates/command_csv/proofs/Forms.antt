@@ -13,10 +13,11 @@ use Rattle.command_csv.specs.declared.kind.Kind.{Kind}
 use Rattle.command_csv.specs.declared.kind.Kind.TheVariants.{Issue, Premium, Alter, Lapse, Reinstate, Claim, Settle, Mature, Value, Trim}
 use Rattle.policy_types.specs.declared.entry.At.{At}
 use Rattle.policy_types.specs.declared.entry.At.TheVariants.{Now}
-use Rattle.command_csv.specs.Spelling.{at_text, plan_word}
+use Rattle.command_csv.specs.Spelling.{at_text}
+use Rattle.policy_types.specs.Words.{plan_word}
 use Rattle.command_csv.specs.Reads.{IsClerk, IsPosition, AreWorkers}
 use Rattle.command_csv.specs.inside.Cursor.{Took, Missed, StopsIn, left_of}
-use Rattle.command_csv.specs.inside.Forms.{Ends, Then, Amount, Reinstatement, PolicyAndDay, YearsOn, AgeOn, PlanOn, WorkersOn, PositionOn, MayFollow, KindForm, RowForm, kind_word, form_of, StopsAfter}
+use Rattle.command_csv.specs.inside.Forms.{Ends, Then, Amount, Reinstatement, PolicyAndDay, YearsOn, AgeOn, PlanOn, WorkersOn, PositionOn, KindMayStandBehind, KindForm, RowForm, kind_spelling, form_of, StopsAfter}
 use Rattle.command_csv.proofs.Words.{plan_word_injective, kind_word_injective}
 
 -- what may follow one value may follow another of the same text
@@ -115,7 +116,7 @@ kind_possible Value = day_possible PositionOn position_possible
 kind_possible Trim = end_possible
 
 pub any_kind_possible : (valued : ℕ) → IsPossible (KindForm valued)
-any_kind_possible valued = then_possible (MayFollow valued) kind_word form_of Lapse tt (kind_possible Lapse)
+any_kind_possible valued = then_possible (KindMayStandBehind valued) kind_spelling form_of Lapse tt (kind_possible Lapse)
 
 pub row_possible : (valued : ℕ) → IsPossible (RowForm valued)
 row_possible valued = then_possible IsClerk decimal (λ clerk. KindForm valued) 1 (lit≤ tt, lit≤ tt) (any_kind_possible valued)
@@ -124,7 +125,7 @@ row_possible valued = then_possible IsClerk decimal (λ clerk. KindForm valued) 
 pub carries_all : {X : Type 0} (Fits : X → Type 0) (text_of : X → List ℕ) (More : List (List ℕ) → Type 0) (x : X) → Carries Fits text_of (λ y. More) x
 carries_all Fits text_of More x = λ y fits same rest more. more
 
-pub kind_carries : (valued : ℕ) (kind : Kind) → Carries (MayFollow valued) kind_word form_of kind
+pub kind_carries : (valued : ℕ) (kind : Kind) → Carries (KindMayStandBehind valued) kind_spelling form_of kind
 kind_carries valued kind = λ other fits same rest more. subst (λ (k : Kind). form_of k rest) (sym (kind_word_injective kind other same)) more
 
 pub plan_carries : (plan : Plan) → Carries (λ (other : Plan). ⊤) plan_word AgeOn plan
@@ -154,8 +155,8 @@ missed Fits text_of More old new p m = record {
 pub took_clerk : {valued clerk : ℕ} {old mid new : Fields} → Took (IsClerk clerk) (decimal clerk) old mid → StopsIn (KindForm valued) mid new → StopsIn (RowForm valued) old new
 took_clerk {valued} {clerk} {old} {mid} {new} t h = took IsClerk decimal (λ n. KindForm valued) clerk old mid new (carries_all IsClerk decimal (KindForm valued) clerk) t h
 
-pub took_kind : {valued : ℕ} (kind : Kind) {old mid new : Fields} → Took (MayFollow valued kind) (kind_word kind) old mid → StopsIn (form_of kind) mid new → StopsIn (KindForm valued) old new
-took_kind {valued} kind {old} {mid} {new} t h = took (MayFollow valued) kind_word form_of kind old mid new (kind_carries valued kind) t h
+pub took_kind : {valued : ℕ} (kind : Kind) {old mid new : Fields} → Took (KindMayStandBehind valued kind) (kind_spelling kind) old mid → StopsIn (form_of kind) mid new → StopsIn (KindForm valued) old new
+took_kind {valued} kind {old} {mid} {new} t h = took (KindMayStandBehind valued) kind_spelling form_of kind old mid new (kind_carries valued kind) t h
 
 pub took_position : (at : At) {old mid new : Fields} → Took (IsPosition at) (at_text at) old mid → StopsIn WorkersOn mid new → StopsIn PositionOn old new
 took_position at {old} {mid} {new} t h = took IsPosition at_text (λ a. WorkersOn) at old mid new (carries_all IsPosition at_text WorkersOn at) t h
@@ -183,8 +184,8 @@ took_amount {More} {cents} {old} {mid} {new} t h = took IsAmount cents_text (λ 
 pub no_clerk : {valued : ℕ} {old new : Fields} → Missed IsClerk decimal old new → StopsIn (RowForm valued) old new
 no_clerk {valued} {old} {new} m = missed IsClerk decimal (λ n. KindForm valued) old new (row_possible valued) m
 
-pub no_kind : {valued : ℕ} {old new : Fields} → Missed (MayFollow valued) kind_word old new → StopsIn (KindForm valued) old new
-no_kind {valued} {old} {new} m = missed (MayFollow valued) kind_word form_of old new (any_kind_possible valued) m
+pub no_kind : {valued : ℕ} {old new : Fields} → Missed (KindMayStandBehind valued) kind_spelling old new → StopsIn (KindForm valued) old new
+no_kind {valued} {old} {new} m = missed (KindMayStandBehind valued) kind_spelling form_of old new (any_kind_possible valued) m
 
 pub no_position : {old new : Fields} → Missed IsPosition at_text old new → StopsIn PositionOn old new
 no_position {old} {new} m = missed IsPosition at_text (λ a. WorkersOn) old new position_possible m

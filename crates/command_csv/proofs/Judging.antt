@@ -17,9 +17,10 @@ use Rattle.command_csv.specs.declared.kind.Kind.{Kind}
 use Rattle.command_csv.specs.declared.kind.Kind.TheVariants as kind
 use Rattle.command_csv.specs.Rows.{rows_of}
 use Rattle.command_csv.specs.declared.row.ClerkLine.{ClerkLine}
-use Rattle.command_csv.specs.Spelling.{at_text, plan_word}
-use Rattle.command_csv.specs.Reads.{IsClerk, IsPosition, AreWorkers, IsRowOf, IsFirstBadField, IsFirstFault, Reads, all_lines, valuations_in, most_valuations, last_lane, lanes_of}
-use Rattle.command_csv.specs.inside.Forms.{Ends, Then, Amount, Reinstatement, PolicyAndDay, YearsOn, AgeOn, PlanOn, WorkersOn, PositionOn, MayFollow, KindForm, RowForm, kind_word, form_of, StopsAfter}
+use Rattle.command_csv.specs.Spelling.{at_text}
+use Rattle.policy_types.specs.Words.{plan_word}
+use Rattle.command_csv.specs.Reads.{IsClerk, IsPosition, AreWorkers, IsLineRow, IsFirstBadField, IsFirstScriptFault, Reads, all_lines, valuations_in, most_valuations, last_lane, lanes_of}
+use Rattle.command_csv.specs.inside.Forms.{Ends, Then, Amount, Reinstatement, PolicyAndDay, YearsOn, AgeOn, PlanOn, WorkersOn, PositionOn, KindMayStandBehind, KindForm, RowForm, kind_spelling, form_of, StopsAfter}
 use Rattle.command_csv.proofs.Forms.{workers_possible, Carries, IsPossible, carries_all, kind_carries, plan_carries, age_carries, goes_on, stops, end_possible, amount_possible, reinstatement_possible, day_possible, policy_possible, years_possible, age_possible, plan_possible, position_possible, any_kind_possible, row_possible}
 use Rattle.command_csv.proofs.Clerks.{valuations-cons, room_counted}
 use Rattle.command_csv.proofs.Lines.{of_row_form, bad_field}
@@ -117,7 +118,7 @@ plan_decides word = elim (same_text word (plan_word (plan_by (get_or word 0 0)))
   | inr other ↦ inr (λ plan h e. other (e ∙ ap plan_word (sym (ap (λ (w : List ℕ). plan_by (get_or w 0 0)) e ∙ plan_again plan))))
 ]
 
-may_follow : (valued : ℕ) (k : Kind) → MayFollow valued k ⊎ (MayFollow valued k → ⊥)
+may_follow : (valued : ℕ) (k : Kind) → KindMayStandBehind valued k ⊎ (KindMayStandBehind valued k → ⊥)
 may_follow valued kind.Value = elim (cases_lt valued most_valuations) [ inl less ↦ inl less | inr more ↦ inr (λ h. omega (arith, more, h)) ]
 may_follow valued kind.Issue = inl tt
 may_follow valued kind.Premium = inl tt
@@ -129,19 +130,19 @@ may_follow valued kind.Settle = inl tt
 may_follow valued kind.Mature = inl tt
 may_follow valued kind.Trim = inl tt
 
-kind_decides : (valued : ℕ) (word : List ℕ) → Decides (MayFollow valued) kind_word word
-kind_decides valued word = by (may_follow valued there) (same_text word (kind_word there))
+kind_decides : (valued : ℕ) (word : List ℕ) → Decides (KindMayStandBehind valued) kind_spelling word
+kind_decides valued word = by (may_follow valued there) (same_text word (kind_spelling there))
   where
     there : Kind
     there = kind_by (get_or word 0 0)
 
-    only : (k : Kind) → word ≡ kind_word k → k ≡ there
+    only : (k : Kind) → word ≡ kind_spelling k → k ≡ there
     only k e = sym (ap (λ (w : List ℕ). kind_by (get_or w 0 0)) e ∙ kind_again k)
 
-    by : MayFollow valued there ⊎ (MayFollow valued there → ⊥) → (word ≡ kind_word there) ⊎ (word ≡ kind_word there → ⊥) → Decides (MayFollow valued) kind_word word
+    by : KindMayStandBehind valued there ⊎ (KindMayStandBehind valued there → ⊥) → (word ≡ kind_spelling there) ⊎ (word ≡ kind_spelling there → ⊥) → Decides (KindMayStandBehind valued) kind_spelling word
     by (inl room) (inl e) = inl (there, room, e)
-    by (inr full) e = inr (λ k h e. full (subst (MayFollow valued) (only k e) h))
-    by (inl room) (inr other) = inr (λ k h e. other (e ∙ ap kind_word (only k e)))
+    by (inr full) e = inr (λ k h e. full (subst (KindMayStandBehind valued) (only k e) h))
+    by (inl room) (inr other) = inr (λ k h e. other (e ∙ ap kind_spelling (only k e)))
 
 count_decides : (word : List ℕ) → Decides (λ n. n ≤ most_commands) decimal word
 count_decides = decide (λ n. n ≤ most_commands) decimal (suc most_commands) (λ x. at_most x most_commands) (λ x h. omega (arith, h))
@@ -266,12 +267,12 @@ judge_kind kind.Trim = judge_end
 judge_row : (valued : ℕ) (fields : List (List ℕ)) → Judges (RowForm valued) fields
 judge_row valued =
     judge IsClerk decimal (λ clerk. KindForm valued) clerk_decides (row_possible valued) (λ x h. carries_all IsClerk decimal (KindForm valued) x)
-    (λ x h. judge (MayFollow valued) kind_word form_of (kind_decides valued) (any_kind_possible valued) (λ k t. kind_carries valued k) (λ k t. judge_kind k))
+    (λ x h. judge (KindMayStandBehind valued) kind_spelling form_of (kind_decides valued) (any_kind_possible valued) (λ k t. kind_carries valued k) (λ k t. judge_kind k))
 
 -- behind so many valuations all rows are lines'
 record Goes (valued : ℕ) (rows : List (List (List ℕ))) : Type 0 where
   entries : List ClerkLine
-  right : AllZip IsRowOf rows entries
+  right : AllZip IsLineRow rows entries
   few : valued + valuations_in (all_lines entries) ≤ most_valuations
 
 -- or a first one isn't
@@ -285,7 +286,7 @@ record Stops (valued : ℕ) (rows : List (List (List ℕ))) : Type 0 where
   bad : IsFirstBadField (valued + valuations_in (all_lines goes.entries)) faulty field
 
 -- one more row before those that go
-one_before : (valued : ℕ) (row : List (List ℕ)) (rows : List (List (List ℕ))) (entry : ClerkLine) → IsRowOf row entry → Goes (valued + valuations_in (entry.line ∷ [])) rows → Goes valued (row ∷ rows)
+one_before : (valued : ℕ) (row : List (List ℕ)) (rows : List (List (List ℕ))) (entry : ClerkLine) → IsLineRow row entry → Goes (valued + valuations_in (entry.line ∷ [])) rows → Goes valued (row ∷ rows)
 one_before valued row rows entry is g = record {
   entries = entry ∷ g.entries;
   right = (is, g.right);
@@ -297,7 +298,7 @@ unfolding one_before
 judge_rows valued few [] = inl (record { entries = []; right = tt; few = omega (arith, few) })
 judge_rows valued few (row ∷ rows) = on (judge_row valued row) (λ n h. judge_rows n h rows)
   where
-    behind : (entry : ClerkLine) → IsRowOf row entry → Goes (valued + valuations_in (entry.line ∷ [])) rows ⊎ Stops (valued + valuations_in (entry.line ∷ [])) rows → Goes valued (row ∷ rows) ⊎ Stops valued (row ∷ rows)
+    behind : (entry : ClerkLine) → IsLineRow row entry → Goes (valued + valuations_in (entry.line ∷ [])) rows ⊎ Stops (valued + valuations_in (entry.line ∷ [])) rows → Goes valued (row ∷ rows) ⊎ Stops valued (row ∷ rows)
     behind entry is (inl g) = inl (one_before valued row rows entry is g)
     behind entry is (inr s) =
         let count : valued + valuations_in (entry.line ∷ []) + valuations_in (all_lines s.goes.entries) ≡ valued + valuations_in (entry.line ∷ all_lines s.goes.entries) = omega (arith, valuations-cons entry.line (all_lines s.goes.entries)) in
@@ -327,7 +328,7 @@ judge_rows valued few (row ∷ rows) = on (judge_row valued row) (λ n h. judge_
         let found = of_row_form valued row right in
         behind found.0 found.1.is (rest (valued + valuations_in (found.0.line ∷ [])) (room_counted valued found.0.line few found.1.room))
 
-pub judged : (bytes : List ℕ) → ((lanes : List Lane) × Reads bytes lanes) ⊎ ((row : ℕ) × ((field : ℕ) × IsFirstFault bytes row field))
+pub judged : (bytes : List ℕ) → ((lanes : List Lane) × Reads bytes lanes) ⊎ ((row : ℕ) × ((field : ℕ) × IsFirstScriptFault bytes row field))
 judged bytes = elim (judge_rows 0 (omega arith) (rows_of bytes)) [
   | inl g ↦ inl (lanes_of g.entries, record { entries = g.entries; rows = record { each = g.right; few = omega (arith, g.few) }; by_clerk = refl })
   | inr s ↦

@@ -8,8 +8,9 @@ use Rattle.std.proofs.lemmas.List.Elements.{filter-append}
 use Rattle.policy_types.specs.declared.script.Line.{Line}
 use Rattle.policy_types.specs.declared.script.Lane.{Lane}
 use Rattle.command_csv.specs.declared.row.ClerkLine.{ClerkLine}
-use Rattle.command_csv.specs.Lanes.{AreLanesOf, AreRising, IsLane, lines_in, numbers_of}
-use Rattle.command_csv.specs.Reads.{IsClerk, IsRowOf, IsScriptLine, Reads, all_lines, is_valuation, lane_of, lanes_up_to, last_lane, lines_of}
+use Rattle.command_csv.specs.Lanes.{AreLanesOf, IsLane}
+use Rattle.policy_types.specs.Lanes.{AreRising, numbers_of, lines_in}
+use Rattle.command_csv.specs.Reads.{IsClerk, IsLineRow, IsScriptLine, Reads, all_lines, is_valuation, lane_of, lanes_up_to, last_lane, lines_of}
 use Rattle.command_csv.specs.Rows.{rows_of}
 use Rattle.command_csv.proofs.Clerks.{all_right}
 
@@ -151,13 +152,13 @@ all_pass : (lines : List Line) → length (filter (λ line. true) lines) ≡ len
 all_pass [] = refl
 all_pass (line ∷ lines) = ap suc (all_pass lines)
 
-clerks_in : (rows : List (List (List ℕ))) (entries : List ClerkLine) → AllZip IsRowOf rows entries → AllByRecursion (λ (entry : ClerkLine). IsClerk entry.clerk) entries
+clerks_in : (rows : List (List (List ℕ))) (entries : List ClerkLine) → AllZip IsLineRow rows entries → AllByRecursion (λ (entry : ClerkLine). IsClerk entry.clerk) entries
 clerks_in [] [] h = tt
 clerks_in [] (entry ∷ entries) h = absurd h
 clerks_in (row ∷ rows) [] h = absurd h
 clerks_in (row ∷ rows) (entry ∷ entries) h = (h.0.allowed.clerk_in, clerks_in rows entries h.1)
 
-same_length : (rows : List (List (List ℕ))) (entries : List ClerkLine) → AllZip IsRowOf rows entries → length entries ≡ length rows
+same_length : (rows : List (List (List ℕ))) (entries : List ClerkLine) → AllZip IsLineRow rows entries → length entries ≡ length rows
 same_length [] [] h = refl
 same_length [] (entry ∷ entries) h = absurd h
 same_length (row ∷ rows) [] h = absurd h

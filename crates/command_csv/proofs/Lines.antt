@@ -12,9 +12,9 @@ use Rattle.command_csv.specs.declared.kind.Kind.{Kind}
 use Rattle.command_csv.specs.declared.kind.Kind.TheVariants as kind
 use Rattle.command_csv.specs.declared.row.ClerkLine.{ClerkLine}
 use Rattle.command_csv.specs.Spelling.{command_fields, line_fields, row_fields}
-use Rattle.command_csv.specs.Reads.{IsClerk, IsScriptLine, IsClerkLine, HasRoom, FitsUpTo, IsFirstBadField}
-use Rattle.command_csv.specs.inside.Cursor.{Took, StopsIn, Holds, IsNextRow, left_of}
-use Rattle.command_csv.specs.inside.Forms.{KindForm, RowForm, MayFollow, kind_word, form_of, FitsIn, StopsAfter}
+use Rattle.command_csv.specs.Reads.{IsClerk, IsScriptLine, IsClerkLine, MayStandBehind, FitsUpTo, IsFirstBadField}
+use Rattle.command_csv.specs.inside.Cursor.{Took, StopsIn, HoldsLine, IsNextRow, left_of}
+use Rattle.command_csv.specs.inside.Forms.{KindForm, RowForm, KindMayStandBehind, kind_spelling, form_of, FitsIn, StopsAfter}
 use Rattle.command_csv.proofs.Words.{kind_word_injective}
 use Rattle.command_csv.proofs.Forms.{then_is}
 
@@ -48,7 +48,7 @@ size_of kind.Mature = 3
 size_of kind.Value = 4
 size_of kind.Trim = 1
 
-begins_with_word : (c : Command) → command_fields c ≡ kind_word (kind_in c) ∷ drop 1 (command_fields c)
+begins_with_word : (c : Command) → command_fields c ≡ kind_spelling (kind_in c) ∷ drop 1 (command_fields c)
 begins_with_word (command.Issue id day plan age years amount premium) = refl
 begins_with_word (command.Premium id day amount) = refl
 begins_with_word (command.Alter id day amount premium) = refl
@@ -80,7 +80,7 @@ size_at_most kind.Mature = omega arith
 size_at_most kind.Value = omega arith
 size_at_most kind.Trim = omega arith
 
-line_begins : (line : Line) → line_fields line ≡ kind_word (kind_of line) ∷ drop 1 (line_fields line)
+line_begins : (line : Line) → line_fields line ≡ kind_spelling (kind_of line) ∷ drop 1 (line_fields line)
 line_begins (Post c) = begins_with_word c
 line_begins (Value on at workers) = refl
 line_begins Trim = refl
@@ -96,9 +96,9 @@ short line = omega (arith, line_size line, size_at_most (kind_of line))
 -- lines whose fields begin alike are of one kind
 pub one_kind : (a b : Line) (rest : List (List ℕ)) → take 1 (line_fields a ++ rest) ≡ take 1 (line_fields b) → kind_of a ≡ kind_of b
 one_kind a b rest e =
-    let left : take 1 (line_fields a ++ rest) ≡ kind_word (kind_of a) ∷ [] = ap (λ (xs : List (List ℕ)). take 1 (xs ++ rest)) (line_begins a) in
-    let right : take 1 (line_fields b) ≡ kind_word (kind_of b) ∷ [] = ap (take 1) (line_begins b) in
-    let words : kind_word (kind_of a) ≡ kind_word (kind_of b) = cc in
+    let left : take 1 (line_fields a ++ rest) ≡ kind_spelling (kind_of a) ∷ [] = ap (λ (xs : List (List ℕ)). take 1 (xs ++ rest)) (line_begins a) in
+    let right : take 1 (line_fields b) ≡ kind_spelling (kind_of b) ∷ [] = ap (take 1) (line_begins b) in
+    let words : kind_spelling (kind_of a) ≡ kind_spelling (kind_of b) = cc in
     kind_word_injective (kind_of a) (kind_of b) words
 
 -- the fields of a valid command have the form
@@ -115,19 +115,19 @@ has_form valued (command.Settle id day amount) h = then_is kind.Settle tt (then_
 has_form valued (command.Mature id day) h = then_is kind.Mature tt (then_is id h.0 (then_is day h.1 refl))
 
 -- and so have those of a line that may stand where it does
-line_form : (valued : ℕ) (line : Line) → IsScriptLine line → HasRoom valued line → KindForm valued (line_fields line)
+line_form : (valued : ℕ) (line : Line) → IsScriptLine line → MayStandBehind valued line → KindForm valued (line_fields line)
 line_form valued (Post c) h room = has_form valued c h
 line_form valued (Value on at workers) h room = then_is kind.Value room (then_is on h.0 (then_is at h.1 (then_is workers h.2 refl)))
 line_form valued Trim h room = then_is kind.Trim tt refl
 
-row_form : (valued : ℕ) (entry : ClerkLine) → IsClerkLine entry → HasRoom valued entry.line → RowForm valued (row_fields entry)
+row_form : (valued : ℕ) (entry : ClerkLine) → IsClerkLine entry → MayStandBehind valued entry.line → RowForm valued (row_fields entry)
 row_form valued entry h room = then_is entry.clerk h.clerk_in (line_form valued entry.line h.right room)
 
 -- the fields are those of a line that may stand behind so many valuations
 record IsBehind (valued : ℕ) (fields : List (List ℕ)) : Type 0 where
   line : Line
   right : IsScriptLine line
-  room : HasRoom valued line
+  room : MayStandBehind valued line
   spelled : fields ≡ line_fields line
 
 posted : (valued : ℕ) (fields : List (List ℕ)) (c : Command) → IsValid c → fields ≡ command_fields c → IsBehind valued fields
@@ -137,7 +137,7 @@ posted valued fields c h e = record { line = Post c; right = h; room = tt; spell
 of_form : (valued : ℕ) (fields : List (List ℕ)) → KindForm valued fields → IsBehind valued fields
 of_form valued fields h = by h.value h.rest h.fits h.spelled h.more
   where
-    by : (k : Kind) (rest : List (List ℕ)) → MayFollow valued k → fields ≡ kind_word k ∷ rest → form_of k rest → IsBehind valued fields
+    by : (k : Kind) (rest : List (List ℕ)) → KindMayStandBehind valued k → fields ≡ kind_spelling k ∷ rest → form_of k rest → IsBehind valued fields
     by kind.Issue rest fits e m =
         let d = m.more in
         let p = d.more in
@@ -228,27 +228,27 @@ pub stopped : {valued : ℕ} {old new : Fields} → old.asked ≡ 0 → StopsIn 
 stopped {valued} {old} {new} none h = bad_field valued (left_of old) h.fitting new.asked (omega (arith, none, h.number)) h.bad
 
 -- a line stands where one of its kind may
-room_of : (valued : ℕ) (line : Line) (k : Kind) → kind_of line ≡ k → MayFollow valued k → HasRoom valued line
+room_of : (valued : ℕ) (line : Line) (k : Kind) → kind_of line ≡ k → KindMayStandBehind valued k → MayStandBehind valued line
 room_of valued (Post c) k e h = tt
-room_of valued (Value on at workers) k e h = subst (MayFollow valued) (sym e) h
+room_of valued (Value on at workers) k e h = subst (KindMayStandBehind valued) (sym e) h
 room_of valued Trim k e h = tt
 
-holds_kind : (k : Kind) (line : Line) (old new : Fields) → Holds k old new line → kind_of line ≡ k
+holds_kind : (k : Kind) (line : Line) (old new : Fields) → HoldsLine k old new line → kind_of line ≡ k
 holds_kind k line old new h =
-    let left : take 1 (line_fields line ++ left_of new) ≡ kind_word (kind_of line) ∷ [] = ap (λ (xs : List (List ℕ)). take 1 (xs ++ left_of new)) (line_begins line) in
-    let right : kind_word k ∷ [] ≡ take 1 (line_fields line ++ left_of new) = ap (take 1) h.spelled in
-    let words : kind_word (kind_of line) ≡ kind_word k = cc in
+    let left : take 1 (line_fields line ++ left_of new) ≡ kind_spelling (kind_of line) ∷ [] = ap (λ (xs : List (List ℕ)). take 1 (xs ++ left_of new)) (line_begins line) in
+    let right : kind_spelling k ∷ [] ≡ take 1 (line_fields line ++ left_of new) = ap (take 1) h.spelled in
+    let words : kind_spelling (kind_of line) ≡ kind_spelling k = cc in
     kind_word_injective (kind_of line) k words
 
 abbrev pub entry_of : ℕ → Line → ClerkLine
 entry_of clerk line = record { clerk = clerk; line = line }
 
 -- the fields of a row that is read
-pub whole_row : (valued : ℕ) (k : Kind) (line : Line) (clerk : ℕ) {old mid head new : Fields} → Took (IsClerk clerk) (decimal clerk) old mid → Took (MayFollow valued k) (kind_word k) mid head → Holds k head new line
+pub whole_row : (valued : ℕ) (k : Kind) (line : Line) (clerk : ℕ) {old mid head new : Fields} → Took (IsClerk clerk) (decimal clerk) old mid → Took (KindMayStandBehind valued k) (kind_spelling k) mid head → HoldsLine k head new line
     → left_of old ≡ row_fields (entry_of clerk line) ++ left_of new
 whole_row valued k line clerk {old} {mid} {head} {new} a b h = a.spelled ∙ ap (λ (xs : List (List ℕ)). decimal clerk ∷ xs) (b.spelled ∙ h.spelled)
 
-pub next_row : {valued : ℕ} (k : Kind) (line : Line) (clerk : ℕ) {old mid head new : Fields} → Took (IsClerk clerk) (decimal clerk) old mid → Took (MayFollow valued k) (kind_word k) mid head → Holds k head new line
+pub next_row : {valued : ℕ} (k : Kind) (line : Line) (clerk : ℕ) {old mid head new : Fields} → Took (IsClerk clerk) (decimal clerk) old mid → Took (KindMayStandBehind valued k) (kind_spelling k) mid head → HoldsLine k head new line
     → left_of new ≡ [] → IsNextRow valued (left_of old) (entry_of clerk line)
 next_row {valued} k line clerk {old} {mid} {head} {new} a b h none =
     let row : List (List ℕ) = row_fields (entry_of clerk line) in
@@ -275,7 +275,7 @@ too_long a b clerk other left some e =
     omega (arith, line_size a, line_size b, sizes, lengths, length-take m (line_fields a ++ left), length-take m (line_fields b), length-append (line_fields a) left, some_length left some)
 
 -- one field too many
-pub surplus : (valued : ℕ) (entry : ClerkLine) {fields left : List (List ℕ)} {place : ℕ} → IsClerkLine entry → HasRoom valued entry.line → fields ≡ row_fields entry ++ left → left ≢ [] → place ≡ length (line_fields entry.line) + 2
+pub surplus : (valued : ℕ) (entry : ClerkLine) {fields left : List (List ℕ)} {place : ℕ} → IsClerkLine entry → MayStandBehind valued entry.line → fields ≡ row_fields entry ++ left → left ≢ [] → place ≡ length (line_fields entry.line) + 2
     → IsFirstBadField valued fields place
 surplus valued entry {fields} {left} {place} right room e some number =
     let row : List (List ℕ) = row_fields entry in
@@ -296,7 +296,7 @@ surplus valued entry {fields} {left} {place} right room e some number =
     }
 
 -- the same of a row that is read
-pub one_more : {valued : ℕ} (k : Kind) (line : Line) (clerk : ℕ) {old mid head new : Fields} {place : ℕ} → Took (IsClerk clerk) (decimal clerk) old mid → Took (MayFollow valued k) (kind_word k) mid head → Holds k head new line
+pub one_more : {valued : ℕ} (k : Kind) (line : Line) (clerk : ℕ) {old mid head new : Fields} {place : ℕ} → Took (IsClerk clerk) (decimal clerk) old mid → Took (KindMayStandBehind valued k) (kind_spelling k) mid head → HoldsLine k head new line
     → left_of new ≢ [] → place ≡ length (line_fields line) + 2 → IsFirstBadField valued (left_of old) place
 one_more {valued} k line clerk {old} {mid} {head} {new} a b h some number =
     surplus valued (entry_of clerk line) record { clerk_in = a.fits; right = h.right } (room_of valued line k (holds_kind k line head new h) b.fits) (whole_row valued k line clerk a b h) some number

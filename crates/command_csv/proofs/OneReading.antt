@@ -26,7 +26,7 @@ use Rattle.command_csv.specs.declared.kind.Kind.TheVariants as kind
 use Rattle.command_csv.specs.Rows.{rows_of}
 use Rattle.command_csv.specs.declared.row.ClerkLine.{ClerkLine}
 use Rattle.command_csv.specs.Spelling.{at_text, command_fields, line_fields}
-use Rattle.command_csv.specs.Reads.{IsPosition, IsScriptLine, IsRowOf, Reads, lanes_of}
+use Rattle.command_csv.specs.Reads.{IsPosition, IsScriptLine, IsLineRow, Reads, lanes_of}
 use Rattle.command_csv.proofs.FieldTexts.{term_day, years_within}
 use Rattle.command_csv.proofs.Lines.{kind_in, kind_of, one_kind}
 use Rattle.command_csv.proofs.Words.{plan_word_injective}
@@ -215,7 +215,7 @@ one_line a b h k e = by a b h k e (one_kind a b [] (ap (take 1) (append-nil (lin
     by (Value on at workers) Trim h k e kinds = cc
     by Trim (Value on at workers) h k e kinds = cc
 
-pub one_entry : (row : List (List ℕ)) (a b : ClerkLine) → IsRowOf row a → IsRowOf row b → a ≡ b
+pub one_entry : (row : List (List ℕ)) (a b : ClerkLine) → IsLineRow row a → IsLineRow row b → a ≡ b
 one_entry row a b h k =
     let whole : decimal a.clerk ∷ line_fields a.line ≡ decimal b.clerk ∷ line_fields b.line = sym h.spelled ∙ k.spelled in
     let line : a.line ≡ b.line = one_line a.line b.line h.allowed.right k.allowed.right cc in
@@ -224,7 +224,7 @@ one_entry row a b h k =
     let first : made a.clerk a.line ≡ made b.clerk b.line = cc in
     first
 
-one_list : (rows : List (List (List ℕ))) (xs ys : List ClerkLine) → AllZip IsRowOf rows xs → AllZip IsRowOf rows ys → xs ≡ ys
+one_list : (rows : List (List (List ℕ))) (xs ys : List ClerkLine) → AllZip IsLineRow rows xs → AllZip IsLineRow rows ys → xs ≡ ys
 one_list [] [] [] h k = refl
 one_list [] [] (y ∷ ys) h k = absurd k
 one_list [] (x ∷ xs) ys h k = absurd h

@@ -15,7 +15,7 @@ use Rattle.policy_types.specs.declared.script.Lane.{Lane}
 use Rattle.command_csv.specs.declared.fault.ScriptFault.{ScriptFault}
 use Rattle.command_csv.specs.Rows.{rows_of}
 use Rattle.command_csv.specs.declared.row.ClerkLine.{ClerkLine}
-use Rattle.command_csv.specs.Reads.{IsRowOf, AreRowsOf, IsFirstBadField, IsFirstFault, Reads, is_valuation, valuations_in, all_lines, most_valuations, lanes_of}
+use Rattle.command_csv.specs.Reads.{IsLineRow, AreLineRows, IsFirstBadField, IsFirstScriptFault, Reads, is_valuation, valuations_in, all_lines, most_valuations, lanes_of}
 use Rattle.command_csv.specs.inside.Cursor.{IsNextRow}
 use Rattle.command_csv.proofs.Clerks.{room_counted}
 use Rattle.command_csv.proofs.Records.{rows_begin, rows_end, rows_few}
@@ -30,17 +30,17 @@ pub record IsReadTo (bytes : List ℕ) (rows : Reader (Bor (List ℕ))) (count v
   pub behind : List (List (List ℕ))
   pub reached : Reached default_config st.StartRecord (strip_bom bytes) behind (reader_state rows) left
   pub number : count ≡ length behind
-  pub right : AreRowsOf behind entries
+  pub right : AreLineRows behind entries
   pub valued : valuations ≡ valuations_in (all_lines entries)
 
 -- at first none is read
-pub none_read : {entries : List ClerkLine} → entries ≡ [] → AreRowsOf [] entries
-none_read {entries} e = subst (λ (es : List ClerkLine). AreRowsOf [] es) (sym e) record { each = tt; few = omega arith }
+pub none_read : {entries : List ClerkLine} → entries ≡ [] → AreLineRows [] entries
+none_read {entries} e = subst (λ (es : List ClerkLine). AreLineRows [] es) (sym e) record { each = tt; few = omega arith }
 
 pub none_valued : {entries : List ClerkLine} → entries ≡ [] → 0 ≡ valuations_in (all_lines entries)
 none_valued {entries} e = ap (λ (es : List ClerkLine). valuations_in (all_lines es)) (sym e)
 
-push : (rows : List (List (List ℕ))) (entries : List ClerkLine) (row : List (List ℕ)) (entry : ClerkLine) → AllZip IsRowOf rows entries → IsRowOf row entry → AllZip IsRowOf (rows ++ row ∷ []) (entries ++ entry ∷ [])
+push : (rows : List (List (List ℕ))) (entries : List ClerkLine) (row : List (List ℕ)) (entry : ClerkLine) → AllZip IsLineRow rows entries → IsLineRow row entry → AllZip IsLineRow (rows ++ row ∷ []) (entries ++ entry ∷ [])
 push [] [] row entry h r = (r, tt)
 push [] (e ∷ es) row entry h r = absurd h
 push (x ∷ xs) [] row entry h r = absurd h
@@ -53,10 +53,10 @@ more_valued entries entry =
     ap valuations_in (map-append line entries (entry ∷ [])) ∙ ap (λ (xs : List Line). length xs) (filter-append is_valuation (all_lines entries) (entry.line ∷ []))
     ∙ length-append (filter is_valuation (all_lines entries)) (filter is_valuation (entry.line ∷ []))
 
-pub one_more : (rows : List (List (List ℕ))) (entries more : List ClerkLine) (row : List (List ℕ)) (entry : ClerkLine) → AreRowsOf rows entries → IsNextRow (valuations_in (all_lines entries)) row entry → more ≡ entries ++ entry ∷ []
-    → AreRowsOf (rows ++ row ∷ []) more
+pub one_more : (rows : List (List (List ℕ))) (entries more : List ClerkLine) (row : List (List ℕ)) (entry : ClerkLine) → AreLineRows rows entries → IsNextRow (valuations_in (all_lines entries)) row entry → more ≡ entries ++ entry ∷ []
+    → AreLineRows (rows ++ row ∷ []) more
 one_more rows entries more row entry h r e =
-    subst (λ (es : List ClerkLine). AreRowsOf (rows ++ row ∷ []) es) (sym e) record {
+    subst (λ (es : List ClerkLine). AreLineRows (rows ++ row ∷ []) es) (sym e) record {
       each = push rows entries row entry h.each r.is;
       few = omega (arith, more_valued entries entry, room_counted (valuations_in (all_lines entries)) entry.line h.few r.room);
     }
@@ -105,7 +105,7 @@ few_valued bytes old count valuations share entries row entry h is shared =
 
 -- the row behind those that are right is the first fault
 pub row_faulty : (bytes : List ℕ) (old new : Reader (Bor (List ℕ))) (count valuations field : ℕ) (entries : List ClerkLine) (row : List (List ℕ)) → IsReadTo bytes old count valuations entries → ReadRecord left_in old new true row
-    → IsFirstBadField valuations row field → IsFirstFault bytes (count + 1) field
+    → IsFirstBadField valuations row field → IsFirstScriptFault bytes (count + 1) field
 row_faulty bytes old new count valuations field entries row h r bad =
     let g = goes bytes old new count valuations entries row h r in
     let rest = rows_begin bytes (h.behind ++ row ∷ []) (reader_state new) g.0 g.2 in
@@ -122,10 +122,10 @@ row_faulty bytes old new count valuations field entries row h r bad =
 
 -- where no row is left, all are right
 pub no_row : (bytes : List ℕ) (old new : Reader (Bor (List ℕ))) (count valuations : ℕ) (entries : List ClerkLine) (row : List (List ℕ)) → IsReadTo bytes old count valuations entries → ReadRecord left_in old new false row
-    → AreRowsOf (rows_of bytes) entries
+    → AreLineRows (rows_of bytes) entries
 no_row bytes old new count valuations entries row h r =
     let none = csv_end left_in old new row default_config h.left h.config h.source r in
-    subst (λ (rows : List (List (List ℕ))). AreRowsOf rows entries) (sym (rows_end bytes h.behind (reader_state old) h.left h.reached none)) h.right
+    subst (λ (rows : List (List (List ℕ))). AreLineRows rows entries) (sym (rows_end bytes h.behind (reader_state old) h.left h.reached none)) h.right
 
-pub script_read : (bytes : List ℕ) (entries : List ClerkLine) (script : Result (List Lane) ScriptFault) → AreRowsOf (rows_of bytes) entries → IfOk script (λ lanes. lanes ≡ lanes_of entries) → IfOk script (Reads bytes)
+pub script_read : (bytes : List ℕ) (entries : List ClerkLine) (script : Result (List Lane) ScriptFault) → AreLineRows (rows_of bytes) entries → IfOk script (λ lanes. lanes ≡ lanes_of entries) → IfOk script (Reads bytes)
 script_read bytes entries script h made = IfOk-weaker script (λ lanes. lanes ≡ lanes_of entries) (Reads bytes) (λ lanes e. record { entries = entries; rows = h; by_clerk = e }) made

@@ -5,8 +5,8 @@ use Rattle.policy_types.specs.declared.command.Plan.{Plan}
 use Rattle.policy_types.specs.declared.command.Plan.TheVariants.{Term, Whole, Endowment, Limited}
 use Rattle.command_csv.specs.declared.kind.Kind.{Kind}
 use Rattle.command_csv.specs.declared.kind.Kind.TheVariants.{Issue, Premium, Alter, Lapse, Reinstate, Claim, Settle, Mature, Value, Trim}
-use Rattle.command_csv.specs.Spelling.{plan_word}
-use Rattle.command_csv.specs.inside.Forms.{kind_word}
+use Rattle.policy_types.specs.Words.{plan_word}
+use Rattle.command_csv.specs.inside.Forms.{kind_spelling}
 
 -- the plan whose word begins with this letter
 abbrev pub plan_by : ℕ → Plan
@@ -28,7 +28,7 @@ kind_by letter =
     else if letter == 114 then Reinstate else if letter == 99 then Claim else if letter == 115 then Settle else if letter == 109 then Mature
     else if letter == 118 then Value else Trim
 
-pub kind_again : (kind : Kind) → kind_by (get_or (kind_word kind) 0 0) ≡ kind
+pub kind_again : (kind : Kind) → kind_by (get_or (kind_spelling kind) 0 0) ≡ kind
 kind_again Issue = refl
 kind_again Premium = refl
 kind_again Alter = refl
@@ -40,5 +40,5 @@ kind_again Mature = refl
 kind_again Value = refl
 kind_again Trim = refl
 
-pub kind_word_injective : (kind other : Kind) → kind_word kind ≡ kind_word other → kind ≡ other
+pub kind_word_injective : (kind other : Kind) → kind_spelling kind ≡ kind_spelling other → kind ≡ other
 kind_word_injective kind other e = sym (kind_again kind) ∙ ap (λ (word : List ℕ). kind_by (get_or word 0 0)) e ∙ kind_again other

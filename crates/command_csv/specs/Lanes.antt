@@ -1,27 +1,15 @@
 -- What holds of the lanes of any script
-use Rattle.std.specs.Prelude.{◌≡◌, ℕ, ◌<◌, ◌≤◌, List, ◌∷◌, length, map}
-use Rattle.std.specs.List.{AllByRecursion, flat_map}
-use Rattle.policy_types.specs.declared.script.Line.{Line}
+use Rattle.std.specs.Prelude.{◌≡◌, ℕ, ◌≤◌, List, length}
+use Rattle.std.specs.List.{AllByRecursion}
+use Rattle.policy_types.specs.Lanes.{AreRising, lines_in, numbers_of}
 use Rattle.policy_types.specs.declared.script.Lane.{Lane}
 use Rattle.command_csv.specs.Reads.{IsClerk, IsScriptLine, most_valuations, valuations_in}
-
--- each number is below the next
-abbrev pub AreRising : List ℕ → Type 0
-AreRising (n ∷ m ∷ rest) = (n < m) × AreRising (m ∷ rest)
-AreRising _ = Unit {0}
 
 -- a clerk's lane, with a line or more, each of which a script may hold
 pub record IsLane (lane : Lane) : Type 0 where
   pub clerk_in : IsClerk lane.number
   pub some : 1 ≤ length lane.lines
   pub right : AllByRecursion IsScriptLine lane.lines
-
-abbrev pub numbers_of : List Lane → List ℕ
-numbers_of lanes = map (λ (lane : Lane). lane.number) lanes
-
--- the lines of all lanes, one lane after the other
-abbrev pub lines_in : List Lane → List Line
-lines_in lanes = flat_map (λ (lane : Lane). lane.lines) lanes
 
 -- lanes of clerks whose numbers rise, so that each clerk has one at most, with so many lines in all
 pub record AreLanesOf (count : ℕ) (lanes : List Lane) : Type 0 where

@@ -45,7 +45,7 @@ pub record IsClerkLine (entry : ClerkLine) : Type 0 where
   pub right : IsScriptLine entry.line
 
 -- the row, which is a list of fields, is the line's
-pub record IsRowOf (row : List (List ℕ)) (entry : ClerkLine) : Type 0 where
+pub record IsLineRow (row : List (List ℕ)) (entry : ClerkLine) : Type 0 where
   pub allowed : IsClerkLine entry
   pub spelled : row ≡ row_fields entry
 
@@ -62,8 +62,8 @@ abbrev pub all_lines : List ClerkLine → List Line
 all_lines entries = map (λ (entry : ClerkLine). entry.line) entries
 
 -- each row is a line's, and they hold no more valuations than they may
-pub record AreRowsOf (rows : List (List (List ℕ))) (entries : List ClerkLine) : Type 0 where
-  pub each : AllZip IsRowOf rows entries
+pub record AreLineRows (rows : List (List (List ℕ))) (entries : List ClerkLine) : Type 0 where
+  pub each : AllZip IsLineRow rows entries
   pub few : valuations_in (all_lines entries) ≤ most_valuations
 
 -- a clerk's lines among all, in order
@@ -87,20 +87,20 @@ lanes_of entries = lanes_up_to last_lane entries
 -- the rows are these lines', and these are the lanes of the lines
 pub record Reads (bytes : List ℕ) (lanes : List Lane) : Type 0 where
   pub entries : List ClerkLine
-  pub rows : AreRowsOf (rows_of bytes) entries
+  pub rows : AreLineRows (rows_of bytes) entries
   pub by_clerk : lanes ≡ lanes_of entries
 
 -- a line may stand behind so many valuations: a further valuation only where there are less than there may be
-abbrev pub HasRoom : ℕ → Line → Type 0
-HasRoom valued (Value on at workers) = valued < most_valuations
-HasRoom valued _ = ⊤
+abbrev pub MayStandBehind : ℕ → Line → Type 0
+MayStandBehind valued (Value on at workers) = valued < most_valuations
+MayStandBehind valued _ = ⊤
 
 -- The first fields, up to this place, are those of the row of some line that may stand behind so many valuations.
 -- Places are counted from 1; where the fields end before the place, that line's row ends there too.
 pub record FitsUpTo (valued : ℕ) (fields : List (List ℕ)) (place : ℕ) : Type 0 where
   pub entry : ClerkLine
   pub allowed : IsClerkLine entry
-  pub room : HasRoom valued entry.line
+  pub room : MayStandBehind valued entry.line
   pub same : take place fields ≡ take place (row_fields entry)
 
 -- The first place whose field doesn't fit: some line's row has all fields before it, and no line's row has these
@@ -111,12 +111,12 @@ pub record IsFirstBadField (valued : ℕ) (fields : List (List ℕ)) (place : �
   pub bad : ¬ FitsUpTo valued fields place
 
 -- the first row, counted from 1, that is no line's behind the valuations before it, and its first bad field
-pub record IsFirstFault (bytes : List ℕ) (row field : ℕ) : Type 0 where
+pub record IsFirstScriptFault (bytes : List ℕ) (row field : ℕ) : Type 0 where
   pub before : List (List (List ℕ))
   pub faulty : List (List ℕ)
   pub after : List (List (List ℕ))
   pub rows : rows_of bytes ≡ before ++ faulty ∷ after
   pub number : row ≡ length before + 1
   pub entries : List ClerkLine
-  pub right : AreRowsOf before entries
+  pub right : AreLineRows before entries
   pub bad : IsFirstBadField (valuations_in (all_lines entries)) faulty field

@@ -2,10 +2,9 @@
 use Rattle.std.specs.Prelude.{ℕ, List, [], ◌∷◌, codes, decimal}
 use Rattle.policy_types.specs.declared.command.Command.{Command}
 use Rattle.policy_types.specs.declared.command.Command.TheVariants.{Issue, Premium, Alter, Lapse, Reinstate, Claim, Settle, Mature}
-use Rattle.policy_types.specs.declared.command.Plan.{Plan}
-use Rattle.policy_types.specs.declared.command.Plan.TheVariants.{Term, Whole, Endowment, Limited}
 use Rattle.policy_types.specs.declared.entry.At.{At}
 use Rattle.policy_types.specs.declared.entry.At.TheVariants.{Now, Position}
+use Rattle.policy_types.specs.Words.{plan_word}
 use Rattle.policy_types.specs.declared.script.Line.{Line}
 use Rattle.policy_types.specs.declared.script.Line.TheVariants.{Post, Value, Trim}
 use Rattle.command_csv.specs.declared.row.ClerkLine.{ClerkLine}
@@ -15,13 +14,6 @@ use Rattle.money_core.specs.CentsText.{cents_text}
 -- a line of clerk 1
 abbrev pub by_first : Line → ClerkLine
 by_first line = record { clerk = 1; line = line }
-
--- a plan's name
-abbrev pub plan_word : Plan → List ℕ
-plan_word Term = codes "term"
-plan_word Whole = codes "whole"
-plan_word Endowment = codes "endowment"
-plan_word Limited = codes "limited"
 
 -- the kind, the policy's number, the day, and what else the command holds: whole numbers without leading zeros,
 -- days as YYYY-MM-DD, amounts with a point and two digits

@@ -6,50 +6,50 @@ use Rattle.policy_types.specs.declared.command.Plan.TheVariants.{Endowment}
 use Rattle.policy_types.specs.declared.entry.At.TheVariants.{Now, Position}
 use Rattle.policy_types.specs.declared.script.Line.{Line}
 use Rattle.policy_types.specs.declared.script.Line.TheVariants.{Post, Value, Trim}
-use Rattle.command_csv.specs.Reads.{Reads, IsFirstFault, lane_of}
+use Rattle.command_csv.specs.Reads.{Reads, IsFirstScriptFault, lane_of}
 
 -- the script says these lines, all of clerk 1
-abbrev pub Says : List ℕ → List Line → Type 0
-Says script lines = Reads script (lane_of 1 lines)
+abbrev pub SaysLines : List ℕ → List Line → Type 0
+SaysLines script lines = Reads script (lane_of 1 lines)
 
 -- 2020-01-01 is day 18262
 abbrev pub IssueLine : Type 0
-IssueLine = Says (codes "1,issue,7001,2020-01-01,endowment,0,3,1000.00,400.00\n") (Post (Issue 7001 (pos 18262) Endowment 0 3 100000 40000) ∷ [])
+IssueLine = SaysLines (codes "1,issue,7001,2020-01-01,endowment,0,3,1000.00,400.00\n") (Post (Issue 7001 (pos 18262) Endowment 0 3 100000 40000) ∷ [])
 
 abbrev pub PremiumLine : Type 0
-PremiumLine = Says (codes "1,premium,7001,2021-01-01,400.00\n") (Post (Premium 7001 (pos 18628) 40000) ∷ [])
+PremiumLine = SaysLines (codes "1,premium,7001,2021-01-01,400.00\n") (Post (Premium 7001 (pos 18628) 40000) ∷ [])
 
 abbrev pub AlterLine : Type 0
-AlterLine = Says (codes "1,alter,7001,2021-01-02,500.00,200.00\n") (Post (Alter 7001 (pos 18629) 50000 20000) ∷ [])
+AlterLine = SaysLines (codes "1,alter,7001,2021-01-02,500.00,200.00\n") (Post (Alter 7001 (pos 18629) 50000 20000) ∷ [])
 
 abbrev pub LapseLine : Type 0
-LapseLine = Says (codes "1,lapse,7001,2022-02-02\n") (Post (Lapse 7001 (pos 19025)) ∷ [])
+LapseLine = SaysLines (codes "1,lapse,7001,2022-02-02\n") (Post (Lapse 7001 (pos 19025)) ∷ [])
 
 abbrev pub ReinstateLine : Type 0
-ReinstateLine = Says (codes "1,reinstate,7001,2022-03-01,400000000.00\n") (Post (Reinstate 7001 (pos 19052) 40000000000) ∷ [])
+ReinstateLine = SaysLines (codes "1,reinstate,7001,2022-03-01,400000000.00\n") (Post (Reinstate 7001 (pos 19052) 40000000000) ∷ [])
 
 abbrev pub ClaimLine : Type 0
-ClaimLine = Says (codes "1,claim,7001,2022-12-31\n") (Post (Claim 7001 (pos 19357)) ∷ [])
+ClaimLine = SaysLines (codes "1,claim,7001,2022-12-31\n") (Post (Claim 7001 (pos 19357)) ∷ [])
 
 abbrev pub SettleLine : Type 0
-SettleLine = Says (codes "1,settle,7001,2023-01-15,0.01\n") (Post (Settle 7001 (pos 19372) 1) ∷ [])
+SettleLine = SaysLines (codes "1,settle,7001,2023-01-15,0.01\n") (Post (Settle 7001 (pos 19372) 1) ∷ [])
 
 abbrev pub MatureLine : Type 0
-MatureLine = Says (codes "1,mature,4294967295,2199-12-31") (Post (Mature 4294967295 (pos 84005)) ∷ [])
+MatureLine = SaysLines (codes "1,mature,4294967295,2199-12-31") (Post (Mature 4294967295 (pos 84005)) ∷ [])
 
 abbrev pub ValueLine : Type 0
-ValueLine = Says (codes "1,value,2020-01-01,now,64\n") (Value (pos 18262) Now 64 ∷ [])
+ValueLine = SaysLines (codes "1,value,2020-01-01,now,64\n") (Value (pos 18262) Now 64 ∷ [])
 
 -- a position may be 0, before all commands
 abbrev pub ValueAtLine : Type 0
-ValueAtLine = Says (codes "1,value,2199-12-31,0,1\n") (Value (pos 84005) (Position 0) 1 ∷ [])
+ValueAtLine = SaysLines (codes "1,value,2199-12-31,0,1\n") (Value (pos 84005) (Position 0) 1 ∷ [])
 
 abbrev pub TrimLine : Type 0
-TrimLine = Says (codes "1,trim\n") (Trim ∷ [])
+TrimLine = SaysLines (codes "1,trim\n") (Trim ∷ [])
 
 -- a byte order mark, quotes, an empty line, and rows that end with a carriage return, a line feed, or both
 abbrev pub OddScript : Type 0
-OddScript = Says (239 ∷ 187 ∷ 191 ∷ codes "\"1\",\"lapse\",7001,2022-02-02\r\n\r\n1,claim,7001,\"2022-12-31\"\r1,lapse,7002,2022-02-02\n")
+OddScript = SaysLines (239 ∷ 187 ∷ 191 ∷ codes "\"1\",\"lapse\",7001,2022-02-02\r\n\r\n1,claim,7001,\"2022-12-31\"\r1,lapse,7002,2022-02-02\n")
     (Post (Lapse 7001 (pos 19025)) ∷ Post (Claim 7001 (pos 19357)) ∷ Post (Lapse 7002 (pos 19025)) ∷ [])
 
 -- three clerks, one among the others, and the last one first: the lanes stand by number, and each has its rows in order
@@ -61,31 +61,31 @@ ThreeClerks = Reads (codes "8,trim\n3,lapse,7001,2022-02-02\n1,claim,7002,2022-1
 
 -- clerk 9 isn't one
 abbrev pub NoClerk : Type 0
-NoClerk = IsFirstFault (codes "9,lapse,1,2020-01-01") 1 1
+NoClerk = IsFirstScriptFault (codes "9,lapse,1,2020-01-01") 1 1
 
 -- nor is clerk 0
 abbrev pub NoClerkBefore : Type 0
-NoClerkBefore = IsFirstFault (codes "8,trim\n0,trim") 2 1
+NoClerkBefore = IsFirstScriptFault (codes "8,trim\n0,trim") 2 1
 
 -- the clerk is judged before the kind
 abbrev pub NoClerkNorKind : Type 0
-NoClerkNorKind = IsFirstFault (codes "9,lapsed") 1 1
+NoClerkNorKind = IsFirstScriptFault (codes "9,lapsed") 1 1
 
 -- empty lines aren't counted, and the second row has no day
 abbrev pub NoDay : Type 0
-NoDay = IsFirstFault (codes "\n1,lapse,1,2020-01-01\n\n1,lapse,1\n") 2 4
+NoDay = IsFirstScriptFault (codes "\n1,lapse,1,2020-01-01\n\n1,lapse,1\n") 2 4
 
 -- a fifth field is one too many
 abbrev pub OneTooMany : Type 0
-OneTooMany = IsFirstFault (codes "1,lapse,1,2020-01-01,\n") 1 5
+OneTooMany = IsFirstScriptFault (codes "1,lapse,1,2020-01-01,\n") 1 5
 
 -- a trim has no third field, be it empty
 abbrev pub TrimOfSomething : Type 0
-TrimOfSomething = IsFirstFault (codes "1,trim,") 1 3
+TrimOfSomething = IsFirstScriptFault (codes "1,trim,") 1 3
 
 -- the number of workers is missing
 abbrev pub NoWorkers : Type 0
-NoWorkers = IsFirstFault (codes "1,value,2021-01-01,now") 1 5
+NoWorkers = IsFirstScriptFault (codes "1,value,2021-01-01,now") 1 5
 
 -- sixteen valuations, the half of them by clerk 1 and the half by clerk 8
 abbrev pub sixteen : List ℕ
@@ -93,8 +93,8 @@ sixteen = flat_map (λ row. row) (replicate 8 (codes "1,value,2020-01-01,now,1\n
 
 -- a seventeenth doesn't fit in its kind, whoever's it is
 abbrev pub OneValuationTooMany : Type 0
-OneValuationTooMany = IsFirstFault (sixteen ++ codes "5,value,2020-01-01,now,1\n") 17 2
+OneValuationTooMany = IsFirstScriptFault (sixteen ++ codes "5,value,2020-01-01,now,1\n") 17 2
 
 -- but for a clerk that isn't one, who doesn't fit before
 abbrev pub OneTooManyOfNoClerk : Type 0
-OneTooManyOfNoClerk = IsFirstFault (sixteen ++ codes "9,value,2020-01-01,now,1\n") 17 1
+OneTooManyOfNoClerk = IsFirstScriptFault (sixteen ++ codes "9,value,2020-01-01,now,1\n") 17 1

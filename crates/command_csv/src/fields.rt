@@ -7,9 +7,10 @@ ghost use Rattle.policy_types.specs.declared.entry.At.{At as APosition};
 ghost use Rattle.life_dates.specs.DayText.{day_text};
 ghost use Rattle.money_core.specs.CentsText.{cents_text};
 ghost use Rattle.command_csv.specs.declared.kind.Kind.{Kind as AKind};
-ghost use Rattle.command_csv.specs.inside.Forms.{MayFollow, kind_word};
+ghost use Rattle.command_csv.specs.inside.Forms.{KindMayStandBehind, kind_spelling};
 ghost use Rattle.command_csv.specs.Reads.{AreWorkers, IsClerk, IsPosition};
-ghost use Rattle.command_csv.specs.Spelling.{at_text, plan_word};
+ghost use Rattle.command_csv.specs.Spelling.{at_text};
+ghost use Rattle.policy_types.specs.Words.{plan_word};
 
 use crate::kind::{Kind, kind_of};
 use csv::ByteRecord;
@@ -71,8 +72,8 @@ impl<'a> Fields<'a> {
     /// The kind of a line behind so many valuations.
     pub fn kind(&mut self, valuations: u32) -> Option<Kind>
         requires few { self.old.asked < 16 }
-        ensures some { IfSome result (λ kind. Took (MayFollow valuations kind) (kind_word kind) self.old self.new) }
-        ensures none { IfNone result (Missed (MayFollow valuations) kind_word self.old self.new) }
+        ensures some { IfSome result (λ kind. Took (KindMayStandBehind valuations kind) (kind_spelling kind) self.old self.new) }
+        ensures none { IfNone result (Missed (KindMayStandBehind valuations) kind_spelling self.old self.new) }
     {
         let kind = kind_of(self.next_field()?)?;
         if may_follow(valuations, kind) {
@@ -204,7 +205,7 @@ fn plan_of(word: &[u8]) -> Option<Plan>
 
 // Whether a line of the kind may stand behind so many valuations.
 fn may_follow(valuations: u32, kind: Kind) -> bool
-    ensures { IsTrue result ↔ MayFollow valuations kind }
+    ensures { IsTrue result ↔ KindMayStandBehind valuations kind }
 {
     match kind {
         Kind::Value => valuations < MOST_VALUATIONS,

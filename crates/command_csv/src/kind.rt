@@ -1,5 +1,5 @@
 ghost use Rattle.std.specs.Prelude.{◌≡◌, ◌≢◌, IfSome, IfNone};
-ghost use Rattle.command_csv.specs.inside.Forms.{kind_word};
+ghost use Rattle.command_csv.specs.inside.Forms.{kind_spelling};
 ghost use Rattle.command_csv.specs.declared.kind.Kind.{Kind as AKind};
 
 /// The kinds of line.
@@ -19,8 +19,8 @@ pub enum Kind {
 
 /// The kind of this word.
 pub fn kind_of(word: &[u8]) -> Option<Kind>
-    ensures some { IfSome result (λ kind. word.now ≡ kind_word kind) }
-    ensures none { IfNone result ((kind : AKind) → word.now ≢ kind_word kind) }
+    ensures some { IfSome result (λ kind. word.now ≡ kind_spelling kind) }
+    ensures none { IfNone result ((kind : AKind) → word.now ≢ kind_spelling kind) }
 {
     match word {
         b"issue" => Some(Kind::Issue),

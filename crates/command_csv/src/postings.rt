@@ -2,7 +2,7 @@
 ghost use Rattle.std.specs.Prelude.{◌≡◌, IfSome, IfNone};
 ghost use Rattle.command_csv.specs.declared.kind.Kind.TheVariants.{Issue, Premium, Alter, Lapse, Reinstate, Claim, Settle, Mature, Value};
 ghost use Rattle.command_csv.specs.inside.Forms.{form_of};
-ghost use Rattle.command_csv.specs.inside.Cursor.{Holds, StopsIn};
+ghost use Rattle.command_csv.specs.inside.Cursor.{HoldsLine, StopsIn};
 
 use crate::fields::Fields;
 use crate::kind::Kind;
@@ -12,7 +12,7 @@ impl Fields<'_> {
     /// The line of a kind, which stands behind the kind's word.
     pub fn of_kind(&mut self, kind: Kind) -> Option<Line>
         requires head { self.old.asked ≡ 2 }
-        ensures some { IfSome result (Holds kind self.old self.new) }
+        ensures some { IfSome result (HoldsLine kind self.old self.new) }
         ensures none { IfNone result (StopsIn (form_of kind) self.old self.new) }
     {
         match kind {
@@ -31,7 +31,7 @@ impl Fields<'_> {
 
     fn issue(&mut self) -> Option<Line>
         requires head { self.old.asked ≡ 2 }
-        ensures some { IfSome result (Holds Issue self.old self.new) }
+        ensures some { IfSome result (HoldsLine Issue self.old self.new) }
         ensures none { IfNone result (StopsIn (form_of Issue) self.old self.new) }
     {
         let id = self.id()?;
@@ -54,7 +54,7 @@ impl Fields<'_> {
 
     fn premium(&mut self) -> Option<Line>
         requires head { self.old.asked ≡ 2 }
-        ensures some { IfSome result (Holds Premium self.old self.new) }
+        ensures some { IfSome result (HoldsLine Premium self.old self.new) }
         ensures none { IfNone result (StopsIn (form_of Premium) self.old self.new) }
     {
         let id = self.id()?;
@@ -65,7 +65,7 @@ impl Fields<'_> {
 
     fn alter(&mut self) -> Option<Line>
         requires head { self.old.asked ≡ 2 }
-        ensures some { IfSome result (Holds Alter self.old self.new) }
+        ensures some { IfSome result (HoldsLine Alter self.old self.new) }
         ensures none { IfNone result (StopsIn (form_of Alter) self.old self.new) }
     {
         let id = self.id()?;
@@ -82,7 +82,7 @@ impl Fields<'_> {
 
     fn lapse(&mut self) -> Option<Line>
         requires head { self.old.asked ≡ 2 }
-        ensures some { IfSome result (Holds Lapse self.old self.new) }
+        ensures some { IfSome result (HoldsLine Lapse self.old self.new) }
         ensures none { IfNone result (StopsIn (form_of Lapse) self.old self.new) }
     {
         let id = self.id()?;
@@ -92,7 +92,7 @@ impl Fields<'_> {
 
     fn reinstate(&mut self) -> Option<Line>
         requires head { self.old.asked ≡ 2 }
-        ensures some { IfSome result (Holds Reinstate self.old self.new) }
+        ensures some { IfSome result (HoldsLine Reinstate self.old self.new) }
         ensures none { IfNone result (StopsIn (form_of Reinstate) self.old self.new) }
     {
         let id = self.id()?;
@@ -103,7 +103,7 @@ impl Fields<'_> {
 
     fn claim(&mut self) -> Option<Line>
         requires head { self.old.asked ≡ 2 }
-        ensures some { IfSome result (Holds Claim self.old self.new) }
+        ensures some { IfSome result (HoldsLine Claim self.old self.new) }
         ensures none { IfNone result (StopsIn (form_of Claim) self.old self.new) }
     {
         let id = self.id()?;
@@ -113,7 +113,7 @@ impl Fields<'_> {
 
     fn settle(&mut self) -> Option<Line>
         requires head { self.old.asked ≡ 2 }
-        ensures some { IfSome result (Holds Settle self.old self.new) }
+        ensures some { IfSome result (HoldsLine Settle self.old self.new) }
         ensures none { IfNone result (StopsIn (form_of Settle) self.old self.new) }
     {
         let id = self.id()?;
@@ -124,7 +124,7 @@ impl Fields<'_> {
 
     fn mature(&mut self) -> Option<Line>
         requires head { self.old.asked ≡ 2 }
-        ensures some { IfSome result (Holds Mature self.old self.new) }
+        ensures some { IfSome result (HoldsLine Mature self.old self.new) }
         ensures none { IfNone result (StopsIn (form_of Mature) self.old self.new) }
     {
         let id = self.id()?;
@@ -134,7 +134,7 @@ impl Fields<'_> {
 
     fn valuation(&mut self) -> Option<Line>
         requires head { self.old.asked ≡ 2 }
-        ensures some { IfSome result (Holds Value self.old self.new) }
+        ensures some { IfSome result (HoldsLine Value self.old self.new) }
         ensures none { IfNone result (StopsIn (form_of Value) self.old self.new) }
     {
         let on = self.day()?;

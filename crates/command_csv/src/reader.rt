@@ -1,8 +1,8 @@
 // A script, read row by row.
 ghost use Rattle.std.specs.Prelude.{◌≡◌, ◌≤◌, [], ◌∷◌, length, IfOk, IfErr};
-ghost use Rattle.command_csv.specs.Reads.{AreRowsOf, Reads, lanes_of, lines_of as lines_among, valuations_in};
+ghost use Rattle.command_csv.specs.Reads.{AreLineRows, Reads, lanes_of, lines_of as lines_among, valuations_in};
 ghost use Rattle.command_csv.specs.Rows.{rows_of};
-ghost use Rattle.command_csv.specs.Cause.{HasCause};
+ghost use Rattle.command_csv.specs.Cause.{HasScriptCause};
 
 use crate::fault::ScriptFault;
 use crate::fields::LAST_LANE;
@@ -16,7 +16,7 @@ use std::alloc::Global;
 pub fn read_script(alloc: Global, bytes: &[u8]) -> Result<Script, ScriptFault>
     requires { length bytes.now ≤ 16777216 }
     ensures ok { IfOk result (Reads bytes.now) }
-    ensures fault { IfErr result (HasCause bytes.now) }
+    ensures fault { IfErr result (HasScriptCause bytes.now) }
 {
     let entries = read_lines(alloc, bytes)?;
     script_of(alloc, entries.as_slice())
@@ -25,8 +25,8 @@ pub fn read_script(alloc: Global, bytes: &[u8]) -> Result<Script, ScriptFault>
 // The lines of all rows.
 fn read_lines(alloc: Global, bytes: &[u8]) -> Result<Vec<ClerkLine>, ScriptFault>
     requires { length bytes.now ≤ 16777216 }
-    ensures ok { IfOk result (λ entries. AreRowsOf (rows_of bytes.now) entries.items) }
-    ensures fault { IfErr result (HasCause bytes.now) }
+    ensures ok { IfOk result (λ entries. AreLineRows (rows_of bytes.now) entries.items) }
+    ensures fault { IfErr result (HasScriptCause bytes.now) }
 {
     let mut rows = ReaderBuilder::new()
         .has_headers(false)

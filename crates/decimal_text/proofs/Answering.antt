@@ -4,7 +4,7 @@ use Rattle.std.proofs.Math.Nat.{one-le-pow, mul-le-mul_right}
 use Rattle.decimal_text.specs.declared.fault.RateFault.{RateFault}
 use Rattle.decimal_text.specs.declared.fault.RateFault.TheVariants.{NoNumber, AboveOne, TooFine}
 use Rattle.decimal_text.specs.Decimal.{Decimal, Spells}
-use Rattle.decimal_text.specs.Rate.{numerator, denominator, IsValue, IsAboveOne, IsTooFine, IsRate, Answers}
+use Rattle.decimal_text.specs.Rate.{numerator, denominator, IsInUnits, IsAboveOne, IsTooFine, IsRate, Answers}
 use Rattle.decimal_text.proofs.Readings.{one_decimal}
 use Rattle.std.proofs.lemmas.Bool.{cases_lt}
 
@@ -24,7 +24,7 @@ value_at_most rate top bottom h k = let most : rate * bottom ≤ 1000000000 * bo
 positive : (d : Decimal) → 0 < denominator d
 positive d = one-le-pow _ 10 (omega arith)
 
-pub same_value : (d : Decimal) (a b : ℕ) → IsValue a d → IsValue b d → a ≡ b
+pub same_value : (d : Decimal) (a b : ℕ) → IsInUnits a d → IsInUnits b d → a ≡ b
 same_value d a b h k = same_units a b (denominator d) (1000000000 * numerator d) (positive d) h k
 
 pub found : (text : List ℕ) (d : Decimal) (r : Result ℕ RateFault) → Spells text d → Answers d r → IfOk r (IsRate text)
@@ -35,7 +35,7 @@ found text d (Err e) h a = tt
 elsewhere : (text : List ℕ) (d e : Decimal) (r : Result ℕ RateFault) → Spells text d → Spells text e → Answers d r → Answers e r
 elsewhere text d e r h k a = subst (λ x. Answers x r) (one_decimal text d e h k) a
 
-only_at : (d : Decimal) (r : Result ℕ RateFault) (rate : ℕ) → Answers d r → IsValue rate d → rate ≤ 1000000000 → r ≡ Ok rate
+only_at : (d : Decimal) (r : Result ℕ RateFault) (rate : ℕ) → Answers d r → IsInUnits rate d → rate ≤ 1000000000 → r ≡ Ok rate
 only_at d (Ok x) rate a v most = ap (λ (n : ℕ). Ok n) (same_value d x rate a.0 v)
 only_at d (Err NoNumber) rate a v most = absurd a
 only_at d (Err AboveOne) rate a v most = let small = value_at_most rate (numerator d) (denominator d) v most in absurd (omega arith)

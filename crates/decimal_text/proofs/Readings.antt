@@ -3,7 +3,7 @@ use Rattle.std.proofs.Common.{◌≡◌, ℕ, ◌+◌, ◌<◌, ◌≤◌, ◌�
 use Rattle.std.specs.Char.{is_ascii_digit}
 use Rattle.std.specs.List.{prefix_len}
 use Rattle.std.proofs.lemmas.Bool.{cases_eq}
-use Rattle.decimal_text.specs.Decimal.{AreDigits, number, Decimal, IsSigned, IsExponent, Spells, point, plus, minus}
+use Rattle.decimal_text.specs.Decimal.{AreDigits, number, Decimal, IsSigned, IsExponent, Spells, point, plus_sign, minus}
 use Rattle.decimal_text.specs.inside.Splits.{SplitsDigits, SplitsFraction, StopsDigits}
 use Rattle.decimal_text.proofs.Cuts.{cut_at_prefix, fronts, one_cut}
 
@@ -108,16 +108,16 @@ no_sign [] others sign h e low = cc
 no_sign (x ∷ digits) others sign h e low = let same : x ≡ sign = cc in omega (arith, h.0)
 
 -- the digits behind a sign or none, read two ways
-unsigned : (text digits others : List ℕ) → AreDigits digits → AreDigits others → (text ≡ digits) ⊎ (text ≡ plus ∷ digits) → (text ≡ others) ⊎ (text ≡ plus ∷ others) → digits ≡ others
+unsigned : (text digits others : List ℕ) → AreDigits digits → AreDigits others → (text ≡ digits) ⊎ (text ≡ plus_sign ∷ digits) → (text ≡ others) ⊎ (text ≡ plus_sign ∷ others) → digits ≡ others
 unsigned text digits others h k a b =
     elim a [
-      | inl p ↦ elim b [ inl q ↦ sym p ∙ q | inr q ↦ absurd (no_sign digits others plus h (sym p ∙ q) (omega arith)) ]
-      | inr p ↦ elim b [ inl q ↦ absurd (no_sign others digits plus k (sym q ∙ p) (omega arith)) | inr q ↦ cc ]
+      | inl p ↦ elim b [ inl q ↦ sym p ∙ q | inr q ↦ absurd (no_sign digits others plus_sign h (sym p ∙ q) (omega arith)) ]
+      | inr p ↦ elim b [ inl q ↦ absurd (no_sign others digits plus_sign k (sym q ∙ p) (omega arith)) | inr q ↦ cc ]
     ]
 
-no_minus : (text digits others : List ℕ) → AreDigits digits → (text ≡ digits) ⊎ (text ≡ plus ∷ digits) → text ≡ minus ∷ others → ⊥
+no_minus : (text digits others : List ℕ) → AreDigits digits → (text ≡ digits) ⊎ (text ≡ plus_sign ∷ digits) → text ≡ minus ∷ others → ⊥
 no_minus text digits others h a q =
-    elim a [ inl p ↦ no_sign digits others minus h (sym p ∙ q) (omega arith) | inr p ↦ let e : plus ≡ minus = cc in omega arith ]
+    elim a [ inl p ↦ no_sign digits others minus h (sym p ∙ q) (omega arith) | inr p ↦ let e : plus_sign ≡ minus = cc in omega arith ]
 
 signed_power : (text : List ℕ) (raised lowered raised' lowered' : ℕ) → IsSigned text raised lowered → IsSigned text raised' lowered' → (raised ≡ raised') × (lowered ≡ lowered')
 signed_power text raised lowered raised' lowered' h k =

@@ -3,7 +3,7 @@ use Rattle.std.proofs.Common.{◌≡◌, ℕ, ◌+◌, ◌-◌, ◌*◌, ◌^◌
 use Rattle.std.proofs.lemmas.List.{take_all, drop_all}
 use Rattle.std.proofs.lemmas.Bool.{cases_lt}
 use Rattle.decimal_text.specs.Decimal.{number, AreDigits, Decimal}
-use Rattle.decimal_text.specs.Rate.{numerator, denominator, IsValue, IsAboveOne, IsTooFine}
+use Rattle.decimal_text.specs.Rate.{numerator, denominator, IsInUnits, IsAboveOne, IsTooFine}
 use Rattle.decimal_text.specs.inside.Places.{Counts}
 use Rattle.decimal_text.specs.declared.units.Units.{Units}
 use Rattle.decimal_text.proofs.Pushes.{counted}
@@ -43,7 +43,7 @@ many_units d total is_exact t h = above_by_units _ _ t.units t.below t.measures 
 pub one_and_more : (d : Decimal) (total : ℕ) (is_exact : Bool) → Totals d total is_exact → total ≡ 1000000000 → is_exact ≡ false → IsAboveOne d
 one_and_more d total is_exact t h e = above_by_rest _ _ t.units t.below t.measures (omega (arith, t.total_is)) (positive is_exact t.below t.exact_is e)
 
-pub exact_units : (d : Decimal) (total : ℕ) (is_exact : Bool) → Totals d total is_exact → total ≤ 1000000000 → is_exact ≡ true → IsValue total d
+pub exact_units : (d : Decimal) (total : ℕ) (is_exact : Bool) → Totals d total is_exact → total ≤ 1000000000 → is_exact ≡ true → IsInUnits total d
 exact_units d total is_exact t h e =
     let same : total ≡ t.units = omega (arith, t.total_is) in
     ap (λ n. n * denominator d) same ∙ value_is _ _ t.units t.below t.measures (t.exact_is.0 e)

@@ -7,8 +7,8 @@ use Rattle.std.specs.Char.{IsAsciiDigit}
 abbrev pub point : ℕ
 point = 46
 
-abbrev pub plus : ℕ
-plus = 43
+abbrev pub plus_sign : ℕ
+plus_sign = 43
 
 abbrev pub minus : ℕ
 minus = 45
@@ -47,7 +47,7 @@ AreFewDigits digits = AreDigits digits × (0 < length digits) × (length digits 
 abbrev pub IsSigned : List ℕ → ℕ → ℕ → Type 0
 IsSigned text raised lowered =
     (digits : List ℕ) × AreFewDigits digits
-    × ((((text ≡ digits) ⊎ (text ≡ plus ∷ digits)) × (raised ≡ number digits) × (lowered ≡ 0))
+    × ((((text ≡ digits) ⊎ (text ≡ plus_sign ∷ digits)) × (raised ≡ number digits) × (lowered ≡ 0))
     ⊎ ((text ≡ minus ∷ digits) × (raised ≡ 0) × (lowered ≡ number digits)))
 
 -- nothing, or `E` or `e` before such a number

@@ -14,23 +14,23 @@ abbrev pub denominator : Decimal → ℕ
 denominator decimal = 10 ^ (length decimal.fraction + decimal.lowered)
 
 -- so many units of 10^-9 are the value
-abbrev pub IsValue : ℕ → Decimal → Type 0
-IsValue units decimal = units * denominator decimal ≡ 1000000000 * numerator decimal
+abbrev pub IsInUnits : ℕ → Decimal → Type 0
+IsInUnits units decimal = units * denominator decimal ≡ 1000000000 * numerator decimal
 
 abbrev pub IsAboveOne : Decimal → Type 0
 IsAboveOne decimal = denominator decimal < numerator decimal
 
 -- at most one, and no whole number of units of 10^-9
 abbrev pub IsTooFine : Decimal → Type 0
-IsTooFine decimal = (numerator decimal ≤ denominator decimal) × ((units : ℕ) → IsValue units decimal → ⊥)
+IsTooFine decimal = (numerator decimal ≤ denominator decimal) × ((units : ℕ) → IsInUnits units decimal → ⊥)
 
 -- the text spells a decimal of at most one, which is this rate in units of 10^-9
 abbrev pub IsRate : List ℕ → ℕ → Type 0
-IsRate text rate = (decimal : Decimal) × Spells text decimal × IsValue rate decimal × (rate ≤ 1000000000)
+IsRate text rate = (decimal : Decimal) × Spells text decimal × IsInUnits rate decimal × (rate ≤ 1000000000)
 
 -- what is answered to a decimal
 abbrev pub Answers : Decimal → Result ℕ RateFault → Type 0
-Answers decimal (Ok rate) = IsValue rate decimal × (rate ≤ 1000000000)
+Answers decimal (Ok rate) = IsInUnits rate decimal × (rate ≤ 1000000000)
 Answers decimal (Err NoNumber) = ⊥
 Answers decimal (Err AboveOne) = IsAboveOne decimal
 Answers decimal (Err TooFine) = IsTooFine decimal

@@ -22,12 +22,12 @@ use Rattle.office_state.specs.Turning.{trim_turn}
 use Rattle.turn_lock.specs.Passes.{Holding, PassFacts, TakesTurn}
 use Rattle.shared_office.specs.Offices.{IsOfficeHistory, OfficeOpening}
 use Rattle.snapshot_value.specs.Growing.{Grows}
-use Rattle.snapshot_value.specs.Valuing.{HasValued, IsAnswered, dry_pins}
+use Rattle.snapshot_value.specs.Valuing.{HasValued, AnswersPin, dry_pins}
 use Rattle.snapshot_value.specs.declared.valuation.Valuation.{Valuation}
 use Rattle.snapshot_value.specs.declared.valuation.ValueFault.{ValueFault}
 use Rattle.snapshot_value.specs.declared.valuation.ValueFault.TheVariants.{Pin, NoMemory}
 use Rattle.snapshot_value.proofs.Growth.{grows_more, grows_none, grows_one}
-use Rattle.lane_runner.specs.declared.transcript.AnsweredLine.{AnsweredLine as TranscriptLine}
+use Rattle.lane_runner.specs.declared.transcript.TranscriptLine.{TranscriptLine}
 use Rattle.lane_runner.specs.declared.transcript.Outcome.TheVariants.{Posted, Trimmed}
 use Rattle.lane_runner.specs.AnsweredLines.{AnsweredLine, turns_in}
 use Rattle.lane_runner.specs.Transcripts.{IsOutcome, IsTold, dry_of, lacked_memory}
@@ -128,7 +128,7 @@ pub next_left : (asked : List Line) (i : ℕ) (d : Line) (left spent old : ℕ) 
 next_left asked i d left spent old below enough is few = omega (arith, needed_next asked i d below, enough, is, few)
 
 outcomes : (basis : List Dated) (commands : List Command) (on : ℤ) (at : At) (workers : ℕ) (reply : Reply) (answer : Result Valuation ValueFault)
-    → IsAnswered commands basis on reply answer → IsOutcome commands basis (Value on at workers) reply (outcome_of answer)
+    → AnswersPin commands basis on reply answer → IsOutcome commands basis (Value on at workers) reply (outcome_of answer)
 outcomes basis commands on at workers (PinRefused refusal) (Err (Pin why)) h = ap PinRefused (sym h)
 outcomes basis commands on at workers (PinRefused refusal) (Err NoMemory) h = absurd h
 outcomes basis commands on at workers (PinRefused refusal) (Ok valuation) h = absurd h

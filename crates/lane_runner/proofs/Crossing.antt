@@ -2,7 +2,7 @@
 use denote.Param.Send.{IsSend, IsSync, sendable}
 use Rattle.std.proofs.Crossing.{crosses}
 use Rattle.policy_types.specs.contracts.script.Lane as lane
-use Rattle.lane_runner.specs.contracts.transcript.AnsweredLine as line
+use Rattle.lane_runner.specs.contracts.transcript.TranscriptLine as line
 
 pub line_crosses : IsSend line.the_row
 line_crosses = search (sendable, crosses) depth 40 fits 50000

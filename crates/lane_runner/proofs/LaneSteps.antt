@@ -14,10 +14,11 @@ use Rattle.policy_machine.specs.History.{Opening}
 use Rattle.policy_machine.specs.Merge.{AnswersLanes, AnswersLine, AnswersLines, turns_of}
 use Rattle.turn_lock.specs.Passes.{Holding, PassFacts}
 use Rattle.shared_office.specs.Offices.{IsOfficeHistory, OfficeOpening}
-use Rattle.lane_runner.specs.declared.transcript.AnsweredLine.{AnsweredLine as TranscriptLine}
-use Rattle.lane_runner.specs.AnsweredLines.{AnsweredLine, AreOfLanes, AreRising, lines_by, turns_in}
+use Rattle.lane_runner.specs.declared.transcript.TranscriptLine.{TranscriptLine}
+use Rattle.lane_runner.specs.AnsweredLines.{AnsweredLine, AreOfLanes, lines_by, turns_in}
+use Rattle.policy_types.specs.Lanes.{AreRising}
 use Rattle.lane_runner.specs.Lanes.{AreRightLanes}
-use Rattle.lane_runner.specs.Transcripts.{HasAnsweredLanes, HasRun, IsTold, dry_of}
+use Rattle.lane_runner.specs.Transcripts.{HasAnsweredLanes, HasRunLanes, IsTold, dry_of}
 use Rattle.lane_runner.specs.inside.Parts.{Seat}
 use Rattle.lane_runner.proofs.AnswerSteps.{all_append, all_weaker, answers_drier, zip_append}
 use Rattle.lane_runner.proofs.RunSteps.{AreLanesOf, IsLaneOf, callers_in}
@@ -219,7 +220,7 @@ module _ {D W : Type 0} (opening : Opening) (history : List Entry) (basis : List
 -- the transcript, whose lines are those of all lanes by rising turns
 module _ {D W : Type 0} (basis : List Dated) (lanes : List Lane) (old new : Holding (OfficeOpening D W)) (seats : List (Seat D W))
     (lines : List TranscriptLine) (right : AreRightLanes lanes) (facts : PassFacts IsOfficeHistory new)
-    (has_run : HasRun old new (callers_in seats)) (are : AreLanesOf facts.lawful.0.opening new.seen basis lanes seats)
+    (has_run : HasRunLanes old new (callers_in seats)) (are : AreLanesOf facts.lawful.0.opening new.seen basis lanes seats)
     (moved : IsPermutation (items_in seats) lines)
     (sorted : IsNonDecreasingBy (λ (told : TranscriptLine). told.turn) lines) where
   abbrev opening : Opening

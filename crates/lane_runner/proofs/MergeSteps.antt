@@ -6,8 +6,9 @@ use Rattle.std.proofs.lemmas.Bool.{cond-true, cond-false, eq-eqb, eqb-true, fals
 use Rattle.std.proofs.lemmas.List.Sorted.{Contains-permutation, IsPermutation-keeps, IsPermutation-refl, IsPermutation-swap, IsPermutation-trans}
 use Rattle.policy_types.specs.declared.entry.Entry.{Entry}
 use Rattle.policy_machine.specs.Merge.{AnswersLine, AnswersLines, Placed, turns_of}
-use Rattle.lane_runner.specs.declared.transcript.AnsweredLine.{AnsweredLine as TranscriptLine}
-use Rattle.lane_runner.specs.AnsweredLines.{AnsweredLine, AreRising, turns_in}
+use Rattle.lane_runner.specs.declared.transcript.TranscriptLine.{TranscriptLine}
+use Rattle.lane_runner.specs.AnsweredLines.{AnsweredLine, turns_in}
+use Rattle.policy_types.specs.Lanes.{AreRising}
 use Rattle.lane_runner.specs.Transcripts.{AreDry, dry_of, lacked_memory}
 use Rattle.lane_runner.proofs.AnswerSteps.{all_later}
 use Rattle.lane_runner.proofs.Places.{turns_from}

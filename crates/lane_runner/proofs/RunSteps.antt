@@ -14,11 +14,12 @@ use Rattle.policy_machine.specs.Merge.{AnswersLine, Placed, turns_of}
 use Rattle.turn_lock.specs.History.{StartsWith, entries_of}
 use Rattle.turn_lock.specs.Passes.{Holding, Page, PassFacts, TableId, pages}
 use Rattle.shared_office.specs.Offices.{IsOfficeHistory, OfficeOpening}
-use Rattle.lane_runner.specs.declared.transcript.AnsweredLine.{AnsweredLine as TranscriptLine}
+use Rattle.lane_runner.specs.declared.transcript.TranscriptLine.{TranscriptLine}
 use Rattle.lane_runner.specs.AnsweredLines.{AnsweredLine, turns_in}
-use Rattle.lane_runner.specs.Lanes.{AreRightLanes, IsRightLane, is_value, lines_in}
-use Rattle.lane_runner.specs.Transcripts.{HasRun, IsTold, dry_of}
-use Rattle.lane_runner.specs.inside.Parts.{HasEntered, HasLeft, HasRunIn, HaveRun, IsFresh, IsReady, IsRoomFor, Seat, all_left, all_shares_in, turns_needed}
+use Rattle.lane_runner.specs.Lanes.{AreRightLanes, IsRightLane, is_value}
+use Rattle.policy_types.specs.Lanes.{lines_in}
+use Rattle.lane_runner.specs.Transcripts.{HasRunLanes, IsTold, dry_of}
+use Rattle.lane_runner.specs.inside.Parts.{HasEntered, HasLeft, HasRunIn, HaveRun, IsFresh, IsReadySeat, IsRoomFor, Seat, all_left, all_shares_in, turns_needed}
 use Rattle.lane_runner.proofs.Places.{no_turns, turns_stay}
 use Rattle.lane_runner.proofs.AnswerSteps.{all_later, needed_append, told_later, zip_moved}
 use Rattle.lane_runner.proofs.SeatSteps.{zip_length}
@@ -216,7 +217,7 @@ module _ {D W : Type 0} where
   ready : (office : TableId) (first : Holding (OfficeOpening D W)) (lanes : List Lane) (seats : List (Seat D W))
       → AllZip IsRoomFor lanes (map (λ (seat : Seat D W). seat.1) seats) → AllByRecursion (λ (seat : Seat D W). IsFresh first seat.0) seats
       → first.turnstile ≡ office → AllByRecursion IsRightLane lanes → AllByRecursion (λ (lane : Lane). turns_needed lane.lines ≤ 33554432) lanes
-      → AllZip (IsReady office) lanes seats
+      → AllZip (IsReadySeat office) lanes seats
   ready office first [] [] room fresh ours right few = tt
   ready office first [] (seat ∷ seats) room fresh ours right few = absurd room
   ready office first (lane ∷ lanes) [] room fresh ours right few = absurd room
@@ -233,7 +234,7 @@ module _ {D W : Type 0} where
   -- the lanes may be run in the seats that were entered for them
   pub are_ready : (office : TableId) (old kept : Holding (OfficeOpening D W)) (lanes : List Lane) (rooms : List (Vec TranscriptLine Global)) (seats : List (Seat D W))
       → AreRightLanes lanes → AllZip IsRoomFor lanes rooms → HasEntered old kept rooms seats → old.turnstile ≡ office
-      → AllZip (IsReady office) lanes seats
+      → AllZip (IsReadySeat office) lanes seats
   are_ready office old kept lanes rooms seats right fitting entered ours =
       ready office old lanes seats (subst (AllZip IsRoomFor lanes) (sym entered.rooms_are) fitting) entered.fresh ours
       (recursion_from_All IsRightLane lanes right.right)
@@ -259,7 +260,7 @@ module _ {D W : Type 0} where
     added_is : added ≡ map (λ caller. (caller, entries_of new.seen caller)) (callers_in news)
     added_is = pages_are new.seen news ended_none paged
 
-    pub has_run : HasRun old new (callers_in news)
+    pub has_run : HasRunLanes old new (callers_in news)
     has_run = record {
       turnstile = left.turnstile ∙ entered.turnstile;
       opening = left.opening ∙ entered.opening;

@@ -8,10 +8,10 @@ use Rattle.basis_book.specs.Dated.{Dated}
 use Rattle.policy_types.specs.declared.entry.Entry.{Entry}
 use Rattle.policy_types.specs.declared.script.Lane.{Lane}
 use Rattle.turn_lock.specs.History.{StartsWith}
-use Rattle.turn_lock.specs.Passes.{Enters, Holding, Leaves, Page, PassFacts, pages}
+use Rattle.turn_lock.specs.Passes.{Enters, Holding, LeavesLock, Page, PassFacts, pages}
 use Rattle.shared_office.specs.Offices.{IsOfficeHistory, OfficeOpening}
-use Rattle.lane_runner.specs.declared.transcript.AnsweredLine.{AnsweredLine as TranscriptLine}
-use Rattle.lane_runner.specs.Lanes.{lines_in}
+use Rattle.lane_runner.specs.declared.transcript.TranscriptLine.{TranscriptLine}
+use Rattle.policy_types.specs.Lanes.{lines_in}
 use Rattle.lane_runner.specs.inside.Parts.{HasEntered, HasLeft, HasRunIn, HaveRun, IsFresh, Seat, all_left, all_shares_in, shares_to_enter, turns_to_enter}
 use Rattle.lane_runner.proofs.AnswerSteps.{all_append, all_weaker}
 
@@ -178,7 +178,7 @@ module _ {D W : Type 0} where
   }
 
   pub left_more : (old mid new gone : Holding (OfficeOpening D W)) (seats : List (Seat D W)) (lines : Vec TranscriptLine Global)
-      → HasLeft old mid seats → Leaves gone mid new → HasLeft old new (seats ++ (gone, lines) ∷ [])
+      → HasLeft old mid seats → LeavesLock gone mid new → HasLeft old new (seats ++ (gone, lines) ∷ [])
   left_more old mid new gone seats lines so_far leaves = record {
     turnstile = ap (λ (p : Holding (OfficeOpening D W)). p.turnstile) leaves.new_is ∙ so_far.turnstile;
     opening = ap (λ (p : Holding (OfficeOpening D W)). p.opening) leaves.new_is ∙ so_far.opening;

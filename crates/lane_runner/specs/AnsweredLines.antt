@@ -1,9 +1,10 @@
 -- The lines of lanes beside the turns that answer them, in the order of their first turns
-use Rattle.std.specs.Prelude.{◌≡◌, ℕ, ◌<◌, ◌==◌, List, [], ◌∷◌, map}
+use Rattle.std.specs.Prelude.{◌≡◌, ℕ, ◌==◌, List, [], ◌∷◌, map}
 use Rattle.std.specs.List.{AllByRecursion, Contains, filter, flat_map}
 use Rattle.policy_types.specs.declared.entry.Entry.{Entry}
 use Rattle.policy_types.specs.declared.script.Line.{Line}
 use Rattle.policy_types.specs.declared.script.Lane.{Lane}
+use Rattle.policy_types.specs.Lanes.{AreRising}
 use Rattle.policy_machine.specs.Merge.{AnswersLine, Placed, turns_of}
 
 -- a line of a clerk, and the turns that answer it, each beside its place in the history
@@ -15,11 +16,6 @@ pub record AnsweredLine : Type 0 where
 
 abbrev pub turns_in : AnsweredLine → List Placed
 turns_in answered = answered.first ∷ answered.rest
-
--- each number is below the next
-abbrev pub AreRising : List ℕ → Type 0
-AreRising (n ∷ m ∷ rest) = (n < m) × AreRising (m ∷ rest)
-AreRising _ = Unit {0}
 
 abbrev pub lines_by : ℕ → List AnsweredLine → List AnsweredLine
 lines_by clerk answered = filter (λ (one : AnsweredLine). one.clerk == clerk) answered

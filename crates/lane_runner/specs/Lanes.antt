@@ -1,11 +1,11 @@
 -- The lanes that may be run
-use Rattle.std.specs.Prelude.{◌≤◌, ◌^◌, Bool, true, false, List, All, length, map}
-use Rattle.std.specs.List.{filter, flat_map}
+use Rattle.std.specs.Prelude.{◌≤◌, ◌^◌, Bool, true, false, List, All, length}
+use Rattle.std.specs.List.{filter}
 use Rattle.policy_types.specs.Valid.{IsValid}
 use Rattle.policy_types.specs.declared.script.Line.{Line}
 use Rattle.policy_types.specs.declared.script.Line.TheVariants.{Post, Value, Trim}
 use Rattle.policy_types.specs.declared.script.Lane.{Lane}
-use Rattle.lane_runner.specs.AnsweredLines.{AreRising}
+use Rattle.policy_types.specs.Lanes.{AreRising, lines_in, numbers_of}
 
 -- a posting is of a valid command, and a valuation has 1 to 64 workers
 abbrev pub IsRightLine : Line → Type 0
@@ -20,13 +20,9 @@ abbrev pub is_value : Line → Bool
 is_value (Value on at workers) = true
 is_value _ = false
 
--- the lines of all lanes, one lane after the other
-abbrev pub lines_in : List Lane → List Line
-lines_in lanes = flat_map (λ (lane : Lane). lane.lines) lanes
-
 -- At most eight lanes, whose numbers rise, with right lines; at most 2^24 lines in all, of which sixteen may be valuations
 pub record AreRightLanes (lanes : List Lane) : Type 0 where
-  pub rising : AreRising (map (λ (lane : Lane). lane.number) lanes)
+  pub rising : AreRising (numbers_of lanes)
   pub right : All IsRightLane lanes
   pub few : length lanes ≤ 8
   pub lines : length (lines_in lanes) ≤ 2 ^ 24

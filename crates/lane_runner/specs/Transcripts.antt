@@ -16,7 +16,7 @@ use Rattle.turn_lock.specs.History.{StartsWith, entries_of}
 use Rattle.turn_lock.specs.Passes.{Holding}
 use Rattle.shared_office.specs.Offices.{OfficeOpening}
 use Rattle.snapshot_value.specs.Valuing.{IsSnapshot}
-use Rattle.lane_runner.specs.declared.transcript.AnsweredLine.{AnsweredLine as TranscriptLine}
+use Rattle.lane_runner.specs.declared.transcript.TranscriptLine.{TranscriptLine}
 use Rattle.lane_runner.specs.declared.transcript.Outcome.{Outcome}
 use Rattle.lane_runner.specs.declared.transcript.Outcome.TheVariants.{Posted, Trimmed, Valued, ValueRefused, ValueNoMemory}
 use Rattle.lane_runner.specs.declared.transcript.Transcript.{Transcript}
@@ -59,7 +59,7 @@ AreDry dry lines =
 
 -- The pages of the lanes' callers were added to the pass, and nothing else changed but that it has seen more and has spent
 -- some of its turns. The callers differ, and none of the entries that it has seen since is its own.
-pub record HasRun {Opening : Type 0} (old new : Holding Opening) (callers : List ℕ) : Type 0 where
+pub record HasRunLanes {Opening : Type 0} (old new : Holding Opening) (callers : List ℕ) : Type 0 where
   pub turnstile : new.turnstile ≡ old.turnstile
   pub opening : new.opening ≡ old.opening
   pub caller : new.caller ≡ old.caller
@@ -75,7 +75,7 @@ pub record HasRun {Opening : Type 0} (old new : Holding Opening) (callers : List
 -- in the history that the pass has seen. The transcript has these lines at the places of their first turns.
 pub record HasAnsweredLanes {D W : Type 0} (basis : List Dated) (lanes : List Lane) (old new : Holding (OfficeOpening D W))
     (transcript : Transcript) : Type 0 where
-  pub pass : HasRun old new transcript.callers
+  pub pass : HasRunLanes old new transcript.callers
   pub answers : AnswersLanes (dry_of transcript.lines) new.seen lanes transcript.callers
   pub answered : List AnsweredLine
   pub lines : AreLinesOf answered new.seen lanes transcript.callers (dry_of transcript.lines)

@@ -9,7 +9,7 @@ ghost use Rattle.snapshot_value.specs.Valuing.{most_turns};
 ghost use Rattle.lane_runner.specs.Lanes.{IsRightLane, IsRightLine};
 ghost use Rattle.lane_runner.specs.inside.Parts.{HasAnswered, IsRoomFor, outcome_of, turns_for, turns_needed};
 
-use crate::transcript::{AnsweredLine, Outcome};
+use crate::transcript::{TranscriptLine, Outcome};
 use basis_book::Basis;
 use outside_io::{Disk, Gate};
 use policy_types::{At, Command, Lane, Line};
@@ -29,7 +29,7 @@ pub fn answer_lane<D: Disk, W: Watching, G: Gate, R: Wait>(
     lane: &Lane,
     basis: &Basis,
     gate: &G,
-    lines: &mut Vec<AnsweredLine>,
+    lines: &mut Vec<TranscriptLine>,
 )
     requires right { IsRightLane lane.now }
     requires ours { pass.old.turnstile ≡ office.now }
@@ -61,7 +61,7 @@ fn answer_lines<D: Disk, W: Watching, G: Gate, R: Wait>(
     asked: &[Line],
     basis: &Basis,
     gate: &G,
-    lines: &mut Vec<AnsweredLine>,
+    lines: &mut Vec<TranscriptLine>,
 )
     requires right { All IsRightLine asked.now }
     requires ours { pass.old.turnstile ≡ office.now }
@@ -89,7 +89,7 @@ fn answer_line<D: Disk, W: Watching, G: Gate, R: Wait>(
     line: &Line,
     basis: &Basis,
     gate: &G,
-) -> AnsweredLine
+) -> TranscriptLine
     requires right { IsRightLine line.now }
     requires ours { pass.old.turnstile ≡ office.now }
     requires left { turns_for line.now ≤ pass.old.left }
@@ -112,7 +112,7 @@ fn answer_post<D: Disk, W: Watching, R: Wait>(
     pass: &mut OfficePass<D, W>,
     lane: u8,
     command: Command,
-) -> AnsweredLine
+) -> TranscriptLine
     requires valid { IsValid command }
     requires ours { pass.old.turnstile ≡ office.now }
     requires left { 1 ≤ pass.old.left }
@@ -120,7 +120,7 @@ fn answer_post<D: Disk, W: Watching, R: Wait>(
     ensures facts { PassFacts IsOfficeHistory pass.new }
 {
     let Turned { turn, answer } = office.post(rt, pass, &command);
-    AnsweredLine {
+    TranscriptLine {
         lane,
         turn,
         line: Line::Post(command),
@@ -133,14 +133,14 @@ fn answer_trim<D: Disk, W: Watching, R: Wait>(
     office: &Office<D, W>,
     pass: &mut OfficePass<D, W>,
     lane: u8,
-) -> AnsweredLine
+) -> TranscriptLine
     requires ours { pass.old.turnstile ≡ office.now }
     requires left { 1 ≤ pass.old.left }
     ensures answered { (basis : List Dated) → HasAnswered basis lane (TrimLine ∷ []) pass.old pass.new (result ∷ []) }
     ensures facts { PassFacts IsOfficeHistory pass.new }
 {
     let Turned { turn, answer } = office.trim(rt, pass);
-    AnsweredLine {
+    TranscriptLine {
         lane,
         turn,
         line: Line::Trim,
@@ -159,7 +159,7 @@ fn answer_value<D: Disk, W: Watching, G: Gate, R: Wait>(
     workers: u8,
     basis: &Basis,
     gate: &G,
-) -> AnsweredLine
+) -> TranscriptLine
     requires workers { (1 ≤ workers) × (workers ≤ 64) }
     requires ours { pass.old.turnstile ≡ office.now }
     requires left { most_turns ≤ pass.old.left }
@@ -169,7 +169,7 @@ fn answer_value<D: Disk, W: Watching, G: Gate, R: Wait>(
     let Turned { turn, answer } = value(
         rt, alloc, office, pass, basis, on, at, workers, lane, gate,
     );
-    AnsweredLine {
+    TranscriptLine {
         lane,
         turn,
         line: Line::Value { on, at, workers },

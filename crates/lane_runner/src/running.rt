@@ -4,13 +4,14 @@ ghost use Rattle.std.specs.List.{AllByRecursion, AllZip, flat_map};
 ghost use Rattle.std.specs.List.Sorted.{IsNonDecreasingBy, IsPermutation};
 ghost use Rattle.turn_lock.specs.Passes.{PassFacts};
 ghost use Rattle.shared_office.specs.Offices.{IsOfficeHistory};
-ghost use Rattle.lane_runner.specs.declared.transcript.AnsweredLine.{AnsweredLine as TranscriptLine};
-ghost use Rattle.lane_runner.specs.Lanes.{AreRightLanes, lines_in};
+ghost use Rattle.lane_runner.specs.declared.transcript.TranscriptLine.{TranscriptLine};
+ghost use Rattle.lane_runner.specs.Lanes.{AreRightLanes};
+ghost use Rattle.policy_types.specs.Lanes.{lines_in};
 ghost use Rattle.lane_runner.specs.Transcripts.{HasAnsweredLanes};
-ghost use Rattle.lane_runner.specs.inside.Parts.{HasEntered, HasLeft, HasRoom, HasRunAt, HaveRun, IsReady, IsReadyAt, IsRoomFor, shares_to_enter, turns_to_enter};
+ghost use Rattle.lane_runner.specs.inside.Parts.{HasEntered, HasLeft, HasLaneRoom, HasRunAt, HaveRun, IsReadySeat, IsReadyAt, IsRoomFor, shares_to_enter, turns_to_enter};
 
 use crate::answering::answer_lane;
-use crate::transcript::{AnsweredLine, AnsweredLines, Callers, Transcript};
+use crate::transcript::{TranscriptLine, TranscriptLines, Callers, Transcript};
 use basis_book::Basis;
 use outside_io::{Disk, Gate};
 use policy_types::{Lane, NoMemory};
@@ -21,15 +22,15 @@ use std::thread::{Threads, for_each_mut};
 use watcher_set::Watching;
 
 // A lane's pass, and its answered lines.
-type Seat<D, W> = (OfficePass<D, W>, Vec<AnsweredLine>);
+type Seat<D, W> = (OfficePass<D, W>, Vec<TranscriptLine>);
 
 // The memory for what lanes answer.
 #[derive(Drop)]
 struct Room<D: Disk, W: Watching> {
-    rooms: Vec<Vec<AnsweredLine>>,
+    rooms: Vec<Vec<TranscriptLine>>,
     seats: Vec<Seat<D, W>>,
     callers: Vec<u64>,
-    lines: Vec<AnsweredLine>,
+    lines: Vec<TranscriptLine>,
 }
 
 /// Runs lanes at the same time, each by a caller of its own, and gives their lines by rising turns.
@@ -73,7 +74,7 @@ fn run_in<D: Disk + Send, W: Watching + Send, G: Gate + Sync, R: Threads + Wait 
     requires ours { pass.old.turnstile ≡ office.now }
     requires left { 2 ^ 40 ≤ pass.old.left }
     requires shares { 2 ^ 10 ≤ pass.old.shares }
-    requires room { HasRoom lanes.now room.rooms room.seats room.callers room.lines }
+    requires room { HasLaneRoom lanes.now room.rooms room.seats room.callers room.lines }
     ensures answered { HasAnsweredLanes basis.now lanes.now pass.old pass.new result }
     ensures facts { PassFacts IsOfficeHistory pass.new }
 {
@@ -91,19 +92,19 @@ fn run_in<D: Disk + Send, W: Watching + Send, G: Gate + Sync, R: Threads + Wait 
     put_in_order(&mut lines);
     Transcript {
         callers: Callers::new(callers),
-        lines: AnsweredLines::new(lines),
+        lines: TranscriptLines::new(lines),
     }
 }
 
 // Puts lines in the order of their turns.
-fn put_in_order(lines: &mut Vec<AnsweredLine>)
+fn put_in_order(lines: &mut Vec<TranscriptLine>)
     ensures moved { IsPermutation lines.old.items lines.new.items }
     ensures sorted { IsNonDecreasingBy (λ (told : TranscriptLine). told.turn) lines.new.items }
 {
     order(lines.as_mut_slice());
 }
 
-fn order(lines: &mut [AnsweredLine])
+fn order(lines: &mut [TranscriptLine])
     ensures moved { IsPermutation lines.old lines.new }
     ensures sorted { IsNonDecreasingBy (λ (told : TranscriptLine). told.turn) lines.new }
 {
@@ -113,7 +114,7 @@ fn order(lines: &mut [AnsweredLine])
 // Takes the memory for what is answered to lanes.
 fn room_for<D: Disk, W: Watching>(alloc: Global, lanes: &[Lane]) -> Result<Room<D, W>, NoMemory>
     requires few { length (lines_in lanes.now) ≤ 2 ^ 24 }
-    ensures { IfOk result (λ room. HasRoom lanes.now room.rooms room.seats room.callers room.lines) }
+    ensures { IfOk result (λ room. HasLaneRoom lanes.now room.rooms room.seats room.callers room.lines) }
 {
     let count = lanes.len();
     let rooms = rooms_for(alloc, lanes)?;
@@ -129,7 +130,7 @@ fn room_for<D: Disk, W: Watching>(alloc: Global, lanes: &[Lane]) -> Result<Room<
 }
 
 // Takes the memory for each lane's lines.
-fn rooms_for(alloc: Global, lanes: &[Lane]) -> Result<Vec<Vec<AnsweredLine>>, NoMemory>
+fn rooms_for(alloc: Global, lanes: &[Lane]) -> Result<Vec<Vec<TranscriptLine>>, NoMemory>
     ensures { IfOk result (λ rooms. AllZip IsRoomFor lanes.now rooms.items) }
 {
     let mut rooms = Vec::with_capacity(alloc, lanes.len()).map_err(|_| NoMemory)?;
@@ -139,7 +140,7 @@ fn rooms_for(alloc: Global, lanes: &[Lane]) -> Result<Vec<Vec<AnsweredLine>>, No
     Ok(rooms)
 }
 
-fn room_of(alloc: Global, lane: &Lane) -> Result<Vec<AnsweredLine>, NoMemory>
+fn room_of(alloc: Global, lane: &Lane) -> Result<Vec<TranscriptLine>, NoMemory>
     ensures { IfOk result (λ room. IsRoomFor lane.now room) }
 {
     Vec::with_capacity(alloc, lane.lines.as_slice().len()).map_err(|_| NoMemory)
@@ -161,7 +162,7 @@ fn count_lines(lanes: &[Lane]) -> usize
 fn enter_all<D: Disk, W: Watching>(
     office: &Office<D, W>,
     pass: &mut OfficePass<D, W>,
-    rooms: Vec<Vec<AnsweredLine>>,
+    rooms: Vec<Vec<TranscriptLine>>,
     seats: &mut Vec<Seat<D, W>>,
 )
     requires ours { pass.old.turnstile ≡ office.now }
@@ -187,7 +188,7 @@ fn run_seats<D: Disk + Send, W: Watching + Send, G: Gate + Sync, R: Threads + Wa
     gate: &G,
     seats: &mut Vec<Seat<D, W>>,
 )
-    requires ready { AllZip (IsReady office.now) lanes.now seats.old.items }
+    requires ready { AllZip (IsReadySeat office.now) lanes.now seats.old.items }
     ensures run { HaveRun basis.now lanes.now seats.old.items seats.new.items }
 {
     run_all(rt, alloc, office, lanes, basis, gate, seats.as_mut_slice());
@@ -202,7 +203,7 @@ fn run_all<D: Disk + Send, W: Watching + Send, G: Gate + Sync, R: Threads + Wait
     gate: &G,
     seats: &mut [Seat<D, W>],
 )
-    requires ready { AllZip (IsReady office.now) lanes.now seats.old }
+    requires ready { AllZip (IsReadySeat office.now) lanes.now seats.old }
     ensures run { HaveRun basis.now lanes.now seats.old seats.new }
 {
     for_each_mut(
@@ -234,7 +235,7 @@ fn leave_all<D: Disk, W: Watching>(
     pass: &mut OfficePass<D, W>,
     seats: Vec<Seat<D, W>>,
     callers: &mut Vec<u64>,
-    all: &mut Vec<AnsweredLine>,
+    all: &mut Vec<TranscriptLine>,
 )
     requires ours { (pass.old.turnstile ≡ office.now)
         × AllByRecursion (λ seat. seat.0.turnstile ≡ office.now) seats.items }
@@ -253,7 +254,7 @@ fn leave_all<D: Disk, W: Watching>(
 }
 
 // Puts lines behind others, where there is room for them.
-fn put_behind(all: &mut Vec<AnsweredLine>, mut lines: Vec<AnsweredLine>)
+fn put_behind(all: &mut Vec<TranscriptLine>, mut lines: Vec<TranscriptLine>)
     requires { length all.old.items + length lines.items ≤ vec_capacity all.old }
     ensures lines { all.new.items ≡ all.old.items ++ lines.items }
     ensures room { vec_capacity all.old ≤ vec_capacity all.new }

@@ -18,7 +18,7 @@ pub enum Outcome {
 
 /// A line of a lane with its answer. Its turn is the place of its first turn in the history, from 0.
 #[derive(Drop)]
-pub struct AnsweredLine {
+pub struct TranscriptLine {
     pub lane: u8,
     pub turn: u64,
     pub line: Line,
@@ -55,36 +55,36 @@ impl Callers {
 
 /// Answered lines by rising turns. Contracts see them as their list.
 #[derive(Drop)]
-pub struct AnsweredLines {
-    lines: Vec<AnsweredLine>,
+pub struct TranscriptLines {
+    lines: Vec<TranscriptLine>,
 }
 
-impl Model for AnsweredLines {
+impl Model for TranscriptLines {
     ghost use Rattle.std.specs.Prelude.{List};
-    ghost use Rattle.lane_runner.specs.declared.transcript.AnsweredLine.{AnsweredLine};
+    ghost use Rattle.lane_runner.specs.declared.transcript.TranscriptLine.{TranscriptLine};
 
-    ghost Value = { List AnsweredLine };
+    ghost Value = { List TranscriptLine };
 
     ghost view = { λ l. l.lines.items };
 }
 
-impl AnsweredLines {
-    pub fn new(lines: Vec<AnsweredLine>) -> AnsweredLines
+impl TranscriptLines {
+    pub fn new(lines: Vec<TranscriptLine>) -> TranscriptLines
         ensures { result ≡ lines.items }
     {
-        AnsweredLines { lines }
+        TranscriptLines { lines }
     }
 
-    pub fn as_slice(&self) -> &[AnsweredLine]
+    pub fn as_slice(&self) -> &[TranscriptLine]
         ensures { result.now ≡ self.now }
     {
         self.lines.as_slice()
     }
 
-    pub fn into_vec(self) -> Vec<AnsweredLine>
+    pub fn into_vec(self) -> Vec<TranscriptLine>
         ensures { result.items ≡ self }
     {
-        let AnsweredLines { lines } = self;
+        let TranscriptLines { lines } = self;
         lines
     }
 }
@@ -93,5 +93,5 @@ impl AnsweredLines {
 #[derive(Drop)]
 pub struct Transcript {
     pub callers: Callers,
-    pub lines: AnsweredLines,
+    pub lines: TranscriptLines,
 }

@@ -3,7 +3,7 @@
 use crate::lane_gates::{Between, InTurn, Together};
 use crate::lane_trials::{run_on, run_watched};
 use crate::offices::{ONE_YEAR, issue};
-use lane_runner::{AnsweredLine, Outcome};
+use lane_runner::{Outcome, TranscriptLine};
 use office_state::Answer;
 use outside_io::OpenGate;
 use policy_types::{At, Command, Lane, Line, Lines, PinRefusal, Report, Status, Watcher};
@@ -35,7 +35,7 @@ fn due(id: u32) -> Row {
 }
 
 // Whether the rows are those of the policies of the numbers from 1 to this one.
-fn are_numbered(line: &AnsweredLine, last: u32) -> bool {
+fn are_numbered(line: &TranscriptLine, last: u32) -> bool {
     let Outcome::Valued(valuation) = &line.outcome else {
         return false;
     };
@@ -69,7 +69,7 @@ enum Told {
     Other,
 }
 
-fn answer_of(line: &AnsweredLine) -> (u8, Told) {
+fn answer_of(line: &TranscriptLine) -> (u8, Told) {
     let told = match &line.outcome {
         Outcome::Posted(Answer::Accepted(position)) => Told::Accepted(*position),
         Outcome::Trimmed(floor) => Told::Trimmed(*floor),
@@ -82,7 +82,7 @@ fn answer_of(line: &AnsweredLine) -> (u8, Told) {
 
 // Whether the turns rise, and each posting has the next position, and each valuation that of the postings before it, with
 // as many policies.
-fn are_as_one(lines: &[AnsweredLine]) -> bool {
+fn are_as_one(lines: &[TranscriptLine]) -> bool {
     let mut accepted = 0u32;
     let mut least = 0u64;
     for line in lines {
@@ -105,7 +105,7 @@ fn are_as_one(lines: &[AnsweredLine]) -> bool {
 }
 
 // How many policies a lane issues in order, from this number on.
-fn count_issues(lines: &[AnsweredLine], lane: u8, first: u32) -> u32 {
+fn count_issues(lines: &[TranscriptLine], lane: u8, first: u32) -> u32 {
     let mut next = first;
     for line in lines {
         if line.lane == lane && line.line == Line::Post(issue(next)) {

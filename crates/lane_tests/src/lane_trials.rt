@@ -1,8 +1,9 @@
 // Lanes that are run on an office in memory.
 ghost use Rattle.std.specs.Prelude.{◌≡◌, ◌≤◌, [], ◌∷◌, All, IsTrue, length, map};
 ghost use Rattle.std.specs.List.{AllByRecursion, filter};
-ghost use Rattle.lane_runner.specs.AnsweredLines.{AreRising};
-ghost use Rattle.lane_runner.specs.Lanes.{AreRightLanes, IsRightLane, IsRightLine, is_value, lines_in};
+ghost use Rattle.policy_types.specs.Lanes.{AreRising};
+ghost use Rattle.lane_runner.specs.Lanes.{AreRightLanes, IsRightLane, IsRightLine, is_value};
+ghost use Rattle.policy_types.specs.Lanes.{lines_in};
 
 use crate::offices::{flat_basis, issue_all};
 use basis_book::Basis;

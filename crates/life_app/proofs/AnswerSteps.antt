@@ -9,12 +9,12 @@ use Rattle.policy_machine.specs.History.{Opening, IsDue, commands_after}
 use Rattle.office_state.specs.declared.answer.Answer.{Answer}
 use Rattle.office_state.specs.declared.answer.Answer.TheVariants.{Accepted, Refused, DiskFault, NoMemory}
 use Rattle.office_state.specs.Posting.{reply_of}
-use Rattle.life_app.specs.inside.Told.{IsTold}
+use Rattle.life_app.specs.inside.Told.{IsToldAnswer}
 use Rattle.life_app.proofs.RefusalSteps.{due_printable}
 
 -- an answer that is due after valid commands can be written
 pub is_told : (opening : Opening) (before : List Entry) (caller : ℕ) (command : Command) (answer : Answer)
-    → AllByRecursion IsValid (commands_after opening before) → IsDue opening before caller (Post command) (reply_of answer) → IsTold answer
+    → AllByRecursion IsValid (commands_after opening before) → IsDue opening before caller (Post command) (reply_of answer) → IsToldAnswer answer
 is_told opening before caller command (Accepted position) valid due = tt
 is_told opening before caller command (Refused refusal) valid due = due_printable (commands_after opening before) command refusal valid due
 is_told opening before caller command (DiskFault count) valid due = tt

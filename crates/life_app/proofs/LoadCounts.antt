@@ -17,9 +17,10 @@ use Rattle.policy_types.specs.declared.script.Lane.{Lane}
 use Rattle.policy_machine.specs.History.{Opening, accepted_by, accepted_of, commands_after}
 use Rattle.policy_machine.specs.Merge.{AnswersLine, Placed}
 use Rattle.office_state.specs.declared.answer.Answer.TheVariants.{Accepted as AnAccepted, Refused as ARefused, DiskFault, NoMemory}
-use Rattle.lane_runner.specs.AnsweredLines.{AnsweredLine, AreLinesOf, AreOfLanes, AreRising, lines_by, turns_in}
+use Rattle.lane_runner.specs.AnsweredLines.{AnsweredLine, AreLinesOf, AreOfLanes, lines_by, turns_in}
+use Rattle.policy_types.specs.Lanes.{AreRising}
 use Rattle.lane_runner.specs.Transcripts.{IsOutcome, IsTold}
-use Rattle.lane_runner.specs.declared.transcript.AnsweredLine.{AnsweredLine as ToldLine}
+use Rattle.lane_runner.specs.declared.transcript.TranscriptLine.{TranscriptLine}
 use Rattle.lane_runner.specs.declared.transcript.Outcome.{Outcome}
 use Rattle.lane_runner.specs.declared.transcript.Outcome.TheVariants.{Posted, Trimmed, Valued, ValueRefused, ValueNoMemory}
 use Rattle.load_maker.specs.GeneratedLanes.{IsValidPosting}
@@ -230,7 +231,7 @@ only_turn dry (Value on at workers) first rest posting answers = absurd posting
 only_turn dry Trim first rest posting answers = absurd posting
 
 module _ (opening : Opening) (history : List Entry) (basis : List Dated) (lanes : List Lane) (callers dry : List ℕ) (answered : List AnsweredLine)
-    (told : List ToldLine) (are : AreLinesOf answered history lanes callers dry) (pairs : AllZip (IsTold opening history basis) answered told)
+    (told : List TranscriptLine) (are : AreLinesOf answered history lanes callers dry) (pairs : AllZip (IsTold opening history basis) answered told)
     (rising : AreRising (map (λ (lane : Lane). lane.number) lanes)) (distinct : IsDistinct nat_eq callers)
     (theirs : (entry : Entry) → Has history entry → Has callers entry.caller)
     (postings : (one : AnsweredLine) → Has answered one → IsValidPosting one.line) where
@@ -248,13 +249,13 @@ module _ (opening : Opening) (history : List Entry) (basis : List Dated) (lanes 
   tested : (test : Call → Reply → Bool) (tells : Outcome → Bool)
       → ((command : Command) (reply : Reply) (outcome : Outcome) (commands : List Command) → IsOutcome commands basis (Post command) reply outcome
       → test (PostCall command) reply ≡ tells outcome)
-      → count_by (λ (entry : Entry). test entry.call entry.reply) history ≡ count_by (λ (line : ToldLine). tells line.outcome) told
+      → count_by (λ (entry : Entry). test entry.call entry.reply) history ≡ count_by (λ (line : TranscriptLine). tells line.outcome) told
   tested test tells agree =
       counted (λ (entry : Entry). test entry.call entry.reply) answered history lanes callers are.each rising distinct clerks theirs single
       ∙ alike (IsTold opening history basis) (λ (one : AnsweredLine). worth (λ (entry : Entry). test entry.call entry.reply) one.first.1)
-      (λ (line : ToldLine). cond (tells line.outcome) 1 0) answered told one_pair pairs
+      (λ (line : TranscriptLine). cond (tells line.outcome) 1 0) answered told one_pair pairs
     where
-      one_pair : (this : AnsweredLine) (line : ToldLine) → Has answered this → IsTold opening history basis this line
+      one_pair : (this : AnsweredLine) (line : TranscriptLine) → Has answered this → IsTold opening history basis this line
           → worth (λ (entry : Entry). test entry.call entry.reply) this.first.1 ≡ cond (tells line.outcome) 1 0
       one_pair this line has is =
           let turn = only_turn dry this.line this.first this.rest (postings this has) (answers this has) in

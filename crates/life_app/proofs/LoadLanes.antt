@@ -1,5 +1,5 @@
 -- The generated lanes can be run, and what is written of a generated script
-use Rattle.std.proofs.Common.{◌≡◌, ℕ, ◌≤◌, List, [], ◌∷◌, length, map, Result, Ok, Err, Vec, Global, refl, sym, subst, arith}
+use Rattle.std.proofs.Common.{◌≡◌, ℕ, ◌≤◌, List, [], ◌∷◌, length, Result, Ok, Err, Vec, Global, refl, sym, subst, arith}
 use Rattle.std.specs.Prelude.{IfOk}
 use Rattle.std.specs.List.{AllByRecursion, filter}
 use Rattle.std.proofs.lemmas.List.Elements.{All-from_recursion}
@@ -9,10 +9,9 @@ use Rattle.policy_types.specs.declared.script.Line.TheVariants.{Post, Value, Tri
 use Rattle.policy_types.specs.declared.script.Lane.{Lane}
 use Rattle.policy_types.specs.declared.watcher.NoMemory.{NoMemory as Lack}
 use Rattle.command_csv.specs.Reads.{IsScriptLine}
-use Rattle.lane_runner.specs.AnsweredLines.{AreRising}
-use Rattle.lane_runner.specs.Lanes.{IsRightLane, IsRightLine, is_value, lines_in}
+use Rattle.policy_types.specs.Lanes.{lines_in}
+use Rattle.lane_runner.specs.Lanes.{IsRightLane, IsRightLine, is_value}
 use Rattle.load_maker.specs.GeneratedLanes.{AreDealt, IsValidPosting}
-use Rattle.load_maker.specs.GeneratedLanes.{AreRising as LanesRise}
 use Rattle.load_maker.specs.GeneratedScript.{generated_text}
 use Rattle.life_app.specs.declared.ending.Ending.{Ending}
 use Rattle.life_app.specs.declared.ending.Ending.TheVariants.{Done, WriteFault, NoMemory}
@@ -21,11 +20,6 @@ use Rattle.life_app.specs.Writing.{Stream, WroteAll}
 use Rattle.life_app.specs.inside.Loaded.{AreLoadLanes}
 use Rattle.life_app.specs.inside.Parts.{EndsText}
 use Rattle.life_app.proofs.ListSteps.{all_has, has_flat_map, of_all}
-
-rising : (lanes : List Lane) → LanesRise lanes → AreRising (map (λ (lane : Lane). lane.number) lanes)
-rising [] rise = tt
-rising (lane ∷ []) rise = tt
-rising (lane ∷ next ∷ lanes) rise = (rise.0, rising (next ∷ lanes) rise.1)
 
 right_line : (line : Line) → IsValidPosting line → IsRightLine line
 right_line (Post command) posting = posting
@@ -48,7 +42,7 @@ pub load_lanes : (most policies : ℕ) (lanes : List Lane) → AreDealt most pol
 load_lanes most policies lanes dealt few_lanes few = record {
   script = record {
     right = record {
-      rising = rising lanes dealt.rising;
+      rising = dealt.rising;
       right = All-from_recursion IsRightLane lanes (all_has IsRightLane lanes (λ lane has.
           All-from_recursion IsRightLine lane.lines (all_has IsRightLine lane.lines (λ line there.
           right_line line (of_all IsValidPosting (lines_in lanes) line dealt.valid (has_flat_map (λ (lane : Lane). lane.lines) lanes lane line has there))))));

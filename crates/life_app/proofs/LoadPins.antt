@@ -15,7 +15,7 @@ use Rattle.policy_types.specs.declared.script.Lane.{Lane}
 use Rattle.policy_machine.specs.History.{Opening, IsDue, IsLegalAfter, live_pin, live_positions, pin_of, pinned_position}
 use Rattle.policy_machine.specs.Merge.{AnswersLanes, AnswersLine, AnswersLines, Placed, turns_of}
 use Rattle.policy_machine.proofs.HistoryGrowth.{live_parts}
-use Rattle.lane_runner.specs.Lanes.{lines_in}
+use Rattle.policy_types.specs.Lanes.{lines_in}
 use Rattle.load_maker.specs.GeneratedLanes.{IsValidPosting}
 use Rattle.life_app.proofs.ListSteps.{Has, has_at, has_either, has_enumerate, has_filter, of_all}
 use Rattle.life_app.proofs.LoadTurns.{all_back, all_front}

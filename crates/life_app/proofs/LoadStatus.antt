@@ -10,7 +10,7 @@ use Rattle.policy_types.specs.declared.script.Lane.{Lane}
 use Rattle.policy_machine.specs.History.{Opening}
 use Rattle.basis_book.specs.Dated.{Dated}
 use Rattle.basis_shelf.specs.Bases.{IsBasis}
-use Rattle.basis_shelf.specs.FirstBad.{IsFirstBad}
+use Rattle.basis_shelf.specs.FirstBad.{IsFirstBadFile}
 use Rattle.basis_shelf.specs.declared.fault.BadBasis.{BadBasis as ABadBasis}
 use Rattle.basis_shelf.proofs.OneBasis.{basis_or_bad}
 use Rattle.load_maker.specs.GeneratedLanes.{generated_lanes}
@@ -146,7 +146,7 @@ module _ {D : Type 0} (g : Ghosts D) (old new : D) where
       ]
 
       pub load_unfit : (ending : Ending) (bad : ABadBasis) → EndsLoad g old new seed count lanes workers shelf output ending
-          → IsFirstBad files (codes "basis.csv") bad → (Rose shelf.faults_before shelf.faults_after → ⊥)
+          → IsFirstBadFile files (codes "basis.csv") bad → (Rose shelf.faults_before shelf.faults_after → ⊥)
           → SaysBadFile bad output (status_of ending) ⊎ (status_of ending ≡ 9)
       load_unfit ending bad ends first shelf_held = elim ends [
         | inl by ↦ absurd (basis_or_bad files (codes "basis.csv") by.basis bad

@@ -33,17 +33,17 @@ use Rattle.office_state.specs.declared.faults.StartCause.TheVariants.{DiskFault 
 use Rattle.office_state.specs.Images.{HasFaulted, IsLeftBy}
 use Rattle.office_state.specs.Opening.{HasNotOpened}
 use Rattle.shared_office.specs.Offices.{IsOfficeHistory, OfficeOpening}
-use Rattle.shared_office.specs.Starting.{HasClosed, HasStarted}
-use Rattle.snapshot_value.specs.Valuing.{HasValued, IsAnswered as IsValueAnswer, IsRowOf, dry_pins}
+use Rattle.shared_office.specs.Starting.{HasClosed, HasStartedOffice}
+use Rattle.snapshot_value.specs.Valuing.{HasValued, AnswersPin as IsValueAnswer, IsValuedRow, dry_pins}
 use Rattle.snapshot_value.specs.declared.valuation.Valuation.{Valuation}
 use Rattle.snapshot_value.specs.declared.valuation.ValueFault.{ValueFault}
 use Rattle.snapshot_value.specs.declared.valuation.ValueFault.TheVariants.{Pin as NoPin, NoMemory as NoValues}
 use Rattle.turn_lock.specs.History.{entries_of}
 use Rattle.turn_lock.specs.Passes.{Holding, Page, PassFacts, callers as numbers_of}
 use Rattle.lane_runner.specs.AnsweredLines.{AnsweredLine, turns_in}
-use Rattle.lane_runner.specs.Lanes.{lines_in}
+use Rattle.policy_types.specs.Lanes.{lines_in}
 use Rattle.lane_runner.specs.Transcripts.{HasAnsweredLanes, IsOutcome, IsTold, dry_of, lacked_memory}
-use Rattle.lane_runner.specs.declared.transcript.AnsweredLine.{AnsweredLine as ToldLine}
+use Rattle.lane_runner.specs.declared.transcript.TranscriptLine.{TranscriptLine}
 use Rattle.lane_runner.specs.declared.transcript.Outcome.{Outcome}
 use Rattle.lane_runner.specs.declared.transcript.Outcome.TheVariants.{Posted, Trimmed, Valued, ValueRefused, ValueNoMemory}
 use Rattle.lane_runner.specs.declared.transcript.Transcript.{Transcript}
@@ -133,7 +133,7 @@ refused_pin commands basis Blank why is = absurd is
 -- what is known of the rows of a valuation of all commands
 record AreLastRows (commands : List Command) (basis : List Dated) (valuation : Valuation) : Type 0 where
   writable : IsWritableBlock valuation
-  each : AllZip (IsRowOf basis load_day) (book commands) valuation.rows
+  each : AllZip (IsValuedRow basis load_day) (book commands) valuation.rows
 
 last_rows : (opening : Opening) (before : List Entry) (caller : ℕ) (basis : List Dated) (reply : Reply) (valuation : Valuation)
     → IsDue opening before caller PinCall reply → IsValueAnswer (commands_after opening before) basis load_day reply (Ok valuation)
@@ -142,7 +142,7 @@ last_rows opening before caller basis (Pinned position policies) valuation due i
     let all = take_all position (commands_after opening before) (omega (arith, due.1)) in
     record {
       writable = block_writable (commands_after opening before) basis load_day position valuation is;
-      each = subst (λ (cs : List Command). AllZip (IsRowOf basis load_day) (book cs) valuation.rows) all is.rows.each;
+      each = subst (λ (cs : List Command). AllZip (IsValuedRow basis load_day) (book cs) valuation.rows) all is.rows.each;
     }
 last_rows opening before caller basis (PinRefused refusal) valuation due is = absurd is
 last_rows opening before caller basis (Accepted position) valuation due is = absurd is
@@ -162,15 +162,15 @@ posting_found command reply (Valued valuation) commands basis told = absurd told
 posting_found command reply (ValueRefused refusal) commands basis told = absurd told
 posting_found command reply ValueNoMemory commands basis told = absurd told
 
-none_dry_of : (lines : List ToldLine) → AllByRecursion (λ (line : ToldLine). lacked_memory line.outcome ≡ false) lines → dry_of lines ≡ []
+none_dry_of : (lines : List TranscriptLine) → AllByRecursion (λ (line : TranscriptLine). lacked_memory line.outcome ≡ false) lines → dry_of lines ≡ []
 none_dry_of [] none = refl
 none_dry_of (line ∷ lines) none =
-    ap (map (λ (told : ToldLine). told.turn)) (cond-false (lacked_memory line.outcome) _ _ none.0) ∙ none_dry_of lines none.1
+    ap (map (λ (told : TranscriptLine). told.turn)) (cond-false (lacked_memory line.outcome) _ _ none.0) ∙ none_dry_of lines none.1
 
 -- An office ran lanes, valued its policies then, and was closed.
 module _ {D W : Type 0} (g : Ghosts D) (w : WatcherGhosts W) (old disk : D) (lanes : List Lane) (workers turn : ℕ) (basis : List Dated) (watchers : W)
     (first mid closing : Holding (OfficeOpening D W)) (balances : Booking) (reports : List Report) (transcript : Transcript)
-    (answer : Result Valuation ValueFault) (started : HasStarted g old watchers first) (ran : HasAnsweredLanes basis lanes first mid transcript)
+    (answer : Result Valuation ValueFault) (started : HasStartedOffice g old watchers first) (ran : HasAnsweredLanes basis lanes first mid transcript)
     (before : PassFacts IsOfficeHistory mid) (valued : HasValued basis load_day Now workers mid closing turn answer)
     (facts : PassFacts IsOfficeHistory closing) (closed : HasClosed g w closing disk balances reports) (right : AreLoadLanes lanes) where
   abbrev opened : OfficeOpening D W
@@ -323,9 +323,9 @@ module _ {D W : Type 0} (g : Ghosts D) (w : WatcherGhosts W) (old disk : D) (lan
 
   -- the lanes have no valuations
   no_dry : dry_of transcript.lines ≡ []
-  no_dry = none_dry_of transcript.lines (all_has (λ (line : ToldLine). lacked_memory line.outcome ≡ false) transcript.lines one)
+  no_dry = none_dry_of transcript.lines (all_has (λ (line : TranscriptLine). lacked_memory line.outcome ≡ false) transcript.lines one)
     where
-      one : (line : ToldLine) → Has transcript.lines line → lacked_memory line.outcome ≡ false
+      one : (line : TranscriptLine) → Has transcript.lines line → lacked_memory line.outcome ≡ false
       one line has =
           let pair = zip_right (IsTold ran.opened.opening mid.seen basis) ran.answered transcript.lines line ran.told has in
           let this = pair.0 in
@@ -362,7 +362,7 @@ module _ {D W : Type 0} (g : Ghosts D) (w : WatcherGhosts W) (old disk : D) (lan
         → Replies closing.seen (dry_pins turn answer) → IsLoadOf g old disk lanes workers (HasLine basis Wrote Replies)
     line_of Wrote Replies wrote replies = load_of (HasLine basis Wrote Replies) (record {
       rows = valuation.rows;
-      each = subst (λ (cs : List Command). AllZip (IsRowOf basis load_day) (book (started.opening.commands ++ cs)) valuation.rows) (sym same_accepted) last.each;
+      each = subst (λ (cs : List Command). AllZip (IsValuedRow basis load_day) (book (started.opening.commands ++ cs)) valuation.rows) (sym same_accepted) last.each;
       wrote = subst Wrote (text_is valuation.rows) wrote;
       found = ap (dry_pins turn) found;
       replies = replies;
@@ -411,7 +411,7 @@ module _ {D W : Type 0} (g : Ghosts D) (w : WatcherGhosts W) (old disk : D) (lan
 -- where there was no memory to run the lanes, nothing was turned
 pub ends_unrun : {D W : Type 0} (g : Ghosts D) (w : WatcherGhosts W) (old disk : D) (lanes : List Lane) (workers : ℕ) (basis : List Dated) (watchers : W)
     (first closing : Holding (OfficeOpening D W)) (balances : Booking) (reports : List Report) (output : Stream)
-    → HasStarted g old watchers first → HasClosed g w closing disk balances reports → closing ≡ first
+    → HasStartedOffice g old watchers first → HasClosed g w closing disk balances reports → closing ≡ first
     → SaysUnopened NoRoom output NoMemory → EndsLoading g old disk lanes workers basis output NoMemory
 ends_unrun {D = D} {W = W} g w old disk lanes workers basis watchers first closing balances reports output started closed same said =
     let opened : OfficeOpening D W = record { opening = started.opening; begun = old; watchers = watchers } in
@@ -437,14 +437,14 @@ ends_unbegun g old new lanes workers basis output NoRoom NoMemory not said = inl
 ends_unbegun g old new lanes workers basis output _ _ not said = absurd said
 
 -- a line that is written whole ends a load by what is told of its lines
-by_lines : (lines : List ToldLine) (rows : List Row) (output : Stream) (faulted lacked : Bool) → any_faulted lines ≡ faulted → any_lacked lines ≡ lacked
+by_lines : (lines : List TranscriptLine) (rows : List Row) (output : Stream) (faulted lacked : Bool) → any_faulted lines ≡ faulted → any_lacked lines ≡ lacked
     → WroteAll output (load_text (accepted_lines lines) (refused_lines lines) rows)
     → EndsLine lines rows output (if faulted then DiskFault else if lacked then NoMemory else Done)
 by_lines lines rows output true lacked failed short wrote = (failed, wrote)
 by_lines lines rows output false true whole short wrote = inr (whole, short, wrote)
 by_lines lines rows output false false whole found wrote = (whole, found, wrote)
 
-pub ends_as_told : (lines : List ToldLine) (rows : List Row) (output : Stream) (ending : Ending)
+pub ends_as_told : (lines : List TranscriptLine) (rows : List Row) (output : Stream) (ending : Ending)
     → ending ≡ (if any_faulted lines then DiskFault else if any_lacked lines then NoMemory else Done)
     → WroteAll output (load_text (accepted_lines lines) (refused_lines lines) rows) → EndsLine lines rows output ending
 ends_as_told lines rows output ending is wrote =

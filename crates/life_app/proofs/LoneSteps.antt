@@ -19,10 +19,10 @@ use Rattle.policy_machine.specs.Merge.{Placed, pin_call, turns_of}
 use Rattle.office_state.specs.Images.{AreQuiet, HasFaultedBefore, HoldsNow, HoldsOnce, IsLeftBy, IsOneMore}
 use Rattle.office_state.specs.Journals.{JournalBytes, Opens}
 use Rattle.shared_office.specs.Offices.{IsOfficeHistory, OfficeOpening}
-use Rattle.shared_office.specs.Starting.{HasClosed, HasStarted}
+use Rattle.shared_office.specs.Starting.{HasClosed, HasStartedOffice}
 use Rattle.watcher_set.specs.declared.watching.Watching.{Ghosts as WatcherGhosts}
 use Rattle.turn_lock.specs.Passes.{Holding, PassFacts, callers}
-use Rattle.snapshot_value.specs.Valuing.{HasValued, IsAnswered as IsValueAnswer}
+use Rattle.snapshot_value.specs.Valuing.{HasValued, AnswersPin as IsValueAnswer}
 use Rattle.snapshot_value.specs.declared.valuation.Valuation.{Valuation}
 use Rattle.snapshot_value.specs.declared.valuation.ValueFault.{ValueFault}
 use Rattle.life_app.specs.declared.ending.Ending.{Ending}
@@ -161,7 +161,7 @@ postless_entries (turn ∷ turns) quiet = (quiet.0, postless_entries turns quiet
 
 module _ {D W : Type 0} (g : Ghosts D) (w : WatcherGhosts W) (old disk : D) (watchers : W) (on : ℤ) (at : At) (workers turn : ℕ) (basis : List Dated)
     (first closing : Holding (OfficeOpening D W)) (balances : Booking) (reports : List Report) (answer : Result Valuation ValueFault)
-    (started : HasStarted g old watchers first) (facts : PassFacts IsOfficeHistory closing)
+    (started : HasStartedOffice g old watchers first) (facts : PassFacts IsOfficeHistory closing)
     (closed : HasClosed g w closing disk balances reports)
     (valued : HasValued basis on at workers first closing turn answer) where
   abbrev opened : OfficeOpening D W

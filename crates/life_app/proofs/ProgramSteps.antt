@@ -12,7 +12,7 @@ use Rattle.policy_types.specs.declared.script.Lane.{Lane}
 use Rattle.watcher_set.specs.Noted.{Auditor}
 use Rattle.basis_book.specs.Dated.{Dated}
 use Rattle.basis_shelf.specs.Bases.{IsBasis}
-use Rattle.basis_shelf.specs.FirstBad.{IsFirstBad}
+use Rattle.basis_shelf.specs.FirstBad.{IsFirstBadFile}
 use Rattle.basis_shelf.specs.declared.fault.BadBasis.{BadBasis as ABadBasis}
 use Rattle.basis_shelf.proofs.OneBasis.{basis_or_bad}
 use Rattle.command_csv.specs.Reads.{Reads}
@@ -204,7 +204,7 @@ module _ {D : Type 0} (g : Ghosts D) (old new : D) (auditors : List Auditor) whe
 
     -- and a bad file is named
     lanes_unfit : (ending : Ending) (bad : ABadBasis) (files : List ℕ → Option (List ℕ)) → EndsLanes g old new lanes name auditors shelf output ShelfStays ending
-        → asks_for_values lanes ≡ true → shelf.files ≡ Some files → IsFirstBad files name bad
+        → asks_for_values lanes ≡ true → shelf.files ≡ Some files → IsFirstBadFile files name bad
         → (Rose shelf.faults_before shelf.faults_after → ⊥) → SaysBadFile bad output (status_of ending) ⊎ (status_of ending ≡ 9)
     lanes_unfit ending bad files ends asks told first shelf_held = elim ends [
       | inl without ↦ absurd (false≢true (sym without.0 ∙ asks))
@@ -412,7 +412,7 @@ module _ {D : Type 0} (g : Ghosts D) (old new : D) (auditors : List Auditor) whe
       ]
 
       pub unfit : (on : ℤ) (at : At) (name : List ℕ) (bad : ABadBasis) (files : List ℕ → Option (List ℕ)) → AskForValue words on at name
-          → shelf.files ≡ Some files → IsFirstBad files name bad → (Rose shelf.faults_before shelf.faults_after → ⊥)
+          → shelf.files ≡ Some files → IsFirstBadFile files name bad → (Rose shelf.faults_before shelf.faults_after → ⊥)
           → SaysBadFile bad output (status_of ending) ⊎ (status_of ending ≡ 9)
       unfit on at name bad files asked told first shelf_held = elim (valued_so on at name asked) [
         | inl ends ↦ value_unfit g old new on at output name shelf files told ending bad ends first shelf_held
@@ -505,7 +505,7 @@ module _ {D : Type 0} (g : Ghosts D) (old new : D) (auditors : List Auditor) whe
           ]
 
       pub unfit_load : (bad : ABadBasis) (files : List ℕ → Option (List ℕ)) → AskForLoad words → shelf.files ≡ Some files
-          → IsFirstBad files (codes "basis.csv") bad → (Rose shelf.faults_before shelf.faults_after → ⊥)
+          → IsFirstBadFile files (codes "basis.csv") bad → (Rose shelf.faults_before shelf.faults_after → ⊥)
           → SaysBadFile bad output (status_of ending) ⊎ (status_of ending ≡ 9)
       unfit_load bad files (seed, (count, (lanes, (workers, asked)))) told first shelf_held =
           elim (as_asked ending does (Load seed count lanes workers) asked) [
@@ -549,7 +549,7 @@ module _ {D : Type 0} (g : Ghosts D) (old new : D) (auditors : List Auditor) whe
 
       pub unfit_run : (bytes name : List ℕ) (lanes : List Lane) (bad : ABadBasis) (files : List ℕ → Option (List ℕ)) → AskForRun words name
           → input.before ≡ Some bytes → length bytes ≤ 16777216 → Reads bytes lanes → asks_for_values lanes ≡ true
-          → shelf.files ≡ Some files → IsFirstBad files name bad → (Rose input.faults_before input.faults_after → ⊥)
+          → shelf.files ≡ Some files → IsFirstBadFile files name bad → (Rose input.faults_before input.faults_after → ⊥)
           → (Rose shelf.faults_before shelf.faults_after → ⊥) → SaysBadFile bad output (status_of ending) ⊎ (status_of ending ≡ 9)
       unfit_run bytes name lanes bad files run told short reads asks shelf_told first input_held shelf_held =
           elim (ran name run) [

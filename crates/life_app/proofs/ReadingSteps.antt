@@ -32,8 +32,8 @@ use Rattle.office_state.specs.inside.Replays.{BodiesHave, IsLookedAt, StaysAs, a
 use Rattle.office_state.proofs.JournalLaws.{same_command, same_commands, shown_opens_to_none, to_bodies}
 use Rattle.office_state.proofs.OpeningSteps.{IsStarted}
 use Rattle.life_app.specs.declared.rereading.Account.{Account}
-use Rattle.life_app.specs.Books.{entries_of}
-use Rattle.life_app.specs.inside.Rereading.{AreRead, CanBeNext, HasNotRead, HasRead, HasStopped, IsAccount, IsNext, IsReadFrom, IsStoppedAt, IsStoppedFrom, IsStuck, SpellsNoNext}
+use Rattle.life_app.specs.Books.{policy_entries}
+use Rattle.life_app.specs.inside.Rereading.{AreRead, CanBeNext, HasNotRead, HasRead, HasStoppedReading, IsAccount, IsNext, IsReadFrom, IsReadUpTo, IsStoppedFrom, StopsReading, SpellsNoNext}
 
 enumerate_from-push : {X : Type 0} (n : ℕ) (xs : List X) (x : X)
     → enumerate_from n (xs ++ x ∷ []) ≡ enumerate_from n xs ++ (n + length xs, x) ∷ []
@@ -43,8 +43,8 @@ enumerate_from-push n (first ∷ xs) x =
     ∙ ap (λ k. enumerate_from (n + 1) xs ++ (k, x) ∷ []) (omega arith))
 
 entries-push : (commands : List Command) (command : Command) (id : ℕ)
-    → entries_of (commands ++ command ∷ []) id
-    ≡ entries_of commands id ++ filter (λ (entry : ℕ × Command). id_of entry.1 == id) ((1 + length commands, command) ∷ [])
+    → policy_entries (commands ++ command ∷ []) id
+    ≡ policy_entries commands id ++ filter (λ (entry : ℕ × Command). id_of entry.1 == id) ((1 + length commands, command) ∷ [])
 entries-push commands command id =
     ap (filter (λ (entry : ℕ × Command). id_of entry.1 == id)) (enumerate_from-push 1 commands command)
     ∙ filter-append (λ (entry : ℕ × Command). id_of entry.1 == id) (enumerate_from 1 commands) ((1 + length commands, command) ∷ [])
@@ -60,8 +60,8 @@ pub account_other : (account : Account) (commands : List Command) (command : Com
 account_other account commands command holds valid other = record {
   valid = all_valid-push commands command holds.valid valid;
   entries = holds.entries ∙ sym (entries-push commands command account.id
-      ∙ ap (λ b. entries_of commands account.id ++ (if b then (1 + length commands, command) ∷ [] else [])) other
-      ∙ append-nil (entries_of commands account.id));
+      ∙ ap (λ b. policy_entries commands account.id ++ (if b then (1 + length commands, command) ∷ [] else [])) other
+      ∙ append-nil (policy_entries commands account.id));
   policy = holds.policy ∙ sym (policy_of-push_other commands command account.id other);
 }
 
@@ -78,8 +78,8 @@ account_own old new commands command after n holds valid each own same entries p
       let place : n + 1 ≡ 1 + length commands = omega arith in
       entries ∙ ap₂ (λ es k. es ++ (k, command) ∷ []) holds.entries place
       ∙ sym (entries-push commands command old.id
-      ∙ ap (λ b. entries_of commands old.id ++ (if b then (1 + length commands, command) ∷ [] else [])) own)
-      ∙ ap (entries_of (commands ++ command ∷ [])) (sym same);
+      ∙ ap (λ b. policy_entries commands old.id ++ (if b then (1 + length commands, command) ∷ [] else [])) own)
+      ∙ ap (policy_entries (commands ++ command ∷ [])) (sym same);
   policy =
       let decision : next (policy_of commands old.id) command ≡ Ok after = ap (λ p. next p command) (sym holds.policy) ∙ decided in
       policy ∙ sym (policy_of-push_own commands command old.id own ∙ kept_ok (policy_of commands old.id) _ after decision)
@@ -135,12 +135,12 @@ module _ {D : Type 0} (g : Ghosts D) (start : Journal D g) where
 
   -- a record that couldn't be read
   pub stopped : (mid new : Journal D g) (account : Account) (n : ℕ) (read : AreRead start mid account n) → n < count_of start
-      → StaysAs start mid → (cause : StartCause) → IsStuck mid new n read.commands cause → HasStopped start (disk_of new) cause
+      → StaysAs start mid → (cause : StartCause) → StopsReading mid new n read.commands cause → HasStoppedReading start (disk_of new) cause
   stopped mid new account n read within stays (DiskFault count) stuck =
       (stuck.0, subst (λ m. Rose m (g.faults (disk_of new))) read.quiet stuck.1)
   stopped mid new account n read within stays (BadRecord m) stuck = (
     stuck.1 ∙ read.quiet,
-    subst (λ k. BodiesHave start (IsStoppedAt k)) (sym stuck.0) (λ bodies last honest stands. record {
+    subst (λ k. BodiesHave start (IsReadUpTo k)) (sym stuck.0) (λ bodies last honest stands. record {
       commands = read.commands;
       counted = read.each;
       within = omega (arith, within, stands.count);
@@ -159,12 +159,12 @@ module _ {D : Type 0} (g : Ghosts D) (start : Journal D g) where
       sym (take-length bodies) ∙ ap (λ n. take n bodies) (sym stands.count) ∙ read.front bodies last honest stands
 
 -- a file whose bodies can't be read opens to no commands
-stopped_none : (bytes : List ℕ) (bodies : List (List ℕ)) (n : ℕ) → OpensToBodies bytes bodies → IsStoppedAt n bodies → OpensToNone bytes
+stopped_none : (bytes : List ℕ) (bodies : List (List ℕ)) (n : ℕ) → OpensToBodies bytes bodies → IsReadUpTo n bodies → OpensToNone bytes
 stopped_none bytes bodies n opened at commands opens =
     let same : bodies ≡ bodies_of commands = opens_once bytes bodies (bodies_of commands) opened (to_bodies bytes commands opens) in
-    by opens (subst (IsStoppedAt n) same at)
+    by opens (subst (IsReadUpTo n) same at)
   where
-    by : Opens bytes commands → IsStoppedAt n (bodies_of commands) → ⊥
+    by : Opens bytes commands → IsReadUpTo n (bodies_of commands) → ⊥
     by (inl journal) at =
         never_stopped [] commands at.commands journal.valid journal.accepted (omega (arith, at.within, at.counted)) at.valid
         (ap (λ k. take k (bodies_of commands)) at.counted ∙ at.front)
@@ -203,13 +203,13 @@ module _ {D : Type 0} (g : Ghosts D) (old : D) (journal : Journal D g) (started 
     unwritten = looked_only new read.looked;
   }
 
-  told : (new : D) (cause : StartCause) → HasStopped journal new cause → TellsFault (g.faults old) (g.faults new) cause
+  told : (new : D) (cause : StartCause) → HasStoppedReading journal new cause → TellsFault (g.faults old) (g.faults new) cause
   told new (DiskFault count) stopped = (stopped.0, subst (λ n. Rose n (g.faults new)) started.quiet stopped.1)
   told new NotAJournal stopped = absurd stopped
   told new (BadRecord n) stopped = stopped.0 ∙ started.quiet
   told new NoMemory stopped = stopped ∙ started.quiet
 
-  opens_to_none : (new : D) (cause : StartCause) → HasStopped journal new cause → g.honest old → IsOfTheFile cause → OpensToNone (g.reads old)
+  opens_to_none : (new : D) (cause : StartCause) → HasStoppedReading journal new cause → g.honest old → IsOfTheFile cause → OpensToNone (g.reads old)
   opens_to_none new (DiskFault count) stopped honest of = absurd of
   opens_to_none new NotAJournal stopped honest of = absurd stopped
   opens_to_none new NoMemory stopped honest of = absurd of
@@ -264,7 +264,7 @@ pub account_valid : (account : Account) (commands : List Command) → IsAccount 
     → All (λ (entry : ℕ × Command). IsValid entry.1) account.entries.items
 account_valid account commands holds =
     subst (All (λ (entry : ℕ × Command). IsValid entry.1)) (sym holds.entries)
-    (All-from_recursion (λ (entry : ℕ × Command). IsValid entry.1) (entries_of commands account.id) (entries_valid 1 commands account.id holds.valid))
+    (All-from_recursion (λ (entry : ℕ × Command). IsValid entry.1) (policy_entries commands account.id) (entries_valid 1 commands account.id holds.valid))
 
 pub account_sound : (account : Account) (commands : List Command) → IsAccount account commands → IfSome account.policy IsSound
 account_sound account commands holds =

@@ -14,16 +14,16 @@ use Rattle.policy_types.specs.declared.entry.Entry.{Entry}
 use Rattle.policy_machine.specs.History.{IsLegal, accepted_of, opened_on}
 use Rattle.watcher_set.specs.Noted.{Auditor, reports_of}
 use Rattle.watcher_set.specs.declared.watching.Watching.{Ghosts as WatcherGhosts}
-use Rattle.command_csv.specs.Reads.{IsFirstFault, Reads}
+use Rattle.command_csv.specs.Reads.{IsFirstScriptFault, Reads}
 use Rattle.office_state.specs.declared.faults.StartCause.{StartCause}
 use Rattle.office_state.specs.declared.faults.StartCause.TheVariants.{DiskFault as FaultyDisk, NotAJournal, BadRecord, NoMemory as NoRoom}
 use Rattle.office_state.specs.Images.{IsLeftAlone, IsLeftBy}
 use Rattle.office_state.specs.Opening.{HasNotOpened}
 use Rattle.shared_office.specs.Offices.{IsOfficeHistory, OfficeOpening}
-use Rattle.shared_office.specs.Starting.{HasClosed, HasStarted}
+use Rattle.shared_office.specs.Starting.{HasClosed, HasStartedOffice}
 use Rattle.turn_lock.specs.Passes.{Holding, PassFacts}
 use Rattle.lane_runner.specs.Transcripts.{HasAnsweredLanes, dry_of}
-use Rattle.lane_runner.specs.declared.transcript.AnsweredLine.{AnsweredLine as ToldLine}
+use Rattle.lane_runner.specs.declared.transcript.TranscriptLine.{TranscriptLine}
 use Rattle.lane_runner.specs.declared.transcript.Transcript.{Transcript}
 use Rattle.life_app.specs.declared.ending.Ending.{Ending}
 use Rattle.life_app.specs.declared.ending.Ending.TheVariants.{Done, BadScript, BadJournal, ReadFault as InputFault, WriteFault, DiskFault, NoMemory}
@@ -45,14 +45,14 @@ nothing_written None = tt
 nothing_written (Some xs) = sym (append-nil xs)
 
 -- a text that is written whole ends a run by what is told of its lines
-by_lines : (lines : List ToldLine) (reports : List Report) (output : Stream) (faulted lacked : Bool) → any_faulted lines ≡ faulted
+by_lines : (lines : List TranscriptLine) (reports : List Report) (output : Stream) (faulted lacked : Bool) → any_faulted lines ≡ faulted
     → any_lacked lines ≡ lacked → WroteAll output (run_text lines reports)
     → EndsTold lines reports output (if faulted then DiskFault else if lacked then NoMemory else Done)
 by_lines lines reports output true lacked failed short wrote = (failed, wrote)
 by_lines lines reports output false true whole short wrote = inr (whole, short, wrote)
 by_lines lines reports output false false whole found wrote = (whole, found, wrote)
 
-pub ends_as_told : (lines : List ToldLine) (reports : List Report) (output : Stream) (ending : Ending)
+pub ends_as_told : (lines : List TranscriptLine) (reports : List Report) (output : Stream) (ending : Ending)
     → ending ≡ (if any_faulted lines then DiskFault else if any_lacked lines then NoMemory else Done)
     → WroteAll output (run_text lines reports) → EndsTold lines reports output ending
 ends_as_told lines reports output ending is wrote =
@@ -60,7 +60,7 @@ ends_as_told lines reports output ending is wrote =
 
 -- An office ran lanes and was closed.
 module _ {D W : Type 0} (g : Ghosts D) (w : WatcherGhosts W) (old disk : D) (lanes : List Lane) (basis : List Dated) (watchers : W)
-    (first closing : Holding (OfficeOpening D W)) (balances : Booking) (reports : List Report) (started : HasStarted g old watchers first)
+    (first closing : Holding (OfficeOpening D W)) (balances : Booking) (reports : List Report) (started : HasStartedOffice g old watchers first)
     (facts : PassFacts IsOfficeHistory closing) (closed : HasClosed g w closing disk balances reports) (script : AreScriptLanes lanes) where
   abbrev opened : OfficeOpening D W
   opened = record { opening = started.opening; begun = old; watchers = watchers }
@@ -150,16 +150,16 @@ refused_long None output long said = tt
 refused_long (Some t) output long said = inl (long, said)
 
 refused_row : (told : Option (List ℕ)) (output : Stream) (row field : ℕ)
-    → IfSome told (λ t. (length t ≤ most_script_bytes) × IsFirstFault t row field)
+    → IfSome told (λ t. (length t ≤ most_script_bytes) × IsFirstScriptFault t row field)
     → SaysUnread (BadRow row field) output BadScript → IfSome told (λ t. IsRefused t output)
 refused_row None output row field fault said = tt
 refused_row (Some t) output row field fault said = inr (row, (field, fault.0, fault.1, said))
 
 -- what is known of an input that gave no script
-pub record IsUnread (input : Stream) (unread : Unread) : Type 0 where
+pub record StopsReading (input : Stream) (unread : Unread) : Type 0 where
   pub too_long : unread ≡ TooLong → IfSome input.before (λ t. most_script_bytes < length t)
   pub bad_row : (row field : ℕ) → unread ≡ BadRow row field
-      → IfSome input.before (λ t. (length t ≤ most_script_bytes) × IsFirstFault t row field)
+      → IfSome input.before (λ t. (length t ≤ most_script_bytes) × IsFirstScriptFault t row field)
   pub fault : unread ≡ ReadFault → Rose input.faults_before input.faults_after
 
 told_lanes : (told : Option (List ℕ)) (bytes : List ℕ) (lanes : List Lane) → IfSome told (λ t. t ≡ bytes)
@@ -190,11 +190,11 @@ ends_script g old new name auditors input output shelf ShelfStays lanes bytes en
 
 -- one that read none leaves the shelf and the disk
 pub ends_unread : {D : Type 0} (g : Ghosts D) (disk : D) (name : List ℕ) (auditors : List Auditor) (input output : Stream)
-    (shelf : Shelving) (ShelfStays : Type 0) (unread : Unread) (ending : Ending) → ShelfStays → IsUnread input unread
+    (shelf : Shelving) (ShelfStays : Type 0) (unread : Unread) (ending : Ending) → ShelfStays → StopsReading input unread
     → SaysUnread unread output ending → EndsRun g disk disk name auditors input output shelf ShelfStays ending
 ends_unread g disk name auditors input output shelf ShelfStays unread ending stays is says = inr (refl, stays, by unread ending is says)
   where
-    by : (unread : Unread) (ending : Ending) → IsUnread input unread → SaysUnread unread output ending → EndsUnread input output ending
+    by : (unread : Unread) (ending : Ending) → StopsReading input unread → SaysUnread unread output ending → EndsUnread input output ending
     by TooLong BadScript is said = refused_long input.before output (is.too_long refl) said
     by (BadRow row field) BadScript is said = refused_row input.before output row field (is.bad_row row field refl) said
     by (BadRow row field) NoMemory is said = said

@@ -12,13 +12,13 @@ use Rattle.csv.specs.declared.parser.State.TheVariants as st
 use Rattle.policy_types.specs.declared.script.Line.{Line}
 use Rattle.policy_types.specs.declared.script.Line.TheVariants.{Post, Value, Trim}
 use Rattle.policy_types.specs.declared.script.Lane.{Lane}
-use Rattle.command_csv.specs.Reads.{IsRowOf, IsScriptLine, Reads, all_lines, is_valuation, lane_of, lanes_up_to, last_lane, lines_of}
+use Rattle.command_csv.specs.Reads.{IsLineRow, IsScriptLine, Reads, all_lines, is_valuation, lane_of, lanes_up_to, last_lane, lines_of}
 use Rattle.command_csv.specs.Rows.{rows_of}
 use Rattle.command_csv.specs.declared.row.ClerkLine.{ClerkLine}
 use Rattle.command_csv.proofs.Clerks.{all_right}
 use Rattle.command_csv.proofs.Records.{rows_few}
-use Rattle.lane_runner.specs.AnsweredLines.{AreRising}
-use Rattle.lane_runner.specs.Lanes.{IsRightLane, IsRightLine, is_value, lines_in}
+use Rattle.policy_types.specs.Lanes.{AreRising, lines_in}
+use Rattle.lane_runner.specs.Lanes.{IsRightLane, IsRightLine, is_value}
 use Rattle.life_app.specs.Script.{most_script_bytes}
 use Rattle.life_app.specs.inside.Parts.{AreScriptLanes}
 use Rattle.life_app.proofs.ListSteps.{Has, all_and, all_has, has_either, has_flat_map, of_all, of_filter, of_map, has_map}
@@ -42,7 +42,7 @@ few_rows bytes =
     let all = reached (length (strip_bom bytes) + 1) st.StartRecord (strip_bom bytes) in
     rows_few bytes (rows_of bytes) all.0 all.1.0 all.1.1
 
-same_length : (rows : List (List (List ℕ))) (entries : List ClerkLine) → AllZip IsRowOf rows entries → length entries ≡ length rows
+same_length : (rows : List (List (List ℕ))) (entries : List ClerkLine) → AllZip IsLineRow rows entries → length entries ≡ length rows
 same_length [] [] h = refl
 same_length [] (e ∷ es) h = absurd h
 same_length (r ∷ rs) [] h = absurd h

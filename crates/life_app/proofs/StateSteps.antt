@@ -27,7 +27,7 @@ use Rattle.office_state.proofs.OpeningSteps.{CountsNow, ReadsImage}
 use Rattle.life_app.specs.declared.ending.Ending.{Ending}
 use Rattle.life_app.specs.declared.ending.Ending.TheVariants.{Done, BadJournal, WriteFault, DiskFault, NoMemory}
 use Rattle.life_app.specs.declared.rereading.Account.{Account}
-use Rattle.life_app.specs.Books.{account_text, entries_of, policy_account}
+use Rattle.life_app.specs.Books.{account_text, policy_entries, policy_account}
 use Rattle.life_app.specs.Outcome.{SaysWhy}
 use Rattle.life_app.specs.Stating.{EndsReadOnly, EndsState, IsStated}
 use Rattle.life_app.specs.Writing.{Stream, WroteAll}
@@ -41,7 +41,7 @@ account_is : {D : Type 0} {g : Ghosts D} {old new : D} {id : ℕ} (account : Acc
 account_is {id = id} account read =
     let commands = read.commands in
     ap (λ es. account_text es account.id account.policy) read.holds.entries
-    ∙ ap (λ p. account_text (entries_of commands account.id) account.id p) read.holds.policy
+    ∙ ap (λ p. account_text (policy_entries commands account.id) account.id p) read.holds.policy
     ∙ ap (λ n. policy_account n commands) read.named
 
 -- an office that was opened on this disk and closed

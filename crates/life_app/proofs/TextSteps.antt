@@ -14,7 +14,7 @@ use Rattle.policy_machine.specs.History.{Opening, commands_after}
 use Rattle.report_text.specs.Block.{block_text}
 use Rattle.lane_runner.specs.AnsweredLines.{AnsweredLine}
 use Rattle.lane_runner.specs.Transcripts.{AreDry, IsOutcome, IsTold as IsToldOf, lacked_memory}
-use Rattle.lane_runner.specs.declared.transcript.AnsweredLine.{AnsweredLine as ToldLine}
+use Rattle.lane_runner.specs.declared.transcript.TranscriptLine.{TranscriptLine}
 use Rattle.lane_runner.specs.declared.transcript.Outcome.{Outcome}
 use Rattle.lane_runner.specs.declared.transcript.Outcome.TheVariants.{Posted, Trimmed, Valued, ValueRefused, ValueNoMemory}
 use Rattle.life_app.specs.Transcript.{IsLineText, IsReplyText, IsTranscript, IsValuedText, posting_text, unpinned_text, unvalued_text}
@@ -57,7 +57,7 @@ reply_text clerk (Value on at workers) reply (Posted answer) commands basis IsDr
 reply_text clerk (Value on at workers) reply (Trimmed floor) commands basis IsDry told dry = absurd told
 
 module _ (opening : Opening) (history : List Entry) (basis : List Dated) (dry : List ℕ) where
-  line_text : (answered : AnsweredLine) (told : ToldLine) → IsToldOf opening history basis answered told
+  line_text : (answered : AnsweredLine) (told : TranscriptLine) → IsToldOf opening history basis answered told
       → (Contains dry told.turn ↔ (lacked_memory told.outcome ≡ true)) → IsLineText opening history basis dry answered (told_text told)
   line_text answered told is lacked =
       let commands = commands_after opening (take answered.first.0 history) in
@@ -68,7 +68,7 @@ module _ (opening : Opening) (history : List Entry) (basis : List Dated) (dry : 
       ap (λ n. outcome_text n told.line told.outcome) is.lane ∙ ap (λ l. outcome_text answered.clerk l told.outcome) is.line in
       subst (IsLineText opening history basis dry answered) (sym same) text
 
-  pub transcript_of : (answered : List AnsweredLine) (told : List ToldLine) → AllZip (IsToldOf opening history basis) answered told
+  pub transcript_of : (answered : List AnsweredLine) (told : List TranscriptLine) → AllZip (IsToldOf opening history basis) answered told
       → AreDry dry told → IsTranscript opening history basis dry answered (told_texts told)
   transcript_of [] [] all lacked = refl
   transcript_of [] (one ∷ told) all lacked = absurd all

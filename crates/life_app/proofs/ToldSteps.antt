@@ -26,16 +26,16 @@ use Rattle.shared_office.specs.Offices.{IsOfficeHistory, OfficeOpening}
 use Rattle.turn_lock.specs.History.{entries_of}
 use Rattle.turn_lock.specs.Passes.{Holding, IsFirst, OwnsAll, Page, PassFacts, callers as numbers_of}
 use Rattle.lane_runner.specs.AnsweredLines.{AnsweredLine, AreOfLanes, lines_by, turns_in}
-use Rattle.lane_runner.specs.Lanes.{lines_in}
-use Rattle.lane_runner.specs.Transcripts.{HasAnsweredLanes, IsOutcome, IsTold as IsToldOf, dry_of, lacked_memory}
-use Rattle.lane_runner.specs.declared.transcript.AnsweredLine.{AnsweredLine as ToldLine}
+use Rattle.policy_types.specs.Lanes.{lines_in}
+use Rattle.lane_runner.specs.Transcripts.{HasAnsweredLanes, IsOutcome, IsToldAnswer as IsToldOf, dry_of, lacked_memory}
+use Rattle.lane_runner.specs.declared.transcript.TranscriptLine.{TranscriptLine}
 use Rattle.lane_runner.specs.declared.transcript.Outcome.{Outcome}
 use Rattle.lane_runner.specs.declared.transcript.Outcome.TheVariants.{Posted, Trimmed, Valued, ValueRefused, ValueNoMemory}
 use Rattle.lane_runner.specs.declared.transcript.Transcript.{Transcript}
 use Rattle.life_app.specs.Outcome.{ArePins, HasBlank, IsAnswered, IsPinned, IsUnfaulted}
 use Rattle.life_app.specs.Transcript.{IsTranscript}
 use Rattle.life_app.specs.inside.Parts.{AreScriptLanes}
-use Rattle.life_app.specs.inside.Told.{IsTold, IsWritable, IsWritableOutcome, any_faulted, any_lacked, has_faulted, is_faulted, lacks_memory, told_texts}
+use Rattle.life_app.specs.inside.Told.{IsToldAnswer, IsWritable, IsWritableOutcome, any_faulted, any_lacked, has_faulted, is_faulted, lacks_memory, told_texts}
 use Rattle.life_app.proofs.AnswerSteps.{is_told}
 use Rattle.life_app.proofs.ListSteps.{Has, all_has, any_none, any_some, contains_of_has, front_back, has_enumerate, has_filter, has_flat_map, has_left, has_map, has_of_contains, has_right, of_all, of_enumerate, of_filter, of_flat_map, of_map, parted, zip_left, zip_right}
 use Rattle.life_app.proofs.TextSteps.{transcript_of}
@@ -107,7 +107,7 @@ valid_front opening history k valid =
 
 outcome_writable : (line : Line) (reply : Reply) (outcome : Outcome) (commands : List Command) (basis : List Dated)
     → IsOutcome commands basis line reply outcome → IsScriptLine line
-    → ((command : Command) (answer : Answer) → line ≡ Post command → reply ≡ reply_of answer → IsTold answer)
+    → ((command : Command) (answer : Answer) → line ≡ Post command → reply ≡ reply_of answer → IsToldAnswer answer)
     → IsWritableOutcome line outcome
 outcome_writable (Post command) reply (Posted answer) commands basis told right can = can command answer refl told
 outcome_writable Trim reply (Trimmed floor) commands basis told right can = tt
@@ -309,7 +309,7 @@ module _ {D W : Type 0} (basis : List Dated) (lanes : List Lane) (first closing 
 
   -- the answers to postings can be written
   can_tell : (one : AnsweredLine) → Has ran.answered one → (command : Command) (answer : Answer) → one.line ≡ Post command
-      → one.first.1.reply ≡ reply_of answer → IsTold answer
+      → one.first.1.reply ≡ reply_of answer → IsToldAnswer answer
   can_tell one has command answer posts_it is =
       let there = placed one has in
       let call : one.first.1.call ≡ PostCall command = post_call dry one.line one.first one.rest command (answers one has) posts_it in
@@ -321,7 +321,7 @@ module _ {D W : Type 0} (basis : List Dated) (lanes : List Lane) (first closing 
   writable : All IsWritable transcript.lines
   writable = All-from_recursion IsWritable transcript.lines (all_has IsWritable transcript.lines one_writable)
     where
-      one_writable : (line : ToldLine) → Has transcript.lines line → IsWritable line
+      one_writable : (line : TranscriptLine) → Has transcript.lines line → IsWritable line
       one_writable line has =
           let pair = zip_right (IsToldOf opened.opening closing.seen basis) ran.answered transcript.lines line told has in
           let one = pair.0 in
@@ -339,8 +339,8 @@ module _ {D W : Type 0} (basis : List Dated) (lanes : List Lane) (first closing 
     where
       one_pin : (n : ℕ) → Has dry n → (entry : Entry) × (slice_get closing.seen n ≡ Some entry) × IsPinned entry.reply
       one_pin n has =
-          let from = of_map (λ (line : ToldLine). line.turn) _ n has in
-          let kept = of_filter (λ (line : ToldLine). lacked_memory line.outcome) transcript.lines from.0 from.1 in
+          let from = of_map (λ (line : TranscriptLine). line.turn) _ n has in
+          let kept = of_filter (λ (line : TranscriptLine). lacked_memory line.outcome) transcript.lines from.0 from.1 in
           let pair = zip_right (IsToldOf opened.opening closing.seen basis) ran.answered transcript.lines from.0 told kept.0 in
           let one = pair.0 in
           let place : one.first.0 ≡ n = sym pair.2.turn ∙ from.2 in (
@@ -351,15 +351,15 @@ module _ {D W : Type 0} (basis : List Dated) (lanes : List Lane) (first closing 
 
   -- the endings
   none_dry : any_lacked transcript.lines ≡ false → dry ≡ []
-  none_dry none = by transcript.lines (any_none (λ (line : ToldLine). lacks_memory line.outcome) transcript.lines none)
+  none_dry none = by transcript.lines (any_none (λ (line : TranscriptLine). lacks_memory line.outcome) transcript.lines none)
     where
-      by : (lines : List ToldLine) → AllByRecursion (λ (line : ToldLine). lacks_memory line.outcome ≡ false) lines → dry_of lines ≡ []
+      by : (lines : List TranscriptLine) → AllByRecursion (λ (line : TranscriptLine). lacks_memory line.outcome ≡ false) lines → dry_of lines ≡ []
       by [] none = refl
       by (line ∷ lines) none = rw (not_lacked line.outcome none.0) (by lines none.1)
 
   some_lacked : any_lacked transcript.lines ≡ true → HasBlank closing.seen ⊎ ((pin : ℕ) × Contains dry pin)
   some_lacked some =
-      let line = any_some (λ (line : ToldLine). lacks_memory line.outcome) transcript.lines some in
+      let line = any_some (λ (line : TranscriptLine). lacks_memory line.outcome) transcript.lines some in
       let pair = zip_right (IsToldOf opened.opening closing.seen basis) ran.answered transcript.lines line.0 told line.1 in
       let one = pair.0 in
       elim (lacked_which line.0.outcome line.2) [
@@ -373,13 +373,13 @@ module _ {D W : Type 0} (basis : List Dated) (lanes : List Lane) (first closing 
           ),
         )
         | inr valued ↦
-            let kept = has_filter (λ (line : ToldLine). lacked_memory line.outcome) transcript.lines line.0 valued line.1 in
-            inr (line.0.turn, contains_of_has dry line.0.turn (has_map (λ (line : ToldLine). line.turn) _ line.0 kept))
+            let kept = has_filter (λ (line : TranscriptLine). lacked_memory line.outcome) transcript.lines line.0 valued line.1 in
+            inr (line.0.turn, contains_of_has dry line.0.turn (has_map (λ (line : TranscriptLine). line.turn) _ line.0 kept))
       ]
 
   a_fault : any_faulted transcript.lines ≡ true → (command : Command) × HasFaulted closing.seen command
   a_fault some =
-      let line = any_some (λ (line : ToldLine). has_faulted line.outcome) transcript.lines some in
+      let line = any_some (λ (line : TranscriptLine). has_faulted line.outcome) transcript.lines some in
       let pair = zip_right (IsToldOf opened.opening closing.seen basis) ran.answered transcript.lines line.0 told line.1 in
       let one = pair.0 in
       let fault = told_fault one.line one.first.1.reply line.0.outcome (commands_after opened.opening (take one.first.0 closing.seen)) basis pair.2.outcome line.2 in
@@ -403,7 +403,7 @@ module _ {D W : Type 0} (basis : List Dated) (lanes : List Lane) (first closing 
 
   -- what holds of every reply to another call, and of what is told of every posting, holds of all replies
   each_reply : (P : Reply → Type 0) → ((reply : Reply) → IsAnswered reply → P reply)
-      → ((command : Command) (reply : Reply) (line : ToldLine) (commands : List Command) → Has transcript.lines line
+      → ((command : Command) (reply : Reply) (line : TranscriptLine) (commands : List Command) → Has transcript.lines line
       → IsOutcome commands basis (Post command) reply line.outcome → P reply)
       → AllByRecursion (λ (entry : Entry). P entry.reply) closing.seen
   each_reply P others postings = all_has (λ (entry : Entry). P entry.reply) closing.seen (λ entry has. one entry has (posts entry.call) refl)
@@ -427,20 +427,20 @@ module _ {D W : Type 0} (basis : List Dated) (lanes : List Lane) (first closing 
 
   unfaulted : any_faulted transcript.lines ≡ false → AllByRecursion (λ (entry : Entry). IsUnfaulted entry.reply) closing.seen
   unfaulted whole =
-      let none = any_none (λ (l : ToldLine). has_faulted l.outcome) transcript.lines whole in
+      let none = any_none (λ (l : TranscriptLine). has_faulted l.outcome) transcript.lines whole in
       each_reply IsUnfaulted unfaulted_if_answered
       (λ command reply line commands has is. told_unfaulted command reply line.outcome commands basis is
-      (of_all (λ (l : ToldLine). has_faulted l.outcome ≡ false) transcript.lines line none has))
+      (of_all (λ (l : TranscriptLine). has_faulted l.outcome ≡ false) transcript.lines line none has))
 
   answered : any_faulted transcript.lines ≡ false → any_lacked transcript.lines ≡ false
       → AllByRecursion (λ (entry : Entry). IsAnswered entry.reply) closing.seen
   answered whole found =
-      let none = any_none (λ (l : ToldLine). has_faulted l.outcome) transcript.lines whole in
-      let none_lacked = any_none (λ (l : ToldLine). lacks_memory l.outcome) transcript.lines found in
+      let none = any_none (λ (l : TranscriptLine). has_faulted l.outcome) transcript.lines whole in
+      let none_lacked = any_none (λ (l : TranscriptLine). lacks_memory l.outcome) transcript.lines found in
       each_reply IsAnswered (λ reply is. is)
       (λ command reply line commands has is. told_answered command reply line.outcome commands basis is
-      (of_all (λ (l : ToldLine). has_faulted l.outcome ≡ false) transcript.lines line none has)
-      (of_all (λ (l : ToldLine). lacks_memory l.outcome ≡ false) transcript.lines line none_lacked has))
+      (of_all (λ (l : TranscriptLine). has_faulted l.outcome ≡ false) transcript.lines line none has)
+      (of_all (λ (l : TranscriptLine). lacks_memory l.outcome ≡ false) transcript.lines line none_lacked has))
 
   pub telling : Telling basis lanes closing transcript opened ran.answered
   telling = record {

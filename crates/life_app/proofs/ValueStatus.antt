@@ -8,7 +8,7 @@ use Rattle.policy_types.specs.declared.command.Command.{Command}
 use Rattle.policy_types.specs.declared.entry.At.{At}
 use Rattle.basis_book.specs.Dated.{Dated}
 use Rattle.basis_shelf.specs.Bases.{IsBasis}
-use Rattle.basis_shelf.specs.FirstBad.{IsFirstBad}
+use Rattle.basis_shelf.specs.FirstBad.{IsFirstBadFile}
 use Rattle.basis_shelf.specs.Lines.{bad_basis_text}
 use Rattle.basis_shelf.specs.declared.fault.BadBasis.{BadBasis as ABadBasis}
 use Rattle.basis_shelf.proofs.OneBasis.{basis_or_bad, one_first_bad}
@@ -99,19 +99,19 @@ module _ {D : Type 0} (g : Ghosts D) (old new : D) (on : ℤ) (at : At) (output 
       basis_refused BadBasis basis is ends shelf_held =
           absurd
           (basis_or_bad files name basis ends.0 is
-          (subst (λ (t : Option (List ℕ → Option (List ℕ))). IfSome t (λ fs. IsFirstBad fs name ends.0)) told ends.1))
+          (subst (λ (t : Option (List ℕ → Option (List ℕ))). IfSome t (λ fs. IsFirstBadFile fs name ends.0)) told ends.1))
       basis_refused ReadFault basis is ends shelf_held = absurd (shelf_held ends.0)
       basis_refused NoMemory basis is ends shelf_held = refl
       basis_refused _ basis is ends shelf_held = absurd ends
 
       -- and one that is bad is
-      pub bad_refused : (ending : Ending) (bad : ABadBasis) → IsFirstBad files name bad → EndsNoBasis name shelf output ending
+      pub bad_refused : (ending : Ending) (bad : ABadBasis) → IsFirstBadFile files name bad → EndsNoBasis name shelf output ending
           → (Rose shelf.faults_before shelf.faults_after → ⊥)
           → SaysBadFile bad output (status_of ending) ⊎ (status_of ending ≡ 9)
       bad_refused BadBasis bad first ends shelf_held =
           let same : ends.0 ≡ bad =
           one_first_bad files name ends.0 bad
-          (subst (λ (t : Option (List ℕ → Option (List ℕ))). IfSome t (λ fs. IsFirstBad fs name ends.0)) told ends.1) first in
+          (subst (λ (t : Option (List ℕ → Option (List ℕ))). IfSome t (λ fs. IsFirstBadFile fs name ends.0)) told ends.1) first in
           inl (refl, subst (λ (b : ABadBasis). WroteOrFailed output (bad_basis_text b)) same ends.2)
       bad_refused ReadFault bad first ends shelf_held = absurd (shelf_held ends.0)
       bad_refused NoMemory bad first ends shelf_held = inr refl
@@ -122,7 +122,7 @@ module _ {D : Type 0} (g : Ghosts D) (old new : D) (on : ℤ) (at : At) (output 
           subst (λ (t : Option (List ℕ → Option (List ℕ))). IfSome t (λ fs. IsBasis fs name by.basis)) told by.is
 
       pub value_unfit : (ending : Ending) (bad : ABadBasis) → EndsValue g old new on at name shelf output ending
-          → IsFirstBad files name bad → (Rose shelf.faults_before shelf.faults_after → ⊥)
+          → IsFirstBadFile files name bad → (Rose shelf.faults_before shelf.faults_after → ⊥)
           → SaysBadFile bad output (status_of ending) ⊎ (status_of ending ≡ 9)
       value_unfit ending bad ends first shelf_held = elim ends [
         | inl by ↦ absurd (basis_or_bad files name by.basis bad (has_basis ending by) first)

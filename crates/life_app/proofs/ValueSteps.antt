@@ -9,7 +9,7 @@ use Rattle.outside_io.specs.Streams.{AppendsPart}
 use Rattle.outside_io.specs.declared.disks.Disk.{Ghosts}
 use Rattle.basis_book.specs.Dated.{Dated}
 use Rattle.basis_shelf.specs.Answers.{IfBad}
-use Rattle.basis_shelf.specs.FirstBad.{IsFirstBad}
+use Rattle.basis_shelf.specs.FirstBad.{IsFirstBadFile}
 use Rattle.basis_shelf.specs.declared.fault.NoBasis.{NoBasis}
 use Rattle.basis_shelf.specs.declared.fault.NoBasis.TheVariants.{Bad, ReadFault as ShelfFailed, NoMemory as NoRoom}
 use Rattle.policy_types.specs.declared.command.Command.{Command}
@@ -26,14 +26,14 @@ use Rattle.policy_machine.specs.Rules.{IsSound}
 use Rattle.policy_machine.proofs.BookLemmas.{book-sound}
 use Rattle.policy_machine.specs.History.{Opening, IsDue, commands_after, opened_on}
 use Rattle.policy_machine.specs.Merge.{pin_call}
-use Rattle.policy_value.specs.Rows.{IsWithin}
+use Rattle.policy_value.specs.Rows.{IsWithinAmount}
 use Rattle.policy_value.specs.declared.worth.Row.{Row}
 use Rattle.policy_value.specs.declared.worth.Worth.{Worth}
 use Rattle.policy_value.specs.declared.worth.Worth.TheVariants.{Bounds, Word}
 use Rattle.report_text.specs.Block.{IsSummable, block_text}
 use Rattle.office_state.specs.Images.{IsLeftBy}
 use Rattle.office_state.specs.Journals.{Opens}
-use Rattle.snapshot_value.specs.Valuing.{IsAnswered, IsRowOf, IsSnapshot}
+use Rattle.snapshot_value.specs.Valuing.{AnswersPin, IsValuedRow, IsSnapshot}
 use Rattle.snapshot_value.specs.declared.valuation.Valuation.{Valuation}
 use Rattle.snapshot_value.specs.declared.valuation.ValueFault.{ValueFault}
 use Rattle.snapshot_value.specs.declared.valuation.ValueFault.TheVariants.{Pin, NoMemory as NoValues}
@@ -55,7 +55,7 @@ policy_sound commands position index policy valid within here =
     subst IsSound same (sound index policy within)
 
 -- bounds within an amount of insurance can be added up
-pub within_summable : (amount : ℕ) (worth : Worth) → amount ≤ 10000000000 → IsWithin amount worth → IsSummable worth
+pub within_summable : (amount : ℕ) (worth : Worth) → amount ≤ 10000000000 → IsWithinAmount amount worth → IsSummable worth
 within_summable amount (Bounds lo hi) most within = (omega (arith, most, within.0, within.1), omega (arith, most, within.1))
 within_summable amount (Word word) most within = tt
 
@@ -64,13 +64,13 @@ pub block_writable : (commands : List Command) (basis : List Dated) (on : ℤ) (
     → IsWritableBlock valuation
 block_writable commands basis on position valuation snapshot = record {
   few = snapshot.rows.few;
-  bounded = All-weaker (λ (row : Row). IsWithin 10000000000 row.worth) (λ (row : Row). IsSummable row.worth)
+  bounded = All-weaker (λ (row : Row). IsWithinAmount 10000000000 row.worth) (λ (row : Row). IsSummable row.worth)
       (λ row within. within_summable 10000000000 row.worth (omega arith) within) valuation.rows snapshot.rows.within;
 }
 
 -- the answer that there is no basis
 pub no_basis : (name : List ℕ) (shelf : Shelving) (output : Stream) (ending : Ending) (cause : NoBasis)
-    → IfSome shelf.files (λ files. IfBad (IsFirstBad files name) cause)
+    → IfSome shelf.files (λ files. IfBad (IsFirstBadFile files name) cause)
     → (cause ≡ ShelfFailed → Rose shelf.faults_before shelf.faults_after)
     → SaysNoBasis cause output ending → EndsNoBasis name shelf output ending
 no_basis name shelf output BadBasis (Bad bad) first failed says = (bad, first, says)
@@ -108,7 +108,7 @@ module _ (opening : Opening) (caller : ℕ) (on : ℤ) (basis : List Dated) wher
   lone_refusal (Position p) PinsFull due = absurd (let full : 16 ≤ 0 = due.2 in omega (arith, full))
 
   pub lone_answer : (at : At) (reply : Reply) (answer : Result Valuation ValueFault) → IsDue opening [] caller (pin_call at) reply
-      → IsAnswered commands basis on reply answer → IsLoneAnswer answer
+      → AnswersPin commands basis on reply answer → IsLoneAnswer answer
   lone_answer at (Pinned position policies) (Ok valuation) due is = block_writable commands basis on position valuation is
   lone_answer at (Pinned position policies) (Err (Pin why)) due is = absurd is
   lone_answer at (Pinned position policies) (Err NoValues) due is = tt
@@ -138,7 +138,7 @@ module _ (opening : Opening) (caller : ℕ) (on : ℤ) (basis : List Dated) wher
         record {
           reached = place.1;
           rows = valuation.rows;
-          each = subst (λ p. AllZip (IsRowOf basis on) (book (take p commands)) valuation.rows) place.0 snapshot.rows.each;
+          each = subst (λ p. AllZip (IsValuedRow basis on) (book (take p commands)) valuation.rows) place.0 snapshot.rows.each;
           wrote = subst Wrote (ap (λ p. block_text 0 on p valuation.rows) (snapshot.pinned ∙ place.0)) wrote;
         }
 
@@ -156,7 +156,7 @@ module _ (opening : Opening) (caller : ℕ) (on : ℤ) (basis : List Dated) wher
     ends_refused_pin at PinsFull ending due ends = absurd ends
 
     pub lone_ends : (at : At) (reply : Reply) (answer : Result Valuation ValueFault) (ending : Ending) → IsDue opening [] caller (pin_call at) reply
-        → IsAnswered commands basis on reply answer → EndsAnswer on answer output ending → EndsValued commands on at basis output ending
+        → AnswersPin commands basis on reply answer → EndsAnswer on answer output ending → EndsValued commands on at basis output ending
     lone_ends at (Pinned position policies) (Ok valuation) Done due is ends = valuation_of at position policies valuation (WroteAll output) due is ends
     lone_ends at (Pinned position policies) (Ok valuation) WriteFault due is ends =
         (ends.0, valuation_of at position policies valuation (AppendsPart output.before output.after) due is ends.1)

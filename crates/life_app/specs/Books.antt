@@ -6,7 +6,7 @@ use Rattle.policy_types.specs.declared.policy.Policy.{Policy}
 use Rattle.policy_types.specs.Valid.{id_of}
 use Rattle.policy_machine.specs.Accounts.{ledger_of}
 use Rattle.policy_machine.specs.Book.{book, policy_of}
-use Rattle.statements.specs.Lines.{line_of}
+use Rattle.text_lines.specs.Lines.{line_of}
 use Rattle.statements.specs.Statements.{balance_text, policy_text, statement_text}
 
 -- all policies in order of issue, the four balances, and the number of commands
@@ -14,8 +14,8 @@ abbrev pub books_text : List Command → List ℕ
 books_text commands = flat_map policy_text (book commands) ++ balance_text (ledger_of commands) (length commands)
 
 -- the commands that name a policy's number, each with its own number among all of them, from 1
-abbrev pub entries_of : List Command → ℕ → List (ℕ × Command)
-entries_of commands id = filter (λ (entry : ℕ × Command). id_of entry.1 == id) (enumerate_from 1 commands)
+abbrev pub policy_entries : List Command → ℕ → List (ℕ × Command)
+policy_entries commands id = filter (λ (entry : ℕ × Command). id_of entry.1 == id) (enumerate_from 1 commands)
 
 -- the entries of a policy, and the policy as they left it, where there is one
 abbrev pub account_text : List (ℕ × Command) → ℕ → Option Policy → List ℕ
@@ -23,4 +23,4 @@ account_text entries id None = line_of (codes "unknown") (decimal id ∷ [])
 account_text entries id (Some policy) = statement_text entries policy
 
 abbrev pub policy_account : ℕ → List Command → List ℕ
-policy_account id commands = account_text (entries_of commands id) id (policy_of commands id)
+policy_account id commands = account_text (policy_entries commands id) id (policy_of commands id)

@@ -21,11 +21,11 @@ use Rattle.basis_book.specs.Dated.{Dated}
 use Rattle.basis_shelf.specs.Bases.{IsBasis}
 use Rattle.policy_value.specs.declared.worth.Row.{Row}
 use Rattle.report_text.specs.Block.{lower_sum, unvalued_count, upper_sum}
-use Rattle.snapshot_value.specs.Valuing.{IsRowOf}
+use Rattle.snapshot_value.specs.Valuing.{IsValuedRow}
 use Rattle.office_state.specs.Images.{IsLeftAlone, IsLeftBy}
 use Rattle.office_state.specs.Journals.{Opens}
 use Rattle.money_core.specs.CentsText.{cents_text}
-use Rattle.statements.specs.Lines.{line_of}
+use Rattle.text_lines.specs.Lines.{line_of}
 use Rattle.load_maker.specs.GeneratedLanes.{generated_lanes}
 use Rattle.life_app.specs.Outcome.{AreAnswered, AreAny, ArePins, HaveAFault, IsRefusedJournal, LackMemory}
 use Rattle.life_app.specs.Valuing.{EndsNoBasis}
@@ -83,7 +83,7 @@ pub record IsLoadOf {D : Type 0} (g : Ghosts D) (old new : D) (lanes : List Lane
 pub record HasLine (basis : List Dated) (Wrote : List ℕ → Type 0) (Replies : List Entry → List ℕ → Type 0)
     (opening : Opening) (history : List Entry) (dry : List ℕ) : Type 0 where
   pub rows : List Row
-  pub each : AllZip (IsRowOf basis load_day) (book (commands_after opening history)) rows
+  pub each : AllZip (IsValuedRow basis load_day) (book (commands_after opening history)) rows
   pub wrote : Wrote (load_text (length (accepted_of history)) (refused_in history) rows)
   pub found : dry ≡ []
   pub replies : Replies history dry

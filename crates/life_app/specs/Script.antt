@@ -3,7 +3,7 @@ use Rattle.std.specs.Prelude.{ℕ, ◌<◌, ◌≤◌, ◌⊎◌, Bool, List, �
 use Rattle.std.specs.List.{list_any}
 use Rattle.outside_io.specs.Faults.{Rose}
 use Rattle.policy_types.specs.declared.script.Lane.{Lane}
-use Rattle.command_csv.specs.Reads.{Reads, IsFirstFault}
+use Rattle.command_csv.specs.Reads.{Reads, IsFirstScriptFault}
 use Rattle.lane_runner.specs.Lanes.{is_value}
 use Rattle.life_app.specs.Writing.{Stream, WroteLine}
 use Rattle.life_app.specs.declared.ending.Ending.{Ending}
@@ -25,7 +25,7 @@ IsReadable script = (lanes : List Lane) × IsReadAs script lanes
 
 -- the script is too long, or has a row that is no line
 abbrev pub IsUnreadable : List ℕ → Type 0
-IsUnreadable bytes = (most_script_bytes < length bytes) ⊎ ((row : ℕ) × ((field : ℕ) × IsFirstFault bytes row field))
+IsUnreadable bytes = (most_script_bytes < length bytes) ⊎ ((row : ℕ) × ((field : ℕ) × IsFirstScriptFault bytes row field))
 
 -- the text of the first row that is no line, and of its first bad field
 abbrev pub bad_row_text : ℕ → ℕ → List ℕ
@@ -35,7 +35,7 @@ bad_row_text row field = codes "badscript," ++ (decimal row ++ (44 ∷ decimal f
 abbrev pub IsRefused : List ℕ → Stream → Type 0
 IsRefused bytes output =
     ((most_script_bytes < length bytes) × WroteLine output (codes "badscript,toolong"))
-    ⊎ ((row : ℕ) × ((field : ℕ) × (length bytes ≤ most_script_bytes) × IsFirstFault bytes row field
+    ⊎ ((row : ℕ) × ((field : ℕ) × (length bytes ≤ most_script_bytes) × IsFirstScriptFault bytes row field
     × WroteLine output (bad_row_text row field)))
 
 -- how a run ends that read no script

@@ -18,11 +18,11 @@ use Rattle.policy_machine.specs.Book.{book}
 use Rattle.policy_machine.specs.History.{Opening, commands_after}
 use Rattle.policy_value.specs.declared.worth.Row.{Row}
 use Rattle.report_text.specs.Block.{block_text}
-use Rattle.snapshot_value.specs.Valuing.{IsRowOf}
+use Rattle.snapshot_value.specs.Valuing.{IsValuedRow}
 use Rattle.life_dates.specs.DayText.{day_text}
 use Rattle.money_core.specs.CentsText.{cents_text}
-use Rattle.statements.specs.Lines.{line_of}
-use Rattle.statements.specs.Words.{kind_word, status_word}
+use Rattle.text_lines.specs.Lines.{line_of}
+use Rattle.policy_types.specs.Words.{kind_word, status_word}
 use Rattle.lane_runner.specs.AnsweredLines.{AnsweredLine}
 
 -- why a posting was refused: a word, and the value where the refusal holds one
@@ -81,7 +81,7 @@ unvalued_text clerk on = line_of (decimal clerk) (codes "value" ∷ day_text on 
 abbrev pub IsValuedText : ℕ → ℤ → List Command → List Dated → ℕ → (IsDry : Type 0) → List ℕ → Type 0
 IsValuedText clerk on commands basis position IsDry text =
     (IsDry × (text ≡ unvalued_text clerk on))
-    ⊎ ((IsDry → ⊥) × ((rows : List Row) × AllZip (IsRowOf basis on) (book (take position commands)) rows
+    ⊎ ((IsDry → ⊥) × ((rows : List Row) × AllZip (IsValuedRow basis on) (book (take position commands)) rows
     × (text ≡ block_text clerk on position rows)))
 
 -- the text of a clerk's line by the reply to its first turn, before which these commands were accepted

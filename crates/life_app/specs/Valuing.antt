@@ -12,12 +12,12 @@ use Rattle.policy_machine.specs.Book.{book}
 use Rattle.policy_machine.specs.History.{opened_on}
 use Rattle.basis_book.specs.Dated.{Dated}
 use Rattle.basis_shelf.specs.Bases.{IsBasis}
-use Rattle.basis_shelf.specs.FirstBad.{IsFirstBad}
+use Rattle.basis_shelf.specs.FirstBad.{IsFirstBadFile}
 use Rattle.basis_shelf.specs.Lines.{bad_basis_text}
 use Rattle.basis_shelf.specs.declared.fault.BadBasis.{BadBasis}
 use Rattle.policy_value.specs.declared.worth.Row.{Row}
 use Rattle.report_text.specs.Block.{block_text}
-use Rattle.snapshot_value.specs.Valuing.{IsRowOf}
+use Rattle.snapshot_value.specs.Valuing.{IsValuedRow}
 use Rattle.office_state.specs.Images.{IsLeftBy}
 use Rattle.office_state.specs.Journals.{Opens}
 use Rattle.life_app.specs.Script.{IsReadAs, asks_for_values}
@@ -38,7 +38,7 @@ pub record IsValuation (commands : List Command) (on : ℤ) (at : At) (basis : L
     : Type 0 where
   pub reached : position_of at (length commands) ≤ length commands
   pub rows : List Row
-  pub each : AllZip (IsRowOf basis on) (book (take (position_of at (length commands)) commands)) rows
+  pub each : AllZip (IsValuedRow basis on) (book (take (position_of at (length commands)) commands)) rows
   pub wrote : Wrote (block_text 0 on (position_of at (length commands)) rows)
 
 -- the policies of the disk's file were valued, and the disk holds its commands still
@@ -77,7 +77,7 @@ pub record EndsByBasis {D : Type 0} (g : Ghosts D) (old new : D) (on : ℤ) (at 
 -- how a mode ends without the basis that it needs: the first bad file is named, or the shelf failed, or memory was refused
 abbrev pub EndsNoBasis : List ℕ → Shelving → Stream → Ending → Type 0
 EndsNoBasis name shelf output NoRightBasis =
-    (bad : BadBasis) × IfSome shelf.files (λ files. IsFirstBad files name bad) × WroteOrFailed output (bad_basis_text bad)
+    (bad : BadBasis) × IfSome shelf.files (λ files. IsFirstBadFile files name bad) × WroteOrFailed output (bad_basis_text bad)
 EndsNoBasis name shelf output ReadFault =
     Rose shelf.faults_before shelf.faults_after × WroteLine output (codes "readfault")
 EndsNoBasis name shelf output NoMemory = WroteLine output (codes "nomemory")
@@ -100,7 +100,7 @@ NeedBasis words script name =
 abbrev pub HasBadFile : List (String Global) → Option (List ℕ) → Option (List ℕ → Option (List ℕ)) → Stream → Type 0
 HasBadFile words script told output =
     (name : List ℕ) × ((bad : BadBasis) × NeedBasis words script name
-    × IfSome told (λ files. IsFirstBad files name bad) × WroteOrFailed output (bad_basis_text bad))
+    × IfSome told (λ files. IsFirstBadFile files name bad) × WroteOrFailed output (bad_basis_text bad))
 
 -- where a line asks for values, the shelf has the basis of this name
 abbrev pub HasItsBasis : List Lane → List ℕ → Option (List ℕ → Option (List ℕ)) → Type 0

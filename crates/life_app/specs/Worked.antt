@@ -16,10 +16,8 @@ use Rattle.policy_types.specs.declared.script.Lane.{Lane}
 use Rattle.lane_runner.specs.AnsweredLines.{AnsweredLine, AreLinesOf}
 use Rattle.life_app.specs.Books.{books_text, policy_account}
 use Rattle.policy_machine.specs.History.{opened_on}
+use Rattle.policy_machine.specs.Worked.Cases.{policy_issue}
 use Rattle.life_app.specs.Transcript.{IsTranscript, posting_text, reports_text, trim_text, unpinned_text, unvalued_text, watcher_text}
-
-abbrev pub policy_issue : Command
-policy_issue = Issue 7001 (pos 18262) Endowment 0 3 100000 40000
 
 abbrev pub first_premium : Command
 first_premium = Premium 7001 (pos 18262) 40000
@@ -65,12 +63,12 @@ PostingLines = (posting_text 1 policy_issue (Accepted 1) ≡ codes "1,issue,7001
     × (posting_text 1 (Settle 4294967295 (pos 18262) 1) (Accepted 4) ≡ codes "1,settle,4294967295,accepted,4" ++ 10 ∷ [])
     × (posting_text 1 (Mature 7001 (pos 18262)) (Accepted 5) ≡ codes "1,mature,7001,accepted,5" ++ 10 ∷ [])
 
-abbrev pub turn : ℕ → Command → Reply → Entry
-turn caller command reply = record { caller = caller; call = Post command; reply = reply }
+abbrev pub posting_turn : ℕ → Command → Reply → Entry
+posting_turn caller command reply = record { caller = caller; call = Post command; reply = reply }
 
 -- clerk 3 and clerk 5 under the callers 11 and 12: the premium is posted before there is the policy, and again behind it
 abbrev pub clerks_turns : List Entry
-clerks_turns = turn 12 first_premium (Refused Unknown) ∷ turn 11 policy_issue (Accepted 1) ∷ turn 12 first_premium (Accepted 2) ∷ []
+clerks_turns = posting_turn 12 first_premium (Refused Unknown) ∷ posting_turn 11 policy_issue (Accepted 1) ∷ posting_turn 12 first_premium (Accepted 2) ∷ []
 
 abbrev pub clerks_lanes : List Lane
 clerks_lanes =
@@ -79,9 +77,9 @@ clerks_lanes =
 
 abbrev pub clerks_answers : List AnsweredLine
 clerks_answers =
-    (record { clerk = 5; line = PostLine first_premium; first = (0, turn 12 first_premium (Refused Unknown)); rest = [] })
-    ∷ (record { clerk = 3; line = PostLine policy_issue; first = (1, turn 11 policy_issue (Accepted 1)); rest = [] })
-    ∷ (record { clerk = 5; line = PostLine first_premium; first = (2, turn 12 first_premium (Accepted 2)); rest = [] }) ∷ []
+    (record { clerk = 5; line = PostLine first_premium; first = (0, posting_turn 12 first_premium (Refused Unknown)); rest = [] })
+    ∷ (record { clerk = 3; line = PostLine policy_issue; first = (1, posting_turn 11 policy_issue (Accepted 1)); rest = [] })
+    ∷ (record { clerk = 5; line = PostLine first_premium; first = (2, posting_turn 12 first_premium (Accepted 2)); rest = [] }) ∷ []
 
 -- two clerks' lines stand in the order of their turns
 abbrev pub TwoClerks : Type 0
@@ -103,13 +101,13 @@ WatcherLines = (reports_text ((record { seen = 1; tally = 1 }) ∷ (record { see
     × (reports_text [] ≡ [])
 
 -- the policy is claimed on 2020-06-01 and settled in part on 2020-07-01, beside another that is issued then
-abbrev pub claimed : List Command
-claimed = policy_issue ∷ first_premium ∷ Claim 7001 (pos 18414) ∷ Issue 7 (pos 18444) Endowment 0 3 100000 40000
+abbrev pub claimed_beside_another : List Command
+claimed_beside_another = policy_issue ∷ first_premium ∷ Claim 7001 (pos 18414) ∷ Issue 7 (pos 18444) Endowment 0 3 100000 40000
     ∷ Settle 7001 (pos 18444) 40000 ∷ []
 
 -- all policies, the balances and the number of commands
 abbrev pub ClaimedBooks : Type 0
-ClaimedBooks = books_text claimed
+ClaimedBooks = books_text claimed_beside_another
     ≡ codes "policy,7001,claimed,endowment,0,3,1000.00,400.00,2020-01-01,1,600.00" ++ 10
     ∷ codes "policy,7,inforce,endowment,0,3,1000.00,400.00,2020-07-01,0,0.00" ++ 10
     ∷ codes "balance,cash,0.00" ++ 10 ∷ codes "balance,premiums,-400.00" ++ 10
@@ -117,9 +115,9 @@ ClaimedBooks = books_text claimed
 
 -- one policy's entries, with their numbers among all commands; and a number of no policy
 abbrev pub ClaimedEntries : Type 0
-ClaimedEntries = (policy_account 7001 claimed
+ClaimedEntries = (policy_account 7001 claimed_beside_another
     ≡ codes "entry,1,issue,2020-01-01,endowment,0,3,1000.00,400.00" ++ 10
     ∷ codes "entry,2,premium,2020-01-01,400.00" ++ 10 ∷ codes "entry,3,claim,2020-06-01" ++ 10
     ∷ codes "entry,5,settle,2020-07-01,400.00" ++ 10
     ∷ codes "policy,7001,claimed,endowment,0,3,1000.00,400.00,2020-01-01,1,600.00" ++ 10 ∷ [])
-    × (policy_account 7002 claimed ≡ codes "unknown,7002" ++ 10 ∷ [])
+    × (policy_account 7002 claimed_beside_another ≡ codes "unknown,7002" ++ 10 ∷ [])

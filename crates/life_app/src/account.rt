@@ -1,7 +1,7 @@
 // One policy's entries, and the policy as they left it. The journal's records are read again for them.
 ghost use Rattle.std.specs.Prelude.{◌≡◌, List, [], ◌∷◌, codes, decimal, IfOk};
 ghost use Rattle.policy_types.specs.declared.command.Command.{Command as ACommand};
-ghost use Rattle.statements.specs.Lines.{line_of};
+ghost use Rattle.text_lines.specs.Lines.{line_of};
 ghost use Rattle.life_app.specs.Books.{account_text, policy_account};
 ghost use Rattle.life_app.specs.Stating.{EndsState};
 ghost use Rattle.life_app.specs.Writing.{between};
@@ -11,12 +11,12 @@ use crate::refusing::refuse_journal;
 use crate::rereading::{Account, read_again};
 use crate::run::Finished;
 use crate::state::write_text;
-use money_core::Text;
 use office_state::OfficeState;
 use outside_io::{Disk, Sink};
 use policy_types::NoMemory;
-use statements::{LineWriter, statement};
+use statements::statement;
 use std::alloc::Global;
+use text_lines::{LineWriter, Text};
 use watcher_set::NoWatchers;
 
 /// Writes the entries of the policy of this number, and the policy as they left it.

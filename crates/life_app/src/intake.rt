@@ -2,7 +2,7 @@
 ghost use Rattle.std.specs.Prelude.{◌≡◌, ◌<◌, ◌≤◌, ℕ, List, Err, length, IfOk, IfSome, OnOk, IsErrOf};
 ghost use Rattle.std.specs.Io.KnownBytes.{IsAtEnd};
 ghost use Rattle.outside_io.specs.Faults.{Rose};
-ghost use Rattle.command_csv.specs.Reads.{IsFirstFault, Reads};
+ghost use Rattle.command_csv.specs.Reads.{IsFirstScriptFault, Reads};
 ghost use Rattle.life_app.specs.declared.intake.Unread.TheVariants.{BadRow};
 
 use command_csv::{ScriptFault, read_script};
@@ -30,7 +30,7 @@ pub fn read_lanes<S: Source>(alloc: Global, input: &mut S) -> Result<Script, Unr
     ensures end { OnOk result (IsAtEnd (S.left input.new)) }
     ensures too_long { IsErrOf result Unread.TooLong → IfSome (S.left input.old) (λ told. 16777216 < length told) }
     ensures bad_row { (row field : ℕ) → result ≡ Err (BadRow row field)
-        → IfSome (S.left input.old) (λ told. (length told ≤ 16777216) × IsFirstFault told row field) }
+        → IfSome (S.left input.old) (λ told. (length told ≤ 16777216) × IsFirstScriptFault told row field) }
     ensures fault { IsErrOf result Unread.ReadFault → Rose (S.faults input.old) (S.faults input.new) }
     ensures later { S.faults input.old ≤ S.faults input.new }
 {

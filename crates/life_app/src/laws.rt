@@ -4,7 +4,7 @@ ghost use Rattle.policy_types.specs.declared.command.Command.{Command};
 ghost use Rattle.policy_types.specs.declared.entry.Entry.{Entry};
 ghost use Rattle.policy_machine.specs.History.{Opening};
 ghost use Rattle.posting_journal.specs.Runs.{IsSafe};
-ghost use Rattle.command_csv.specs.Reads.{IsFirstFault};
+ghost use Rattle.command_csv.specs.Reads.{IsFirstScriptFault};
 ghost use Rattle.life_app.specs.Crashes.{AreAllHeld, AreHeld, HasRun};
 ghost use Rattle.office_state.specs.Images.{HoldsOnce, IsLeftAlone};
 ghost use Rattle.office_state.specs.Journals.{Opens};
@@ -16,8 +16,8 @@ use outside_io::Disk;
 pub fn scripts_are_read_or_refused()
     ensures either { (bytes : List ℕ) → IsReadable (Some bytes) ⊎ IsUnreadable bytes }
     ensures not_both { (bytes : List ℕ) → IsReadable (Some bytes) → IsUnreadable bytes → ⊥ }
-    ensures one { (bytes : List ℕ) (row other field place : ℕ) → IsFirstFault bytes row field
-        → IsFirstFault bytes other place → (row ≡ other) × (field ≡ place) }
+    ensures one { (bytes : List ℕ) (row other field place : ℕ) → IsFirstScriptFault bytes row field
+        → IsFirstScriptFault bytes other place → (row ≡ other) × (field ≡ place) }
 {}
 
 /// A crash at any moment of a run leaves the commands from before it, a front of what it accepted, and at most one more.

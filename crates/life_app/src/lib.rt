@@ -2,7 +2,6 @@
 #![tactic(auto)]
 
 mod account;
-mod auditors;
 mod ending;
 mod generate;
 mod intake;

@@ -1,7 +1,7 @@
 // A generated script is run, and its policies are valued then.
 ghost use Rattle.std.specs.Prelude.{◌≡◌, ◌<◌, ◌≤◌, ◌^◌, IfOk, All, codes, length};
 ghost use Rattle.shared_office.specs.Offices.{IsOfficeHistory};
-ghost use Rattle.shared_office.specs.Starting.{HasStarted};
+ghost use Rattle.shared_office.specs.Starting.{HasStartedOffice};
 ghost use Rattle.turn_lock.specs.Passes.{PassFacts};
 ghost use Rattle.life_app.specs.Loading.{EndsBegun, EndsLoad, EndsLoading, load_text};
 ghost use Rattle.life_app.specs.Writing.{between, shelf_between};
@@ -16,19 +16,18 @@ use crate::unvalued::refuse_basis;
 use basis_book::{Basis, Name};
 use basis_shelf::fetch_basis;
 use itoa::Buffer;
-use lane_runner::{AnsweredLine, Outcome, run_lanes};
+use lane_runner::{Outcome, TranscriptLine, run_lanes};
 use load_maker::make_lanes;
-use money_core::Text;
 use outside_io::{Disk, Gate, Shelf, Sink, write_all};
 use policy_types::{At, Lane, NoMemory};
 use policy_value::Rows;
 use report_text::Totals;
 use shared_office::{Answer, Office, OfficeCalls, OfficePass, close};
 use snapshot_value::{Valuation, ValueFault};
-use statements::LineWriter;
 use std::alloc::Global;
 use std::sync::Wait;
 use std::thread::Threads;
+use text_lines::{LineWriter, Text};
 use watcher_set::{NoWatchers, Watching};
 
 /// 2020-12-31, in days since 1970-01-01.
@@ -152,9 +151,9 @@ fn load_office<
     requires lanes { AreLoadLanes lanes.now }
     requires workers { (1 ≤ workers) × (workers ≤ 64) }
     requires ours { pass.turnstile ≡ office }
-    requires started { (old : D) × ((watchers : W) × HasStarted D.Disk old watchers pass) }
+    requires started { (old : D) × ((watchers : W) × HasStartedOffice D.Disk old watchers pass) }
     requires facts { PassFacts IsOfficeHistory pass }
-    ensures ends { (old : D) (watchers : W) → HasStarted D.Disk old watchers pass
+    ensures ends { (old : D) (watchers : W) → HasStartedOffice D.Disk old watchers pass
         → EndsLoading D.Disk old result.disk lanes.now workers basis.now
         (between K.faults K.written output.old output.new) result.ending }
 {
@@ -187,7 +186,7 @@ fn load_office<
 // Writes the line of a load, but not where its valuation found no memory.
 fn write_loaded<K: Sink>(
     alloc: Global,
-    lines: &[AnsweredLine],
+    lines: &[TranscriptLine],
     answer: Result<Valuation, ValueFault>,
     output: &mut K,
 ) -> Ending
@@ -201,7 +200,12 @@ fn write_loaded<K: Sink>(
     }
 }
 
-fn write_line<K: Sink>(alloc: Global, lines: &[AnsweredLine], rows: &Rows, output: &mut K) -> Ending
+fn write_line<K: Sink>(
+    alloc: Global,
+    lines: &[TranscriptLine],
+    rows: &Rows,
+    output: &mut K,
+) -> Ending
     requires rows { length rows.now ≤ 4000000 }
     requires bounded { AreSummable rows.now }
     ensures { EndsLine lines.now rows.now (between K.faults K.written output.old output.new) result }
@@ -218,7 +222,7 @@ fn write_line<K: Sink>(alloc: Global, lines: &[AnsweredLine], rows: &Rows, outpu
 }
 
 // How many postings were accepted.
-fn count_accepted(lines: &[AnsweredLine]) -> usize
+fn count_accepted(lines: &[TranscriptLine]) -> usize
     ensures { result ≡ accepted_lines lines.now }
 {
     lines.iter().filter(|line| accepted(&line.outcome)).count()
@@ -231,7 +235,7 @@ fn accepted(outcome: &Outcome) -> bool
 }
 
 // How many postings were refused.
-fn count_refused(lines: &[AnsweredLine]) -> usize
+fn count_refused(lines: &[TranscriptLine]) -> usize
     ensures { result ≡ refused_lines lines.now }
 {
     lines.iter().filter(|line| refused(&line.outcome)).count()

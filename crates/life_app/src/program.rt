@@ -9,7 +9,7 @@ ghost use Rattle.policy_types.specs.declared.script.Lane.{Lane as ALane};
 ghost use Rattle.basis_book.specs.Dated.{Dated as AnEntry};
 ghost use Rattle.basis_shelf.specs.declared.fault.BadBasis.{BadBasis as ABadBasis};
 ghost use Rattle.basis_shelf.specs.Bases.{IsBasis};
-ghost use Rattle.basis_shelf.specs.FirstBad.{IsFirstBad};
+ghost use Rattle.basis_shelf.specs.FirstBad.{IsFirstBadFile};
 ghost use Rattle.command_csv.specs.Reads.{Reads};
 ghost use Rattle.life_args.specs.Words.{AskForNothing};
 ghost use Rattle.office_state.specs.Journals.{Opens, OpensToNone};
@@ -22,7 +22,6 @@ ghost use Rattle.life_app.specs.Writing.{between, shelf_between};
 ghost use Rattle.life_app.specs.inside.Valued.{SaysNoMode};
 
 use crate::account::account;
-use crate::auditors::Auditors;
 use crate::ending::Ending;
 use crate::generate::generate;
 use crate::load::load;
@@ -36,7 +35,7 @@ use policy_types::Watcher;
 use std::alloc::Global;
 use std::sync::Wait;
 use std::thread::Threads;
-use watcher_set::Watching;
+use watcher_set::{Watchers, Watching};
 
 /// What the program leaves: its exit status, and the disk.
 pub struct Ended<D> {
@@ -81,12 +80,12 @@ pub fn life<R: Threads + Wait + Sync, S: Source, K: Sink, H: Shelf, D: Disk + Se
     ensures bad_file { result.status ≡ 4 → HasBadFile words.now (S.left input.old) (H.files shelf.old)
         (between K.faults K.written output.old output.new) }
     ensures unfit { (on : ℤ) (at : AnAt) (name : List ℕ) (bad : ABadBasis) (files : List ℕ → Option (List ℕ))
-        → AskForValue words.now on at name → H.files shelf.old ≡ Some files → IsFirstBad files name bad
+        → AskForValue words.now on at name → H.files shelf.old ≡ Some files → IsFirstBadFile files name bad
         → (Rose (H.faults shelf.old) (H.faults shelf.new) → ⊥)
         → SaysBadFile bad (between K.faults K.written output.old output.new) result.status ⊎ (result.status ≡ 9) }
     ensures unfit_run { (bytes name : List ℕ) (lanes : List ALane) (bad : ABadBasis) (files : List ℕ → Option (List ℕ))
         → AskForRun words.now name → S.left input.old ≡ Some bytes → length bytes ≤ 16777216 → Reads bytes lanes
-        → asks_for_values lanes ≡ true → H.files shelf.old ≡ Some files → IsFirstBad files name bad
+        → asks_for_values lanes ≡ true → H.files shelf.old ≡ Some files → IsFirstBadFile files name bad
         → (Rose (S.faults input.old) (S.faults input.new) → ⊥)
         → (Rose (H.faults shelf.old) (H.faults shelf.new) → ⊥)
         → SaysBadFile bad (between K.faults K.written output.old output.new) result.status ⊎ (result.status ≡ 9) }
@@ -170,11 +169,11 @@ pub fn life<R: Threads + Wait + Sync, S: Source, K: Sink, H: Shelf, D: Disk + Se
         → (Rose (D.faults disk) (D.faults result.disk) → ⊥)
         → (result.status ≡ 5) ⊎ (result.status ≡ 9) }
     ensures unfit_load { (bad : ABadBasis) (files : List ℕ → Option (List ℕ)) → AskForLoad words.now
-        → H.files shelf.old ≡ Some files → IsFirstBad files (codes "basis.csv") bad
+        → H.files shelf.old ≡ Some files → IsFirstBadFile files (codes "basis.csv") bad
         → (Rose (H.faults shelf.old) (H.faults shelf.new) → ⊥)
         → SaysBadFile bad (between K.faults K.written output.old output.new) result.status ⊎ (result.status ≡ 9) }
 {
-    let watchers = Auditors::new(watchers);
+    let watchers = Watchers::new(watchers);
     let finished = obey(rt, alloc, words, input, output, shelf, disk, watchers, gate);
     Ended {
         status: finished.ending.status(),

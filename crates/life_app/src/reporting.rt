@@ -4,10 +4,9 @@ ghost use Rattle.life_app.specs.Transcript.{reports_text, watcher_text};
 
 use crate::state::add;
 use itoa::Buffer;
-use money_core::Text;
 use policy_types::{NoMemory, Report};
-use statements::LineWriter;
 use std::alloc::Global;
+use text_lines::{LineWriter, Text};
 
 /// The lines of the reports, numbered from 1.
 pub fn report_lines(alloc: Global, reports: &[Report]) -> Result<Vec<u8>, NoMemory>

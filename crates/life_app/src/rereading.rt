@@ -5,7 +5,7 @@ ghost use Rattle.policy_types.specs.Limits.{most_commands};
 ghost use Rattle.policy_types.specs.Valid.{IsValid};
 ghost use Rattle.posting_journal.specs.States.{count_of, disk_of};
 ghost use Rattle.office_state.specs.inside.Replays.{StaysAs, as_cause};
-ghost use Rattle.life_app.specs.inside.Rereading.{AreRead, HasRead, HasNotRead, HasStopped, IsAccount, IsNext, IsReadFrom, IsStoppedFrom, IsStuck, IsUnadded};
+ghost use Rattle.life_app.specs.inside.Rereading.{AreRead, HasRead, HasNotRead, HasStoppedReading, IsAccount, IsNext, IsReadFrom, IsStoppedFrom, StopsReading, IsUnadded};
 
 use office_state::{StartCause, StartFault};
 use outside_io::Disk;
@@ -116,7 +116,7 @@ fn read_records<D: Disk>(journal: &mut Journal<D>, account: &mut Account) -> Res
     ensures id { account.new.id ≡ account.old.id }
     ensures read { MatchResult result
         (λ u. AreRead journal.old journal.new account.new (count_of journal.old))
-        (λ cause. HasStopped journal.old (disk_of journal.new) cause) }
+        (λ cause. HasStoppedReading journal.old (disk_of journal.new) cause) }
 {
     for n in 0..journal.count() {
         read_record(journal, n, account)?;
@@ -138,7 +138,7 @@ fn read_record<D: Disk>(
     ensures read { (commands : List ACommand) → IsAccount account.old commands → length commands ≡ n
         → MatchResult result
         (λ u. IsNext journal.old journal.new account.new n commands)
-        (λ cause. IsStuck journal.old journal.new n commands cause) }
+        (λ cause. StopsReading journal.old journal.new n commands cause) }
 {
     let body = match journal.body(n) {
         Ok(body) => body,

@@ -4,7 +4,7 @@ ghost use Rattle.std.specs.Prelude.{◌≡◌, ◌≤◌, [], if◌then◌else�
 ghost use Rattle.std.specs.List.{list_any};
 ghost use Rattle.lane_runner.specs.Lanes.{is_value};
 ghost use Rattle.shared_office.specs.Offices.{IsOfficeHistory};
-ghost use Rattle.shared_office.specs.Starting.{HasStarted};
+ghost use Rattle.shared_office.specs.Starting.{HasStartedOffice};
 ghost use Rattle.turn_lock.specs.Passes.{PassFacts};
 ghost use Rattle.life_app.specs.Obeys.{EndsByName, EndsLanes, EndsRun};
 ghost use Rattle.life_app.specs.Outcome.{EndsScript};
@@ -22,7 +22,7 @@ use crate::unvalued::refuse_basis;
 use basis_book::{Basis, BasisRows, Name};
 use basis_shelf::{NoBasis, fetch_basis};
 use indexmap::IndexMap;
-use lane_runner::{AnsweredLine, Outcome, Transcript, run_lanes};
+use lane_runner::{Outcome, Transcript, TranscriptLine, run_lanes};
 use outside_io::{Disk, Gate, Shelf, Sink, Source, write_all};
 use policy_types::{Lane, Line, NoMemory, Report};
 use shared_office::{Answer, Office, OfficeCalls, OfficePass, close};
@@ -188,9 +188,9 @@ fn run_office<
 ) -> Finished<D>
     requires lanes { AreScriptLanes lanes.now }
     requires ours { pass.turnstile ≡ office }
-    requires started { (old : D) × ((watchers : W) × HasStarted D.Disk old watchers pass) }
+    requires started { (old : D) × ((watchers : W) × HasStartedOffice D.Disk old watchers pass) }
     requires facts { PassFacts IsOfficeHistory pass }
-    ensures ends { (old : D) (watchers : W) → HasStarted D.Disk old watchers pass
+    ensures ends { (old : D) (watchers : W) → HasStartedOffice D.Disk old watchers pass
         → EndsScript D.Disk old result.disk lanes.now basis.now (W.handed watchers)
         (between K.faults K.written output.old output.new) result.ending }
 {
@@ -223,7 +223,7 @@ fn write_ran<K: Sink>(
 
 fn write_lines<K: Sink>(
     alloc: Global,
-    lines: &[AnsweredLine],
+    lines: &[TranscriptLine],
     reports: &[Report],
     output: &mut K,
 ) -> Ending
@@ -241,7 +241,7 @@ fn write_lines<K: Sink>(
 }
 
 /// The ending of a run whose transcript is written.
-pub fn ending_of(lines: &[AnsweredLine]) -> Ending
+pub fn ending_of(lines: &[TranscriptLine]) -> Ending
     ensures { result ≡ (if any_faulted lines.now then DiskFault
         else if any_lacked lines.now then NoRoom else Done) }
 {
@@ -255,7 +255,7 @@ pub fn ending_of(lines: &[AnsweredLine]) -> Ending
 }
 
 // Whether the disk failed in a posting.
-fn some_faulted(lines: &[AnsweredLine]) -> bool
+fn some_faulted(lines: &[TranscriptLine]) -> bool
     ensures { result ≡ any_faulted lines.now }
 {
     lines.iter().any(|line| faulted(&line.outcome))
@@ -268,7 +268,7 @@ fn faulted(outcome: &Outcome) -> bool
 }
 
 // Whether memory was lacking for a posting or a valuation.
-fn some_lacked(lines: &[AnsweredLine]) -> bool
+fn some_lacked(lines: &[TranscriptLine]) -> bool
     ensures { result ≡ any_lacked lines.now }
 {
     lines.iter().any(|line| lacked(&line.outcome))

@@ -7,25 +7,24 @@ ghost use Rattle.life_dates.specs.Calendar.{IsDay, IsTermDay};
 ghost use Rattle.life_dates.specs.DayText.{day_text};
 ghost use Rattle.money_core.specs.CentsText.{cents_text};
 ghost use Rattle.office_state.specs.Posting.{reply_of};
-ghost use Rattle.statements.specs.Lines.{behind_commas};
+ghost use Rattle.text_lines.specs.Lines.{behind_commas};
 ghost use Rattle.life_app.specs.Transcript.{pin_refusal_fields, posting_text, refusal_fields, reply_fields, trim_text, unpinned_text, unvalued_text};
-ghost use Rattle.life_app.specs.inside.Told.{IsPrintable, IsTold, IsWritable, IsWritableOutcome, outcome_text, run_text, told_text, told_texts};
+ghost use Rattle.life_app.specs.inside.Told.{IsPrintable, IsToldAnswer, IsWritable, IsWritableOutcome, outcome_text, run_text, told_text, told_texts};
 
 use crate::reporting::report_lines;
 use crate::state::add;
 use itoa::Buffer;
-use lane_runner::{AnsweredLine, Outcome};
-use money_core::Text;
+use lane_runner::{Outcome, TranscriptLine};
 use office_state::Answer;
 use policy_types::{Command, Line, NoMemory, PinRefusal, Refusal, Report};
 use report_text::print_block;
-use statements::{LineWriter, kind_word, status_word};
 use std::alloc::Global;
+use text_lines::{LineWriter, Text, kind_word, status_word};
 
 /// The text of answered lines, one after the other, and behind them the lines of the auditors' reports.
 pub fn transcript(
     alloc: Global,
-    lines: &[AnsweredLine],
+    lines: &[TranscriptLine],
     reports: &[Report],
 ) -> Result<Vec<u8>, NoMemory>
     requires writable { All IsWritable lines.now }
@@ -39,7 +38,7 @@ pub fn transcript(
 }
 
 // The text of answered lines.
-fn answers(alloc: Global, lines: &[AnsweredLine]) -> Result<Vec<u8>, NoMemory>
+fn answers(alloc: Global, lines: &[TranscriptLine]) -> Result<Vec<u8>, NoMemory>
     requires writable { All IsWritable lines.now }
     ensures { IfOk result (λ text. text.items ≡ told_texts lines.now) }
 {
@@ -52,7 +51,7 @@ fn answers(alloc: Global, lines: &[AnsweredLine]) -> Result<Vec<u8>, NoMemory>
 }
 
 // The text of an answered line.
-fn line_text(alloc: Global, told: &AnsweredLine) -> Result<Text, NoMemory>
+fn line_text(alloc: Global, told: &TranscriptLine) -> Result<Text, NoMemory>
     requires { IsWritable told.now }
     ensures { IfOk result (λ text. text ≡ told_text told.now) }
 {
@@ -75,7 +74,7 @@ fn line_text(alloc: Global, told: &AnsweredLine) -> Result<Text, NoMemory>
 
 // The line of a posting.
 fn posting(alloc: Global, clerk: u8, command: &Command, answer: Answer) -> Result<Text, NoMemory>
-    requires told { IsTold answer }
+    requires told { IsToldAnswer answer }
     ensures { IfOk result (λ text. text ≡ posting_text clerk command.now (reply_of answer)) }
 {
     let mut text = begun(alloc, clerk, kind_word(command))?;
@@ -159,7 +158,7 @@ fn unvalued(alloc: Global, clerk: u8, on: i32) -> Result<Text, NoMemory>
 
 // Adds what became of a posting.
 fn write_answer(text: &mut LineWriter, answer: Answer) -> Result<(), NoMemory>
-    requires told { IsTold answer }
+    requires told { IsToldAnswer answer }
     ensures { OnOk result (text.new ≡ text.old ++ behind_commas (reply_fields (reply_of answer))) }
 {
     match answer {

@@ -2,7 +2,7 @@
 ghost use Rattle.std.specs.Prelude.{◌≡◌, ◌≤◌};
 ghost use Rattle.life_dates.specs.Calendar.{IsDay};
 ghost use Rattle.shared_office.specs.Offices.{IsOfficeHistory};
-ghost use Rattle.shared_office.specs.Starting.{HasStarted};
+ghost use Rattle.shared_office.specs.Starting.{HasStartedOffice};
 ghost use Rattle.turn_lock.specs.Passes.{PassFacts};
 ghost use Rattle.life_app.specs.Valuing.{EndsValue, EndsValuing};
 ghost use Rattle.life_app.specs.Writing.{between, shelf_between};
@@ -104,9 +104,9 @@ fn value_office<R: Wait, K: Sink, D: Disk, W: Watching, G: Gate>(
     requires day { IsDay on }
     requires workers { (1 ≤ workers) × (workers ≤ 64) }
     requires ours { pass.turnstile ≡ office }
-    requires started { (old : D) × ((watchers : W) × HasStarted D.Disk old watchers pass) }
+    requires started { (old : D) × ((watchers : W) × HasStartedOffice D.Disk old watchers pass) }
     requires facts { PassFacts IsOfficeHistory pass }
-    ensures ends { (old : D) (watchers : W) → HasStarted D.Disk old watchers pass
+    ensures ends { (old : D) (watchers : W) → HasStartedOffice D.Disk old watchers pass
         → EndsValuing D.Disk old result.disk on at basis.now
         (between K.faults K.written output.old output.new) result.ending }
 {

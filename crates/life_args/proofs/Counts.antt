@@ -6,7 +6,7 @@ use Rattle.life_args.specs.declared.fault.WordsFault.{WordsFault}
 use Rattle.life_args.specs.declared.mode.Mode.{Mode}
 use Rattle.life_args.specs.declared.mode.Mode.TheVariants.{Run, Value, State, Generate, Load}
 use Rattle.life_args.specs.Words.{AreWords, IsGenerate, IsLoad}
-use Rattle.life_args.specs.inside.Commands.{Gives, HasHyphens, IsNumberIn, Takes, generate_app, load_app}
+use Rattle.life_args.specs.inside.Commands.{GivesAsked, HasHyphens, IsNumberIn, TakesWords, generate_app, load_app}
 use Rattle.life_args.proofs.Answering.{found_is, refusal, refused, untaken}
 use Rattle.life_args.proofs.Modes.{differ}
 use Rattle.life_args.proofs.Numbers.{GenerateSays, LoadSays, generate_reads, generate_says, load_reads, load_says}
@@ -27,8 +27,8 @@ load_only words (Load seed count lanes workers) are = (seed, count, lanes, worke
 
 -- a number that isn't there, or out of its bounds
 missing : (app : App) (words : List Text) (matches : ArgMatches) (name : Text) (given : Option Text) (fault : WordsFault) (least most : ℕ) (P : Mode → Type 0)
-    → Takes app words (Ok matches) → given ≡ first_value (found_of matches) name → Gives (IsNumberIn least most given) (Err fault)
-    → ((mode : Mode) → P mode → (n : ℕ) × IsNumberIn least most (first_of name (matches_of app words)) n) → Gives P (Err fault)
+    → TakesWords app words (Ok matches) → given ≡ first_value (found_of matches) name → GivesAsked (IsNumberIn least most given) (Err fault)
+    → ((mode : Mode) → P mode → (n : ℕ) × IsNumberIn least most (first_of name (matches_of app words)) n) → GivesAsked P (Err fault)
 missing app words matches name given fault least most P takes got none said = refused P fault (λ usage mode are.
     let one = said mode are in
     refusal (IsNumberIn least most given) fault none usage one.0 (subst (λ (o : Option Text). IsNumberIn least most o one.0) (sym (found_is app words matches name given takes got)) one.1))
@@ -40,26 +40,26 @@ module _ (app : App) (words : List Text) (is : app ≡ generate_app) where
   generate_taken seed count lanes asked =
       subst (λ (a : App). (fault_of a words ≡ []) × GenerateSays (matches_of a words) seed count lanes) (sym is) (let read = generate_reads words seed count lanes asked in (read.0, read.1))
 
-  pub generate_untaken : (fault : WordsFault) → Takes app words (Err fault) → Gives (AreWords (codes "generate" ∷ words)) (Err fault)
+  pub generate_untaken : (fault : WordsFault) → TakesWords app words (Err fault) → GivesAsked (AreWords (codes "generate" ∷ words)) (Err fault)
   generate_untaken fault takes = refused (AreWords (codes "generate" ∷ words)) fault (λ usage mode are.
       let asked = generate_only words mode are in untaken app words fault takes usage (generate_taken asked.0 asked.1 asked.2 asked.3).0)
 
-  module _ (matches : ArgMatches) (takes : Takes app words (Ok matches)) where
+  module _ (matches : ArgMatches) (takes : TakesWords app words (Ok matches)) where
     abbrev generate_said : (mode : Mode) → AreWords (codes "generate" ∷ words) mode → (seed : ℕ) × (count : ℕ) × (lanes : ℕ) × GenerateSays (matches_of app words) seed count lanes
     generate_said mode are = let asked = generate_only words mode are in (asked.0, asked.1, asked.2, (generate_taken asked.0 asked.1 asked.2 asked.3).1)
 
-    pub generate_seed : (given : Option Text) (fault : WordsFault) → given ≡ first_value (found_of matches) (codes "seed") → Gives (IsNumberIn 0 2147483647 given) (Err fault)
-        → Gives (AreWords (codes "generate" ∷ words)) (Err fault)
+    pub generate_seed : (given : Option Text) (fault : WordsFault) → given ≡ first_value (found_of matches) (codes "seed") → GivesAsked (IsNumberIn 0 2147483647 given) (Err fault)
+        → GivesAsked (AreWords (codes "generate" ∷ words)) (Err fault)
     generate_seed given fault got none = missing app words matches (codes "seed") given fault 0 2147483647 (AreWords (codes "generate" ∷ words)) takes got none
         (λ mode are. let said = generate_said mode are in (said.0, said.3.seed_is))
 
-    pub generate_count : (given : Option Text) (fault : WordsFault) → given ≡ first_value (found_of matches) (codes "count") → Gives (IsNumberIn 1 100000 given) (Err fault)
-        → Gives (AreWords (codes "generate" ∷ words)) (Err fault)
+    pub generate_count : (given : Option Text) (fault : WordsFault) → given ≡ first_value (found_of matches) (codes "count") → GivesAsked (IsNumberIn 1 100000 given) (Err fault)
+        → GivesAsked (AreWords (codes "generate" ∷ words)) (Err fault)
     generate_count given fault got none = missing app words matches (codes "count") given fault 1 100000 (AreWords (codes "generate" ∷ words)) takes got none
         (λ mode are. let said = generate_said mode are in (said.1, said.3.count_is))
 
-    pub generate_lanes : (given : Option Text) (fault : WordsFault) → given ≡ first_value (found_of matches) (codes "lanes") → Gives (IsNumberIn 1 8 given) (Err fault)
-        → Gives (AreWords (codes "generate" ∷ words)) (Err fault)
+    pub generate_lanes : (given : Option Text) (fault : WordsFault) → given ≡ first_value (found_of matches) (codes "lanes") → GivesAsked (IsNumberIn 1 8 given) (Err fault)
+        → GivesAsked (AreWords (codes "generate" ∷ words)) (Err fault)
     generate_lanes given fault got none = missing app words matches (codes "lanes") given fault 1 8 (AreWords (codes "generate" ∷ words)) takes got none
         (λ mode are. let said = generate_said mode are in (said.2, said.3.lanes_is))
 
@@ -86,31 +86,31 @@ module _ (app : App) (words : List Text) (is : app ≡ load_app) where
   load_taken seed count lanes workers asked =
       subst (λ (a : App). (fault_of a words ≡ []) × LoadSays (matches_of a words) seed count lanes workers) (sym is) (let read = load_reads words seed count lanes workers asked in (read.0, read.1))
 
-  pub load_untaken : (fault : WordsFault) → Takes app words (Err fault) → Gives (AreWords (codes "load" ∷ words)) (Err fault)
+  pub load_untaken : (fault : WordsFault) → TakesWords app words (Err fault) → GivesAsked (AreWords (codes "load" ∷ words)) (Err fault)
   load_untaken fault takes = refused (AreWords (codes "load" ∷ words)) fault (λ usage mode are.
       let asked = load_only words mode are in untaken app words fault takes usage (load_taken asked.0 asked.1 asked.2 asked.3 asked.4).0)
 
-  module _ (matches : ArgMatches) (takes : Takes app words (Ok matches)) where
+  module _ (matches : ArgMatches) (takes : TakesWords app words (Ok matches)) where
     abbrev load_said : (mode : Mode) → AreWords (codes "load" ∷ words) mode → (seed : ℕ) × (count : ℕ) × (lanes : ℕ) × (workers : ℕ) × LoadSays (matches_of app words) seed count lanes workers
     load_said mode are = let asked = load_only words mode are in (asked.0, asked.1, asked.2, asked.3, (load_taken asked.0 asked.1 asked.2 asked.3 asked.4).1)
 
-    pub load_seed : (given : Option Text) (fault : WordsFault) → given ≡ first_value (found_of matches) (codes "seed") → Gives (IsNumberIn 0 2147483647 given) (Err fault)
-        → Gives (AreWords (codes "load" ∷ words)) (Err fault)
+    pub load_seed : (given : Option Text) (fault : WordsFault) → given ≡ first_value (found_of matches) (codes "seed") → GivesAsked (IsNumberIn 0 2147483647 given) (Err fault)
+        → GivesAsked (AreWords (codes "load" ∷ words)) (Err fault)
     load_seed given fault got none = missing app words matches (codes "seed") given fault 0 2147483647 (AreWords (codes "load" ∷ words)) takes got none
         (λ mode are. let said = load_said mode are in (said.0, said.4.seed_is))
 
-    pub load_count : (given : Option Text) (fault : WordsFault) → given ≡ first_value (found_of matches) (codes "count") → Gives (IsNumberIn 1 100000 given) (Err fault)
-        → Gives (AreWords (codes "load" ∷ words)) (Err fault)
+    pub load_count : (given : Option Text) (fault : WordsFault) → given ≡ first_value (found_of matches) (codes "count") → GivesAsked (IsNumberIn 1 100000 given) (Err fault)
+        → GivesAsked (AreWords (codes "load" ∷ words)) (Err fault)
     load_count given fault got none = missing app words matches (codes "count") given fault 1 100000 (AreWords (codes "load" ∷ words)) takes got none
         (λ mode are. let said = load_said mode are in (said.1, said.4.count_is))
 
-    pub load_lanes : (given : Option Text) (fault : WordsFault) → given ≡ first_value (found_of matches) (codes "lanes") → Gives (IsNumberIn 1 8 given) (Err fault)
-        → Gives (AreWords (codes "load" ∷ words)) (Err fault)
+    pub load_lanes : (given : Option Text) (fault : WordsFault) → given ≡ first_value (found_of matches) (codes "lanes") → GivesAsked (IsNumberIn 1 8 given) (Err fault)
+        → GivesAsked (AreWords (codes "load" ∷ words)) (Err fault)
     load_lanes given fault got none = missing app words matches (codes "lanes") given fault 1 8 (AreWords (codes "load" ∷ words)) takes got none
         (λ mode are. let said = load_said mode are in (said.2, said.4.lanes_is))
 
-    pub load_workers : (given : Option Text) (fault : WordsFault) → given ≡ first_value (found_of matches) (codes "workers") → Gives (IsNumberIn 1 64 given) (Err fault)
-        → Gives (AreWords (codes "load" ∷ words)) (Err fault)
+    pub load_workers : (given : Option Text) (fault : WordsFault) → given ≡ first_value (found_of matches) (codes "workers") → GivesAsked (IsNumberIn 1 64 given) (Err fault)
+        → GivesAsked (AreWords (codes "load" ∷ words)) (Err fault)
     load_workers given fault got none = missing app words matches (codes "workers") given fault 1 64 (AreWords (codes "load" ∷ words)) takes got none
         (λ mode are. let said = load_said mode are in (said.3, said.4.workers_is))
 

@@ -8,7 +8,7 @@ use Rattle.clap.specs.Simple.{App, entered}
 use Rattle.clap.specs.Takes.{is_given}
 use Rattle.clap.specs.Kinds.{Kinds, or_else, check_kinds}
 use Rattle.clap.specs.Faults.{built_fault, walk_fault, settle_fault, defaults_fault, default_fault, given_default_fault, check_fault, entered_fault}
-use Rattle.life_args.specs.Pieces.{Piece, bare, apart, joined, spelled, bare_values, option_values, value_under, IsAmong, HasOnly}
+use Rattle.life_args.specs.Pieces.{WordPiece, bare, apart, joined, spelled, bare_values, option_values, value_under, IsAmong, HasOnly}
 use Rattle.life_args.specs.inside.Commands.{HasHyphens}
 use Rattle.life_args.proofs.Causes.{none_first, none_second}
 use Rattle.life_args.proofs.Lexing.{IsPlain}
@@ -60,7 +60,7 @@ plain_under name one value values each = go (bytes_eq one name) refl
 plain_own : (name value : Text) (values : List Text) → EachPlain (value_under name name value values) → IsPlain value
 plain_own name value values each = (subst (λ (b : Bool). EachPlain (cond b (value ∷ values) values)) (own name) each).0
 
-pub are_plain : (all : List Text) (pieces : List Piece) → HasOnly all pieces → EachPlain (bare_values pieces) → ((name : Text) → IsAmong all name → EachPlain (option_values name pieces)) → ArePlain pieces
+pub are_plain : (all : List Text) (pieces : List WordPiece) → HasOnly all pieces → EachPlain (bare_values pieces) → ((name : Text) → IsAmong all name → EachPlain (option_values name pieces)) → ArePlain pieces
 are_plain all [] only alone each = tt
 are_plain all (bare value ∷ pieces) only alone each = (alone.0, are_plain all pieces only alone.1 each)
 are_plain all (apart one value ∷ pieces) only alone each = (
@@ -84,7 +84,7 @@ among_or_out (one ∷ all) name = go (bytes_eq name one) refl (among_or_out all 
       | inr more ↦ out more
     ])
 
-options_once : (all : List Text) (pieces : List Piece) → HasOnly all pieces → ((name : Text) → IsAmong all name → length (option_values name pieces) ≤ 1) → (name : Text) → length (option_values name pieces) ≤ 1
+options_once : (all : List Text) (pieces : List WordPiece) → HasOnly all pieces → ((name : Text) → IsAmong all name → length (option_values name pieces) ≤ 1) → (name : Text) → length (option_values name pieces) ≤ 1
 options_once all pieces only once name = elim (among_or_out all name) [
   | inl among ↦ once name among
   | inr out ↦ let none : length (option_values name pieces) ≡ 0 = ap length (no_option all name pieces only out) in omega arith
@@ -100,7 +100,7 @@ other_names all [] name others among = absurd among
 other_names all (one ∷ left) name others (inl is) = λ h. others.0 (subst (IsAmong all) is h)
 other_names all (one ∷ left) name others (inr more) = other_names all left name others.1 more
 
-uses_once : (all left : List Text) (pieces : List Piece) → AreOthers all left → AreApart left → HasOnly all pieces
+uses_once : (all left : List Text) (pieces : List WordPiece) → AreOthers all left → AreApart left → HasOnly all pieces
     → ((name : Text) → IsAmong all name → length (option_values name pieces) ≤ 1) → (name : Text) → length (values_for name (uses left pieces)) ≤ 1
 uses_once all left pieces others apart_all only once name = elim (among_or_out left name) [
   | inl among ↦ subst (λ vs. length vs ≤ 1) (sym (place_uses all name left pieces only (other_names all left name others among))) (place_once name left (bare_values pieces) apart_all)
@@ -136,21 +136,21 @@ module _ (name : Text) (table : List Argument) (good : AreOptionNames (options t
   level_is : (words : List Text) → leaf_fault name table words ≡ level words (fold (walked (rules table) []) start words)
   level_is words = refl
 
-  rows_are : (pieces : List Piece) (w : Walks name table good [] None 1 left pieces) → leaf_rows table (spelled pieces) ≡ puts (uses left pieces) []
+  rows_are : (pieces : List WordPiece) (w : Walks name table good [] None 1 left pieces) → leaf_rows table (spelled pieces) ≡ puts (uses left pieces) []
   rows_are pieces w =
       ap (λ (v : Walk). finished (rules table) v.held) w.ends_at
       ∙ no_defaults table (settled (rules table) (held w.rows_after w.pending_after)).rows ∙ w.settled
 
   -- the words that are taken are spelled by pieces, whose values are found
   pub record IsReadAs (words : List Text) : Type 0 where
-    pub pieces : List Piece
+    pub pieces : List WordPiece
     pub spells : words ≡ spelled pieces
     pub only : HasOnly (options table) pieces
     pub few : length (bare_values pieces) ≤ length left
     pub finds : FindsAll (uses left pieces) (leaf_rows table words)
 
   -- where a walk over pieces has no fault, nothing is repeated
-  unrepeated : (pieces : List Piece) (w : Walks name table good [] None 1 left pieces)
+  unrepeated : (pieces : List WordPiece) (w : Walks name table good [] None 1 left pieces)
       → or_else (walk_fault (leaf name (rules table)) [] start (spelled pieces)) (settle_fault (rules table) false (fold (walked (rules table) []) start (spelled pieces)).held) ≡ []
       → repeats (uses left pieces) [] ≡ []
   unrepeated pieces w taken =
@@ -176,7 +176,7 @@ module _ (name : Text) (table : List Argument) (good : AreOptionNames (options t
         finds = λ one. subst (λ (rs : List Row). IsFound (values_for one (uses left found_pieces.pieces)) (found one rs)) (sym rows) (found_after one (uses left found_pieces.pieces) [] refl none);
       }
 
-  pub pieces_taken : (pieces : List Piece) → HasOnly (options table) pieces → length (bare_values pieces) ≤ length left
+  pub pieces_taken : (pieces : List WordPiece) → HasOnly (options table) pieces → length (bare_values pieces) ≤ length left
       → EachPlain (bare_values pieces) → ((one : Text) → IsAmong (options table) one → EachPlain (option_values one pieces))
       → ((one : Text) → IsAmong (options table) one → length (option_values one pieces) ≤ 1)
       → ((rows : List Row) → FindsAll (uses left pieces) rows → list_any (λ (a : Rule). a.required && not (is_given a.id rows)) (rules table) ≡ false)

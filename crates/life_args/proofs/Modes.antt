@@ -10,7 +10,7 @@ use Rattle.clap.specs.Takes.{is_given}
 use Rattle.clap.specs.Faults.{fault_of, is_simple_and_free}
 use Rattle.policy_types.specs.declared.entry.At.{At}
 use Rattle.policy_types.specs.declared.entry.At.TheVariants.{Now, Position}
-use Rattle.life_args.specs.Pieces.{Piece, spelled, bare_values, option_values, IsAmong, HasOnly, AtMostOne}
+use Rattle.life_args.specs.Pieces.{WordPiece, spelled, bare_values, option_values, IsAmong, HasOnly, AtMostOne}
 use Rattle.life_args.specs.Values.{IsDayValue, IsPositionOr, AreWorkersOr, IsBasisOr, IsPolicyOr}
 use Rattle.life_args.specs.Words.{IsRun, IsValue, IsState}
 use Rattle.life_args.specs.inside.Commands.{HasHyphens, IsDayIn, run_app, value_app, state_app}
@@ -89,7 +89,7 @@ pub record ValuesSay (rows : List Row) (day : ℤ) (position : At) (workers : �
   pub basis_is : IsBasisOr (first_of (codes "basis") rows) basis
 
 -- an option's values are found
-option_found : (left : List Text) (one : Text) (pieces : List Piece) (rows : List Row) → (IsAmong left one → ⊥) → FindsAll (uses left pieces) rows
+option_found : (left : List Text) (one : Text) (pieces : List WordPiece) (rows : List Row) → (IsAmong left one → ⊥) → FindsAll (uses left pieces) rows
     → IsFound (option_values one pieces) (found one rows)
 option_found left one pieces rows out finds = subst (λ vs. IsFound vs (found one rows)) (option_uses one left pieces out) (finds one)
 
@@ -99,7 +99,7 @@ one_pair name [] few = refl
 one_pair name (value ∷ []) few = rw (own name) refl
 one_pair name (value ∷ other ∷ values) few = absurd (omega arith)
 
-place_found : (all : List Text) (one : Text) (pieces : List Piece) (rows : List Row) → HasOnly all pieces → (IsAmong all one → ⊥) → length (bare_values pieces) ≤ 1
+place_found : (all : List Text) (one : Text) (pieces : List WordPiece) (rows : List Row) → HasOnly all pieces → (IsAmong all one → ⊥) → length (bare_values pieces) ≤ 1
     → FindsAll (uses (one ∷ []) pieces) rows → IsFound (bare_values pieces) (found one rows)
 place_found all one pieces rows only out few finds =
     subst (λ vs. IsFound vs (found one rows)) (place_uses all one (one ∷ []) pieces only out ∙ one_pair one (bare_values pieces) few) (finds one)

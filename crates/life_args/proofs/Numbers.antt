@@ -3,7 +3,7 @@ use Rattle.std.proofs.Common.{◌≡◌, ◌≤◌, ◌^◌, ◌<◌, ℕ, true,
 use Rattle.clap.specs.Walk.{Row, Text, first_of}
 use Rattle.clap.specs.Simple.{matches_of}
 use Rattle.clap.specs.Faults.{fault_of, is_simple_and_free}
-use Rattle.life_args.specs.Pieces.{Piece, bare, apart, joined, spelled, bare_values, IsAmong, HasOnly}
+use Rattle.life_args.specs.Pieces.{WordPiece, bare, apart, joined, spelled, bare_values, IsAmong, HasOnly}
 use Rattle.life_args.specs.Words.{IsGenerate, IsLoad}
 use Rattle.life_args.specs.inside.Commands.{HasHyphens, IsNumberIn, generate_app, load_app}
 use Rattle.life_args.proofs.Lexing.{IsPlain}
@@ -27,7 +27,7 @@ abbrev workers_name : Text
 workers_name = codes "workers"
 
 -- without options each piece is a word
-all_bare : (pieces : List Piece) → HasOnly [] pieces → spelled pieces ≡ bare_values pieces
+all_bare : (pieces : List WordPiece) → HasOnly [] pieces → spelled pieces ≡ bare_values pieces
 all_bare [] only = refl
 all_bare (bare value ∷ pieces) only = ap (λ (ws : List Text). value ∷ ws) (all_bare pieces only)
 all_bare (apart name value ∷ pieces) only = absurd only.0
@@ -49,7 +49,7 @@ found_so : (name value : Text) (rows : List Row) → IsFound (value ∷ []) (fou
 found_so name value rows is = ap first is.1
 
 -- each place's value is found
-places_found : (left : List Text) (pieces : List Piece) (rows : List Row) → HasOnly [] pieces → FindsAll (uses left pieces) rows
+places_found : (left : List Text) (pieces : List WordPiece) (rows : List Row) → HasOnly [] pieces → FindsAll (uses left pieces) rows
     → (name : Text) → IsFound (values_for name (pairs left (bare_values pieces))) (found name rows)
 places_found left pieces rows only finds name = subst (λ vs. IsFound vs (found name rows)) (place_uses [] name left pieces only (λ among. among)) (finds name)
 
@@ -136,7 +136,7 @@ generate_says words seed count lanes free taken said =
 pub generate_reads : (words : List Text) (seed count lanes : ℕ) → IsGenerate words seed count lanes
     → (fault_of generate_app words ≡ []) × GenerateSays (matches_of generate_app words) seed count lanes × (HasHyphens words → ⊥)
 generate_reads words seed count lanes is =
-    let pieces : List Piece = bare (decimal seed) ∷ bare (decimal count) ∷ bare (decimal lanes) ∷ [] in
+    let pieces : List WordPiece = bare (decimal seed) ∷ bare (decimal count) ∷ bare (decimal lanes) ∷ [] in
     let plain : EachPlain (bare_values pieces) = (
       plain_number 2147483647 seed (omega arith) is.seed_in,
       (plain_number 100000 count (omega arith) is.count_in.1, (plain_number 8 lanes (omega arith) is.lanes_in.1, tt)),
@@ -244,7 +244,7 @@ load_says words seed count lanes workers free taken said =
 pub load_reads : (words : List Text) (seed count lanes workers : ℕ) → IsLoad words seed count lanes workers
     → (fault_of load_app words ≡ []) × LoadSays (matches_of load_app words) seed count lanes workers × (HasHyphens words → ⊥)
 load_reads words seed count lanes workers is =
-    let pieces : List Piece = bare (decimal seed) ∷ bare (decimal count) ∷ bare (decimal lanes) ∷ bare (decimal workers) ∷ [] in
+    let pieces : List WordPiece = bare (decimal seed) ∷ bare (decimal count) ∷ bare (decimal lanes) ∷ bare (decimal workers) ∷ [] in
     let plain : EachPlain (bare_values pieces) = (
       plain_number 2147483647 seed (omega arith) is.seed_in,
       (

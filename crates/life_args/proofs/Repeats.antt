@@ -8,7 +8,7 @@ use Rattle.clap.specs.Kinds.{Kinds, or_else}
 use Rattle.clap.specs.declared.error.kind.ErrorKind.TheVariants.{ArgumentConflict}
 use Rattle.clap.specs.declared.builder.value_parser.Reading.TheVariants.{AsWritten}
 use Rattle.clap.specs.declared.parser.matches.ValueSource.TheVariants.{CommandLine}
-use Rattle.life_args.specs.Pieces.{Piece, bare, apart, joined, bare_values, option_values, value_under, IsAmong, HasOnly}
+use Rattle.life_args.specs.Pieces.{WordPiece, bare, apart, joined, bare_values, option_values, value_under, IsAmong, HasOnly}
 use Rattle.life_args.proofs.Causes.{none_first, none_second}
 use Rattle.life_args.proofs.Tables.{put, again, own}
 use Rattle.life_args.proofs.Walks.{Use, puts, repeats, uses}
@@ -204,7 +204,7 @@ passed : (name one value : Text) (vs : List Text) → (one ≡ name → ⊥) →
 passed name one value vs ne = rw (other_name one name ne) refl
 
 -- those of an option
-pub option_uses : (name : Text) (left : List Text) (pieces : List Piece) → (IsAmong left name → ⊥) → values_for name (uses left pieces) ≡ option_values name pieces
+pub option_uses : (name : Text) (left : List Text) (pieces : List WordPiece) → (IsAmong left name → ⊥) → values_for name (uses left pieces) ≡ option_values name pieces
 option_uses name left [] out = refl
 option_uses name [] (bare value ∷ pieces) out = option_uses name [] pieces out
 option_uses name (one ∷ left) (bare value ∷ pieces) out =
@@ -215,7 +215,7 @@ option_uses name [] (joined one value ∷ pieces) out = ap (value_under name one
 option_uses name (x ∷ left) (joined one value ∷ pieces) out = ap (value_under name one value) (option_uses name (x ∷ left) pieces out)
 
 -- an option that isn't among these gets no value
-pub no_option : (all : List Text) (name : Text) (pieces : List Piece) → HasOnly all pieces → (IsAmong all name → ⊥) → option_values name pieces ≡ []
+pub no_option : (all : List Text) (name : Text) (pieces : List WordPiece) → HasOnly all pieces → (IsAmong all name → ⊥) → option_values name pieces ≡ []
 no_option all name [] only out = refl
 no_option all name (bare value ∷ pieces) only out = no_option all name pieces only out
 no_option all name (apart one value ∷ pieces) only out =
@@ -230,7 +230,7 @@ pairs (name ∷ left) [] = []
 pairs (name ∷ left) (value ∷ values) = (name, value) ∷ pairs left values
 
 -- those of a place
-pub place_uses : (all : List Text) (name : Text) (left : List Text) (pieces : List Piece) → HasOnly all pieces → (IsAmong all name → ⊥)
+pub place_uses : (all : List Text) (name : Text) (left : List Text) (pieces : List WordPiece) → HasOnly all pieces → (IsAmong all name → ⊥)
     → values_for name (uses left pieces) ≡ values_for name (pairs left (bare_values pieces))
 place_uses all name [] pieces only out = option_uses name [] pieces (λ among. among) ∙ no_option all name pieces only out
 place_uses all name (one ∷ left) [] only out = refl

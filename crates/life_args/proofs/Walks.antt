@@ -8,7 +8,7 @@ use Rattle.clap.specs.Simple.{Shape}
 use Rattle.clap.specs.Faults.{settle_fault, turn_fault, walk_fault, use_fault}
 use Rattle.clap.specs.Kinds.{Kinds, or_else}
 use Rattle.clap.specs.declared.error.kind.ErrorKind.{ErrorKind}
-use Rattle.life_args.specs.Pieces.{Piece, bare, apart, joined, spelled, bare_values, IsAmong, HasOnly}
+use Rattle.life_args.specs.Pieces.{WordPiece, bare, apart, joined, spelled, bare_values, IsAmong, HasOnly}
 use Rattle.life_args.specs.inside.Commands.{HasHyphens}
 use Rattle.life_args.proofs.Causes.{or_else_nil, or_else_assoc, none_first, none_second}
 use Rattle.life_args.proofs.Lexing.{IsPlain, IsNamed, IsOptionName, Seen, seen, apart_named, joined_named, hyphens, short, plain}
@@ -31,7 +31,7 @@ repeats [] rows = []
 repeats (u ∷ us) rows = or_else (again u.0 rows) (repeats us (put u.0 u.1 rows))
 
 -- the uses that the pieces are, where these are the names of the places that are left
-abbrev pub uses : List Text → List Piece → List Use
+abbrev pub uses : List Text → List WordPiece → List Use
 uses left [] = []
 uses [] (bare value ∷ pieces) = uses [] pieces
 uses (name ∷ left) (bare value ∷ pieces) = (name, value) ∷ uses left pieces
@@ -39,7 +39,7 @@ uses left (apart name value ∷ pieces) = (name, value) ∷ uses left pieces
 uses left (joined name value ∷ pieces) = (name, value) ∷ uses left pieces
 
 -- each word that has to be a value is one
-abbrev pub ArePlain : List Piece → Type 0
+abbrev pub ArePlain : List WordPiece → Type 0
 ArePlain [] = ⊤
 ArePlain (bare value ∷ pieces) = IsPlain value × ArePlain pieces
 ArePlain (apart name value ∷ pieces) = IsPlain value × ArePlain pieces
@@ -65,7 +65,7 @@ option_among (named one ∷ rest) name (inr more) = inr (option_among rest name 
 option_among (placed one i required ∷ rest) name among = inr (option_among rest name among)
 
 -- none of their words is `--`
-pub no_hyphens_in : (all : List Text) → AreOptionNames all → (pieces : List Piece) → HasOnly all pieces → ArePlain pieces → HasHyphens (spelled pieces) → ⊥
+pub no_hyphens_in : (all : List Text) → AreOptionNames all → (pieces : List WordPiece) → HasOnly all pieces → ArePlain pieces → HasHyphens (spelled pieces) → ⊥
 no_hyphens_in all good [] only are has = has
 no_hyphens_in all good (bare value ∷ pieces) only are (inl is) = both_hyphens value are.0.no_hyphens is
 no_hyphens_in all good (bare value ∷ pieces) only are (inr more) = no_hyphens_in all good pieces only are.1 more
@@ -132,7 +132,7 @@ module _ (name : Text) (table : List Argument) (good : AreOptionNames (options t
 
   -- ---- the words of pieces
 
-  pub record Walks (rows : List Row) (pending : Pending) (p : ℕ) (left : List Text) (pieces : List Piece) : Type 0 where
+  pub record Walks (rows : List Row) (pending : Pending) (p : ℕ) (left : List Text) (pieces : List WordPiece) : Type 0 where
     pub rows_after : List Row
     pub pending_after : Pending
     pub place_after : ℕ
@@ -142,7 +142,7 @@ module _ (name : Text) (table : List Argument) (good : AreOptionNames (options t
         ≡ or_else (owed rows pending) (repeats (uses left pieces) (now rows pending))
 
   -- one use more in front, by one word whose value is then pending
-  use_pending : (rows : List Row) (pending : Pending) (p q : ℕ) (left : List Text) (pieces : List Piece) (w : Walk) (words : List Text) (one value : Text) → IsAmong (names table) one
+  use_pending : (rows : List Row) (pending : Pending) (p q : ℕ) (left : List Text) (pieces : List WordPiece) (w : Walk) (words : List Text) (one value : Text) → IsAmong (names table) one
       → ends w words ≡ ends (stand (now rows pending) (Some (one, value ∷ [])) idle q) (spelled pieces)
       → ((last : Kinds) → or_else (walk_fault s [] w words) last ≡ or_else (owed rows pending) (or_else (walk_fault s [] (stand (now rows pending) (Some (one, value ∷ [])) idle q) (spelled pieces)) last))
       → (rest : Walks (now rows pending) (Some (one, value ∷ [])) q left pieces)
@@ -156,7 +156,7 @@ module _ (name : Text) (table : List Argument) (good : AreOptionNames (options t
         ∙ ap₂ (λ (k : Kinds) (r : List Row). or_else k (repeats (uses left pieces) r)) (owes (now rows pending) one value among) (settles (now rows pending) one value among)),
   )
 
-  pub walks : (pieces : List Piece) (rows : List Row) (pending : Pending) (p : ℕ) (left : List Text) → HasPlaces table p left → HasOnly (options table) pieces → ArePlain pieces
+  pub walks : (pieces : List WordPiece) (rows : List Row) (pending : Pending) (p : ℕ) (left : List Text) → HasPlaces table p left → HasOnly (options table) pieces → ArePlain pieces
       → length (bare_values pieces) ≤ length left → Walks rows pending p left pieces
   unfolding walk_fault
   walks [] rows pending p left places only are few =
@@ -217,7 +217,7 @@ module _ (name : Text) (table : List Argument) (good : AreOptionNames (options t
   IsTaken w words = or_else (walk_fault s [] w words) (settle_fault c false (ends w words).held) ≡ []
 
   pub record Spells (front words : List Text) (room : ℕ) : Type 0 where
-    pub pieces : List Piece
+    pub pieces : List WordPiece
     pub spells : front ++ words ≡ spelled pieces
     pub only : HasOnly (options table) pieces
     pub are : ArePlain pieces

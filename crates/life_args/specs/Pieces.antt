@@ -1,27 +1,27 @@
 -- The words behind a command's name, as the pieces that its usage line shows
 use Rattle.std.specs.Prelude.{◌≡◌, ℕ, ⊤, ◌⊎◌, List, [], ◌∷◌, ◌++◌, codes, cond, bytes_eq, Option, Some, None}
 
-pub data Piece : Type 0 where
+pub data WordPiece : Type 0 where
   -- a value that stands alone
-  bare : List ℕ → Piece
+  bare : List ℕ → WordPiece
   -- an option's name and value in two words, `--name value`
-  apart : List ℕ → List ℕ → Piece
+  apart : List ℕ → List ℕ → WordPiece
   -- an option's name and value in one word, `--name=value`
-  joined : List ℕ → List ℕ → Piece
+  joined : List ℕ → List ℕ → WordPiece
 
 -- the words of a piece
-abbrev pub piece_words : Piece → List (List ℕ)
+abbrev pub piece_words : WordPiece → List (List ℕ)
 piece_words (bare value) = value ∷ []
 piece_words (apart name value) = (codes "--" ++ name) ∷ value ∷ []
 piece_words (joined name value) = (codes "--" ++ (name ++ (codes "=" ++ value))) ∷ []
 
 -- the words that the pieces spell
-abbrev pub spelled : List Piece → List (List ℕ)
+abbrev pub spelled : List WordPiece → List (List ℕ)
 spelled [] = []
 spelled (piece ∷ pieces) = piece_words piece ++ spelled pieces
 
 -- the values that stand alone
-abbrev pub bare_values : List Piece → List (List ℕ)
+abbrev pub bare_values : List WordPiece → List (List ℕ)
 bare_values [] = []
 bare_values (bare value ∷ pieces) = value ∷ bare_values pieces
 bare_values (apart name value ∷ pieces) = bare_values pieces
@@ -32,7 +32,7 @@ abbrev pub value_under : List ℕ → List ℕ → List ℕ → List (List ℕ) 
 value_under name other value values = cond (bytes_eq other name) (value ∷ values) values
 
 -- the values of the option of this name
-abbrev pub option_values : List ℕ → List Piece → List (List ℕ)
+abbrev pub option_values : List ℕ → List WordPiece → List (List ℕ)
 option_values name [] = []
 option_values name (bare value ∷ pieces) = option_values name pieces
 option_values name (apart other value ∷ pieces) = value_under name other value (option_values name pieces)
@@ -44,7 +44,7 @@ IsAmong [] name = ⊥
 IsAmong (one ∷ names) name = (name ≡ one) ⊎ IsAmong names name
 
 -- each option has one of these names
-abbrev pub HasOnly : List (List ℕ) → List Piece → Type 0
+abbrev pub HasOnly : List (List ℕ) → List WordPiece → Type 0
 HasOnly names [] = ⊤
 HasOnly names (bare value ∷ pieces) = HasOnly names pieces
 HasOnly names (apart name value ∷ pieces) = IsAmong names name × HasOnly names pieces

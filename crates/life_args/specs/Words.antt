@@ -6,12 +6,12 @@ use Rattle.life_args.specs.declared.fault.WordsFault.{WordsFault}
 use Rattle.life_args.specs.declared.fault.WordsFault.TheVariants.{Usage, NoMemory}
 use Rattle.life_args.specs.declared.mode.Mode.{Mode}
 use Rattle.life_args.specs.declared.mode.Mode.TheVariants.{Run, Value, State, Generate, Load}
-use Rattle.life_args.specs.Pieces.{Piece, spelled, bare_values, option_values, HasOnly, AtMostOne}
+use Rattle.life_args.specs.Pieces.{WordPiece, spelled, bare_values, option_values, HasOnly, AtMostOne}
 use Rattle.life_args.specs.Values.{IsDayValue, IsPositionOr, AreWorkersOr, IsBasisOr, IsPolicyOr, IsSeed, IsPolicyCount, IsLaneCount, IsWorkerCount}
 
 -- `run [--basis NAME]`: the words behind `run`
 pub record IsRun (words : List (List ℕ)) (basis : List ℕ) : Type 0 where
-  pub pieces : List Piece
+  pub pieces : List WordPiece
   pub spells : words ≡ spelled pieces
   pub only : HasOnly (codes "basis" ∷ []) pieces
   pub alone : bare_values pieces ≡ []
@@ -19,7 +19,7 @@ pub record IsRun (words : List (List ℕ)) (basis : List ℕ) : Type 0 where
 
 -- `value ON [--at P] [--workers N] [--basis NAME]`: the words behind `value`, options anywhere among them
 pub record IsValue (words : List (List ℕ)) (on : ℤ) (position : At) (workers : ℕ) (basis : List ℕ) : Type 0 where
-  pub pieces : List Piece
+  pub pieces : List WordPiece
   pub spells : words ≡ spelled pieces
   pub only : HasOnly (codes "at" ∷ codes "workers" ∷ codes "basis" ∷ []) pieces
   pub day : List ℕ
@@ -31,7 +31,7 @@ pub record IsValue (words : List (List ℕ)) (on : ℤ) (position : At) (workers
 
 -- `state [ID]`: the words behind `state`
 pub record IsState (words : List (List ℕ)) (id : Option ℕ) : Type 0 where
-  pub pieces : List Piece
+  pub pieces : List WordPiece
   pub spells : words ≡ spelled pieces
   pub only : HasOnly [] pieces
   pub id_is : AtMostOne (bare_values pieces) (λ given. IsPolicyOr given id)

@@ -1,6 +1,6 @@
 ghost use Rattle.std.specs.Prelude.{◌∷◌, codes, map, string_bytes};
 ghost use Rattle.life_args.specs.Words.{AreWords};
-ghost use Rattle.life_args.specs.inside.Commands.{HasHyphens, Gives};
+ghost use Rattle.life_args.specs.inside.Commands.{HasHyphens, GivesAsked};
 
 use crate::commands::generate_command;
 use crate::fault::WordsFault;
@@ -12,7 +12,7 @@ use std::alloc::Global;
 /// What the words behind `generate` ask for.
 pub fn read_generate(alloc: Global, words: &[String]) -> Result<Mode, WordsFault>
     requires { HasHyphens (map string_bytes words.now) → ⊥ }
-    ensures { Gives (AreWords (codes "generate" ∷ map string_bytes words.now)) result }
+    ensures { GivesAsked (AreWords (codes "generate" ∷ map string_bytes words.now)) result }
 {
     let Ok(command) = generate_command(alloc) else {
         return Err(WordsFault::NoMemory);

@@ -1,6 +1,6 @@
 ghost use Rattle.std.specs.Prelude.{◌≡◌, true, map, string_bytes};
 ghost use Rattle.clap.specs.Words.{app_of, is_simple_and_free};
-ghost use Rattle.life_args.specs.inside.Commands.{Takes};
+ghost use Rattle.life_args.specs.inside.Commands.{TakesWords};
 
 use crate::fault::WordsFault;
 use clap::error::ErrorKind;
@@ -12,7 +12,7 @@ pub fn read_line<'a>(
     words: &'a [String],
 ) -> Result<ArgMatches<'a>, WordsFault>
     requires { is_simple_and_free (app_of command) ≡ true }
-    ensures { Takes (app_of command.entry) (map string_bytes words.entry.now) result }
+    ensures { TakesWords (app_of command.entry) (map string_bytes words.entry.now) result }
 {
     match command.try_get_matches_from(words) {
         Ok(matches) => Ok(matches),

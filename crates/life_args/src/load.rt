@@ -1,6 +1,6 @@
 ghost use Rattle.std.specs.Prelude.{◌∷◌, codes, map, string_bytes};
 ghost use Rattle.life_args.specs.Words.{AreWords};
-ghost use Rattle.life_args.specs.inside.Commands.{HasHyphens, Gives};
+ghost use Rattle.life_args.specs.inside.Commands.{HasHyphens, GivesAsked};
 
 use crate::commands::load_command;
 use crate::fault::WordsFault;
@@ -12,7 +12,7 @@ use std::alloc::Global;
 /// What the words behind `load` ask for.
 pub fn read_load(alloc: Global, words: &[String]) -> Result<Mode, WordsFault>
     requires { HasHyphens (map string_bytes words.now) → ⊥ }
-    ensures { Gives (AreWords (codes "load" ∷ map string_bytes words.now)) result }
+    ensures { GivesAsked (AreWords (codes "load" ∷ map string_bytes words.now)) result }
 {
     let Ok(command) = load_command(alloc) else {
         return Err(WordsFault::NoMemory);

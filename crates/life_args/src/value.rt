@@ -1,6 +1,6 @@
 ghost use Rattle.std.specs.Prelude.{◌∷◌, codes, map, string_bytes};
 ghost use Rattle.life_args.specs.Words.{AreWords};
-ghost use Rattle.life_args.specs.inside.Commands.{HasHyphens, Gives};
+ghost use Rattle.life_args.specs.inside.Commands.{HasHyphens, GivesAsked};
 
 use crate::commands::value_command;
 use crate::fault::WordsFault;
@@ -12,7 +12,7 @@ use std::alloc::Global;
 /// What the words behind `value` ask for.
 pub fn read_value(alloc: Global, words: &[String]) -> Result<Mode, WordsFault>
     requires { HasHyphens (map string_bytes words.now) → ⊥ }
-    ensures { Gives (AreWords (codes "value" ∷ map string_bytes words.now)) result }
+    ensures { GivesAsked (AreWords (codes "value" ∷ map string_bytes words.now)) result }
 {
     let Ok(command) = value_command(alloc) else {
         return Err(WordsFault::NoMemory);

@@ -1,7 +1,7 @@
 // What the values of a command line say.
 ghost use Rattle.std.specs.Prelude.{◌≡◌, ◌≢◌, ◌≤◌, ℕ, IfSome, IfNone, decimal, option_map};
 ghost use Rattle.life_args.specs.Values.{IsPositionOr, AreWorkersOr, IsBasisOr, IsPolicyOr};
-ghost use Rattle.life_args.specs.inside.Commands.{Gives, IsDayIn, IsNumberIn};
+ghost use Rattle.life_args.specs.inside.Commands.{GivesAsked, IsDayIn, IsNumberIn};
 
 use crate::fault::WordsFault;
 use basis_book::Name;
@@ -12,7 +12,7 @@ use std::alloc::Global;
 
 /// The day of a valuation, in days since 1970-01-01.
 pub fn day_of(value: Option<&str>) -> Result<i32, WordsFault>
-    ensures { Gives (IsDayIn (option_map (λ text. text.now) value.entry)) result }
+    ensures { GivesAsked (IsDayIn (option_map (λ text. text.now) value.entry)) result }
 {
     let Some(text) = value else {
         return Err(WordsFault::Usage);
@@ -22,7 +22,7 @@ pub fn day_of(value: Option<&str>) -> Result<i32, WordsFault>
 
 /// The position of a valuation: the end of the journal where none is given.
 pub fn position_or(value: Option<&str>) -> Result<At, WordsFault>
-    ensures { Gives (IsPositionOr (option_map (λ text. text.now) value.entry)) result }
+    ensures { GivesAsked (IsPositionOr (option_map (λ text. text.now) value.entry)) result }
 {
     let Some(text) = value else {
         return Ok(At::Now);
@@ -35,7 +35,7 @@ pub fn position_or(value: Option<&str>) -> Result<At, WordsFault>
 
 /// The number of workers: 1 where none is given.
 pub fn workers_or(value: Option<&str>) -> Result<u8, WordsFault>
-    ensures { Gives (AreWorkersOr (option_map (λ text. text.now) value.entry)) result }
+    ensures { GivesAsked (AreWorkersOr (option_map (λ text. text.now) value.entry)) result }
 {
     let Some(text) = value else {
         return Ok(1);
@@ -48,7 +48,7 @@ pub fn workers_or(value: Option<&str>) -> Result<u8, WordsFault>
 
 /// The name of the basis file: `basis.csv` where none is given.
 pub fn basis_or(alloc: Global, value: Option<&str>) -> Result<Name, WordsFault>
-    ensures { Gives (IsBasisOr (option_map (λ text. text.now) value.entry)) result }
+    ensures { GivesAsked (IsBasisOr (option_map (λ text. text.now) value.entry)) result }
 {
     let text = match value {
         Some(text) => text,
@@ -63,7 +63,7 @@ pub fn basis_or(alloc: Global, value: Option<&str>) -> Result<Name, WordsFault>
 
 /// The number of the policy whose entries are asked for, if one is given.
 pub fn policy_or(value: Option<&str>) -> Result<Option<u32>, WordsFault>
-    ensures { Gives (IsPolicyOr (option_map (λ text. text.now) value.entry)) result }
+    ensures { GivesAsked (IsPolicyOr (option_map (λ text. text.now) value.entry)) result }
 {
     let Some(text) = value else {
         return Ok(None);
@@ -76,7 +76,7 @@ pub fn policy_or(value: Option<&str>) -> Result<Option<u32>, WordsFault>
 
 /// A number from `least` to `most`, which has to be given.
 pub fn number_of(value: Option<&str>, least: u64, most: u64) -> Result<u64, WordsFault>
-    ensures { Gives (IsNumberIn least most (option_map (λ text. text.now) value.entry)) result }
+    ensures { GivesAsked (IsNumberIn least most (option_map (λ text. text.now) value.entry)) result }
 {
     let Some(text) = value else {
         return Err(WordsFault::Usage);

@@ -6,15 +6,16 @@ use Rattle.std.proofs.lemmas.Grind.{flat_map-append}
 use Rattle.policy_types.specs.declared.script.Line.{Line}
 use Rattle.policy_types.specs.declared.script.Line.TheVariants.{Post}
 use Rattle.policy_types.specs.declared.script.Lane.{Lane}
-use Rattle.load_maker.specs.GeneratedRows.{Row}
-use Rattle.load_maker.specs.GeneratedLanes.{AreRising, IsValidPosting, lane_with, lanes_up_to, lines_in, lines_of}
+use Rattle.load_maker.specs.GeneratedRows.{ScriptRow}
+use Rattle.load_maker.specs.GeneratedLanes.{IsValidPosting, lane_with, dealt_lanes, dealt_lines}
+use Rattle.policy_types.specs.Lanes.{AreRising, lines_in, numbers_of}
 use Rattle.load_maker.proofs.Drawing.{IsRowFor, all_and}
 
 -- lanes with numbers below one
 abbrev AreBelow : ℕ → List Lane → Type 0
 AreBelow n lanes = AllByRecursion (λ (lane : Lane). lane.number < n) lanes
 
-rising_push : (lanes : List Lane) (last : Lane) → AreRising lanes → AreBelow last.number lanes → AreRising (lanes ++ last ∷ [])
+rising_push : (lanes : List Lane) (last : Lane) → AreRising (numbers_of lanes) → AreBelow last.number lanes → AreRising (numbers_of (lanes ++ last ∷ []))
 rising_push [] last rising below = tt
 rising_push (lane ∷ []) last rising below = (below.0, tt)
 rising_push (lane ∷ next ∷ lanes) last rising below = (rising.0, rising_push (next ∷ lanes) last rising.1 below.1)
@@ -24,7 +25,7 @@ below_next [] n m more below = tt
 below_next (lane ∷ lanes) n m more below = (omega (arith, more, below.0), below_next lanes n m more below.1)
 
 pub record AreNumbered (lanes : List Lane) (n : ℕ) : Type 0 where
-  pub rising : AreRising lanes
+  pub rising : AreRising (numbers_of lanes)
   pub below : AllByRecursion (λ (lane : Lane). lane.number < suc n) lanes
   pub few : length lanes ≤ n
 
@@ -43,9 +44,9 @@ one_more lanes n (line ∷ lines) are =
       few = omega (arith, are.few, length-append lanes (last ∷ []));
     }
 
-pub numbered : (n : ℕ) (rows : List Row) → AreNumbered (lanes_up_to n rows) n
+pub numbered : (n : ℕ) (rows : List ScriptRow) → AreNumbered (dealt_lanes n rows) n
 numbered zero rows = record { rising = tt; below = tt; few = omega arith }
-numbered (suc n) rows = one_more (lanes_up_to n rows) n (lines_of (suc n) rows) (numbered n rows)
+numbered (suc n) rows = one_more (dealt_lanes n rows) n (dealt_lines (suc n) rows) (numbered n rows)
 
 -- the lines of one lane more
 lines_of_lane : (n : ℕ) (lines : List Line) → lines_in (lane_with n lines) ≡ lines
@@ -58,46 +59,46 @@ lines_more lanes n lines =
     ∙ ap (λ more. lines_in lanes ++ more) (lines_of_lane n lines)
 
 -- a lane's lines are of its rows alone
-own : (n : ℕ) (row : Row) (rows : List Row) → (row.lane == n) ≡ true → lines_of n (row ∷ rows) ≡ Post row.command ∷ lines_of n rows
-own n row rows is = ap (map (λ (row : Row). Post row.command)) (cond-true (row.lane == n) _ _ is)
+own : (n : ℕ) (row : ScriptRow) (rows : List ScriptRow) → (row.lane == n) ≡ true → dealt_lines n (row ∷ rows) ≡ Post row.command ∷ dealt_lines n rows
+own n row rows is = ap (map (λ (row : ScriptRow). Post row.command)) (cond-true (row.lane == n) _ _ is)
 
-other : (n : ℕ) (row : Row) (rows : List Row) → (row.lane == n) ≡ false → lines_of n (row ∷ rows) ≡ lines_of n rows
-other n row rows is = ap (map (λ (row : Row). Post row.command)) (cond-false (row.lane == n) _ _ is)
+other : (n : ℕ) (row : ScriptRow) (rows : List ScriptRow) → (row.lane == n) ≡ false → dealt_lines n (row ∷ rows) ≡ dealt_lines n rows
+other n row rows is = ap (map (λ (row : ScriptRow). Post row.command)) (cond-false (row.lane == n) _ _ is)
 
-valid_lines : (lanes n : ℕ) (rows : List Row) → AllByRecursion (IsRowFor lanes) rows → AllByRecursion IsValidPosting (lines_of n rows)
+valid_lines : (lanes n : ℕ) (rows : List ScriptRow) → AllByRecursion (IsRowFor lanes) rows → AllByRecursion IsValidPosting (dealt_lines n rows)
 valid_lines lanes n [] right = tt
 valid_lines lanes n (row ∷ rows) right = by (row.lane == n) refl (valid_lines lanes n rows right.1)
   where
-    by : (b : Bool) → (row.lane == n) ≡ b → AllByRecursion IsValidPosting (lines_of n rows) → AllByRecursion IsValidPosting (lines_of n (row ∷ rows))
+    by : (b : Bool) → (row.lane == n) ≡ b → AllByRecursion IsValidPosting (dealt_lines n rows) → AllByRecursion IsValidPosting (dealt_lines n (row ∷ rows))
     by true is rest = subst (AllByRecursion IsValidPosting) (sym (own n row rows is)) (right.0.valid, rest)
     by false is rest = subst (AllByRecursion IsValidPosting) (sym (other n row rows is)) rest
 
-pub all_valid : (lanes n : ℕ) (rows : List Row) → AllByRecursion (IsRowFor lanes) rows → AllByRecursion IsValidPosting (lines_in (lanes_up_to n rows))
+pub all_valid : (lanes n : ℕ) (rows : List ScriptRow) → AllByRecursion (IsRowFor lanes) rows → AllByRecursion IsValidPosting (lines_in (dealt_lanes n rows))
 all_valid lanes zero rows right = tt
-all_valid lanes (suc n) rows right = subst (AllByRecursion IsValidPosting) (sym (lines_more (lanes_up_to n rows) (suc n) (lines_of (suc n) rows)))
-    (all_and IsValidPosting (lines_in (lanes_up_to n rows)) (lines_of (suc n) rows) (all_valid lanes n rows right) (valid_lines lanes (suc n) rows right))
+all_valid lanes (suc n) rows right = subst (AllByRecursion IsValidPosting) (sym (lines_more (dealt_lanes n rows) (suc n) (dealt_lines (suc n) rows)))
+    (all_and IsValidPosting (lines_in (dealt_lanes n rows)) (dealt_lines (suc n) rows) (all_valid lanes n rows right) (valid_lines lanes (suc n) rows right))
 
 -- how many lines lanes 1 to n have
-abbrev lines_up_to : ℕ → List Row → ℕ
+abbrev lines_up_to : ℕ → List ScriptRow → ℕ
 lines_up_to zero rows = 0
-lines_up_to (suc n) rows = lines_up_to n rows + length (lines_of (suc n) rows)
+lines_up_to (suc n) rows = lines_up_to n rows + length (dealt_lines (suc n) rows)
 
-of_lanes : (n : ℕ) (rows : List Row) → length (lines_in (lanes_up_to n rows)) ≡ lines_up_to n rows
+of_lanes : (n : ℕ) (rows : List ScriptRow) → length (lines_in (dealt_lanes n rows)) ≡ lines_up_to n rows
 of_lanes zero rows = refl
 of_lanes (suc n) rows =
-    let more = ap length (lines_more (lanes_up_to n rows) (suc n) (lines_of (suc n) rows)) in
-    let both = length-append (lines_in (lanes_up_to n rows)) (lines_of (suc n) rows) in
+    let more = ap length (lines_more (dealt_lanes n rows) (suc n) (dealt_lines (suc n) rows)) in
+    let both = length-append (lines_in (dealt_lanes n rows)) (dealt_lines (suc n) rows) in
     let before = of_lanes n rows in
     omega (arith, more, both, before)
 
-of_later : (n : ℕ) (row : Row) (rows : List Row) → n < row.lane → lines_up_to n (row ∷ rows) ≡ lines_up_to n rows
+of_later : (n : ℕ) (row : ScriptRow) (rows : List ScriptRow) → n < row.lane → lines_up_to n (row ∷ rows) ≡ lines_up_to n rows
 of_later zero row rows later = refl
 of_later (suc n) row rows later =
     let same = ap length (other (suc n) row rows (ne_eqb row.lane (suc n) (λ e. omega (arith, e, later)))) in
     let before = of_later n row rows (omega (arith, later)) in
     omega (arith, same, before)
 
-of_one : (n : ℕ) (row : Row) (rows : List Row) → 1 ≤ row.lane → row.lane ≤ n → lines_up_to n (row ∷ rows) ≡ suc (lines_up_to n rows)
+of_one : (n : ℕ) (row : ScriptRow) (rows : List ScriptRow) → 1 ≤ row.lane → row.lane ≤ n → lines_up_to n (row ∷ rows) ≡ suc (lines_up_to n rows)
 of_one zero row rows first last = absurd (omega (arith, first, last))
 of_one (suc n) row rows first last = by (row.lane == suc n) refl (of_one n row rows first)
   where
@@ -118,9 +119,9 @@ none : (n : ℕ) → lines_up_to n [] ≡ 0
 none zero = refl
 none (suc n) = let before = none n in omega (arith, before)
 
-of_rows : (lanes : ℕ) (rows : List Row) → AllByRecursion (IsRowFor lanes) rows → lines_up_to lanes rows ≡ length rows
+of_rows : (lanes : ℕ) (rows : List ScriptRow) → AllByRecursion (IsRowFor lanes) rows → lines_up_to lanes rows ≡ length rows
 of_rows lanes [] right = none lanes
 of_rows lanes (row ∷ rows) right = of_one lanes row rows right.0.first right.0.last ∙ ap suc (of_rows lanes rows right.1)
 
-pub all_counted : (lanes : ℕ) (rows : List Row) → AllByRecursion (IsRowFor lanes) rows → length (lines_in (lanes_up_to lanes rows)) ≡ length rows
+pub all_counted : (lanes : ℕ) (rows : List ScriptRow) → AllByRecursion (IsRowFor lanes) rows → length (lines_in (dealt_lanes lanes rows)) ≡ length rows
 all_counted lanes rows right = of_lanes lanes rows ∙ of_rows lanes rows right

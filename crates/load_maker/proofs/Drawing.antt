@@ -6,8 +6,8 @@ use Rattle.policy_types.specs.declared.command.Plan.{Plan}
 use Rattle.policy_types.specs.declared.command.Plan.TheVariants.{Term, Whole, Endowment, Limited}
 use Rattle.policy_types.specs.Valid.{AreYears, IsIssue, IsValid}
 use Rattle.load_maker.specs.declared.generator.Drawn.{Drawn}
-use Rattle.load_maker.specs.Generator.{drawn_below, number_after, plan_drawn, policy_drawn, policy_of_draws, renewed, years_drawn}
-use Rattle.load_maker.specs.GeneratedRows.{Row, generated_rows, rows_of}
+use Rattle.load_maker.specs.Generator.{drawn_below, state_after, plan_drawn, policy_drawn, policy_of_draws, renewed, years_drawn}
+use Rattle.load_maker.specs.GeneratedRows.{ScriptRow, generated_rows, policy_rows}
 
 years_right : (plan : Plan) (age draw : ℕ) → age < 80 → draw < 20 → AreYears plan age (years_drawn plan draw)
 years_right Term age draw young few = (omega arith, omega arith)
@@ -47,7 +47,7 @@ right_policy id x first last =
     (below 60 second (omega arith)) (below 20 third (omega arith)) (below 1000 fourth (omega arith)) (below 3650 fifth (omega arith))
 
 -- a row of one of so many lanes, with a valid command
-pub record IsRowFor (lanes : ℕ) (row : Row) : Type 0 where
+pub record IsRowFor (lanes : ℕ) (row : ScriptRow) : Type 0 where
   pub first : 1 ≤ row.lane
   pub last : row.lane ≤ lanes
   pub valid : IsValid row.command
@@ -56,7 +56,7 @@ pub all_and : {A : Type 0} (P : A → Type 0) (xs ys : List A) → AllByRecursio
 all_and P [] ys all also = also
 all_and P (x ∷ xs) ys all also = (all.0, all_and P xs ys all.1 also)
 
-right_rows : (lanes lane id : ℕ) (p : Drawn) → 1 ≤ lane → lane ≤ lanes → IsRight id p → AllByRecursion (IsRowFor lanes) (rows_of lane id p)
+right_rows : (lanes lane id : ℕ) (p : Drawn) → 1 ≤ lane → lane ≤ lanes → IsRight id p → AllByRecursion (IsRowFor lanes) (policy_rows lane id p)
 right_rows lanes lane id p first last right = (
   record { first = first; last = last; valid = right },
   (record { first = first; last = last; valid = (right.id_in, right.day_in, right.premium_in) }, tt),
@@ -66,10 +66,10 @@ pub rows_right : (seed lanes n : ℕ) → 1 ≤ lanes → n ≤ 100000 → AllBy
 unfolding generated_rows
 rows_right seed lanes zero some few = tt
 rows_right seed lanes (suc n) some few =
-    all_and (IsRowFor lanes) (generated_rows seed lanes n) (rows_of (1 + n % lanes) (suc n) (policy_drawn (number_after seed n)))
+    all_and (IsRowFor lanes) (generated_rows seed lanes n) (policy_rows (1 + n % lanes) (suc n) (policy_drawn (state_after seed n)))
     (rows_right seed lanes n some (omega arith))
-    (right_rows lanes (1 + n % lanes) (suc n) (policy_drawn (number_after seed n)) (omega arith) (omega arith)
-    (right_policy (suc n) (number_after seed n) (omega arith) few))
+    (right_rows lanes (1 + n % lanes) (suc n) (policy_drawn (state_after seed n)) (omega arith) (omega arith)
+    (right_policy (suc n) (state_after seed n) (omega arith) few))
 
 -- two for each policy
 pub rows_counted : (seed lanes n : ℕ) → length (generated_rows seed lanes n) ≡ 2 * n
@@ -77,5 +77,5 @@ unfolding generated_rows
 rows_counted seed lanes zero = refl
 rows_counted seed lanes (suc n) =
     let before = rows_counted seed lanes n in
-    let both = length-append (generated_rows seed lanes n) (rows_of (1 + n % lanes) (suc n) (policy_drawn (number_after seed n))) in
+    let both = length-append (generated_rows seed lanes n) (policy_rows (1 + n % lanes) (suc n) (policy_drawn (state_after seed n))) in
     omega (arith, before, both)

@@ -48,6 +48,6 @@ unfoldable pub renewed_by_policy : ℕ → ℕ
 renewed_by_policy x = renewed (renewed (renewed (renewed (renewed x))))
 
 -- the number after so many policies; at first it is the seed
-unfoldable pub number_after : (seed policies : ℕ) → ℕ
-number_after seed zero = seed
-number_after seed (suc n) = renewed_by_policy (number_after seed n)
+unfoldable pub state_after : (seed policies : ℕ) → ℕ
+state_after seed zero = seed
+state_after seed (suc n) = renewed_by_policy (state_after seed n)

@@ -1,8 +1,8 @@
 // The lanes of the policies that are drawn.
 ghost use Rattle.std.specs.Prelude.{◌≡◌, ◌++◌, ◌∷◌, [], ◌<◌, ◌≤◌, ◌^◌, IfOk, OnOk};
 ghost use Rattle.policy_types.specs.declared.script.Line.TheVariants.{Post};
-ghost use Rattle.load_maker.specs.GeneratedRows.{generated_rows, issue_of, premium_of};
-ghost use Rattle.load_maker.specs.GeneratedLanes.{AreDealt, generated_lanes, lines_of};
+ghost use Rattle.load_maker.specs.GeneratedRows.{generated_rows, drawn_issue, drawn_premium};
+ghost use Rattle.load_maker.specs.GeneratedLanes.{AreDealt, generated_lanes, dealt_lines};
 
 use crate::generator::{Drawn, Generator};
 use policy_types::{Command, Lane, Line, Lines, NoMemory, Script};
@@ -31,7 +31,7 @@ pub fn make_lanes(alloc: Global, seed: u32, count: u32, lanes: u8) -> Result<Scr
 }
 
 // The lines of one lane. All policies are drawn, since each is drawn from what the one before left.
-#[tactic(auto, unfolding(crate::specs::Generator::number_after))]
+#[tactic(auto, unfolding(crate::specs::Generator::state_after))]
 fn make_lines(
     alloc: Global,
     seed: u32,
@@ -42,7 +42,7 @@ fn make_lines(
     requires seed { seed < 2 ^ 31 }
     requires count { (1 ≤ count) × (count ≤ 100000) }
     requires lanes { (1 ≤ lanes) × (lanes ≤ 8) }
-    ensures { IfOk result (λ lines. lines.items ≡ lines_of lane (generated_rows seed lanes count)) }
+    ensures { IfOk result (λ lines. lines.items ≡ dealt_lines lane (generated_rows seed lanes count)) }
 {
     let mut generator = Generator::new(seed);
     let mut lines = Vec::new(alloc);
@@ -59,7 +59,7 @@ fn make_lines(
 // Adds the line that issues a policy, and the line of its first premium.
 fn add_lines(lines: &mut Vec<Line>, id: u32, policy: &Drawn) -> Result<(), NoMemory>
     ensures { let p = policy.now in OnOk result (lines.new.items
-        ≡ lines.old.items ++ (Post (issue_of id p) ∷ Post (premium_of id p) ∷ [])) }
+        ≡ lines.old.items ++ (Post (drawn_issue id p) ∷ Post (drawn_premium id p) ∷ [])) }
 {
     let Drawn {
         plan,

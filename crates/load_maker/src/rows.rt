@@ -2,59 +2,51 @@
 ghost use Rattle.std.specs.Prelude.{◌≡◌, ◌++◌, ◌∷◌, [], ◌≤◌, pos, ◌≤ℤ◌, OnOk, decimal};
 ghost use Rattle.std.specs.List.{flat_map};
 ghost use Rattle.life_dates.specs.DayText.{day_text};
-ghost use Rattle.statements.specs.Lines.{behind_commas};
-ghost use Rattle.statements.specs.Statements.{insurance_fields};
-ghost use Rattle.load_maker.specs.GeneratedRows.{issue_of, premium_of, rows_of};
-ghost use Rattle.load_maker.specs.GeneratedScript.{row_text};
+ghost use Rattle.text_lines.specs.Lines.{behind_commas};
+ghost use Rattle.load_maker.specs.GeneratedRows.{drawn_issue, drawn_premium, policy_rows};
+ghost use Rattle.load_maker.specs.GeneratedScript.{script_row_text};
 
 use crate::generator::Drawn;
 use itoa::Buffer;
 use policy_types::NoMemory;
-use statements::{LineWriter, plan_word};
+use text_lines::LineWriter;
 
 // Adds the row that issues a policy, and the row of its first premium.
 pub fn write_rows(lines: &mut LineWriter, lane: u8, id: u32, policy: &Drawn) -> Result<(), NoMemory>
     requires amount { policy.now.amount ≤ 100000000 }
     requires premium { policy.now.premium ≤ 2000000 }
     requires issued { (pos 10957 ≤ℤ policy.now.issued) × (policy.now.issued ≤ℤ pos 14606) }
-    ensures { OnOk result (lines.new ≡ lines.old ++ flat_map row_text (rows_of lane id policy.now)) }
+    ensures { OnOk result (lines.new ≡ lines.old ++ flat_map script_row_text (policy_rows lane id policy.now)) }
 {
     write_issue(lines, lane, id, policy)?;
     write_premium(lines, lane, id, policy)
 }
 
 // Adds the row that issues a policy.
-#[tactic(auto, unfolding(crate::specs::GeneratedScript::row_text))]
+#[tactic(auto, unfolding(crate::specs::GeneratedScript::script_row_text))]
 fn write_issue(lines: &mut LineWriter, lane: u8, id: u32, policy: &Drawn) -> Result<(), NoMemory>
     requires amount { policy.now.amount ≤ 100000000 }
     requires premium { policy.now.premium ≤ 2000000 }
     requires issued { (pos 10957 ≤ℤ policy.now.issued) × (policy.now.issued ≤ℤ pos 14606) }
-    ensures { OnOk result (lines.new ≡ lines.old ++ row_text (record { lane = lane; command = issue_of id policy.now })) }
+    ensures { OnOk result (lines.new ≡ lines.old ++ script_row_text (record { lane = lane; command = drawn_issue id policy.now })) }
 {
     write_start(lines, lane, "issue", id, policy.issued)?;
-    write_insurance(lines, policy)?;
+    lines.insurance(
+        policy.plan,
+        policy.age,
+        policy.years,
+        policy.amount,
+        policy.premium,
+    )?;
     lines.end()
 }
 
-// Adds the terms of a policy's insurance.
-fn write_insurance(lines: &mut LineWriter, policy: &Drawn) -> Result<(), NoMemory>
-    requires { (policy.now.amount ≤ 100000000) × (policy.now.premium ≤ 2000000) }
-    ensures { let p = policy.now in OnOk result (lines.new
-        ≡ lines.old ++ behind_commas (insurance_fields p.plan p.age p.years p.amount p.premium)) }
-{
-    lines.word(plan_word(policy.plan))?;
-    lines.number(policy.age as u32)?;
-    lines.number(policy.years as u32)?;
-    lines.cents(policy.amount as i64)?;
-    lines.cents(policy.premium as i64)
-}
-
 // Adds the row of a policy's first premium.
-#[tactic(auto, unfolding(crate::specs::GeneratedScript::row_text))]
+#[tactic(auto, unfolding(crate::specs::GeneratedScript::script_row_text))]
 fn write_premium(lines: &mut LineWriter, lane: u8, id: u32, policy: &Drawn) -> Result<(), NoMemory>
     requires premium { policy.now.premium ≤ 2000000 }
     requires issued { (pos 10957 ≤ℤ policy.now.issued) × (policy.now.issued ≤ℤ pos 14606) }
-    ensures { OnOk result (lines.new ≡ lines.old ++ row_text (record { lane = lane; command = premium_of id policy.now })) }
+    ensures { OnOk result (lines.new ≡ lines.old ++ script_row_text (record { lane = lane; command = drawn_premium id policy.now })) }
 {
     write_start(lines, lane, "premium", id, policy.issued)?;
     lines.cents(policy.premium as i64)?;

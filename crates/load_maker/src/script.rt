@@ -5,12 +5,12 @@ ghost use Rattle.load_maker.specs.GeneratedScript.{generated_text};
 use crate::generator::Generator;
 use crate::rows::write_rows;
 use policy_types::NoMemory;
-use statements::LineWriter;
 use std::alloc::Global;
+use text_lines::LineWriter;
 
 /// The script of `count` policies drawn from the seed, numbered from 1 and dealt out to the lanes in turn: for each
 /// the row that issues it and the row of its first premium.
-#[tactic(auto, unfolding(crate::specs::Generator::number_after, crate::specs::GeneratedRows::generated_rows, crate::specs::GeneratedScript::generated_text))]
+#[tactic(auto, unfolding(crate::specs::Generator::state_after, crate::specs::GeneratedRows::generated_rows, crate::specs::GeneratedScript::generated_text))]
 pub fn make_script(alloc: Global, seed: u32, count: u32, lanes: u8) -> Result<Vec<u8>, NoMemory>
     requires seed { seed < 2 ^ 31 }
     requires count { (1 ≤ count) × (count ≤ 100000) }

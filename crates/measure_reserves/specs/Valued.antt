@@ -23,14 +23,14 @@ IsWorth policy table (Some bounds) =
 IsWorth policy table None = IsErr (shape_of policy.plan policy.age policy.years table)
 
 -- a sum that stands still at its type's end
-abbrev pub plus : ℕ → ℕ → ℕ
-plus sum more = min (sum + more) (2 ^ 64 - 1)
+abbrev pub plus_at_most : ℕ → ℕ → ℕ
+plus_at_most sum more = min (sum + more) (2 ^ 64 - 1)
 
 -- the totals have one policy more: its bounds are added, or it is counted as one without a value
 abbrev pub Adds : Totals → Totals → Option (ℕ × ℕ) → Type 0
 Adds old new (Some bounds) =
-    (new.policies ≡ plus old.policies 1) × (new.unvalued ≡ old.unvalued)
-    × (new.lower ≡ plus old.lower bounds.0) × (new.upper ≡ plus old.upper bounds.1)
+    (new.policies ≡ plus_at_most old.policies 1) × (new.unvalued ≡ old.unvalued)
+    × (new.lower ≡ plus_at_most old.lower bounds.0) × (new.upper ≡ plus_at_most old.upper bounds.1)
 Adds old new None =
-    (new.policies ≡ plus old.policies 1) × (new.unvalued ≡ plus old.unvalued 1)
+    (new.policies ≡ plus_at_most old.policies 1) × (new.unvalued ≡ plus_at_most old.unvalued 1)
     × (new.lower ≡ old.lower) × (new.upper ≡ old.upper)

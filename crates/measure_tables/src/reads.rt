@@ -2,7 +2,7 @@ ghost use Rattle.std.specs.Prelude.{◌≡◌, ◌≤◌, ◌<◌, ◌+◌, ℕ,
 ghost use Rattle.basis_book.specs.declared.row.BasisRow.{BasisRow};
 ghost use Rattle.basis_book.specs.File.{IsBasisFile, IsFileFault};
 ghost use Rattle.rate_table.specs.Rates.{Rates, last_age_of};
-ghost use Rattle.xtbml_subset.specs.Answers.{IsDue, Spells, Unless};
+ghost use Rattle.xtbml_subset.specs.Answers.{IsTableAnswer, SpellsTable, Unless};
 
 use basis_book::{BasisFault, LONGEST_FILE, read_basis};
 use std::alloc::Global;
@@ -84,8 +84,8 @@ impl Reading for TableFile<'_> {
     ghost readings = { λ file. file.count };
 
     ghost is_read = { λ file. MatchOption file.last ⊥ (λ read.
-        IfOk read (λ ages. (table : Rates) × Spells file.bytes.now table × (ages.0 ≡ table.first_age) × (ages.1 ≡ last_age_of table))
-        × IfErr read (λ fault. Unless fault (IsDue file.bytes.now (Err fault)))) };
+        IfOk read (λ ages. (table : Rates) × SpellsTable file.bytes.now table × (ages.0 ≡ table.first_age) × (ages.1 ≡ last_age_of table))
+        × IfErr read (λ fault. Unless fault (IsTableAnswer file.bytes.now (Err fault)))) };
 
     fn read(&mut self) {
         self.count += 1;
@@ -95,8 +95,8 @@ impl Reading for TableFile<'_> {
 
 fn ages(alloc: Global, bytes: &[u8]) -> Result<(u8, u8), TableFault>
     requires { length bytes.now ≤ LONGEST_FILE }
-    ensures ages { IfOk result (λ ages. (table : Rates) × Spells bytes.now table × (ages.0 ≡ table.first_age) × (ages.1 ≡ last_age_of table)) }
-    ensures faults { IfErr result (λ fault. Unless fault (IsDue bytes.now (Err fault))) }
+    ensures ages { IfOk result (λ ages. (table : Rates) × SpellsTable bytes.now table × (ages.0 ≡ table.first_age) × (ages.1 ≡ last_age_of table)) }
+    ensures faults { IfErr result (λ fault. Unless fault (IsTableAnswer bytes.now (Err fault))) }
 {
     match read_table(alloc, bytes) {
         Ok(table) => Ok((table.first_age(), table.last_age())),

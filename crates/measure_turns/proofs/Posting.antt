@@ -8,13 +8,13 @@ use Rattle.watcher_set.specs.declared.watching.Watching.{Ghosts as WatcherGhosts
 use Rattle.office_state.specs.Images.{IsLeftBy}
 use Rattle.turn_lock.specs.Passes.{Holding, PassFacts}
 use Rattle.shared_office.specs.Offices.{OfficeOpening, IsOfficeHistory}
-use Rattle.shared_office.specs.Starting.{HasStarted, HasClosed}
+use Rattle.shared_office.specs.Starting.{HasStartedOffice, HasClosed}
 use Rattle.measure_turns.proofs.Taking.{turns_in_all, counted_in_all}
 use Rattle.measure_turns.specs.Posted.{HasPosted, accepts}
 use Rattle.measure_turns.specs.Turns.{AllTake}
 
 module _ {D W : Type 0} (g : Ghosts D) (w : WatcherGhosts W) (old new : D) (watchers : W) (turns accepted : ℕ) (balances : Booking) (reports : List Report) (first last : Holding (OfficeOpening D W))
-    (started : HasStarted g old watchers first) (take : AllTake accepts turns accepted first last) (closed : HasClosed g w last new balances reports) (facts : PassFacts IsOfficeHistory last) where
+    (started : HasStartedOffice g old watchers first) (take : AllTake accepts turns accepted first last) (closed : HasClosed g w last new balances reports) (facts : PassFacts IsOfficeHistory last) where
   abbrev began : OfficeOpening D W
   began = record { opening = started.opening; begun = old; watchers = watchers }
 

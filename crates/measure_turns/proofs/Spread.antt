@@ -6,7 +6,7 @@ use Rattle.std.proofs.lemmas.List.Sums.{sum_by-cons}
 use Rattle.policy_types.specs.declared.entry.Entry.{Entry}
 use Rattle.turn_lock.specs.History.{entries_of}
 use Rattle.turn_lock.specs.Passes.{Holding, Page, PassFacts, OwnsAll, pages}
-use Rattle.measure_turns.specs.Turns.{turns_of, counted_of}
+use Rattle.measure_turns.specs.Turns.{turns_known, counted_of}
 
 abbrev numbers : List Page → List ℕ
 numbers ps = map (λ page. page.0) ps
@@ -95,7 +95,7 @@ module _ (F : List Entry → ℕ) (w : Entry → ℕ) (none : F [] ≡ 0) (more 
       all ∙ same
 
 -- the turns of a whole history are those of the pass that has seen it
-pub all_turns : {O : Type 0} (legal : O → List Entry → Type 0) (pass : Holding O) → PassFacts legal pass → OwnsAll pass → length pass.seen ≡ turns_of pass
+pub all_turns : {O : Type 0} (legal : O → List Entry → Type 0) (pass : Holding O) → PassFacts legal pass → OwnsAll pass → length pass.seen ≡ turns_known pass
 all_turns = whole length (λ e. 1) refl (λ e es. omega arith)
 
 pub all_counted : {O : Type 0} (counts : Entry → Bool) (legal : O → List Entry → Type 0) (pass : Holding O) → PassFacts legal pass → OwnsAll pass → count_by counts pass.seen ≡ counted_of counts pass

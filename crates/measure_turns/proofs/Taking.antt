@@ -2,9 +2,9 @@
 use Rattle.std.proofs.Common.{◌≡◌, ℕ, ◌+◌, ◌-◌, ◌*◌, ◌/◌, ◌≤◌, Bool, true, false, cond, List, [], ◌∷◌, ◌++◌, length, sum_by, count_by, refl, ap, ◌∙◌, arith, length-append, add-mul}
 use Rattle.std.proofs.lemmas.List.Sums.{sum_by-cons, sum_by-append, sum_by_push}
 use Rattle.policy_types.specs.declared.entry.Entry.{Entry}
-use Rattle.turn_lock.specs.Passes.{Holding, Page, PassFacts, TakesTurn, Enters, Leaves, IsFirst, OwnsAll, pages}
+use Rattle.turn_lock.specs.Passes.{Holding, Page, PassFacts, TakesTurn, Enters, LeavesLock, IsFirst, OwnsAll, pages}
 use Rattle.measure_turns.proofs.Spread.{all_turns, all_counted}
-use Rattle.measure_turns.specs.Turns.{Takes, AllTake, HasRoom, turns_of, counted_of}
+use Rattle.measure_turns.specs.Turns.{Takes, AllTake, HasTurnsLeft, turns_known, counted_of}
 
 more_few : (b : Bool) (count turns : ℕ) → count ≤ turns → count + cond b 1 0 ≤ turns + 1
 more_few true count turns few = omega arith
@@ -17,8 +17,8 @@ halves callers turns =
     ap (λ n. n * turns) split ∙ add-mul (callers / 2) (callers - callers / 2) turns
 
 -- each half of a pass has room for its half of the callers
-module _ {O : Type 0} (turns callers : ℕ) (old kept given : Holding O) (two : 2 ≤ callers) (enters : Enters old kept given) (room : HasRoom turns callers old) where
-  pub room_kept : HasRoom turns (callers / 2) kept
+module _ {O : Type 0} (turns callers : ℕ) (old kept given : Holding O) (two : 2 ≤ callers) (enters : Enters old kept given) (room : HasTurnsLeft turns callers old) where
+  pub room_kept : HasTurnsLeft turns (callers / 2) kept
   room_kept =
       let left : kept.left ≡ old.left - 1 - (old.left - 1) / 2 = ap (λ (p : Holding O). p.left) enters.kept_is in
       let shares : kept.shares ≡ old.shares - old.shares / 2 = ap (λ (p : Holding O). p.shares) enters.kept_is in
@@ -27,7 +27,7 @@ module _ {O : Type 0} (turns callers : ℕ) (old kept given : Holding O) (two : 
       let shared = room.shared in
       record { few = few; own = omega arith; halved = omega arith; shared = omega arith }
 
-  pub room_given : HasRoom turns (callers - callers / 2) given
+  pub room_given : HasTurnsLeft turns (callers - callers / 2) given
   room_given =
       let left : given.left ≡ (old.left - 1) / 2 = ap (λ (p : Holding O). p.left) enters.given_is in
       let shares : given.shares ≡ old.shares / 2 = ap (λ (p : Holding O). p.shares) enters.given_is in
@@ -87,20 +87,20 @@ module _ {O : Type 0} (counts : Entry → Bool) where
       }
 
   -- what is added up over the pages of two passes is that over the pages of the one into which the other was taken
-  added : (f : Page → ℕ) (gone one new : Holding O) → Leaves gone one new → sum_by f (pages new) ≡ sum_by f (pages one) + sum_by f (pages gone)
+  added : (f : Page → ℕ) (gone one new : Holding O) → LeavesLock gone one new → sum_by f (pages new) ≡ sum_by f (pages one) + sum_by f (pages gone)
   added f gone one new leaves = ap (λ (p : Holding O). sum_by f (pages p)) leaves.new_is ∙ sum_by-append f (pages one) (pages gone)
 
   -- two callers, of which one entered by the other's pass and left into it
   pub together : (turns a b x y : ℕ) (old kept given one gone new : Holding O) → turns ≡ a + b → Enters old kept given
-      → AllTake counts a x kept one → AllTake counts b y given gone → Leaves gone one new → AllTake counts turns (x + y) old new
+      → AllTake counts a x kept one → AllTake counts b y given gone → LeavesLock gone one new → AllTake counts turns (x + y) old new
   together turns a b x y old kept given one gone new sum enters first second leaves =
       let keeps = enters.kept_is in
       let gives = enters.given_is in
       let kept_shares : kept.shares ≡ old.shares - old.shares / 2 = ap (λ (p : Holding O). p.shares) keeps in
       let given_shares : given.shares ≡ old.shares / 2 = ap (λ (p : Holding O). p.shares) gives in
       let new_shares : new.shares ≡ one.shares + gone.shares = ap (λ (p : Holding O). p.shares) leaves.new_is in
-      let kept_turns : turns_of kept ≡ turns_of old = ap (λ (p : Holding O). turns_of p) keeps in
-      let given_turns : turns_of given ≡ 0 = ap (λ (p : Holding O). turns_of p) gives in
+      let kept_turns : turns_known kept ≡ turns_known old = ap (λ (p : Holding O). turns_known p) keeps in
+      let given_turns : turns_known given ≡ 0 = ap (λ (p : Holding O). turns_known p) gives in
       let kept_counted : counted_of counts kept ≡ counted_of counts old = ap (λ (p : Holding O). counted_of counts p) keeps in
       let given_counted : counted_of counts given ≡ 0 = ap (λ (p : Holding O). counted_of counts p) gives in
       let one_shares = first.shares in
@@ -122,7 +122,7 @@ module _ {O : Type 0} (legal : O → List Entry → Type 0) (counts : Entry → 
     (is_first : IsFirst opening first) (take : AllTake counts turns count first last) (facts : PassFacts legal last) (owns : OwnsAll last) where
   pub turns_in_all : length last.seen ≡ turns
   turns_in_all =
-      let none : turns_of first ≡ 0 =
+      let none : turns_known first ≡ 0 =
       ap (λ ended. sum_by (λ (p : Page). length p.1) ((first.caller, first.made) ∷ ended)) is_first.ended
       ∙ ap (λ made. sum_by (λ (p : Page). length p.1) ((first.caller, made) ∷ [])) is_first.made in
       let made = take.made in

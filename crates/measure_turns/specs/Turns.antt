@@ -4,8 +4,8 @@ use Rattle.policy_types.specs.declared.entry.Entry.{Entry}
 use Rattle.turn_lock.specs.Passes.{Holding, pages}
 
 -- the turns that a pass knows of as its caller's or as those of the callers whose passes were taken back into it
-abbrev pub turns_of : {Opening : Type 0} → Holding Opening → ℕ
-turns_of pass = sum_by (λ page. length page.1) (pages pass)
+abbrev pub turns_known : {Opening : Type 0} → Holding Opening → ℕ
+turns_known pass = sum_by (λ page. length page.1) (pages pass)
 
 -- and those of them whose entries are counted
 abbrev pub counted_of : {Opening : Type 0} → (Entry → Bool) → Holding Opening → ℕ
@@ -28,11 +28,11 @@ module _ {Opening : Type 0} where
     pub turnstile : new.turnstile ≡ old.turnstile
     pub opening : new.opening ≡ old.opening
     pub shares : new.shares ≡ old.shares
-    pub made : turns_of new ≡ turns_of old + turns
+    pub made : turns_known new ≡ turns_known old + turns
     pub counted : counted_of counts new ≡ counted_of counts old + count
 
   -- a pass has what so many callers need who take so many turns each, and who get theirs by halving it again and again
-  pub record HasRoom (turns callers : ℕ) (pass : Holding Opening) : Type 0 where
+  pub record HasTurnsLeft (turns callers : ℕ) (pass : Holding Opening) : Type 0 where
     pub few : turns < 2 ^ 32
     pub own : turns ≤ pass.left
     pub halved : callers * 2 ^ 34 ≤ pass.left + 2 + 2 ^ 34

@@ -1,6 +1,6 @@
 ghost use Rattle.std.specs.Prelude.{◌≡◌, ◌≤◌, ◌<◌, ◌^◌, ◌*◌, ◌+◌, ℕ, Bool};
 ghost use Rattle.policy_types.specs.declared.entry.Entry.{Entry};
-ghost use Rattle.measure_turns.specs.Turns.{AllTake, HasRoom, Takes};
+ghost use Rattle.measure_turns.specs.Turns.{AllTake, HasTurnsLeft, Takes};
 ghost use denote.Param.Send.{IsSync};
 
 use std::sync::Wait;
@@ -39,7 +39,7 @@ pub fn lanes<T: Stands + Send, R: Threads + Wait + Sync, L: Lane<T, R> + Sync>(
 ) -> (Pass<T>, u64)
     requires ours { pass.turnstile ≡ gate.now }
     requires callers { (1 ≤ callers) × (first + callers ≤ 32) }
-    requires room { HasRoom (L.turns lane.now) callers pass }
+    requires room { HasTurnsLeft (L.turns lane.now) callers pass }
     ensures take { AllTake L.counts (callers * L.turns lane.now) result.1 pass result.0 }
     ensures few { result.1 ≤ callers * 2 ^ 32 }
 {
@@ -56,7 +56,7 @@ pub fn lanes<T: Stands + Send, R: Threads + Wait + Sync, L: Lane<T, R> + Sync>(
             requires sync { IsSync R.row }
             requires ours { pass.turnstile ≡ gate.now }
             requires callers { (1 ≤ half) × (first + half ≤ 32) }
-            requires room { HasRoom (L.turns lane.now) half pass }
+            requires room { HasTurnsLeft (L.turns lane.now) half pass }
             ensures take { AllTake L.counts (half * L.turns lane.entry.now) result.1 pass result.0 }
             ensures few { result.1 ≤ half * 2 ^ 32 }
         { lanes(rt, gate, pass, lane, first, half) },
@@ -64,7 +64,7 @@ pub fn lanes<T: Stands + Send, R: Threads + Wait + Sync, L: Lane<T, R> + Sync>(
             requires sync { IsSync R.row }
             requires ours { other.turnstile ≡ gate.now }
             requires callers { (1 ≤ rest) × (first + half + rest ≤ 32) }
-            requires room { HasRoom (L.turns lane.now) rest other }
+            requires room { HasTurnsLeft (L.turns lane.now) rest other }
             ensures take { AllTake L.counts (rest * L.turns lane.entry.now) result.1 other result.0 }
             ensures few { result.1 ≤ rest * 2 ^ 32 }
         { lanes(rt, gate, other, lane, first + half, rest) },

@@ -1,8 +1,8 @@
 -- Which texts are the decimal digits of a number.
-use Rattle.std.proofs.Common.{◌/◌, ◌+◌, length-append, ◌≡◌, ℕ, ◌^◌, ◌<◌, ◌≤◌, List, length, get_or, sym, ap, ◌∙◌, inl, inr, subst, arith, eq-zero-or-pos}
+use Rattle.std.proofs.Common.{◌≡◌, ℕ, ◌^◌, ◌<◌, List, length, get_or, sym, ap, ◌∙◌, inl, inr, subst, arith, eq-zero-or-pos}
 use Rattle.std.specs.Fmt.{decimal}
 use Rattle.std.specs.Str.Parse.{AllDigits, digits_value}
-use Rattle.std.proofs.lemmas.Fmt.{decimal_step, decimal_is_IsNumeral, decimal_is_IsNumeral_wide, decimal_digit, first_decimal, decimal-digits_value}
+use Rattle.std.proofs.lemmas.Fmt.{decimal_is_IsNumeral, decimal_is_IsNumeral_wide, decimal_digit, first_decimal, decimal-digits_value}
 use Rattle.std.proofs.lemmas.Str.Parse.{IsNumeralModel, numerals_by_value, tells_digits}
 
 own : IsNumeralModel (AllDigits 10) (digits_value 10)
@@ -34,12 +34,6 @@ pub decimal_from_writes : (n : ℕ) (ds : List ℕ) → n < 2 ^ 64 → Writes n 
 decimal_from_writes n ds small w =
     let fits : digits_value 10 ds < 2 ^ 64 = omega (arith, w.value) in
     sym (decimal-digits_value own ds w.digits w.some w.short fits) ∙ ap decimal w.value
-
-pub length-decimal_digit : (n : ℕ) → n < 10 → length (decimal n) ≡ 1
-length-decimal_digit n small = ap length (decimal_digit n small)
-
-pub length-decimal_step : (n : ℕ) → 10 ≤ n → n < 2 ^ 64 → length (decimal n) ≡ length (decimal (n / 10)) + 1
-length-decimal_step n large small = ap length (decimal_step n large small) ∙ length-append _ _
 
 -- two numbers of at most 64 digits have different digits
 pub decimal_injective_wide : (m n : ℕ) → m < 10 ^ 64 → n < 10 ^ 64 → decimal m ≡ decimal n → m ≡ n

@@ -1,12 +1,10 @@
 //! Amounts of cents and whole numbers as text, and back. Nothing here takes memory.
 #![tactic(auto)]
 
-mod bytes;
 mod number;
 mod parse;
 mod print;
 
-pub use bytes::Text;
 pub use number::parse_number;
 pub use parse::parse_cents;
 pub use print::print_cents;

@@ -1,5 +1,7 @@
-ghost use Rattle.std.specs.Prelude.{◌≡◌, ◌+◌, ◌<◌, ◌≤◌, ◌++◌, length, take, drop, decimal};
+ghost use Rattle.std.specs.Prelude.{◌≡◌, ◌<◌, ◌≤◌, take, drop};
 ghost use Rattle.money_core.specs.CentsText.{hundredths_text, signed_cents_text};
+
+use itoa::write_digits;
 
 /// Writes an amount of cents into the first bytes of `buf`, as `0.00`, `127.22` or `-400.00`, and
 /// returns how many they are. The bytes behind them stay.
@@ -37,22 +39,4 @@ fn write_hundredths(n: u64, text: &mut [u8; 24])
 {
     let (tens, ones) = ((n / 10) as u8, (n % 10) as u8);
     text[21..].copy_from_slice(&[b'.', b'0' + tens, b'0' + ones]);
-}
-
-// Writes the digits so that they end before `end`, and returns where they start.
-fn write_digits(n: u64, text: &mut [u8], end: usize) -> usize
-    requires { (length (decimal n) ≤ end) × (end ≤ length text.old) }
-    ensures start { result + length (decimal n) ≡ end }
-    ensures written { drop result text.new ≡ decimal n ++ drop end text.old }
-{
-    let mut left = n;
-    let mut at = end;
-    while left >= 10 {
-        at -= 1;
-        text[at] = b'0' + (left % 10) as u8;
-        left /= 10;
-    }
-    at -= 1;
-    text[at] = b'0' + left as u8;
-    at
 }

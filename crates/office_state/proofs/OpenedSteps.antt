@@ -1,17 +1,19 @@
 -- The office of a journal that was started on a disk, and what is known where there is none
-use Rattle.std.proofs.Common.{◌≡◌, inl, inr, ℕ, ◌<◌, true, false, List, [], ◌++◌, length, ◌∙◌, ap, sym, subst, refl, append-nil, arith}
+use Rattle.std.proofs.Common.{◌≡◌, inl, inr, ℕ, ◌<◌, ◌≤◌, true, false, List, [], ◌++◌, length, ◌∙◌, ap, sym, subst, refl, append-nil, arith}
 use Rattle.outside_io.specs.declared.disks.Disk.{Ghosts}
 use Rattle.outside_io.specs.Faults.{Rose}
 use Rattle.policy_machine.specs.Accounts.{ledger_of}
 use Rattle.policy_machine.specs.Book.{book}
 use Rattle.policy_machine.specs.History.{Opening, opened_on}
 use Rattle.posting_journal.specs.Creation.{OpensToBodies}
-use Rattle.posting_journal.specs.States.{StandsFor as JournalStands, is_clean}
+use Rattle.posting_journal.specs.Starting.{HasStarted}
+use Rattle.posting_journal.specs.States.{StandsFor as JournalStands, disk_of as disk_under, is_clean}
 use Rattle.posting_journal.specs.declared.journal.Journal.{Journal}
 use Rattle.watcher_set.specs.declared.watching.Watching.{Ghosts as WatcherGhosts}
 use Rattle.office_state.specs.declared.faults.StartCause.{StartCause}
 use Rattle.office_state.specs.declared.faults.StartCause.TheVariants.{DiskFault, NotAJournal, BadRecord, NoMemory}
 use Rattle.office_state.specs.declared.state.OfficeState.{OfficeState}
+use Rattle.office_state.specs.Images.{HoldsNow}
 use Rattle.office_state.specs.Journals.{bodies_of, Opens, IsShown}
 use Rattle.office_state.specs.Opening.{HasOpened, HasNotOpened, TellsFault}
 use Rattle.office_state.specs.Standing.{LeavesSince, StandsFor}
@@ -19,9 +21,10 @@ use Rattle.office_state.specs.States.{commands_of, disk_of}
 use Rattle.office_state.specs.inside.Holding.{JournalHolds}
 use Rattle.office_state.specs.inside.Replays.{HasStopped, IsStoppedAt, IsOfficeOf, HasNoOffice}
 use Rattle.office_state.proofs.ReplaySteps.{all_replayed, stopped_shown}
-use Rattle.office_state.proofs.OpeningSteps.{CountsNow, IsStarted, ReadsImage, opening_keeps, looked_on, holds_once, looked_alone, looked_ever, synced_images, opens_commands, started_later}
+use Rattle.office_state.proofs.OpeningSteps.{CountsNow, IsStarted, OnlyNow, ReadsImage, opening_keeps, looked_on, holds_once, looked_alone, looked_ever, synced_images, opens_commands, started_later}
 use Rattle.office_state.proofs.KeepingSteps.{values-book}
-use Rattle.office_state.proofs.TurnSteps.{holds_now}
+use Rattle.office_state.proofs.ImageSteps.{holds_now}
+use Rattle.office_state.proofs.KeptSteps.{keeps_first, kept_now}
 
 -- the bodies that stop a replay are those of a journal, since there are some
 unfollowed : (bytes : List ℕ) (n : ℕ) (bodies : List (List ℕ)) → OpensToBodies bytes bodies → IsStoppedAt n bodies
@@ -37,20 +40,20 @@ module _ {D : Type 0} (g : Ghosts D) (old : D) (journal : Journal D g) (started 
   faulted new (BadRecord n) stopped = stopped.0 ∙ started.quiet
   faulted new NoMemory stopped = stopped ∙ started.quiet
 
-  shown : (new : D) (cause : StartCause) → HasStopped journal new cause → g.honest old → IsShown (g.reads old) cause
-  shown new (DiskFault count) stopped honest = tt
-  shown new NotAJournal stopped honest = absurd stopped
-  shown new NoMemory stopped honest = tt
-  shown new (BadRecord n) stopped honest =
-      let opened = started.opened honest in
-      unfollowed (g.reads old) n opened.bodies opened.opened
-      (stopped.1 opened.bodies [] (started.honesty.0 honest) opened.stands)
+  shown : (new : D) (cause : StartCause) → (g.honest new → g.honest (disk_under journal)) → HasStopped journal new cause
+      → g.honest new → IsShown (g.reads old) cause
+  shown new (DiskFault count) honesty stopped honest = tt
+  shown new NotAJournal honesty stopped honest = absurd stopped
+  shown new NoMemory honesty stopped honest = tt
+  shown new (BadRecord n) honesty stopped honest =
+      let opened = started.opened (honesty honest) in
+      unfollowed (g.reads old) n opened.bodies opened.opened (stopped.1 opened.bodies [] honest opened.stands)
 
   -- a journal of which no office was made
   pub no_office : CountsNow g → ReadsImage g → (new : D) (cause : StartCause) → HasNoOffice journal new cause → HasNotOpened g old new cause
   no_office counts_now reads_image new cause none = record {
     told = faulted new cause none.why;
-    shown = shown new cause none.why;
+    shown = shown new cause none.looked.honesty none.why;
     alone = looked_alone g old journal started counts_now reads_image new none.looked;
   }
 
@@ -64,40 +67,39 @@ module _ {D : Type 0} (g : Ghosts D) (old : D) (journal : Journal D g) (started 
     opening = opened_on (commands_of state) (g.faults old)
 
     -- what the file opened to is what was replayed
-    same_bodies : (honest : g.honest old) → (started.opened honest).bodies ≡ bodies_of (commands_of state)
-    same_bodies honest =
-        let opened = started.opened honest in
-        all_replayed g journal state.journal state.books made.replayed opened.bodies [] (started.honesty.0 honest) opened.stands
+    started_so : g.honest (disk_of state) → HasStarted old journal
+    started_so honest = started.opened (made.stays.disk.honesty honest)
 
-    opens_replayed : g.honest old → Opens (g.reads old) (commands_of state)
+    same_bodies : (honest : g.honest (disk_of state)) → (started_so honest).bodies ≡ bodies_of (commands_of state)
+    same_bodies honest =
+        let opened = started_so honest in
+        all_replayed g journal state.journal state.books made.replayed opened.bodies [] honest opened.stands
+
+    opens_replayed : g.honest (disk_of state) → Opens (g.reads old) (commands_of state)
     opens_replayed honest =
         opens_commands (g.reads old) (commands_of state) state.books.kept.valid state.books.kept.accepted
-        (subst (OpensToBodies (g.reads old)) (same_bodies honest) (started.opened honest).opened)
+        (subst (OpensToBodies (g.reads old)) (same_bodies honest) (started_so honest).opened)
 
     clean : is_clean state.journal ≡ false → ⊥
     clean unclean =
         let was : is_clean journal ≡ true = started.clean in
         let same : is_clean state.journal ≡ is_clean journal = made.stays.clean in cc
 
-    holds : g.honest old → JournalHolds state.journal opening []
+    holds : g.honest (disk_of state) → JournalHolds state.journal opening []
     holds honest =
-        let opened = started.opened honest in
-        let stands : JournalStands state.journal opened.bodies [] =
-        made.stays.stands opened.bodies [] (started.honesty.0 honest) opened.stands in
+        let opened = started_so honest in
+        let stands : JournalStands state.journal opened.bodies [] = made.stays.stands opened.bodies [] honest opened.stands in
         record {
           last = [];
           stands = simp append-nil (subst (λ (bodies : List (List ℕ)). JournalStands state.journal bodies []) (same_bodies honest) stands);
           pending = λ (unclean : is_clean state.journal ≡ false). absurd (clean unclean);
         }
 
-    honesty : (g.honest old → g.honest (disk_of state)) × (g.honest (disk_of state) → g.honest old)
-    honesty = (
-      λ honest. made.stays.disk.honesty.0 (started.honesty.0 honest),
-      λ honest. started.honesty.1 (made.stays.disk.honesty.1 honest),
-    )
+    honesty : g.honest (disk_of state) → g.honest old
+    honesty honest = started.honesty (made.stays.disk.honesty honest)
 
-    module _ (counts_now : CountsNow g) (reads_image : ReadsImage g) where
-      leaves_since : g.honest old → LeavesSince g old (disk_of state) opening []
+    module _ (counts_now : CountsNow g) (reads_image : ReadsImage g) (only_now : OnlyNow g) where
+      leaves_since : g.honest (disk_of state) → LeavesSince g old (disk_of state) opening []
       leaves_since honest =
           let held = λ (image : List ℕ) (opening_image : _). holds_once image (commands_of state) (g.faults old)
           (opening_keeps (g.reads old) image (commands_of state) (opens_replayed honest) opening_image) in
@@ -114,6 +116,15 @@ module _ {D : Type 0} (g : Ghosts D) (old : D) (journal : Journal D g) (started 
                   λ (image : List ℕ) (left : g.left_since (disk_of state) (g.clock at.0) image). held image (at.2 image left),
                 );
           }
+
+      later : g.honest (disk_of state) → g.clock old ≤ g.clock (disk_of state)
+      later honest =
+          let looks = made.stays.disk.looks honest in
+          omega (arith, started_later g old journal started counts_now (made.stays.disk.honesty honest), looks.time.later)
+
+      now : g.honest (disk_of state) → (image : List ℕ) → g.may_leave (disk_of state) image → HoldsNow opening [] image
+      now honest = holds_now state.journal opening []
+          (simp append-nil state.books.kept.valid) (simp append-nil state.books.kept.accepted) (holds honest)
 
       known_stands : StandsFor known []
       known_stands =
@@ -132,19 +143,20 @@ module _ {D : Type 0} (g : Ghosts D) (old : D) (journal : Journal D g) (started 
             pins = made.pins;
             floor = made.floor;
             honesty = honesty;
-            images_now = λ (honest : g.honest old). holds_now state.journal opening []
-                (simp append-nil keeps.valid) (simp append-nil keeps.accepted) (holds honest);
+            opened = opens_replayed;
+            images_now = now;
             images_since = leaves_since;
+            images_kept = λ (honest : g.honest (disk_of state)).
+                keeps_first g old opening (disk_of state)
+                (kept_now g old opening (disk_of state) [] only_now honest (later honest) (now honest));
             fault_count = quiet;
             alone = λ still. looked_alone g old journal started counts_now reads_image (disk_of state) made.stays.disk;
             told = subst (λ these. w.told these []) (sym made.watched) fresh;
             inside = record {
-              later = λ (honest : g.honest old).
-                  let looks = made.stays.disk.looks (started.honesty.0 honest) in
-                  omega (arith, started_later g old journal started counts_now honest, looks.time.later);
+              later = later;
               opened = omega (arith, quiet);
               met = tt;
-              journal = λ (honest : g.honest (disk_of state)). holds (honesty.1 honest);
+              journal = holds;
             };
           }
 
@@ -155,7 +167,7 @@ module _ {D : Type 0} (g : Ghosts D) (old : D) (journal : Journal D g) (started 
         quiet = made.replayed.quiet ∙ started.quiet;
         opened = opens_replayed;
         honesty = honesty;
-        unwritten = λ (honest : g.honest old). looked_on g old journal started counts_now (disk_of state) honest made.stays.disk;
+        unwritten = λ (honest : g.honest (disk_of state)). looked_on g old journal started counts_now (disk_of state) honest made.stays.disk;
       }
 
       -- a journal of which an office was made

@@ -1,5 +1,5 @@
 -- What is known of the disk and its images once a journal was started, or couldn't be
-use Rattle.std.proofs.Common.{◌≡◌, ◌⊎◌, ◌↔◌, inl, inr, ⊎_elim, ℕ, ◌≤◌, List, [], ◌∷◌, refl, sym, subst, append-nil, arith, IsTrue}
+use Rattle.std.proofs.Common.{◌≡◌, ◌⊎◌, inl, inr, ⊎_elim, ℕ, ◌≤◌, List, [], ◌∷◌, refl, sym, subst, append-nil, arith, IsTrue}
 use Rattle.std.specs.List.{AllByRecursion}
 use Rattle.outside_io.specs.declared.disks.Disk.{Ghosts}
 use Rattle.policy_types.specs.declared.command.Command.{Command}
@@ -61,13 +61,18 @@ abbrev pub CountsNow : {D : Type 0} → Ghosts D → Type 0
 CountsNow {D = D} g = (disk : D) (moment : ℕ) (image : List ℕ) → g.honest disk → moment ≤ g.clock disk
     → g.may_leave disk image → g.left_since disk moment image
 
+-- since this moment there is no other
+abbrev pub OnlyNow : {D : Type 0} → Ghosts D → Type 0
+OnlyNow {D = D} g = (disk : D) (image : List ℕ) → g.honest disk → g.left_since disk (g.clock disk) image
+    → g.may_leave disk image
+
 -- a journal that was started on a disk
 pub record IsStarted {D : Type 0} {g : Ghosts D} (old : D) (journal : Journal D g) : Type 0 where
   pub quiet : g.faults (disk_of journal) ≡ g.faults old
   pub clean : IsTrue (is_clean journal)
-  pub honesty : (g.honest old → g.honest (disk_of journal)) × (g.honest (disk_of journal) → g.honest old)
-  pub opened : g.honest old → HasStarted old journal
-  pub opens : g.honest old → OpensOn g old (disk_of journal)
+  pub honesty : g.honest (disk_of journal) → g.honest old
+  pub opened : g.honest (disk_of journal) → HasStarted old journal
+  pub opens : g.honest (disk_of journal) → OpensOn g old (disk_of journal)
 
 -- what a disk's law says: what is read is an image
 abbrev pub ReadsImage : {D : Type 0} → Ghosts D → Type 0
@@ -101,18 +106,18 @@ module _ {D : Type 0} (g : Ghosts D) (old : D) where
 
   -- a disk on which no journal was started
   pub not_started : ReadsImage g → (new : D) (cause : JournalCause) → TellsCause (g.faults old) (g.faults new) cause
-      → (g.honest old) ↔ (g.honest new)
-      → (g.honest old → ShowsCause (g.reads old) cause) → (g.honest old → OpensOn g old new)
+      → (g.honest new → g.honest old)
+      → (g.honest new → ShowsCause (g.reads old) cause) → (g.honest new → OpensOn g old new)
       → HasNotOpened g old new (as_cause cause)
   not_started reads_image new cause told honesty shows opening = record {
     told = faulted new cause told;
-    shown = λ (honest : g.honest old). shown cause (shows honest);
+    shown = λ (honest : g.honest new). shown cause (shows honest);
     alone = record {
       honesty = honesty;
-      unwritten = λ (honest : g.honest old). (opening honest).unwritten;
-      since = λ (honest : g.honest old) (image : List ℕ) (left : g.left_since new (g.clock old) image).
-          opens_alike g reads_image old honest image ((opening honest).ever.each image left);
-      synced = λ (honest : g.honest old). elim (opening honest).synced [
+      unwritten = λ (honest : g.honest new). (opening honest).unwritten;
+      since = λ (honest : g.honest new) (image : List ℕ) (left : g.left_since new (g.clock old) image).
+          opens_alike g reads_image old (honesty honest) image ((opening honest).ever.each image left);
+      synced = λ (honest : g.honest new). elim (opening honest).synced [
         | inl looks ↦ inl looks
         | inr at ↦ inr (
           at.synced,
@@ -125,7 +130,7 @@ module _ {D : Type 0} (g : Ghosts D) (old : D) where
   }
 
 -- what might have been left since a moment, on a disk that was only looked at since
-looked_since : {D : Type 0} (g : Ghosts D) → CountsNow g → (mid new : D) → g.honest mid → LooksOn g mid new
+pub looked_since : {D : Type 0} (g : Ghosts D) → CountsNow g → (mid new : D) → g.honest mid → LooksOn g mid new
     → (moment : ℕ) → moment ≤ g.clock mid
     → (image : List ℕ) → g.left_since new moment image → g.left_since mid moment image
 looked_since g counts_now mid new honest looks moment passed image left =
@@ -136,6 +141,7 @@ looked_since g counts_now mid new honest looks moment passed image left =
 pub synced_before : {D : Type 0} (g : Ghosts D) (old synced mid new : D) → IsSynced g old synced mid → g.clock mid ≤ g.clock new
     → IsSynced g old synced new
 synced_before g old synced mid new at_sync later = record {
+  honest = at_sync.honest;
   reads = at_sync.reads;
   safe = at_sync.safe;
   later = at_sync.later;
@@ -144,29 +150,29 @@ synced_before g old synced mid new at_sync later = record {
 
 module _ {D : Type 0} (g : Ghosts D) (old : D) (journal : Journal D g) (started : IsStarted old journal)
     (counts_now : CountsNow g) where
-  pub started_later : g.honest old → g.clock old ≤ g.clock (disk_of journal)
+  pub started_later : g.honest (disk_of journal) → g.clock old ≤ g.clock (disk_of journal)
   started_later honest = let m = (started.opened honest).moments in omega (arith, m.at_sync.later, m.at_sync.passed)
 
   -- no file but an unfinished creation is written to
-  pub looked_on : (new : D) → g.honest old → IsLookedAt g (disk_of journal) new → ¬ IsUnfinished (g.reads old) → LooksOn g old new
+  pub looked_on : (new : D) → g.honest new → IsLookedAt g (disk_of journal) new → ¬ IsUnfinished (g.reads old) → LooksOn g old new
   looked_on new honest looked finished =
-      looks_on g old (disk_of journal) new ((started.opens honest).unwritten finished) (looked.looks (started.honesty.0 honest))
+      looks_on g old (disk_of journal) new ((started.opens (looked.honesty honest)).unwritten finished) (looked.looks honest)
 
   -- each image since the opening began
-  pub looked_ever : (new : D) → g.honest old → IsLookedAt g (disk_of journal) new
+  pub looked_ever : (new : D) → g.honest new → IsLookedAt g (disk_of journal) new
       → (image : List ℕ) → g.left_since new (g.clock old) image → g.may_leave old image ⊎ IsOpenedOn (g.reads old) image
   looked_ever new honest looked image left =
-      let here = started.honesty.0 honest in
-      (started.opens honest).ever.each image
-      (looked_since g counts_now (disk_of journal) new here (looked.looks here) (g.clock old) (started_later honest) image left)
+      let here = looked.honesty honest in
+      (started.opens here).ever.each image
+      (looked_since g counts_now (disk_of journal) new here (looked.looks honest) (g.clock old) (started_later here) image left)
 
   -- and each since the end of its first sync
-  pub synced_images : (new : D) → g.honest old → IsLookedAt g (disk_of journal) new → (mid : D) × IsSynced g old mid new
+  pub synced_images : (new : D) → g.honest new → IsLookedAt g (disk_of journal) new → (mid : D) × IsSynced g old mid new
       × ((image : List ℕ) → g.left_since new (g.clock mid) image → IsOpenedOn (g.reads old) image)
   synced_images new honest looked =
-      let here = started.honesty.0 honest in
-      let looks = looked.looks here in
-      let m = (started.opened honest).moments in (
+      let here = looked.honesty honest in
+      let looks = looked.looks honest in
+      let m = (started.opened here).moments in (
         m.synced,
         synced_before g old m.synced (disk_of journal) new m.at_sync looks.time.later,
         λ (image : List ℕ) (left : g.left_since new (g.clock m.synced) image). m.since image
@@ -175,14 +181,11 @@ module _ {D : Type 0} (g : Ghosts D) (old : D) (journal : Journal D g) (started 
 
   pub looked_alone : ReadsImage g → (new : D) → IsLookedAt g (disk_of journal) new → IsLeftAlone g old new
   looked_alone reads_image new looked = record {
-    honesty = (
-      λ honest. looked.honesty.0 (started.honesty.0 honest),
-      λ honest. started.honesty.1 (looked.honesty.1 honest),
-    );
-    unwritten = λ (honest : g.honest old). looked_on new honest looked;
-    since = λ (honest : g.honest old) (image : List ℕ) (left : g.left_since new (g.clock old) image).
-        opens_alike g reads_image old honest image (looked_ever new honest looked image left);
-    synced = λ (honest : g.honest old).
+    honesty = λ honest. started.honesty (looked.honesty honest);
+    unwritten = λ (honest : g.honest new). looked_on new honest looked;
+    since = λ (honest : g.honest new) (image : List ℕ) (left : g.left_since new (g.clock old) image).
+        opens_alike g reads_image old (started.honesty (looked.honesty honest)) image (looked_ever new honest looked image left);
+    synced = λ (honest : g.honest new).
         let at = synced_images new honest looked in
         inr (
           at.0,

@@ -15,38 +15,41 @@ use Rattle.office_state.specs.inside.Books.{commands_in}
 use Rattle.office_state.specs.inside.Replays.{StaysAs, BodiesHave, IsStuck, AreReplayed, IsStoppedAt, HasStopped}
 
 module _ {D : Type 0} (g : Ghosts D) (start : Journal D g) where
-  stopped_at : (mid : Journal D g) (books : Books) (n : ℕ)
+  stopped_at : (mid : Journal D g) (now : D) (books : Books) (n : ℕ)
       (replayed : AreReplayed start mid books n) → n < count_of start → StaysAs start mid
-      → BodiesHave mid (λ bodies. IsUnspelled (slice_index_or bodies n []) (commands_in books))
-      → BodiesHave start (IsStoppedAt n)
-  stopped_at mid books n replayed within stays unspelled bodies last honest stands = record {
+      → (g.honest now → g.honest (disk_of mid))
+      → BodiesHave mid now (λ bodies. IsUnspelled (slice_index_or bodies n []) (commands_in books))
+      → BodiesHave start now (IsStoppedAt n)
+  stopped_at mid now books n replayed within stays honesty unspelled bodies last honest stands = record {
     commands = (commands_in books);
     counted = replayed.each;
     within = omega (arith, within, stands.count);
-    front = replayed.front bodies last honest stands;
+    front = replayed.front bodies last (honesty honest) stands;
     valid = books.kept.valid;
     accepted = books.kept.accepted;
-    none = unspelled bodies last (stays.disk.honesty.0 honest) (stays.stands bodies last honest stands);
+    none = unspelled bodies last honest (stays.stands bodies last (honesty honest) stands);
   }
 
   -- the record behind those that were replayed isn't
   pub stopped : (mid new : Journal D g) (books : Books) (n : ℕ)
       (replayed : AreReplayed start mid books n)
-      → n < count_of start → StaysAs start mid → (cause : StartCause) → IsStuck mid new n (commands_in books) cause
+      → n < count_of start → StaysAs start mid → (g.honest (disk_of new) → g.honest (disk_of mid))
+      → (cause : StartCause) → IsStuck mid new n (commands_in books) cause
       → HasStopped start (disk_of new) cause
-  stopped mid new books n replayed within stays (DiskFault count) stuck =
+  stopped mid new books n replayed within stays honesty (DiskFault count) stuck =
       (stuck.0, subst (λ m. Rose m (g.faults (disk_of new))) replayed.quiet stuck.1)
-  stopped mid new books n replayed within stays (BadRecord m) stuck = (
+  stopped mid new books n replayed within stays honesty (BadRecord m) stuck = (
     stuck.1 ∙ replayed.quiet,
-    subst (λ k. BodiesHave start (IsStoppedAt k)) (sym stuck.0) (stopped_at mid books n replayed within stays stuck.2),
+    subst (λ k. BodiesHave start (disk_of new) (IsStoppedAt k)) (sym stuck.0)
+        (stopped_at mid (disk_of new) books n replayed within stays honesty stuck.2),
   )
-  stopped mid new books n replayed within stays NotAJournal stuck = absurd stuck
-  stopped mid new books n replayed within stays NoMemory stuck = absurd stuck
+  stopped mid new books n replayed within stays honesty NotAJournal stuck = absurd stuck
+  stopped mid new books n replayed within stays honesty NoMemory stuck = absurd stuck
 
   -- with every record replayed, the bodies are those of the commands
   pub all_replayed : (new : Journal D g) (books : Books)
       (replayed : AreReplayed start new books (count_of start))
-      → BodiesHave start (λ bodies. bodies ≡ bodies_of (commands_in books))
+      → BodiesHave start (disk_of new) (λ bodies. bodies ≡ bodies_of (commands_in books))
   all_replayed new books replayed bodies last honest stands =
       sym (take-length bodies) ∙ ap (λ n. take n bodies) (sym stands.count) ∙ replayed.front bodies last honest stands
 

@@ -1,5 +1,5 @@
 -- What opening an office does
-use Rattle.std.specs.Prelude.{◌≡◌, ◌↔◌, ℕ, []}
+use Rattle.std.specs.Prelude.{◌≡◌, ℕ, []}
 use Rattle.outside_io.specs.declared.disks.Disk.{Ghosts}
 use Rattle.outside_io.specs.Faults.{Rose}
 use Rattle.posting_journal.specs.Creation.{IsUnfinished}
@@ -13,15 +13,16 @@ use Rattle.office_state.specs.Images.{IsLeftAlone}
 use Rattle.office_state.specs.States.{begun_of, disk_of, opening_of}
 use Rattle.office_state.specs.Standing.{StandsFor}
 
--- The office is that of the commands to which the disk's file opened, and stands for no turns yet. The disk didn't
--- fail. No file but an unfinished creation was written to.
+-- The office stands for no turns yet, and the disk didn't fail. Where the disk is honest once the office is open, it was
+-- so before, the office is that of the commands to which its file opened, and no file but an unfinished creation was
+-- written to.
 pub record HasOpened {D W : Type 0} {g : Ghosts D} {w : WatcherGhosts W} (old : D) (state : OfficeState D W g w) : Type 0 where
   pub begun : begun_of state ≡ old
   pub stands : StandsFor state []
   pub quiet : g.faults (disk_of state) ≡ g.faults old
-  pub opened : g.honest old → Opens (g.reads old) (opening_of state).commands
-  pub honesty : (g.honest old) ↔ (g.honest (disk_of state))
-  pub unwritten : g.honest old → ¬ IsUnfinished (g.reads old) → LooksOn g old (disk_of state)
+  pub opened : g.honest (disk_of state) → Opens (g.reads old) (opening_of state).commands
+  pub honesty : g.honest (disk_of state) → g.honest old
+  pub unwritten : g.honest (disk_of state) → ¬ IsUnfinished (g.reads old) → LooksOn g old (disk_of state)
 
 -- a fault of the disk has its count, which rose; any other cause leaves the count
 abbrev pub TellsFault : ℕ → ℕ → StartCause → Type 0
@@ -31,5 +32,5 @@ TellsFault before now cause = now ≡ before
 -- No office was opened, since the disk failed, or for what the bytes show, or for want of memory.
 pub record HasNotOpened {D : Type 0} (g : Ghosts D) (old new : D) (cause : StartCause) : Type 0 where
   pub told : TellsFault (g.faults old) (g.faults new) cause
-  pub shown : g.honest old → IsShown (g.reads old) cause
+  pub shown : g.honest new → IsShown (g.reads old) cause
   pub alone : IsLeftAlone g old new

@@ -1,5 +1,5 @@
 -- The office stands for the history of its turns
-use Rattle.std.specs.Prelude.{◌≡◌, ◌⊎◌, ◌↔◌, ℕ, List, length}
+use Rattle.std.specs.Prelude.{◌≡◌, ◌⊎◌, ℕ, List, length}
 use Rattle.outside_io.specs.declared.disks.Disk.{Ghosts}
 use Rattle.policy_types.specs.declared.entry.Entry.{Entry}
 use Rattle.policy_machine.specs.Accounts.{ledger_of}
@@ -8,7 +8,8 @@ use Rattle.policy_machine.specs.History.{Opening, IsLegal, accepted_of, commands
 use Rattle.posting_journal.specs.Opening.{IsSynced}
 use Rattle.watcher_set.specs.declared.watching.Watching.{Ghosts as WatcherGhosts}
 use Rattle.office_state.specs.declared.state.OfficeState.{OfficeState}
-use Rattle.office_state.specs.Images.{AreQuiet, HoldsNow, HoldsOnce, HoldsSince, IsLeftAlone, faults_after}
+use Rattle.office_state.specs.Images.{AreQuiet, HoldsNow, HoldsOnce, HoldsSince, IsLeftAlone, KeepsAccepted, faults_after}
+use Rattle.office_state.specs.Journals.{Opens}
 use Rattle.office_state.specs.Pins.{pins_held}
 use Rattle.office_state.specs.States.{balances_of, begun_of, commands_of, count_of, disk_of, floor_kept, opening_of, pins_of, policies_of, turns_of}
 use Rattle.office_state.specs.inside.Holding.{Holds}
@@ -35,12 +36,17 @@ pub record StandsFor {D W : Type 0} {g : Ghosts D} {w : WatcherGhosts W} (state 
   pub turned : turns_of state ≡ length turns
   pub pins : pins_of state ≡ pins_held turns
   pub floor : floor_kept state ≡ floor_of turns
-  pub honesty : (g.honest (begun_of state)) ↔ (g.honest (disk_of state))
+  -- a disk that is honest now was so when it was handed in, and its file opened to the commands of the opening
+  pub honesty : g.honest (disk_of state) → g.honest (begun_of state)
+  pub opened : g.honest (disk_of state) → Opens (g.reads (begun_of state)) (opening_of state).commands
   -- what a crash now leaves
-  pub images_now : g.honest (begun_of state) → (image : List ℕ) → g.may_leave (disk_of state) image
+  pub images_now : g.honest (disk_of state) → (image : List ℕ) → g.may_leave (disk_of state) image
       → HoldsNow (opening_of state) turns image
   -- what a crash at some moment since the opening began might have left
-  pub images_since : g.honest (begun_of state) → LeavesSince g (begun_of state) (disk_of state) (opening_of state) turns
+  pub images_since : g.honest (disk_of state) → LeavesSince g (begun_of state) (disk_of state) (opening_of state) turns
+  -- what was accepted stays
+  pub images_kept : g.honest (disk_of state)
+      → KeepsAccepted g (begun_of state) (disk_of state) (opening_of state) turns
   pub fault_count : g.faults (disk_of state) ≡ faults_after (opening_of state) turns
   -- while no posting was accepted or met a fault, the disk is left as opening it left it
   pub alone : AreQuiet turns → IsLeftAlone g (begun_of state) (disk_of state)

@@ -1,5 +1,5 @@
 // An office is opened on a disk: its journal is opened, and each record is decided anew, in order.
-ghost use Rattle.std.specs.Prelude.{◌≡◌, ◌↔◌, [], IfOk, IfErr};
+ghost use Rattle.std.specs.Prelude.{◌≡◌, [], IfOk, IfErr};
 ghost use Rattle.office_state.specs.Opening.{HasOpened, HasNotOpened};
 ghost use Rattle.office_state.specs.States.{auditors_of};
 ghost use Rattle.office_state.specs.inside.Replays.{IsOfficeOf, HasNoOffice, as_cause};

@@ -1,5 +1,5 @@
 // A command is posted.
-ghost use Rattle.std.specs.Prelude.{◌≡◌, ◌↔◌, ◌^◌, ◌≤◌, ◌<◌, ◌++◌, [], ◌∷◌, Ok, OnOk, List, ℕ};
+ghost use Rattle.std.specs.Prelude.{◌≡◌, ◌^◌, ◌≤◌, ◌<◌, ◌++◌, [], ◌∷◌, Ok, OnOk, List, ℕ};
 ghost use Rattle.policy_types.specs.Valid.{IsValid, id_of};
 ghost use Rattle.policy_types.specs.declared.command.Command.{Command as ACommand};
 ghost use Rattle.policy_types.specs.declared.entry.Entry.{Entry};
@@ -31,11 +31,11 @@ impl<D: Disk, W: Watching> OfficeState<D, W> {
         requires valid { IsValid command.now }
         requires stands { (history : List Entry) × StandsFor self.old history }
         ensures opened { opened_of self.new ≡ opened_of self.old }
-        ensures honesty { (D.honest (disk_of self.old)) ↔ (D.honest (disk_of self.new)) }
+        ensures honesty { D.honest (disk_of self.new) → D.honest (disk_of self.old) }
         ensures unwritten { IsBeforeWriting result → disk_of self.new ≡ disk_of self.old }
         ensures stands { (history : List Entry) → StandsFor self.old history
             → StandsFor self.new (history ++ turn_of caller command.now result ∷ []) }
-        ensures crash { (history : List Entry) → StandsFor self.old history → D.honest (disk_of self.old)
+        ensures crash { (history : List Entry) → StandsFor self.old history → D.honest (disk_of self.new)
             → CrashesIn D.Disk (disk_of self.old) (disk_of self.new) (opening_of self.old) history command.now result }
     {
         let _ = caller;
@@ -49,12 +49,12 @@ impl<D: Disk, W: Watching> OfficeState<D, W> {
         requires valid { IsValid command.now }
         requires stands { (history : List Entry) × StandsFor self.old history }
         ensures opened { opened_of self.new ≡ opened_of self.old }
-        ensures honesty { (D.honest (disk_of self.old)) ↔ (D.honest (disk_of self.new)) }
+        ensures honesty { D.honest (disk_of self.new) → D.honest (disk_of self.old) }
         ensures turns { turns_of self.new ≡ turns_of self.old }
         ensures unwritten { IsBeforeWriting result → disk_of self.new ≡ disk_of self.old }
         ensures stands { (history : List Entry) (caller : ℕ) → StandsFor self.old history
             → StandsFor (one_more self.new) (history ++ turn_of caller command.now result ∷ []) }
-        ensures crash { (history : List Entry) → StandsFor self.old history → D.honest (disk_of self.old)
+        ensures crash { (history : List Entry) → StandsFor self.old history → D.honest (disk_of self.new)
             → CrashesIn D.Disk (disk_of self.old) (disk_of self.new) (opening_of self.old) history command.now result }
     {
         if take_memory(&mut self.books, &mut self.watchers).is_err() {
@@ -74,12 +74,12 @@ impl<D: Disk, W: Watching> OfficeState<D, W> {
         requires room { 1 ≤ room_in self.old.books }
         requires ready { W.has_room self.old.watchers }
         ensures opened { opened_of self.new ≡ opened_of self.old }
-        ensures honesty { (D.honest (disk_of self.old)) ↔ (D.honest (disk_of self.new)) }
+        ensures honesty { D.honest (disk_of self.new) → D.honest (disk_of self.old) }
         ensures turns { turns_of self.new ≡ turns_of self.old }
         ensures unwritten { IsBeforeWriting result → disk_of self.new ≡ disk_of self.old }
         ensures stands { (history : List Entry) (caller : ℕ) → StandsFor self.old history
             → StandsFor (one_more self.new) (history ++ turn_of caller command.now result ∷ []) }
-        ensures crash { (history : List Entry) → StandsFor self.old history → D.honest (disk_of self.old)
+        ensures crash { (history : List Entry) → StandsFor self.old history → D.honest (disk_of self.new)
             → CrashesIn D.Disk (disk_of self.old) (disk_of self.new) (opening_of self.old) history command.now result }
     {
         if self.books.count() == MOST_COMMANDS {

@@ -14,7 +14,7 @@ pub fn record<D: Disk>(journal: &mut Journal<D>, body: &[u8; 64]) -> Result<(), 
     ensures count { count_of journal.new
         ≡ (if is_ok result then (count_of journal.old) + 1 else (count_of journal.old)) }
     ensures disk { TellsFaults D.Disk (disk_of journal.old) (disk_of journal.new) result }
-    ensures records { (bodies : List (List ℕ)) (last : List ℕ) → D.honest (disk_of journal.old)
+    ensures records { (bodies : List (List ℕ)) (last : List ℕ) → D.honest (disk_of journal.new)
         → StandsFor journal.old bodies last
         → Records journal.old journal.new bodies last body.now result }
 {

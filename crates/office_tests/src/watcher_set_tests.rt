@@ -82,7 +82,7 @@ fn told<W: Watching + Send>(
     Ok(watchers.finish())
 }
 
-// Five issues with a watcher of the first three.
+// Five issues with a watcher of the first three, in no box.
 #[test]
 fn done_and_dropped_at_the_third(rt: HostRuntime) -> Result<(), Fail> {
     let alloc = rt.alloc();
@@ -91,8 +91,8 @@ fn done_and_dropped_at_the_third(rt: HostRuntime) -> Result<(), Fail> {
         count: CountWatcher::new(alloc, 3),
         _token: token.clone()?,
     };
-    let mut boxes: Vec<Box<dyn Watcher + Send>> = Vec::new(alloc);
-    boxes.push(Box::new(alloc, guest)?)?;
+    let mut guests = Vec::new(alloc);
+    guests.push(guest)?;
     let commands = [
         issue(1, NEW_YEAR),
         issue(2, NEW_YEAR),
@@ -102,7 +102,7 @@ fn done_and_dropped_at_the_third(rt: HostRuntime) -> Result<(), Fail> {
     ];
     let reports = told(
         &rt,
-        Watchers::new(boxes),
+        Watchers::new(guests),
         &commands,
         &token,
         &[2, 2, 1, 1, 1],
@@ -173,7 +173,8 @@ fn none_and_sixteen(rt: HostRuntime) -> Result<(), Fail> {
     let commands = [issue(1, NEW_YEAR), issue(2, NEW_YEAR), issue(3, NEW_YEAR)];
     let none = told(&rt, NoWatchers, &commands, &token, &[])?;
     assert!(rt; none.as_slice().is_empty());
-    let none = told(&rt, Watchers::new(Vec::new(alloc)), &commands, &token, &[])?;
+    let nobody: Vec<CountWatcher> = Vec::new(alloc);
+    let none = told(&rt, Watchers::new(nobody), &commands, &token, &[])?;
     assert!(rt; none.as_slice().is_empty());
     let mut boxes: Vec<Box<dyn Watcher + Send>> = Vec::new(alloc);
     for limit in 1..17 {

@@ -1,7 +1,8 @@
 -- A front of the bytes was written, and then a front of the rest.
-use Rattle.std.proofs.Common.{◌≡◌, ℕ, ◌+◌, ◌-◌, ◌<◌, Option, None, Some, List, [], ◌++◌, length, length-drop, take, drop, min, append_assoc, arith, ap, ◌∙◌, sym}
-use Rattle.std.specs.Io.KnownBytes.{Appends, Consumes}
-use Rattle.std.proofs.lemmas.List.{take-append-drop, drop-drop, drop_all, take_rest}
+use Rattle.std.proofs.Common.{◌≡◌, ℕ, ◌+◌, ◌-◌, ◌<◌, ◌≤◌, Option, None, Some, List, [], ◌++◌, length, length-drop, take, drop, min, append_assoc, append-nil, length-append, arith, ap, ◌∙◌, sym}
+use Rattle.std.specs.Io.KnownBytes.{Appends, Consumes, Keeps}
+use Rattle.outside_io.specs.Streams.{GivesFront}
+use Rattle.std.proofs.lemmas.List.{take-append-drop, drop-drop, drop_all, take_rest, length-take-le}
 use Rattle.std.proofs.Math.Seq.{take-add}
 
 pub appends_more : (before mid after : Option (List ℕ)) (bytes : List ℕ) (k n : ℕ)
@@ -32,9 +33,45 @@ read_front bytes held copied at n same many front =
     let front' = rw (take_rest held at, same) at front in
     (front_and_rest bytes copied at n front', λ none some. none_left bytes at n (length copied) many' none some)
 
+-- What was given before a read that copied a front of the rest from a place on, and after it.
+pub given_front : (bytes held copied : List ℕ) (at n : ℕ) → held ≡ bytes → take n copied ≡ take n (take (length held - at) (drop at held))
+    → take (at + n) bytes ≡ take at bytes ++ take n copied
+given_front bytes held copied at n same front =
+    let front' = rw (take_rest held at, same) at front in
+    take-add at n bytes ∙ ap (λ w. take at bytes ++ w) (sym front')
+
 -- A front was read, and then a front of the rest.
 pub consumes_more : (before mid after : Option (List ℕ)) (front more : List ℕ) → Consumes before mid front → Consumes mid after more → Consumes before after (front ++ more)
 consumes_more None mid after front more first then = tt
 consumes_more (Some xs) None after front more first then = absurd first
 consumes_more (Some xs) (Some ys) None front more first then = absurd then
 consumes_more (Some xs) (Some ys) (Some zs) front more first then = first ∙ ap (λ w. front ++ w) then ∙ sym (append_assoc front more zs)
+
+-- What was given so far, and the bytes of one read more.
+pub gives_more : (before mid after front more : List ℕ) → mid ≡ before ++ front → after ≡ mid ++ more → after ≡ before ++ (front ++ more)
+gives_more before mid after front more first then = then ∙ ap (λ w. w ++ more) first ∙ append_assoc before front more
+
+-- The last read gave nothing.
+pub gives_none : (before mid after front piece : List ℕ) (n : ℕ) → n ≡ 0 → mid ≡ before ++ front → after ≡ mid ++ take n piece → after ≡ before ++ front
+gives_none before mid after front piece n none first then =
+    let same = rw none at then in same ∙ append-nil mid ∙ first
+
+-- What was given is longer than a limit, where one read gave more than there was room for.
+pub longer : (front piece : List ℕ) (n limit : ℕ) → n ≤ length piece → limit - length front < n → length front ≤ limit → limit < length (front ++ take n piece)
+longer front piece n limit within many short = omega (arith, length-append front (take n piece), length-take-le n piece within)
+
+module _ (given_before given_mid given_after : List ℕ) (left_before left_mid left_after : Option (List ℕ)) (front more : List ℕ) where
+  pub front_more : given_mid ≡ given_before ++ front → given_after ≡ given_mid ++ more → Consumes left_before left_mid front → Consumes left_mid left_after more
+      → GivesFront given_before given_after left_before left_after
+  front_more first then taken off = record {
+    front = front ++ more;
+    given = gives_more given_before given_mid given_after front more first then;
+    left = consumes_more left_before left_mid left_after front more taken off;
+  }
+
+-- A read that failed took nothing.
+pub consumes_still : (before mid after : Option (List ℕ)) (front : List ℕ) → Consumes before mid front → Keeps mid after → Consumes before after front
+consumes_still None mid after front first stays = tt
+consumes_still (Some xs) None after front first stays = absurd first
+consumes_still (Some xs) (Some ys) None front first stays = absurd stays
+consumes_still (Some xs) (Some ys) (Some zs) front first stays = rw stays first

@@ -1,5 +1,5 @@
 -- What is told of the streams in memory.
-use Rattle.std.specs.Prelude.{ℕ, List, Option, drop, Vec, String}
+use Rattle.std.specs.Prelude.{ℕ, List, Option, take, drop, Vec, String, IsTrue}
 use Rattle.std.specs.Option.{option_map}
 use Rattle.std.specs.BTreeMap.{BTreeMap, get_by_text}
 use Rattle.std.specs.declared.alloc.Global.{Global}
@@ -15,6 +15,14 @@ source_plan source = source.plan
 -- the bytes that are left
 abbrev pub source_left : BytesSource → List ℕ
 source_left source = drop source.taken source.bytes.items
+
+-- the bytes that were given
+abbrev pub source_given : BytesSource → List ℕ
+source_given source = take source.taken source.bytes.items
+
+-- a read gave none into a buffer that isn't empty
+abbrev pub SourceEnded : BytesSource → Type 0
+SourceEnded source = IsTrue source.ended
 
 -- the calls that are to fail, and those that were made
 abbrev pub sink_plan : BytesSink → FaultPlan

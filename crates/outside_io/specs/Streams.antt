@@ -1,5 +1,5 @@
 -- What the calls of a source and a sink do to the bytes that they tell of.
-use Rattle.std.specs.Prelude.{◌≡◌, ℕ, ◌<◌, Option, List, length, take, is_some}
+use Rattle.std.specs.Prelude.{◌≡◌, ◌⊎◌, ℕ, ◌<◌, Option, Result, List, [], ◌∷◌, ◌++◌, length, take, is_some, IsOkAnd, MatchResult}
 use Rattle.std.specs.Io.KnownBytes.{Appends, Consumes}
 
 -- a device tells its bytes now exactly if it told them before
@@ -15,3 +15,36 @@ pub record AppendsPart (before now : Option (List ℕ)) (bytes : List ℕ) : Typ
 -- a front of the bytes that were left was read
 abbrev pub LosesFront : Option (List ℕ) → Option (List ℕ) → Type 0
 LosesFront before now = (front : List ℕ) × Consumes before now front
+
+-- a read that gave n bytes put them in front of the buffer; one that failed gave none
+abbrev pub ReadGives : {E : Type 0} → List ℕ → List ℕ → Result ℕ E → List ℕ → Type 0
+ReadGives before now result buf = MatchResult result (λ n. now ≡ before ++ take n buf) (λ _. now ≡ before)
+
+-- a read gave nothing though the buffer isn't empty
+abbrev pub SeesEnd : {E : Type 0} → Result ℕ E → List ℕ → Type 0
+SeesEnd result buf = IsOkAnd result (λ n. n ≡ 0) × (0 < length buf)
+
+-- Some bytes were given, and taken off the front of those that were left.
+pub record GivesFront (given_before given_now : List ℕ) (left_before left_now : Option (List ℕ)) : Type 0 where
+  pub front : List ℕ
+  pub given : given_now ≡ given_before ++ front
+  pub left : Consumes left_before left_now front
+
+-- more bytes than so many were given
+abbrev pub GivesMore : ℕ → List ℕ → List ℕ → Type 0
+GivesMore limit before now = (front : List ℕ) × (now ≡ before ++ front) × (limit < length front)
+
+-- A piece that passed through a stream, and how many bytes there was room for.
+pub record Piece : Type 0 where
+  pub room : ℕ
+  pub bytes : List ℕ
+
+-- the bytes that passed, in order; the newest piece stands first
+abbrev pub passed_bytes : List Piece → List ℕ
+passed_bytes [] = []
+passed_bytes (piece ∷ earlier) = passed_bytes earlier ++ piece.bytes
+
+-- a piece was empty though there was room
+abbrev pub HasEnd : List Piece → Type 0
+HasEnd [] = ⊥
+HasEnd (piece ∷ earlier) = HasEnd earlier ⊎ ((length piece.bytes ≡ 0) × (0 < piece.room))

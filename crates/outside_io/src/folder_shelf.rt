@@ -1,7 +1,9 @@
-// The files of the folder in which the program runs, as a shelf. It tells nothing of them.
-ghost use Rattle.std.specs.Prelude.{◌≡◌, ◌≤◌, None};
+// The files of the folder in which the program runs, as a shelf. It notes its answers, for contracts alone.
+ghost use Rattle.std.specs.Prelude.{◌≡◌, ℕ, ◌<◌, ◌≤◌, [], None, Some, Option, List, length, vec_len, IfOk, IsSomeAnd, IsErrOf};
 ghost use Rattle.outside_io.specs.Faults.{Rose};
+ghost use Rattle.outside_io.specs.Shelves.{Files, Agrees, Answers as Keeps, no_files};
 
+use crate::answers::Answers;
 use crate::shelves::SHELF_LIMIT;
 use crate::{FetchFault, ReadAllFault, Shelf, StdSource, read_all};
 use std::alloc::Global;
@@ -14,23 +16,20 @@ use std::rt::Files;
 pub struct FolderShelf<R: Files> {
     files: R,
     faults: u64,
+    answers: Answers,
 }
 
 impl<R: Files> FolderShelf<R> {
-    /// It had no fault so far.
+    /// It had no fault so far, and answered nothing.
     pub fn new(files: R) -> FolderShelf<R>
-        ensures { result.faults ≡ 0 }
+        ensures faults { result.faults ≡ 0 }
+        ensures answers { result.answers ≡ [] }
     {
-        FolderShelf { files, faults: 0 }
-    }
-
-    fn fail(&mut self) -> FetchFault
-        ensures result { result ≡ FetchFault.Failed }
-        ensures rose { Rose self.old.faults self.new.faults }
-        ensures later { self.old.faults ≤ self.new.faults }
-    {
-        self.faults = self.faults.saturating_add(1);
-        FetchFault::Failed
+        FolderShelf {
+            files,
+            faults: 0,
+            answers: Answers::new(),
+        }
     }
 }
 
@@ -39,21 +38,55 @@ impl<R: Files> Shelf for FolderShelf<R> {
 
     ghost files = { λ s. None };
 
+    ghost agrees = { λ s at. Agrees s.answers at };
+
+    ghost agrees_with_files = { λ s at same. no_files at (Agrees s.answers at) same };
+
     fn faults(&self) -> u64 {
         self.faults
     }
 
-    fn fetch(&mut self, alloc: Global, name: &str) -> Result<Vec<u8>, FetchFault> {
-        let mut source = match File::open(&self.files, name) {
-            Ok(file) => StdSource::new(file),
-            Err(e) if e.kind() == ErrorKind::NotFound => return Err(FetchFault::Absent),
-            Err(_) => return Err(self.fail()),
-        };
-        match read_all(alloc, &mut source, SHELF_LIMIT) {
-            Ok(bytes) => Ok(bytes),
-            Err(ReadAllFault::TooLong) => Err(FetchFault::TooLong),
-            Err(ReadAllFault::NoMemory) => Err(FetchFault::NoMemory),
-            Err(ReadAllFault::ReadFault) => Err(self.fail()),
+    fn fetch(&mut self, alloc: Global, name: &str) -> Result<Vec<u8>, FetchFault>
+        ensures agreed { (at : Files) → Agrees self.new.answers at → Agrees self.old.answers at }
+        ensures found { (at : Files) → Agrees self.new.answers at
+            → IfOk result (λ bytes. at name.now ≡ Some bytes.items) }
+        ensures within { IfOk result (λ bytes. vec_len bytes ≤ SHELF_LIMIT) }
+        ensures absent { (at : Files) → Agrees self.new.answers at
+            → IsErrOf result FetchFault.Absent → at name.now ≡ None }
+        ensures too_long { (at : Files) → Agrees self.new.answers at
+            → IsErrOf result FetchFault.TooLong
+            → IsSomeAnd (at name.now) (λ bytes. SHELF_LIMIT < length bytes) }
+        ensures failed { IsErrOf result FetchFault.Failed → Rose self.old.faults self.new.faults }
+        ensures counted { self.old.faults < self.new.faults → IsErrOf result FetchFault.Failed }
+        ensures later { self.old.faults ≤ self.new.faults }
+        ensures kept { Keeps name.now result self.old.answers self.new.answers }
+    {
+        // Opens the file with this name, once, and reads it to its end.
+        let answer = read_file(&self.files, alloc, name);
+        // What the system said of the name is noted under that name. A fault and want of memory say nothing of the file.
+        match &answer {
+            Ok(bytes) => self.answers.note_found(name, bytes),
+            Err(FetchFault::Absent) => self.answers.note_absent(name),
+            Err(FetchFault::TooLong) => self.answers.note_too_long(name),
+            Err(FetchFault::Failed) => self.faults = self.faults.saturating_add(1),
+            Err(FetchFault::NoMemory) => {}
         }
+        answer
     }
+}
+
+// The bytes of a file that the system opens under this name, as it gives them up to their end.
+fn read_file<R: Files>(files: &R, alloc: Global, name: &str) -> Result<Vec<u8>, FetchFault>
+    ensures within { IfOk result (λ bytes. vec_len bytes ≤ SHELF_LIMIT) }
+{
+    let mut source = match File::open(files, name) {
+        Ok(file) => StdSource::new(file),
+        Err(e) if e.kind() == ErrorKind::NotFound => return Err(FetchFault::Absent),
+        Err(_) => return Err(FetchFault::Failed),
+    };
+    read_all(alloc, &mut source, SHELF_LIMIT).map_err(|fault| match fault {
+        ReadAllFault::TooLong => FetchFault::TooLong,
+        ReadAllFault::NoMemory => FetchFault::NoMemory,
+        ReadAllFault::ReadFault => FetchFault::Failed,
+    })
 }

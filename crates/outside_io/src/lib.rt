@@ -2,6 +2,7 @@
 //! and real.
 #![tactic(auto)]
 
+mod answers;
 mod bytes_in;
 mod bytes_out;
 mod counting;
@@ -12,8 +13,10 @@ mod file_disk;
 mod folder_shelf;
 mod gates;
 mod map_shelf;
+mod pieces;
 mod reading;
 mod real_streams;
+mod record;
 mod shelves;
 mod step_count;
 mod writing;

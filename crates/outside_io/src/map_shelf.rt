@@ -3,6 +3,7 @@ ghost use Rattle.std.specs.Prelude.{◌≡◌, ℕ, ◌<◌, ◌≤◌, ◌↔�
 ghost use Rattle.outside_io.specs.Faults.{Rose};
 ghost use Rattle.outside_io.specs.Plans.{FailsNext, plan_faults, plan_failing, plan_calls, number_after};
 ghost use Rattle.outside_io.specs.Memory.{shelf_at, shelf_plan, map_at};
+ghost use Rattle.outside_io.specs.Shelves.{Files, AreFiles, same_files};
 
 use crate::shelves::SHELF_LIMIT;
 use crate::{FaultPlan, FetchFault, Shelf};
@@ -35,18 +36,29 @@ impl Shelf for MapShelf {
 
     ghost files = { λ s. Some (shelf_at s) };
 
+    ghost agrees = { λ s at. AreFiles (shelf_at s) at };
+
+    ghost agrees_with_files = { λ s at same. same_files (shelf_at s) at same };
+
     fn faults(&self) -> u64 {
         self.plan.faults()
     }
 
     fn fetch(&mut self, alloc: Global, name: &str) -> Result<Vec<u8>, FetchFault>
-        ensures found { IfOk result (λ bytes. shelf_at self.old name.now ≡ Some bytes.items) }
+        ensures agreed { (at : Files) → AreFiles (shelf_at self.new) at
+            → AreFiles (shelf_at self.old) at }
+        ensures found { (at : Files) → AreFiles (shelf_at self.new) at
+            → IfOk result (λ bytes. at name.now ≡ Some bytes.items) }
         ensures within { IfOk result (λ bytes. vec_len bytes ≤ SHELF_LIMIT) }
-        ensures absent { IsErrOf result FetchFault.Absent → shelf_at self.old name.now ≡ None }
-        ensures too_long { IsErrOf result FetchFault.TooLong
-            → IsSomeAnd (shelf_at self.old name.now) (λ bytes. SHELF_LIMIT < length bytes) }
+        ensures absent { (at : Files) → AreFiles (shelf_at self.new) at
+            → IsErrOf result FetchFault.Absent → at name.now ≡ None }
+        ensures too_long { (at : Files) → AreFiles (shelf_at self.new) at
+            → IsErrOf result FetchFault.TooLong
+            → IsSomeAnd (at name.now) (λ bytes. SHELF_LIMIT < length bytes) }
         ensures failed { IsErrOf result FetchFault.Failed
             → Rose (plan_faults (shelf_plan self.old)) (plan_faults (shelf_plan self.new)) }
+        ensures counted { plan_faults (shelf_plan self.old) < plan_faults (shelf_plan self.new)
+            → IsErrOf result FetchFault.Failed }
         ensures later { plan_faults (shelf_plan self.old) ≤ plan_faults (shelf_plan self.new) }
         ensures stays { shelf_at self.new ≡ shelf_at self.old }
         ensures fails { IsErrOf result FetchFault.Failed ↔ FailsNext (shelf_plan self.old) }

@@ -1,8 +1,8 @@
 // Input: a source gives its bytes in pieces, and `read_all` puts them together.
-ghost use Rattle.std.specs.Prelude.{◌≡◌, ℕ, ◌+◌, ◌<◌, ◌≤◌, Option, List, length, vec_len, IfOk, OnOk, IfSome, IsErrOf};
+ghost use Rattle.std.specs.Prelude.{◌≡◌, ◌⊎◌, ℕ, ◌+◌, ◌<◌, ◌≤◌, ◌++◌, Option, Some, List, [], length, vec_len, IfOk, OnOk, IfSome, IsErrOf};
 ghost use Rattle.std.specs.Io.KnownBytes.{ReadConsumes, IsAtEnd};
 ghost use Rattle.outside_io.specs.Faults.{Rose, HasCause};
-ghost use Rattle.outside_io.specs.Streams.{StillTells, LosesFront};
+ghost use Rattle.outside_io.specs.Streams.{StillTells, LosesFront, ReadGives, SeesEnd, GivesFront, GivesMore};
 ghost use Rattle.outside_io.specs.declared.failures.ReadAllFault.TheVariants.{ReadFault, TooLong};
 
 use crate::{Failed, ReadAllFault, Steps};
@@ -21,6 +21,12 @@ pub trait Source {
     /// The bytes that are left, where it tells them.
     ghost left: { Self → Option (List ℕ) };
 
+    /// The bytes that it gave so far.
+    ghost given: { Self → List ℕ };
+
+    /// A read gave none into a buffer that isn't empty.
+    ghost ended: { Self → Type 0 };
+
     /// How many faults it has had. The count stands still at its type's end.
     fn faults(&self) -> u64
         ensures { result ≡ faults self.now };
@@ -31,7 +37,13 @@ pub trait Source {
         ensures cause { HasCause (faults self.old) (faults self.new) result }
         ensures bound { IfOk result (λ n. n ≤ length buf.new) }
         ensures bytes { ReadConsumes (left self.old) (left self.new) result buf.new }
-        ensures tells { StillTells (left self.old) (left self.new) };
+        ensures tells { StillTells (left self.old) (left self.new) }
+        ensures given { ReadGives (given self.old) (given self.new) result buf.new }
+        ensures end { SeesEnd result buf.new → ended self.new }
+        ensures not_before { ended self.new → ended self.old ⊎ SeesEnd result buf.new };
+
+    /// Where it ended and tells what is left, nothing is left.
+    ghost nothing_left: { (source : Self) (told : List ℕ) → ended source → left source ≡ Some told → told ≡ [] };
 }
 
 /// The bytes of the source up to its end, of which there may be at most `limit`.
@@ -49,6 +61,11 @@ pub fn read_all<S: Source>(
     ensures later { S.faults source.old ≤ S.faults source.new }
     ensures tells { StillTells (S.left source.old) (S.left source.new) }
     ensures rest { LosesFront (S.left source.old) (S.left source.new) }
+    ensures all_given { IfOk result (λ bytes. S.given source.new ≡ S.given source.old ++ bytes.items) }
+    ensures ended { OnOk result (S.ended source.new) }
+    ensures more_given { IsErrOf result ReadAllFault.TooLong
+        → GivesMore limit (S.given source.old) (S.given source.new) }
+    ensures front { GivesFront (S.given source.old) (S.given source.new) (S.left source.old) (S.left source.new) }
 {
     read_all_from::<S, Brand>(alloc, source, limit, Blank::new(1))
 }
@@ -72,6 +89,11 @@ fn read_all_from<S: Source, L: Ledger>(
     ensures later { S.faults source.old ≤ S.faults source.new }
     ensures tells { StillTells (S.left source.old) (S.left source.new) }
     ensures rest { LosesFront (S.left source.old) (S.left source.new) }
+    ensures all_given { IfOk result (λ bytes. S.given source.new ≡ S.given source.old ++ bytes.items) }
+    ensures ended { OnOk result (S.ended source.new) }
+    ensures more_given { IsErrOf result ReadAllFault.TooLong
+        → GivesMore limit (S.given source.old) (S.given source.new) }
+    ensures front { GivesFront (S.given source.old) (S.given source.new) (S.left source.old) (S.left source.new) }
 {
     let mut steps: Steps<L> = Steps::open(blank);
     read_all_counted(alloc, source, limit, &mut steps)
@@ -94,6 +116,11 @@ pub fn read_all_counted<S: Source, L: Ledger>(
     ensures later { S.faults source.old ≤ S.faults source.new }
     ensures tells { StillTells (S.left source.old) (S.left source.new) }
     ensures rest { LosesFront (S.left source.old) (S.left source.new) }
+    ensures all_given { IfOk result (λ bytes. S.given source.new ≡ S.given source.old ++ bytes.items) }
+    ensures ended { OnOk result (S.ended source.new) }
+    ensures more_given { IsErrOf result ReadAllFault.TooLong
+        → GivesMore limit (S.given source.old) (S.given source.new) }
+    ensures front { GivesFront (S.given source.old) (S.given source.new) (S.left source.old) (S.left source.new) }
     ensures turns { steps.new ≤ steps.old + (limit + 1) }
 {
     let room = limit as usize;
@@ -125,6 +152,8 @@ fn turn<S: Source, L: Ledger>(
     ensures bound { IfOk result (λ n. n ≤ length piece.new) }
     ensures bytes { ReadConsumes (S.left source.old) (S.left source.new) result piece.new }
     ensures tells { StillTells (S.left source.old) (S.left source.new) }
+    ensures given { ReadGives (S.given source.old) (S.given source.new) result piece.new }
+    ensures end { SeesEnd result piece.new → S.ended source.new }
     ensures step { steps.new ≡ steps.old + 1 }
 {
     steps.tick();

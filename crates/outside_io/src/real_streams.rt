@@ -1,7 +1,12 @@
-// The readers and writers of the standard library as streams. They tell nothing of their bytes.
-ghost use Rattle.std.specs.Prelude.{◌≡◌, ◌<◌, ◌≤◌, None, IfOk, length};
+// The readers and writers of the standard library as streams. Each notes what passed, for contracts alone.
+ghost use Rattle.std.specs.Prelude.{◌≡◌, ◌⊎◌, ◌<◌, ◌≤◌, None, Some, [], IfOk, length};
+ghost use Rattle.std.specs.Io.KnownBytes.{ReadConsumes, WriteAppends};
+ghost use Rattle.outside_io.specs.Faults.{HasCause};
+ghost use Rattle.outside_io.specs.Streams.{passed_bytes, HasEnd, ReadGives, SeesEnd, StillTells};
+ghost use Rattle.outside_io.specs.StreamLaws.{nothing_told};
 
 use crate::counting::counted;
+use crate::pieces::Pieces;
 use crate::{Failed, Sink, Source};
 use std::io;
 use std::io::{ErrorKind, Read, Write};
@@ -11,14 +16,20 @@ use std::io::{ErrorKind, Read, Write};
 pub struct StdSource<R: Read> {
     reader: R,
     faults: u64,
+    given: Pieces,
 }
 
 impl<R: Read> StdSource<R> {
-    /// It had no fault so far.
+    /// It had no fault so far, and gave nothing.
     pub fn new(reader: R) -> StdSource<R>
-        ensures { result.faults ≡ 0 }
+        ensures faults { result.faults ≡ 0 }
+        ensures given { result.given ≡ [] }
     {
-        StdSource { reader, faults: 0 }
+        StdSource {
+            reader,
+            faults: 0,
+            given: Pieces::new(),
+        }
     }
 }
 
@@ -27,55 +38,90 @@ impl<R: Read> Source for StdSource<R> {
 
     ghost left = { λ s. None };
 
+    ghost given = { λ s. passed_bytes s.given };
+
+    ghost ended = { λ s. HasEnd s.given };
+
+    ghost nothing_left = { λ s told end same. nothing_told told same };
+
     fn faults(&self) -> u64 {
         self.faults
     }
 
-    fn read(&mut self, buf: &mut [u8]) -> Result<usize, Failed> {
-        let done = self.reader.read(buf);
-        counted(done, &mut self.faults)
+    fn read(&mut self, buf: &mut [u8]) -> Result<usize, Failed>
+        ensures cause { HasCause self.old.faults self.new.faults result }
+        ensures bound { IfOk result (λ n. n ≤ length buf.new) }
+        // Where the reader tells what is left in it, just what is given came from there.
+        ensures through { ReadConsumes (R.remaining self.old.reader) (R.remaining self.new.reader) result buf.new }
+        ensures given { ReadGives (passed_bytes self.old.given) (passed_bytes self.new.given) result buf.new }
+        ensures end { SeesEnd result buf.new → HasEnd self.new.given }
+        ensures not_before { HasEnd self.new.given → HasEnd self.old.given ⊎ SeesEnd result buf.new }
+    {
+        // The one call of the reader. Where it fails it gave nothing, and nothing is noted.
+        let many = counted(self.reader.read(buf), &mut self.faults)?;
+        // The reader said how many bytes it put in front, so these are what it gave. The buffer isn't written again.
+        self.given.note(buf.len(), &buf[..many]);
+        Ok(many)
     }
 }
 
-/// Writes to a writer and flushes it, as standard output. A writer that takes nothing is at fault.
+/// Writes to a writer that keeps nothing back, as standard output. A writer that takes nothing is at fault.
 #[derive(Drop)]
 pub struct StdSink<W: Write> {
     writer: W,
     faults: u64,
+    taken: Pieces,
 }
 
 impl<W: Write> StdSink<W> {
-    /// It had no fault so far.
+    /// It had no fault so far, and took nothing.
     pub fn new(writer: W) -> StdSink<W>
-        ensures { result.faults ≡ 0 }
+        ensures faults { result.faults ≡ 0 }
+        ensures taken { result.taken ≡ [] }
     {
-        StdSink { writer, faults: 0 }
+        StdSink {
+            writer,
+            faults: 0,
+            taken: Pieces::new(),
+        }
     }
 }
 
 impl<W: Write> Sink for StdSink<W> {
     ghost faults = { λ s. s.faults };
 
-    ghost written = { λ s. None };
+    ghost written = { λ s. Some (passed_bytes s.taken) };
 
     fn faults(&self) -> u64 {
         self.faults
     }
 
-    fn write(&mut self, bytes: &[u8]) -> Result<usize, Failed> {
-        let done = write_through(&mut self.writer, bytes);
-        counted(done, &mut self.faults)
+    fn write(&mut self, bytes: &[u8]) -> Result<usize, Failed>
+        ensures cause { HasCause self.old.faults self.new.faults result }
+        ensures bound { IfOk result (λ n. n ≤ length bytes.now) }
+        ensures some { 0 < length bytes.now → IfOk result (λ n. 0 < n) }
+        // Where the writer tells what it holds, just what is taken went there.
+        ensures through { WriteAppends (W.contents self.old.writer) (W.contents self.new.writer) result bytes.now }
+        ensures bytes { WriteAppends (Some (passed_bytes self.old.taken)) (Some (passed_bytes self.new.taken))
+            result bytes.now }
+    {
+        // The one call of the writer. Where it fails it took nothing, and nothing is noted.
+        let many = counted(take_some(&mut self.writer, bytes), &mut self.faults)?;
+        // The writer said how many bytes it took from the front.
+        self.taken.note(bytes.len(), &bytes[..many]);
+        Ok(many)
     }
 }
 
-fn write_through<W: Write>(writer: &mut W, bytes: &[u8]) -> io::Result<usize>
+// One write, whose answer isn't kept back: a writer that takes nothing of a piece fails.
+fn take_some<W: Write>(writer: &mut W, bytes: &[u8]) -> io::Result<usize>
     ensures bound { IfOk result (λ n. n ≤ length bytes.now) }
     ensures some { 0 < length bytes.now → IfOk result (λ n. 0 < n) }
+    ensures through { WriteAppends (W.contents writer.old) (W.contents writer.new) result bytes.now }
 {
-    let n = writer.write(bytes)?;
-    if n == 0 && !bytes.is_empty() {
+    let many = writer.write(bytes)?;
+    if many == 0 && !bytes.is_empty() {
         return Err(io::Error::from(ErrorKind::WriteZero));
     }
-    writer.flush()?;
-    Ok(n)
+    Ok(many)
 }

@@ -1,6 +1,7 @@
 // A shelf of files, each fetched whole by its name.
-ghost use Rattle.std.specs.Prelude.{◌≡◌, ℕ, ◌<◌, ◌≤◌, Option, None, Some, List, length, vec_len, IfOk, OnOk, OnErr, IfSome, IsSomeAnd, IsErrOf};
+ghost use Rattle.std.specs.Prelude.{◌≡◌, ℕ, ◌<◌, ◌≤◌, Option, None, Some, List, length, vec_len, IfOk, IsSomeAnd, IsErrOf};
 ghost use Rattle.outside_io.specs.Faults.{Rose};
+ghost use Rattle.outside_io.specs.Shelves.{Files};
 
 use crate::FetchFault;
 use std::alloc::Global;
@@ -14,7 +15,10 @@ pub trait Shelf {
     ghost faults: { Self → ℕ };
 
     /// The bytes at each name, where it tells them.
-    ghost files: { Self → Option (List ℕ → Option (List ℕ)) };
+    ghost files: { Self → Option Files };
+
+    /// Each answer so far is the one that these files give.
+    ghost agrees: { Self → Files → Type 0 };
 
     /// How many faults it has had. The count stands still at its type's end.
     fn faults(&self) -> u64
@@ -22,14 +26,21 @@ pub trait Shelf {
 
     /// The bytes of the file with this name, of which there may be at most 4 MiB.
     fn fetch(&mut self, alloc: Global, name: &str) -> Result<Vec<u8>, FetchFault>
-        ensures found { IfSome (files self.old)
-            (λ at. IfOk result (λ bytes. at name.now ≡ Some bytes.items)) }
+        ensures agreed { (at : Files) → agrees self.new at → agrees self.old at }
+        ensures found { (at : Files) → agrees self.new at
+            → IfOk result (λ bytes. at name.now ≡ Some bytes.items) }
         ensures within { IfOk result (λ bytes. vec_len bytes ≤ SHELF_LIMIT) }
-        ensures absent { IsErrOf result FetchFault.Absent
-            → IfSome (files self.old) (λ at. at name.now ≡ None) }
-        ensures too_long { IsErrOf result FetchFault.TooLong → IfSome (files self.old)
-            (λ at. IsSomeAnd (at name.now) (λ bytes. SHELF_LIMIT < length bytes)) }
+        ensures absent { (at : Files) → agrees self.new at
+            → IsErrOf result FetchFault.Absent → at name.now ≡ None }
+        ensures too_long { (at : Files) → agrees self.new at
+            → IsErrOf result FetchFault.TooLong
+            → IsSomeAnd (at name.now) (λ bytes. SHELF_LIMIT < length bytes) }
         ensures failed { IsErrOf result FetchFault.Failed → Rose (faults self.old) (faults self.new) }
+        ensures counted { faults self.old < faults self.new → IsErrOf result FetchFault.Failed }
         ensures later { faults self.old ≤ faults self.new }
         ensures stays { files self.new ≡ files self.old };
+
+    /// Where it tells its files, it agrees with them.
+    ghost agrees_with_files: { (shelf : Self) (at : Files)
+        → files shelf ≡ Some at → agrees shelf at };
 }

@@ -1,3 +1,5 @@
 pub mod Accounts
+pub mod Lanes
 pub mod Limits
 pub mod Valid
+pub mod Words

@@ -2,6 +2,7 @@
 //! the trait of the auditors.
 #![tactic(auto)]
 
+mod boxed;
 mod command;
 mod entry;
 mod policy;

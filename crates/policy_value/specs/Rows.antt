@@ -58,6 +58,6 @@ IsExact policy table bp t (Bounds lo hi) =
 IsExact policy table bp t (Word word) = ⊤
 
 -- bounds are in order, and none is above the amount
-abbrev pub IsWithin : ℕ → Worth → Type 0
-IsWithin amount (Bounds lo hi) = (lo ≤ hi) × (hi ≤ amount)
-IsWithin amount (Word word) = ⊤
+abbrev pub IsWithinAmount : ℕ → Worth → Type 0
+IsWithinAmount amount (Bounds lo hi) = (lo ≤ hi) × (hi ≤ amount)
+IsWithinAmount amount (Word word) = ⊤

@@ -3,7 +3,7 @@ ghost use Rattle.basis_book.specs.Dated.{Dated, IsPicked};
 ghost use Rattle.policy_types.specs.Valid.{IsIssue};
 ghost use Rattle.plan_benefits.specs.Shapes.{shape_of};
 ghost use Rattle.rate_table.specs.declared.shape.Shape.{Shape as AShape};
-ghost use Rattle.policy_value.specs.Rows.{IsInsured, IsValueOf, IsReserveOf, IsWithin, RowOf, IsExact};
+ghost use Rattle.policy_value.specs.Rows.{IsInsured, IsValueOf, IsReserveOf, IsWithinAmount, RowOf, IsExact};
 
 use crate::cache::{ColumnCache, priced};
 use crate::worth::{Row, Worth};
@@ -24,7 +24,7 @@ pub fn row(policy: &Policy, basis: &Basis, on: i32, cache: &mut ColumnCache) -> 
     ensures exact { IsInsured policy.now on → (index : ℕ) → (entry : Dated)
         → IsPicked basis.now policy.now.issued index entry
         → IsExact policy.now entry.table entry.bp result.t result.worth }
-    ensures most { IsWithin policy.now.amount result.worth }
+    ensures most { IsWithinAmount policy.now.amount result.worth }
 {
     let (t, worth) = if is_insured(policy, on) {
         value_by_basis(policy, basis, on, cache)
@@ -54,7 +54,7 @@ fn value_by_basis(policy: &Policy, basis: &Basis, on: i32, cache: &mut ColumnCac
     ensures value { IsValueOf policy.now basis.now on result.0 result.1 }
     ensures exact { (index : ℕ) → (entry : Dated) → IsPicked basis.now policy.now.issued index entry
         → IsExact policy.now entry.table entry.bp result.0 result.1 }
-    ensures most { IsWithin policy.now.amount result.1 }
+    ensures most { IsWithinAmount policy.now.amount result.1 }
 {
     match basis.pick(policy.issued) {
         Some((_, table, bp)) => value_by_table(policy, table, bp, on, cache),
@@ -77,7 +77,7 @@ fn value_by_table(
     ensures value { IsReserveOf policy.now table.now bp on
         (shape_of policy.now.plan policy.now.age policy.now.years table.now) result.0 result.1 }
     ensures exact { IsExact policy.now table.now bp result.0 result.1 }
-    ensures most { IsWithin policy.now.amount result.1 }
+    ensures most { IsWithinAmount policy.now.amount result.1 }
 {
     match shape(policy.plan, policy.age, policy.years, table) {
         Ok(shape) => {

@@ -123,10 +123,10 @@ module _ {D T E : Type 0} (g : Ghosts D) (old mid new : D) (synced : Result T E)
           (looks (λ unfinished. finished (subst (λ b. IsUnfinished b) facts.reads unfinished)));
     }
 
-    pub opens_synced : ((image : List ℕ) → g.left_since mid (g.clock mid) image → g.may_leave mid image) → IsSafe g mid → HasSynced g old new
-    opens_synced only_now safe = record {
+    pub opens_synced : g.honest mid → ((image : List ℕ) → g.left_since mid (g.clock mid) image → g.may_leave mid image) → IsSafe g mid → HasSynced g old new
+    opens_synced honest only_now safe = record {
       synced = mid;
-      at_sync = record { reads = facts.reads; safe = safe; later = time.later; passed = then.later };
+      at_sync = record { honest = honest; reads = facts.reads; safe = safe; later = time.later; passed = then.later };
       since = λ image left. same image (⊎_elim (λ past. inl (safe image (only_now image past))) (λ now. now) (then.nothing_else (g.clock mid) image (omega arith) left));
     }
 

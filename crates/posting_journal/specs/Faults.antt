@@ -1,5 +1,5 @@
 -- What a call on an open journal tells of its disk's faults.
-use Rattle.std.specs.Prelude.{◌≡◌, ◌↔◌, ◌≤◌, Result, IfErr, OnOk}
+use Rattle.std.specs.Prelude.{◌≡◌, ◌≤◌, Result, IfErr, OnOk}
 use Rattle.outside_io.specs.Faults.{Rose}
 use Rattle.outside_io.specs.declared.disks.Disk.{Ghosts}
 use Rattle.posting_journal.specs.declared.faults.DiskFault.{DiskFault}
@@ -10,4 +10,4 @@ pub record TellsFaults {D T : Type 0} (g : Ghosts D) (old new : D) (result : Res
   pub later : g.faults old ≤ g.faults new
   pub quiet : OnOk result (g.faults new ≡ g.faults old)
   pub fault : IfErr result (λ fault. (fault.count ≡ g.faults new) × Rose (g.faults old) (g.faults new))
-  pub honesty : (g.honest old) ↔ (g.honest new)
+  pub honesty : g.honest new → g.honest old

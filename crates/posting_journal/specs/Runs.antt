@@ -1,4 +1,4 @@
--- What a run of calls does to an honest disk.
+-- What a run of calls does to a disk that is honest after it, and so was before it.
 use Rattle.std.specs.Prelude.{ℕ, List}
 use Rattle.outside_io.specs.Disks.{Only, Looks, Elapses, LeavesOnly}
 use Rattle.outside_io.specs.declared.disks.Disk.{Ghosts}

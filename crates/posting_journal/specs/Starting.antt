@@ -1,14 +1,15 @@
 -- What opening a journal answers.
-use Rattle.std.specs.Prelude.{◌≡◌, ℕ, List, []}
+use Rattle.std.specs.Prelude.{◌≡◌, ℕ, List, [], Result, Ok, Err}
 use Rattle.outside_io.specs.Faults.{Rose}
 use Rattle.outside_io.specs.declared.disks.Disk.{Ghosts}
 use Rattle.posting_journal.specs.Files.{IsJournal}
 use Rattle.posting_journal.specs.Creation.{IsForeign, IsBadAt, OpensToBodies}
 use Rattle.posting_journal.specs.Opening.{HasSynced}
 use Rattle.posting_journal.specs.Runs.{IsSafe}
-use Rattle.posting_journal.specs.States.{StandsFor}
+use Rattle.posting_journal.specs.States.{StandsFor, disk_of}
 use Rattle.posting_journal.specs.declared.faults.JournalCause.{JournalCause}
 use Rattle.posting_journal.specs.declared.faults.JournalCause.TheVariants.{DiskFault, NotAJournal, BadRecord}
+use Rattle.posting_journal.specs.declared.faults.JournalFault.{JournalFault}
 use Rattle.posting_journal.specs.declared.journal.Journal.{Journal}
 
 -- A fault of the disk has its count, which rose. Any other cause leaves the count.
@@ -30,6 +31,11 @@ IsRefusedFor bytes cause = ShowsCause bytes cause
 abbrev pub IsFault : JournalCause → Type 0
 IsFault (DiskFault count) = Unit {0}
 IsFault cause = ⊥
+
+-- the disk that comes back, under the journal or with the cause
+abbrev pub disk_back : {D : Type 0} {g : Ghosts D} → Result (Journal D g) (JournalFault D) → D
+disk_back (Ok journal) = disk_of journal
+disk_back (Err fault) = fault.disk
 
 -- The journal is that of the bodies to which the file opened, and each image is what is read.
 pub record HasStarted {D : Type 0} {g : Ghosts D} (old : D) (journal : Journal D g) : Type 0 where

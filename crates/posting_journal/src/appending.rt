@@ -1,5 +1,5 @@
 // What is done with an open journal.
-ghost use Rattle.std.specs.Prelude.{◌≡◌, ◌↔◌, ℕ, ◌+◌, ◌<◌, ◌≤◌, ◌++◌, [], ◌∷◌, List, false, if◌then◌else◌, is_ok, IsTrue, IfOk, OnOk, OnErr, MatchResult, Ok, Err, take, drop, length, slice_index, slice_index_or};
+ghost use Rattle.std.specs.Prelude.{◌≡◌, ℕ, ◌+◌, ◌<◌, ◌≤◌, ◌++◌, [], ◌∷◌, List, false, if◌then◌else◌, is_ok, IsTrue, IfOk, OnOk, OnErr, MatchResult, Ok, Err, take, drop, length, slice_index, slice_index_or};
 ghost use Rattle.outside_io.specs.Disks.{HasDiskCause};
 ghost use Rattle.posting_journal.specs.Faults.{TellsFaults};
 ghost use Rattle.posting_journal.specs.Files.{IsStaged, IsBeforeOrAfter};
@@ -34,13 +34,13 @@ impl<D: Disk> Journal<D> {
         ensures count { count_of self.new ≡ count_of self.old }
         ensures clean { is_clean self.new ≡ is_clean self.old }
         ensures disk { TellsFaults D.Disk (disk_of self.old) (disk_of self.new) result }
-        ensures unwritten { D.honest (disk_of self.old) → LooksOn D.Disk (disk_of self.old) (disk_of self.new) }
-        ensures read { D.honest (disk_of self.old)
+        ensures unwritten { D.honest (disk_of self.new) → LooksOn D.Disk (disk_of self.old) (disk_of self.new) }
+        ensures read { D.honest (disk_of self.new)
             → IfOk result (λ body. body ≡ take 64 (drop (body_place n) (D.reads (disk_of self.old)))) }
-        ensures nth { (bodies : List (List ℕ)) (faulted : List ℕ) → D.honest (disk_of self.old)
+        ensures nth { (bodies : List (List ℕ)) (faulted : List ℕ) → D.honest (disk_of self.new)
             → StandsFor self.old bodies faulted
             → IfOk result (λ body. body ≡ slice_index_or bodies n []) }
-        ensures stands { (bodies : List (List ℕ)) (faulted : List ℕ) → D.honest (disk_of self.old)
+        ensures stands { (bodies : List (List ℕ)) (faulted : List ℕ) → D.honest (disk_of self.new)
             → StandsFor self.old bodies faulted
             → StandsFor self.new bodies faulted }
     {
@@ -58,14 +58,14 @@ impl<D: Disk> Journal<D> {
         ensures count { count_of self.new ≡ (if is_ok result then (count_of self.old) + 1 else (count_of self.old)) }
         ensures clean { OnOk result (IsTrue (is_clean self.new)) }
         ensures disk { TellsFaults D.Disk (disk_of self.old) (disk_of self.new) result }
-        ensures acknowledged { (bodies : List (List ℕ)) (faulted : List ℕ) → D.honest (disk_of self.old)
+        ensures acknowledged { (bodies : List (List ℕ)) (faulted : List ℕ) → D.honest (disk_of self.new)
             → StandsFor self.old bodies faulted
             → OnOk result (StandsFor self.new (bodies ++ body.now ∷ []) [] × IsSafe D.Disk (disk_of self.new)) }
-        ensures faulted { (bodies : List (List ℕ)) (faulted : List ℕ) → D.honest (disk_of self.old)
+        ensures faulted { (bodies : List (List ℕ)) (faulted : List ℕ) → D.honest (disk_of self.new)
             → StandsFor self.old bodies faulted
             → OnErr result (StandsFor self.new bodies body.now) }
         // A crash at any moment of the call leaves the bodies from before it, or those and the new one.
-        ensures moments { (bodies : List (List ℕ)) (faulted : List ℕ) → D.honest (disk_of self.old)
+        ensures moments { (bodies : List (List ℕ)) (faulted : List ℕ) → D.honest (disk_of self.new)
             → StandsFor self.old bodies faulted
             → Leaves D.Disk (disk_of self.old) (disk_of self.new) (IsBeforeOrAfter bodies body.now) }
     {
@@ -82,17 +82,17 @@ impl<D: Disk> Journal<D> {
         ensures count { count_of self.new ≡ count_of self.old }
         ensures clean { is_clean self.new ≡ is_ok result }
         ensures disk { TellsFaults D.Disk (disk_of self.old) (disk_of self.new) result }
-        ensures repaired { (bodies : List (List ℕ)) (faulted : List ℕ) → D.honest (disk_of self.old)
+        ensures repaired { (bodies : List (List ℕ)) (faulted : List ℕ) → D.honest (disk_of self.new)
             → StandsFor self.old bodies faulted
             → OnOk result (StandsFor self.new bodies [] × IsSafe D.Disk (disk_of self.new)) }
-        ensures closed { (bodies : List (List ℕ)) (faulted : List ℕ) → D.honest (disk_of self.old)
+        ensures closed { (bodies : List (List ℕ)) (faulted : List ℕ) → D.honest (disk_of self.new)
             → StandsFor self.old bodies faulted
             → OnOk result (slice_index (D.reads (disk_of self.new)) (gate_place (length bodies)) ≡ 0) }
-        ensures faulted { (bodies : List (List ℕ)) (faulted : List ℕ) → D.honest (disk_of self.old)
+        ensures faulted { (bodies : List (List ℕ)) (faulted : List ℕ) → D.honest (disk_of self.new)
             → StandsFor self.old bodies faulted
             → OnErr result (StandsFor self.new bodies faulted) }
         // A crash at any moment of the call leaves the bodies, or those and the one of the fault.
-        ensures moments { (bodies : List (List ℕ)) (faulted : List ℕ) → D.honest (disk_of self.old)
+        ensures moments { (bodies : List (List ℕ)) (faulted : List ℕ) → D.honest (disk_of self.new)
             → StandsFor self.old bodies faulted
             → Leaves D.Disk (disk_of self.old) (disk_of self.new) (IsBeforeOrAfter bodies faulted) }
     {
@@ -126,10 +126,10 @@ impl<D: Disk> Journal<D> {
         ensures count { count_of self.new ≡ count_of self.old }
         ensures clean { IsTrue (is_clean self.new) }
         ensures cause { HasDiskCause (D.faults (disk_of self.old)) (D.faults (disk_of self.new)) result }
-        ensures honesty { (D.honest (disk_of self.old)) ↔ (D.honest (disk_of self.new)) }
-        ensures next { D.honest (disk_of self.old)
+        ensures honesty { D.honest (disk_of self.new) → D.honest (disk_of self.old) }
+        ensures next { D.honest (disk_of self.new)
             → OnOk result (gate_place ((count_of self.new) + 1) < length (D.reads (disk_of self.new))) }
-        ensures stages { (bodies : List (List ℕ)) (faulted : List ℕ) → D.honest (disk_of self.old)
+        ensures stages { (bodies : List (List ℕ)) (faulted : List ℕ) → D.honest (disk_of self.new)
             → StandsFor self.old bodies faulted
             → StagesOn self.old self.new bodies body.now result }
     {
@@ -145,8 +145,8 @@ impl<D: Disk> Journal<D> {
         ensures count { count_of self.new ≡ (if is_ok result then (count_of self.old) + 1 else (count_of self.old)) }
         ensures clean { is_clean self.new ≡ is_ok result }
         ensures cause { HasDiskCause (D.faults (disk_of self.old)) (D.faults (disk_of self.new)) result }
-        ensures honesty { (D.honest (disk_of self.old)) ↔ (D.honest (disk_of self.new)) }
-        ensures acknowledges { (bodies : List (List ℕ)) (body : List ℕ) → D.honest (disk_of self.old)
+        ensures honesty { D.honest (disk_of self.new) → D.honest (disk_of self.old) }
+        ensures acknowledges { (bodies : List (List ℕ)) (body : List ℕ) → D.honest (disk_of self.new)
             → (count_of self.old) ≡ length bodies
             → IsStaged (D.reads (disk_of self.old)) bodies body → IsSafe D.Disk (disk_of self.old)
             → AcknowledgesOn self.old self.new bodies body result }

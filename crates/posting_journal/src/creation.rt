@@ -1,5 +1,5 @@
 // The creation of an empty journal, in three steps. At each moment the file is an unfinished creation, or the journal.
-ghost use Rattle.std.specs.Prelude.{◌≡◌, ◌↔◌, [], ◌∷◌, ◌++◌, false, IsTrue, OnOk};
+ghost use Rattle.std.specs.Prelude.{◌≡◌, [], ◌∷◌, ◌++◌, false, IsTrue, OnOk};
 ghost use Rattle.outside_io.specs.Disks.{HasDiskCause};
 ghost use Rattle.posting_journal.specs.Creation.{IsBegun, IsToBegin, IsReady, IsEmpty};
 ghost use Rattle.posting_journal.specs.Files.{IsJournal};
@@ -17,10 +17,10 @@ pub(crate) fn create<D: Disk>(disk: &mut D, begun: bool) -> Result<(), Failed>
     requires other { D.honest disk.old → begun ≡ false → IsToBegin (D.reads disk.old) }
     requires safe { D.honest disk.old → IsSafe D.Disk disk.old }
     ensures cause { HasDiskCause (D.faults disk.old) (D.faults disk.new) result }
-    ensures honesty { (D.honest disk.old) ↔ (D.honest disk.new) }
-    ensures made { D.honest disk.old → OnOk result (IsJournal (D.reads disk.new) [] × IsSafe D.Disk disk.new) }
-    ensures exact { D.honest disk.old → OnOk result (D.reads disk.new ≡ empty_journal) }
-    ensures moments { D.honest disk.old → Passes D.Disk disk.old disk.new IsEmpty }
+    ensures honesty { D.honest disk.new → D.honest disk.old }
+    ensures made { D.honest disk.new → OnOk result (IsJournal (D.reads disk.new) [] × IsSafe D.Disk disk.new) }
+    ensures exact { D.honest disk.new → OnOk result (D.reads disk.new ≡ empty_journal) }
+    ensures moments { D.honest disk.new → Passes D.Disk disk.old disk.new IsEmpty }
 {
     if !begun {
         begin(disk)?;
@@ -34,9 +34,9 @@ fn begin<D: Disk>(disk: &mut D) -> Result<(), Failed>
     requires other { D.honest disk.old → IsToBegin (D.reads disk.old) }
     requires safe { D.honest disk.old → IsSafe D.Disk disk.old }
     ensures cause { HasDiskCause (D.faults disk.old) (D.faults disk.new) result }
-    ensures honesty { (D.honest disk.old) ↔ (D.honest disk.new) }
-    ensures begun { D.honest disk.old → OnOk result (IsBegun (D.reads disk.new) × IsSafe D.Disk disk.new) }
-    ensures moments { D.honest disk.old → Passes D.Disk disk.old disk.new IsEmpty }
+    ensures honesty { D.honest disk.new → D.honest disk.old }
+    ensures begun { D.honest disk.new → OnOk result (IsBegun (D.reads disk.new) × IsSafe D.Disk disk.new) }
+    ensures moments { D.honest disk.new → Passes D.Disk disk.old disk.new IsEmpty }
 {
     put(disk, 0, &[CLOSED])
 }
@@ -46,10 +46,10 @@ fn write_header<D: Disk>(disk: &mut D) -> Result<(), Failed>
     requires begun { D.honest disk.old → IsBegun (D.reads disk.old) }
     requires safe { D.honest disk.old → IsSafe D.Disk disk.old }
     ensures cause { HasDiskCause (D.faults disk.old) (D.faults disk.new) result }
-    ensures honesty { (D.honest disk.old) ↔ (D.honest disk.new) }
-    ensures ready { D.honest disk.old → OnOk result (IsReady (D.reads disk.new) × IsSafe D.Disk disk.new) }
-    ensures exact { D.honest disk.old → OnOk result (D.reads disk.new ≡ 0 ∷ header ++ 0 ∷ []) }
-    ensures moments { D.honest disk.old → Passes D.Disk disk.old disk.new IsEmpty }
+    ensures honesty { D.honest disk.new → D.honest disk.old }
+    ensures ready { D.honest disk.new → OnOk result (IsReady (D.reads disk.new) × IsSafe D.Disk disk.new) }
+    ensures exact { D.honest disk.new → OnOk result (D.reads disk.new ≡ 0 ∷ header ++ 0 ∷ []) }
+    ensures moments { D.honest disk.new → Passes D.Disk disk.old disk.new IsEmpty }
 {
     put(disk, 1, &HEADER_AND_GATE)
 }
@@ -60,10 +60,10 @@ fn finish<D: Disk>(disk: &mut D) -> Result<(), Failed>
     requires exact { D.honest disk.old → D.reads disk.old ≡ 0 ∷ header ++ 0 ∷ [] }
     requires safe { D.honest disk.old → IsSafe D.Disk disk.old }
     ensures cause { HasDiskCause (D.faults disk.old) (D.faults disk.new) result }
-    ensures honesty { (D.honest disk.old) ↔ (D.honest disk.new) }
-    ensures made { D.honest disk.old → OnOk result (IsJournal (D.reads disk.new) [] × IsSafe D.Disk disk.new) }
-    ensures exact { D.honest disk.old → OnOk result (D.reads disk.new ≡ empty_journal) }
-    ensures moments { D.honest disk.old → Passes D.Disk disk.old disk.new IsEmpty }
+    ensures honesty { D.honest disk.new → D.honest disk.old }
+    ensures made { D.honest disk.new → OnOk result (IsJournal (D.reads disk.new) [] × IsSafe D.Disk disk.new) }
+    ensures exact { D.honest disk.new → OnOk result (D.reads disk.new ≡ empty_journal) }
+    ensures moments { D.honest disk.new → Passes D.Disk disk.old disk.new IsEmpty }
 {
     put(disk, 0, &[OPEN])
 }

@@ -1,5 +1,5 @@
 // The opening of a file.
-ghost use Rattle.std.specs.Prelude.{◌≡◌, ◌↔◌, ◌≤◌, length, IfOk, IfErr};
+ghost use Rattle.std.specs.Prelude.{◌≡◌, ◌≤◌, length, IfOk, IfErr};
 ghost use Rattle.outside_io.specs.Disks.{HasDiskCause};
 ghost use Rattle.posting_journal.specs.Creation.{IsUnfinished};
 ghost use Rattle.posting_journal.specs.Layout.{empty_journal, most_records};
@@ -20,14 +20,14 @@ use outside_io::{Disk, Failed};
 // that a later crash leaves.
 pub(crate) fn open<D: Disk>(disk: &mut D) -> Result<u32, Unopened>
     ensures cause { HasUnopenedCause (D.faults disk.old) (D.faults disk.new) result }
-    ensures honesty { (D.honest disk.old) ↔ (D.honest disk.new) }
+    ensures honesty { D.honest disk.new → D.honest disk.old }
     ensures few { IfOk result (λ n. n ≤ most_records) }
-    ensures opened { D.honest disk.old → IfOk result (λ n. OpenedTo D.Disk disk.old disk.new n) }
-    ensures made { D.honest disk.old → IsUnfinished (D.reads disk.old)
+    ensures opened { D.honest disk.new → IfOk result (λ n. OpenedTo D.Disk disk.old disk.new n) }
+    ensures made { D.honest disk.new → IsUnfinished (D.reads disk.old)
         → IfOk result (λ n. D.reads disk.new ≡ empty_journal) }
-    ensures refused { D.honest disk.old → IfErr result (λ cause. ShowsWhy (D.reads disk.old) cause) }
-    ensures opens { D.honest disk.old → OpensOn D.Disk disk.old disk.new }
-    ensures synced { D.honest disk.old → IfOk result (λ n. HasSynced D.Disk disk.old disk.new) }
+    ensures refused { D.honest disk.new → IfErr result (λ cause. ShowsWhy (D.reads disk.old) cause) }
+    ensures opens { D.honest disk.new → OpensOn D.Disk disk.old disk.new }
+    ensures synced { D.honest disk.new → IfOk result (λ n. HasSynced D.Disk disk.old disk.new) }
 {
     make_safe(disk)?;
     open_safe(disk)
@@ -37,14 +37,14 @@ pub(crate) fn open<D: Disk>(disk: &mut D) -> Result<u32, Unopened>
 fn open_safe<D: Disk>(disk: &mut D) -> Result<u32, Unopened>
     requires safe { D.honest disk.old → IsSafe D.Disk disk.old }
     ensures cause { HasUnopenedCause (D.faults disk.old) (D.faults disk.new) result }
-    ensures honesty { (D.honest disk.old) ↔ (D.honest disk.new) }
+    ensures honesty { D.honest disk.new → D.honest disk.old }
     ensures few { IfOk result (λ n. n ≤ most_records) }
-    ensures opened { D.honest disk.old → IfOk result (λ n. OpenedTo D.Disk disk.old disk.new n) }
-    ensures made { D.honest disk.old → IsUnfinished (D.reads disk.old)
+    ensures opened { D.honest disk.new → IfOk result (λ n. OpenedTo D.Disk disk.old disk.new n) }
+    ensures made { D.honest disk.new → IsUnfinished (D.reads disk.old)
         → IfOk result (λ n. D.reads disk.new ≡ empty_journal) }
-    ensures refused { D.honest disk.old → IfErr result (λ cause. ShowsWhy (D.reads disk.old) cause) }
-    ensures moments { D.honest disk.old → Passes D.Disk disk.old disk.new (IsOpenedOn (D.reads disk.old)) }
-    ensures unwritten { D.honest disk.old → ¬ IsUnfinished (D.reads disk.old) → LooksOn D.Disk disk.old disk.new }
+    ensures refused { D.honest disk.new → IfErr result (λ cause. ShowsWhy (D.reads disk.old) cause) }
+    ensures moments { D.honest disk.new → Passes D.Disk disk.old disk.new (IsOpenedOn (D.reads disk.old)) }
+    ensures unwritten { D.honest disk.new → ¬ IsUnfinished (D.reads disk.old) → LooksOn D.Disk disk.old disk.new }
 {
     let size = disk.len()?;
     match kind_of(disk, size)? {
@@ -61,10 +61,10 @@ fn open_safe<D: Disk>(disk: &mut D) -> Result<u32, Unopened>
 fn kind_of<D: Disk>(disk: &mut D, size: u64) -> Result<FileKind, Failed>
     requires { D.honest disk.old → size ≡ length (D.reads disk.old) }
     ensures cause { HasDiskCause (D.faults disk.old) (D.faults disk.new) result }
-    ensures honesty { (D.honest disk.old) ↔ (D.honest disk.new) }
+    ensures honesty { D.honest disk.new → D.honest disk.old }
     ensures long { IfOk result (λ kind. IsLongIfMade size kind) }
-    ensures kind { D.honest disk.old → IfOk result (λ kind. IsOfKind (D.reads disk.old) kind) }
-    ensures unwritten { D.honest disk.old → LooksOn D.Disk disk.old disk.new }
+    ensures kind { D.honest disk.new → IfOk result (λ kind. IsOfKind (D.reads disk.old) kind) }
+    ensures unwritten { D.honest disk.new → LooksOn D.Disk disk.old disk.new }
 {
     let mut front = [0; 18];
     let many = size.min(18) as usize;

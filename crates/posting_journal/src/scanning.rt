@@ -14,11 +14,11 @@ pub(crate) fn count_records<D: Disk>(disk: &mut D, size: u64) -> Result<u32, Uno
     requires long { 18 ≤ size }
     requires told { D.honest disk.old → size ≡ length (D.reads disk.old) }
     ensures cause { HasUnopenedCause (D.faults disk.old) (D.faults disk.new) result }
-    ensures honesty { (D.honest disk.old) ↔ (D.honest disk.new) }
+    ensures honesty { D.honest disk.new → D.honest disk.old }
     ensures few { IfOk result (λ n. n ≤ most_records) }
-    ensures ends { D.honest disk.old → IfOk result (λ n. EndsAt (D.reads disk.old) n) }
-    ensures bad { D.honest disk.old → IfErr result (λ cause. IsBadFrom (D.reads disk.old) cause) }
-    ensures unwritten { D.honest disk.old → LooksOn D.Disk disk.old disk.new }
+    ensures ends { D.honest disk.new → IfOk result (λ n. EndsAt (D.reads disk.old) n) }
+    ensures bad { D.honest disk.new → IfErr result (λ cause. IsBadFrom (D.reads disk.old) cause) }
+    ensures unwritten { D.honest disk.new → LooksOn D.Disk disk.old disk.new }
 {
     let mut n = 0;
     while has_record(disk, size, n)? {
@@ -33,12 +33,12 @@ fn has_record<D: Disk>(disk: &mut D, size: u64, n: u32) -> Result<bool, Unopened
     requires within { gate_place n < size }
     requires told { D.honest disk.old → size ≡ length (D.reads disk.old) }
     ensures cause { HasUnopenedCause (D.faults disk.old) (D.faults disk.new) result }
-    ensures honesty { (D.honest disk.old) ↔ (D.honest disk.new) }
+    ensures honesty { D.honest disk.new → D.honest disk.old }
     ensures stands { IfOk result (λ stands. IsTrue stands → (n < most_records) × (gate_place (n + 1) < size)) }
-    ensures gate { D.honest disk.old
+    ensures gate { D.honest disk.new
         → IfOk result (λ stands. IsTrue stands ↔ (slice_index (D.reads disk.old) (gate_place n) ≡ 1)) }
-    ensures bad { D.honest disk.old → IfErr result (λ cause. CantStand (D.reads disk.old) n cause) }
-    ensures unwritten { D.honest disk.old → LooksOn D.Disk disk.old disk.new }
+    ensures bad { D.honest disk.new → IfErr result (λ cause. CantStand (D.reads disk.old) n cause) }
+    ensures unwritten { D.honest disk.new → LooksOn D.Disk disk.old disk.new }
 {
     let mut gate = [0];
     disk.read(gate_place(n), &mut gate)?;

@@ -1,10 +1,10 @@
 // A journal is started on a disk.
-ghost use Rattle.std.specs.Prelude.{◌≡◌, ◌↔◌, ◌⊎◌, ℕ, List, IsTrue, IfOk, IfErr, IsErrAnd, MatchResult};
+ghost use Rattle.std.specs.Prelude.{◌≡◌, ◌⊎◌, ℕ, List, IsTrue, IfOk, IfErr, IsErrAnd, MatchResult};
 ghost use Rattle.posting_journal.specs.Creation.{IsUnfinished};
 ghost use Rattle.posting_journal.specs.Layout.{empty_journal};
 ghost use Rattle.posting_journal.specs.States.{disk_of, is_clean};
 ghost use Rattle.posting_journal.specs.Opening.{OpensOn};
-ghost use Rattle.posting_journal.specs.Starting.{TellsCause, ShowsCause, IsRefusedFor, IsFault, HasStarted};
+ghost use Rattle.posting_journal.specs.Starting.{TellsCause, ShowsCause, IsRefusedFor, IsFault, HasStarted, disk_back};
 ghost use Rattle.posting_journal.specs.inside.Unopened.{ShowsWhy, TellsCount};
 ghost use Rattle.posting_journal.specs.declared.faults.JournalCause.{JournalCause};
 
@@ -20,17 +20,14 @@ impl<D: Disk> Journal<D> {
         ensures told { IfErr result (λ fault. TellsCause (D.faults disk) (D.faults fault.disk) fault.cause) }
         ensures quiet { IfOk result (λ journal. D.faults (disk_of journal) ≡ D.faults disk) }
         ensures clean { IfOk result (λ journal. IsTrue (is_clean journal)) }
-        ensures honesty { MatchResult result (λ journal. (D.honest disk) ↔ (D.honest (disk_of journal)))
-            (λ fault. (D.honest disk) ↔ (D.honest fault.disk)) }
-        ensures opened { D.honest disk → IfOk result (λ journal. HasStarted disk journal) }
-        ensures made { D.honest disk → IsUnfinished (D.reads disk)
+        ensures honesty { D.honest (disk_back result) → D.honest disk }
+        ensures opened { D.honest (disk_back result) → IfOk result (λ journal. HasStarted disk journal) }
+        ensures made { D.honest (disk_back result) → IsUnfinished (D.reads disk)
             → IfOk result (λ journal. D.reads (disk_of journal) ≡ empty_journal) }
-        ensures refused { D.honest disk → IfErr result (λ fault. ShowsCause (D.reads disk) fault.cause) }
-        ensures due { (cause : JournalCause) → D.honest disk → IsRefusedFor (D.reads disk) cause
+        ensures refused { D.honest (disk_back result) → IfErr result (λ fault. ShowsCause (D.reads disk) fault.cause) }
+        ensures due { (cause : JournalCause) → D.honest (disk_back result) → IsRefusedFor (D.reads disk) cause
             → IsErrAnd result (λ fault. (fault.cause ≡ cause) ⊎ IsFault fault.cause) }
-        ensures opens { D.honest disk
-            → MatchResult result (λ journal. OpensOn D.Disk disk (disk_of journal))
-            (λ fault. OpensOn D.Disk disk fault.disk) }
+        ensures opens { D.honest (disk_back result) → OpensOn D.Disk disk (disk_back result) }
     {
         let mut disk = disk;
         match open(&mut disk) {

@@ -22,8 +22,8 @@ abbrev pub FirstIssue : Type 0
 FirstIssue = IsSpelledBy (Issue 7001 (pos 18262) Endowment 0 3 100000 40000) first_issue_bytes
 
 -- 400.00 on 2020-01-01
-abbrev pub PremiumPaid : Type 0
-PremiumPaid = IsSpelledBy (Premium 7001 (pos 18262) 40000)
+abbrev pub SpelledPremium : Type 0
+SpelledPremium = IsSpelledBy (Premium 7001 (pos 18262) 40000)
     (0x02 ∷ 0x00 ∷ 0x00 ∷ 0x00 ∷
     0x00 ∷ 0x00 ∷ 0x1b ∷ 0x59 ∷
     0x00 ∷ 0x00 ∷ 0x47 ∷ 0x56 ∷
@@ -31,8 +31,8 @@ PremiumPaid = IsSpelledBy (Premium 7001 (pos 18262) 40000)
     0x00 ∷ 0x00 ∷ 0x00 ∷ 0x00 ∷ 0x00 ∷ 0x00 ∷ 0x00 ∷ 0x00 ∷ [])
 
 -- to 900.00 with a premium of 360.00, on 2020-01-02
-abbrev pub Altered : Type 0
-Altered = IsSpelledBy (Alter 7001 (pos 18263) 90000 36000)
+abbrev pub SpelledAlteration : Type 0
+SpelledAlteration = IsSpelledBy (Alter 7001 (pos 18263) 90000 36000)
     (0x03 ∷ 0x00 ∷ 0x00 ∷ 0x00 ∷
     0x00 ∷ 0x00 ∷ 0x1b ∷ 0x59 ∷
     0x00 ∷ 0x00 ∷ 0x47 ∷ 0x57 ∷
@@ -67,8 +67,8 @@ Claimed = IsSpelledBy (Claim 258 (pos 256))
     0x00 ∷ 0x00 ∷ 0x00 ∷ 0x00 ∷ 0x00 ∷ 0x00 ∷ 0x00 ∷ 0x00 ∷ [])
 
 -- 600.01 on 2020-01-04
-abbrev pub SettledInPart : Type 0
-SettledInPart = IsSpelledBy (Settle 7001 (pos 18265) 60001)
+abbrev pub SpelledPartSettlement : Type 0
+SpelledPartSettlement = IsSpelledBy (Settle 7001 (pos 18265) 60001)
     (0x07 ∷ 0x00 ∷ 0x00 ∷ 0x00 ∷
     0x00 ∷ 0x00 ∷ 0x1b ∷ 0x59 ∷
     0x00 ∷ 0x00 ∷ 0x47 ∷ 0x59 ∷

@@ -1,6 +1,6 @@
 //! Worked bodies, each a theorem over the definitions alone.
 
-ghost use Rattle.record_codec.specs.Worked.{FirstIssue, StrayByteSpellsNothing, PremiumPaid, Altered, LapsedEarly, ReinstatedAtMost, Claimed, SettledInPart, MaturedOnTheLastDay};
+ghost use Rattle.record_codec.specs.Worked.{FirstIssue, StrayByteSpellsNothing, SpelledPremium, SpelledAlteration, LapsedEarly, ReinstatedAtMost, Claimed, SpelledPartSettlement, MaturedOnTheLastDay};
 
 /// The body of the first issue, with its plan, age and years.
 pub fn first_issue()
@@ -9,14 +9,14 @@ pub fn first_issue()
 
 /// A payment stands where an issue has its amount.
 pub fn payments()
-    ensures premium { PremiumPaid }
+    ensures premium { SpelledPremium }
     ensures reinstatement { ReinstatedAtMost }
-    ensures settlement { SettledInPart }
+    ensures settlement { SpelledPartSettlement }
 {}
 
 /// An alteration has an amount and a premium, and neither plan nor age nor years.
 pub fn altered()
-    ensures { Altered }
+    ensures { SpelledAlteration }
 {}
 
 /// The other kinds have a day alone, in two's complement.

@@ -3,8 +3,8 @@ use Rattle.std.specs.Prelude.{ℕ, ◌≤◌, ⊤, Bool, true, false, List, [], 
 use Rattle.std.specs.List.{All, sum_by, count_by, flat_map}
 use Rattle.life_dates.specs.DayText.{day_text}
 use Rattle.money_core.specs.CentsText.{cents_text}
-use Rattle.statements.specs.Words.{status_word}
-use Rattle.statements.specs.Lines.{line_of}
+use Rattle.policy_types.specs.Words.{status_word}
+use Rattle.text_lines.specs.Lines.{line_of}
 use Rattle.plan_benefits.specs.declared.fault.NotValued.{NotValued}
 use Rattle.plan_benefits.specs.declared.fault.NotValued.TheVariants.{NoBasis, BelowTable, PastTable, RateHigh}
 use Rattle.policy_value.specs.declared.worth.Row.{Row}

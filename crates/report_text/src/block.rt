@@ -6,11 +6,10 @@ ghost use Rattle.report_text.specs.Block.{heading_text, block_text, AreSummable}
 use crate::rows::write_row;
 use crate::totals::write_total;
 use itoa::Buffer;
-use money_core::Text;
 use policy_types::NoMemory;
 use policy_value::Rows;
-use statements::LineWriter;
 use std::alloc::Global;
+use text_lines::{LineWriter, Text};
 
 /// The whole of a valuation: a line like `1,value,2021-01-01,300,25`, with the lane that asked for it, its day,
 /// the position of the journal that is valued and the number of policies; then their rows and the total.

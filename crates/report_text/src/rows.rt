@@ -1,14 +1,13 @@
 // The rows of a valuation.
 ghost use Rattle.std.specs.Prelude.{◌≡◌, ◌++◌, IfOk, OnOk};
-ghost use Rattle.statements.specs.Lines.{behind_commas};
+ghost use Rattle.text_lines.specs.Lines.{behind_commas};
 ghost use Rattle.report_text.specs.Block as spec;
 ghost use Rattle.report_text.specs.Block.{row_text, worth_fields, IsSummable};
 
-use money_core::Text;
 use policy_types::NoMemory;
 use policy_value::{NotValued, Row, Worth};
-use statements::{LineWriter, status_word};
 use std::alloc::Global;
+use text_lines::{LineWriter, Text, status_word};
 
 /// The row of a policy, as `row,7001,inforce,1,127.22,127.23`, or with a word for why it has no value, as
 /// `row,7001,inforce,0,pasttable`. It ends with a line feed.

@@ -2,11 +2,10 @@
 ghost use Rattle.std.specs.Prelude.{◌≡◌, ◌+◌, ◌<◌, ◌≤◌, ◌++◌, ◌^◌, length, IfOk, OnOk, if◌then◌else◌};
 ghost use Rattle.report_text.specs.Block.{lower_bound, upper_bound, is_unvalued, lower_sum, upper_sum, unvalued_count, total_text, IsSummable, AreSummable};
 
-use money_core::Text;
 use policy_types::NoMemory;
 use policy_value::{Rows, Worth};
-use statements::LineWriter;
 use std::alloc::Global;
+use text_lines::{LineWriter, Text};
 
 /// The sums of the bounds, in cents, and the number of rows that have none.
 #[derive(Clone, Copy, PartialEq, Eq, Debug)]

@@ -12,7 +12,7 @@ use Rattle.policy_machine.specs.Book.{book}
 use Rattle.policy_machine.specs.History.{Opening, IsLegal, IsLegalAfter, IsDue, commands_after, live_pin, pin_of, policies_per_read}
 use Rattle.policy_machine.specs.Merge.{reads_of}
 use Rattle.policy_machine.proofs.HistoryGrowth.{Answered, answered_at, pinned_due, read_due, live_parts, slice_get-front, take-commands_after, IsLegalAfter-front, PinsHold-legal}
-use Rattle.schedule_laws.specs.PinnedReads.{book_at, IsPinnedAt, StandsIn, policies_in}
+use Rattle.schedule_laws.specs.PinnedReads.{book_at, IsPinnedAt, StandsIn, policies_told}
 
 -- the commands up to a position that was reached before a turn
 answered_commands : (opening : Opening) (history : List Entry) (entry : Entry) (answered : Answered opening [] history entry) (position : ℕ)
@@ -49,7 +49,7 @@ live_is_pinned history front back entry pin position policies held split pinned 
 -- a read of the pin, wherever it stands
 pub read_holds : (opening : Opening) (history : List Entry) (pin position policies first : ℕ) (read : Entry) → IsLegal opening history
     → IsPinnedAt history pin position policies → StandsIn history read → read.call ≡ Read pin first
-    → policies_in read.reply ≡ take policies_per_read (drop first (book_at opening history position))
+    → policies_told read.reply ≡ take policies_per_read (drop first (book_at opening history position))
 read_holds opening history pin position policies first read legal pinned stands call =
     let answered = (answered_at opening [] history stands.0 read legal.due stands.1).0 in
     let due = read_due opening answered.front read.caller pin first read.reply
@@ -60,7 +60,7 @@ read_holds opening history pin position policies first read legal pinned stands 
     let before : IsLegalAfter opening [] answered.front =
     IsLegalAfter-front opening [] answered.front (read ∷ answered.back) (subst (IsLegalAfter opening []) answered.split legal.due) in
     let reached = ((PinsHold-legal opening answered.front before).pins_in pin position policies live).1 in
-    ap policies_in due.read
+    ap policies_told due.read
     ∙ ap (λ (held : ℕ × ℕ). take policies_per_read (drop first (book (take held.0 (commands_after opening answered.front))))) same
     ∙ ap (λ commands. take policies_per_read (drop first (book commands))) (sym (answered_commands opening history read answered position reached))
 
@@ -79,14 +79,14 @@ AreReads pin calls = AllByRecursion (λ call. (first : ℕ) × (call ≡ Read pi
 
 reads_hold : (opening : Opening) (history : List Entry) (pin position policies : ℕ) (reads : List Entry) → IsLegal opening history
     → IsPinnedAt history pin position policies → AllByRecursion (StandsIn history) reads → AreReads pin (map (λ read. read.call) reads)
-    → flat_map (λ read. policies_in read.reply) reads ≡ flat_map (read_of (book_at opening history position)) (map (λ read. read.call) reads)
+    → flat_map (λ read. policies_told read.reply) reads ≡ flat_map (read_of (book_at opening history position)) (map (λ read. read.call) reads)
 reads_hold opening history pin position policies [] legal pinned stand are_reads = refl
 reads_hold opening history pin position policies (read ∷ reads) legal pinned stand are_reads =
     let call = are_reads.0.1 in
     let book_there = book_at opening history position in
-    let here : policies_in read.reply ≡ read_of book_there read.call =
+    let here : policies_told read.reply ≡ read_of book_there read.call =
     read_holds opening history pin position policies are_reads.0.0 read legal pinned stand.0 call ∙ ap (read_of book_there) (sym call) in
-    ap (λ policies_here. policies_here ++ flat_map (λ r. policies_in r.reply) reads) here
+    ap (λ policies_here. policies_here ++ flat_map (λ r. policies_told r.reply) reads) here
     ∙ ap (λ rest. read_of book_there read.call ++ rest) (reads_hold opening history pin position policies reads legal pinned stand.1 are_reads.1)
 
 are_reads_map : (pin : ℕ) (places : List ℕ) → AreReads pin (map (λ k. Read pin (policies_per_read * k)) places)
@@ -148,7 +148,7 @@ take_enough k policies xs number = by_order (grind arith)
 pub pinned_reads : (opening : Opening) (history : List Entry) (pin position policies k : ℕ) (reads : List Entry)
     → IsLegal opening history → IsPinnedAt history pin position policies → AllByRecursion (StandsIn history) reads
     → map (λ read. read.call) reads ≡ take k (reads_of pin policies)
-    → flat_map (λ read. policies_in read.reply) reads ≡ take (policies_per_read * k) (book_at opening history position)
+    → flat_map (λ read. policies_told read.reply) reads ≡ take (policies_per_read * k) (book_at opening history position)
 pinned_reads opening history pin position policies k reads legal pinned stand calls =
     let count = (policies + 255) / policies_per_read in
     let book_there = book_at opening history position in
@@ -164,7 +164,7 @@ pinned_reads opening history pin position policies k reads legal pinned stand ca
 pub whole_pinned_reads : (opening : Opening) (history : List Entry) (pin position policies : ℕ) (reads : List Entry)
     → IsLegal opening history → IsPinnedAt history pin position policies → AllByRecursion (StandsIn history) reads
     → map (λ read. read.call) reads ≡ reads_of pin policies
-    → flat_map (λ read. policies_in read.reply) reads ≡ book_at opening history position
+    → flat_map (λ read. policies_told read.reply) reads ≡ book_at opening history position
 whole_pinned_reads opening history pin position policies reads legal pinned stand calls =
     let count = (policies + 255) / policies_per_read in
     let book_there = book_at opening history position in

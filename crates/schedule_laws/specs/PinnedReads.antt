@@ -32,16 +32,16 @@ abbrev pub StandsIn : List Entry → Entry → Type 0
 StandsIn history entry = (place : ℕ) × (slice_get history place ≡ Some entry)
 
 -- the policies that a read answered
-abbrev pub policies_in : Reply → List Policy
-policies_in (Policies policies) = policies
-policies_in _ = []
+abbrev pub policies_told : Reply → List Policy
+policies_told (Policies policies) = policies
+policies_told _ = []
 
 -- a read of a pin, wherever it stands, has the policies from its first on in the book at the pin's position
 abbrev pub ReadLaw : Type 0
 ReadLaw = (opening : Opening) (history : List Entry) (pin position policies first : ℕ) (read : Entry)
     → IsLegal opening history → IsPinnedAt history pin position policies
     → StandsIn history read → read.call ≡ Read pin first
-    → policies_in read.reply ≡ take policies_per_read (drop first (book_at opening history position))
+    → policies_told read.reply ≡ take policies_per_read (drop first (book_at opening history position))
 
 -- the first k reads of a pin, put together, are the first 256 k policies of that book
 abbrev pub PinnedReadLaw : Type 0
@@ -49,7 +49,7 @@ PinnedReadLaw = (opening : Opening) (history : List Entry) (pin position policie
     → IsLegal opening history → IsPinnedAt history pin position policies
     → AllByRecursion (StandsIn history) reads
     → map (λ read. read.call) reads ≡ take k (reads_of pin policies)
-    → flat_map (λ read. policies_in read.reply) reads ≡ take (policies_per_read * k) (book_at opening history position)
+    → flat_map (λ read. policies_told read.reply) reads ≡ take (policies_per_read * k) (book_at opening history position)
 
 -- all reads of a pin, put together, are that book
 abbrev pub WholePinnedReadLaw : Type 0
@@ -57,4 +57,4 @@ WholePinnedReadLaw = (opening : Opening) (history : List Entry) (pin position po
     → IsLegal opening history → IsPinnedAt history pin position policies
     → AllByRecursion (StandsIn history) reads
     → map (λ read. read.call) reads ≡ reads_of pin policies
-    → flat_map (λ read. policies_in read.reply) reads ≡ book_at opening history position
+    → flat_map (λ read. policies_told read.reply) reads ≡ book_at opening history position

@@ -27,7 +27,7 @@ use Rattle.office_state.proofs.PinSteps.{live_among}
 use Rattle.turn_lock.specs.History.{StartsWith, entries_of}
 use Rattle.turn_lock.specs.Passes.{Holding, PassFacts, TakesTurn}
 use Rattle.shared_office.specs.Offices.{IsOfficeHistory, OfficeOpening}
-use Rattle.shared_office.specs.Pins.{AsksForPin, HasMadePin, HoldsPin, IsKept, KeepsOtherPins, KeepsPins, pinned_reply}
+use Rattle.shared_office.specs.Pins.{AsksForPin, HasMadePin, HoldsPin, IsNotGivenUp, KeepsOtherPins, KeepsPins, pinned_reply}
 use Rattle.shared_office.specs.inside.Pinning.{pin_told}
 
 abbrev gives : ℕ → Entry → Bool
@@ -270,7 +270,7 @@ module _ {D W : Type 0} (turn : ℕ) (call : Call) (old new : Holding (OfficeOpe
   abbrev the_pin : (info : PinInfo) → Held
   the_pin info = record { number = turn; caller = old.caller; position = info.position; policies = info.policies }
 
-  kept_new : (info : PinInfo) → length old.seen ≤ turn → IsKept turn (old.made ++ taking info ∷ [])
+  kept_new : (info : PinInfo) → length old.seen ≤ turn → IsNotGivenUp turn (old.made ++ taking info ∷ [])
   kept_new info late =
       let before : list_any (gives turn) old.made ≡ false =
       ap (list_any (gives turn)) (sym facts.paged.0)

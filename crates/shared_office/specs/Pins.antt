@@ -18,8 +18,8 @@ AsksForPin (PinAt p) = Unit {0}
 AsksForPin _ = ⊥
 
 -- no entry gives the pin of this number up
-abbrev pub IsKept : ℕ → List Entry → Type 0
-IsKept number entries = list_any (λ (entry : Entry). gives_up number entry.call) entries ≡ false
+abbrev pub IsNotGivenUp : ℕ → List Entry → Type 0
+IsNotGivenUp number entries = list_any (λ (entry : Entry). gives_up number entry.call) entries ≡ false
 
 -- the caller made this pin, as it has seen, and hasn't given it up
 pub record HasMadePin (pin : Held) (caller : ℕ) (seen made : List Entry) : Type 0 where
@@ -28,7 +28,7 @@ pub record HasMadePin (pin : Held) (caller : ℕ) (seen made : List Entry) : Typ
   pub holder : pin.caller ≡ caller
   pub took : slice_get seen pin.number
       ≡ Some (record { caller = caller; call = call; reply = Pinned pin.position pin.policies })
-  pub kept : IsKept pin.number made
+  pub kept : IsNotGivenUp pin.number made
 
 -- the pass made the pin, and holds it
 abbrev pub HoldsPin : {O : Type 0} → Holding O → Held → Type 0

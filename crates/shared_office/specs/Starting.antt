@@ -12,14 +12,17 @@ use Rattle.office_state.specs.Journals.{Opens}
 use Rattle.turn_lock.specs.Passes.{Holding, IsFirst, OwnsAll}
 use Rattle.shared_office.specs.Offices.{OfficeOpening}
 
--- The office was opened on the commands of the disk's file and the disk's count of faults, with these watchers. Its first
--- pass has all turns and all shares.
-pub record HasStarted {D W : Type 0} (g : Ghosts D) (old : D) (watchers : W) (pass : Holding (OfficeOpening D W))
+-- The office was opened on a list of commands and the disk's count of faults, with these watchers. Its first pass has all
+-- turns and all shares. Where the disk that the office then holds is honest, it was so before, and the commands are
+-- those of its file; that the disk which an office leaves says the same stands in what closing tells.
+pub record HasStartedOffice {D W : Type 0} (g : Ghosts D) (old : D) (watchers : W) (pass : Holding (OfficeOpening D W))
     : Type 0 where
   pub opening : Opening
   pub first : IsFirst (record { opening = opening; begun = old; watchers = watchers }) pass
   pub faults : opening.faults ≡ g.faults old
-  pub opened : g.honest old → Opens (g.reads old) opening.commands
+  pub held : D
+  pub honesty : g.honest held → g.honest old
+  pub opened : g.honest held → Opens (g.reads old) opening.commands
 
 -- The pass has seen the whole history, and each entry is its own or that of a caller whose pass was taken back. The disk
 -- is left by this history, from the office's opening on, and the balances are those of its accepted commands. The

@@ -9,7 +9,7 @@ ghost use Rattle.office_state.specs.Turning.{read_turn, trim_turn, unpin_turn};
 ghost use Rattle.turn_lock.specs.Passes.{PassFacts, TableId, TakesTurn, all_shares};
 ghost use Rattle.shared_office.specs.Offices.{IsOfficeHistory};
 ghost use Rattle.shared_office.specs.Pins.{HoldsPin, KeepsOtherPins, KeepsPins, pinning_turn};
-ghost use Rattle.shared_office.specs.Starting.{HasClosed, HasStarted};
+ghost use Rattle.shared_office.specs.Starting.{HasClosed, HasStartedOffice};
 ghost use Rattle.shared_office.specs.inside.Pinning.{pin_told};
 
 use crate::batch::Batch;
@@ -41,7 +41,7 @@ pub trait OfficeCalls<D: Disk, W: Watching> {
     /// where no office is opened.
     fn start(alloc: Global, disk: D, watchers: W) -> Result<(Self, OfficePass<D, W>), StartFault<D>>
         requires told { W.told watchers [] }
-        ensures started { IfOk result (λ made. HasStarted D.Disk disk watchers made.1
+        ensures started { IfOk result (λ made. HasStartedOffice D.Disk disk watchers made.1
             × (made.1.turnstile ≡ office made.0) × PassFacts IsOfficeHistory made.1) }
         ensures refused { IfErr result (λ fault. HasNotOpened D.Disk disk fault.disk fault.cause) };
 

@@ -12,12 +12,12 @@ use Rattle.policy_types.specs.declared.entry.Call.TheVariants.{Read}
 use Rattle.policy_machine.specs.History.{policies_per_read}
 use Rattle.policy_machine.specs.Merge.{Placed, reads_of}
 use Rattle.policy_machine.specs.Rules.{IsSound}
-use Rattle.policy_value.specs.Rows.{IsWithin}
+use Rattle.policy_value.specs.Rows.{IsWithinAmount}
 use Rattle.policy_value.specs.declared.worth.Row.{Row}
 use Rattle.office_state.specs.declared.held.Held.{Held}
 use Rattle.turn_lock.specs.Passes.{Holding}
 use Rattle.shared_office.specs.Offices.{OfficeOpening}
-use Rattle.snapshot_value.specs.Valuing.{IsRowOf, most_amount}
+use Rattle.snapshot_value.specs.Valuing.{IsValuedRow, most_amount}
 use Rattle.snapshot_value.specs.inside.Parts.{AddsRows, HasReadAll, HasReadPart, HasReadParts, calls_of, policies_at, reads_needed}
 use Rattle.snapshot_value.proofs.Growth.{grows_more, grows_none}
 use Rattle.snapshot_value.proofs.PinSteps.{IsKnown}
@@ -121,10 +121,10 @@ module _ {D W : Type 0} (basis : List Dated) (on : ℤ) (pin : Held) where
           so_far.calls
           ∙ take_all k (reads_of pin.number pin.policies) (omega (arith, enough, length-reads_of pin.number pin.policies));
       all = record {
-        each = subst (λ rs. AllZip (IsRowOf basis on) policies rs) (sym adds.longer) adds.each;
+        each = subst (λ rs. AllZip (IsValuedRow basis on) policies rs) (sym adds.longer) adds.each;
         few = omega (arith, added_length basis on policies [] rows adds, is.counted, is.few);
-        within = subst (All (λ (row : Row). IsWithin most_amount row.worth)) (sym adds.longer)
-            (All-from_recursion (λ (row : Row). IsWithin most_amount row.worth) adds.added adds.within);
+        within = subst (All (λ (row : Row). IsWithinAmount most_amount row.worth)) (sym adds.longer)
+            (All-from_recursion (λ (row : Row). IsWithinAmount most_amount row.worth) adds.added adds.within);
       };
     }
       where

@@ -22,11 +22,11 @@ use Rattle.turn_lock.specs.Passes.{Holding, PassFacts, TakesTurn}
 use Rattle.shared_office.specs.Offices.{IsOfficeHistory, OfficeOpening}
 use Rattle.shared_office.specs.Pins.{HoldsPin, KeepsOtherPins, KeepsPins, pinning_turn}
 use Rattle.snapshot_value.specs.Growing.{Grows}
-use Rattle.snapshot_value.specs.Valuing.{AreRowsOf, HasValued, IsAnswered, dry_pins}
+use Rattle.snapshot_value.specs.Valuing.{AreValuedRows, HasValued, AnswersPin, dry_pins}
 use Rattle.snapshot_value.specs.declared.valuation.Valuation.{Valuation}
 use Rattle.snapshot_value.specs.declared.valuation.ValueFault.{ValueFault}
 use Rattle.snapshot_value.specs.declared.valuation.ValueFault.TheVariants.{Pin, NoMemory}
-use Rattle.snapshot_value.specs.inside.Parts.{FollowsPinned, HasRead, HasReadAll, HasValuedPin, calls_of, policies_at, reads_needed}
+use Rattle.snapshot_value.specs.inside.Parts.{FollowsPinned, HasReadRows, HasReadAll, HasValuedPin, calls_of, policies_at, reads_needed}
 use Rattle.snapshot_value.proofs.Growth.{grows_more, grows_one}
 use Rattle.snapshot_value.proofs.PartSteps.{length-reads_of}
 use Rattle.snapshot_value.proofs.PinSteps.{IsKnown, known, policies_by}
@@ -46,7 +46,7 @@ module _ {D W : Type 0} (basis : List Dated) (on : ℤ) (pin : Held) where
   left_after old mid rows is read left = omega (arith, few_reads old mid rows is read, read.grows.left, left)
 
   pub turn_left : (old mid : Holding (OfficeOpening D W)) (read : Result (List Row) Lack) → PassFacts IsOfficeHistory old → HoldsPin old pin
-      → HasRead basis on pin old mid read → 15999 ≤ old.left → 1 ≤ mid.left
+      → HasReadRows basis on pin old mid read → 15999 ≤ old.left → 1 ≤ mid.left
   turn_left old mid (Ok rows) facts holds read left = left_after old mid rows (known old pin facts holds) read left
   turn_left old mid (Err lack) facts holds read left =
       let same : mid.left ≡ old.left = ap (λ (p : Holding (OfficeOpening D W)). p.left) read in omega (arith, same, left)
@@ -64,7 +64,7 @@ module _ {D W : Type 0} (basis : List Dated) (on : ℤ) (pin : Held) where
           ∙ ap (λ (calls : List Call). calls ++ Unpin pin.number ∷ []) read.calls,
       position,
       day,
-      subst (AreRowsOf basis on (policies_at old pin.position)) (sym same) read.all,
+      subst (AreValuedRows basis on (policies_at old pin.position)) (sym same) read.all,
     );
   }
     where
@@ -160,11 +160,11 @@ module _ {D W : Type 0} (basis : List Dated) (on : ℤ) (at : At) (workers turn 
           ∙ ap (λ commands. book (take pin.position commands)) commands_stay
 
       answered_by : (calls : List Call) (answer : Result Valuation ValueFault) → FollowsPinned basis on pin mid calls answer
-          → IsAnswered (commands_after is.opened.opening (take turn new.seen)) basis on (Pinned pin.position pin.policies) answer
+          → AnswersPin (commands_after is.opened.opening (take turn new.seen)) basis on (Pinned pin.position pin.policies) answer
       answered_by calls (Ok valuation) follows = record {
         pinned = follows.1;
         day = follows.2;
-        rows = subst (λ policies. AreRowsOf basis on policies valuation.rows) same_policies follows.3;
+        rows = subst (λ policies. AreValuedRows basis on policies valuation.rows) same_policies follows.3;
       }
       answered_by calls (Err NoMemory) follows = tt
       answered_by calls (Err (Pin refusal)) follows = absurd follows

@@ -6,7 +6,7 @@ ghost use Rattle.turn_lock.specs.Passes.{PassFacts};
 ghost use Rattle.shared_office.specs.Offices.{IsOfficeHistory};
 ghost use Rattle.shared_office.specs.Pins.{HoldsPin, KeepsPins};
 ghost use Rattle.snapshot_value.specs.Valuing.{most_turns};
-ghost use Rattle.snapshot_value.specs.inside.Parts.{AddsRows, HasRead, HasReadAll, HasReadPart};
+ghost use Rattle.snapshot_value.specs.inside.Parts.{AddsRows, HasReadRows, HasReadAll, HasReadPart};
 
 use basis_book::Basis;
 use outside_io::{Disk, Gate};
@@ -39,7 +39,7 @@ pub fn rows_of<D: Disk, W: Watching, G: Gate, R: Wait>(
     requires left { most_turns ≤ pass.old.left + 1 }
     requires facts { PassFacts IsOfficeHistory pass.old }
     requires held { HoldsPin pass.old pin.now }
-    ensures read { HasRead basis.now on pin.now pass.old pass.new result }
+    ensures read { HasReadRows basis.now on pin.now pass.old pass.new result }
     ensures facts { PassFacts IsOfficeHistory pass.new }
     ensures pins { KeepsPins pass.old pass.new }
 {

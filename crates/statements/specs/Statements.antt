@@ -2,31 +2,14 @@
 use Rattle.std.specs.Prelude.{ℕ, ℤ, ◌≤◌, List, [], ◌∷◌, ◌++◌, codes, decimal}
 use Rattle.std.specs.List.{flat_map}
 use Rattle.policy_types.specs.declared.command.Command.{Command}
-use Rattle.policy_types.specs.declared.command.Command.TheVariants.{Issue, Premium, Alter, Lapse, Reinstate, Claim, Settle, Mature}
-use Rattle.policy_types.specs.declared.command.Plan.{Plan}
 use Rattle.policy_types.specs.declared.policy.Policy.{Policy}
 use Rattle.policy_types.specs.Accounts.{Booking}
 use Rattle.policy_types.specs.Valid.{day_of}
 use Rattle.life_dates.specs.DayText.{day_text}
 use Rattle.money_core.specs.CentsText.{cents_text, signed_cents_text}
-use Rattle.statements.specs.Words.{kind_word, plan_word, status_word}
-use Rattle.statements.specs.Lines.{line_of}
-
--- the terms of a policy's insurance
-abbrev pub insurance_fields : (plan : Plan) (age years amount premium : ℕ) → List (List ℕ)
-insurance_fields plan age years amount premium =
-    plan_word plan ∷ decimal age ∷ decimal years ∷ cents_text amount ∷ cents_text premium ∷ []
-
--- what a command holds beside its kind, its policy's number and its day
-abbrev pub term_fields : Command → List (List ℕ)
-term_fields (Issue id day plan age years amount premium) = insurance_fields plan age years amount premium
-term_fields (Premium id day amount) = cents_text amount ∷ []
-term_fields (Alter id day amount premium) = cents_text amount ∷ cents_text premium ∷ []
-term_fields (Lapse id day) = []
-term_fields (Reinstate id day amount) = cents_text amount ∷ []
-term_fields (Claim id day) = []
-term_fields (Settle id day amount) = cents_text amount ∷ []
-term_fields (Mature id day) = []
+use Rattle.policy_types.specs.Words.{kind_word, status_word}
+use Rattle.text_lines.specs.Fields.{insurance_fields, term_fields}
+use Rattle.text_lines.specs.Lines.{line_of}
 
 -- the line of an accepted command, with its number among all of them
 unfoldable pub entry_text : ℕ → Command → List ℕ
@@ -51,8 +34,8 @@ statement_text entries policy =
     flat_map (λ (entry : ℕ × Command). entry_text entry.0 entry.1) entries ++ policy_text policy
 
 -- the line of one account
-unfoldable pub account_text : List ℕ → ℤ → List ℕ
-account_text account balance = line_of (codes "balance") (account ∷ signed_cents_text balance ∷ [])
+unfoldable pub account_line : List ℕ → ℤ → List ℕ
+account_line account balance = line_of (codes "balance") (account ∷ signed_cents_text balance ∷ [])
 
 -- the line of the number of accepted commands
 unfoldable pub count_text : ℕ → List ℕ
@@ -61,8 +44,8 @@ count_text count = line_of (codes "count") (decimal count ∷ [])
 -- the four balances, and how many commands were accepted
 abbrev pub balance_text : Booking → ℕ → List ℕ
 balance_text ledger count =
-    account_text (codes "cash") ledger.cash ++ account_text (codes "premiums") ledger.premiums
-    ++ account_text (codes "incurred") ledger.incurred ++ account_text (codes "payable") ledger.payable
+    account_line (codes "cash") ledger.cash ++ account_line (codes "premiums") ledger.premiums
+    ++ account_line (codes "incurred") ledger.incurred ++ account_line (codes "payable") ledger.payable
     ++ count_text count
 
 -- a policy's amounts, none above 100,000,000.00

@@ -1,13 +1,12 @@
 // The balances of the accounts.
 ghost use Rattle.std.specs.Prelude.{◌≡◌, ◌++◌, IfOk, OnOk};
 ghost use Rattle.money_ledgers.specs.Balances.{balances};
-ghost use Rattle.statements.specs.Statements.{account_text, balance_text, count_text};
+ghost use Rattle.statements.specs.Statements.{account_line, balance_text, count_text};
 
-use crate::writer::LineWriter;
-use money_core::Text;
 use money_ledgers::Ledger;
 use policy_types::NoMemory;
 use std::alloc::Global;
+use text_lines::{LineWriter, Text};
 
 /// The lines of the four balances, and of the number of accepted commands.
 pub fn balance(alloc: Global, ledger: &Ledger, count: u32) -> Result<Text, NoMemory>
@@ -23,9 +22,9 @@ pub fn balance(alloc: Global, ledger: &Ledger, count: u32) -> Result<Text, NoMem
 }
 
 // Adds the line of an account.
-#[tactic(auto, unfolding(crate::specs::Statements::account_text))]
+#[tactic(auto, unfolding(crate::specs::Statements::account_line))]
 fn write_account(lines: &mut LineWriter, account: &str, balance: i64) -> Result<(), NoMemory>
-    ensures { OnOk result (lines.new ≡ lines.old ++ account_text account.now balance) }
+    ensures { OnOk result (lines.new ≡ lines.old ++ account_line account.now balance) }
 {
     lines.first("balance")?;
     lines.word(account)?;

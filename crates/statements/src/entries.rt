@@ -1,14 +1,13 @@
 // The lines of accepted commands.
-ghost use Rattle.std.specs.Prelude.{◌≡◌, ◌++◌, ◌≤◌, IfOk, OnOk};
+ghost use Rattle.std.specs.Prelude.{◌≡◌, ◌++◌, IfOk, OnOk};
 ghost use Rattle.policy_types.specs.Valid.{IsValid};
-ghost use Rattle.statements.specs.Lines.{behind_commas};
-ghost use Rattle.statements.specs.Statements.{entry_text, insurance_fields, term_fields};
+ghost use Rattle.text_lines.specs.Fields.{term_fields};
+ghost use Rattle.text_lines.specs.Lines.{behind_commas};
+ghost use Rattle.statements.specs.Statements.{entry_text};
 
-use crate::words::{kind_word, plan_word};
-use crate::writer::LineWriter;
-use money_core::Text;
-use policy_types::{Command, NoMemory, Plan};
+use policy_types::{Command, NoMemory};
 use std::alloc::Global;
+use text_lines::{LineWriter, Text, kind_word};
 
 /// The line of an accepted command; `position` is its number among all of them, from 1.
 pub fn print_entry(alloc: Global, position: u32, command: &Command) -> Result<Text, NoMemory>
@@ -47,7 +46,7 @@ fn write_terms(lines: &mut LineWriter, command: &Command) -> Result<(), NoMemory
             amount,
             premium,
             ..
-        } => write_insurance(lines, plan, age, years, amount, premium),
+        } => lines.insurance(plan, age, years, amount, premium),
         Command::Alter {
             amount,
             premium,
@@ -61,24 +60,4 @@ fn write_terms(lines: &mut LineWriter, command: &Command) -> Result<(), NoMemory
         | Command::Settle { amount, .. } => lines.cents(amount as i64),
         Command::Lapse { .. } | Command::Claim { .. } | Command::Mature { .. } => Ok(()),
     }
-}
-
-// Adds the terms of a policy's insurance.
-pub fn write_insurance(
-    lines: &mut LineWriter,
-    plan: Plan,
-    age: u8,
-    years: u8,
-    amount: u64,
-    premium: u64,
-) -> Result<(), NoMemory>
-    requires { (amount ≤ 10000000000) × (premium ≤ 10000000000) }
-    ensures { OnOk result (lines.new
-        ≡ lines.old ++ behind_commas (insurance_fields plan age years amount premium)) }
-{
-    lines.word(plan_word(plan))?;
-    lines.number(age as u32)?;
-    lines.number(years as u32)?;
-    lines.cents(amount as i64)?;
-    lines.cents(premium as i64)
 }

@@ -4,11 +4,7 @@
 mod balances;
 mod entries;
 mod policies;
-mod words;
-mod writer;
 
 pub use balances::balance;
 pub use entries::print_entry;
 pub use policies::statement;
-pub use words::{kind_word, plan_word, status_word};
-pub use writer::LineWriter;

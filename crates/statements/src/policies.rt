@@ -3,15 +3,13 @@ ghost use Rattle.std.specs.Prelude.{◌≡◌, ◌++◌, ◌≤◌, ℕ, IfOk, O
 ghost use Rattle.std.specs.List.{All};
 ghost use Rattle.policy_types.specs.Valid.{IsCommandDay, IsValid};
 ghost use Rattle.policy_types.specs.declared.command.Command.{Command as ACommand};
-ghost use Rattle.statements.specs.Lines.{behind_commas};
+ghost use Rattle.text_lines.specs.Lines.{behind_commas};
 ghost use Rattle.statements.specs.Statements.{AreAmounts, policy_text, progress_fields, statement_text};
 
-use crate::entries::{write_entry, write_insurance};
-use crate::words::status_word;
-use crate::writer::LineWriter;
-use money_core::Text;
+use crate::entries::write_entry;
 use policy_types::{Command, NoMemory, Policy};
 use std::alloc::Global;
+use text_lines::{LineWriter, Text, status_word};
 
 /// The lines of a policy's accepted commands, each with its number among all accepted commands, and then the line of
 /// the policy as they left it.
@@ -43,8 +41,7 @@ fn write_policy(lines: &mut LineWriter, policy: &Policy) -> Result<(), NoMemory>
     lines.first("policy")?;
     lines.number(policy.id)?;
     lines.word(status_word(policy.status))?;
-    write_insurance(
-        lines,
+    lines.insurance(
         policy.plan,
         policy.age,
         policy.years,

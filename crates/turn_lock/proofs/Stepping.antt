@@ -18,7 +18,7 @@ use Rattle.turn_lock.specs.declared.seats.Stage.TheVariants.{Unnamed, Idle, Queu
 use Rattle.turn_lock.specs.inside.Seats.{IsLive, IsNamed, units_at, units, shares, own, pages, numbers, SeatFacts, named, queued, inside, handed_on, compared}
 use Rattle.turn_lock.specs.inside.Rule.{ticket_at, PageStands, StageStands, SeatStands, SlotStands, LockRule}
 use Rattle.turn_lock.specs.inside.Steps as steps
-use Rattle.turn_lock.specs.inside.Steps.{Sat, IsDue}
+use Rattle.turn_lock.specs.inside.Steps.{Sat, IsTicketDue}
 use Rattle.turn_lock.proofs.Entries.{entries-own, entries-other, entries-none, none_at_start, same_start, starts_more, starts_empty, nested}
 use Rattle.turn_lock.proofs.Pages.{all_weaker, all_append, all_both, all_pages, distinct_head, distinct_one}
 use Rattle.turn_lock.proofs.Totals.{has_place, total_one}
@@ -225,7 +225,7 @@ module _ {T O : Type 0} (opens : T → O) (legal : O → List Entry → Type 0) 
       n = get_or s.words 0 0
 
       abbrev Looked : Type 0
-      Looked = (w : View O) × (a : Act (Option T)) × table.Valid s.homes me.1 a × Rule (stepped s 0 n id me.1 w a) × steps.Looks opens legal stands (step slots 0 0 0 none) me n (w, table.carried_after me.1 a)
+      Looked = (w : View O) × (a : Act (Option T)) × table.Valid s.homes me.1 a × Rule (stepped s 0 n id me.1 w a) × steps.LooksAtTicket opens legal stands (step slots 0 0 0 none) me n (w, table.carried_after me.1 a)
 
       abbrev is_named : IsNamed v.stage
       is_named = subst IsNamed (sym is) tt
@@ -266,7 +266,7 @@ module _ {T O : Type 0} (opens : T → O) (legal : O → List Entry → Type 0) 
             below = own_below legal opening h r.names r.tickets r.owner r.holder id v is_named k;
             staged = (found, omega arith, ap r.holder (sym now) ∙ st.2, refl);
           } in let was : units v ≡ v.left = named_units v.stage v.left is_named in
-          let told_of : IsDue opens legal stands me n (w, (0, Some x) ∷ me.1) = record {
+          let told_of : IsTicketDue opens legal stands me n (w, (0, Some x) ∷ me.1) = record {
             value = x;
             history = h;
             next_is = refl;
@@ -303,7 +303,7 @@ module _ {T O : Type 0} (opens : T → O) (legal : O → List Entry → Type 0) 
       pub looked : Looked
       looked = dite (ℕ_discrete ticket n) (λ e. due e r.slot r.slot_is r.lies) early
 
-    pub looks : ((y : T) (h : List Entry) → stands y h → legal (opens y) h) → (ticket : ℕ) → v.stage ≡ Queued ticket → Allows Rule slots id me 0 (λ n. n) (steps.Looks opens legal stands (step slots 0 0 0 none) me)
+    pub looks : ((y : T) (h : List Entry) → stands y h → legal (opens y) h) → (ticket : ℕ) → v.stage ≡ Queued ticket → Allows Rule slots id me 0 (λ n. n) (steps.LooksAtTicket opens legal stands (step slots 0 0 0 none) me)
     looks law ticket is s r deep at fits = looked law ticket is s r at
 
   -- a hand on, right after the changed value went into the slot in hand

@@ -62,7 +62,7 @@ module _ {Opening : Type 0} where
 
   -- A pass takes another back: what it has left, its shares, and the pages that it vouches for.
   -- It has then seen the longer of the two lists, and both are beginnings of that
-  pub record Leaves (gone old new : Holding Opening) : Type 0 where
+  pub record LeavesLock (gone old new : Holding Opening) : Type 0 where
     pub new_is : new ≡ record old {
       left = old.left + gone.left;
       shares = old.shares + gone.shares;

@@ -42,7 +42,7 @@ pub struct NoRoom<T> {
 }
 
 impl<T: Stands> Turnstile<T> {
-    ghost use Rattle.turn_lock.specs.Passes.{PassFacts, all_shares, IsFirst, Enters, Leaves, TakesTurn, OwnsAll};
+    ghost use Rattle.turn_lock.specs.Passes.{PassFacts, all_shares, IsFirst, Enters, LeavesLock, TakesTurn, OwnsAll};
 
     /// A turnstile round this value, and its first pass, which has all turns and all shares.
     pub fn new(alloc: Global, value: T) -> Result<(Turnstile<T>, Pass<T>), NoRoom<T>>
@@ -103,7 +103,7 @@ impl<T: Stands> Turnstile<T> {
     /// Takes another pass back, with all that it has. It waits for nobody and takes no memory.
     pub fn leave(&self, gone: Pass<T>, pass: &mut Pass<T>)
         requires ours { (gone.turnstile ≡ self.now) × (pass.old.turnstile ≡ self.now) }
-        ensures leaves { Leaves gone pass.old pass.new }
+        ensures leaves { LeavesLock gone pass.old pass.new }
         ensures facts { PassFacts T.legal pass.new }
     {
         let left = gone.left();

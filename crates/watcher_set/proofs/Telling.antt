@@ -8,7 +8,7 @@ use Rattle.policy_types.specs.Limits.{most_commands}
 use Rattle.watcher_set.specs.Noted.{Auditor, noted_of, is_done, report_of, reports_of}
 use Rattle.watcher_set.specs.declared.place.Place.{Place}
 use Rattle.watcher_set.specs.declared.place.Place.TheVariants.{Listening, Reported}
-use Rattle.watcher_set.specs.Told.{auditor_of, IsTold, Listens, HasReported, HasRoom, AreTold}
+use Rattle.watcher_set.specs.Told.{auditor_of, HasHeard, Listens, HasReported, HasSpareRoom, AreTold}
 use Rattle.watcher_set.specs.inside.Calls.{MayBeTold, Stays, Hears, report_at}
 use Rattle.watcher_set.proofs.Halfway.{AllByRecursion-from_zip, AllZip-then}
 use Rattle.watcher_set.proofs.Noting.{noted_all, is_done-more, noted_of-more, is_done-stays, noted_of-stays}
@@ -25,14 +25,14 @@ report_same a b f h same alike =
 module _ {B : Type 0} (g : Ghosts B) where
   -- what the call that readies one auditor leaves
   abbrev pub Readied : Place B → Place B → Type 0
-  Readied old new = Stays g old new × HasRoom g new
+  Readied old new = Stays g old new × HasSpareRoom g new
 
   pub stays_same : (place : Place B) → Stays g place place
   stays_same (Listening watcher) = (refl, record { stops = λ list. refl; number = λ list. refl })
   stays_same (Reported report) = refl
 
-  one_still : (commands : List Command) (auditor : Auditor) (old new : Place B) → IsTold g commands auditor old
-      → Stays g old new → IsTold g commands auditor new
+  one_still : (commands : List Command) (auditor : Auditor) (old new : Place B) → HasHeard g commands auditor old
+      → Stays g old new → HasHeard g commands auditor new
   one_still commands auditor (Listening old) (Listening new) told stays = record {
     noted = stays.0 ∙ told.noted;
     goes_on = told.goes_on;
@@ -53,7 +53,7 @@ module _ {B : Type 0} (g : Ghosts B) where
       ∙ subst (λ list. g.stops watcher (list ++ command ∷ []) ≡ answer) told.noted said
 
   one_more : (commands : List Command) (command : Command) (auditor : Auditor) (old new : Place B)
-      → IsTold g commands auditor old → Hears g command old new → IsTold g (commands ++ command ∷ []) auditor new
+      → HasHeard g commands auditor old → Hears g command old new → HasHeard g (commands ++ command ∷ []) auditor new
   one_more commands command auditor (Listening old) (Listening new) told hears = record {
     noted = hears.0 ∙ ap (λ list. list ++ command ∷ []) told.noted;
     goes_on = says commands command auditor old false told hears.1;
@@ -73,7 +73,7 @@ module _ {B : Type 0} (g : Ghosts B) where
         (sym (noted_of-stays auditor.stops commands command told.done)) (λ list. refl);
   }
 
-  one_report : (commands : List Command) (auditor : Auditor) (place : Place B) → IsTold g commands auditor place
+  one_report : (commands : List Command) (auditor : Auditor) (place : Place B) → HasHeard g commands auditor place
       → report_at g place ≡ report_of commands auditor
   one_report commands auditor (Listening watcher) told =
       report_same (g.noted watcher) (noted_of auditor.stops commands) (g.number watcher) auditor.number
@@ -81,32 +81,27 @@ module _ {B : Type 0} (g : Ghosts B) where
   one_report commands auditor (Reported report) told = told.left
 
   one_few : (commands : List Command) → length commands < most_commands → (auditor : Auditor) (place : Place B)
-      → IsTold g commands auditor place → MayBeTold g place
+      → HasHeard g commands auditor place → MayBeTold g place
   one_few commands few auditor (Listening watcher) told =
       subst (λ list. length list < most_commands) (sym told.noted) few
   one_few commands few auditor (Reported report) told = tt
 
-  all_fresh : {C : Type 0} (watcher_in : C → B) (boxes : List C)
-      → AllByRecursion (λ box. g.noted (watcher_in box) ≡ []) boxes
-      → AllZip (IsTold g []) (map (λ box. auditor_of g (watcher_in box)) boxes)
-      (map (λ box. Listening (watcher_in box)) boxes)
-  all_fresh watcher_in [] fresh = tt
-  all_fresh watcher_in (box ∷ boxes) fresh = (
-    record { noted = fresh.0; goes_on = refl; stops = λ list. refl; number = λ list. refl },
-    all_fresh watcher_in boxes fresh.1,
-  )
+  all_fresh : (watchers : List B) → AllByRecursion (λ watcher. g.noted watcher ≡ []) watchers
+      → AllZip (HasHeard g []) (map (auditor_of g) watchers) (map Listening watchers)
+  all_fresh [] fresh = tt
+  all_fresh (watcher ∷ watchers) fresh =
+      (record { noted = fresh.0; goes_on = refl; stops = λ list. refl; number = λ list. refl }, all_fresh watchers fresh.1)
 
   -- no round has come yet, and each has noted nothing
-  pub AreTold-fresh : {C : Type 0} (watcher_in : C → B) (boxes : List C)
-      → AllByRecursion (λ box. g.noted (watcher_in box) ≡ []) boxes
-      → AreTold g [] (map (λ box. auditor_of g (watcher_in box)) boxes) (map (λ box. Listening (watcher_in box)) boxes)
-  AreTold-fresh watcher_in boxes fresh = record { each = all_fresh watcher_in boxes fresh }
+  pub AreTold-fresh : (watchers : List B) → AllByRecursion (λ watcher. g.noted watcher ≡ []) watchers
+      → AreTold g [] (map (auditor_of g) watchers) (map Listening watchers)
+  AreTold-fresh watchers fresh = record { each = all_fresh watchers fresh }
 
   -- a round that readies
   pub AreTold-still : (commands : List Command) (auditors : List Auditor) (old new : List (Place B))
       → AreTold g commands auditors old → AllZip (Stays g) old new → AreTold g commands auditors new
   AreTold-still commands auditors old new told stay = record {
-    each = AllZip-then (IsTold g commands) (Stays g) (IsTold g commands) (one_still commands) auditors old new told.each stay;
+    each = AllZip-then (HasHeard g commands) (Stays g) (HasHeard g commands) (one_still commands) auditors old new told.each stay;
   }
 
   -- a round that tells
@@ -114,7 +109,7 @@ module _ {B : Type 0} (g : Ghosts B) where
       → AreTold g commands auditors old → AllZip (Hears g command) old new
       → AreTold g (commands ++ command ∷ []) auditors new
   AreTold-more commands command auditors old new told hear = record {
-    each = AllZip-then (IsTold g commands) (Hears g command) (IsTold g (commands ++ command ∷ []))
+    each = AllZip-then (HasHeard g commands) (Hears g command) (HasHeard g (commands ++ command ∷ []))
         (one_more commands command) auditors old new told.each hear;
   }
 
@@ -122,10 +117,10 @@ module _ {B : Type 0} (g : Ghosts B) where
   pub AreTold-few : (commands : List Command) (auditors : List Auditor) (places : List (Place B))
       → AreTold g commands auditors places → length commands < most_commands → AllByRecursion (MayBeTold g) places
   AreTold-few commands auditors places told few =
-      AllByRecursion-from_zip (IsTold g commands) (MayBeTold g) (one_few commands few) auditors places told.each
+      AllByRecursion-from_zip (HasHeard g commands) (MayBeTold g) (one_few commands few) auditors places told.each
 
   all_reports : (commands : List Command) (auditors : List Auditor) (places : List (Place B))
-      → AllZip (IsTold g commands) auditors places → map (report_at g) places ≡ reports_of auditors commands
+      → AllZip (HasHeard g commands) auditors places → map (report_at g) places ≡ reports_of auditors commands
   all_reports commands [] [] told = refl
   all_reports commands [] (place ∷ places) told = absurd told
   all_reports commands (auditor ∷ auditors) [] told = absurd told

@@ -25,18 +25,18 @@ module _ {B : Type 0} (g : Ghosts B) where
     pub done : is_done auditor.stops commands ≡ true
     pub left : report ≡ report_of commands auditor
 
-  abbrev pub IsTold : List Command → Auditor → Place B → Type 0
-  IsTold commands auditor (Listening watcher) = Listens auditor commands watcher
-  IsTold commands auditor (Reported report) = HasReported auditor commands report
+  abbrev pub HasHeard : List Command → Auditor → Place B → Type 0
+  HasHeard commands auditor (Listening watcher) = Listens auditor commands watcher
+  HasHeard commands auditor (Reported report) = HasReported auditor commands report
 
   -- all of them, each at its own place
   pub record AreTold (commands : List Command) (auditors : List Auditor) (places : List (Place B)) : Type 0 where
-    pub each : AllZip (IsTold commands) auditors places
+    pub each : AllZip (HasHeard commands) auditors places
 
   -- there is room for one command more, if it goes on
-  abbrev pub HasRoom : Place B → Type 0
-  HasRoom (Listening watcher) = 1 ≤ g.spare watcher
-  HasRoom (Reported report) = Unit {0}
+  abbrev pub HasSpareRoom : Place B → Type 0
+  HasSpareRoom (Listening watcher) = 1 ≤ g.spare watcher
+  HasSpareRoom (Reported report) = Unit {0}
 
   abbrev pub HaveRoom : List (Place B) → Type 0
-  HaveRoom places = AllByRecursion HasRoom places
+  HaveRoom places = AllByRecursion HasSpareRoom places

@@ -1,7 +1,6 @@
 //! The auditors who watch the postings: each is told of the accepted commands until it is done, and its report is kept.
 #![tactic(auto)]
 
-mod boxed;
 mod counting;
 mod empty;
 mod laws;
@@ -15,9 +14,7 @@ mod watching;
 pub use counting::CountWatcher;
 pub use empty::NoWatchers;
 pub use laws::noted_to_the_first_end;
-pub use place::Place;
 pub use premiums::PremiumWatcher;
 pub use reports::{MOST_WATCHERS, Reports};
-pub use rounds::{note_all, ready_all, reports_of_all};
 pub use watchers::Watchers;
 pub use watching::Watching;

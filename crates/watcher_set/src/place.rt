@@ -1,7 +1,7 @@
 ghost use Rattle.std.specs.Prelude.{◌≡◌, ◌<◌, ◌≤◌, List, [], ◌∷◌, ◌++◌, length, OnOk};
 ghost use Rattle.policy_types.specs.declared.command.Command.{Command as ACommand};
 ghost use Rattle.policy_types.specs.Valid.{IsValid};
-ghost use Rattle.watcher_set.specs.Told.{HasRoom};
+ghost use Rattle.watcher_set.specs.Told.{HasSpareRoom};
 ghost use Rattle.watcher_set.specs.inside.Calls.{MayBeTold, Stays, Hears, report_at};
 
 use policy_types::{Attention, Command, NoMemory, Report, Watcher};
@@ -22,7 +22,7 @@ impl<B> Default for Place<B> {
 /// Readies the auditor, if it goes on.
 pub(crate) fn ready_place<B: Watcher>(place: &mut Place<B>) -> Result<(), NoMemory>
     ensures stays { Stays B.Watcher place.old place.new }
-    ensures ok { OnOk result (HasRoom B.Watcher place.new) }
+    ensures ok { OnOk result (HasSpareRoom B.Watcher place.new) }
 {
     match place {
         Place::Listening(watcher) => watcher.ready(),
@@ -32,7 +32,7 @@ pub(crate) fn ready_place<B: Watcher>(place: &mut Place<B>) -> Result<(), NoMemo
 
 /// Tells the auditor, if it goes on. One that is then done gives its report and is dropped.
 pub(crate) fn note_place<B: Watcher>(place: &mut Place<B>, position: u32, command: &Command)
-    requires room { HasRoom B.Watcher place.old }
+    requires room { HasSpareRoom B.Watcher place.old }
     requires few { MayBeTold B.Watcher place.old }
     requires valid { IsValid command.now }
     ensures { Hears B.Watcher command.now place.old place.new }

@@ -11,7 +11,7 @@ use crate::reports::Reports;
 use policy_types::{Command, NoMemory, Watcher};
 
 /// Readies each auditor that goes on.
-pub fn ready_all<B: Watcher>(places: &mut [Place<B>]) -> Result<(), NoMemory>
+pub(crate) fn ready_all<B: Watcher>(places: &mut [Place<B>]) -> Result<(), NoMemory>
     ensures told { (commands : List ACommand) (auditors : List Auditor) → AreTold B.Watcher commands auditors places.old
         → AreTold B.Watcher commands auditors places.new }
     ensures ok { OnOk result (HaveRoom B.Watcher places.new) }
@@ -23,7 +23,7 @@ pub fn ready_all<B: Watcher>(places: &mut [Place<B>]) -> Result<(), NoMemory>
 }
 
 /// Tells each auditor that goes on.
-pub fn note_all<B: Watcher>(places: &mut [Place<B>], position: u32, command: &Command)
+pub(crate) fn note_all<B: Watcher>(places: &mut [Place<B>], position: u32, command: &Command)
     requires room { HaveRoom B.Watcher places.old }
     requires valid { IsValid command.now }
     requires few { (commands : List ACommand) × (auditors : List Auditor)
@@ -37,7 +37,7 @@ pub fn note_all<B: Watcher>(places: &mut [Place<B>], position: u32, command: &Co
 }
 
 /// The reports of all places, in order.
-pub fn reports_of_all<B: Watcher>(places: &[Place<B>]) -> Reports
+pub(crate) fn reports_of_all<B: Watcher>(places: &[Place<B>]) -> Reports
     requires { length places.now ≤ most_watchers }
     ensures { (commands : List ACommand) (auditors : List Auditor) → AreTold B.Watcher commands auditors places.now
         → result ≡ reports_of auditors commands }

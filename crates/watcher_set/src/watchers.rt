@@ -1,9 +1,8 @@
 ghost use Rattle.std.specs.Prelude.{◌≡◌, ◌≤◌, List, [], ◌∷◌, ◌++◌, length, map};
 ghost use Rattle.std.specs.List.{AllByRecursion};
 ghost use Rattle.watcher_set.specs.Limits.{most_watchers};
-ghost use Rattle.watcher_set.specs.Told.{AreTold, HaveRoom};
+ghost use Rattle.watcher_set.specs.Told.{auditor_of, AreTold, HaveRoom};
 
-use crate::boxed::Boxed;
 use crate::place::Place;
 use crate::reports::{MOST_WATCHERS, Reports};
 use crate::rounds::{note_all, ready_all, reports_of_all};
@@ -12,56 +11,36 @@ use arrayvec::ArrayVec;
 use policy_types::{Command, NoMemory, Watcher};
 use std::snapshot::Snapshot;
 
-/// Auditors that were handed in as boxes: at most 16.
+/// Auditors of one type that were handed in: at most 16. A box of an auditor is one, so they can be of many types.
 #[derive(Drop)]
-pub struct Watchers {
-    handed: Snapshot<Vec<Box<dyn Watcher + Send>>>,
-    places: ArrayVec<Place<Boxed>, MOST_WATCHERS>,
+pub struct Watchers<B> {
+    handed: Snapshot<Vec<B>>,
+    places: ArrayVec<Place<B>, MOST_WATCHERS>,
 }
 
-impl Watchers {
+impl<B: Watcher> Watchers<B> {
     /// Auditors who have noted nothing: nobody was told of anything yet.
-    pub fn new(boxes: Vec<Box<dyn Watcher + Send>>) -> Watchers
-        requires few { length boxes.items ≤ most_watchers }
-        requires fresh { AllByRecursion (λ b. noted b ≡ []) boxes.items }
-        ensures handed { ⟦<Watchers as Watching>⟧.handed result
-            ≡ map (λ b. record { stops = stops b; number = number b }) boxes.items }
-        ensures told { ⟦<Watchers as Watching>⟧.told result [] }
+    pub fn new(auditors: Vec<B>) -> Watchers<B>
+        requires few { length auditors.items ≤ most_watchers }
+        requires fresh { AllByRecursion (λ b. B.noted b ≡ []) auditors.items }
+        ensures handed { ⟦<Watchers<B> as Watching>⟧.handed result ≡ map (auditor_of B.Watcher) auditors.items }
+        ensures told { ⟦<Watchers<B> as Watching>⟧.told result [] }
     {
-        let handed = Snapshot::of(&boxes);
-        let mut places: ArrayVec<Place<Boxed>, MOST_WATCHERS> = ArrayVec::new();
-        for watcher in boxes {
-            places.push(Place::Listening(Boxed { watcher }));
+        let handed = Snapshot::of(&auditors);
+        let mut places: ArrayVec<Place<B>, MOST_WATCHERS> = ArrayVec::new();
+        for auditor in auditors {
+            places.push(Place::Listening(auditor));
         }
         Watchers { handed, places }
     }
 }
 
-impl Watching for Watchers {
-    ghost handed = { λ it. map
-        (λ b. record { stops = (Watcher-box b).stops b.value; number = (Watcher-box b).number b.value })
-        it.handed.value.items };
+impl<B: Watcher> Watching for Watchers<B> {
+    ghost handed = { λ it. map (auditor_of B.Watcher) it.handed.value.items };
 
-    ghost told = { λ it commands. AreTold
-        (record {
-          noted = λ b. (Watcher-box b.watcher).noted b.watcher.value;
-          spare = λ b. (Watcher-box b.watcher).spare b.watcher.value;
-          stops = λ b. (Watcher-box b.watcher).stops b.watcher.value;
-          number = λ b. (Watcher-box b.watcher).number b.watcher.value;
-        })
-        commands
-        (map (λ b. record { stops = (Watcher-box b).stops b.value; number = (Watcher-box b).number b.value })
-        it.handed.value.items)
-        it.places.items };
+    ghost told = { λ it commands. AreTold B.Watcher commands (map (auditor_of B.Watcher) it.handed.value.items) it.places.items };
 
-    ghost has_room = { λ it. HaveRoom
-        (record {
-          noted = λ b. (Watcher-box b.watcher).noted b.watcher.value;
-          spare = λ b. (Watcher-box b.watcher).spare b.watcher.value;
-          stops = λ b. (Watcher-box b.watcher).stops b.watcher.value;
-          number = λ b. (Watcher-box b.watcher).number b.watcher.value;
-        })
-        it.places.items };
+    ghost has_room = { λ it. HaveRoom B.Watcher it.places.items };
 
     fn ready(&mut self) -> Result<(), NoMemory> {
         ready_all(self.places.as_mut_slice())

@@ -11,7 +11,7 @@ use Rattle.xtbml_subset.specs.Classes.{is_in, InClass}
 use Rattle.xtbml_subset.specs.Pieces.{Tag, Piece, byte, comment, declaration, start, whole, finish, IsPiece, IsMark, Spell}
 use Rattle.xtbml_subset.specs.inside.Machine.{State, outside, past, after_piece}
 use Rattle.xtbml_subset.specs.inside.Walk.{walk_at, walk_from, after_mark, fault_place, fault_at}
-use Rattle.xtbml_subset.specs.Documents.{Content, nothing, letter, remark, element, IsElement, IsContent, AreMisc, IsMisc, IsOpening, Node, IsDocument}
+use Rattle.xtbml_subset.specs.Documents.{Content, nothing, letter, remark, element, IsElement, IsContent, AreMisc, IsMisc, IsDocumentOpening, Node, IsDocument}
 use Rattle.xtbml_subset.proofs.LexAgain.{at_white, white_is_text}
 use Rattle.xtbml_subset.proofs.PieceAgain.{piece_again}
 use Rattle.xtbml_subset.proofs.Walking.{walk_step}
@@ -166,7 +166,7 @@ space_walk (b ∷ space) rest phase white =
     piece_walk (byte b) (b ∷ []) (space ++ rest) (outside phase) (outside phase) (refl, white_is_text b white.0) (white_goes phase b white.0)
     ∙ space_walk space rest phase white.1
 
-opening_walk : (opening rest : List ℕ) → IsOpening opening → (phase : Phase) × MayBegin phase × (walk_at (outside Opening) (opening ++ rest) ≡ walk_at (outside phase) rest)
+opening_walk : (opening rest : List ℕ) → IsDocumentOpening opening → (phase : Phase) × MayBegin phase × (walk_at (outside Opening) (opening ++ rest) ≡ walk_at (outside phase) rest)
 opening_walk opening rest (inl none) = (Opening, tt, ap (λ (s : List ℕ). walk_at (outside Opening) (s ++ rest)) none)
 opening_walk opening rest (inr h) = (
   Prolog,
@@ -176,7 +176,7 @@ opening_walk opening rest (inr h) = (
       ∙ piece_walk declaration h.1 rest (outside Opening) (outside Prolog) h.4 refl,
 )
 
-pub unmarked_walk : (opening before text behind : List ℕ) (root : Node) (at : ℕ) → IsOpening opening → IsMisc before
+pub unmarked_walk : (opening before text behind : List ℕ) (root : Node) (at : ℕ) → IsDocumentOpening opening → IsMisc before
     → IsElement (λ place inside. IsContent 63 root.inner place inside) at root.at root.tag root.inner text → IsMisc behind
     → walk_at (outside Opening) (opening ++ (before ++ (text ++ behind))) ≡ (outside Epilog, [])
 unfolding walk_from
@@ -221,7 +221,7 @@ space_no_mark : (space text rest : List ℕ) → InClass White space → IsPiece
 space_no_mark [] text rest white is = begins_no_mark text (63 ∷ 120 ∷ 109 ∷ 108 ∷ (is.space ++ (is.inside ++ 63 ∷ 62 ∷ []))) rest is.parts
 space_no_mark (b ∷ space) text rest white is = white_no_mark b white.0
 
-opening_no_mark : (opening rest : List ℕ) → IsOpening opening → NoMark rest → NoMark (opening ++ rest)
+opening_no_mark : (opening rest : List ℕ) → IsDocumentOpening opening → NoMark rest → NoMark (opening ++ rest)
 opening_no_mark opening rest (inl none) h = subst (λ (s : List ℕ). NoMark (s ++ rest)) (sym none) h
 opening_no_mark opening rest (inr o) h = subst (λ (s : List ℕ). NoMark (s ++ rest)) (sym o.2) (space_no_mark o.0 o.1 rest o.3 o.4)
 

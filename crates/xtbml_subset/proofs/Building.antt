@@ -9,7 +9,7 @@ use Rattle.xtbml_subset.specs.declared.state.Phase.TheVariants.{Opening, Prolog,
 use Rattle.xtbml_subset.specs.Classes.{is_in}
 use Rattle.xtbml_subset.specs.Pieces.{Tag, Piece, byte, comment, declaration, start, whole, finish, IsPiece, IsMark, Spell}
 use Rattle.xtbml_subset.specs.inside.Machine.{State, outside, Steps}
-use Rattle.xtbml_subset.specs.Documents.{Content, nothing, letter, remark, element, IsElement, IsContent, AreMisc, IsMisc, IsOpening, Node, IsDocument}
+use Rattle.xtbml_subset.specs.Documents.{Content, nothing, letter, remark, element, IsElement, IsContent, AreMisc, IsMisc, IsDocumentOpening, Node, IsDocument}
 use Rattle.xtbml_subset.proofs.Options.{chosen}
 
 abbrev open_state : List (List ℕ) → State
@@ -262,7 +262,7 @@ pub record Opens (at : ℕ) (bytes : List ℕ) : Type 0 where
   pub opening : List ℕ
   pub rest : List ℕ
   pub parts : bytes ≡ opening ++ rest
-  pub is_opening : IsOpening opening
+  pub is_opening : IsDocumentOpening opening
   pub roots_in : Roots (at + length opening) rest
 
 opens_none : (at : ℕ) (bytes : List ℕ) → Roots at bytes → Opens at bytes
@@ -280,7 +280,7 @@ opens_white at b rest white is_text o =
           opens_none at (b ∷ rest) (roots_more (byte b) at (b ∷ []) rest (refl, is_text) (λ more are. (white, are)) here)
       | inr h ↦
           let moved : (at + 1) + length o.opening ≡ at + length (b ∷ o.opening) = omega arith in
-          let is_opening : IsOpening (b ∷ o.opening) = inr (b ∷ h.0, h.1, ap (λ (s : List ℕ). b ∷ s) h.2, (white, h.3), h.4) in
+          let is_opening : IsDocumentOpening (b ∷ o.opening) = inr (b ∷ h.0, h.1, ap (λ (s : List ℕ). b ∷ s) h.2, (white, h.3), h.4) in
           record {
             opening = b ∷ o.opening;
             rest = o.rest;

@@ -16,7 +16,7 @@ use Rattle.xtbml_subset.specs.inside.Views.{found_of, sought_of, path_of}
 use Rattle.xtbml_subset.specs.Checks.{Parts, parts_of, IsTable}
 use Rattle.xtbml_subset.specs.inside.Rows.{found_asks}
 use Rattle.xtbml_subset.specs.Documents.{Node, IsDocument, node_asks}
-use Rattle.xtbml_subset.specs.Answers.{IsLongestNested, IsJudged, IsNoDocument, IsDue, Gives, Unless}
+use Rattle.xtbml_subset.specs.Answers.{IsLongestNested, IsJudged, IsNoDocument, IsTableAnswer, Gives, Unless}
 use Rattle.xtbml_subset.proofs.Accepting.{document_accepted}
 use Rattle.xtbml_subset.proofs.Sounding.{whole_document, longest_nested}
 use Rattle.xtbml_subset.proofs.Matching.{Matches, finds_root}
@@ -28,7 +28,7 @@ use Rattle.xtbml_subset.proofs.Judging.{parts_same, table_one}
 pub not_accepted : (bytes : List ℕ) (at : ℕ) → Some at ≡ fault_at bytes → IsNoDocument bytes
 not_accepted bytes at e root d = absurd (let none : Some at ≡ None = e ∙ document_accepted bytes root d in cc)
 
-pub fault_due : (bytes : List ℕ) (at : ℕ) → Some at ≡ fault_at bytes → IsDue bytes (Err (Bad at NotDocument))
+pub fault_due : (bytes : List ℕ) (at : ℕ) → Some at ≡ fault_at bytes → IsTableAnswer bytes (Err (Bad at NotDocument))
 fault_due bytes at e = inr (not_accepted bytes at e, (at, longest_nested bytes at (sym e), refl))
 
 one_longest : (bytes : List ℕ) (m n : ℕ) → IsLongestNested bytes m → IsLongestNested bytes n → m ≡ n
@@ -37,7 +37,7 @@ one_longest bytes m n a b =
     let down : n ≤ m = a.longest n b.within b.nested in
     omega arith
 
-pub fault_only : (bytes : List ℕ) (at : ℕ) (answer : Result Rates TableFault) → Some at ≡ fault_at bytes → IsDue bytes answer → answer ≡ Err (Bad at NotDocument)
+pub fault_only : (bytes : List ℕ) (at : ℕ) (answer : Result Rates TableFault) → Some at ≡ fault_at bytes → IsTableAnswer bytes answer → answer ≡ Err (Bad at NotDocument)
 fault_only bytes at answer e (inl judged) = absurd (not_accepted bytes at e judged.0 judged.1)
 fault_only bytes at answer e (inr h) =
     let same : h.1.0 ≡ at = one_longest bytes h.1.0 at h.1.1 (longest_nested bytes at (sym e)) in
@@ -89,7 +89,7 @@ judged_by bytes f others answer e first is =
     (d.0, d.1, subst (λ (parts : Result Parts TableFault). IsTable parts answer) (same_parts bytes f others d.0 first d.1) is)
 
 pub due_by : (bytes : List ℕ) (f : Found) (others : List Found) (answer : Result Rates TableFault) → None ≡ fault_at bytes → elements_at 0 None bytes ≡ f ∷ others
-    → IsDue bytes answer → IsTable (parts_of (found_asks (length bytes)) f) answer
+    → IsTableAnswer bytes answer → IsTable (parts_of (found_asks (length bytes)) f) answer
 due_by bytes f others answer e first (inl judged) = subst (λ (parts : Result Parts TableFault). IsTable parts answer) (sym (same_parts bytes f others judged.0 first judged.1)) judged.2
 due_by bytes f others answer e first (inr h) = let d = whole_document bytes (sym e) in absurd (h.0 d.0 d.1)
 

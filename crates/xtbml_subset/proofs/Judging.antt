@@ -12,7 +12,7 @@ use Rattle.xtbml_subset.specs.Pieces.{Tag}
 use Rattle.xtbml_subset.specs.inside.Elements.{Found, children_at}
 use Rattle.xtbml_subset.specs.inside.Rows.{row_of, found_asks}
 use Rattle.xtbml_subset.specs.Documents.{Node, named_in, node_row, node_asks}
-use Rattle.xtbml_subset.specs.Checks.{Row, first, ◌>=>◌, or_fault, within, rooted, path, rates_in, rates_of, factor_of, age_of, is_due, Reads, rated, IsAged, with_rate, Continues, AreRows, IsScale, Parts, option_row, parts_of, first_age, IsScaledTable, IsTable}
+use Rattle.xtbml_subset.specs.Checks.{RateElement, first, ◌>=>◌, or_fault, within, rooted, path, rates_in, rates_of, factor_of, age_of, is_due, ReadsRate, rated, IsAged, with_rate, Continues, ReadsRows, IsScale, Parts, option_row, parts_of, first_age, IsScaledTable, IsTable}
 use Rattle.xtbml_subset.proofs.Matching.{Matches, AllMatch, children_match, row_match}
 
 -- ---- what is found is what the document has
@@ -115,7 +115,7 @@ first_row : (total : ℕ) (fs : List Found) (ns : List Node) → AllMatch total 
 first_row total [] [] all = refl
 first_row total [] (n ∷ ns) all = absurd all
 first_row total (f ∷ fs) [] all = absurd all
-first_row total (f ∷ fs) (n ∷ ns) all = ap (λ (row : Row). Some row) (row_match total f n all.0)
+first_row total (f ∷ fs) (n ∷ ns) all = ap (λ (row : RateElement). Some row) (row_match total f n all.0)
 
 factor_in : (total : ℕ) (fs : List Found) (ns : List Node) → AllMatch total fs ns
     → option_row (found_asks total) (first fs >>= λ about. first (children_at (codes "ScalingFactor") about)) ≡ option_row node_asks (first ns >>= λ about. first (named_in (codes "ScalingFactor") about.inner))
@@ -157,7 +157,7 @@ parts_same total f node m =
 
 -- ---- one answer
 
-reads_one : (text : Option (List ℕ)) (o p : Option ℕ) → Reads text o → Reads text p → o ≡ p
+reads_one : (text : Option (List ℕ)) (o p : Option ℕ) → ReadsRate text o → ReadsRate text p → o ≡ p
 reads_one None o p a b = a ∙ sym b
 reads_one (Some text) None None a b = refl
 reads_one (Some text) None (Some q) a b = absurd (a q b)
@@ -168,33 +168,33 @@ by_bool : (t : Bool) (P Q R S : Type 0) (X : Type 0) → MatchBool t P Q → Mat
 by_bool true P Q R S X a b holds other = holds a b
 by_bool false P Q R S X a b holds other = other a b
 
-aged_one : (due : Option ℕ) (row : Row) (age : Option ℕ) (a b : Result (ℕ × ℕ) TableFault) → IsAged due row age a → IsAged due row age b → a ≡ b
+aged_one : (due : Option ℕ) (row : RateElement) (age : Option ℕ) (a b : Result (ℕ × ℕ) TableFault) → IsAged due row age a → IsAged due row age b → a ≡ b
 aged_one due row None a b h k = h ∙ sym k
 aged_one due row (Some age) a b h k =
     by_bool (is_due due age) _ _ _ _ (a ≡ b) h k
     (λ x y. x.2 ∙ ap (λ (o : Option ℕ). rated row.at age o) (reads_one row.text x.0 y.0 x.1 y.1) ∙ sym y.2)
     (λ x y. x ∙ sym y)
 
-goes_one : (rows : List Row) (one : Result (ℕ × ℕ) TableFault) (a b : Result (List ℕ) TableFault)
-    → ((due : Option ℕ) (x y : Result (List ℕ) TableFault) → AreRows due rows x → AreRows due rows y → x ≡ y)
-    → Continues (λ next rest. AreRows next rows rest) one a → Continues (λ next rest. AreRows next rows rest) one b → a ≡ b
+goes_one : (rows : List RateElement) (one : Result (ℕ × ℕ) TableFault) (a b : Result (List ℕ) TableFault)
+    → ((due : Option ℕ) (x y : Result (List ℕ) TableFault) → ReadsRows due rows x → ReadsRows due rows y → x ≡ y)
+    → Continues (λ next rest. ReadsRows next rows rest) one a → Continues (λ next rest. ReadsRows next rows rest) one b → a ≡ b
 goes_one rows (Err fault) a b others h k = h ∙ sym k
 goes_one rows (Ok one) a b others h k = h.2 ∙ ap (with_rate one.1) (others (Some (one.0 + 1)) h.0 k.0 h.1 k.1) ∙ sym k.2
 
-rows_one : (rows : List Row) (due : Option ℕ) (a b : Result (List ℕ) TableFault) → AreRows due rows a → AreRows due rows b → a ≡ b
+rows_one : (rows : List RateElement) (due : Option ℕ) (a b : Result (List ℕ) TableFault) → ReadsRows due rows a → ReadsRows due rows b → a ≡ b
 rows_one [] due a b h k = h ∙ sym k
 rows_one (row ∷ rows) due a b h k =
     let same : h.0 ≡ k.0 = aged_one due row (age_of row.label) h.0 k.0 h.1 k.1 in
-    goes_one rows h.0 a b (λ next x y p q. rows_one rows next x y p q) h.2 (subst (λ (one : Result (ℕ × ℕ) TableFault). Continues (λ next rest. AreRows next rows rest) one b) (sym same) k.2)
+    goes_one rows h.0 a b (λ next x y p q. rows_one rows next x y p q) h.2 (subst (λ (one : Result (ℕ × ℕ) TableFault). Continues (λ next rest. ReadsRows next rows rest) one b) (sym same) k.2)
 
-scale_one : (factor : Option Row) (a b : Result (Unit {0}) TableFault) → IsScale factor a → IsScale factor b → a ≡ b
+scale_one : (factor : Option RateElement) (a b : Result (Unit {0}) TableFault) → IsScale factor a → IsScale factor b → a ≡ b
 scale_one None a b h k = h ∙ sym k
 scale_one (Some row) (Ok x) (Ok y) h k = refl
 scale_one (Some row) (Ok x) (Err f) h k = absurd (k.0 h)
 scale_one (Some row) (Err e) (Ok y) h k = absurd (h.0 k)
 scale_one (Some row) (Err e) (Err f) h k = let same : e ≡ f = h.1 ∙ sym k.1 in ap (λ (x : TableFault). Err x) same
 
-scaled_one : (rows : List Row) (scale : Result (Unit {0}) TableFault) (a b : Result Rates TableFault) → IsScaledTable rows scale a → IsScaledTable rows scale b → a ≡ b
+scaled_one : (rows : List RateElement) (scale : Result (Unit {0}) TableFault) (a b : Result Rates TableFault) → IsScaledTable rows scale a → IsScaledTable rows scale b → a ≡ b
 scaled_one rows (Err fault) a b h k = h ∙ sym k
 scaled_one rows (Ok none) a b h k =
     h.2 ∙ ap (λ (read : Result (List ℕ) TableFault). read >=> λ rates. Ok (record { first_age = first_age rows; rates = rates })) (rows_one rows None h.0 k.0 h.1 k.1) ∙ sym k.2

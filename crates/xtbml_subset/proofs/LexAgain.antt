@@ -4,7 +4,7 @@ use Rattle.std.proofs.lemmas.Bool.{eqb-true, eq-eqb, or_cases, cases_Bool, true�
 use Rattle.xtbml_subset.specs.declared.class.Class.{Class}
 use Rattle.xtbml_subset.specs.declared.class.Class.TheVariants.{White, Name, DoubleQuoted, SingleQuoted, Text}
 use Rattle.xtbml_subset.specs.Classes.{is_in, starts_name, InClass, front, after}
-use Rattle.xtbml_subset.specs.Pieces.{Attribute, IsSpace, IsName, IsQuoted, IsAttribute}
+use Rattle.xtbml_subset.specs.Pieces.{Attribute, IsSpace, IsTagName, IsQuoted, IsAttribute}
 use Rattle.xtbml_subset.specs.inside.Reading.{spaces_at, name_at, closed_at, quoted_at, attribute_at}
 
 -- the bytes are over, or go on with a byte that isn't of the class
@@ -85,7 +85,7 @@ pub stops_white : (space : List ℕ) (b : ℕ) (rest : List ℕ) → InClass Whi
 stops_white [] b rest h other = other
 stops_white (w ∷ space) b rest h other = white_no_name w h.0
 
-stops_name : (name rest : List ℕ) → IsName name → Stops White (name ++ rest)
+stops_name : (name rest : List ℕ) → IsTagName name → Stops White (name ++ rest)
 stops_name [] rest h = absurd h
 stops_name (b ∷ name) rest h = start_no_white b h.0
 
@@ -97,7 +97,7 @@ spaces_again (b ∷ space) rest h stops =
     let more = after_again White space rest h.1 stops in
     rw (first, more) refl
 
-pub name_again : (name rest : List ℕ) → IsName name → Stops Name rest → name_at (name ++ rest) ≡ Some (name, rest)
+pub name_again : (name rest : List ℕ) → IsTagName name → Stops Name rest → name_at (name ++ rest) ≡ Some (name, rest)
 unfolding name_at
 name_again [] rest h stops = absurd h
 name_again (b ∷ name) rest h stops =
@@ -138,7 +138,7 @@ regroup : (space name before after quoted rest : List ℕ)
 regroup space name before after quoted rest = simp append_assoc
 
 -- the parts of an attribute read one after the other
-parts_again : (space name before behind quoted value rest : List ℕ) → IsSpace space → IsName name → InClass White before → InClass White behind → IsQuoted quoted value
+parts_again : (space name before behind quoted value rest : List ℕ) → IsSpace space → IsTagName name → InClass White before → InClass White behind → IsQuoted quoted value
     → attribute_at (space ++ (name ++ (before ++ 61 ∷ (behind ++ (quoted ++ rest))))) ≡ Some ((name, value), rest)
 unfolding attribute_at
 parts_again space name before behind quoted value rest is_space is_name white_before white_behind is_quoted =

@@ -4,7 +4,7 @@ use Rattle.std.proofs.lemmas.Bool.{eqb-true}
 use Rattle.xtbml_subset.specs.declared.class.Class.{Class}
 use Rattle.xtbml_subset.specs.declared.class.Class.TheVariants.{White, Name, DoubleQuoted, SingleQuoted}
 use Rattle.xtbml_subset.specs.Classes.{is_in, starts_name, InClass, front, after}
-use Rattle.xtbml_subset.specs.Pieces.{Attribute, IsSpace, IsName, IsQuoted, IsAttribute}
+use Rattle.xtbml_subset.specs.Pieces.{Attribute, IsSpace, IsTagName, IsQuoted, IsAttribute}
 use Rattle.xtbml_subset.specs.inside.Reading.{byte_at, spaces_at, name_at, closed_at, quoted_at, attribute_at}
 use Rattle.xtbml_subset.specs.Texts.{◌>>=◌}
 use Rattle.xtbml_subset.proofs.Options.{bind_some, chosen, some_is, pair_is}
@@ -33,7 +33,7 @@ spaces_takes (b ∷ bytes) rest e =
 starts_in : (b : ℕ) → starts_name b ≡ true → is_in Name b ≡ true
 starts_in b h = rw h refl
 
-pub name_takes : (bytes name rest : List ℕ) → name_at bytes ≡ Some (name, rest) → (bytes ≡ name ++ rest) × IsName name
+pub name_takes : (bytes name rest : List ℕ) → name_at bytes ≡ Some (name, rest) → (bytes ≡ name ++ rest) × IsTagName name
 unfolding name_at
 name_takes [] name rest e = absurd cc
 name_takes (b ∷ bytes) name rest e =
@@ -42,8 +42,8 @@ name_takes (b ∷ bytes) name rest e =
           let parts = pair_is (front Name (b ∷ bytes)) name (after Name (b ∷ bytes)) rest h.1 in
           let first : front Name (b ∷ bytes) ≡ b ∷ front Name bytes = rw (starts_in b h.0) refl in
           let whole : b ∷ bytes ≡ name ++ rest = rw (← parts.0, ← parts.1) (front-after Name (b ∷ bytes)) in
-          let is : IsName (b ∷ front Name bytes) = (h.0, front_in Name bytes) in
-          (whole, subst IsName (sym first ∙ parts.0) is)
+          let is : IsTagName (b ∷ front Name bytes) = (h.0, front_in Name bytes) in
+          (whole, subst IsTagName (sym first ∙ parts.0) is)
       | inr h ↦ absurd (let no = h.1 in cc)
     ]
 
@@ -115,7 +115,7 @@ attribute_takes bytes name value rest e =
         quoted = qt.0;
         parts = refl;
         is_space = st.2;
-        is_name = subst IsName name_is nt.1;
+        is_name = subst IsTagName name_is nt.1;
         white_before = front_in White n.0.1;
         white_after = front_in White g.0;
         is_quoted = subst (IsQuoted qt.0) value_is qt.2;

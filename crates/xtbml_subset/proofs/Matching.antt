@@ -6,11 +6,11 @@ use Rattle.std.proofs.lemmas.List.{length-append}
 use Rattle.std.specs.Str.{bytes_eq}
 use Rattle.xtbml_subset.specs.declared.class.Class.TheVariants.{White, Text}
 use Rattle.xtbml_subset.specs.Classes.{is_in, starts_name, InClass, front, after}
-use Rattle.xtbml_subset.specs.Pieces.{Tag, Piece, byte, comment, declaration, start, whole, finish, IsPiece, IsName, IsMark, Spell}
+use Rattle.xtbml_subset.specs.Pieces.{Tag, Piece, byte, comment, declaration, start, whole, finish, IsPiece, IsTagName, IsMark, Spell}
 use Rattle.xtbml_subset.specs.inside.Reading.{byte_at}
 use Rattle.xtbml_subset.specs.Texts.{◌>>=◌, value_of}
 use Rattle.xtbml_subset.specs.inside.Elements.{Found, on, found, closed, is_wanted, is_hit, step_of, elements_at, children_at, text_at}
-use Rattle.xtbml_subset.specs.Documents.{Content, nothing, letter, remark, element, IsElement, IsContent, AreMisc, IsOpening, Node, IsDocument, with_named, named_in, with_letter, text_of, node_row}
+use Rattle.xtbml_subset.specs.Documents.{Content, nothing, letter, remark, element, IsElement, IsContent, AreMisc, IsDocumentOpening, Node, IsDocument, with_named, named_in, with_letter, text_of, node_row}
 use Rattle.xtbml_subset.specs.inside.Rows.{row_of}
 use Rattle.xtbml_subset.proofs.LexAgain.{white_is_text}
 use Rattle.xtbml_subset.proofs.PieceAgain.{not_start, piece_again}
@@ -236,11 +236,11 @@ text_letter b bytes is = rw is (by_end (byte_at 60 (after Text bytes) >>= λ res
 no_slash : (b : ℕ) → starts_name b ≡ true → eqb b 47 ≡ false
 no_slash b is = not_start b 47 is refl
 
-text_tag : (name rest : List ℕ) → IsName name → text_before (60 ∷ (name ++ rest)) ≡ None
+text_tag : (name rest : List ℕ) → IsTagName name → text_before (60 ∷ (name ++ rest)) ≡ None
 text_tag [] rest is = absurd is
 text_tag (b ∷ name) rest is = let apart = no_slash b is.0 in rw apart refl
 
-tag_text_none : (text more rest name : List ℕ) → text ≡ 60 ∷ (name ++ more) → IsName name → text_before (text ++ rest) ≡ None
+tag_text_none : (text more rest name : List ℕ) → text ≡ 60 ∷ (name ++ more) → IsTagName name → text_before (text ++ rest) ≡ None
 tag_text_none text more rest name e is =
     ap (λ (s : List ℕ). text_before (s ++ rest)) e ∙ ap (λ (s : List ℕ). text_before (60 ∷ s)) (append_assoc name more rest) ∙ text_tag name (more ++ rest) is
 
@@ -304,7 +304,7 @@ top_space : (space rest : List ℕ) → InClass White space → Top (space ++ re
 top_space [] rest white = refl
 top_space (b ∷ space) rest white = pass (byte b) (b ∷ []) (space ++ rest) 0 0 None (refl, white_is_text b white.0) refl ∙ top_space space rest white.1
 
-top_opening : (opening rest : List ℕ) → IsOpening opening → Top (opening ++ rest) ≡ Top rest
+top_opening : (opening rest : List ℕ) → IsDocumentOpening opening → Top (opening ++ rest) ≡ Top rest
 top_opening opening rest (inl none) = ap (λ (s : List ℕ). Top (s ++ rest)) none
 top_opening opening rest (inr h) =
     ap (λ (s : List ℕ). Top (s ++ rest)) h.2 ∙ ap Top (append_assoc h.0 h.1 rest) ∙ top_space h.0 (h.1 ++ rest) h.3 ∙ pass declaration h.1 rest 0 0 None h.4 refl

@@ -3,7 +3,7 @@ use Rattle.std.proofs.Common.{◌≡◌, ◌≢◌, ℕ, ◌≤◌, Bool, true, 
 use Rattle.std.proofs.lemmas.Bool.{eqb-true, true≢false, cases_Bool, not-true}
 use Rattle.xtbml_subset.specs.declared.class.Class.TheVariants.{White, Name, Declared, Text}
 use Rattle.xtbml_subset.specs.Classes.{is_in, starts_name, InClass, after}
-use Rattle.xtbml_subset.specs.Pieces.{Attribute, Tag, Piece, byte, comment, declaration, start, whole, finish, IsSpace, IsName, AreAttributes, EndsByDashes, IsPiece}
+use Rattle.xtbml_subset.specs.Pieces.{Attribute, Tag, Piece, byte, comment, declaration, start, whole, finish, IsSpace, IsTagName, AreAttributes, EndsByDashes, IsPiece}
 use Rattle.xtbml_subset.specs.inside.Reading.{spaces_at, attribute_at, attributes_at, with_attribute, first_of, dashes_at, comment_end_at, comment_at, declaration_at, end_tag_at, tag_at, marked_at, piece_at}
 use Rattle.xtbml_subset.proofs.AttributeRuns.{attributes_step, attributes_stop}
 use Rattle.xtbml_subset.proofs.PieceReading.{dashes_take}
@@ -29,7 +29,7 @@ attributes_stop_name text (a ∷ attributes) space b rest are white other =
     let parts : text ++ (space ++ b ∷ rest) ≡ are.0 ++ (are.1 ++ (space ++ b ∷ rest)) = ap (λ (t : List ℕ). t ++ (space ++ b ∷ rest)) are.2 ∙ append_assoc are.0 are.1 (space ++ b ∷ rest) in
     subst (Stops Name) (sym parts) (attribute_stops are.0 a (are.1 ++ (space ++ b ∷ rest)) are.3)
 
-start_again : (tag : Tag) (text space rest : List ℕ) → IsName tag.name → AreAttributes text tag.attributes → InClass White space
+start_again : (tag : Tag) (text space rest : List ℕ) → IsTagName tag.name → AreAttributes text tag.attributes → InClass White space
     → tag_at (tag.name ++ (text ++ (space ++ 62 ∷ rest))) ≡ Some (start tag, rest)
 unfolding tag_at
 start_again tag text space rest is_name are white =
@@ -38,7 +38,7 @@ start_again tag text space rest is_name are white =
     let end = after_again White space (62 ∷ rest) white refl in
     rw (named, read, end) refl
 
-whole_again : (tag : Tag) (text space rest : List ℕ) → IsName tag.name → AreAttributes text tag.attributes → InClass White space
+whole_again : (tag : Tag) (text space rest : List ℕ) → IsTagName tag.name → AreAttributes text tag.attributes → InClass White space
     → tag_at (tag.name ++ (text ++ (space ++ 47 ∷ 62 ∷ rest))) ≡ Some (whole tag, rest)
 unfolding tag_at
 whole_again tag text space rest is_name are white =
@@ -49,7 +49,7 @@ whole_again tag text space rest is_name are white =
 
 -- ---- end tags
 
-end_again : (name space rest : List ℕ) → IsName name → InClass White space → end_tag_at (name ++ (space ++ 62 ∷ rest)) ≡ Some (finish name, rest)
+end_again : (name space rest : List ℕ) → IsTagName name → InClass White space → end_tag_at (name ++ (space ++ 62 ∷ rest)) ≡ Some (finish name, rest)
 unfolding end_tag_at
 end_again name space rest is_name white =
     let named = name_again name (space ++ 62 ∷ rest) is_name (stops_white space 62 rest white refl) in
@@ -138,7 +138,7 @@ not_start b n is other =
       | inr e ↦ e
     ]
 
-marked_tag : (name rest : List ℕ) → IsName name → marked_at (name ++ rest) ≡ tag_at (name ++ rest)
+marked_tag : (name rest : List ℕ) → IsTagName name → marked_at (name ++ rest) ≡ tag_at (name ++ rest)
 unfolding marked_at
 marked_tag [] rest is = absurd is
 marked_tag (b ∷ name) rest is =

@@ -3,7 +3,7 @@ use Rattle.std.proofs.Common.{◌≡◌, ◌≢◌, ℕ, zero, suc, ◌<◌, ◌
 use Rattle.std.proofs.lemmas.Bool.{eqb-true, not-true}
 use Rattle.xtbml_subset.specs.declared.class.Class.TheVariants.{White, Declared, Text}
 use Rattle.xtbml_subset.specs.Classes.{is_in, front, after}
-use Rattle.xtbml_subset.specs.Pieces.{Attribute, Tag, Piece, byte, comment, declaration, start, whole, finish, IsName, AreAttributes, IsTag, IsEndTag, EndsByDashes, IsDeclaration, IsPiece}
+use Rattle.xtbml_subset.specs.Pieces.{Attribute, Tag, Piece, byte, comment, declaration, start, whole, finish, IsTagName, AreAttributes, IsTag, IsEndTag, EndsByDashes, IsDeclaration, IsPiece}
 use Rattle.xtbml_subset.specs.inside.Reading.{byte_at, spaces_at, name_at, attribute_at, attributes_from, attributes_at, with_attribute, dashes_at, comment_end_at, comment_at, declaration_at, end_tag_at, start_at, whole_at, tag_end_at, tag_at, marked_at, piece_at}
 use Rattle.xtbml_subset.specs.Texts.{◌>>=◌}
 use Rattle.xtbml_subset.proofs.Options.{bind_some, first_of_some, chosen, pair_is, some_pair}
@@ -142,7 +142,7 @@ tag_text : (name attributes space ending rest : List ℕ)
 tag_text name attributes space ending rest = sym (simp append_assoc)
 
 tag_parts : (bytes name behind : List ℕ) (read : List Attribute × List ℕ) (ending rest : List ℕ) (piece : Piece)
-    → bytes ≡ name ++ behind → IsName name → TakesAttributes behind read → after White read.1 ≡ ending ++ rest
+    → bytes ≡ name ++ behind → IsTagName name → TakesAttributes behind read → after White read.1 ≡ ending ++ rest
     → ((text : List ℕ) → IsTag text (record { name = name; attributes = read.0 }) ending → IsPiece piece text)
     → TakesPiece (60 ∷ bytes) piece rest
 tag_parts bytes name behind read ending rest piece named is_name taken end_is shows =

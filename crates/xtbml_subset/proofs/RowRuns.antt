@@ -6,7 +6,7 @@ use Rattle.xtbml_subset.specs.declared.found.Element.{Element}
 use Rattle.xtbml_subset.specs.declared.fault.TableFault.{TableFault}
 use Rattle.xtbml_subset.specs.declared.fault.TableFault.TheVariants.{Bad, NoMemory}
 use Rattle.xtbml_subset.specs.inside.Elements.{Found, siblings_at}
-use Rattle.xtbml_subset.specs.Checks.{Row, IsRow, AreRows, with_rate}
+use Rattle.xtbml_subset.specs.Checks.{RateElement, ReadsRow, ReadsRows, with_rate}
 use Rattle.xtbml_subset.specs.inside.Rows.{row_of, rows_from}
 use Rattle.xtbml_subset.specs.Answers.{Unless}
 use Rattle.xtbml_subset.specs.inside.Views.{found_of}
@@ -16,37 +16,37 @@ abbrev pub ahead : List ℕ → Result (List ℕ) TableFault → Result (List �
 ahead rates (Ok more) = Ok (rates ++ more)
 ahead rates (Err fault) = Err fault
 
-abbrev pub rows_left : ℕ → Option Element → List Row
+abbrev pub rows_left : ℕ → Option Element → List RateElement
 rows_left total None = []
 rows_left total (Some element) = rows_from total (found_of element)
 
 -- whatever the rows to come are read as, all rows are read as that behind the rates so far
-abbrev pub ReadSoFar : List Row → List ℕ → Option ℕ → List Row → Type 0
-ReadSoFar all rates due rows = (rest : Result (List ℕ) TableFault) → AreRows due rows rest → AreRows None all (ahead rates rest)
+abbrev pub ReadSoFar : List RateElement → List ℕ → Option ℕ → List RateElement → Type 0
+ReadSoFar all rates due rows = (rest : Result (List ℕ) TableFault) → ReadsRows due rows rest → ReadsRows None all (ahead rates rest)
 
 ahead_none : (read : Result (List ℕ) TableFault) → ahead [] read ≡ read
 ahead_none (Ok rates) = refl
 ahead_none (Err fault) = refl
 
-pub so_far_none : (rows : List Row) → ReadSoFar rows [] None rows
-so_far_none rows rest h = subst (AreRows None rows) (sym (ahead_none rest)) h
+pub so_far_none : (rows : List RateElement) → ReadSoFar rows [] None rows
+so_far_none rows rest h = subst (ReadsRows None rows) (sym (ahead_none rest)) h
 
 ahead_more : (rates : List ℕ) (rate : ℕ) (rest : Result (List ℕ) TableFault) → ahead rates (with_rate rate rest) ≡ ahead (rates ++ rate ∷ []) rest
 ahead_more rates rate (Ok more) = ap (λ (all : List ℕ). Ok all) (sym (append_assoc rates (rate ∷ []) more))
 ahead_more rates rate (Err fault) = refl
 
-pub so_far_more : (all : List Row) (rates : List ℕ) (due : Option ℕ) (row : Row) (rows : List Row) (age rate : ℕ)
-    → IsRow due row (Ok (age, rate)) → ReadSoFar all rates due (row ∷ rows) → ReadSoFar all (rates ++ rate ∷ []) (Some (age + 1)) rows
+pub so_far_more : (all : List RateElement) (rates : List ℕ) (due : Option ℕ) (row : RateElement) (rows : List RateElement) (age rate : ℕ)
+    → ReadsRow due row (Ok (age, rate)) → ReadSoFar all rates due (row ∷ rows) → ReadSoFar all (rates ++ rate ∷ []) (Some (age + 1)) rows
 so_far_more all rates due row rows age rate is so_far rest h =
-    let whole : AreRows due (row ∷ rows) (with_rate rate rest) = (Ok (age, rate), is, (rest, h, refl)) in
-    subst (AreRows None all) (ahead_more rates rate rest) (so_far (with_rate rate rest) whole)
+    let whole : ReadsRows due (row ∷ rows) (with_rate rate rest) = (Ok (age, rate), is, (rest, h, refl)) in
+    subst (ReadsRows None all) (ahead_more rates rate rest) (so_far (with_rate rate rest) whole)
 
-pub so_far_fault : (all : List Row) (rates : List ℕ) (due : Option ℕ) (row : Row) (rows : List Row) (fault : TableFault)
-    → IsRow due row (Err fault) → ReadSoFar all rates due (row ∷ rows) → AreRows None all (Err fault)
+pub so_far_fault : (all : List RateElement) (rates : List ℕ) (due : Option ℕ) (row : RateElement) (rows : List RateElement) (fault : TableFault)
+    → ReadsRow due row (Err fault) → ReadSoFar all rates due (row ∷ rows) → ReadsRows None all (Err fault)
 so_far_fault all rates due row rows fault is so_far = so_far (Err fault) (Err fault, is, refl)
 
-pub so_far_all : (all : List Row) (rates : List ℕ) (due : Option ℕ) → ReadSoFar all rates due [] → AreRows None all (Ok rates)
-so_far_all all rates due so_far = subst (λ (all_rates : List ℕ). AreRows None all (Ok all_rates)) (append-nil rates) (so_far (Ok []) refl)
+pub so_far_all : (all : List RateElement) (rates : List ℕ) (due : Option ℕ) → ReadSoFar all rates due [] → ReadsRows None all (Ok rates)
+so_far_all all rates due so_far = subst (λ (all_rates : List ℕ). ReadsRows None all (Ok all_rates)) (append-nil rates) (so_far (Ok []) refl)
 
 pub left_siblings : (total : ℕ) (next : Option Element) (found : List Found)
     → MatchOption next (found ≡ []) (λ e. found ≡ found_of e ∷ siblings_at (codes "Y") (found_of e)) → map (λ e. row_of total e) found ≡ rows_left total next

@@ -12,7 +12,7 @@ use Rattle.xtbml_subset.specs.Pieces.{Tag, Piece, byte, comment, declaration, st
 use Rattle.xtbml_subset.specs.inside.Machine.{State, outside, past, after_names, after_piece}
 use Rattle.xtbml_subset.specs.inside.Reading.{piece_at}
 use Rattle.xtbml_subset.specs.inside.Elements.{depth_in, Found, on, found, closed, is_wanted, is_hit, step_of, elements_at, children_at}
-use Rattle.xtbml_subset.specs.inside.Searches.{Passing, Sought, seeking, hit, missed, by_step, sought_at, opens, sought_under, counted, tally_at, tally_under, no_tally, Path, no_path, path_after, Stands, StandsUnder, Tallies, TalliesUnder, IsPath, IsFirstIn, IsFirstUnder, IsCountUnder, IsFound}
+use Rattle.xtbml_subset.specs.inside.Searches.{Passing, Sought, seeking, hit, missed, by_step, sought_at, opens, sought_under, tallied, tally_at, tally_under, no_tally, Path, no_path, path_after, Stands, StandsUnder, Tallies, TalliesUnder, IsPath, IsFirstIn, IsFirstUnder, IsCountUnder, IsFound}
 use Rattle.xtbml_subset.proofs.Options.{chosen}
 use Rattle.xtbml_subset.proofs.Searching.{elements_by}
 
@@ -303,7 +303,7 @@ tallies_step level depth next wanted p elements count false at read move tallies
     by_sought (sought_at level wanted p seeking) refl (stands_step level depth next wanted p left_before seeking at read move (tallies.0, refl))
   where
     by_sought : (s : Sought) → sought_at level wanted p seeking ≡ s → Stands level wanted next p.rest (elements_at (depth - level) wanted p.from) s
-        → Tallies level wanted next p.rest elements (counted (record { count = count; is_over = false }) s)
+        → Tallies level wanted next p.rest elements (tallied (record { count = count; is_over = false }) s)
     by_sought seeking e stands = (stands.0, tallies.1 ∙ ap (λ (fs : List Found). count + length fs) stands.1)
     by_sought (hit f) e stands =
         let place = hit_place level depth next wanted p f at move e in
@@ -346,12 +346,12 @@ tally_step level depth next wanted name p (hit f) now t at read move is under =
 pub tally_low : (level : ℕ) (name : List ℕ) (p : Passing) (above : Sought) (t : Tally) → (tally_under level name p above t).count ≤ t.count + 1
 tally_low level name p above t = by_gate (opens above) t.is_over (sought_at level (Some name) p seeking)
   where
-    low : (s : Sought) → (counted t s).count ≤ t.count + 1
+    low : (s : Sought) → (tallied t s).count ≤ t.count + 1
     low seeking = omega arith
     low (hit f) = omega arith
     low missed = omega arith
 
-    by_gate : (b over : Bool) (s : Sought) → (cond b (cond over t (counted t s)) t).count ≤ t.count + 1
+    by_gate : (b over : Bool) (s : Sought) → (cond b (cond over t (tallied t s)) t).count ≤ t.count + 1
     by_gate true true s = omega arith
     by_gate true false s = low s
     by_gate false over s = omega arith
@@ -499,9 +499,9 @@ path_with root table about values axis inner first tally =
 kept_tally : (level : ℕ) (name : List ℕ) (p : Passing) (above : Sought) (t : Tally) → level ≤ 4 → 4 < p.depth → t ≡ tally_under level name p above t
 kept_tally level name p above t low deep = by_gate (opens above) t.is_over (sought_at level (Some name) p seeking) (kept_at level (Some name) p seeking low deep)
   where
-    by_gate : (b over : Bool) (s : Sought) → seeking ≡ s → t ≡ cond b (cond over t (counted t s)) t
+    by_gate : (b over : Bool) (s : Sought) → seeking ≡ s → t ≡ cond b (cond over t (tallied t s)) t
     by_gate true true s e = refl
-    by_gate true false s e = ap (counted t) e
+    by_gate true false s e = ap (tallied t) e
     by_gate false over s e = refl
 
 pub path_kept : (p : Passing) (path : Path) → 4 < p.depth → path ≡ path_after p path

@@ -19,15 +19,15 @@ abbrev pub IsJudged : List ℕ → Result Rates TableFault → Type 0
 IsJudged bytes answer = (root : Node) × IsDocument bytes root × IsTable (parts_of node_asks root) answer
 
 -- the file spells the table
-abbrev pub Spells : List ℕ → Rates → Type 0
-Spells bytes table = IsJudged bytes (Ok table)
+abbrev pub SpellsTable : List ℕ → Rates → Type 0
+SpellsTable bytes table = IsJudged bytes (Ok table)
 
 abbrev pub IsNoDocument : List ℕ → Type 0
 IsNoDocument bytes = (root : Node) → IsDocument bytes root → ⊥
 
 -- The answer is that of the checks, or that the file is no document.
-abbrev pub IsDue : List ℕ → Result Rates TableFault → Type 0
-IsDue bytes answer =
+abbrev pub IsTableAnswer : List ℕ → Result Rates TableFault → Type 0
+IsTableAnswer bytes answer =
     IsJudged bytes answer
     ⊎ (IsNoDocument bytes × ((at : ℕ) × IsLongestNested bytes at × (answer ≡ Err (Bad at NotDocument))))
 

@@ -12,7 +12,7 @@ use Rattle.xtbml_subset.specs.Classes.{InClass, is_between}
 use Rattle.xtbml_subset.specs.Texts.{◌>>=◌, trimmed}
 
 -- what a rate or a factor is read from: the place of its `<`, the first attribute `t`, and the content where it is text alone
-pub record Row : Type 0 where
+pub record RateElement : Type 0 where
   pub at : ℕ
   pub label : Option (List ℕ)
   pub text : Option (List ℕ)
@@ -20,7 +20,7 @@ pub record Row : Type 0 where
 -- what the checks ask of an element
 pub record Asks (N : Type 0) : Type 0 where
   pub name : N → List ℕ
-  pub row : N → Row
+  pub row : N → RateElement
   pub children : List ℕ → N → List N
 
 abbrev pub first : {A : Type 0} → List A → Option A
@@ -85,25 +85,25 @@ is_due None age = true
 is_due (Some due) age = age == due
 
 -- the content, without white space at both ends, is this rate, or no rate
-abbrev pub Reads : Option (List ℕ) → Option ℕ → Type 0
-Reads None rate = rate ≡ None
-Reads (Some text) None = (rate : ℕ) → IsRate (trimmed text) rate → ⊥
-Reads (Some text) (Some rate) = IsRate (trimmed text) rate
+abbrev pub ReadsRate : Option (List ℕ) → Option ℕ → Type 0
+ReadsRate None rate = rate ≡ None
+ReadsRate (Some text) None = (rate : ℕ) → IsRate (trimmed text) rate → ⊥
+ReadsRate (Some text) (Some rate) = IsRate (trimmed text) rate
 
 abbrev pub rated : ℕ → ℕ → Option ℕ → Result (ℕ × ℕ) TableFault
 rated at age None = Err (Bad at BadRate)
 rated at age (Some rate) = Ok (age, rate)
 
-abbrev pub IsAged : Option ℕ → Row → Option ℕ → Result (ℕ × ℕ) TableFault → Type 0
+abbrev pub IsAged : Option ℕ → RateElement → Option ℕ → Result (ℕ × ℕ) TableFault → Type 0
 IsAged due row None read = read ≡ Err (Bad row.at BadAge)
 IsAged due row (Some age) read =
     MatchBool (is_due due age)
-    ((rate : Option ℕ) × Reads row.text rate × (read ≡ rated row.at age rate))
+    ((rate : Option ℕ) × ReadsRate row.text rate × (read ≡ rated row.at age rate))
     (read ≡ Err (Bad row.at AgeGap))
 
 -- a row is read as an age and its rate, or refused: for its age, for a gap before it, or for its rate
-abbrev pub IsRow : Option ℕ → Row → Result (ℕ × ℕ) TableFault → Type 0
-IsRow due row read = IsAged due row (age_of row.label) read
+abbrev pub ReadsRow : Option ℕ → RateElement → Result (ℕ × ℕ) TableFault → Type 0
+ReadsRow due row read = IsAged due row (age_of row.label) read
 
 abbrev pub with_rate : ℕ → Result (List ℕ) TableFault → Result (List ℕ) TableFault
 with_rate rate rest = rest >=> λ rates. Ok (rate ∷ rates)
@@ -114,10 +114,10 @@ Continues Rest (Err fault) read = read ≡ Err fault
 Continues Rest (Ok row) read = (rest : Result (List ℕ) TableFault) × Rest (Some (row.0 + 1)) rest × (read ≡ with_rate row.1 rest)
 
 -- the rows are read as these rates, or the first that is refused says why
-abbrev pub AreRows : Option ℕ → List Row → Result (List ℕ) TableFault → Type 0
-AreRows due [] read = read ≡ Ok []
-AreRows due (row ∷ rows) read =
-    (one : Result (ℕ × ℕ) TableFault) × IsRow due row one × Continues (λ next rest. AreRows next rows rest) one read
+abbrev pub ReadsRows : Option ℕ → List RateElement → Result (List ℕ) TableFault → Type 0
+ReadsRows due [] read = read ≡ Ok []
+ReadsRows due (row ∷ rows) read =
+    (one : Result (ℕ × ℕ) TableFault) × ReadsRow due row one × Continues (λ next rest. ReadsRows next rows rest) one read
 
 -- ---- the table
 
@@ -126,17 +126,17 @@ abbrev pub IsUnscaled : Option (List ℕ) → Type 0
 IsUnscaled None = ⊥
 IsUnscaled (Some text) = InClass White text ⊎ (IsRate (trimmed text) 0 ⊎ IsRate (trimmed text) 1000000000)
 
-abbrev pub IsScale : Option Row → Result (Unit {0}) TableFault → Type 0
+abbrev pub IsScale : Option RateElement → Result (Unit {0}) TableFault → Type 0
 IsScale None read = read ≡ Ok tt
 IsScale (Some row) (Ok none) = IsUnscaled row.text
 IsScale (Some row) (Err fault) = (IsUnscaled row.text → ⊥) × (fault ≡ Bad row.at Scaled)
 
 -- what is left of a document for its table
 pub record Parts : Type 0 where
-  pub factor : Option Row
-  pub rows : List Row
+  pub factor : Option RateElement
+  pub rows : List RateElement
 
-abbrev pub option_row : {N : Type 0} → Asks N → Option N → Option Row
+abbrev pub option_row : {N : Type 0} → Asks N → Option N → Option RateElement
 option_row asks None = None
 option_row asks (Some node) = Some (asks.row node)
 
@@ -145,14 +145,14 @@ parts_of asks root =
     path asks root >=> λ found. rates_of asks found.1 >=> λ rates.
     Ok (record { factor = option_row asks (factor_of asks found.0); rows = map (λ node. asks.row node) rates })
 
-abbrev pub first_age : List Row → ℕ
+abbrev pub first_age : List RateElement → ℕ
 first_age [] = 0
 first_age (row ∷ rows) = unwrap_or (age_of row.label) 0
 
-abbrev pub IsScaledTable : List Row → Result (Unit {0}) TableFault → Result Rates TableFault → Type 0
+abbrev pub IsScaledTable : List RateElement → Result (Unit {0}) TableFault → Result Rates TableFault → Type 0
 IsScaledTable rows (Err fault) answer = answer ≡ Err fault
 IsScaledTable rows (Ok none) answer =
-    (read : Result (List ℕ) TableFault) × AreRows None rows read
+    (read : Result (List ℕ) TableFault) × ReadsRows None rows read
     × (answer ≡ (read >=> λ rates. Ok (record { first_age = first_age rows; rates = rates })))
 
 -- the answer by the parts, or the fault for want of them

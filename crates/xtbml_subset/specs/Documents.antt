@@ -5,7 +5,7 @@ use Rattle.xtbml_subset.specs.declared.class.Class.TheVariants.{White, Text}
 use Rattle.xtbml_subset.specs.Classes.{is_in, InClass}
 use Rattle.xtbml_subset.specs.Pieces.{Tag, Piece, byte, comment, declaration, start, whole, finish, IsPiece, IsMark, Spell}
 use Rattle.xtbml_subset.specs.Texts.{value_of}
-use Rattle.xtbml_subset.specs.Checks.{Row, Asks}
+use Rattle.xtbml_subset.specs.Checks.{RateElement, Asks}
 
 -- Content is nothing, or begins with a byte of text, a comment or an element, and goes on. An element has the
 -- place of its `<`, its tag and its content.
@@ -49,8 +49,8 @@ abbrev pub IsMisc : List ℕ → Type 0
 IsMisc bytes = (pieces : List Piece) × Spell pieces bytes × AreMisc pieces
 
 -- a declaration, which white space may precede, or nothing
-abbrev pub IsOpening : List ℕ → Type 0
-IsOpening bytes =
+abbrev pub IsDocumentOpening : List ℕ → Type 0
+IsDocumentOpening bytes =
     (bytes ≡ []) ⊎ ((space : List ℕ) × (text : List ℕ) × (bytes ≡ space ++ text) × InClass White space × IsPiece declaration text)
 
 -- an element with its place
@@ -68,7 +68,7 @@ pub record IsDocument (bytes : List ℕ) (root : Node) : Type 0 where
   pub behind : List ℕ
   pub parts : bytes ≡ mark ++ (opening ++ (before ++ (text ++ behind)))
   pub is_mark : IsMark mark
-  pub is_opening : IsOpening opening
+  pub is_opening : IsDocumentOpening opening
   pub misc_before : IsMisc before
   pub is_root : IsElement (λ start inside. IsContent 63 root.inner start inside) (length mark + length opening + length before) root.at root.tag root.inner text
   pub misc_behind : IsMisc behind
@@ -96,7 +96,7 @@ text_of (letter b more) = with_letter b (text_of more)
 text_of (remark more) = None
 text_of (element at tag inner more) = None
 
-abbrev pub node_row : Node → Row
+abbrev pub node_row : Node → RateElement
 node_row node = record { at = node.at; label = value_of (codes "t") node.tag.attributes; text = text_of node.inner }
 
 abbrev pub node_asks : Asks Node

@@ -26,9 +26,9 @@ abbrev pub IsSpace : List ℕ → Type 0
 IsSpace [] = ⊥
 IsSpace (b ∷ bytes) = (is_in White b ≡ true) × InClass White bytes
 
-abbrev pub IsName : List ℕ → Type 0
-IsName [] = ⊥
-IsName (b ∷ bytes) = (starts_name b ≡ true) × InClass Name bytes
+abbrev pub IsTagName : List ℕ → Type 0
+IsTagName [] = ⊥
+IsTagName (b ∷ bytes) = (starts_name b ≡ true) × InClass Name bytes
 
 -- a value between two `"` or two `'`
 abbrev pub IsQuoted : List ℕ → List ℕ → Type 0
@@ -43,7 +43,7 @@ pub record IsAttribute (text : List ℕ) (attribute : Attribute) : Type 0 where
   pub quoted : List ℕ
   pub parts : text ≡ space ++ (attribute.0 ++ (before_sign ++ 61 ∷ (after_sign ++ quoted)))
   pub is_space : IsSpace space
-  pub is_name : IsName attribute.0
+  pub is_name : IsTagName attribute.0
   pub white_before : InClass White before_sign
   pub white_after : InClass White after_sign
   pub is_quoted : IsQuoted quoted attribute.1
@@ -58,7 +58,7 @@ pub record IsTag (text : List ℕ) (tag : Tag) (ending : List ℕ) : Type 0 wher
   pub attributes : List ℕ
   pub space : List ℕ
   pub parts : text ≡ 60 ∷ (tag.name ++ (attributes ++ (space ++ ending)))
-  pub is_name : IsName tag.name
+  pub is_name : IsTagName tag.name
   pub are_attributes : AreAttributes attributes tag.attributes
   pub white : InClass White space
 
@@ -66,7 +66,7 @@ pub record IsTag (text : List ℕ) (tag : Tag) (ending : List ℕ) : Type 0 wher
 pub record IsEndTag (text name : List ℕ) : Type 0 where
   pub space : List ℕ
   pub parts : text ≡ 60 ∷ 47 ∷ (name ++ (space ++ 62 ∷ []))
-  pub is_name : IsName name
+  pub is_name : IsTagName name
   pub white : InClass White space
 
 -- `-->` stands at the end of the bytes and nowhere before

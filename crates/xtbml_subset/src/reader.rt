@@ -1,6 +1,6 @@
 ghost use Rattle.std.specs.Prelude.{◌≡◌, ℕ, ◌≤◌, length, IfOk, IfErr, Ok, Err, Result};
 ghost use Rattle.rate_table.specs.Rates.{Rates};
-ghost use Rattle.xtbml_subset.specs.Answers.{Spells, IsDue, Gives, Unless};
+ghost use Rattle.xtbml_subset.specs.Answers.{SpellsTable, IsTableAnswer, Gives, Unless};
 
 use crate::fault::{TableFault, TableKind};
 use crate::nesting::survey;
@@ -16,13 +16,13 @@ use std::alloc::Global;
 pub fn read_table(alloc: Global, bytes: &[u8]) -> Result<RateTable, TableFault>
     requires { length bytes.now ≤ 4194304 }
     // What is read is spelled so.
-    ensures table { IfOk result (λ table. Spells bytes.now table) }
+    ensures table { IfOk result (λ table. SpellsTable bytes.now table) }
     // What is spelled so is read, unless memory runs out.
-    ensures read { (table : Rates) → Spells bytes.now table → Gives result (Ok table) }
+    ensures read { (table : Rates) → SpellsTable bytes.now table → Gives result (Ok table) }
     // A fault is the one that is due.
-    ensures fault { IfErr result (λ fault. Unless fault (IsDue bytes.now (Err fault))) }
+    ensures fault { IfErr result (λ fault. Unless fault (IsTableAnswer bytes.now (Err fault))) }
     // Whatever answer is due is given, unless memory runs out.
-    ensures due { (answer : Result Rates TableFault) → IsDue bytes.now answer → Gives result answer }
+    ensures due { (answer : Result Rates TableFault) → IsTableAnswer bytes.now answer → Gives result answer }
 {
     let path = match survey(bytes) {
         Ok(path) => path,

@@ -1,6 +1,6 @@
 ghost use Rattle.std.specs.Prelude.{◌≡◌, ℕ, ◌≤◌, ◌<◌, ◌+◌, ◌*◌, ◌^◌, [], ◌∷◌, length, IfSome, IfOk, IfErr, MatchBool, MatchOption, codes};
 ghost use Rattle.std.specs.Option.{option_copied, ForSome};
-ghost use Rattle.xtbml_subset.specs.Checks.{digit_then, short_number, age_of, is_due, Reads, IsRow, AreRows, first_age};
+ghost use Rattle.xtbml_subset.specs.Checks.{digit_then, short_number, age_of, is_due, ReadsRate, ReadsRow, ReadsRows, first_age};
 ghost use Rattle.xtbml_subset.specs.inside.Rows.{row_of, rows_from};
 ghost use Rattle.xtbml_subset.specs.Answers.{Unless};
 ghost use Rattle.xtbml_subset.specs.inside.Elements.{siblings_at};
@@ -50,7 +50,7 @@ pub fn age_of(label: Option<&[u8]>) -> Option<u8>
 /// The rate that is written in a content, in units of 10^-9.
 pub fn rate_in(text: Option<&[u8]>) -> Option<u32>
     requires { ForSome text (λ t. length t.now ≤ 4194304) }
-    ensures { Reads (option_copied text.entry) result }
+    ensures { ReadsRate (option_copied text.entry) result }
 {
     let Some(text) = text else {
         return None;
@@ -72,7 +72,7 @@ fn is_due(due: Option<u8>, age: u8) -> bool
 
 /// The age and the rate of a row, where the age that is due is none at the first row.
 pub fn read_row(row: &Element<'_>, due: Option<u8>, total: u32) -> Result<(u8, u32), TableFault>
-    ensures row { IsRow due (row_of total (found_of row.now)) result }
+    ensures row { ReadsRow due (row_of total (found_of row.now)) result }
     ensures age { IfOk result (λ read. read.0 ≤ 130) }
 {
     let at = row.place(total);
@@ -119,8 +119,8 @@ pub fn read_rows(
     total: u32,
 ) -> Result<Vec<u32>, TableFault>
     requires { 1 + length (siblings_at (codes "Y") (found_of first.now)) ≡ count }
-    ensures read { IfOk result (λ rates. AreRows None (rows_from total (found_of first.now)) (Ok rates.items)) }
-    ensures fault { IfErr result (λ fault. Unless fault (AreRows None (rows_from total (found_of first.now)) (Err fault))) }
+    ensures read { IfOk result (λ rates. ReadsRows None (rows_from total (found_of first.now)) (Ok rates.items)) }
+    ensures fault { IfErr result (λ fault. Unless fault (ReadsRows None (rows_from total (found_of first.now)) (Err fault))) }
 {
     let mut rates = Vec::new(alloc);
     let mut due: Option<u8> = None;

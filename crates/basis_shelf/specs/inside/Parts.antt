@@ -13,14 +13,14 @@ use Rattle.basis_shelf.specs.declared.fault.BasisWord.TheVariants.{Absent, TooLo
 use Rattle.basis_shelf.specs.declared.fault.NoBasis.{NoBasis}
 use Rattle.basis_shelf.specs.declared.fault.NoBasis.TheVariants.{Bad, ReadFault, NoMemory}
 use Rattle.basis_shelf.specs.Files.{IsAbsent, IsTooLong}
-use Rattle.basis_shelf.specs.Bases.{IsTable}
+use Rattle.basis_shelf.specs.Bases.{IsTableNamed}
 use Rattle.basis_shelf.specs.FirstBad.{IsBadBook, IsBadTable}
 
 -- a file is told as bad, unless memory was refused
-abbrev pub IsTold : List ℕ → ℕ → BasisWord → NoBasis → Type 0
-IsTold name place word (Bad bad) = bad ≡ record { name = name; place = place; word = word }
-IsTold name place word ReadFault = ⊥
-IsTold name place word NoMemory = ⊤
+abbrev pub IsToldOfTable : List ℕ → ℕ → BasisWord → NoBasis → Type 0
+IsToldOfTable name place word (Bad bad) = bad ≡ record { name = name; place = place; word = word }
+IsToldOfTable name place word ReadFault = ⊥
+IsToldOfTable name place word NoMemory = ⊤
 
 -- a file is told as absent or too long, at this place
 abbrev pub IsUnread : (List ℕ → Option (List ℕ)) → List ℕ → ℕ → BadBasis → Type 0
@@ -38,9 +38,9 @@ IsBadTableFile files name number bad = (bad.name ≡ name) × IsBadTable files n
 
 -- the fault of a basis file is told
 abbrev pub TellsRows : List ℕ → BasisFault → NoBasis → Type 0
-TellsRows name fault.TooManyRows told = IsTold name 1001 TooManyRows told
-TellsRows name (fault.BadBasisRow row) told = IsTold name row BadRow told
-TellsRows name (fault.NotRising row) told = IsTold name row NotRising told
+TellsRows name fault.TooManyRows told = IsToldOfTable name 1001 TooManyRows told
+TellsRows name (fault.BadBasisRow row) told = IsToldOfTable name row BadRow told
+TellsRows name (fault.NotRising row) told = IsToldOfTable name row NotRising told
 TellsRows name fault.NoMemory told = told ≡ NoMemory
 
 abbrev pub word_of : TableKind → BasisWord
@@ -54,12 +54,12 @@ word_of kind.BadRate = BadRate
 
 -- the fault of a table file is told
 abbrev pub TellsTable : List ℕ → TableFault → NoBasis → Type 0
-TellsTable name (table.Bad at what) told = IsTold name at (word_of what) told
+TellsTable name (table.Bad at what) told = IsToldOfTable name at (word_of what) told
 TellsTable name table.NoMemory told = told ≡ NoMemory
 
 -- each table is that of its name
 abbrev pub AreTables : (List ℕ → Option (List ℕ)) → (List ℕ → Option Rates) → Type 0
-AreTables files tables = (name : List ℕ) → IfSome (tables name) (IsTable files name)
+AreTables files tables = (name : List ℕ) → IfSome (tables name) (IsTableNamed files name)
 
 -- the names that had a table have one
 abbrev pub KeepsKnown : (List ℕ → Option Rates) → (List ℕ → Option Rates) → Type 0

@@ -5,9 +5,9 @@ use Rattle.command_csv.specs.declared.fields.Fields.{Fields}
 use Rattle.policy_types.specs.declared.script.Line.{Line}
 use Rattle.command_csv.specs.declared.kind.Kind.{Kind}
 use Rattle.command_csv.specs.declared.row.ClerkLine.{ClerkLine}
-use Rattle.command_csv.specs.Reads.{IsScriptLine, IsRowOf, HasRoom}
+use Rattle.command_csv.specs.Reads.{IsScriptLine, IsLineRow, MayStandBehind}
 use Rattle.command_csv.specs.Spelling.{line_fields}
-use Rattle.command_csv.specs.inside.Forms.{StopsAfter, kind_word}
+use Rattle.command_csv.specs.inside.Forms.{StopsAfter, kind_spelling}
 
 -- the fields that weren't asked for yet
 abbrev pub left_of : Fields → List (List ℕ)
@@ -31,12 +31,12 @@ pub record StopsIn (Form : List (List ℕ) → Type 0) (old new : Fields) : Type
   pub bad : StopsAfter Form (left_of old) fitting
 
 -- the fields that were asked for are those of a right line of the kind, behind the kind's word
-pub record Holds (kind : Kind) (old new : Fields) (line : Line) : Type 0 where
+pub record HoldsLine (kind : Kind) (old new : Fields) (line : Line) : Type 0 where
   pub right : IsScriptLine line
-  pub spelled : kind_word kind ∷ left_of old ≡ line_fields line ++ left_of new
+  pub spelled : kind_spelling kind ∷ left_of old ≡ line_fields line ++ left_of new
   pub counted : new.asked ≡ length (line_fields line) + 1
 
 -- the fields are the row of a line that may stand behind so many valuations
 pub record IsNextRow (valued : ℕ) (fields : List (List ℕ)) (entry : ClerkLine) : Type 0 where
-  pub is : IsRowOf fields entry
-  pub room : HasRoom valued entry.line
+  pub is : IsLineRow fields entry
+  pub room : MayStandBehind valued entry.line

@@ -7,7 +7,8 @@ use Rattle.money_core.specs.CentsText.{cents_text}
 use Rattle.command_csv.specs.declared.kind.Kind.{Kind}
 use Rattle.command_csv.specs.declared.kind.Kind.TheVariants.{Issue, Premium, Alter, Lapse, Reinstate, Claim, Settle, Mature, Value, Trim}
 use Rattle.command_csv.specs.Reads.{IsClerk, IsPosition, AreWorkers, most_valuations}
-use Rattle.command_csv.specs.Spelling.{at_text, plan_word}
+use Rattle.command_csv.specs.Spelling.{at_text}
+use Rattle.policy_types.specs.Words.{plan_word}
 
 -- nothing
 abbrev pub Ends : List (List ℕ) → Type 0
@@ -52,17 +53,17 @@ abbrev pub ValuationOn : List (List ℕ) → Type 0
 ValuationOn = Then IsCommandDay day_text (λ on. PositionOn)
 
 -- the word of a kind
-abbrev pub kind_word : Kind → List ℕ
-kind_word Issue = codes "issue"
-kind_word Premium = codes "premium"
-kind_word Alter = codes "alter"
-kind_word Lapse = codes "lapse"
-kind_word Reinstate = codes "reinstate"
-kind_word Claim = codes "claim"
-kind_word Settle = codes "settle"
-kind_word Mature = codes "mature"
-kind_word Value = codes "value"
-kind_word Trim = codes "trim"
+abbrev pub kind_spelling : Kind → List ℕ
+kind_spelling Issue = codes "issue"
+kind_spelling Premium = codes "premium"
+kind_spelling Alter = codes "alter"
+kind_spelling Lapse = codes "lapse"
+kind_spelling Reinstate = codes "reinstate"
+kind_spelling Claim = codes "claim"
+kind_spelling Settle = codes "settle"
+kind_spelling Mature = codes "mature"
+kind_spelling Value = codes "value"
+kind_spelling Trim = codes "trim"
 
 -- what follows the word of a kind
 abbrev pub form_of : Kind → List (List ℕ) → Type 0
@@ -78,13 +79,13 @@ form_of Value = ValuationOn
 form_of Trim = Ends
 
 -- a line of the kind may stand behind so many valuations
-abbrev pub MayFollow : ℕ → Kind → Type 0
-MayFollow valued Value = valued < most_valuations
-MayFollow valued _ = ⊤
+abbrev pub KindMayStandBehind : ℕ → Kind → Type 0
+KindMayStandBehind valued Value = valued < most_valuations
+KindMayStandBehind valued _ = ⊤
 
 -- a kind that may, and what follows its word
 abbrev pub KindForm : ℕ → List (List ℕ) → Type 0
-KindForm valued = Then (MayFollow valued) kind_word form_of
+KindForm valued = Then (KindMayStandBehind valued) kind_spelling form_of
 
 -- a row behind so many valuations
 abbrev pub RowForm : ℕ → List (List ℕ) → Type 0

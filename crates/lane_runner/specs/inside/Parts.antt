@@ -15,11 +15,12 @@ use Rattle.snapshot_value.specs.Valuing.{most_turns}
 use Rattle.snapshot_value.specs.declared.valuation.Valuation.{Valuation}
 use Rattle.snapshot_value.specs.declared.valuation.ValueFault.{ValueFault}
 use Rattle.snapshot_value.specs.declared.valuation.ValueFault.TheVariants.{Pin, NoMemory}
-use Rattle.lane_runner.specs.declared.transcript.AnsweredLine.{AnsweredLine as TranscriptLine}
+use Rattle.lane_runner.specs.declared.transcript.TranscriptLine.{TranscriptLine}
 use Rattle.lane_runner.specs.declared.transcript.Outcome.{Outcome}
 use Rattle.lane_runner.specs.declared.transcript.Outcome.TheVariants.{Valued, ValueRefused, ValueNoMemory}
 use Rattle.lane_runner.specs.AnsweredLines.{AnsweredLine, turns_in}
-use Rattle.lane_runner.specs.Lanes.{IsRightLane, lines_in}
+use Rattle.lane_runner.specs.Lanes.{IsRightLane}
+use Rattle.policy_types.specs.Lanes.{lines_in}
 use Rattle.lane_runner.specs.Transcripts.{IsTold, dry_of}
 
 -- the turns that a line may need
@@ -62,7 +63,7 @@ pub record IsRoomFor (lane : Lane) (memory : Vec TranscriptLine Global) : Type 0
   pub enough : length lane.lines ≤ vec_capacity memory
 
 -- the memory for lanes: a room for each, and room for as many passes and callers, and for all lines
-pub record HasRoom {D W : Type 0} (lanes : List Lane) (rooms : Vec (Vec TranscriptLine Global) Global) (seats : Vec (Seat D W) Global)
+pub record HasLaneRoom {D W : Type 0} (lanes : List Lane) (rooms : Vec (Vec TranscriptLine Global) Global) (seats : Vec (Seat D W) Global)
     (callers : Vec ℕ Global) (lines : Vec TranscriptLine Global) : Type 0 where
   pub fitting : AllZip IsRoomFor lanes rooms.items
   pub no_seats : seats.items ≡ []
@@ -116,7 +117,7 @@ module _ {D W : Type 0} where
     pub rooms_are : map (λ (seat : Seat D W). seat.1) seats ≡ rooms
 
   -- the lane may be run in this seat
-  pub record IsReady (office : TableId) (lane : Lane) (seat : Seat D W) : Type 0 where
+  pub record IsReadySeat (office : TableId) (lane : Lane) (seat : Seat D W) : Type 0 where
     pub right : IsRightLane lane
     pub ours : seat.0.turnstile ≡ office
     pub left : turns_needed lane.lines ≤ seat.0.left
@@ -128,7 +129,7 @@ module _ {D W : Type 0} where
     pub facts : PassFacts IsOfficeHistory new.0
 
   abbrev pub IsReadyAt : TableId → List Lane → ℕ → Seat D W → Type 0
-  IsReadyAt office lanes index seat = (lane : Lane) → slice_get lanes index ≡ Some lane → IsReady office lane seat
+  IsReadyAt office lanes index seat = (lane : Lane) → slice_get lanes index ≡ Some lane → IsReadySeat office lane seat
 
   abbrev pub HasRunAt : List Dated → List Lane → ℕ → Seat D W → Seat D W → Type 0
   HasRunAt basis lanes index old new = (lane : Lane) → slice_get lanes index ≡ Some lane → HasRunIn basis lane old new

@@ -10,8 +10,8 @@ use Rattle.policy_value.specs.declared.worth.Row.{Row}
 use Rattle.snapshot_value.specs.declared.valuation.Valuation.{Valuation}
 use Rattle.snapshot_value.specs.declared.valuation.ValueFault.{ValueFault}
 use Rattle.snapshot_value.specs.declared.valuation.ValueFault.TheVariants.{Pin, NoMemory as NoValues}
-use Rattle.lane_runner.specs.Lanes.{lines_in}
-use Rattle.lane_runner.specs.declared.transcript.AnsweredLine.{AnsweredLine as ToldLine}
+use Rattle.policy_types.specs.Lanes.{lines_in}
+use Rattle.lane_runner.specs.declared.transcript.TranscriptLine.{TranscriptLine}
 use Rattle.lane_runner.specs.declared.transcript.Outcome.{Outcome}
 use Rattle.lane_runner.specs.declared.transcript.Outcome.TheVariants.{Posted}
 use Rattle.load_maker.specs.GeneratedLanes.{IsValidPosting}
@@ -36,11 +36,11 @@ abbrev pub tells_refused : Outcome → Bool
 tells_refused (Posted (Refused refusal)) = true
 tells_refused _ = false
 
-abbrev pub accepted_lines : List ToldLine → ℕ
-accepted_lines lines = count_by (λ (told : ToldLine). tells_accepted told.outcome) lines
+abbrev pub accepted_lines : List TranscriptLine → ℕ
+accepted_lines lines = count_by (λ (told : TranscriptLine). tells_accepted told.outcome) lines
 
-abbrev pub refused_lines : List ToldLine → ℕ
-refused_lines lines = count_by (λ (told : ToldLine). tells_refused told.outcome) lines
+abbrev pub refused_lines : List TranscriptLine → ℕ
+refused_lines lines = count_by (λ (told : TranscriptLine). tells_refused told.outcome) lines
 
 -- the answers to a valuation behind postings alone: its rows, which can be written, or that it found no memory
 abbrev pub IsLoadAnswer : Result Valuation ValueFault → Type 0
@@ -49,7 +49,7 @@ IsLoadAnswer (Err NoValues) = Unit {0}
 IsLoadAnswer (Err (Pin refusal)) = ⊥
 
 -- what is written of the lines of a load and the rows of its valuation, and then by what is told of the lines
-abbrev pub EndsLine : List ToldLine → List Row → Stream → Ending → Type 0
+abbrev pub EndsLine : List TranscriptLine → List Row → Stream → Ending → Type 0
 EndsLine lines rows output Done =
     (any_faulted lines ≡ false) × (any_lacked lines ≡ false)
     × WroteAll output (load_text (accepted_lines lines) (refused_lines lines) rows)
@@ -65,7 +65,7 @@ EndsLine lines rows output NoMemory =
 EndsLine lines rows output _ = ⊥
 
 -- the same, where nothing is written of a valuation that found no memory
-abbrev pub EndsLoaded : List ToldLine → Result Valuation ValueFault → Stream → Ending → Type 0
+abbrev pub EndsLoaded : List TranscriptLine → Result Valuation ValueFault → Stream → Ending → Type 0
 EndsLoaded lines (Ok valuation) output ending = EndsLine lines valuation.rows output ending
 EndsLoaded lines (Err NoValues) output NoMemory = Appends output.before output.after []
 EndsLoaded lines (Err fault) output _ = ⊥

@@ -7,7 +7,8 @@ use Rattle.outside_io.specs.Faults.{Rose}
 use Rattle.outside_io.specs.Streams.{AppendsPart}
 use Rattle.policy_types.specs.declared.script.Lane.{Lane}
 use Rattle.command_csv.specs.Reads.{IsScriptLine}
-use Rattle.lane_runner.specs.Lanes.{AreRightLanes, lines_in}
+use Rattle.lane_runner.specs.Lanes.{AreRightLanes}
+use Rattle.policy_types.specs.Lanes.{lines_in}
 use Rattle.life_app.specs.declared.ending.Ending.{Ending}
 use Rattle.life_app.specs.declared.ending.Ending.TheVariants.{Done, BadScript, BadJournal, ReadFault as InputFault, WriteFault, DiskFault, NoMemory}
 use Rattle.office_state.specs.declared.faults.StartCause.{StartCause}

@@ -21,14 +21,14 @@ use Rattle.office_state.specs.inside.Replays.{BodiesHave, HasFailed, IsLookedAt,
 use Rattle.life_app.specs.declared.rereading.Account.{Account}
 use Rattle.life_app.specs.declared.ending.Ending.{Ending}
 use Rattle.life_app.specs.declared.ending.Ending.TheVariants.{Done, BadJournal, WriteFault, DiskFault, NoMemory}
-use Rattle.life_app.specs.Books.{entries_of, policy_account}
+use Rattle.life_app.specs.Books.{policy_entries, policy_account}
 use Rattle.life_app.specs.Outcome.{SaysWhy}
 use Rattle.life_app.specs.Writing.{Stream, WroteAll, WroteLine}
 
 -- the account is that of its policy after the commands
 pub record IsAccount (account : Account) (commands : List Command) : Type 0 where
   pub valid : AllByRecursion IsValid commands
-  pub entries : account.entries.items ≡ entries_of commands account.id
+  pub entries : account.entries.items ≡ policy_entries commands account.id
   pub policy : account.policy ≡ policy_of commands account.id
 
 -- the rules accept the command after these
@@ -55,12 +55,12 @@ pub record IsNext {D : Type 0} {g : Ghosts D} (old new : Journal D g) (account :
   pub spelled : BodiesHave old (λ bodies. slice_index_or bodies n [] ≡ spelling_of command)
 
 -- why record n isn't read: the disk failed, its body spells no command that can be next, or there was no memory
-abbrev pub IsStuck : {D : Type 0} {g : Ghosts D} → Journal D g → Journal D g → ℕ → List Command → StartCause → Type 0
-IsStuck old new n commands (FaultyDisk count) = HasFailed old (disk_of new) count
-IsStuck old new n commands (BadRecord m) =
+abbrev pub StopsReading : {D : Type 0} {g : Ghosts D} → Journal D g → Journal D g → ℕ → List Command → StartCause → Type 0
+StopsReading old new n commands (FaultyDisk count) = HasFailed old (disk_of new) count
+StopsReading old new n commands (BadRecord m) =
     (m ≡ n) × IsQuiet old (disk_of new) × BodiesHave old (λ bodies. SpellsNoNext (slice_index_or bodies n []) commands)
-IsStuck old new n commands NoRoom = IsQuiet old (disk_of new)
-IsStuck old new n commands NotAJournal = ⊥
+StopsReading old new n commands NoRoom = IsQuiet old (disk_of new)
+StopsReading old new n commands NotAJournal = ⊥
 
 -- the first n records are those of commands, whose account it is
 pub record AreRead {D : Type 0} {g : Ghosts D} (old new : Journal D g) (account : Account) (n : ℕ) : Type 0 where
@@ -71,7 +71,7 @@ pub record AreRead {D : Type 0} {g : Ghosts D} (old new : Journal D g) (account 
   pub front : BodiesHave old (λ bodies. take n bodies ≡ bodies_of commands)
 
 -- the bodies aren't those of commands that the rules accept one after the other
-pub record IsStoppedAt (n : ℕ) (bodies : List (List ℕ)) : Type 0 where
+pub record IsReadUpTo (n : ℕ) (bodies : List (List ℕ)) : Type 0 where
   pub commands : List Command
   pub counted : length commands ≡ n
   pub within : n < length bodies
@@ -80,11 +80,11 @@ pub record IsStoppedAt (n : ℕ) (bodies : List (List ℕ)) : Type 0 where
   pub none : SpellsNoNext (slice_index_or bodies n []) commands
 
 -- why not every record was read
-abbrev pub HasStopped : {D : Type 0} {g : Ghosts D} → Journal D g → D → StartCause → Type 0
-HasStopped journal disk (FaultyDisk count) = HasFailed journal disk count
-HasStopped journal disk (BadRecord n) = IsQuiet journal disk × BodiesHave journal (IsStoppedAt n)
-HasStopped journal disk NoRoom = IsQuiet journal disk
-HasStopped journal disk NotAJournal = ⊥
+abbrev pub HasStoppedReading : {D : Type 0} {g : Ghosts D} → Journal D g → D → StartCause → Type 0
+HasStoppedReading journal disk (FaultyDisk count) = HasFailed journal disk count
+HasStoppedReading journal disk (BadRecord n) = IsQuiet journal disk × BodiesHave journal (IsReadUpTo n)
+HasStoppedReading journal disk NoRoom = IsQuiet journal disk
+HasStoppedReading journal disk NotAJournal = ⊥
 
 -- the account was read from a journal
 pub record IsReadFrom {D : Type 0} {g : Ghosts D} (journal : Journal D g) (disk : D) (account : Account) (id : ℕ)
@@ -99,7 +99,7 @@ pub record IsReadFrom {D : Type 0} {g : Ghosts D} (journal : Journal D g) (disk 
 -- the account couldn't be read from a journal
 pub record IsStoppedFrom {D : Type 0} {g : Ghosts D} (journal : Journal D g) (disk : D) (cause : StartCause) : Type 0 where
   pub looked : IsLookedAt g (disk_of journal) disk
-  pub why : HasStopped journal disk cause
+  pub why : HasStoppedReading journal disk cause
 
 -- The account was read from the commands of the disk's file. A file that is no unfinished creation was only looked at.
 pub record HasRead {D : Type 0} (g : Ghosts D) (old new : D) (account : Account) (id : ℕ) : Type 0 where

@@ -15,7 +15,7 @@ use Rattle.office_state.specs.declared.answer.Answer.TheVariants.{Refused, DiskF
 use Rattle.office_state.specs.Posting.{reply_of}
 use Rattle.report_text.specs.Block.{AreSummable, block_text}
 use Rattle.snapshot_value.specs.declared.valuation.Valuation.{Valuation}
-use Rattle.lane_runner.specs.declared.transcript.AnsweredLine.{AnsweredLine as ToldLine}
+use Rattle.lane_runner.specs.declared.transcript.TranscriptLine.{TranscriptLine}
 use Rattle.lane_runner.specs.declared.transcript.Outcome.{Outcome}
 use Rattle.lane_runner.specs.declared.transcript.Outcome.TheVariants.{Posted, Trimmed, Valued, ValueRefused, ValueNoMemory}
 use Rattle.lane_runner.specs.declared.transcript.Transcript.{Transcript}
@@ -47,9 +47,9 @@ IsPrintable (OverSettled outstanding) = outstanding < 2 ^ 63
 IsPrintable Full = Unit {0}
 
 -- a refusal can be written
-abbrev pub IsTold : Answer → Type 0
-IsTold (Refused refusal) = IsPrintable refusal
-IsTold _ = Unit {0}
+abbrev pub IsToldAnswer : Answer → Type 0
+IsToldAnswer (Refused refusal) = IsPrintable refusal
+IsToldAnswer _ = Unit {0}
 
 -- the rows of a valuation can be summed and written
 pub record IsWritableBlock (valuation : Valuation) : Type 0 where
@@ -58,14 +58,14 @@ pub record IsWritableBlock (valuation : Valuation) : Type 0 where
 
 -- what is told of a line can be written
 abbrev pub IsWritableOutcome : Line → Outcome → Type 0
-IsWritableOutcome (Post command) (Posted answer) = IsTold answer
+IsWritableOutcome (Post command) (Posted answer) = IsToldAnswer answer
 IsWritableOutcome Trim (Trimmed floor) = Unit {0}
 IsWritableOutcome (Value on at workers) (Valued valuation) = IsDay on × IsWritableBlock valuation
 IsWritableOutcome (Value on at workers) (ValueRefused refusal) = IsDay on
 IsWritableOutcome (Value on at workers) ValueNoMemory = IsDay on
 IsWritableOutcome _ _ = ⊥
 
-abbrev pub IsWritable : ToldLine → Type 0
+abbrev pub IsWritable : TranscriptLine → Type 0
 IsWritable told = IsWritableOutcome told.line told.outcome
 
 -- the text of what is told of a clerk's line
@@ -77,10 +77,10 @@ outcome_text clerk (Value on at workers) (ValueRefused refusal) = unpinned_text 
 outcome_text clerk (Value on at workers) ValueNoMemory = unvalued_text clerk on
 outcome_text clerk _ _ = []
 
-abbrev pub told_text : ToldLine → List ℕ
+abbrev pub told_text : TranscriptLine → List ℕ
 told_text told = outcome_text told.lane told.line told.outcome
 
-abbrev pub told_texts : List ToldLine → List ℕ
+abbrev pub told_texts : List TranscriptLine → List ℕ
 told_texts lines = flat_map told_text lines
 
 -- the disk failed in the line's posting
@@ -88,8 +88,8 @@ abbrev pub has_faulted : Outcome → Bool
 has_faulted (Posted answer) = is_faulted answer
 has_faulted _ = false
 
-abbrev pub any_faulted : List ToldLine → Bool
-any_faulted lines = list_any (λ (told : ToldLine). has_faulted told.outcome) lines
+abbrev pub any_faulted : List TranscriptLine → Bool
+any_faulted lines = list_any (λ (told : TranscriptLine). has_faulted told.outcome) lines
 
 -- memory was lacking for the line's posting, or for its valuation
 abbrev pub lacks_memory : Outcome → Bool
@@ -97,16 +97,16 @@ lacks_memory (Posted NoMemory) = true
 lacks_memory ValueNoMemory = true
 lacks_memory _ = false
 
-abbrev pub any_lacked : List ToldLine → Bool
-any_lacked lines = list_any (λ (told : ToldLine). lacks_memory told.outcome) lines
+abbrev pub any_lacked : List TranscriptLine → Bool
+any_lacked lines = list_any (λ (told : TranscriptLine). lacks_memory told.outcome) lines
 
 -- the text of a run: what is told of the lines, then the auditors' reports
-abbrev pub run_text : List ToldLine → List Report → List ℕ
+abbrev pub run_text : List TranscriptLine → List Report → List ℕ
 run_text lines reports = told_texts lines ++ reports_text reports
 
 -- How a run ends whose lines were answered: by what was written of its text, and then by whether the disk failed in one of
 -- them, or memory was lacking
-abbrev pub EndsTold : List ToldLine → List Report → Stream → Ending → Type 0
+abbrev pub EndsTold : List TranscriptLine → List Report → Stream → Ending → Type 0
 EndsTold lines reports output Done =
     (any_faulted lines ≡ false) × (any_lacked lines ≡ false) × WroteAll output (run_text lines reports)
 EndsTold lines reports output DiskFailed = (any_faulted lines ≡ true) × WroteAll output (run_text lines reports)

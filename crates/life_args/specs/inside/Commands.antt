@@ -42,16 +42,16 @@ load_app = with_rule (with_rule (with_rule (with_rule (command_app (codes "load"
     (value_rule (codes "seed"))) (value_rule (codes "count"))) (value_rule (codes "lanes"))) (value_rule (codes "workers"))
 
 -- the command takes the words and these are its matches, or it doesn't take them
-abbrev pub Takes : App → List Text → Result ArgMatches WordsFault → Type 0
-Takes app words (Ok matches) = (fault_of app words ≡ []) × (rows_of (found_of matches) ≡ matches_of app words)
-Takes app words (Err Usage) = fault_of app words ≢ []
-Takes app words (Err NoMemory) = ⊤
+abbrev pub TakesWords : App → List Text → Result ArgMatches WordsFault → Type 0
+TakesWords app words (Ok matches) = (fault_of app words ≡ []) × (rows_of (found_of matches) ≡ matches_of app words)
+TakesWords app words (Err Usage) = fault_of app words ≢ []
+TakesWords app words (Err NoMemory) = ⊤
 
 -- what is asked holds of the answer, or of nothing, or memory was refused
-abbrev pub Gives : {T : Type 0} → (T → Type 0) → Result T WordsFault → Type 0
-Gives IsAsked (Ok answer) = IsAsked answer
-Gives {T} IsAsked (Err Usage) = (answer : T) → IsAsked answer → ⊥
-Gives IsAsked (Err NoMemory) = ⊤
+abbrev pub GivesAsked : {T : Type 0} → (T → Type 0) → Result T WordsFault → Type 0
+GivesAsked IsAsked (Ok answer) = IsAsked answer
+GivesAsked {T} IsAsked (Err Usage) = (answer : T) → IsAsked answer → ⊥
+GivesAsked IsAsked (Err NoMemory) = ⊤
 
 -- there is a value, and it is that of the day
 abbrev pub IsDayIn : Option (List ℕ) → ℤ → Type 0

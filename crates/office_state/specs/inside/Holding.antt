@@ -31,7 +31,7 @@ pub record JournalHolds {D : Type 0} {g : Ghosts D} (journal : Journal D g) (ope
 -- what a turn needs to know beside what is promised
 pub record Holds {D : Type 0} {g : Ghosts D} (begun : D) (under : Journal D g) (opening : Opening) (turns : List Entry)
     : Type 0 where
-  pub later : g.honest begun → g.clock begun ≤ g.clock (disk_of under)
+  pub later : g.honest (disk_of under) → g.clock begun ≤ g.clock (disk_of under)
   -- no fault was answered with a number above the disk's count
   pub opened : opening.faults ≤ g.faults (disk_of under)
   pub met : AllByRecursion (λ n. n ≤ g.faults (disk_of under))

@@ -1,5 +1,5 @@
 -- What deciding a journal's records anew tells, while an office is opened
-use Rattle.std.specs.Prelude.{◌≡◌, ◌↔◌, ℕ, ◌<◌, List, [], ◌∷◌, ◌++◌, length, take, slice_index_or}
+use Rattle.std.specs.Prelude.{◌≡◌, ℕ, ◌<◌, List, [], ◌∷◌, ◌++◌, length, take, slice_index_or}
 use Rattle.std.specs.List.{AllByRecursion}
 use Rattle.outside_io.specs.declared.disks.Disk.{Ghosts}
 use Rattle.outside_io.specs.Faults.{Rose}
@@ -26,23 +26,23 @@ as_cause (FaultyDisk count) = DiskFault count
 as_cause IsNoJournal = NotAJournal
 as_cause (IsBadRecord n) = BadRecord n
 
--- a disk was only looked at
+-- a disk was only looked at, where it comes back honest
 pub record IsLookedAt {D : Type 0} (g : Ghosts D) (old new : D) : Type 0 where
-  pub honesty : (g.honest old) ↔ (g.honest new)
-  pub looks : g.honest old → LooksOn g old new
+  pub honesty : g.honest new → g.honest old
+  pub looks : g.honest new → LooksOn g old new
 
 -- a journal whose disk was only looked at is what it was
 pub record StaysAs {D : Type 0} {g : Ghosts D} (old new : Journal D g) : Type 0 where
   pub counted : count_of new ≡ count_of old
   pub clean : is_clean new ≡ is_clean old
   pub disk : IsLookedAt g (disk_of old) (disk_of new)
-  pub stands : (bodies : List (List ℕ)) (last : List ℕ) → g.honest (disk_of old)
+  pub stands : (bodies : List (List ℕ)) (last : List ℕ) → g.honest (disk_of new)
       → StandsFor old bodies last → StandsFor new bodies last
 
--- the bodies of a journal on an honest disk have P
-abbrev pub BodiesHave : {D : Type 0} {g : Ghosts D} → Journal D g → (List (List ℕ) → Type 0) → Type 0
-BodiesHave {g = g} journal P =
-    (bodies : List (List ℕ)) (last : List ℕ) → g.honest (disk_of journal) → StandsFor journal bodies last → P bodies
+-- the bodies of a journal have P, where its disk is honest now, later on
+abbrev pub BodiesHave : {D : Type 0} {g : Ghosts D} → Journal D g → D → (List (List ℕ) → Type 0) → Type 0
+BodiesHave {g = g} journal now P =
+    (bodies : List (List ℕ)) (last : List ℕ) → g.honest now → StandsFor journal bodies last → P bodies
 
 -- the disk didn't fail
 abbrev pub IsQuiet : {D : Type 0} {g : Ghosts D} → Journal D g → D → Type 0
@@ -57,20 +57,21 @@ pub record IsReplayed {D : Type 0} {g : Ghosts D} (old new : Journal D g) (befor
   pub command : Command
   pub kept : commands_in after ≡ commands_in before ++ command ∷ []
   pub quiet : IsQuiet old (disk_of new)
-  pub spelled : BodiesHave old (λ bodies. slice_index_or bodies n [] ≡ spelling_of command)
+  pub spelled : BodiesHave old (disk_of new) (λ bodies. slice_index_or bodies n [] ≡ spelling_of command)
 
 -- record n isn't: the disk failed, or its body spells no command that can follow these
 abbrev pub IsStuck : {D : Type 0} {g : Ghosts D} → Journal D g → Journal D g → ℕ → List Command → StartCause → Type 0
 IsStuck old new n commands (DiskFault count) = HasFailed old (disk_of new) count
 IsStuck old new n commands (BadRecord m) =
-    (m ≡ n) × IsQuiet old (disk_of new) × BodiesHave old (λ bodies. IsUnspelled (slice_index_or bodies n []) commands)
+    (m ≡ n) × IsQuiet old (disk_of new)
+    × BodiesHave old (disk_of new) (λ bodies. IsUnspelled (slice_index_or bodies n []) commands)
 IsStuck old new n commands _ = ⊥
 
 -- the first n records are those of the commands that the books keep
 pub record AreReplayed {D : Type 0} {g : Ghosts D} (old new : Journal D g) (books : Books) (n : ℕ) : Type 0 where
   pub each : length (commands_in books) ≡ n
   pub quiet : IsQuiet old (disk_of new)
-  pub front : BodiesHave old (λ bodies. take n bodies ≡ bodies_of (commands_in books))
+  pub front : BodiesHave old (disk_of new) (λ bodies. take n bodies ≡ bodies_of (commands_in books))
 
 -- the bodies before body n are those of commands, accepted one after the other, and it spells none that can follow them
 pub record IsStoppedAt (n : ℕ) (bodies : List (List ℕ)) : Type 0 where
@@ -85,7 +86,7 @@ pub record IsStoppedAt (n : ℕ) (bodies : List (List ℕ)) : Type 0 where
 -- why not every record was replayed
 abbrev pub HasStopped : {D : Type 0} {g : Ghosts D} → Journal D g → D → StartCause → Type 0
 HasStopped journal disk (DiskFault count) = HasFailed journal disk count
-HasStopped journal disk (BadRecord n) = IsQuiet journal disk × BodiesHave journal (IsStoppedAt n)
+HasStopped journal disk (BadRecord n) = IsQuiet journal disk × BodiesHave journal disk (IsStoppedAt n)
 HasStopped journal disk NoMemory = IsQuiet journal disk
 HasStopped journal disk NotAJournal = ⊥
 

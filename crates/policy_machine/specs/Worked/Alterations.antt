@@ -4,7 +4,7 @@ use Rattle.policy_types.specs.declared.command.Command.TheVariants.{Premium, Alt
 use Rattle.policy_types.specs.declared.command.Plan.TheVariants.{Endowment}
 use Rattle.policy_types.specs.declared.policy.Status.TheVariants.{InForce, Lapsed}
 use Rattle.policy_types.specs.declared.refusal.Refusal.TheVariants.{Unknown, BeforeLast, WrongStatus, TermOver, GraceOver, WrongAmount, NotAReduction}
-use Rattle.policy_machine.specs.Worked.Cases.{Accepts, Refuses, Leaves, policy_issue, premium_on, unpaid, paid_once, paid_up, lapsed_once}
+use Rattle.policy_machine.specs.Worked.Cases.{Accepts, Refuses, LeavePolicies, policy_issue, premium_on, unpaid, paid_once, paid_up, lapsed_once}
 
 -- there is no policy, or one of another number
 abbrev pub AlterUnknown : Type 0
@@ -38,7 +38,7 @@ AlterNotAReduction = Refuses paid_once (Alter 7001 (pos 18628) 100000 20000) (No
 abbrev pub Altered : Type 0
 Altered =
     let altered = policy_issue ∷ premium_on (pos 18262) ∷ Alter 7001 (pos 18414) 50000 20000 ∷ [] in
-    Leaves altered
+    LeavePolicies altered
     (record {
       id = 7001;
       plan = Endowment;

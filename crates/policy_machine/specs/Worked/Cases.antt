@@ -23,8 +23,8 @@ abbrev pub Refuses : List Command → Command → Refusal → Type 0
 Refuses commands command refusal = refusal_due commands command ≡ Some refusal
 
 -- the policies that the commands leave
-abbrev pub Leaves : List Command → List Policy → Type 0
-Leaves commands policies = book commands ≡ policies
+abbrev pub LeavePolicies : List Command → List Policy → Type 0
+LeavePolicies commands policies = book commands ≡ policies
 
 abbrev pub policy_issue : Command
 policy_issue = Issue 7001 (pos 18262) Endowment 0 3 100000 40000

@@ -5,7 +5,7 @@ use Rattle.policy_types.specs.declared.policy.Status.TheVariants.{InForce, Lapse
 use Rattle.policy_types.specs.declared.refusal.Refusal.TheVariants.{Unknown, BeforeLast, WrongStatus, TermOver, GraceOver, OverSettled}
 use Rattle.policy_types.specs.declared.entry.Reply.TheVariants.{Accepted, Refused}
 use Rattle.policy_machine.specs.History.{IsLegalAfter}
-use Rattle.policy_machine.specs.Worked.Cases.{Accepts, Refuses, Leaves, policy_issue, policy_with, premium_on, unpaid, paid_once, paid_up, lapsed_once, claimed, empty_office, posting}
+use Rattle.policy_machine.specs.Worked.Cases.{Accepts, Refuses, LeavePolicies, policy_issue, policy_with, premium_on, unpaid, paid_once, paid_up, lapsed_once, claimed, empty_office, posting}
 
 -- after a death on 2020-06-01 the amount is paid out in parts, and no more than is outstanding
 abbrev pub ClaimAndSettle : Type 0
@@ -42,7 +42,7 @@ ClaimGraceOver = Accepts paid_once (Claim 7001 (pos 18659))
 
 -- a death on 2020-06-01
 abbrev pub ClaimedOnce : Type 0
-ClaimedOnce = Leaves claimed (policy_with (pos 18414) 1 Claimed 100000 ∷ [])
+ClaimedOnce = LeavePolicies claimed (policy_with (pos 18414) 1 Claimed 100000 ∷ [])
 
 -- there is no policy, or one of another number
 abbrev pub SettleUnknown : Type 0
@@ -67,13 +67,13 @@ SettleOverSettled = Refuses claimed (Settle 7001 (pos 18414) 100001) (OverSettle
 
 -- a part is settled on 2020-07-01
 abbrev pub SettledInPart : Type 0
-SettledInPart = Leaves (policy_issue ∷ premium_on (pos 18262) ∷ Claim 7001 (pos 18414) ∷ Settle 7001 (pos 18444) 40000 ∷ [])
+SettledInPart = LeavePolicies (policy_issue ∷ premium_on (pos 18262) ∷ Claim 7001 (pos 18414) ∷ Settle 7001 (pos 18444) 40000 ∷ [])
     (policy_with (pos 18444) 1 Claimed 60000 ∷ [])
 
 -- and the rest on 2020-07-02
 abbrev pub SettledInFull : Type 0
 SettledInFull =
-    Leaves
+    LeavePolicies
     (policy_issue ∷ premium_on (pos 18262) ∷ Claim 7001 (pos 18414)
     ∷ Settle 7001 (pos 18444) 40000 ∷ Settle 7001 (pos 18445) 60000 ∷ [])
     (policy_with (pos 18445) 1 Settled 0 ∷ [])

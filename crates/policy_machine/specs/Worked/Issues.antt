@@ -6,7 +6,7 @@ use Rattle.policy_types.specs.declared.policy.Status.TheVariants.{InForce}
 use Rattle.policy_types.specs.declared.refusal.Refusal.TheVariants.{Taken}
 use Rattle.policy_types.specs.declared.entry.Reply.TheVariants.{Accepted, Refused}
 use Rattle.policy_machine.specs.History.{IsLegalAfter}
-use Rattle.policy_machine.specs.Worked.Cases.{Leaves, Refuses, policy_issue, claimed, empty_office, posting}
+use Rattle.policy_machine.specs.Worked.Cases.{LeavePolicies, Refuses, policy_issue, claimed, empty_office, posting}
 
 -- the policy is accepted as number 1 of the journal, and a second time refused as taken
 abbrev pub IssuedTwice : Type 0
@@ -18,7 +18,7 @@ TakenForGood = Refuses claimed (Issue 7001 (pos 18261) Term 30 20 1 1) Taken
 
 -- a policy of each plan as it is issued, in the order of the issues and not of the numbers
 abbrev pub FourPlans : Type 0
-FourPlans = Leaves
+FourPlans = LeavePolicies
     (Issue 7004 (pos 18262) Term 30 20 5000000 20000
     ∷ Issue 7003 (pos 18293) Whole 129 0 100001 40000
     ∷ Issue 7002 (pos 18294) Endowment 1 3 100002 40001

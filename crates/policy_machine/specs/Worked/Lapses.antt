@@ -7,7 +7,7 @@ use Rattle.policy_types.specs.declared.policy.Status.TheVariants.{InForce, Lapse
 use Rattle.policy_types.specs.declared.refusal.Refusal.TheVariants.{Unknown, BeforeLast, WrongStatus, TermOver, NothingDue, NotInArrears, TooLate, WrongAmount}
 use Rattle.policy_types.specs.declared.entry.Reply.TheVariants.{Accepted, Refused}
 use Rattle.policy_machine.specs.History.{IsLegalAfter}
-use Rattle.policy_machine.specs.Worked.Cases.{Accepts, Refuses, Leaves, policy_issue, policy_with, premium_on, unpaid, paid_once, paid_up, lapsed_once, claimed, empty_office, posting}
+use Rattle.policy_machine.specs.Worked.Cases.{Accepts, Refuses, LeavePolicies, policy_issue, policy_with, premium_on, unpaid, paid_once, paid_up, lapsed_once, claimed, empty_office, posting}
 
 -- with the first premium paid, a lapse is refused on 2021-02-01 and accepted on 2021-02-02; reinstating on 2022-01-01
 -- costs two premiums
@@ -44,7 +44,7 @@ LapseNotInArrears = Refuses unpaid (Lapse 7001 (pos 18293)) (NotInArrears (pos 1
 
 -- lapsed on 2021-02-02
 abbrev pub LapsedOnce : Type 0
-LapsedOnce = Leaves lapsed_once (policy_with (pos 18660) 1 Lapsed 0 ∷ [])
+LapsedOnce = LeavePolicies lapsed_once (policy_with (pos 18660) 1 Lapsed 0 ∷ [])
 
 -- there is no policy, or one of another number
 abbrev pub ReinstateUnknown : Type 0
@@ -83,7 +83,7 @@ ReinstateWrongAmount = Refuses lapsed_once (Reinstate 7001 (pos 18992) 80000) (W
 -- reinstated on 2022-01-01 with both premiums that fell due
 abbrev pub Reinstated : Type 0
 Reinstated =
-    Leaves (policy_issue ∷ premium_on (pos 18262) ∷ Lapse 7001 (pos 18660) ∷ Reinstate 7001 (pos 18993) 80000 ∷ [])
+    LeavePolicies (policy_issue ∷ premium_on (pos 18262) ∷ Lapse 7001 (pos 18660) ∷ Reinstate 7001 (pos 18993) 80000 ∷ [])
     (policy_with (pos 18993) 3 InForce 0 ∷ [])
 
 -- limited life with two premiums, the second unpaid: on 2022-06-01 one premium is missed and not two

@@ -4,7 +4,7 @@ use Rattle.policy_types.specs.declared.command.Command.TheVariants.{Issue, Settl
 use Rattle.policy_types.specs.declared.command.Plan.TheVariants.{Term, Whole}
 use Rattle.policy_types.specs.declared.policy.Status.TheVariants.{Lapsed, Matured, Expired}
 use Rattle.policy_types.specs.declared.refusal.Refusal.TheVariants.{Unknown, BeforeLast, WrongStatus, GraceOver, NotMatured, OverSettled}
-use Rattle.policy_machine.specs.Worked.Cases.{Accepts, Refuses, Leaves, policy_issue, policy_with, premium_on, paid_once, paid_up, lapsed_once}
+use Rattle.policy_machine.specs.Worked.Cases.{Accepts, Refuses, LeavePolicies, policy_issue, policy_with, premium_on, paid_once, paid_up, lapsed_once}
 
 -- there is no policy, or one of another number
 abbrev pub MatureUnknown : Type 0
@@ -30,7 +30,7 @@ MatureNotMatured = Refuses paid_up (Mature 7001 (pos 19357)) (NotMatured (pos 19
 
 -- the endowment matures, and its amount falls due
 abbrev pub MaturedAtTerm : Type 0
-MaturedAtTerm = Leaves
+MaturedAtTerm = LeavePolicies
     (policy_issue ∷ premium_on (pos 18262) ∷ premium_on (pos 18628) ∷ premium_on (pos 18993) ∷ Mature 7001 (pos 19389) ∷ [])
     (policy_with (pos 19389) 3 Matured 100000 ∷ [])
 
@@ -38,7 +38,7 @@ MaturedAtTerm = Leaves
 abbrev pub MaturedAndSettled : Type 0
 MaturedAndSettled =
     let matured = policy_issue ∷ premium_on (pos 18262) ∷ premium_on (pos 18628) ∷ premium_on (pos 18993) ∷ Mature 7001 (pos 19358) ∷ [] in
-    Leaves
+    LeavePolicies
     (policy_issue ∷ premium_on (pos 18262) ∷ premium_on (pos 18628) ∷ premium_on (pos 18993)
     ∷ Mature 7001 (pos 19358) ∷ Settle 7001 (pos 19359) 40000 ∷ [])
     (policy_with (pos 19359) 3 Matured 60000 ∷ [])
@@ -49,7 +49,7 @@ MaturedAndSettled =
 abbrev pub ExpiredAtTerm : Type 0
 ExpiredAtTerm =
     let paid = Issue 7001 (pos 18262) Term 0 2 100000 40000 ∷ premium_on (pos 18262) ∷ premium_on (pos 18628) ∷ Mature 7001 (pos 18993) ∷ [] in
-    Leaves paid
+    LeavePolicies paid
     (record {
       id = 7001;
       plan = Term;
@@ -68,7 +68,7 @@ ExpiredAtTerm =
 -- whole life issued at age 129 matures after two years
 abbrev pub WholeLifeMatured : Type 0
 WholeLifeMatured =
-    Leaves
+    LeavePolicies
     (Issue 7001 (pos 18262) Whole 129 0 100000 40000 ∷ premium_on (pos 18262) ∷ premium_on (pos 18628) ∷ Mature 7001 (pos 18993) ∷ [])
     (record {
       id = 7001;

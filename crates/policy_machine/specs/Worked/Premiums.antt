@@ -4,7 +4,7 @@ use Rattle.policy_types.specs.declared.command.Command.TheVariants.{Issue, Premi
 use Rattle.policy_types.specs.declared.command.Plan.TheVariants.{Whole, Endowment, Limited}
 use Rattle.policy_types.specs.declared.policy.Status.TheVariants.{InForce, Lapsed, Claimed}
 use Rattle.policy_types.specs.declared.refusal.Refusal.TheVariants.{Unknown, BeforeLast, WrongStatus, TermOver, NothingDue, TooEarly, GraceOver, WrongAmount}
-use Rattle.policy_machine.specs.Worked.Cases.{Accepts, Refuses, Leaves, policy_issue, policy_with, premium_on, unpaid, paid_once, paid_up, lapsed_once, claimed}
+use Rattle.policy_machine.specs.Worked.Cases.{Accepts, Refuses, LeavePolicies, policy_issue, policy_with, premium_on, unpaid, paid_once, paid_up, lapsed_once, claimed}
 
 -- there is no policy, or one of another number
 abbrev pub PremiumUnknown : Type 0
@@ -49,11 +49,11 @@ PremiumWrongAmount = Refuses paid_once (Premium 7001 (pos 18628) 39999) (WrongAm
 
 -- a premium that is refused changes nothing
 abbrev pub PremiumRefused : Type 0
-PremiumRefused = Leaves (policy_issue ∷ Premium 7001 (pos 18262) 39999 ∷ []) (policy_with (pos 18262) 0 InForce 0 ∷ [])
+PremiumRefused = LeavePolicies (policy_issue ∷ Premium 7001 (pos 18262) 39999 ∷ []) (policy_with (pos 18262) 0 InForce 0 ∷ [])
 
 -- the second premium on 2021-02-01
 abbrev pub PremiumPaid : Type 0
-PremiumPaid = Leaves (policy_issue ∷ premium_on (pos 18262) ∷ premium_on (pos 18659) ∷ [])
+PremiumPaid = LeavePolicies (policy_issue ∷ premium_on (pos 18262) ∷ premium_on (pos 18659) ∷ [])
     (policy_with (pos 18659) 2 InForce 0 ∷ [])
 
 -- a policy issued on 2024-02-29 has its second premium due on 2025-02-28: on 2024-11-29 that is too early, on

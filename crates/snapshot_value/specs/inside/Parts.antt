@@ -8,14 +8,14 @@ use Rattle.policy_types.specs.declared.entry.Call.TheVariants.{Read, Unpin}
 use Rattle.policy_types.specs.declared.watcher.NoMemory.{NoMemory as Lack}
 use Rattle.policy_machine.specs.History.{policies_per_read}
 use Rattle.policy_machine.specs.Merge.{Placed, reads_of}
-use Rattle.policy_value.specs.Rows.{IsWithin}
+use Rattle.policy_value.specs.Rows.{IsWithinAmount}
 use Rattle.policy_value.specs.declared.worth.Row.{Row}
 use Rattle.schedule_laws.specs.PinnedReads.{book_at}
 use Rattle.office_state.specs.declared.held.Held.{Held}
 use Rattle.turn_lock.specs.Passes.{Holding}
 use Rattle.shared_office.specs.Offices.{OfficeOpening}
 use Rattle.snapshot_value.specs.Growing.{Grows}
-use Rattle.snapshot_value.specs.Valuing.{AreRowsOf, IsRowOf, most_amount, most_turns}
+use Rattle.snapshot_value.specs.Valuing.{AreValuedRows, IsValuedRow, most_amount, most_turns}
 use Rattle.snapshot_value.specs.declared.valuation.Valuation.{Valuation}
 use Rattle.snapshot_value.specs.declared.valuation.ValueFault.{ValueFault}
 use Rattle.snapshot_value.specs.declared.valuation.ValueFault.TheVariants.{Pin, NoMemory}
@@ -32,8 +32,8 @@ reads_needed policies = (policies + 255) / policies_per_read
 pub record AddsRows (basis : List Dated) (on : ℤ) (policies : List Policy) (old new : List Row) : Type 0 where
   pub added : List Row
   pub longer : new ≡ old ++ added
-  pub each : AllZip (IsRowOf basis on) policies added
-  pub within : AllByRecursion (λ (row : Row). IsWithin most_amount row.worth) added
+  pub each : AllZip (IsValuedRow basis on) policies added
+  pub within : AllByRecursion (λ (row : Row). IsWithinAmount most_amount row.worth) added
 
 module _ {D W : Type 0} where
   -- the policies at a position, by what the pass has seen
@@ -67,13 +67,13 @@ module _ {D W : Type 0} where
     pub reads : List Placed
     pub grows : Grows old new reads
     pub calls : calls_of reads ≡ reads_of pin.number pin.policies
-    pub all : AreRowsOf basis on (policies_at old pin.position) rows
+    pub all : AreValuedRows basis on (policies_at old pin.position) rows
 
   -- so it is, or nothing was read for want of memory
-  abbrev pub HasRead : List Dated → ℤ → Held → Holding (OfficeOpening D W) → Holding (OfficeOpening D W)
+  abbrev pub HasReadRows : List Dated → ℤ → Held → Holding (OfficeOpening D W) → Holding (OfficeOpening D W)
       → Result (List Row) Lack → Type 0
-  HasRead basis on pin old new (Ok rows) = HasReadAll basis on pin rows old new
-  HasRead basis on pin old new (Err lack) = new ≡ old
+  HasReadRows basis on pin old new (Ok rows) = HasReadAll basis on pin rows old new
+  HasReadRows basis on pin old new (Err lack) = new ≡ old
 
   -- what follows a pin, and what is answered
   abbrev pub FollowsPinned : List Dated → ℤ → Held → Holding (OfficeOpening D W) → List Call
@@ -81,7 +81,7 @@ module _ {D W : Type 0} where
   FollowsPinned basis on pin old calls (Ok valuation) =
       (calls ≡ reads_of pin.number pin.policies ++ Unpin pin.number ∷ [])
       × (valuation.position ≡ pin.position) × (valuation.on ≡ on)
-      × AreRowsOf basis on (policies_at old pin.position) valuation.rows
+      × AreValuedRows basis on (policies_at old pin.position) valuation.rows
   FollowsPinned basis on pin old calls (Err NoMemory) = calls ≡ Unpin pin.number ∷ []
   FollowsPinned basis on pin old calls (Err (Pin refusal)) = ⊥
 

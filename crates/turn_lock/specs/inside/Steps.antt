@@ -22,7 +22,7 @@ module _ {T O : Type 0} where
   Draws step me n next = next ≡ (queued me.0 n, me.1)
 
   -- The ticket is due: the value is out with the seat, which has seen the whole history for which it stands
-  pub record IsDue (opens : T → O) (legal : O → List Entry → Type 0) (stands : T → List Entry → Type 0) (me : Sat T O) (n : ℕ) (next : Sat T O) : Type 0 where
+  pub record IsTicketDue (opens : T → O) (legal : O → List Entry → Type 0) (stands : T → List Entry → Type 0) (me : Sat T O) (n : ℕ) (next : Sat T O) : Type 0 where
     pub value : T
     pub history : List Entry
     pub next_is : next ≡ (inside me.0 n history, (0, Some value) ∷ me.1)
@@ -34,8 +34,8 @@ module _ {T O : Type 0} where
     pub facts : SeatFacts legal next.0
 
   -- the ticket is due, or nothing changes
-  pub record Looks (opens : T → O) (legal : O → List Entry → Type 0) (stands : T → List Entry → Type 0) (step : Step (Option T)) (me : Sat T O) (n : ℕ) (next : Sat T O) : Type 0 where
-    pub due : me.0.stage ≡ Queued n → IsDue opens legal stands me n next
+  pub record LooksAtTicket (opens : T → O) (legal : O → List Entry → Type 0) (stands : T → List Entry → Type 0) (step : Step (Option T)) (me : Sat T O) (n : ℕ) (next : Sat T O) : Type 0 where
+    pub due : me.0.stage ≡ Queued n → IsTicketDue opens legal stands me n next
     pub early : (ticket : ℕ) → me.0.stage ≡ Queued ticket → ticket ≢ n → next ≡ me
 
   -- the entry is one more of the history and of the seat's own, and the slot is home

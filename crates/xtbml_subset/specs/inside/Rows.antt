@@ -2,9 +2,9 @@
 use Rattle.std.specs.Prelude.{ℕ, ◌-◌, List, ◌∷◌, length, map, codes}
 use Rattle.xtbml_subset.specs.inside.Elements.{Found, children_at, siblings_at, text_at}
 use Rattle.xtbml_subset.specs.Texts.{value_of}
-use Rattle.xtbml_subset.specs.Checks.{Row, Asks}
+use Rattle.xtbml_subset.specs.Checks.{RateElement, Asks}
 
-abbrev pub row_of : ℕ → Found → Row
+abbrev pub row_of : ℕ → Found → RateElement
 row_of total element = record {
   at = total - length element.from;
   label = value_of (codes "t") element.tag.attributes;
@@ -19,5 +19,5 @@ found_asks total = record {
 }
 
 -- the row of an element and those of the rates behind it
-abbrev pub rows_from : ℕ → Found → List Row
+abbrev pub rows_from : ℕ → Found → List RateElement
 rows_from total element = row_of total element ∷ map (λ e. row_of total e) (siblings_at (codes "Y") element)

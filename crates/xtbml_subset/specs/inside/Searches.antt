@@ -37,14 +37,14 @@ opens missed = false
 abbrev pub sought_under : ℕ → List ℕ → Passing → Sought → Sought → Sought
 sought_under level name passing above search = if opens above then sought_at level (Some name) passing search else search
 
-abbrev pub counted : Tally → Sought → Tally
-counted tally seeking = tally
-counted tally (hit f) = record { count = tally.count + 1; is_over = tally.is_over }
-counted tally missed = record { count = tally.count; is_over = true }
+abbrev pub tallied : Tally → Sought → Tally
+tallied tally seeking = tally
+tallied tally (hit f) = record { count = tally.count + 1; is_over = tally.is_over }
+tallied tally missed = record { count = tally.count; is_over = true }
 
 -- the elements of a level are counted as they pass, until the level ends
 abbrev pub tally_at : ℕ → Option (List ℕ) → Passing → Tally → Tally
-tally_at level wanted passing tally = if tally.is_over then tally else counted tally (sought_at level wanted passing seeking)
+tally_at level wanted passing tally = if tally.is_over then tally else tallied tally (sought_at level wanted passing seeking)
 
 abbrev pub tally_under : ℕ → List ℕ → Passing → Sought → Tally → Tally
 tally_under level name passing above tally = if opens above then tally_at level (Some name) passing tally else tally

@@ -11,8 +11,8 @@ unreachable-requires g c =
     none_missing held c.in_ok-rows.rows c.in_default.field-0.0 known c.in_default.ensures.missing
 
 pub returns-clause-basis : goal.returns-clause-basis
-returns-clause-basis g c =
+returns-clause-basis g c = λ files agrees.
     let held = get_by_text c.in_ok-tables.tables in
     let known = subst (λ (xs : List ARow). All (λ (r : ARow). IsSome (held r.table)) xs) c.as_slice.ensures c.in_ok-tables.ensures.known in
-    let right = rw c.fetch_rows.ensures.stays at c.in_ok-tables.ensures.right in
-    basis_is (g.H.Shelf.files c.args.shelf.now) c.args.name.now held c.in_ok-rows.rows c.in-Ok.basis c.in-Ok.ensures.rows c.in_ok-rows.ensures.rows right known
+    basis_is files c.args.name.now held c.in_ok-rows.rows c.in-Ok.basis c.in-Ok.ensures.rows
+    (c.in_ok-rows.ensures.rows files (c.in_ok-tables.ensures.agreed files agrees)) (c.in_ok-tables.ensures.right files agrees) known

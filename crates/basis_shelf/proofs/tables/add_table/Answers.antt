@@ -12,8 +12,8 @@ returns-in-Ok-insert-clause-kept g c = λ name some.
     rw (is name) (known_still c.in_ok-table.table (get_by_text c.args.tables.now name) (bytes_eq (string_bytes c.in-Ok.key) name) some)
 
 pub returns-in-Ok-insert-clause-right : goal.returns-in-Ok-insert-clause-right
-returns-in-Ok-insert-clause-right g c =
+returns-in-Ok-insert-clause-right g c = λ files agrees.
     let key : string_bytes c.in-Ok.key ≡ c.args.name.now = c.in-Ok.ensures.ok ∙ c.text-2.ensures.text in
     let is = hash_map_updates_text (string_bytes c.in-Ok.key) c.args.tables.now c.insert.new.self _ c.in-Ok-insert.ensures.updates in
-    tables_still (g.H.Shelf.files c.args.shelf.now) c.in_ok-table.table (string_bytes c.in-Ok.key) (get_by_text c.args.tables.now) (get_by_text c.insert.new.self) bytes_eq bytes_eq-Decides is
-    (rw key c.in_ok-table.ensures.table)
+    tables_still files c.in_ok-table.table (string_bytes c.in-Ok.key) (get_by_text c.args.tables.now) (get_by_text c.insert.new.self) bytes_eq bytes_eq-Decides is
+    (rw key (c.in_ok-table.ensures.table files agrees))

@@ -4,18 +4,20 @@ use Rattle.std.proofs.lemmas.List.Elements.{All-more, All-weaker}
 use Rattle.std.proofs.lemmas.Result.{err_from_is_err_and}
 use Rattle.indexmap.specs.IndexMap.{get_by_text}
 use Rattle.basis_book.specs.declared.row.BasisRow.{BasisRow as ARow}
-use Rattle.basis_shelf.proofs.Fetched.{row_is_bad, still_right}
+use Rattle.basis_shelf.specs.declared.fault.NoBasis.TheVariants.{ReadFault}
+use Rattle.basis_shelf.proofs.Fetched.{row_is_bad, not_risen}
 use Rattle.basis_shelf.proofs.tables.fetch_tables.Goals as goal
 
 pub returns-in_err-add_table-clause-bad : goal.returns-in_err-add_table-clause-bad
-returns-in_err-add_table-clause-bad g c =
+returns-in_err-add_table-clause-bad g c = λ files agrees.
     let p = err_from_is_err_and c.from_residual.result c.from_residual.ensures.1 in
     let held = get_by_text c.loop-index.tables in
-    let wrong = rw c.loop-index.invariant.stays at c.in_err-add_table.ensures.bad in
+    let wrong = c.in_err-add_table.ensures.bad files agrees in
+    let before = c.add_table.ensures.agreed files agrees in
     let within : c.loop-index.index < length c.args.rows.now = omega (arith, c.loop-index-test.true) in
     rw (p.1, p.2)
-    (row_is_bad (g.H.Shelf.files c.args.shelf.now) c.args.rows.now c.loop-index.index c.index-rows-index.result held c.in_err-add_table.field-0.0 within c.index-rows-index.is
-    c.loop-index.invariant.known c.loop-index.invariant.right wrong)
+    (row_is_bad files c.args.rows.now c.loop-index.index c.index-rows-index.result held c.in_err-add_table.field-0.0 within c.index-rows-index.is
+    c.loop-index.invariant.known (c.loop-index.invariant.right files before) wrong)
 
 pub loop-index-preserved : goal.loop-index-preserved
 loop-index-preserved g c =
@@ -27,10 +29,12 @@ loop-index-preserved g c =
     let known = λ (r : ARow). IsSome (now r.table) in
     let within : c.loop-index.index < length rows = omega (arith, c.loop-index-test.true) in
     let still = All-weaker was known (λ r some. c.in_ok-add_table.ensures.kept r.table some) (take c.loop-index.index rows) c.loop-index.invariant.known in
-    let right = rw c.loop-index.invariant.stays at c.in_ok-add_table.ensures.right in
     record {
       known = All-more known rows c.loop-index.index row within still (subst known c.index-rows-index.is c.in_ok-add_table.ensures.added);
-      right = still_right (g.H.Shelf.files c.args.shelf.now) before now right c.loop-index.invariant.right;
+      right = λ files agrees. c.in_ok-add_table.ensures.right files agrees (c.loop-index.invariant.right files (c.add_table.ensures.agreed files agrees));
+      agreed = λ files agrees. c.loop-index.invariant.agreed files (c.add_table.ensures.agreed files agrees);
+      counted = not_risen (g.H.Shelf.faults c.args.shelf.now) (g.H.Shelf.faults c.loop-index.shelf) (g.H.Shelf.faults c.add_table.new.shelf)
+          tt ReadFault c.in_ok-add_table.ensures.counted c.loop-index.invariant.counted;
       later = omega (arith, c.loop-index.invariant.later, c.add_table.ensures.later);
       stays = c.add_table.ensures.stays ∙ c.loop-index.invariant.stays;
     }

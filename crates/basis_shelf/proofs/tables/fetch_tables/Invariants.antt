@@ -1,5 +1,6 @@
-use Rattle.std.proofs.Common.{◌≡◌, ◌≤◌, All, IsSome, IfSome, take}
+use Rattle.std.proofs.Common.{◌≡◌, ◌≤◌, All, IsSome, take}
 use Rattle.indexmap.specs.IndexMap.{get_by_text}
+use Rattle.outside_io.specs.Shelves.{Files}
 use Rattle.basis_book.specs.declared.row.BasisRow.{BasisRow as ARow}
 use Rattle.basis_shelf.specs.inside.Parts.{AreTables}
 use Rattle.basis_shelf.proofs.tables.fetch_tables.Given as goal
@@ -7,7 +8,9 @@ use Rattle.basis_shelf.proofs.tables.fetch_tables.Given as goal
 abbrev pub invariant-loop-index : goal.invariant-loop-index
 invariant-loop-index g l = record {
   known : All (λ (row : ARow). IsSome (get_by_text l.tables row.table)) (take l.index l.rows);
-  right : IfSome (g.H.Shelf.files l.fn.shelf) (λ at. AreTables at (get_by_text l.tables));
+  right : (at : Files) → g.H.Shelf.agrees l.shelf at → AreTables at (get_by_text l.tables);
+  agreed : (at : Files) → g.H.Shelf.agrees l.shelf at → g.H.Shelf.agrees l.fn.shelf at;
+  counted : g.H.Shelf.faults l.shelf ≤ g.H.Shelf.faults l.fn.shelf;
   later : g.H.Shelf.faults l.fn.shelf ≤ g.H.Shelf.faults l.shelf;
   stays : g.H.Shelf.files l.shelf ≡ g.H.Shelf.files l.fn.shelf;
 }

@@ -11,7 +11,7 @@ use Rattle.policy_types.specs.declared.entry.At.TheVariants.{Now}
 use Rattle.policy_types.specs.declared.script.Line.{Line}
 use Rattle.policy_types.specs.declared.script.Line.TheVariants.{Post, Value, Trim}
 use Rattle.command_csv.specs.Spelling.{by_first, row_fields}
-use Rattle.command_csv.specs.Reads.{IsRowOf, IsScriptLine, most_valuations}
+use Rattle.command_csv.specs.Reads.{IsLineRow, IsScriptLine, most_valuations}
 use Rattle.command_csv.proofs.Lines.{entry_of, surplus}
 use Rattle.command_csv.proofs.WorkedScripts.{row_is, row_of, rows_again, rows_both, bad_clerk, no_day, no_workers, no_room}
 use Rattle.command_csv.proofs.worked.faults_are_placed.Goals as goal
@@ -20,7 +20,7 @@ abbrev valued : Line
 valued = Value (pos 18262) Now 1
 
 -- half of the valuations by clerk 1, and half by clerk 8
-sixteen_rows : AllZip IsRowOf (replicate 8 (row_fields (entry_of 1 valued)) ++ replicate 8 (row_fields (entry_of 8 valued))) (replicate 8 (entry_of 1 valued) ++ replicate 8 (entry_of 8 valued))
+sixteen_rows : AllZip IsLineRow (replicate 8 (row_fields (entry_of 1 valued)) ++ replicate 8 (row_fields (entry_of 8 valued))) (replicate 8 (entry_of 1 valued) ++ replicate 8 (entry_of 8 valued))
 sixteen_rows =
     let right : IsScriptLine valued = ((omega (arith, ints), omega (arith, ints)), tt, (lit≤ tt, lit≤ tt)) in
     let first = rows_again 8 (row_fields (entry_of 1 valued)) (entry_of 1 valued) (row_of 1 valued (lit≤ tt, lit≤ tt) right) in

@@ -1,5 +1,5 @@
 use Rattle.std.proofs.Common.{◌≡◌, ◌+◌, length, drop}
-use Rattle.lane_runner.specs.Lanes.{lines_in}
+use Rattle.policy_types.specs.Lanes.{lines_in}
 use Rattle.lane_runner.proofs.running.count_lines.Given as goal
 
 abbrev pub invariant-loop-lane : goal.invariant-loop-lane

@@ -4,21 +4,21 @@ use denote.Param.Send.{sendable}
 use Rattle.std.proofs.Crossing.{crosses, sync}
 use Rattle.shared_office.proofs.Crossing.{crosses_office}
 use Rattle.snapshot_value.proofs.Crossing.{basis_crosses, six_sync}
-use Rattle.lane_runner.specs.inside.Parts.{HasRunIn, IsReady}
+use Rattle.lane_runner.specs.inside.Parts.{HasRunIn, IsReadySeat}
 use Rattle.lane_runner.proofs.Crossing.{line_crosses, lane_crosses}
 use Rattle.lane_runner.proofs.SeatSteps.{got, have_run, zip_at, zip_length}
 use Rattle.lane_runner.proofs.running.run_all.Goals as goal
 
 pub for_each_mut-requires-clause-accepts : goal.for_each_mut-requires-clause-accepts
 for_each_mut-requires-clause-accepts g c κs within = λ i p below here. (
-  (let long = zip_length (IsReady c.args.office.now) c.args.lanes.now c.args.seats.now c.requires.ready in omega (arith, below, long)),
-  λ lane at. subst (IsReady c.args.office.now lane) (sym here)
-      (zip_at (IsReady c.args.office.now) c.args.lanes.now c.args.seats.now i lane p.now c.requires.ready at),
+  (let long = zip_length (IsReadySeat c.args.office.now) c.args.lanes.now c.args.seats.now c.requires.ready in omega (arith, below, long)),
+  λ lane at. subst (IsReadySeat c.args.office.now lane) (sym here)
+      (zip_at (IsReadySeat c.args.office.now) c.args.lanes.now c.args.seats.now i lane p.now c.requires.ready at),
 )
 
 pub returns : goal.returns
 returns g c =
-    let long : length c.args.lanes.now ≡ length c.args.seats.now = zip_length (IsReady c.args.office.now) c.args.lanes.now c.args.seats.now c.requires.ready in
+    let long : length c.args.lanes.now ≡ length c.args.seats.now = zip_length (IsReadySeat c.args.office.now) c.args.lanes.now c.args.seats.now c.requires.ready in
     record {
       run = have_run c.args.basis.now c.args.lanes.now c.args.seats.now c.for_each_mut.new.s long (omega (arith, long, c.for_each_mut.auto.s))
           (λ i lane old new at_lane at_old at_new.

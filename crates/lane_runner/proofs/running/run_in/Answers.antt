@@ -1,6 +1,6 @@
 use Rattle.std.proofs.Common.{List, length, ◌∙◌, subst, arith}
 use Rattle.std.specs.List.Sorted.{IsPermutation}
-use Rattle.lane_runner.specs.declared.transcript.AnsweredLine.{AnsweredLine as TranscriptLine}
+use Rattle.lane_runner.specs.declared.transcript.TranscriptLine.{TranscriptLine}
 use Rattle.lane_runner.specs.inside.Parts.{IsRoomFor}
 use Rattle.lane_runner.proofs.SeatSteps.{shares_for_all, turns_for_all, zip_length}
 use Rattle.lane_runner.proofs.RunSteps.{are_ready, has_run, lanes_are, news_many, seats_ours, told_many}

@@ -1,5 +1,5 @@
 use Rattle.std.proofs.Common.{List, subst}
-use Rattle.lane_runner.specs.declared.transcript.AnsweredLine.{AnsweredLine as ToldLine}
+use Rattle.lane_runner.specs.declared.transcript.TranscriptLine.{TranscriptLine}
 use Rattle.life_app.specs.Writing.{Stream, between}
 use Rattle.life_app.specs.inside.Loaded.{EndsLoaded}
 use Rattle.life_app.proofs.LoadSteps.{ends_loaded, load_answer}
@@ -23,5 +23,5 @@ returns g c =
           c.args.pass c.run_lanes.new.pass c.value-valued.new.pass _ _ c.in-Ok.transcript c.value-valued.result.answer started c.in-Ok.ensures.answered
           c.in-Ok.ensures.facts c.value-valued.ensures.valued c.close-disk-2.ensures.facts c.close-disk-2.ensures.closed c.requires.lanes
           out c.write_loaded-ending.result
-          (subst (λ (lines : List ToldLine). EndsLoaded lines c.value-valued.result.answer out c.write_loaded-ending.result) c.as_slice.ensures c.write_loaded-ending.ensures);
+          (subst (λ (lines : List TranscriptLine). EndsLoaded lines c.value-valued.result.answer out c.write_loaded-ending.result) c.as_slice.ensures c.write_loaded-ending.ensures);
     }

@@ -1,8 +1,8 @@
 use Rattle.std.proofs.Common.{◌≡◌}
-use Rattle.load_maker.specs.Generator.{number_after}
+use Rattle.load_maker.specs.Generator.{state_after}
 use Rattle.load_maker.specs.GeneratedScript.{generated_text}
 use Rattle.load_maker.proofs.script.make_script.Given as goal
 
 abbrev pub invariant-loop-before : goal.invariant-loop-before
 invariant-loop-before l =
-    (l.generator.state ≡ number_after l.seed l.before) × (l.lines ≡ generated_text l.seed l.lanes l.before)
+    (l.generator.state ≡ state_after l.seed l.before) × (l.lines ≡ generated_text l.seed l.lanes l.before)

@@ -2,16 +2,16 @@ use Rattle.std.proofs.Common.{refl}
 use Rattle.std.specs.Fmt.{digits}
 use Rattle.life_dates.specs.Calendar.{date_of, date_at, year_of, month_of, days_before_year, days_of_months}
 use Rattle.life_dates.specs.DayText.{day_text}
-use Rattle.load_maker.specs.Generator.{policy_drawn, number_after, renewed_by_policy}
+use Rattle.load_maker.specs.Generator.{policy_drawn, state_after, renewed_by_policy}
 use Rattle.load_maker.specs.GeneratedRows.{generated_rows}
-use Rattle.load_maker.specs.GeneratedScript.{row_text, generated_text}
+use Rattle.load_maker.specs.GeneratedScript.{script_row_text, generated_text}
 use Rattle.load_maker.specs.GeneratedLanes.{generated_lanes}
 use Rattle.load_maker.proofs.worked.seed_of_1.Goals as goal
 
 pub returns-clause-rows : goal.returns-clause-rows
-unfolding generated_text generated_rows number_after row_text policy_drawn day_text date_of date_at year_of month_of days_before_year days_of_months digits
+unfolding generated_text generated_rows state_after script_row_text policy_drawn day_text date_of date_at year_of month_of days_before_year days_of_months digits
 returns-clause-rows c = refl
 
 pub returns-clause-lanes : goal.returns-clause-lanes
-unfolding generated_lanes generated_rows number_after policy_drawn renewed_by_policy
+unfolding generated_lanes generated_rows state_after policy_drawn renewed_by_policy
 returns-clause-lanes c = refl

@@ -27,5 +27,5 @@ returns-clause-written c =
     let long = length-decimal-le 17 (c.unsigned_abs-magnitude.result / 100) (omega arith) (omega arith) (omega arith) in
     let next : w.result - 1 + 1 ≡ w.result = omega arith in
     let back = to_z-of_z c.ranges.cents in
-    rw (drop-set w.new.text (w.result - 1) 45 (omega arith), next, w.ensures.written, c.write_hundredths.ensures, c.unsigned_abs-magnitude.ensures.value, back)
+    rw (drop-set w.new.buf (w.result - 1) 45 (omega arith), next, w.ensures.written, c.write_hundredths.ensures, c.unsigned_abs-magnitude.ensures.value, back)
     (minus_first c.args.cents (rw back at c.if-cents-ge0.false))

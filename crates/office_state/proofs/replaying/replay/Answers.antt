@@ -13,4 +13,4 @@ returns-in_err-replay_record-clause-replayed g c =
     let within : c.loop-n.n < count_of start = omega (arith, c.loop-n-test.true, c.count-n-end.ensures) in
     rw (p.1, p.2)
     (stopped g.D.Disk start c.loop-n.journal c.replay_record.new.journal c.loop-n.books c.loop-n.n replayed within
-    c.loop-n.invariant.stays c.in_err-replay_record.field-0.0 c.in_err-replay_record.ensures.replayed)
+    c.loop-n.invariant.stays c.replay_record.ensures.stays.disk.honesty c.in_err-replay_record.field-0.0 c.in_err-replay_record.ensures.replayed)

@@ -1,5 +1,5 @@
 -- The records up to this one stand, and nothing was written.
-use Rattle.std.proofs.Common.{◌≡◌, ◌↔◌, ◌-◌, ◌<◌, ◌≤◌, length}
+use Rattle.std.proofs.Common.{◌≡◌, ◌-◌, ◌<◌, ◌≤◌, length}
 use Rattle.posting_journal.specs.Layout.{gate_place}
 use Rattle.posting_journal.specs.Runs.{LooksOn}
 use Rattle.posting_journal.specs.inside.Unopened.{AreOpen}
@@ -10,10 +10,10 @@ invariant-loop-n g l = record {
   few : l.n ≤ 4000000;
   within : gate_place l.n < l.size;
   count : g.D.Disk.faults l.disk ≡ g.D.Disk.faults l.fn.disk;
-  honesty : (g.D.Disk.honest l.fn.disk) ↔ (g.D.Disk.honest l.disk);
+  honesty : g.D.Disk.honest l.disk → g.D.Disk.honest l.fn.disk;
   told : g.D.Disk.honest l.fn.disk → l.size ≡ length (g.D.Disk.reads l.fn.disk);
-  looks : g.D.Disk.honest l.fn.disk → LooksOn g.D.Disk l.fn.disk l.disk;
-  open_so_far : g.D.Disk.honest l.fn.disk → AreOpen (g.D.Disk.reads l.fn.disk) l.n;
+  looks : g.D.Disk.honest l.disk → LooksOn g.D.Disk l.fn.disk l.disk;
+  open_so_far : g.D.Disk.honest l.disk → AreOpen (g.D.Disk.reads l.fn.disk) l.n;
 }
 
 abbrev pub decreases-loop-n : goal.decreases-loop-n

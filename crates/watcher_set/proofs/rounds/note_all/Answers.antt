@@ -1,5 +1,5 @@
 use Rattle.std.proofs.Common.{subst, sym, add-one, slice_set, arith}
-use Rattle.watcher_set.specs.Told.{HasRoom}
+use Rattle.watcher_set.specs.Told.{HasSpareRoom}
 use Rattle.watcher_set.specs.inside.Calls.{MayBeTold, Hears}
 use Rattle.watcher_set.proofs.Halfway.{Halfway, Halfway-step, Halfway-later, AllZip-from_end}
 use Rattle.watcher_set.proofs.Telling.{AreTold-few, AreTold-more}
@@ -7,7 +7,7 @@ use Rattle.watcher_set.proofs.rounds.note_all.Goals as goal
 
 pub note_place-requires-clause-room : goal.note_place-requires-clause-room
 note_place-requires-clause-room g c =
-    Halfway-later (Hears g.B.Watcher c.args.command.now) (HasRoom g.B.Watcher) _ c.args.places.now _ _ c.requires.room
+    Halfway-later (Hears g.B.Watcher c.args.command.now) (HasSpareRoom g.B.Watcher) _ c.args.places.now _ _ c.requires.room
     c.loop-place.invariant (omega (arith, c.loop-place-test.true, c.loop-place.auto.places))
 
 pub note_place-requires-clause-few : goal.note_place-requires-clause-few

@@ -1,5 +1,5 @@
 use Rattle.std.proofs.Common.{suc, subst, sym, add-one, slice_set, arith}
-use Rattle.watcher_set.specs.Told.{HasRoom}
+use Rattle.watcher_set.specs.Told.{HasSpareRoom}
 use Rattle.watcher_set.specs.inside.Calls.{Stays}
 use Rattle.watcher_set.proofs.Halfway.{Halfway, Halfway-step, Halfway-weaker, AllZip-from_end, AllZip-from_halfway, AllByRecursion-from_zip}
 use Rattle.watcher_set.proofs.Telling.{AreTold-still, Readied, stays_same}
@@ -33,7 +33,7 @@ returns-clause-told g c commands auditors told =
 pub returns-clause-ok : goal.returns-clause-ok
 returns-clause-ok g c =
     let ghosts = g.B.Watcher in
-    AllByRecursion-from_zip (Readied ghosts) (HasRoom ghosts) (λ old new readied. readied.1)
+    AllByRecursion-from_zip (Readied ghosts) (HasSpareRoom ghosts) (λ old new readied. readied.1)
     c.args.places.now c.loop-place.places
     (AllZip-from_end (Readied ghosts) c.loop-place.place-index _ _ c.loop-place.invariant
     (omega (arith, c.loop-place-test.false, c.loop-place.auto.places)))

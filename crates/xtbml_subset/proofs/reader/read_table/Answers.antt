@@ -2,7 +2,7 @@ use Rattle.std.proofs.Common.{length, Ok, Err, inl}
 use Rattle.xtbml_subset.specs.Checks.{parts_of, IsTable}
 use Rattle.xtbml_subset.specs.inside.Rows.{found_asks}
 use Rattle.xtbml_subset.specs.inside.Views.{found_of}
-use Rattle.xtbml_subset.specs.Answers.{Spells, IsDue}
+use Rattle.xtbml_subset.specs.Answers.{SpellsTable, IsTableAnswer}
 use Rattle.xtbml_subset.proofs.Final.{fault_due, fault_only, root_found, root_first, path_of_root, behind_root, judged_by, due_by, if_ok, if_fault, gives}
 use Rattle.xtbml_subset.proofs.reader.read_table.Goals as goal
 
@@ -26,7 +26,7 @@ returns-clause-table c =
     let bytes = c.args.bytes.now in
     let root = found_of c.in-Hit.root in
     let first = root_first bytes c.in-Ok.path.root c.in-Hit.root c.in-Hit.is c.in-Ok.ensures.path.root in
-    if_ok c.table_of.result (λ table. IsTable (parts_of (found_asks (length bytes)) root) (Ok table)) (Spells bytes)
+    if_ok c.table_of.result (λ table. IsTable (parts_of (found_asks (length bytes)) root) (Ok table)) (SpellsTable bytes)
     (λ table is. judged_by bytes root (behind_root root) (Ok table) c.in-Ok.ensures.document first is) c.table_of.ensures.read
 
 pub returns-clause-fault : goal.returns-clause-fault
@@ -34,7 +34,7 @@ returns-clause-fault c =
     let bytes = c.args.bytes.now in
     let root = found_of c.in-Hit.root in
     let first = root_first bytes c.in-Ok.path.root c.in-Hit.root c.in-Hit.is c.in-Ok.ensures.path.root in
-    if_fault c.table_of.result (λ fault. IsTable (parts_of (found_asks (length bytes)) root) (Err fault)) (λ fault. IsDue bytes (Err fault))
+    if_fault c.table_of.result (λ fault. IsTable (parts_of (found_asks (length bytes)) root) (Err fault)) (λ fault. IsTableAnswer bytes (Err fault))
     (λ fault is. inl (judged_by bytes root (behind_root root) (Err fault) c.in-Ok.ensures.document first is)) c.table_of.ensures.fault
 
 pub returns-clause-due : goal.returns-clause-due

@@ -1,7 +1,7 @@
 use Rattle.std.proofs.Common.{◌≡◌, suc, ◌+◌, List, length, map, None, Some, Err, sym, ap, subst, codes, arith}
 use Rattle.std.proofs.lemmas.Result.{err_from_is_err_and}
 use Rattle.xtbml_subset.specs.inside.Elements.{siblings_at}
-use Rattle.xtbml_subset.specs.Checks.{Row, AreRows}
+use Rattle.xtbml_subset.specs.Checks.{RateElement, ReadsRows}
 use Rattle.xtbml_subset.specs.inside.Rows.{row_of, rows_from}
 use Rattle.xtbml_subset.specs.inside.Views.{found_of}
 use Rattle.xtbml_subset.proofs.RowRuns.{ReadSoFar, so_far_more, so_far_fault, so_far_all, left_siblings, rows_left, unless_from}
@@ -16,7 +16,7 @@ returns-in_err-age-clause-fault c =
     let fault = c.in_err-age.field-0.0 in
     let so_far = rw c.in-Some.is at c.loop-next.invariant.so_far in
     let rows = so_far_fault all c.loop-next.rates.items c.loop-next.due (row_of total row) (map (λ e. row_of total e) (siblings_at (codes "Y") row)) fault c.in_err-age.ensures.row so_far in
-    rw (p.1, p.2) (unless_from fault (AreRows None all (Err fault)) rows)
+    rw (p.1, p.2) (unless_from fault (ReadsRows None all (Err fault)) rows)
 
 pub loop-next-preserved : goal.loop-next-preserved
 loop-next-preserved c =
@@ -30,7 +30,7 @@ loop-next-preserved c =
     let more = so_far_more all c.loop-next.rates.items c.loop-next.due (row_of total row) behind c.in_ok-age.age rate c.in_ok-age.ensures.row invariant.so_far in
     let left = left_siblings total c.next_row-next.result siblings c.next_row-next.ensures.siblings in
     let pushed = subst (λ rates. ReadSoFar all rates (Some (c.in_ok-age.age + 1)) behind) (sym c.in_ok-push.ensures.items) more in
-    let counted : length (rows_left total c.next_row-next.result) ≡ length behind = ap (λ (rows : List Row). length rows) (sym left) in
+    let counted : length (rows_left total c.next_row-next.result) ≡ length behind = ap (λ (rows : List RateElement). length rows) (sym left) in
     let count : suc (length behind) ≡ c.loop-next.left = invariant.count in
     record {
       so_far = subst (λ rows. ReadSoFar all c.push.new.self.items (Some (c.in_ok-age.age + 1)) rows) left pushed;

@@ -1,6 +1,6 @@
 use Rattle.std.proofs.Common.{◌≡◌, ◌++◌, ◌∷◌, [], true, false, is_some, sym, subst, ◌∙◌, arith, refl}
 use Rattle.std.proofs.lemmas.List.{length_push}
-use Rattle.basis_book.specs.Rows.{IsFault}
+use Rattle.basis_book.specs.Rows.{IsRowsFault}
 use Rattle.basis_book.proofs.Additions.{IsFault-more, none_of}
 use Rattle.basis_book.proofs.reading.Reading.add.Goals as goal
 
@@ -24,5 +24,5 @@ returns-in-Err c = λ rows row three h.
       wrong = λ fault few e.
           let found = c.in-Err.ensures rows row three (h.right (omega arith) none) (omega (arith, h.count)) c.if-self-gt-MOST_ROWS-2.false in
           let same : c.in-Err.fault ≡ fault = cc in
-          subst (λ f. IsFault (rows ++ row ∷ []) f) same found;
+          subst (λ f. IsRowsFault (rows ++ row ∷ []) f) same found;
     }

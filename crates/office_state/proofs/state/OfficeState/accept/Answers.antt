@@ -36,23 +36,23 @@ note-requires-clause-few g c =
 pub returns-in-Ok-clause-stands : goal.returns-in-Ok-clause-stands
 returns-in-Ok-clause-stands g c = λ (history : List Entry) (caller : ℕ) (stands : StandsFor c.args.self.now history).
     stands_accepted c.args.self.now history stands c.args.command.now c.args.policy c.record.new.journal c.record.result c.requires.valid
-    c.requires.accepted (rw c.encode.ensures at c.record.ensures.records) c.record.ensures.disk.honesty c.keep.new.self _ c.count-position.result c.in-Ok.field-0
+    c.requires.accepted c.record.ensures.disk.honesty (rw c.encode.ensures at c.record.ensures.records) c.keep.new.self _ c.count-position.result c.in-Ok.field-0
     c.in-Ok.ensures.disk.quiet c.keep.ensures.commands (λ full. c.if-count-eq-MOST_COMMANDS.false (c.count.ensures ∙ full)) c.in-Ok.is c.count-position.ensures
-    c.note.new.self c.note.ensures.told caller
+    c.note.new.self c.note.ensures.told g.met.D.Disk.only_now caller
 
 pub returns-in-Ok-clause-crash : goal.returns-in-Ok-clause-crash
 returns-in-Ok-clause-crash g c = λ (history : List Entry) (stands : StandsFor c.args.self.now history).
     crash_accepted c.args.self.now history stands c.args.command.now c.args.policy c.record.new.journal c.record.result c.requires.valid
-    c.requires.accepted (rw c.encode.ensures at c.record.ensures.records) c.in-Ok.field-0 c.in-Ok.is c.count-position.result
+    c.requires.accepted c.record.ensures.disk.honesty (rw c.encode.ensures at c.record.ensures.records) c.in-Ok.field-0 c.in-Ok.is c.count-position.result
 
 pub returns-in-Err-clause-stands : goal.returns-in-Err-clause-stands
 returns-in-Err-clause-stands g c = λ (history : List Entry) (caller : ℕ) (stands : StandsFor c.args.self.now history).
     stands_faulted c.args.self.now history stands c.args.command.now c.args.policy c.record.new.journal c.record.result c.requires.valid
-    c.requires.accepted (rw c.encode.ensures at c.record.ensures.records) c.record.ensures.disk.honesty _ c.in-Err.fault.count c.in-Err.fault
+    c.requires.accepted c.record.ensures.disk.honesty (rw c.encode.ensures at c.record.ensures.records) _ c.in-Err.fault.count c.in-Err.fault
     (λ full. c.if-count-eq-MOST_COMMANDS.false (c.count.ensures ∙ full)) c.in-Err.ensures.disk.fault.0 c.record.ensures.disk.later c.in-Err.ensures.disk.fault.1
     c.in-Err.is caller
 
 pub returns-in-Err-clause-crash : goal.returns-in-Err-clause-crash
 returns-in-Err-clause-crash g c = λ (history : List Entry) (stands : StandsFor c.args.self.now history).
     crash_faulted c.args.self.now history stands c.args.command.now c.args.policy c.record.new.journal c.record.result c.requires.valid
-    c.requires.accepted (rw c.encode.ensures at c.record.ensures.records) c.in-Err.fault.count
+    c.requires.accepted c.record.ensures.disk.honesty (rw c.encode.ensures at c.record.ensures.records) c.in-Err.fault.count

@@ -14,7 +14,7 @@ returns-in-Ok-clause-acknowledges g c = λ bodies body honest count staged safe.
     let new = c.put.new.disk in
     let puts = puts_at g.D.Disk old.disk new c.gate_place.result (gate_place (length bodies)) (1 ∷ []) (1 ∷ []) _ (c.in-Ok.ensures.facts honest) (c.gate_place.ensures ∙ ap gate_place count) refl in
     let s = gating g.D.Disk old.disk new bodies body 1 _ staged (each_safe g.D.Disk old.disk (λ image. IsStaged image bodies body) safe staged)
-    (λ image left. g.met.D.Disk.only_now old.disk image honest left) puts in
+    (λ image left. g.met.D.Disk.only_now old.disk image (c.put.ensures.honesty honest) left) puts in
     let reads : IsJournal (g.D.Disk.reads new) (bodies ++ body ∷ []) = written_opened bodies body (g.D.Disk.reads old.disk) (g.D.Disk.reads new) staged puts.facts.written in
     record {
       done = (
@@ -35,7 +35,7 @@ returns-in-Err-clause-acknowledges g c = λ bodies body honest count staged safe
     let new = c.put.new.disk in
     let puts = puts_at g.D.Disk old.disk new c.gate_place.result (gate_place (length bodies)) (1 ∷ []) (1 ∷ []) _ (c.in-Err.ensures.facts honest) (c.gate_place.ensures ∙ ap gate_place count) refl in
     let s = gating g.D.Disk old.disk new bodies body 1 _ staged (each_safe g.D.Disk old.disk (λ image. IsStaged image bodies body) safe staged)
-    (λ image left. g.met.D.Disk.only_now old.disk image honest left) puts in
+    (λ image left. g.met.D.Disk.only_now old.disk image (c.put.ensures.honesty honest) left) puts in
     record {
       done = tt;
       failed = record { count = count; reads = s.reads; images = s.images };

@@ -33,7 +33,7 @@ returns-in-Ok-clause-moments g c = λ bodies faulted honest stands.
     let puts = puts_at g.D.Disk old.disk new c.gate_place.result (gate_place (length bodies)) (0 ∷ []) (0 ∷ []) _ (c.in-Ok.ensures.facts honest) (c.gate_place.ensures ∙ ap gate_place stands.count) refl in
     let s = gating g.D.Disk old.disk new bodies faulted 0 _ (kept_unclean old.clean bodies faulted (g.D.Disk.reads old.disk) c.requires stands.reads)
     (λ image left. kept_unclean old.clean bodies faulted image c.requires (stands.images image left))
-    (λ image left. g.met.D.Disk.only_now old.disk image honest left) puts in
+    (λ image left. g.met.D.Disk.only_now old.disk image (c.put.ensures.honesty honest) left) puts in
     leaves_more g.D.Disk old.disk new (λ image. IsStaged image bodies faulted) (IsBeforeOrAfter bodies faulted) s.moments (staged_either bodies faulted)
 
 pub returns-in-Err-clause-faulted : goal.returns-in-Err-clause-faulted
@@ -43,7 +43,7 @@ returns-in-Err-clause-faulted g c = λ bodies faulted honest stands.
     let puts = puts_at g.D.Disk old.disk new c.gate_place.result (gate_place (length bodies)) (0 ∷ []) (0 ∷ []) _ (c.in-Err.ensures.facts honest) (c.gate_place.ensures ∙ ap gate_place stands.count) refl in
     let s = gating g.D.Disk old.disk new bodies faulted 0 _ (kept_unclean old.clean bodies faulted (g.D.Disk.reads old.disk) c.requires stands.reads)
     (λ image left. kept_unclean old.clean bodies faulted image c.requires (stands.images image left))
-    (λ image left. g.met.D.Disk.only_now old.disk image honest left) puts in
+    (λ image left. g.met.D.Disk.only_now old.disk image (c.put.ensures.honesty honest) left) puts in
     record {
       count = stands.count;
       reads = unclean_kept old.clean bodies faulted (g.D.Disk.reads new) c.requires s.reads;
@@ -57,5 +57,5 @@ returns-in-Err-clause-moments g c = λ bodies faulted honest stands.
     let puts = puts_at g.D.Disk old.disk new c.gate_place.result (gate_place (length bodies)) (0 ∷ []) (0 ∷ []) _ (c.in-Err.ensures.facts honest) (c.gate_place.ensures ∙ ap gate_place stands.count) refl in
     let s = gating g.D.Disk old.disk new bodies faulted 0 _ (kept_unclean old.clean bodies faulted (g.D.Disk.reads old.disk) c.requires stands.reads)
     (λ image left. kept_unclean old.clean bodies faulted image c.requires (stands.images image left))
-    (λ image left. g.met.D.Disk.only_now old.disk image honest left) puts in
+    (λ image left. g.met.D.Disk.only_now old.disk image (c.put.ensures.honesty honest) left) puts in
     leaves_more g.D.Disk old.disk new (λ image. IsStaged image bodies faulted) (IsBeforeOrAfter bodies faulted) s.moments (staged_either bodies faulted)

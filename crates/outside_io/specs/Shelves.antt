@@ -1,0 +1,52 @@
+-- What a shelf answered, and which files give those answers.
+use Rattle.std.specs.Prelude.{◌≡◌, ℕ, ◌<◌, List, ◌∷◌, [], length, Option, Some, None, Result, Ok, Err, Vec, IsSomeAnd, ⊤}
+use Rattle.std.specs.declared.alloc.Global.{Global}
+use Rattle.std.proofs.Common.{ap}
+use Rattle.outside_io.specs.declared.failures.FetchFault.{FetchFault}
+use Rattle.outside_io.specs.declared.failures.FetchFault.TheVariants as fault
+
+-- the bytes at each name, where there is a file
+abbrev pub Files : Type 0
+Files = List ℕ → Option (List ℕ)
+
+-- what was told of a file
+pub data Told : Type 0 where
+  Found : List ℕ → Told
+  Absent : Told
+  TooLong : Told
+
+-- what was told of the file with this name
+pub record Answer : Type 0 where
+  pub name : List ℕ
+  pub told : Told
+
+-- of a file with these bytes, or of none, this is told
+abbrev pub IsTold : Option (List ℕ) → Told → Type 0
+IsTold file (Found bytes) = file ≡ Some bytes
+IsTold file Absent = file ≡ None
+IsTold file TooLong = IsSomeAnd file (λ bytes. 4194304 < length bytes)
+
+-- each answer is the one that these files give
+abbrev pub Agrees : List Answer → Files → Type 0
+Agrees [] files = ⊤
+Agrees (answer ∷ earlier) files = Agrees earlier files × IsTold (files answer.name) answer.told
+
+-- the answer to this name came to those before, where the shelf told of the file
+abbrev pub Answers : List ℕ → Result (Vec ℕ Global) FetchFault → List Answer → List Answer → Type 0
+Answers name (Ok bytes) before now = now ≡ record { name = name; told = Found bytes.items } ∷ before
+Answers name (Err fault.Absent) before now = now ≡ record { name = name; told = Absent } ∷ before
+Answers name (Err fault.TooLong) before now = now ≡ record { name = name; told = TooLong } ∷ before
+Answers name (Err fault.Failed) before now = now ≡ before
+Answers name (Err fault.NoMemory) before now = now ≡ before
+
+-- these are those files
+abbrev pub AreFiles : Files → Files → Type 0
+AreFiles files at = (name : List ℕ) → at name ≡ files name
+
+-- a shelf that tells its files agrees with them
+pub same_files : (one other : Files) → Some one ≡ Some other → AreFiles one other
+same_files one other same name = let equal : other ≡ one = cc in ap (λ (at : Files). at name) equal
+
+-- one that tells none
+pub no_files : (files : Files) (P : Type 0) → None ≡ Some files → P
+no_files files P same = absurd (cc)

@@ -1,0 +1,36 @@
+// The pieces that passed through a stream, for contracts alone.
+ghost use Rattle.std.specs.Prelude.{◌≡◌, List, [], ◌∷◌, map};
+ghost use Rattle.outside_io.specs.Streams.{Piece};
+ghost use Rattle.outside_io.specs.Notes.{piece_of};
+
+use crate::record::Record;
+use std::marker::Model;
+
+// Newest first. It has no byte.
+#[derive(Drop)]
+pub(crate) struct Pieces {
+    record: Record,
+}
+
+impl Model for Pieces {
+    ghost Value = { List Piece };
+
+    ghost view = { λ pieces. map piece_of pieces.record.notes };
+}
+
+impl Pieces {
+    pub(crate) fn new() -> Pieces
+        ensures { result ≡ [] }
+    {
+        Pieces {
+            record: Record::new(),
+        }
+    }
+
+    // One piece more, and how many bytes there was room for.
+    pub(crate) fn note(&mut self, room: usize, bytes: &[u8])
+        ensures { self.new ≡ record { room = room; bytes = bytes.now } ∷ self.old }
+    {
+        self.record.note(&[room as u64], &[], bytes);
+    }
+}

@@ -1,0 +1,10 @@
+//! Lines of text in the making: a line is a first field and further ones behind commas.
+#![tactic(auto)]
+
+mod bytes;
+mod words;
+mod writer;
+
+pub use bytes::Text;
+pub use words::{kind_word, plan_word, status_word};
+pub use writer::LineWriter;
