@@ -210,7 +210,7 @@ fn obey<
     watchers: W,
     gate: &G,
 ) -> Finished<D>
-    requires told { W.told watchers [] }
+    requires told { (before : ℕ) → W.told watchers before [] }
     ensures does { Does D.Disk disk result.disk words.now (W.handed watchers) (input_between S.faults S.left S.given S.ended input.old input.new)
         (between K.faults K.written output.old output.new)
         (shelf_between H.faults H.agrees shelf.old shelf.new)

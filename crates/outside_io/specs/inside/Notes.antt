@@ -1,6 +1,6 @@
 -- What an adapter noted of a call, as it is kept.
 use Rattle.std.specs.Prelude.{ℕ, List, slice_index, ◌==◌, if◌then◌else◌}
-use Rattle.outside_io.specs.Streams.{Piece}
+use Rattle.outside_io.specs.Streams.{StreamPiece}
 use Rattle.outside_io.specs.Shelves.{Answer, Told, Found, Absent, TooLong}
 
 -- numbers, a name, and bytes
@@ -10,8 +10,8 @@ pub record Note : Type 0 where
   pub bytes : List ℕ
 
 -- the piece that a note tells of
-abbrev pub piece_of : Note → Piece
-piece_of note = record { room = slice_index note.numbers 0; bytes = note.bytes }
+abbrev pub stream_piece_of : Note → StreamPiece
+stream_piece_of note = record { room = slice_index note.numbers 0; bytes = note.bytes }
 
 -- what is told, by a number
 abbrev pub told_of : ℕ → List ℕ → Told
