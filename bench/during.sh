@@ -6,8 +6,7 @@
 # usage: sh bench/during.sh [FOLDER [POSTINGS [ROUNDS]]]     (needs python3)
 # In place of what isn't given: the current folder, 8000 postings, 5 rounds.
 root=$(cd "$(dirname "$0")/.." && pwd) || exit 2
-"$root/life" usage </dev/null >/dev/null
-[ $? = 2 ] || exit 2
+sh "$root/life" prove || exit 2
 echo "$(uname -sr), $(nproc) processors"
 uptime
 exec python3 -B - "$root" "$@" <<'PY'

@@ -20,7 +20,7 @@ import tempfile
 import time
 
 ROOT = os.path.dirname(os.path.dirname(os.path.abspath(__file__)))
-PROGRAM = os.path.join(ROOT, "crates", "life_cli", "out", "life_cli")
+PROGRAM = os.environ.get("LIFE_PROGRAM") or os.path.join(ROOT, "crates", "life_cli", "out", "life_cli")
 JOURNAL = "journal.life"
 HEADER = b"LIFEJRNL" + bytes([0, 1, 0, 64, 0, 0, 0, 0])
 MOST_RECORDS = 20000
@@ -271,10 +271,8 @@ def main():
     if given.kills < 1:
         words.error("there must be a kill")
     seed = random.SystemRandom().randrange(10 ** 6) if given.seed is None else given.seed
-    # Without words the launcher builds the program where it isn't current, and the program then ends with status 2.
-    launched = subprocess.run(["sh", os.path.join(ROOT, "life")], stdin=subprocess.DEVNULL, stdout=subprocess.DEVNULL)
-    if launched.returncode != 2:
-        print("kill_runs: there is no program", file=sys.stderr)
+    if not os.path.exists(PROGRAM):
+        print(f"kill_runs: there is no program {PROGRAM}: sh life prove builds it", file=sys.stderr)
         return 2
     folder = tempfile.mkdtemp(prefix="kill_runs.", dir=given.folder)
     trial = Trial(os.path.abspath(folder))

@@ -10,8 +10,7 @@
 # or a number of calls isn't what it must be.
 root=$(cd "$(dirname "$0")/.." && pwd) || exit 2
 # Without words the launcher builds the program where it isn't current, and the program then ends with status 2.
-sh "$root/life" </dev/null >/dev/null
-[ $? = 2 ] || exit 2
+sh "$root/life" prove || exit 2
 plain=$(mktemp) || exit 2
 trap 'rm -f "$plain"' EXIT
 rustc -O -o "$plain" "$root/bench/plain_journal.rs" || exit 2

@@ -3,7 +3,7 @@
 # script's size.
 # usage: sh bench/measure_run.sh   (needs python3 and GNU time; sqlite3 is timed beside it where it is installed)
 root=$(cd "$(dirname "$0")/.." && pwd) || exit 2
-"$root/life" usage </dev/null >/dev/null
+sh "$root/life" prove || exit 1
 exec python3 - "$root/crates/life_cli/out/life_cli" <<'PY'
 import os, shutil, subprocess, sys, tempfile, time
 

@@ -5,8 +5,7 @@
 # of each (medians) and the program's peak memory.
 # usage: sh bench/measure_script.sh [ROUNDS]   (9 where it isn't given; needs python3, rustc and GNU time)
 root=$(cd "$(dirname "$0")/.." && pwd) || exit 2
-sh "$root/life" </dev/null >/dev/null
-[ $? = 2 ] || exit 2
+sh "$root/life" prove || exit 2
 plain=$(mktemp) || exit 2
 trap 'rm -f "$plain"' EXIT
 rustc -O -o "$plain" "$root/bench/plain_script.rs" || exit 2

@@ -4,8 +4,7 @@
 # script and lies in the system's cache.
 # usage: sh bench/measure_state.sh   (needs python3 and GNU time)
 root=$(cd "$(dirname "$0")/.." && pwd) || exit 2
-sh "$root/life" </dev/null >/dev/null
-[ $? = 2 ] || exit 2
+sh "$root/life" prove || exit 2
 work=$(mktemp -d) || exit 2
 trap 'rm -rf "$work"' EXIT
 cd "$work" || exit 2

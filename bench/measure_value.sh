@@ -6,8 +6,7 @@
 # away, which opens the same journal and prints as many rows. The journal is written in one go by this script.
 # usage: sh bench/measure_value.sh   (needs python3 and GNU time)
 root=$(cd "$(dirname "$0")/.." && pwd) || exit 2
-sh "$root/life" </dev/null >/dev/null
-[ $? = 2 ] || exit 2
+sh "$root/life" prove || exit 2
 (cd "$root/crates/measure_reserves" && rt run -- 1 1 >/dev/null 2>&1) || exit 2
 work=$(mktemp -d) || exit 2
 trap 'rm -rf "$work"' EXIT

@@ -1,13 +1,11 @@
 #!/bin/sh
 # The balances of the small office beside those of plain text accounting: what its records book is handed as transactions
 # to `ledger` and to `hledger`, where they are installed, and their balances are those that `state` prints.
-root=$(cd "$(dirname "$0")/../.." && pwd) || exit 2
-work=$(mktemp -d) || exit 2
-trap 'rm -rf "$work"' EXIT
-cd "$work" || exit 2
-"$root/life" run <"$root/examples/small-office.csv" >transcript || exit 2
-"$root/life" state </dev/null >state || exit 2
-python3 "$root/tools/read_journal.py" --ledger journal.life >transactions || exit 1
+. "$(dirname "$0")/../common.sh"
+begin "small office"
+"$life" run <"$examples/small-office.csv" >transcript || exit 2
+"$life" state </dev/null >state || exit 2
+python3 "$tools/read_journal.py" --ledger journal.life >transactions || exit 1
 sed -n 's/^balance,//p' state | sort >wanted
 
 # lines of an account and its balance, however the program writes them, as those of `state`

@@ -1,24 +1,21 @@
 #!/bin/sh
 # The calls that the program makes on a real file, recorded by strace: just those that the journal allows, in order and
 # number. A sync that is left out, or made too late, is seen here and by no proof.
-root=$(cd "$(dirname "$0")/../.." && pwd) || exit 2
+. "$(dirname "$0")/../common.sh"
 # where it is missing and this may install it, it is installed
 command -v strace >/dev/null || { apt-get update -qq && apt-get install -y -qq strace; } >/dev/null 2>&1
 command -v strace >/dev/null || {
     echo "calls: strace is needed to record the program's calls" >&2
     exit 1
 }
-work=$(mktemp -d) || exit 2
-trap 'rm -rf "$work"' EXIT
-"$root/life" x >/dev/null
-cd "$work" || exit 2
-head -n 3 "$root/examples/first-issues.csv" >three
-"$root/life" run <three >expected || exit 2
+begin "three postings"
+head -n 3 "$examples/first-issues.csv" >three
+"$life" run <three >expected || exit 2
 rm journal.life
 
 record() {
     strace -f -s 128 -xx -o "$1" -e trace=openat,flock,pread64,read,pwrite64,write,fsync,fdatasync,ftruncate,close,dup,dup2 \
-        "$root/crates/life_cli/out/life_cli" run <three >out || {
+        "$program" run <three >out || {
         echo "calls: the program could not be recorded" >&2
         exit 1
     }

@@ -1,17 +1,8 @@
 #!/bin/sh
 # The program started with each combination of closed input, output and error: no file may ever be opened in the place
 # of one of them. A closed input is one that fails (6), a closed output one that fails (7), and the journal is kept.
-root=$(cd "$(dirname "$0")/../.." && pwd) || exit 2
-program=$root/crates/life_cli/out/life_cli
-work=$(mktemp -d) || exit 2
-trap 'rm -rf "$work"' EXIT
-failed=0
-script=$root/examples/first-issues.csv
-
-complain() {
-    echo "descriptors: $name: $1" >&2
-    failed=1
-}
+. "$(dirname "$0")/../common.sh"
+script=$examples/first-issues.csv
 
 # the program with the descriptors closed that are named
 run_with_closed() {
@@ -28,7 +19,7 @@ run_with_closed() {
 }
 
 # a case: what is closed, the file before, the status, what is printed, the file afterwards
-judge() {
+judge_closed() {
     name="$1, $2, ${runner##*/}"
     folder=$work/$1-$2-${runner##*/}
     mkdir "$folder" && cd "$folder" || exit 2
@@ -45,8 +36,6 @@ judge() {
     fi
 }
 
-"$root/life" x >/dev/null
-: >"$work/nothing"
 echo readfault >"$work/readfault"
 echo "badjournal,notajournal" >"$work/notajournal"
 printf 'AAAAAAAAAAAAAAAAAA' >"$work/foreign"
@@ -56,8 +45,8 @@ sed -e 's/accepted,[0-9]*/refused,taken/' -e 's/^\(watcher,[12]\),.*/\1,0,0/' "$
 
 # the program itself, and the launcher, whose own commands must not take such a place either
 while read -r closed before status printed after; do
-    for runner in "$program" "$root/life"; do
-        judge "$closed" "$before" "$status" "$work/$printed" "$([ "$after" = none ] && echo none || echo "$work/$after")"
+    for runner in "$program" "$life"; do
+        judge_closed "$closed" "$before" "$status" "$work/$printed" "$([ "$after" = none ] && echo none || echo "$work/$after")"
     done
 done <<'CASES'
 none fresh 0 transcript journal
@@ -82,5 +71,4 @@ all fresh 6 nothing none
 all journal 6 nothing journal
 all foreign 6 nothing foreign
 CASES
-[ "$failed" = 0 ] && echo "descriptors: no file takes the place of a closed stream"
-exit "$failed"
+end "no file takes the place of a closed stream"

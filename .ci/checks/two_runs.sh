@@ -1,11 +1,8 @@
 #!/bin/sh
 # Two runs at once over one file, again and again: one has the file, and the other is answered diskfault, or runs before
 # or after it. What the runs accepted stands in the file, and nothing else.
-root=$(cd "$(dirname "$0")/../.." && pwd) || exit 2
-work=$(mktemp -d) || exit 2
-trap 'rm -rf "$work"' EXIT
-"$root/life" x >/dev/null
-python3 - "$root/crates/life_cli/out/life_cli" "$work" <<'PY' || exit 1
+. "$(dirname "$0")/../common.sh"
+python3 - "$program" "$work" <<'PY' || exit 1
 import os, subprocess, sys
 program, work = sys.argv[1:]
 POSTINGS, ROUNDS = 60, 12

@@ -5,10 +5,10 @@ use Rattle.policy_types.specs.declared.command.Command.{Command}
 use Rattle.policy_types.specs.declared.entry.Entry.{Entry}
 use Rattle.policy_machine.specs.History.{Opening, accepted_of, commands_after}
 use Rattle.posting_journal.specs.Runs.{IsSafe}
-use Rattle.life_app.specs.Crashes.{AreAllHeld, AreHeld, HasRun}
 use Rattle.office_state.specs.Images.{HoldsOnce, IsLeftAlone, IsOneMore}
 use Rattle.office_state.specs.Journals.{Opens}
 use Rattle.office_state.proofs.JournalLaws.{opens_to_one}
+use Rattle.life_app.specs.Crashes.{AreAllHeld, AreHeld, HasRun}
 
 -- a file that opens to the commands from before the run
 as_before : (opening : Opening) (history : List Entry) (image : List ℕ) → Opens image opening.commands → HoldsOnce opening history image

@@ -8,7 +8,7 @@ ghost use Rattle.command_csv.specs.Reads.{IsFirstScriptFault};
 ghost use Rattle.life_app.specs.Crashes.{AreAllHeld, AreHeld, HasRun};
 ghost use Rattle.office_state.specs.Images.{HoldsOnce, IsLeftAlone};
 ghost use Rattle.office_state.specs.Journals.{Opens};
-ghost use Rattle.life_app.specs.Script.{IsReadable, IsUnreadable};
+ghost use Rattle.script_run.specs.Script.{IsReadable, IsUnreadable};
 
 use outside_io::Disk;
 

@@ -15,26 +15,26 @@ ghost use Rattle.life_args.specs.Words.{AskForNothing};
 ghost use Rattle.office_state.specs.Journals.{Opens, OpensToNone};
 ghost use Rattle.watcher_set.specs.Limits.{most_watchers};
 ghost use Rattle.life_app.specs.Obeys.{Does, Obeys};
-ghost use Rattle.life_app.specs.Script.{IsUnreadable, asks_for_values};
-ghost use Rattle.life_app.specs.Valuing.{HasBadFile, HasItsBasis, IsPastTheEnd, SaysBadFile, position_of};
+ghost use Rattle.script_run.specs.Script.{IsUnreadable, asks_for_values};
+ghost use Rattle.life_app.specs.Needs.{HasBadFile, IsPastTheEnd};
+ghost use Rattle.script_run.specs.Running.{HasItsBasis};
+ghost use Rattle.program_endings.specs.WithoutBasis.{SaysBadFile};
+ghost use Rattle.book_value.specs.Valuing.{position_of};
 ghost use Rattle.life_app.specs.Words.{AskForGenerate, AskForLoad, AskForRun, AskForState, AskForValue};
-ghost use Rattle.life_app.specs.Writing.{between, shelf_between};
-ghost use Rattle.life_app.specs.inside.Valued.{SaysNoMode};
+ghost use Rattle.program_endings.specs.Writing.{between, shelf_between};
+ghost use Rattle.life_app.specs.inside.Unasked.{SaysNoMode};
 
-use crate::account::account;
-use crate::ending::Ending;
-use crate::generate::generate;
-use crate::load::load;
-use crate::refusing::say;
-use crate::run::{Finished, run};
-use crate::state::state;
-use crate::value::value;
+use book_state::{account, state};
+use book_value::value;
 use life_args::{Mode, WordsFault, read_words};
 use outside_io::{Disk, Gate, Shelf, Sink, Source};
 use policy_types::Watcher;
+use program_endings::{Ending, Finished, end, lack_memory};
+use script_run::run;
 use std::alloc::Global;
 use std::sync::Wait;
 use std::thread::Threads;
+use trial_load::{generate, load};
 use watcher_set::{Watchers, Watching};
 
 /// What the program leaves: its exit status, and the disk.
@@ -250,13 +250,7 @@ fn refuse_words<K: Sink>(fault: WordsFault, output: &mut K) -> Ending
     ensures { SaysNoMode fault (between K.faults K.written output.old output.new) result }
 {
     match fault {
-        WordsFault::Usage => {
-            say(output, b"usage\n");
-            Ending::Usage
-        }
-        WordsFault::NoMemory => {
-            say(output, b"nomemory\n");
-            Ending::NoMemory
-        }
+        WordsFault::Usage => end(output, b"usage\n", Ending::Usage),
+        WordsFault::NoMemory => lack_memory(output),
     }
 }

@@ -6,6 +6,8 @@ pub mod OpeningSteps
 pub mod OpenedSteps
 pub mod PinSteps
 pub mod HistorySteps
+pub mod ImageSteps
+pub mod KeptSteps
 pub mod TurnSteps
 pub mod PinTurns
 pub mod WindowSteps

@@ -1,5 +1,5 @@
 -- The office of a journal that was started on a disk, and what is known where there is none
-use Rattle.std.proofs.Common.{◌≡◌, inl, inr, ℕ, ◌<◌, true, false, List, [], ◌++◌, length, ◌∙◌, ap, sym, subst, refl, append-nil, arith}
+use Rattle.std.proofs.Common.{◌≡◌, inl, inr, ℕ, ◌<◌, ◌≤◌, true, false, List, [], ◌++◌, length, ◌∙◌, ap, sym, subst, refl, append-nil, arith}
 use Rattle.outside_io.specs.declared.disks.Disk.{Ghosts}
 use Rattle.outside_io.specs.Faults.{Rose}
 use Rattle.policy_machine.specs.Accounts.{ledger_of}
@@ -13,6 +13,7 @@ use Rattle.watcher_set.specs.declared.watching.Watching.{Ghosts as WatcherGhosts
 use Rattle.office_state.specs.declared.faults.StartCause.{StartCause}
 use Rattle.office_state.specs.declared.faults.StartCause.TheVariants.{DiskFault, NotAJournal, BadRecord, NoMemory}
 use Rattle.office_state.specs.declared.state.OfficeState.{OfficeState}
+use Rattle.office_state.specs.Images.{HoldsNow}
 use Rattle.office_state.specs.Journals.{bodies_of, Opens, IsShown}
 use Rattle.office_state.specs.Opening.{HasOpened, HasNotOpened, TellsFault}
 use Rattle.office_state.specs.Standing.{LeavesSince, StandsFor}
@@ -20,9 +21,10 @@ use Rattle.office_state.specs.States.{commands_of, disk_of}
 use Rattle.office_state.specs.inside.Holding.{JournalHolds}
 use Rattle.office_state.specs.inside.Replays.{HasStopped, IsStoppedAt, IsOfficeOf, HasNoOffice}
 use Rattle.office_state.proofs.ReplaySteps.{all_replayed, stopped_shown}
-use Rattle.office_state.proofs.OpeningSteps.{CountsNow, IsStarted, ReadsImage, opening_keeps, looked_on, holds_once, looked_alone, looked_ever, synced_images, opens_commands, started_later}
+use Rattle.office_state.proofs.OpeningSteps.{CountsNow, IsStarted, OnlyNow, ReadsImage, opening_keeps, looked_on, holds_once, looked_alone, looked_ever, synced_images, opens_commands, started_later}
 use Rattle.office_state.proofs.KeepingSteps.{values-book}
-use Rattle.office_state.proofs.TurnSteps.{holds_now}
+use Rattle.office_state.proofs.ImageSteps.{holds_now}
+use Rattle.office_state.proofs.KeptSteps.{keeps_first, kept_now}
 
 -- the bodies that stop a replay are those of a journal, since there are some
 unfollowed : (bytes : List ℕ) (n : ℕ) (bodies : List (List ℕ)) → OpensToBodies bytes bodies → IsStoppedAt n bodies
@@ -96,7 +98,7 @@ module _ {D : Type 0} (g : Ghosts D) (old : D) (journal : Journal D g) (started 
     honesty : g.honest (disk_of state) → g.honest old
     honesty honest = started.honesty (made.stays.disk.honesty honest)
 
-    module _ (counts_now : CountsNow g) (reads_image : ReadsImage g) where
+    module _ (counts_now : CountsNow g) (reads_image : ReadsImage g) (only_now : OnlyNow g) where
       leaves_since : g.honest (disk_of state) → LeavesSince g old (disk_of state) opening []
       leaves_since honest =
           let held = λ (image : List ℕ) (opening_image : _). holds_once image (commands_of state) (g.faults old)
@@ -114,6 +116,15 @@ module _ {D : Type 0} (g : Ghosts D) (old : D) (journal : Journal D g) (started 
                   λ (image : List ℕ) (left : g.left_since (disk_of state) (g.clock at.0) image). held image (at.2 image left),
                 );
           }
+
+      later : g.honest (disk_of state) → g.clock old ≤ g.clock (disk_of state)
+      later honest =
+          let looks = made.stays.disk.looks honest in
+          omega (arith, started_later g old journal started counts_now (made.stays.disk.honesty honest), looks.time.later)
+
+      now : g.honest (disk_of state) → (image : List ℕ) → g.may_leave (disk_of state) image → HoldsNow opening [] image
+      now honest = holds_now state.journal opening []
+          (simp append-nil state.books.kept.valid) (simp append-nil state.books.kept.accepted) (holds honest)
 
       known_stands : StandsFor known []
       known_stands =
@@ -133,16 +144,16 @@ module _ {D : Type 0} (g : Ghosts D) (old : D) (journal : Journal D g) (started 
             floor = made.floor;
             honesty = honesty;
             opened = opens_replayed;
-            images_now = λ (honest : g.honest (disk_of state)). holds_now state.journal opening []
-                (simp append-nil keeps.valid) (simp append-nil keeps.accepted) (holds honest);
+            images_now = now;
             images_since = leaves_since;
+            images_kept = λ (honest : g.honest (disk_of state)).
+                keeps_first g old opening (disk_of state)
+                (kept_now g old opening (disk_of state) [] only_now honest (later honest) (now honest));
             fault_count = quiet;
             alone = λ still. looked_alone g old journal started counts_now reads_image (disk_of state) made.stays.disk;
             told = subst (λ these. w.told these []) (sym made.watched) fresh;
             inside = record {
-              later = λ (honest : g.honest (disk_of state)).
-                  let looks = made.stays.disk.looks honest in
-                  omega (arith, started_later g old journal started counts_now (made.stays.disk.honesty honest), looks.time.later);
+              later = later;
               opened = omega (arith, quiet);
               met = tt;
               journal = holds;

@@ -61,6 +61,11 @@ abbrev pub CountsNow : {D : Type 0} → Ghosts D → Type 0
 CountsNow {D = D} g = (disk : D) (moment : ℕ) (image : List ℕ) → g.honest disk → moment ≤ g.clock disk
     → g.may_leave disk image → g.left_since disk moment image
 
+-- since this moment there is no other
+abbrev pub OnlyNow : {D : Type 0} → Ghosts D → Type 0
+OnlyNow {D = D} g = (disk : D) (image : List ℕ) → g.honest disk → g.left_since disk (g.clock disk) image
+    → g.may_leave disk image
+
 -- a journal that was started on a disk
 pub record IsStarted {D : Type 0} {g : Ghosts D} (old : D) (journal : Journal D g) : Type 0 where
   pub quiet : g.faults (disk_of journal) ≡ g.faults old
@@ -125,7 +130,7 @@ module _ {D : Type 0} (g : Ghosts D) (old : D) where
   }
 
 -- what might have been left since a moment, on a disk that was only looked at since
-looked_since : {D : Type 0} (g : Ghosts D) → CountsNow g → (mid new : D) → g.honest mid → LooksOn g mid new
+pub looked_since : {D : Type 0} (g : Ghosts D) → CountsNow g → (mid new : D) → g.honest mid → LooksOn g mid new
     → (moment : ℕ) → moment ≤ g.clock mid
     → (image : List ℕ) → g.left_since new moment image → g.left_since mid moment image
 looked_since g counts_now mid new honest looks moment passed image left =

@@ -30,7 +30,7 @@ use Rattle.office_state.specs.declared.books.Books.{Books}
 use Rattle.office_state.specs.declared.held.Held.{Held}
 use Rattle.office_state.specs.declared.state.OfficeState.{OfficeState}
 use Rattle.office_state.specs.declared.answer.Answer.TheVariants.{Accepted as AcceptedAt, DiskFault}
-use Rattle.office_state.specs.Images.{HoldsNow, HoldsOnce, IsLeftBy, IsQuietReply}
+use Rattle.office_state.specs.Images.{HasKept, HoldsAtLeast, HoldsNow, HoldsOnce, IsLeftBy, IsQuietReply, KeepsAccepted}
 use Rattle.office_state.specs.Journals.{JournalBytes, bodies_of}
 use Rattle.office_state.specs.Pins.{pins_held}
 use Rattle.office_state.specs.Posting.{CrashesIn}
@@ -40,8 +40,10 @@ use Rattle.office_state.specs.inside.Books.{commands_in}
 use Rattle.office_state.specs.inside.Holding.{IsLeftBehind, JournalHolds}
 use Rattle.office_state.specs.inside.Records.{Records}
 use Rattle.office_state.proofs.HistorySteps.{accepted-same, all_before, all_in, all_up_to, commands-more, commands-same, faults-same, faults_after-more, faults_after-same, faults_met, faults-more, holds_all, holds_more, holds_once-push, is_due, is_fresh, pending-now, pending-push, posting}
+use Rattle.office_state.proofs.KeptSteps.{keeps_more, keeps_still, keeps_unaccepted, kept_now, least_now}
+use Rattle.office_state.proofs.ImageSteps.{holds_now, journal_of, journal_of_more, left_still, now_later, since_on, since_still}
 use Rattle.office_state.proofs.KeepingSteps.{all-more, values-book}
-use Rattle.office_state.proofs.OpeningSteps.{synced_before}
+use Rattle.office_state.proofs.OpeningSteps.{OnlyNow}
 use Rattle.office_state.proofs.PinSteps.{pins_held-same}
 
 legal-push : (opening : Opening) (turns : List Entry) (entry : Entry) → IsLegal opening turns
@@ -61,102 +63,6 @@ posted_pins turns caller command reply none = sym (pins_held-same turns (posting
 pub posted_floor : (turns : List Entry) (caller : ℕ) (command : Command) (reply : Reply) → floor_set reply ≡ None
     → floor_of turns ≡ floor_of (turns ++ posting caller command reply ∷ [])
 posted_floor turns caller command reply none = sym (floor_of-kept turns (posting caller command reply) none)
-
--- the file of commands' bodies is their journal
-journal_of : (image : List ℕ) (commands : List Command) → AllByRecursion IsValid commands → IsAccepted commands
-    → IsJournal image (bodies_of commands) → JournalBytes image commands
-journal_of image commands valid accepted records = record { records = records; valid = valid; accepted = accepted }
-
-journal_of_more : (image : List ℕ) (commands : List Command) (command : Command) → AllByRecursion IsValid commands → IsValid command
-    → IsAccepted (commands ++ command ∷ []) → IsJournal image (bodies_of commands ++ spelling_of command ∷ [])
-    → JournalBytes image (commands ++ command ∷ [])
-journal_of_more image commands command all valid accepted records = record {
-  records = rw (map-append spelling_of commands (command ∷ [])) records;
-  valid = all-more IsValid commands command all valid;
-  accepted = accepted;
-}
-
--- a pending command stays pending while nothing is accepted
-left_still : (opening : Opening) (turns : List Entry) (entry : Entry) (body : List ℕ) → accepted_of (entry ∷ []) ≡ []
-    → IsLeftBehind opening turns body → IsLeftBehind opening (turns ++ entry ∷ []) body
-left_still opening turns entry body none left = record {
-  command = left.command;
-  pending = pending-push turns left.command entry none left.pending;
-  spelled = left.spelled;
-  valid = left.valid;
-  accepted = rw (commands-same opening turns entry none) left.accepted;
-}
-
--- an image of a history is one of a longer history
-now_later : (opening : Opening) (turns : List Entry) (entry : Entry) (image : List ℕ) → HoldsNow opening turns image
-    → HoldsOnce opening (turns ++ entry ∷ []) image
-now_later opening turns entry image (inl all) = holds_once-push opening turns entry image (holds_all opening turns image all)
-now_later opening turns entry image (inr more) =
-    holds_once-push opening turns entry image (holds_more opening turns more.0 image more.1 more.2)
-
-module _ {D : Type 0} {g : Ghosts D} where
-  -- what a crash now leaves, of a journal that holds the commands of a history
-  pub holds_now : (journal : Journal D g) (opening : Opening) (turns : List Entry) → AllByRecursion IsValid (commands_after opening turns)
-      → IsAccepted (commands_after opening turns) → JournalHolds journal opening turns
-      → (image : List ℕ) → g.may_leave (disk_under journal) image → HoldsNow opening turns image
-  holds_now journal opening turns valid accepted holds image left = by (is_clean journal) refl (holds.stands.images image left)
-    where
-      by : (clean : Bool) → is_clean journal ≡ clean → IsKept clean (bodies_of (commands_after opening turns)) holds.last image
-          → HoldsNow opening turns image
-      by true is kept = inl (journal_of image (commands_after opening turns) valid accepted kept)
-      by false is kept =
-          let commands = commands_after opening turns in
-          let behind = holds.pending is in
-          elim (staged_either (bodies_of commands) holds.last image kept) [
-            | inl old ↦ inl (journal_of image commands valid accepted old)
-            | inr more ↦ inr (
-              behind.command,
-              behind.pending,
-              journal_of_more image commands behind.command valid behind.valid behind.accepted
-                  (subst (λ body. IsJournal image (bodies_of commands ++ body ∷ [])) behind.spelled more),
-            )
-          ]
-
-  -- what is known of the images since the opening goes on with a turn
-  since_on : (begun old new : D) (opening : Opening) (turns : List Entry) (entry : Entry) (P : List ℕ → Type 0)
-      → g.clock begun ≤ g.clock old → LeavesSince g begun old opening turns → Leaves g old new P
-      → ((image : List ℕ) → P image → HoldsOnce opening (turns ++ entry ∷ []) image)
-      → LeavesSince g begun new opening (turns ++ entry ∷ [])
-  since_on begun old new opening turns entry P later so_far moments holds = record {
-    since = λ (image : List ℕ) (left : g.left_since new (g.clock begun) image).
-        elim (moments.before (g.clock begun) image later left) [
-          | inl earlier ↦ elim (so_far.since image earlier) [
-            | inl before ↦ inl before
-            | inr held ↦ inr (holds_once-push opening turns entry image held)
-          ]
-          | inr now ↦ inr (holds image now)
-        ];
-    synced =
-        let mid = so_far.synced in (
-          mid.0,
-          synced_before g begun mid.0 old new mid.1 moments.later,
-          λ (image : List ℕ) (left : g.left_since new (g.clock mid.0) image).
-              elim (moments.before (g.clock mid.0) image mid.1.passed left) [
-                | inl earlier ↦ holds_once-push opening turns entry image (mid.2 image earlier)
-                | inr now ↦ holds image now
-              ],
-        );
-  }
-
-  since_still : (begun disk : D) (opening : Opening) (turns : List Entry) (entry : Entry) → LeavesSince g begun disk opening turns
-      → LeavesSince g begun disk opening (turns ++ entry ∷ [])
-  since_still begun disk opening turns entry so_far = record {
-    since = λ (image : List ℕ) (left : g.left_since disk (g.clock begun) image). elim (so_far.since image left) [
-      | inl before ↦ inl before
-      | inr held ↦ inr (holds_once-push opening turns entry image held)
-    ];
-    synced = (
-      so_far.synced.0,
-      so_far.synced.1,
-      λ (image : List ℕ) (left : g.left_since disk (g.clock so_far.synced.0) image).
-          holds_once-push opening turns entry image (so_far.synced.2 image left),
-    );
-  }
 
 module _ {D W : Type 0} {g : Ghosts D} {w : WatcherGhosts W} where
   -- the commands after the turns are those that the books keep
@@ -208,6 +114,8 @@ module _ {D W : Type 0} {g : Ghosts D} {w : WatcherGhosts W} where
               (holds honest);
           images_since = λ (honest : g.honest (disk_of old)).
               since_still (begun_of old) (disk_of old) opening turns entry (stands.images_since honest);
+          images_kept = λ (honest : g.honest (disk_of old)).
+              keeps_still g (begun_of old) opening (disk_of old) turns entry none (stands.images_kept honest);
           fault_count = stands.fault_count ∙ sym (faults_after-same opening turns entry quiet);
           alone = λ still. stands.alone (all_before (λ (e : Entry). IsQuietReply e.reply) turns (entry ∷ []) still);
           told = subst (w.told watchers) (sym (accepted-same turns entry none)) (told (accepted_of turns) stands.told);
@@ -237,6 +145,7 @@ module _ {D W : Type 0} {g : Ghosts D} {w : WatcherGhosts W} where
           opened = stands.opened;
           images_now = stands.images_now;
           images_since = stands.images_since;
+          images_kept = stands.images_kept;
           fault_count = stands.fault_count;
           alone = stands.alone;
           told = told (accepted_of turns) stands.told;
@@ -301,6 +210,22 @@ module _ {D W : Type 0} {g : Ghosts D} {w : WatcherGhosts W} where
           (stands.images_since (honesty honest)) (moments honest)
           (λ image held. elim held [ inl now ↦ now_later opening turns entry image now | inr more ↦ holds image more ])
 
+      later_on : g.honest (disk_under journal) → g.clock (begun_of old) ≤ g.clock (disk_under journal)
+      later_on honest = omega (arith, stands.inside.later (honesty honest), (moments honest).later)
+
+      -- an image of the posting holds at least the commands from before
+      least : (image : List ℕ) → HoldsNow opening turns image ⊎ JournalBytes image (commands ++ command ∷ [])
+          → HoldsAtLeast commands image
+      least image (inl now) = least_now opening turns image now
+      least image (inr more) = (command ∷ [], inl more)
+
+      kept_more : (entry : Entry) → g.honest (disk_under journal) → HasKept g (begun_of old) (disk_under journal) opening (turns ++ entry ∷ [])
+          → KeepsAccepted g (begun_of old) (disk_under journal) opening (turns ++ entry ∷ [])
+      kept_more entry honest whole =
+          keeps_more g (begun_of old) opening (disk_of old) (disk_under journal) turns entry
+          (λ image. HoldsNow opening turns image ⊎ JournalBytes image (commands ++ command ∷ [])) (moments honest) least
+          (stands.images_kept (honesty honest)) whole
+
       -- a crash in a posting in which the disk failed
       pub crash_faulted : (count : ℕ) → g.honest (disk_under journal)
           → CrashesIn g (disk_of old) (disk_under journal) opening turns command (DiskFault count)
@@ -334,7 +259,8 @@ module _ {D W : Type 0} {g : Ghosts D} {w : WatcherGhosts W} where
       module _ (books : Books) (counted : records_in journal ≡ length (commands_in books)) (count : ℕ) (value : T)
           (quiet : g.faults (disk_under journal) ≡ g.faults (disk_of old)) (more : commands_in books ≡ commands_of old ++ command ∷ [])
           (few : length (commands_of old) ≡ 4000000 → ⊥) (ok : result ≡ Ok value) (position : count ≡ length (commands_in books))
-          (watchers : W) (told : (heard : List Command) → w.told old.watchers heard → w.told watchers (heard ++ command ∷ [])) where
+          (watchers : W) (told : (heard : List Command) → w.told old.watchers heard → w.told watchers (heard ++ command ∷ []))
+          (only_now : OnlyNow g) where
         pub stands_accepted : (caller : ℕ)
             → StandsFor {w = w} (record { journal = journal; books = books; watchers = watchers; turns = old.turns + 1; pins = old.pins; floor = old.floor; begun = old.begun; recovered = old.recovered; counted = counted })
             (turns ++ posting caller command (Accepted count) ∷ [])
@@ -350,6 +276,10 @@ module _ {D W : Type 0} {g : Ghosts D} {w : WatcherGhosts W} where
               stands = rw (grown, map-append spelling_of commands (command ∷ [])) (done value ok honest).0;
               pending = λ unclean. absurd ((done value ok honest).1 unclean);
             } in
+            let now : g.honest (disk_under journal) → (image : List ℕ) → g.may_leave (disk_under journal) image
+            → HoldsNow opening (turns ++ entry ∷ []) image =
+            λ honest. holds_now journal opening (turns ++ entry ∷ []) (subst (AllByRecursion IsValid) kept books.kept.valid)
+            (subst IsAccepted kept books.kept.accepted) (holds honest) in
             record {
               history = record { legal = legal-push opening turns entry stands.history.legal (due, at); counted = ap length kept };
               kept = kept;
@@ -360,17 +290,17 @@ module _ {D W : Type 0} {g : Ghosts D} {w : WatcherGhosts W} where
               floor = stands.floor ∙ posted_floor turns caller command (Accepted count) refl;
               honesty = λ honest. stands.honesty (honesty honest);
               opened = λ honest. stands.opened (honesty honest);
-              images_now = λ (honest : g.honest (disk_under journal)). holds_now journal opening (turns ++ entry ∷ [])
-                  (subst (AllByRecursion IsValid) kept books.kept.valid) (subst IsAccepted kept books.kept.accepted)
-                  (holds honest);
+              images_now = now;
               images_since = λ (honest : g.honest (disk_under journal)). since_more entry honest
                   (λ image file. holds_all opening (turns ++ entry ∷ []) image (rw grown file));
+              images_kept = λ (honest : g.honest (disk_under journal)). kept_more entry honest
+                  (kept_now g (begun_of old) opening (disk_under journal) (turns ++ entry ∷ []) only_now honest
+                  (later_on honest) (now honest));
               fault_count = quiet ∙ stands.fault_count ∙ sym (faults_after-same opening turns entry refl);
               alone = λ still. absurd (all_in (λ (e : Entry). IsQuietReply e.reply) turns [] entry still);
               told = subst (w.told watchers) (sym (accepted_of-push turns entry)) (told (accepted_of turns) stands.told);
               inside = record {
-                later = λ (honest : g.honest (disk_under journal)).
-                    omega (arith, stands.inside.later (honesty honest), (moments honest).later);
+                later = later_on;
                 opened = rw quiet stands.inside.opened;
                 met = rw (faults-same turns entry refl, quiet) stands.inside.met;
                 journal = holds;
@@ -428,12 +358,15 @@ module _ {D W : Type 0} {g : Ghosts D} {w : WatcherGhosts W} where
                   (holds honest);
               images_since = λ (honest : g.honest (disk_under journal)). since_more entry honest
                   (λ image file. holds_more opening (turns ++ entry ∷ []) command image (pending-now turns caller command count) (rw same file));
+              images_kept = λ (honest : g.honest (disk_under journal)).
+                  keeps_unaccepted g (begun_of old) opening (disk_of old) (disk_under journal) turns entry
+                  (λ image. HoldsNow opening turns image ⊎ JournalBytes image (commands ++ command ∷ []))
+                  (moments honest) least (stands.images_kept (honesty honest)) refl;
               fault_count = sym told ∙ sym (faults_after-more opening turns caller command count);
               alone = λ still. absurd (all_in (λ (e : Entry). IsQuietReply e.reply) turns [] entry still);
               told = subst (w.told old.watchers) (sym (accepted-same turns entry refl)) stands.told;
               inside = record {
-                later = λ (honest : g.honest (disk_under journal)).
-                    omega (arith, stands.inside.later (honesty honest), (moments honest).later);
+                later = later_on;
                 opened = omega (arith, later, stands.inside.opened);
                 met = rw (faults-more turns caller command count)
                     (all-more (λ n. n ≤ g.faults (disk_under journal)) (faults_met turns) count
@@ -452,5 +385,6 @@ module _ {D W : Type 0} {g : Ghosts D} {w : WatcherGhosts W} where
     now = stands.images_now;
     since = λ honest. (stands.images_since honest).since;
     synced = λ honest. (stands.images_since honest).synced;
+    kept = stands.images_kept;
     alone = stands.alone;
   }

@@ -1,5 +1,5 @@
 -- What the images of a disk hold, on which an office was opened
-use Rattle.std.specs.Prelude.{◌≡◌, ◌⊎◌, ℕ, List, [], ◌∷◌, ◌++◌, None}
+use Rattle.std.specs.Prelude.{◌≡◌, ◌⊎◌, ℕ, ◌≤◌, List, [], ◌∷◌, ◌++◌, None}
 use Rattle.std.specs.List.{AllByRecursion, filter_map, last_or}
 use Rattle.std.specs.Option.{unwrap_or}
 use Rattle.outside_io.specs.declared.disks.Disk.{Ghosts}
@@ -64,6 +64,26 @@ abbrev pub HoldsSince : {D : Type 0} → Ghosts D → D → ℕ → Opening → 
 HoldsSince g disk moment opening history =
     (image : List ℕ) → g.left_since disk moment image → HoldsOnce opening history image
 
+-- the image opens to these commands, or to these and more
+abbrev pub HoldsAtLeast : List Command → List ℕ → Type 0
+HoldsAtLeast commands image = (more : List Command) × Opens image (commands ++ more)
+
+-- The disk as it stood after these turns: a crash then left what holds now, and each image that one might have left
+-- since then holds at least the commands after them.
+pub record HasKept {D : Type 0} (g : Ghosts D) (begun new : D) (opening : Opening) (turns : List Entry) : Type 0 where
+  pub stood : D
+  pub honest : g.honest stood
+  pub later : g.clock begun ≤ g.clock stood
+  pub passed : g.clock stood ≤ g.clock new
+  pub images : (image : List ℕ) → g.may_leave stood image → HoldsNow opening turns image
+  pub since : (image : List ℕ) → g.left_since new (g.clock stood) image
+      → HoldsAtLeast (commands_after opening turns) image
+
+-- What was accepted stays: so the disk stood after each beginning of the history.
+abbrev pub KeepsAccepted : {D : Type 0} → Ghosts D → D → D → Opening → List Entry → Type 0
+KeepsAccepted g begun new opening history =
+    (front rest : List Entry) → history ≡ front ++ rest → HasKept g begun new opening front
+
 -- the disk's count of faults after the history: that of the last posting that faulted, else that of the opening
 abbrev pub faults_after : Opening → List Entry → ℕ
 faults_after opening history =
@@ -73,10 +93,10 @@ faults_after opening history =
 abbrev pub OpensAlike : List ℕ → List ℕ → Type 0
 OpensAlike bytes image = (commands : List Command) × Opens bytes commands × Opens image commands
 
--- A disk on which no office ran, or one at which no posting was accepted or met a fault. One that comes back honest was
--- honest before, and then: Since the call a crash leaves what it might have left before, or what opens to the commands
--- to which the file opened. Either the disk was only looked at, or since the end of a sync a crash leaves what was read
--- before the call, or what opens alike. No file but an unfinished creation is written to.
+-- A disk on which no office ran, or one at which no posting was accepted or met a fault. Where it comes back honest, it
+-- was honest before; since the call a crash leaves what it might have left before, or what opens to the commands to
+-- which the file opened; either the disk was only looked at, or since the end of a sync a crash leaves what was read
+-- before the call, or what opens alike; and no file but an unfinished creation is written to.
 pub record IsLeftAlone {D : Type 0} (g : Ghosts D) (old new : D) : Type 0 where
   pub honesty : g.honest new → g.honest old
   pub unwritten : g.honest new → ¬ IsUnfinished (g.reads old) → LooksOn g old new
@@ -96,10 +116,10 @@ IsQuietReply _ = Unit {0}
 abbrev pub AreQuiet : List Entry → Type 0
 AreQuiet history = AllByRecursion (λ (entry : Entry). IsQuietReply entry.reply) history
 
--- The disk on which an office was opened, and what became of it in the history. One that comes back honest was honest
--- before, and then: Its file had opened to the commands of the opening. Since the opening began a crash leaves what it
--- might have left before, or an image of the history; since the end of a sync the second alone. Where no posting was
--- accepted or met a fault, the disk is left alone.
+-- The disk on which an office was opened, and what became of it in the history. Where it comes back honest, it was honest
+-- before, and its file had opened to the commands of the opening; since the opening began a crash leaves what it might
+-- have left before, or an image of the history, and since the end of a sync the second alone; and what was accepted
+-- stays. Where no posting was accepted or met a fault, the disk is left alone.
 pub record IsLeftBy {D : Type 0} (g : Ghosts D) (old new : D) (opening : Opening) (history : List Entry) : Type 0 where
   pub honesty : g.honest new → g.honest old
   pub faults : g.faults new ≡ faults_after opening history
@@ -108,4 +128,5 @@ pub record IsLeftBy {D : Type 0} (g : Ghosts D) (old new : D) (opening : Opening
   pub since : g.honest new → (image : List ℕ) → g.left_since new (g.clock old) image
       → g.may_leave old image ⊎ HoldsOnce opening history image
   pub synced : g.honest new → (mid : D) × IsSynced g old mid new × HoldsSince g new (g.clock mid) opening history
+  pub kept : g.honest new → KeepsAccepted g old new opening history
   pub alone : AreQuiet history → IsLeftAlone g old new

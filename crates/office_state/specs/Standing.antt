@@ -8,7 +8,7 @@ use Rattle.policy_machine.specs.History.{Opening, IsLegal, accepted_of, commands
 use Rattle.posting_journal.specs.Opening.{IsSynced}
 use Rattle.watcher_set.specs.declared.watching.Watching.{Ghosts as WatcherGhosts}
 use Rattle.office_state.specs.declared.state.OfficeState.{OfficeState}
-use Rattle.office_state.specs.Images.{AreQuiet, HoldsNow, HoldsOnce, HoldsSince, IsLeftAlone, faults_after}
+use Rattle.office_state.specs.Images.{AreQuiet, HoldsNow, HoldsOnce, HoldsSince, IsLeftAlone, KeepsAccepted, faults_after}
 use Rattle.office_state.specs.Journals.{Opens}
 use Rattle.office_state.specs.Pins.{pins_held}
 use Rattle.office_state.specs.States.{balances_of, begun_of, commands_of, count_of, disk_of, floor_kept, opening_of, pins_of, policies_of, turns_of}
@@ -44,6 +44,9 @@ pub record StandsFor {D W : Type 0} {g : Ghosts D} {w : WatcherGhosts W} (state 
       → HoldsNow (opening_of state) turns image
   -- what a crash at some moment since the opening began might have left
   pub images_since : g.honest (disk_of state) → LeavesSince g (begun_of state) (disk_of state) (opening_of state) turns
+  -- what was accepted stays
+  pub images_kept : g.honest (disk_of state)
+      → KeepsAccepted g (begun_of state) (disk_of state) (opening_of state) turns
   pub fault_count : g.faults (disk_of state) ≡ faults_after (opening_of state) turns
   -- while no posting was accepted or met a fault, the disk is left as opening it left it
   pub alone : AreQuiet turns → IsLeftAlone g (begun_of state) (disk_of state)

@@ -225,7 +225,7 @@ module _ {T O : Type 0} (opens : T → O) (legal : O → List Entry → Type 0) 
       n = get_or s.words 0 0
 
       abbrev Looked : Type 0
-      Looked = (w : View O) × (a : Act (Option T)) × table.Valid s.homes me.1 a × Rule (stepped s 0 n id me.1 w a) × steps.Looks opens legal stands (step slots 0 0 0 none) me n (w, table.carried_after me.1 a)
+      Looked = (w : View O) × (a : Act (Option T)) × table.Valid s.homes me.1 a × Rule (stepped s 0 n id me.1 w a) × steps.LooksAtTicket opens legal stands (step slots 0 0 0 none) me n (w, table.carried_after me.1 a)
 
       abbrev is_named : IsNamed v.stage
       is_named = subst IsNamed (sym is) tt
@@ -303,7 +303,7 @@ module _ {T O : Type 0} (opens : T → O) (legal : O → List Entry → Type 0) 
       pub looked : Looked
       looked = dite (ℕ_discrete ticket n) (λ e. due e r.slot r.slot_is r.lies) early
 
-    pub looks : ((y : T) (h : List Entry) → stands y h → legal (opens y) h) → (ticket : ℕ) → v.stage ≡ Queued ticket → Allows Rule slots id me 0 (λ n. n) (steps.Looks opens legal stands (step slots 0 0 0 none) me)
+    pub looks : ((y : T) (h : List Entry) → stands y h → legal (opens y) h) → (ticket : ℕ) → v.stage ≡ Queued ticket → Allows Rule slots id me 0 (λ n. n) (steps.LooksAtTicket opens legal stands (step slots 0 0 0 none) me)
     looks law ticket is s r deep at fits = looked law ticket is s r at
 
   -- a hand on, right after the changed value went into the slot in hand

@@ -56,7 +56,7 @@ pub(crate) struct Looks<T> {
 impl<T: Stands> Play<Option<T>, View<T::Opening>> for Looks<T> {
     ghost use Rattle.turn_lock.specs.inside.Steps as steps;
 
-    ghost then = { steps.Looks T.opening T.legal T.stands };
+    ghost then = { steps.LooksAtTicket T.opening T.legal T.stands };
 }
 
 /// A seat sees that the lists of the last join are beginnings of one history.

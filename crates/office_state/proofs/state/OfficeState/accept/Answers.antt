@@ -38,7 +38,7 @@ returns-in-Ok-clause-stands g c = λ (history : List Entry) (caller : ℕ) (stan
     stands_accepted c.args.self.now history stands c.args.command.now c.args.policy c.record.new.journal c.record.result c.requires.valid
     c.requires.accepted c.record.ensures.disk.honesty (rw c.encode.ensures at c.record.ensures.records) c.keep.new.self _ c.count-position.result c.in-Ok.field-0
     c.in-Ok.ensures.disk.quiet c.keep.ensures.commands (λ full. c.if-count-eq-MOST_COMMANDS.false (c.count.ensures ∙ full)) c.in-Ok.is c.count-position.ensures
-    c.note.new.self c.note.ensures.told caller
+    c.note.new.self c.note.ensures.told g.met.D.Disk.only_now caller
 
 pub returns-in-Ok-clause-crash : goal.returns-in-Ok-clause-crash
 returns-in-Ok-clause-crash g c = λ (history : List Entry) (stands : StandsFor c.args.self.now history).

@@ -20,7 +20,7 @@ returns-in-Ok-clause-opened g c =
     c.office_of.ensures.opened
     (λ state made. made_office g.D.Disk c.args.disk c.in-Ok.journal started c.args.watchers c.requires state
     (subst (λ begun. IsOfficeOf c.in-Ok.journal begun c.args.watchers state) c.of-begun.ensures made)
-    g.met.D.Disk.counts_now g.met.D.Disk.reads_as_image)
+    g.met.D.Disk.counts_now g.met.D.Disk.reads_as_image g.met.D.Disk.only_now)
     (λ fault u. u)
 
 pub returns-in-Ok-clause-auditors : goal.returns-in-Ok-clause-auditors

@@ -1,0 +1,152 @@
+"""Tells how far the gate is while it runs, and at its end its processor seconds by part and by crate.
+
+budget.py PID LOG: PID is the shell that runs the gate, LOG the file that its `rt ci` writes. It looks at /proc twice a
+second, and ends by SIGTERM, or when that shell is gone.
+"""
+
+import os
+import re
+import signal
+import sys
+import time
+from collections import defaultdict
+from pathlib import Path
+
+MINUTES_BETWEEN_LINES = 5
+TICKS = os.sysconf("SC_CLK_TCK")
+PARTS = ("proofs", "tests", "seeds", "edits", "compiling")
+
+
+class Process:
+    """A process as /proc shows it: whose child it is, and its ticks with those of the children that it has waited for."""
+
+    def __init__(self, pid):
+        self.pid = pid
+        fields = Path(f"/proc/{pid}/stat").read_text().rpartition(") ")[2].split()
+        self.parent = int(fields[1])
+        self.ticks = sum(int(it) for it in fields[11:15])
+        self.key = pid, fields[19]
+        self.words = Path(f"/proc/{pid}/cmdline").read_text(errors="replace").split("\0")
+        self.is_prover = os.path.basename(self.words[0]) == "rattle"
+
+
+def processes():
+    """All processes that there are, by number."""
+    found = {}
+    for name in os.listdir("/proc"):
+        if name.isdigit():
+            try:
+                found[int(name)] = Process(int(name))
+            except (OSError, IndexError, ValueError):
+                pass  # It has ended meanwhile.
+    return found
+
+
+def crate_and_part(process):
+    """What a prover works at: the crate, and one of PARTS. A seed is the proof of a crate that its edits begin with."""
+    words = process.words
+    after = lambda flag: words[words.index(flag) + 1] if flag in words[:-1] else ""
+    kept = re.search(r"/rt-edits-[^/]*/(\w+)$", after("--incremental"))
+    if kept:
+        part = "seeds" if kept[1] == "seed" else "edits"
+    elif "--crate-checked" in words:
+        part = "compiling"
+    elif "--test" in words:
+        part = "tests"
+    else:
+        try:
+            in_a_copy = "/rt-edit-" in os.readlink(f"/proc/{process.pid}/cwd")
+        except OSError:
+            in_a_copy = False
+        part = "edits" if in_a_copy else "proofs"
+    return after("--crate-name"), part
+
+
+class Budget:
+    def __init__(self, shell, log):
+        self.shell, self.log, self.begun = shell, log, time.time()
+        self.ticks = {}  # Of each prover, and of each command of the shell.
+        self.works = {}  # What each prover works at.
+        self.there = set()  # The processes of the last look.
+        self.commands = {}  # The words of each command of the shell.
+        crates = re.findall(r"^(\w+)[^#\n]*:", Path("crates.txt").read_text(), re.M)
+        self.crates = len(crates)
+        self.edits = len(list(Path("crates").glob("*/must-fail/*.edit")))
+
+    def look(self):
+        """Reads what each prover and each command of the shell has used so far."""
+        there = processes()
+        self.there = {it.key for it in there.values()}
+        below = defaultdict(list)
+        for it in there.values():
+            below[it.parent].append(it)
+
+        def whole(it):
+            return it.ticks + sum(whole(child) for child in below[it.pid])
+
+        def provers(it):
+            for child in below[it.pid]:
+                if not child.is_prover:
+                    provers(child)
+                elif "--crate-name" in child.words:
+                    self.works.setdefault(child.key, crate_and_part(child))
+                    self.ticks[child.key] = max(self.ticks.get(child.key, 0), whole(child))
+
+        for command in below[self.shell]:
+            if command.pid != os.getpid():
+                self.commands[command.key] = command.words
+                self.ticks[command.key] = max(self.ticks.get(command.key, 0), whole(command))
+                provers(command)
+        return self.shell in there
+
+    def progress(self):
+        """A line on how far the gate is."""
+        said = self.log.read_text(errors="replace")
+        proved = len(set(re.findall(r"^rt: (\w+) (?:proved|is kept)", said, re.M)))
+        tested = len(set(re.findall(r"^rt: (\w+): its tests are proved", said, re.M)))
+        failed = sorted(set(re.findall(r"^rt: (\w+).* NOT PROVED", said, re.M)))
+        tried = sum(part == "edits" and key not in self.there for key, (_, part) in self.works.items())
+        line = f"{proved} of {self.crates} crates proved, {tested} crates' tests, {tried} of {self.edits} wrong bodies tried"
+        line += f", NOT PROVED: {', '.join(failed)}" if failed else ""
+        return f"gate: {(time.time() - self.begun) / 60:.0f} minutes: {line}"
+
+    def table(self):
+        """The processor seconds of each crate by part, and of the whole."""
+        of_crates = defaultdict(lambda: defaultdict(float))
+        tries = defaultdict(int)
+        for key, (crate, part) in self.works.items():
+            of_crates[crate][part] += self.ticks[key] / TICKS
+            tries[crate] += part == "edits"
+        lines = ["gate: processor seconds", f"{'':20}" + "".join(f"{it:>10}" for it in (*PARTS, "all", "tried"))]
+        row = lambda name, of, tried: f"{name:20}" + "".join(f"{it:10.0f}" for it in (*(of[part] for part in PARTS), sum(of.values()))) + f"{tried:10}"
+        lines += [row(crate, of_crates[crate], tries[crate]) for crate in sorted(of_crates)]
+        whole = {part: sum(of[part] for of in of_crates.values()) for part in PARTS}
+        lines.append(row("all crates", whole, sum(tries.values())))
+        rest = checks = 0
+        for key, words in self.commands.items():
+            if any(".ci/checks/" in it for it in words):
+                checks += self.ticks[key] / TICKS
+            else:
+                rest += self.ticks[key] / TICKS
+        rest = max(0, rest - sum(whole.values()))
+        total = (sum(whole.values()) + rest + checks) / 60
+        lines.append(f"tests and programs run, and the rest of `rt ci`: {rest:.0f}; this repository's own checks: {checks:.0f}")
+        lines.append(f"gate: {total:.0f} processor minutes in {(time.time() - self.begun) / 60:.0f} minutes")
+        return "\n".join(lines)
+
+
+def main():
+    budget = Budget(int(sys.argv[1]), Path(sys.argv[2]))
+    ended = []
+    signal.signal(signal.SIGTERM, lambda *_: ended.append(True))
+    told = time.time()
+    while not ended and budget.look():
+        if time.time() - told >= 60 * MINUTES_BETWEEN_LINES:
+            told = time.time()
+            print(budget.progress(), flush=True)
+        time.sleep(0.5)
+    print(budget.table(), flush=True)
+
+
+if __name__ == "__main__":
+    main()

@@ -1,0 +1,100 @@
+# What the checks share: where the repository and the program are, a folder to work in, and cases that are begun and
+# judged. Read by `. "$(dirname "$0")/../common.sh"`.
+#
+# LIFE_PROGRAM may name another program than the proved one, to try the checks before there is a proof; it is then run
+# as the launcher runs the proved one.
+check=$(basename "$0" .sh)
+root=$(cd "$(dirname "$0")/../.." && pwd) || exit 2
+work=$(mktemp -d) || exit 2
+trap 'rm -rf "$work"' EXIT
+if [ -n "${LIFE_PROGRAM:-}" ]; then
+    program=$(readlink -f -- "$LIFE_PROGRAM")
+    life=$work/life
+    printf '#!/bin/sh\ntrap "" XFSZ\nexec "%s" "$@"\n' "$program" >"$life"
+    chmod +x "$life"
+else
+    program=$root/crates/life_cli/out/life_cli
+    life=$root/life
+fi
+[ -x "$program" ] || {
+    echo "$check: there is no program $program: rt ci builds it, and sh life prove" >&2
+    exit 1
+}
+export PYTHONDONTWRITEBYTECODE=1
+failed=0
+name=
+examples=$root/examples
+tools=$root/tools
+nothing=$work/nothing
+: >"$nothing"
+# what the two auditors of the program report of a run that accepts nothing
+none_watched=$work/none-watched
+printf 'watcher,1,0,0\nwatcher,2,0,0\n' >"$none_watched"
+# a journal without records
+empty=$work/empty
+printf '\001LIFEJRNL\000\001\000\100\000\000\000\000\000' >"$empty"
+# a policy that is valued a year after its issue; by hand from table Q (docs/VALUATION.md)
+policy=1,issue,7001,2020-01-01,endowment,0,3,1000.00,400.00
+valued=$work/valued
+printf '0,value,2021-01-01,1,1\nrow,7001,inforce,1,127.22,127.23\ntotal,127.22,127.23,0\n' >"$valued"
+
+complain() {
+    echo "$check: $name: $1" >&2
+    failed=1
+}
+
+# a case in a new folder
+begin() {
+    name=$1
+    mkdir "$work/$name" && cd "$work/$name" || exit 2
+}
+
+# a case that goes on in the folder of the one before
+go_on() {
+    name=$1
+}
+
+# a case in a new folder with a basis of table Q without interest
+begin_with_basis() {
+    begin "$1"
+    echo 1900-01-01,q.xml,0 >basis.csv
+    cp "$examples/q.xml" .
+}
+
+# a case in a new folder with the basis of the examples
+begin_with_examples() {
+    begin "$1"
+    cp "$examples/basis.csv" "$examples/q.xml" "$examples/g.xml" .
+}
+
+# the status of a run and what it printed, beside what they must be
+judge() {
+    if [ "$1" != "$2" ] || ! cmp -s "$3" out; then
+        complain "status $1, wanted $2; printed:"
+        cat out >&2
+    fi
+}
+
+leaves() {
+    cmp -s "$1" journal.life || complain "journal.life isn't as it must be"
+}
+
+leaves_none() {
+    [ ! -e journal.life ] || complain "a journal was made"
+}
+
+# words that end so, print this line, and make no journal
+ends_before_the_journal() {
+    wanted_status=$1
+    echo "$2" >wanted
+    shift 2
+    "$life" "$@" </dev/null >out
+    judge $? "$wanted_status" wanted
+    leaves_none
+}
+
+# the last line of a check: what was tried, where all was well
+end() {
+    [ "$failed" = 0 ] && echo "$check: $1"
+    exit "$failed"
+}
