@@ -47,7 +47,7 @@ fn write_and_sync<D: Disk + Send>(disk: &mut D, at: u64, bytes: &[u8]) -> Result
 fn a_real_file_is_a_disk(rt: HostRuntime) -> Result<(), Fail> {
     let name = "outside_io_disk.test";
     let _ = fs::remove_file(&rt, name);
-    let mut disk = FileDisk::at(rt.clone()?, name);
+    let mut disk = FileDisk::at(rt.clone()?, name, AnyFile);
     assert!(rt;
         fs::metadata(&rt, name).is_err(),
         "nothing before the first call"
@@ -57,7 +57,7 @@ fn a_real_file_is_a_disk(rt: HostRuntime) -> Result<(), Fail> {
     let second = write_and_sync(&mut disk, 2, b"FIRST");
     assert!(rt; (empty, first, second) == (Ok(0), Ok(()), Ok(())));
     drop(disk);
-    let mut again = FileDisk::at(rt.clone()?, name);
+    let mut again = FileDisk::at(rt.clone()?, name, AnyFile);
     let mut part = [0; 7];
     let length = again.len();
     let inside = again.read(1, &mut part);
@@ -65,7 +65,7 @@ fn a_real_file_is_a_disk(rt: HostRuntime) -> Result<(), Fail> {
     assert!(rt; (length, inside, beyond) == (Ok(12), Ok(()), Err(Failed)));
     assert!(rt; (part, again.faults()) == (*b" FIRST ", 1));
     // while one holds the file another is refused, and writes nothing
-    let mut other = FileDisk::at(rt.clone()?, name);
+    let mut other = FileDisk::at(rt.clone()?, name, AnyFile);
     let refused = write_and_sync(&mut other, 0, b"over it");
     assert!(rt; (refused, other.faults(), again.len()) == (Err(Failed), 1, Ok(12)));
     drop(again);
@@ -77,7 +77,7 @@ fn a_real_file_is_a_disk(rt: HostRuntime) -> Result<(), Fail> {
 // A write that the device refuses, and a sync that it can't make, are faults.
 #[test]
 fn a_full_device_fails(rt: HostRuntime) -> Result<(), Fail> {
-    let mut full = FileDisk::at(rt.clone()?, "/dev/full");
+    let mut full = FileDisk::at(rt.clone()?, "/dev/full", AnyFile);
     let written = full.write_at(0, b"a line");
     let synced = full.sync();
     assert!(rt; (written, synced, full.faults()) == (Err(Failed), Err(Failed), 2));

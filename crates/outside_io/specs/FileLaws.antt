@@ -1,8 +1,7 @@
 -- Laws of a file's images: what it reads as is one of them, and time only goes on.
-use Rattle.std.specs.Prelude.{◌≡◌, ◌⊎◌, ℕ, ◌≤◌, Bool, true, false, Option, Some, None, List, [], ◌∷◌, length, nat_le, ◌&&◌, refl}
+use Rattle.std.specs.Prelude.{◌≡◌, ℕ, ◌≤◌, Bool, true, false, List, [], ◌∷◌, length, nat_le, ◌&&◌, refl}
 use Rattle.std.proofs.Common.{inl, inr, arith}
 use Rattle.std.proofs.lemmas.Bool.{leb-true}
-use Rattle.outside_io.specs.Disks.{put}
 use Rattle.outside_io.specs.DiskLaws.{torn_put}
 use Rattle.outside_io.specs.FileCalls.{FileCall, Measured, ReadFrom, WrittenTo, Synced, file_reads, writes_within, AreAllowed, FileImage, FileLeft}
 
@@ -18,8 +17,7 @@ module _ (first : List ℕ) (torn : ℕ → List ℕ) (unsynced : List ℕ → T
   reads_as_left (Measured told ∷ earlier) allowed within = reads_as_left earlier (allowed.0) within
   reads_as_left (ReadFrom at many told ∷ earlier) allowed within = reads_as_left earlier (allowed.0) within
   reads_as_left (WrittenTo at bytes true ∷ earlier) allowed within =
-      let tests = both_tests (nat_le at (length (file_reads first torn earlier))) (writes_within first torn earlier) within in
-      (
+      let tests = both_tests (nat_le at (length (file_reads first torn earlier))) (writes_within first torn earlier) within in (
         file_reads first torn earlier,
         reads_as_left earlier (allowed.0) (tests.1),
         torn_put (file_reads first torn earlier) at (length bytes) bytes (leb-true at (length (file_reads first torn earlier)) (tests.0)) (omega arith),
