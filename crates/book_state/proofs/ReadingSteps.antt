@@ -1,5 +1,5 @@
 -- What one more record adds to an account, and what is known once all records were read, or one couldn't be
-use Rattle.std.proofs.Common.{◌≡◌, ◌↔◌, if◌then◌else◌, add-one, length-append, ℕ, ◌+◌, ◌<◌, ◌==◌, Bool, true, false, List, [], ◌∷◌, ◌++◌, length, take, slice_index_or, refl, ap, ap₂, sym, ◌∙◌, subst, inl, inr, Some, Option, Ok, Err, Result, IsOk, append-nil, append_assoc, arith}
+use Rattle.std.proofs.Common.{◌≡◌, if◌then◌else◌, add-one, length-append, ℕ, ◌+◌, ◌<◌, ◌==◌, Bool, true, false, List, [], ◌∷◌, ◌++◌, length, take, slice_index_or, refl, ap, ap₂, sym, ◌∙◌, subst, inl, inr, Some, Option, Ok, Err, Result, IsOk, append-nil, append_assoc, arith}
 use Rattle.std.specs.Prelude.{IfSome}
 use Rattle.std.specs.List.{All, AllByRecursion, enumerate_from, filter}
 use Rattle.std.proofs.Math.Seq.{take-length, take-suc}
@@ -119,42 +119,44 @@ never_stopped before (command ∷ all) (first ∷ commands) valid accepted withi
 module _ {D : Type 0} (g : Ghosts D) (start : Journal D g) where
   -- a record more
   pub read_more : (mid new : Journal D g) (account after : Account) (n : ℕ) (read : AreRead start mid account n) → n < count_of start
-      → StaysAs start mid → IsNext mid new after n read.commands → AreRead start new after (n + 1)
-  read_more mid new account after n read within stays more = record {
+      → StaysAs start mid → (g.honest (disk_of new) → g.honest (disk_of mid)) → IsNext mid new after n read.commands
+      → AreRead start new after (n + 1)
+  read_more mid new account after n read within stays honesty more = record {
     commands = read.commands ++ more.command ∷ [];
     holds = more.holds;
     each = omega (arith, length-append read.commands (more.command ∷ []), read.each);
     quiet = more.quiet ∙ read.quiet;
     front = λ bodies last honest stands.
         let inside : n < length bodies = omega (arith, within, stands.count) in
-        let spelled = more.spelled bodies last (stays.disk.honesty.0 honest) (stays.stands bodies last honest stands) in
+        let spelled = more.spelled bodies last honest (stays.stands bodies last (honesty honest) stands) in
         ap (λ k. take k bodies) (add-one n) ∙ take-suc bodies n [] inside
-        ∙ ap₂ (λ front body. front ++ body ∷ []) (read.front bodies last honest stands) spelled
+        ∙ ap₂ (λ front body. front ++ body ∷ []) (read.front bodies last (honesty honest) stands) spelled
         ∙ sym (map-append spelling_of read.commands (more.command ∷ []));
   }
 
   -- a record that couldn't be read
   pub stopped : (mid new : Journal D g) (account : Account) (n : ℕ) (read : AreRead start mid account n) → n < count_of start
-      → StaysAs start mid → (cause : StartCause) → StopsReading mid new n read.commands cause → HasStoppedReading start (disk_of new) cause
-  stopped mid new account n read within stays (DiskFault count) stuck =
+      → StaysAs start mid → (g.honest (disk_of new) → g.honest (disk_of mid)) → (cause : StartCause)
+      → StopsReading mid new n read.commands cause → HasStoppedReading start (disk_of new) cause
+  stopped mid new account n read within stays honesty (DiskFault count) stuck =
       (stuck.0, subst (λ m. Rose m (g.faults (disk_of new))) read.quiet stuck.1)
-  stopped mid new account n read within stays (BadRecord m) stuck = (
+  stopped mid new account n read within stays honesty (BadRecord m) stuck = (
     stuck.1 ∙ read.quiet,
-    subst (λ k. BodiesHave start (IsReadUpTo k)) (sym stuck.0) (λ bodies last honest stands. record {
+    subst (λ k. BodiesHave start (disk_of new) (IsReadUpTo k)) (sym stuck.0) (λ bodies last honest stands. record {
       commands = read.commands;
       counted = read.each;
       within = omega (arith, within, stands.count);
       valid = read.holds.valid;
-      front = read.front bodies last honest stands;
-      none = stuck.2 bodies last (stays.disk.honesty.0 honest) (stays.stands bodies last honest stands);
+      front = read.front bodies last (honesty honest) stands;
+      none = stuck.2 bodies last honest (stays.stands bodies last (honesty honest) stands);
     }),
   )
-  stopped mid new account n read within stays NoMemory stuck = stuck ∙ read.quiet
-  stopped mid new account n read within stays NotAJournal stuck = absurd stuck
+  stopped mid new account n read within stays honesty NoMemory stuck = stuck ∙ read.quiet
+  stopped mid new account n read within stays honesty NotAJournal stuck = absurd stuck
 
   -- with every record read the bodies are those of the commands
   pub all_read : (new : Journal D g) (account : Account) (read : AreRead start new account (count_of start))
-      → BodiesHave start (λ bodies. bodies ≡ bodies_of read.commands)
+      → BodiesHave start (disk_of new) (λ bodies. bodies ≡ bodies_of read.commands)
   all_read new account read bodies last honest stands =
       sym (take-length bodies) ∙ ap (λ n. take n bodies) (sym stands.count) ∙ read.front bodies last honest stands
 
@@ -178,15 +180,12 @@ valid_in bytes commands (inl journal) = journal.valid
 valid_in bytes commands (inr creation) = subst (AllByRecursion IsValid) (sym creation.0) tt
 
 module _ {D : Type 0} (g : Ghosts D) (old : D) (journal : Journal D g) (started : IsStarted old journal) where
-  looked_both : (new : D) → IsLookedAt g (disk_of journal) new → (g.honest old) ↔ (g.honest new)
-  looked_both new looked = (
-    λ honest. looked.honesty.0 (started.honesty.0 honest),
-    λ honest. started.honesty.1 (looked.honesty.1 honest),
-  )
+  honest_before : (new : D) → IsLookedAt g (disk_of journal) new → g.honest new → g.honest old
+  honest_before new looked honest = started.honesty (looked.honesty honest)
 
-  looked_only : (new : D) → IsLookedAt g (disk_of journal) new → g.honest old → ¬ IsUnfinished (g.reads old) → LooksOn g old new
+  looked_only : (new : D) → IsLookedAt g (disk_of journal) new → g.honest new → ¬ IsUnfinished (g.reads old) → LooksOn g old new
   looked_only new looked honest finished =
-      looks_on g old (disk_of journal) new ((started.opens honest).unwritten finished) (looked.looks (started.honesty.0 honest))
+      looks_on g old (disk_of journal) new ((started.opens (looked.honesty honest)).unwritten finished) (looked.looks honest)
 
   pub has_read : (new : D) (account : Account) (id : ℕ) → IsReadFrom journal new account id → HasRead g old new account id
   has_read new account id read = record {
@@ -194,11 +193,11 @@ module _ {D : Type 0} (g : Ghosts D) (old : D) (journal : Journal D g) (started 
     commands = read.commands;
     holds = read.holds;
     opened = λ honest others opens.
-        let opened = started.opened honest in
-        let same : opened.bodies ≡ bodies_of read.commands = read.bodies opened.bodies [] (started.honesty.0 honest) opened.stands in
+        let opened = started.opened (read.looked.honesty honest) in
+        let same : opened.bodies ≡ bodies_of read.commands = read.bodies opened.bodies [] honest opened.stands in
         let other : opened.bodies ≡ bodies_of others = opens_once (g.reads old) opened.bodies (bodies_of others) opened.opened (to_bodies (g.reads old) others opens) in
         same_commands read.commands others read.holds.valid (valid_in (g.reads old) others opens) (sym same ∙ other);
-    honesty = looked_both new read.looked;
+    honesty = honest_before new read.looked;
     quiet = read.quiet ∙ started.quiet;
     unwritten = looked_only new read.looked;
   }
@@ -209,26 +208,27 @@ module _ {D : Type 0} (g : Ghosts D) (old : D) (journal : Journal D g) (started 
   told new (BadRecord n) stopped = stopped.0 ∙ started.quiet
   told new NoMemory stopped = stopped ∙ started.quiet
 
-  opens_to_none : (new : D) (cause : StartCause) → HasStoppedReading journal new cause → g.honest old → IsOfTheFile cause → OpensToNone (g.reads old)
-  opens_to_none new (DiskFault count) stopped honest of = absurd of
-  opens_to_none new NotAJournal stopped honest of = absurd stopped
-  opens_to_none new NoMemory stopped honest of = absurd of
-  opens_to_none new (BadRecord n) stopped honest of =
-      let opened = started.opened honest in
-      stopped_none (g.reads old) opened.bodies n opened.opened (stopped.1 opened.bodies [] (started.honesty.0 honest) opened.stands)
+  opens_to_none : (new : D) → IsLookedAt g (disk_of journal) new → (cause : StartCause) → HasStoppedReading journal new cause → g.honest new
+      → IsOfTheFile cause → OpensToNone (g.reads old)
+  opens_to_none new looked (DiskFault count) stopped honest of = absurd of
+  opens_to_none new looked NotAJournal stopped honest of = absurd stopped
+  opens_to_none new looked NoMemory stopped honest of = absurd of
+  opens_to_none new looked (BadRecord n) stopped honest of =
+      let opened = started.opened (looked.honesty honest) in
+      stopped_none (g.reads old) opened.bodies n opened.opened (stopped.1 opened.bodies [] honest opened.stands)
 
   pub has_stopped : (new : D) (cause : StartCause) → IsStoppedFrom journal new cause → HasNotRead g old new cause
   has_stopped new cause from = record {
     told = told new cause from.why;
-    shown = opens_to_none new cause from.why;
-    honesty = looked_both new from.looked;
+    shown = opens_to_none new from.looked cause from.why;
+    honesty = honest_before new from.looked;
     unwritten = looked_only new from.looked;
   }
 
 -- a journal that wasn't started
 pub has_not_started : {D : Type 0} (g : Ghosts D) (old new : D) (cause : JournalCause) → TellsCause (g.faults old) (g.faults new) cause
-    → (g.honest old) ↔ (g.honest new) → (g.honest old → ShowsCause (g.reads old) cause)
-    → (g.honest old → ¬ IsUnfinished (g.reads old) → LooksOn g old new) → HasNotRead g old new (as_cause cause)
+    → (g.honest new → g.honest old) → (g.honest new → ShowsCause (g.reads old) cause)
+    → (g.honest new → ¬ IsUnfinished (g.reads old) → LooksOn g old new) → HasNotRead g old new (as_cause cause)
 has_not_started g old new cause told honesty shown unwritten = record {
   told = fault cause told;
   shown = λ honest of. shown_opens_to_none (g.reads old) (as_cause cause) of (shows cause (shown honest));

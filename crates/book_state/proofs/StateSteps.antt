@@ -1,5 +1,5 @@
 -- How `state` ends, by what its parts did
-use Rattle.std.proofs.Common.{◌≡◌, ◌↔◌, ℕ, ◌+◌, ◌<◌, List, [], ◌∷◌, ◌++◌, length, take, get_or, ap, sym, ◌∙◌, subst, inl, Some, Result, Ok, Err, Vec, Global, append-nil}
+use Rattle.std.proofs.Common.{◌≡◌, ℕ, ◌+◌, ◌<◌, List, [], ◌∷◌, ◌++◌, length, take, get_or, ap, sym, ◌∙◌, subst, inl, Some, Result, Ok, Err, Vec, Global, append-nil}
 use Rattle.std.specs.Prelude.{IfOk, slice_get}
 use Rattle.std.specs.List.{flat_map, AllByRecursion}
 use Rattle.std.proofs.Math.Seq.{take-length}
@@ -56,11 +56,11 @@ opened_left {D = D} g begun old disk commands same left =
     subst (λ (d : D). IsLeftBy g d disk (opened_on commands (g.faults d)) []) same left
 
 module _ {D : Type 0} (g : Ghosts D) (old disk : D) (text_of : List Command → List ℕ) (output : Stream) where
-  stated : (commands : List Command) (Wrote : List ℕ → Type 0) → (g.honest old → Opens (g.reads old) commands)
-      → IsLeftBy g old disk (opened_on commands (g.faults old)) [] → Wrote (text_of commands) → IsStated g old disk text_of Wrote
-  stated commands Wrote opened left wrote = record {
+  stated : (commands : List Command) (Wrote : List ℕ → Type 0) → IsLeftBy g old disk (opened_on commands (g.faults old)) []
+      → Wrote (text_of commands) → IsStated g old disk text_of Wrote
+  stated commands Wrote left wrote = record {
     commands = commands;
-    opened = opened;
+    opened = left.opened;
     wrote = wrote;
     balanced = sum_of-ledger commands;
     disk = left;
@@ -68,17 +68,17 @@ module _ {D : Type 0} (g : Ghosts D) (old disk : D) (text_of : List Command → 
 
   -- an office that was opened, whose text was made and written
   pub ends_text : (commands : List Command) (ending : Ending) (text : Result (Vec ℕ Global) Lack)
-      → (g.honest old → Opens (g.reads old) commands) → IsLeftBy g old disk (opened_on commands (g.faults old)) []
+      → IsLeftBy g old disk (opened_on commands (g.faults old)) []
       → IfOk text (λ t. t.items ≡ text_of commands) → EndsText text output ending → EndsState g old disk text_of output ending
-  ends_text commands Done (Ok text) opened left same ends =
-      stated commands (WroteAll output) opened left (subst (WroteAll output) same ends)
-  ends_text commands WriteFault (Ok text) opened left same ends = (
+  ends_text commands Done (Ok text) left same ends =
+      stated commands (WroteAll output) left (subst (WroteAll output) same ends)
+  ends_text commands WriteFault (Ok text) left same ends = (
     ends.0,
-    stated commands (AppendsPart output.before output.after) opened left (subst (AppendsPart output.before output.after) same ends.1),
+    stated commands (AppendsPart output.before output.after) left (subst (AppendsPart output.before output.after) same ends.1),
   )
-  ends_text commands NoMemory (Err lack) opened left same ends = (ends, left.alone tt, left.faults)
-  ends_text commands _ (Ok text) opened left same ends = absurd ends
-  ends_text commands _ (Err lack) opened left same ends = absurd ends
+  ends_text commands NoMemory (Err lack) left same ends = (ends, left.alone tt, left.faults)
+  ends_text commands _ (Ok text) left same ends = absurd ends
+  ends_text commands _ (Err lack) left same ends = absurd ends
 
 -- an account that was read, whose text was made and written
 module _ {D : Type 0} (g : Ghosts D) (old new : D) (id : ℕ) (output : Stream) where
@@ -107,34 +107,32 @@ module _ {D : Type 0} (g : Ghosts D) (old new : D) (id : ℕ) (output : Stream) 
 
 -- a second reading, on the disk that an office left
 module _ {D : Type 0} (g : Ghosts D) (counts_now : CountsNow g) (reads_image : ReadsImage g) (old mid new : D) (id : ℕ) (output : Stream)
-    (commands : List Command) (opened : g.honest old → Opens (g.reads old) commands)
-    (left : IsLeftBy g old mid (opened_on commands (g.faults old)) []) where
-  looks : (g.honest mid → ¬ IsUnfinished (g.reads mid) → LooksOn g mid new) → g.honest mid → LooksOn g mid new
-  looks unwritten honest = unwritten honest (finished_left g old mid commands left reads_image (left.honesty.1 honest))
+    (commands : List Command) (left : IsLeftBy g old mid (opened_on commands (g.faults old)) []) where
+  looks : (g.honest new → g.honest mid) → (g.honest new → ¬ IsUnfinished (g.reads mid) → LooksOn g mid new) → g.honest new → LooksOn g mid new
+  looks honesty unwritten honest = unwritten honest (finished_left g old mid commands left reads_image (honesty honest))
 
-  read_alone : (g.honest mid) ↔ (g.honest new) → (g.honest mid → ¬ IsUnfinished (g.reads mid) → LooksOn g mid new) → IsLeftAlone g old new
+  read_alone : (g.honest new → g.honest mid) → (g.honest new → ¬ IsUnfinished (g.reads mid) → LooksOn g mid new) → IsLeftAlone g old new
   read_alone honesty unwritten =
-      alone_still g counts_now old mid new honesty (looks unwritten) (later_left g old mid commands left) (left.alone tt)
+      alone_still g counts_now old mid new honesty (looks honesty unwritten) (later_left g old mid commands left) (left.alone tt)
 
   -- the file that the office left opens to the same commands
-  opens_still : g.honest old → Opens (g.reads mid) commands
+  opens_still : g.honest mid → Opens (g.reads mid) commands
   opens_still honest = inl (file_left g old mid commands left reads_image honest)
 
   read_stated : (Wrote : List ℕ → Type 0) → IsAccounted g mid new id Wrote → IsStated g old new (policy_account id) Wrote
   read_stated Wrote accounted =
       let read = accounted.read in
-      let same : g.honest old → read.commands ≡ commands =
-      λ honest. read.opened (left.honesty.0 honest) commands (opens_still honest) in
+      let same : g.honest new → read.commands ≡ commands =
+      λ honest. read.opened honest commands (opens_still (read.honesty honest)) in
       stated g old new (policy_account id) output read.commands Wrote
-      (λ honest. subst (Opens (g.reads old)) (sym (same honest)) (opened honest))
       (left_renamed g old new commands
-      (left_still g counts_now old mid new read.honesty (looks read.unwritten) (opened_on commands (g.faults old)) [] left read.quiet)
+      (left_still g counts_now old mid new read.honesty (looks read.honesty read.unwritten) (opened_on commands (g.faults old)) [] left read.quiet)
       read.commands same)
       accounted.wrote
 
-  never_refused : (cause : StartCause) (output : Stream) → SaysWhy cause output → HasNotRead g mid new cause → g.honest old → ⊥
-  never_refused NotAJournal output said not honest = not.shown (left.honesty.0 honest) tt commands (opens_still honest)
-  never_refused (BadRecord n) output said not honest = not.shown (left.honesty.0 honest) tt commands (opens_still honest)
+  never_refused : (cause : StartCause) (output : Stream) → SaysWhy cause output → HasNotRead g mid new cause → g.honest new → ⊥
+  never_refused NotAJournal output said not honest = not.shown honest tt commands (opens_still (not.honesty honest))
+  never_refused (BadRecord n) output said not honest = not.shown honest tt commands (opens_still (not.honesty honest))
   never_refused (FaultyDisk count) output said not honest = said
   never_refused NoRoom output said not honest = said
 

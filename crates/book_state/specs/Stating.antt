@@ -15,7 +15,7 @@ use Rattle.program_endings.specs.Texts.{EndsReadOnly}
 pub record IsStated {D : Type 0} (g : Ghosts D) (old new : D) (text_of : List Command → List ℕ)
     (Wrote : List ℕ → Type 0) : Type 0 where
   pub commands : List Command
-  pub opened : g.honest old → Opens (g.reads old) commands
+  pub opened : g.honest new → Opens (g.reads old) commands
   pub wrote : Wrote (text_of commands)
   pub balanced : sum_of (ledger_of commands) ≡ pos 0
   pub disk : IsLeftBy g old new (opened_on commands (g.faults old)) []

@@ -18,6 +18,7 @@ use Rattle.policy_machine.specs.History.{Opening, IsDue, IsLegalAfter, commands_
 use Rattle.policy_machine.specs.Merge.{Placed, pin_call, turns_of}
 use Rattle.office_state.specs.Images.{AreQuiet, HasFaultedBefore, HoldsNow, HoldsOnce, IsLeftBy, IsOneMore}
 use Rattle.office_state.specs.Journals.{JournalBytes, Opens}
+use Rattle.office_state.proofs.KeptSteps.{keeps_none}
 use Rattle.shared_office.specs.Offices.{IsOfficeHistory, OfficeOpening}
 use Rattle.shared_office.specs.Starting.{HasClosed, HasStartedOffice}
 use Rattle.watcher_set.specs.declared.watching.Watching.{Ghosts as WatcherGhosts}
@@ -103,10 +104,12 @@ module _ {D : Type 0} (g : Ghosts D) (old new : D) (opening : Opening) (history 
   quiet_left : IsLeftBy g old new opening history → IsLeftBy g old new opening []
   quiet_left left = record {
     honesty = left.honesty;
+    opened = left.opened;
     faults = left.faults ∙ ap (λ (ns : List ℕ). unwrap_or (last_or None ns) opening.faults) (none_met opening [] history legal quiet);
     now = λ honest image may. quiet_now image (left.now honest image may);
     since = λ honest image was. elim (left.since honest image was) [ inl before ↦ inl before | inr once ↦ inr (quiet_once image once) ];
     synced = λ honest. let mid = left.synced honest in (mid.0, mid.1, λ image was. quiet_once image (mid.2 image was));
+    kept = λ honest. keeps_none g old opening new history (left.kept honest);
     alone = λ none. left.alone (all_quiet opening [] history legal quiet);
   }
 
@@ -194,6 +197,6 @@ module _ {D W : Type 0} (g : Ghosts D) (w : WatcherGhosts W) (old disk : D) (wat
   -- and `value` ends by it
   pub ends_lone : (output : Stream) (ending : Ending) → EndsAnswer on answer output ending → EndsValuing g old disk on at basis output ending
   ends_lone output ending ends =
-      ends_valued g old disk on at basis output started.opening.commands ending started.opened left
+      ends_valued g old disk on at basis output started.opening.commands ending left
       (subst (λ (cs : List Command). EndsValued cs on at basis output ending) (append-nil started.opening.commands)
       (lone_ends started.opening valued.pin.1.caller on basis output at valued.pin.1.reply answer ending due answered ends))

@@ -1,7 +1,7 @@
 -- What the exit status tells of a valuation
-use Rattle.std.proofs.Common.{◌≡◌, ℕ, ◌≤◌, ◌<◌, ◌⊎◌, ℤ, List, length, refl, ap, subst, inl, inr, Option, Some, arith}
-use Rattle.std.specs.Prelude.{IfSome}
+use Rattle.std.proofs.Common.{◌≡◌, ℕ, ◌≤◌, ◌<◌, ◌⊎◌, ℤ, List, length, refl, ap, subst, inl, inr, arith}
 use Rattle.outside_io.specs.Faults.{Rose}
+use Rattle.outside_io.specs.Shelves.{Files}
 use Rattle.outside_io.specs.Streams.{AppendsPart}
 use Rattle.outside_io.specs.declared.disks.Disk.{Ghosts}
 use Rattle.policy_types.specs.declared.command.Command.{Command}
@@ -21,16 +21,16 @@ use Rattle.program_endings.specs.WithoutBasis.{EndsNoBasis, SaysBadFile}
 use Rattle.program_endings.specs.Writing.{Shelving, Stream, WroteAll}
 use Rattle.program_endings.proofs.BasisSteps.{bad_refused, basis_refused}
 use Rattle.program_endings.proofs.ReadOnlySteps.{opens_to_none, read_as_before, read_refused, read_to_end}
-use Rattle.book_value.specs.Valuing.{EndsByBasis, EndsValue, EndsValuing, IsAhead, IsValued, position_of}
+use Rattle.book_value.specs.Valuing.{EndsValue, EndsValuing, IsAhead, IsValued, position_of}
 
 module _ {D : Type 0} (g : Ghosts D) (old new : D) (on : ℤ) (at : At) (output : Stream) where
   -- nothing is valued of a file that opens to no commands
-  never_valued : (basis : List Dated) → g.honest old → OpensToNone (g.reads old)
+  never_valued : (basis : List Dated) → g.honest new → OpensToNone (g.reads old)
       → (Wrote : List ℕ → Type 0) → IsValued g old new on at basis Wrote → ⊥
   never_valued basis honest none Wrote valued = none valued.commands (valued.opened honest)
 
   -- nor where fewer commands than are asked for are there
-  never_beyond : (basis : List Dated) (commands : List Command) → g.honest old → Opens (g.reads old) commands
+  never_beyond : (basis : List Dated) (commands : List Command) → g.honest new → Opens (g.reads old) commands
       → length commands < position_of at (length commands) → (Wrote : List ℕ → Type 0) → IsValued g old new on at basis Wrote → ⊥
   never_beyond basis commands honest opens past Wrote valued =
       let same : commands ≡ valued.commands = opens_to_one (g.reads old) commands valued.commands opens (valued.opened honest) in
@@ -39,14 +39,14 @@ module _ {D : Type 0} (g : Ghosts D) (old new : D) (on : ℤ) (at : At) (output 
       omega (arith, past_too, valued.valuation.reached)
 
   valuing_as_before : (basis : List Dated) (ending : Ending) → EndsValuing g old new on at basis output ending
-      → g.honest old → OpensToNone (g.reads old) → g.reads new ≡ g.reads old
+      → g.honest new → OpensToNone (g.reads old) → g.reads new ≡ g.reads old
   valuing_as_before basis ending ends honest none = elim ends [
     | inl read ↦ read_as_before g old new (IsValued g old new on at basis) output ending read (never_valued basis honest none) honest none
     | inr ahead ↦ absurd (none ahead.1.commands (ahead.1.opened honest))
   ]
 
   valuing_refused : (basis : List Dated) (ending : Ending) → EndsValuing g old new on at basis output ending
-      → g.honest old → OpensToNone (g.reads old) → (Rose (g.faults old) (g.faults new) → ⊥)
+      → g.honest new → OpensToNone (g.reads old) → (Rose (g.faults old) (g.faults new) → ⊥)
       → (status_of ending ≡ 5) ⊎ (status_of ending ≡ 9)
   valuing_refused basis ending ends honest none disk_held = elim ends [
     | inl read ↦ read_refused g old new (IsValued g old new on at basis) output ending read (never_valued basis honest none) disk_held
@@ -54,7 +54,7 @@ module _ {D : Type 0} (g : Ghosts D) (old new : D) (on : ℤ) (at : At) (output 
   ]
 
   valuing_to_end : (basis : List Dated) (ending : Ending) (commands : List Command) → EndsValuing g old new on at basis output ending
-      → g.honest old → Opens (g.reads old) commands → position_of at (length commands) ≤ length commands
+      → g.honest new → Opens (g.reads old) commands → position_of at (length commands) ≤ length commands
       → (Rose output.faults_before output.faults_after → ⊥) → (Rose (g.faults old) (g.faults new) → ⊥)
       → (status_of ending ≡ 0) ⊎ (status_of ending ≡ 9)
   valuing_to_end basis ending commands ends honest opens reached output_held disk_held = elim ends [
@@ -67,7 +67,7 @@ module _ {D : Type 0} (g : Ghosts D) (old new : D) (on : ℤ) (at : At) (output 
   ]
 
   read_beyond : (basis : List Dated) (ending : Ending) (commands : List Command) → EndsReadOnly g old new (IsValued g old new on at basis) output ending
-      → g.honest old → Opens (g.reads old) commands → length commands < position_of at (length commands)
+      → g.honest new → Opens (g.reads old) commands → length commands < position_of at (length commands)
       → (Rose (g.faults old) (g.faults new) → ⊥) → status_of ending ≡ 9
   read_beyond basis NoMemory commands read honest opens past disk_held = refl
   read_beyond basis Done commands read honest opens past disk_held = absurd (never_beyond basis commands honest opens past (WroteAll output) read)
@@ -78,7 +78,7 @@ module _ {D : Type 0} (g : Ghosts D) (old new : D) (on : ℤ) (at : At) (output 
   read_beyond basis _ commands read honest opens past disk_held = absurd read
 
   valuing_beyond : (basis : List Dated) (ending : Ending) (commands : List Command) → EndsValuing g old new on at basis output ending
-      → g.honest old → Opens (g.reads old) commands → length commands < position_of at (length commands)
+      → g.honest new → Opens (g.reads old) commands → length commands < position_of at (length commands)
       → (Rose (g.faults old) (g.faults new) → ⊥) → (status_of ending ≡ 10) ⊎ (status_of ending ≡ 9)
   valuing_beyond basis ending commands ends honest opens past disk_held = elim ends [
     | inl read ↦ inr (read_beyond basis ending commands read honest opens past disk_held)
@@ -87,7 +87,7 @@ module _ {D : Type 0} (g : Ghosts D) (old new : D) (on : ℤ) (at : At) (output 
 
   module _ (name : List ℕ) (shelf : Shelving) where
     pub value_as_before : (ending : Ending) → EndsValue g old new on at name shelf output ending
-        → g.honest old → OpensToNone (g.reads old) → g.reads new ≡ g.reads old
+        → g.honest new → OpensToNone (g.reads old) → g.reads new ≡ g.reads old
     value_as_before ending ends honest none = elim ends [
       | inl by ↦ valuing_as_before by.basis ending by.ends honest none
       | inr no_basis ↦ ap g.reads no_basis.0
@@ -121,26 +121,22 @@ module _ {D : Type 0} (g : Ghosts D) (old new : D) (on : ℤ) (at : At) (output 
       | inr none ↦ absurd none.1
     ]
 
-    module _ (files : List ℕ → Option (List ℕ)) (told : shelf.files ≡ Some files) where
-      has_basis : (ending : Ending) (by : EndsByBasis g old new on at name shelf output ending) → IsBasis files name by.basis
-      has_basis ending by =
-          subst (λ (t : Option (List ℕ → Option (List ℕ))). IfSome t (λ fs. IsBasis fs name by.basis)) told by.is
-
+    module _ (files : Files) (agrees : shelf.Agrees files) where
       pub value_unfit : (ending : Ending) (bad : ABadBasis) → EndsValue g old new on at name shelf output ending
           → IsFirstBadFile files name bad → (Rose shelf.faults_before shelf.faults_after → ⊥)
           → SaysBadFile bad output (status_of ending) ⊎ (status_of ending ≡ 9)
       value_unfit ending bad ends first shelf_held = elim ends [
-        | inl by ↦ absurd (basis_or_bad files name by.basis bad (has_basis ending by) first)
-        | inr none ↦ bad_refused output name shelf files told shelf_held ending bad first none.1
+        | inl by ↦ absurd (basis_or_bad files name by.basis bad (by.is files agrees) first)
+        | inr none ↦ bad_refused output name shelf files agrees shelf_held ending bad first none.1
       ]
 
       module _ (basis : List Dated) (is : IsBasis files name basis) (shelf_held : Rose shelf.faults_before shelf.faults_after → ⊥)
-          (honest : g.honest old) (disk_held : Rose (g.faults old) (g.faults new) → ⊥) where
+          (honest : g.honest new) (disk_held : Rose (g.faults old) (g.faults new) → ⊥) where
         pub value_refused : (ending : Ending) → EndsValue g old new on at name shelf output ending → OpensToNone (g.reads old)
             → (status_of ending ≡ 5) ⊎ (status_of ending ≡ 9)
         value_refused ending ends none = elim ends [
           | inl by ↦ valuing_refused by.basis ending by.ends honest none disk_held
-          | inr without ↦ inr (basis_refused output name shelf files told shelf_held ending basis is without.1)
+          | inr without ↦ inr (basis_refused output name shelf files agrees shelf_held ending basis is without.1)
         ]
 
         pub value_to_end : (ending : Ending) (commands : List Command) → EndsValue g old new on at name shelf output ending
@@ -148,7 +144,7 @@ module _ {D : Type 0} (g : Ghosts D) (old new : D) (on : ℤ) (at : At) (output 
             → (Rose output.faults_before output.faults_after → ⊥) → (status_of ending ≡ 0) ⊎ (status_of ending ≡ 9)
         value_to_end ending commands ends opens reached output_held = elim ends [
           | inl by ↦ valuing_to_end by.basis ending commands by.ends honest opens reached output_held disk_held
-          | inr without ↦ inr (basis_refused output name shelf files told shelf_held ending basis is without.1)
+          | inr without ↦ inr (basis_refused output name shelf files agrees shelf_held ending basis is without.1)
         ]
 
         pub value_beyond : (ending : Ending) (commands : List Command) → EndsValue g old new on at name shelf output ending
@@ -156,5 +152,5 @@ module _ {D : Type 0} (g : Ghosts D) (old new : D) (on : ℤ) (at : At) (output 
             → (status_of ending ≡ 10) ⊎ (status_of ending ≡ 9)
         value_beyond ending commands ends opens past = elim ends [
           | inl by ↦ valuing_beyond by.basis ending commands by.ends honest opens past disk_held
-          | inr without ↦ inr (basis_refused output name shelf files told shelf_held ending basis is without.1)
+          | inr without ↦ inr (basis_refused output name shelf files agrees shelf_held ending basis is without.1)
         ]

@@ -16,7 +16,6 @@ use Rattle.policy_machine.specs.History.{Opening, IsDue, commands_after, opened_
 use Rattle.policy_machine.specs.Merge.{pin_call}
 use Rattle.report_text.specs.Block.{block_text}
 use Rattle.office_state.specs.Images.{IsLeftBy}
-use Rattle.office_state.specs.Journals.{Opens}
 use Rattle.snapshot_value.specs.Valuing.{AnswersPin, IsValuedRow, IsSnapshot}
 use Rattle.snapshot_value.specs.declared.valuation.Valuation.{Valuation}
 use Rattle.snapshot_value.specs.declared.valuation.ValueFault.{ValueFault}
@@ -30,17 +29,16 @@ use Rattle.book_value.specs.inside.Valued.{EndsAnswer, EndsValued, IsLoneAnswer,
 
 -- an office was opened, and its values were written
 pub ends_valued : {D : Type 0} (g : Ghosts D) (old disk : D) (on : ℤ) (at : At) (basis : List Dated) (output : Stream)
-    (commands : List Command) (ending : Ending) → (g.honest old → Opens (g.reads old) commands)
-    → IsLeftBy g old disk (opened_on commands (g.faults old)) []
+    (commands : List Command) (ending : Ending) → IsLeftBy g old disk (opened_on commands (g.faults old)) []
     → EndsValued commands on at basis output ending → EndsValuing g old disk on at basis output ending
-ends_valued g old disk on at basis output commands Done opened left ends =
-    inl (record { commands = commands; opened = opened; valuation = ends; disk = left })
-ends_valued g old disk on at basis output commands WriteFault opened left ends =
-    inl (ends.0, record { commands = commands; opened = opened; valuation = ends.1; disk = left })
-ends_valued g old disk on at basis output commands Ahead opened left ends =
-    inr (refl, record { commands = commands; opened = opened; beyond = ends; disk = left })
-ends_valued g old disk on at basis output commands NoMemory opened left ends = inl (ends, left.alone tt, left.faults)
-ends_valued g old disk on at basis output commands _ opened left ends = absurd ends
+ends_valued g old disk on at basis output commands Done left ends =
+    inl (record { commands = commands; opened = left.opened; valuation = ends; disk = left })
+ends_valued g old disk on at basis output commands WriteFault left ends =
+    inl (ends.0, record { commands = commands; opened = left.opened; valuation = ends.1; disk = left })
+ends_valued g old disk on at basis output commands Ahead left ends =
+    inr (refl, record { commands = commands; opened = left.opened; beyond = ends; disk = left })
+ends_valued g old disk on at basis output commands NoMemory left ends = inl (ends, left.alone tt, left.faults)
+ends_valued g old disk on at basis output commands _ left ends = absurd ends
 
 -- The answer of an office at which nobody turned before.
 module _ (opening : Opening) (caller : ℕ) (on : ℤ) (basis : List Dated) where

@@ -1,6 +1,7 @@
 -- How `value` ends: what was written of the policies at a position of the disk's file, by the basis on the shelf
-use Rattle.std.specs.Prelude.{◌≡◌, ℕ, ◌<◌, ◌≤◌, ◌⊎◌, ℤ, List, [], ◌++◌, length, take, codes, decimal, IfSome}
+use Rattle.std.specs.Prelude.{◌≡◌, ℕ, ◌<◌, ◌≤◌, ◌⊎◌, ℤ, List, [], ◌++◌, length, take, codes, decimal}
 use Rattle.std.specs.List.{AllZip}
+use Rattle.outside_io.specs.Shelves.{Files}
 use Rattle.outside_io.specs.declared.disks.Disk.{Ghosts}
 use Rattle.policy_types.specs.declared.command.Command.{Command}
 use Rattle.policy_types.specs.declared.entry.At.{At}
@@ -38,7 +39,7 @@ pub record IsValuation (commands : List Command) (on : ℤ) (at : At) (basis : L
 pub record IsValued {D : Type 0} (g : Ghosts D) (old new : D) (on : ℤ) (at : At) (basis : List Dated)
     (Wrote : List ℕ → Type 0) : Type 0 where
   pub commands : List Command
-  pub opened : g.honest old → Opens (g.reads old) commands
+  pub opened : g.honest new → Opens (g.reads old) commands
   pub valuation : IsValuation commands on at basis Wrote
   pub disk : IsLeftBy g old new (opened_on commands (g.faults old)) []
 
@@ -50,7 +51,7 @@ pub record IsBeyond (commands : List Command) (at : At) (output : Stream) : Type
 -- so it is with the disk's file, and the disk holds its commands still
 pub record IsAhead {D : Type 0} (g : Ghosts D) (old new : D) (at : At) (output : Stream) : Type 0 where
   pub commands : List Command
-  pub opened : g.honest old → Opens (g.reads old) commands
+  pub opened : g.honest new → Opens (g.reads old) commands
   pub beyond : IsBeyond commands at output
   pub disk : IsLeftBy g old new (opened_on commands (g.faults old)) []
 
@@ -64,7 +65,7 @@ EndsValuing g old new on at basis output ending =
 pub record EndsByBasis {D : Type 0} (g : Ghosts D) (old new : D) (on : ℤ) (at : At) (name : List ℕ) (shelf : Shelving)
     (output : Stream) (ending : Ending) : Type 0 where
   pub basis : List Dated
-  pub is : IfSome shelf.files (λ files. IsBasis files name basis)
+  pub is : (files : Files) → shelf.Agrees files → IsBasis files name basis
   pub ends : EndsValuing g old new on at basis output ending
 
 -- how `value` ends; without a basis the disk isn't touched

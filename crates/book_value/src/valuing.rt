@@ -41,7 +41,7 @@ pub fn value<R: Wait, K: Sink, H: Shelf, D: Disk, G: Gate>(
     requires day { IsDay on }
     requires workers { (1 ≤ workers) × (workers ≤ 64) }
     ensures ends { EndsValue D.Disk disk result.disk on at basis.now
-        (shelf_between H.faults H.files shelf.old shelf.new)
+        (shelf_between H.faults H.agrees shelf.old shelf.new)
         (between K.faults K.written output.old output.new) result.ending }
     ensures files { H.files shelf.new ≡ H.files shelf.old }
 {

@@ -3,6 +3,8 @@ use Rattle.std.proofs.Common.{◌≡◌, ℕ, ◌≤◌, ◌<◌, ◌⊎◌, ℤ
 use Rattle.std.specs.Prelude.{true}
 use Rattle.outside_io.specs.declared.disks.Disk.{Ghosts}
 use Rattle.outside_io.specs.Faults.{Rose}
+use Rattle.outside_io.specs.Shelves.{Files}
+use Rattle.outside_io.specs.Streams.{GivesMore}
 use Rattle.policy_types.specs.declared.command.Command.{Command}
 use Rattle.policy_types.specs.declared.entry.At.{At}
 use Rattle.policy_types.specs.declared.entry.At.TheVariants.{Now, Position}
@@ -22,11 +24,11 @@ use Rattle.program_endings.specs.declared.ending.Ending.{Ending}
 use Rattle.program_endings.specs.declared.ending.Ending.TheVariants.{Usage, BadBasis, NoMemory, Ahead}
 use Rattle.program_endings.specs.Status.{status_of}
 use Rattle.program_endings.specs.WithoutBasis.{SaysBadFile}
-use Rattle.program_endings.specs.Writing.{Shelving, Stream}
+use Rattle.program_endings.specs.Writing.{Input, IsWholeInput, Shelving, Stream}
 use Rattle.program_endings.proofs.StatusSteps.{ending_at}
 use Rattle.script_run.specs.Running.{EndsRun, HasItsBasis}
 use Rattle.script_run.specs.Script.{IsUnreadable, asks_for_values}
-use Rattle.script_run.proofs.RunStatus.{run_ahead, run_as_before, run_bad_file, run_refused, run_to_end, run_unfit, run_unreadable, run_usage}
+use Rattle.script_run.proofs.RunStatus.{run_ahead, run_as_before, run_bad_file, run_refused, run_to_end, run_too_long, run_unfit, run_unreadable, run_usage}
 use Rattle.book_state.specs.Books.{books_text, policy_account}
 use Rattle.book_state.proofs.StateStatus.{state_as_before, state_refused, state_to_end}
 use Rattle.book_value.specs.Valuing.{EndsValue, IsAhead, position_of}
@@ -37,7 +39,7 @@ use Rattle.life_app.specs.Obeys.{Does, EndsMode, SaysUnasked}
 use Rattle.life_app.specs.Words.{AskForGenerate, AskForLoad, AskForRun, AskForState, AskForValue}
 
 module _ {D : Type 0} (g : Ghosts D) (old new : D) (auditors : List Auditor) where
-  module _ (words : List (String Global)) (input output : Stream) (shelf : Shelving) (InputStays ShelfStays : Type 0) where
+  module _ (words : List (String Global)) (input : Input) (output : Stream) (shelf : Shelving) (InputStays ShelfStays : Type 0) where
     unasked : (ending : Ending) → SaysUnasked words output ending → (mode : Mode) → AskFor words mode → status_of ending ≡ 9
     unasked Usage says mode asked = absurd (says.0 mode asked)
     unasked NoMemory says mode asked = refl
@@ -85,7 +87,7 @@ module _ {D : Type 0} (g : Ghosts D) (old new : D) (auditors : List Auditor) whe
 
     -- 4 comes of a bad file of the basis
     mode_bad_file : (mode : Mode) → AskFor words mode → EndsMode g old new mode auditors input output shelf InputStays ShelfStays BadBasis
-        → HasBadFile words input.before shelf.files output
+        → HasBadFile words input shelf output
     mode_bad_file (Run name) asked ends =
         let bad = run_bad_file g old new auditors name input output shelf ShelfStays ends in
         (name, (bad.1.0, inr (inl (asked, bad.0)), bad.1.1, bad.1.2))
@@ -99,7 +101,7 @@ module _ {D : Type 0} (g : Ghosts D) (old new : D) (auditors : List Auditor) whe
         let bad = load_bad_file g old new seed count lanes workers shelf output ends.1 in
         (codes "basis.csv", (bad.0, inr (inr ((seed, (count, (lanes, (workers, asked)))), refl)), bad.1, bad.2))
 
-    bad_file_only : Does g old new words auditors input output shelf InputStays ShelfStays BadBasis → HasBadFile words input.before shelf.files output
+    bad_file_only : Does g old new words auditors input output shelf InputStays ShelfStays BadBasis → HasBadFile words input shelf output
     bad_file_only does = elim does [
       | inl (mode, asked, ends) ↦ mode_bad_file mode asked ends
       | inr none ↦ absurd none.says
@@ -107,13 +109,13 @@ module _ {D : Type 0} (g : Ghosts D) (old new : D) (auditors : List Auditor) whe
 
     -- 10 comes of a position above the count
     ahead_only : (on : ℤ) (at : At) (name : List ℕ) → AskForValue words on at name → IsAhead g old new at output
-        → IsPastTheEnd g old words
+        → IsPastTheEnd g old new words
     ahead_only on Now name asked ahead = absurd (omega (arith, ahead.beyond.ahead))
     ahead_only on (Position p) name asked ahead =
         (on, (p, (name, asked, λ honest. (ahead.commands, ahead.opened honest, ahead.beyond.ahead))))
 
     mode_ahead : (mode : Mode) → AskFor words mode → EndsMode g old new mode auditors input output shelf InputStays ShelfStays Ahead
-        → IsPastTheEnd g old words
+        → IsPastTheEnd g old new words
     mode_ahead (Run name) asked ends = absurd (run_ahead g old new auditors name input output shelf ShelfStays ends)
     mode_ahead (Value on at workers name) asked ends = ahead_only on at name (workers, asked) (value_ahead g old new on at output name shelf ends.1)
     mode_ahead (State None) asked ends = absurd ends.2
@@ -121,7 +123,7 @@ module _ {D : Type 0} (g : Ghosts D) (old new : D) (auditors : List Auditor) whe
     mode_ahead (Generate seed count lanes) asked ends = absurd ends.3
     mode_ahead (Load seed count lanes workers) asked ends = absurd (load_ahead g old new seed count lanes workers shelf output ends.1)
 
-    past_the_end_only : Does g old new words auditors input output shelf InputStays ShelfStays Ahead → IsPastTheEnd g old words
+    past_the_end_only : Does g old new words auditors input output shelf InputStays ShelfStays Ahead → IsPastTheEnd g old new words
     past_the_end_only does = elim does [
       | inl (mode, asked, ends) ↦ mode_ahead mode asked ends
       | inr none ↦ absurd none.says
@@ -129,7 +131,7 @@ module _ {D : Type 0} (g : Ghosts D) (old new : D) (auditors : List Auditor) whe
 
     -- how a mode leaves a file that opens to none
     mode_as_before : (mode : Mode) (ending : Ending) → EndsMode g old new mode auditors input output shelf InputStays ShelfStays ending
-        → g.honest old → OpensToNone (g.reads old) → g.reads new ≡ g.reads old
+        → g.honest new → OpensToNone (g.reads old) → g.reads new ≡ g.reads old
     mode_as_before (Run name) ending ends honest none = run_as_before g old new auditors name input output shelf ShelfStays ending ends honest none
     mode_as_before (Value on at workers name) ending ends honest none =
         value_as_before g old new on at output name shelf ending ends.1 honest none
@@ -149,22 +151,22 @@ module _ {D : Type 0} (g : Ghosts D) (old new : D) (auditors : List Auditor) whe
       by_usage : ending ≡ Usage → AskForNothing words
       by_usage is = usage_only (subst (Does g old new words auditors input output shelf InputStays ShelfStays) is does)
 
-      by_bad_file : ending ≡ BadBasis → HasBadFile words input.before shelf.files output
+      by_bad_file : ending ≡ BadBasis → HasBadFile words input shelf output
       by_bad_file is = bad_file_only (subst (Does g old new words auditors input output shelf InputStays ShelfStays) is does)
 
-      by_ahead : ending ≡ Ahead → IsPastTheEnd g old words
+      by_ahead : ending ≡ Ahead → IsPastTheEnd g old new words
       by_ahead is = past_the_end_only (subst (Does g old new words auditors input output shelf InputStays ShelfStays) is does)
 
       pub usage : status_of ending ≡ 2 → AskForNothing words
       usage status = by_usage (ending_at 2 Usage ending refl status)
 
-      pub bad_file : status_of ending ≡ 4 → HasBadFile words input.before shelf.files output
+      pub bad_file : status_of ending ≡ 4 → HasBadFile words input shelf output
       bad_file status = by_bad_file (ending_at 4 BadBasis ending refl status)
 
-      pub past_the_end : status_of ending ≡ 10 → IsPastTheEnd g old words
+      pub past_the_end : status_of ending ≡ 10 → IsPastTheEnd g old new words
       past_the_end status = by_ahead (ending_at 10 Ahead ending refl status)
 
-      pub unopened : g.honest old → OpensToNone (g.reads old) → g.reads new ≡ g.reads old
+      pub unopened : g.honest new → OpensToNone (g.reads old) → g.reads new ≡ g.reads old
       unopened honest none = elim does [
         | inl (mode, asked, ends) ↦ mode_as_before mode ending ends honest none
         | inr unasked ↦ ap g.reads unasked.disk
@@ -178,17 +180,17 @@ module _ {D : Type 0} (g : Ghosts D) (old new : D) (auditors : List Auditor) whe
         | inr none ↦ inr none
       ]
 
-      pub unfit : (on : ℤ) (at : At) (name : List ℕ) (bad : ABadBasis) (files : List ℕ → Option (List ℕ)) → AskForValue words on at name
-          → shelf.files ≡ Some files → IsFirstBadFile files name bad → (Rose shelf.faults_before shelf.faults_after → ⊥)
+      pub unfit : (on : ℤ) (at : At) (name : List ℕ) (bad : ABadBasis) (files : Files) → AskForValue words on at name
+          → shelf.Agrees files → IsFirstBadFile files name bad → (Rose shelf.faults_before shelf.faults_after → ⊥)
           → SaysBadFile bad output (status_of ending) ⊎ (status_of ending ≡ 9)
       unfit on at name bad files asked told first shelf_held = elim (valued_so on at name asked) [
         | inl ends ↦ value_unfit g old new on at output name shelf files told ending bad ends first shelf_held
         | inr none ↦ inr none
       ]
 
-      pub valued : (on : ℤ) (at : At) (name : List ℕ) (files : List ℕ → Option (List ℕ)) (basis : List Dated) (commands : List Command)
-          → AskForValue words on at name → shelf.files ≡ Some files → IsBasis files name basis
-          → g.honest old → Opens (g.reads old) commands → position_of at (length commands) ≤ length commands
+      pub valued : (on : ℤ) (at : At) (name : List ℕ) (files : Files) (basis : List Dated) (commands : List Command)
+          → AskForValue words on at name → shelf.Agrees files → IsBasis files name basis
+          → g.honest new → Opens (g.reads old) commands → position_of at (length commands) ≤ length commands
           → (Rose shelf.faults_before shelf.faults_after → ⊥) → (Rose output.faults_before output.faults_after → ⊥)
           → (Rose (g.faults old) (g.faults new) → ⊥) → (status_of ending ≡ 0) ⊎ (status_of ending ≡ 9)
       valued on at name files basis commands asked told is honest opens reached shelf_held output_held disk_held =
@@ -198,9 +200,9 @@ module _ {D : Type 0} (g : Ghosts D) (old new : D) (auditors : List Auditor) whe
             | inr none ↦ inr none
           ]
 
-      pub ahead : (on : ℤ) (p : ℕ) (name : List ℕ) (files : List ℕ → Option (List ℕ)) (basis : List Dated) (commands : List Command)
-          → AskForValue words on (Position p) name → shelf.files ≡ Some files → IsBasis files name basis
-          → g.honest old → Opens (g.reads old) commands → length commands < p
+      pub ahead : (on : ℤ) (p : ℕ) (name : List ℕ) (files : Files) (basis : List Dated) (commands : List Command)
+          → AskForValue words on (Position p) name → shelf.Agrees files → IsBasis files name basis
+          → g.honest new → Opens (g.reads old) commands → length commands < p
           → (Rose shelf.faults_before shelf.faults_after → ⊥) → (Rose (g.faults old) (g.faults new) → ⊥)
           → (status_of ending ≡ 10) ⊎ (status_of ending ≡ 9)
       ahead on p name files basis commands asked told is honest opens past shelf_held disk_held =
@@ -210,9 +212,9 @@ module _ {D : Type 0} (g : Ghosts D) (old new : D) (auditors : List Auditor) whe
             | inr none ↦ inr none
           ]
 
-      pub unvalued : (on : ℤ) (at : At) (name : List ℕ) (files : List ℕ → Option (List ℕ)) (basis : List Dated)
-          → AskForValue words on at name → shelf.files ≡ Some files → IsBasis files name basis
-          → g.honest old → OpensToNone (g.reads old)
+      pub unvalued : (on : ℤ) (at : At) (name : List ℕ) (files : Files) (basis : List Dated)
+          → AskForValue words on at name → shelf.Agrees files → IsBasis files name basis
+          → g.honest new → OpensToNone (g.reads old)
           → (Rose shelf.faults_before shelf.faults_after → ⊥) → (Rose (g.faults old) (g.faults new) → ⊥)
           → (status_of ending ≡ 5) ⊎ (status_of ending ≡ 9)
       unvalued on at name files basis asked told is honest none shelf_held disk_held = elim (valued_so on at name asked) [
@@ -220,7 +222,7 @@ module _ {D : Type 0} (g : Ghosts D) (old new : D) (auditors : List Auditor) whe
         | inr without ↦ inr without
       ]
 
-      pub stated : (commands : List Command) → AskForState words → g.honest old → Opens (g.reads old) commands
+      pub stated : (commands : List Command) → AskForState words → g.honest new → Opens (g.reads old) commands
           → (Rose output.faults_before output.faults_after → ⊥) → (Rose (g.faults old) (g.faults new) → ⊥)
           → (status_of ending ≡ 0) ⊎ (status_of ending ≡ 9)
       stated commands (None, asked) honest opens output_held disk_held = elim (as_asked ending does (State None) asked) [
@@ -232,7 +234,7 @@ module _ {D : Type 0} (g : Ghosts D) (old new : D) (auditors : List Auditor) whe
         | inr none ↦ inr none
       ]
 
-      pub unstated : AskForState words → g.honest old → OpensToNone (g.reads old)
+      pub unstated : AskForState words → g.honest new → OpensToNone (g.reads old)
           → (Rose (g.faults old) (g.faults new) → ⊥) → (status_of ending ≡ 5) ⊎ (status_of ending ≡ 9)
       unstated (None, asked) honest none disk_held = elim (as_asked ending does (State None) asked) [
         | inl ends ↦ state_refused g old new books_text output ending ends.2 honest none disk_held
@@ -250,8 +252,8 @@ module _ {D : Type 0} (g : Ghosts D) (old new : D) (auditors : List Auditor) whe
         | inr none ↦ inr none
       ]
 
-      pub loaded : (files : List ℕ → Option (List ℕ)) (basis : List Dated) (commands : List Command) → AskForLoad words
-          → shelf.files ≡ Some files → IsBasis files (codes "basis.csv") basis → g.honest old → Opens (g.reads old) commands
+      pub loaded : (files : Files) (basis : List Dated) (commands : List Command) → AskForLoad words
+          → shelf.Agrees files → IsBasis files (codes "basis.csv") basis → g.honest new → Opens (g.reads old) commands
           → (Rose shelf.faults_before shelf.faults_after → ⊥) → (Rose output.faults_before output.faults_after → ⊥)
           → (Rose (g.faults old) (g.faults new) → ⊥) → (status_of ending ≡ 0) ⊎ (status_of ending ≡ 9)
       loaded files basis commands (seed, (count, (lanes, (workers, asked)))) told is honest opens shelf_held output_held disk_held =
@@ -261,8 +263,8 @@ module _ {D : Type 0} (g : Ghosts D) (old new : D) (auditors : List Auditor) whe
             | inr none ↦ inr none
           ]
 
-      pub unloaded : (files : List ℕ → Option (List ℕ)) (basis : List Dated) → AskForLoad words
-          → shelf.files ≡ Some files → IsBasis files (codes "basis.csv") basis → g.honest old → OpensToNone (g.reads old)
+      pub unloaded : (files : Files) (basis : List Dated) → AskForLoad words
+          → shelf.Agrees files → IsBasis files (codes "basis.csv") basis → g.honest new → OpensToNone (g.reads old)
           → (Rose shelf.faults_before shelf.faults_after → ⊥) → (Rose (g.faults old) (g.faults new) → ⊥)
           → (status_of ending ≡ 5) ⊎ (status_of ending ≡ 9)
       unloaded files basis (seed, (count, (lanes, (workers, asked)))) told is honest none shelf_held disk_held =
@@ -271,7 +273,7 @@ module _ {D : Type 0} (g : Ghosts D) (old new : D) (auditors : List Auditor) whe
             | inr without ↦ inr without
           ]
 
-      pub unfit_load : (bad : ABadBasis) (files : List ℕ → Option (List ℕ)) → AskForLoad words → shelf.files ≡ Some files
+      pub unfit_load : (bad : ABadBasis) (files : Files) → AskForLoad words → shelf.Agrees files
           → IsFirstBadFile files (codes "basis.csv") bad → (Rose shelf.faults_before shelf.faults_after → ⊥)
           → SaysBadFile bad output (status_of ending) ⊎ (status_of ending ≡ 9)
       unfit_load bad files (seed, (count, (lanes, (workers, asked)))) told first shelf_held =
@@ -281,9 +283,9 @@ module _ {D : Type 0} (g : Ghosts D) (old new : D) (auditors : List Auditor) whe
           ]
 
       pub complete : (bytes name : List ℕ) (lanes : List Lane) (commands : List Command) → AskForRun words name
-          → input.before ≡ Some bytes → length bytes ≤ 16777216 → Reads bytes lanes → HasItsBasis lanes name shelf.files
+          → IsWholeInput input bytes → length bytes ≤ 16777216 → Reads bytes lanes → HasItsBasis lanes name shelf
           → (asks_for_values lanes ≡ true → Rose shelf.faults_before shelf.faults_after → ⊥)
-          → g.honest old → Opens (g.reads old) commands → (Rose input.faults_before input.faults_after → ⊥)
+          → g.honest new → Opens (g.reads old) commands → (Rose input.faults_before input.faults_after → ⊥)
           → (Rose output.faults_before output.faults_after → ⊥) → (Rose (g.faults old) (g.faults new) → ⊥)
           → (status_of ending ≡ 0) ⊎ (status_of ending ≡ 9)
       complete bytes name lanes commands run told short reads has shelf_held honest opens input_held output_held disk_held =
@@ -294,9 +296,9 @@ module _ {D : Type 0} (g : Ghosts D) (old new : D) (auditors : List Auditor) whe
           ]
 
       pub refused_exactly : (bytes name : List ℕ) (lanes : List Lane) → AskForRun words name
-          → input.before ≡ Some bytes → length bytes ≤ 16777216 → Reads bytes lanes → HasItsBasis lanes name shelf.files
+          → IsWholeInput input bytes → length bytes ≤ 16777216 → Reads bytes lanes → HasItsBasis lanes name shelf
           → (asks_for_values lanes ≡ true → Rose shelf.faults_before shelf.faults_after → ⊥)
-          → g.honest old → OpensToNone (g.reads old) → (Rose input.faults_before input.faults_after → ⊥)
+          → g.honest new → OpensToNone (g.reads old) → (Rose input.faults_before input.faults_after → ⊥)
           → (Rose (g.faults old) (g.faults new) → ⊥) → (status_of ending ≡ 5) ⊎ (status_of ending ≡ 9)
       refused_exactly bytes name lanes run told short reads has shelf_held honest none input_held disk_held =
           elim (ran name run) [
@@ -305,9 +307,9 @@ module _ {D : Type 0} (g : Ghosts D) (old new : D) (auditors : List Auditor) whe
             | inr without ↦ inr without
           ]
 
-      pub unfit_run : (bytes name : List ℕ) (lanes : List Lane) (bad : ABadBasis) (files : List ℕ → Option (List ℕ)) → AskForRun words name
-          → input.before ≡ Some bytes → length bytes ≤ 16777216 → Reads bytes lanes → asks_for_values lanes ≡ true
-          → shelf.files ≡ Some files → IsFirstBadFile files name bad → (Rose input.faults_before input.faults_after → ⊥)
+      pub unfit_run : (bytes name : List ℕ) (lanes : List Lane) (bad : ABadBasis) (files : Files) → AskForRun words name
+          → IsWholeInput input bytes → length bytes ≤ 16777216 → Reads bytes lanes → asks_for_values lanes ≡ true
+          → shelf.Agrees files → IsFirstBadFile files name bad → (Rose input.faults_before input.faults_after → ⊥)
           → (Rose shelf.faults_before shelf.faults_after → ⊥) → SaysBadFile bad output (status_of ending) ⊎ (status_of ending ≡ 9)
       unfit_run bytes name lanes bad files run told short reads asks shelf_told first input_held shelf_held =
           elim (ran name run) [
@@ -316,10 +318,18 @@ module _ {D : Type 0} (g : Ghosts D) (old new : D) (auditors : List Auditor) whe
             | inr none ↦ inr none
           ]
 
-      pub script_refused : (bytes name : List ℕ) → AskForRun words name → input.before ≡ Some bytes → IsUnreadable bytes
+      pub script_refused : (bytes name : List ℕ) → AskForRun words name → IsWholeInput input bytes → IsUnreadable bytes
           → (Rose input.faults_before input.faults_after → ⊥) → (status_of ending ≡ 3) ⊎ (status_of ending ≡ 9)
       script_refused bytes name run told unreadable held =
           elim (ran name run) [
             | inl ends ↦ run_unreadable g old new auditors name input output shelf ShelfStays ending bytes ends told unreadable held
+            | inr none ↦ inr none
+          ]
+
+      pub script_too_long : (name : List ℕ) → AskForRun words name → GivesMore 16777216 input.given_before input.given_after
+          → (Rose input.faults_before input.faults_after → ⊥) → (status_of ending ≡ 3) ⊎ (status_of ending ≡ 9)
+      script_too_long name run more held =
+          elim (ran name run) [
+            | inl ends ↦ run_too_long g old new auditors name input output shelf ShelfStays ending ends more held
             | inr none ↦ inr none
           ]

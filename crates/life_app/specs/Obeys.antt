@@ -7,7 +7,7 @@ use Rattle.life_args.specs.Words.{AskFor, AskForNothing}
 use Rattle.life_args.specs.declared.mode.Mode.{Mode}
 use Rattle.life_args.specs.declared.mode.Mode.TheVariants.{Run, Value, State, Generate, Load}
 use Rattle.program_endings.specs.Status.{status_of}
-use Rattle.program_endings.specs.Writing.{Shelving, Stream, WroteLine}
+use Rattle.program_endings.specs.Writing.{Input, Shelving, Stream, WroteLine}
 use Rattle.program_endings.specs.declared.ending.Ending.{Ending}
 use Rattle.program_endings.specs.declared.ending.Ending.TheVariants.{Usage, NoMemory}
 use Rattle.script_run.specs.Running.{EndsRun}
@@ -19,7 +19,7 @@ use Rattle.trial_load.specs.Loading.{EndsLoad}
 
 -- how each mode ends; `run` alone reads the input and has the auditors told, `state` leaves the shelf, and `generate` the
 -- disk too
-abbrev pub EndsMode : {D : Type 0} → Ghosts D → D → D → Mode → List Auditor → Stream → Stream → Shelving
+abbrev pub EndsMode : {D : Type 0} → Ghosts D → D → D → Mode → List Auditor → Input → Stream → Shelving
     → (InputStays ShelfStays : Type 0) → Ending → Type 0
 EndsMode g old new (Run basis) auditors input output shelf InputStays ShelfStays ending =
     EndsRun g old new basis auditors input output shelf ShelfStays ending
@@ -49,7 +49,7 @@ pub record EndsUnasked {D : Type 0} (old new : D) (words : List (String Global))
   pub says : SaysUnasked words output ending
 
 -- the words ask for a mode, which ended so, or weren't obeyed
-abbrev pub Does : {D : Type 0} → Ghosts D → D → D → List (String Global) → List Auditor → Stream → Stream → Shelving
+abbrev pub Does : {D : Type 0} → Ghosts D → D → D → List (String Global) → List Auditor → Input → Stream → Shelving
     → (InputStays ShelfStays : Type 0) → Ending → Type 0
 Does g old new words auditors input output shelf InputStays ShelfStays ending =
     ((mode : Mode) × AskFor words mode × EndsMode g old new mode auditors input output shelf InputStays ShelfStays ending)
@@ -57,7 +57,7 @@ Does g old new words auditors input output shelf InputStays ShelfStays ending =
 
 -- the program did what the words ask for, with these auditors, and the status is that of the ending
 pub record Obeys {D : Type 0} (g : Ghosts D) (old new : D) (words : List (String Global)) (auditors : List Auditor)
-    (input output : Stream) (shelf : Shelving) (InputStays ShelfStays : Type 0) (status : ℕ) : Type 0 where
+    (input : Input) (output : Stream) (shelf : Shelving) (InputStays ShelfStays : Type 0) (status : ℕ) : Type 0 where
   pub ending : Ending
   pub exits : status ≡ status_of ending
   pub does : Does g old new words auditors input output shelf InputStays ShelfStays ending

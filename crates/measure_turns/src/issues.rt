@@ -1,5 +1,5 @@
 // Callers that issue policies through the office that they share.
-ghost use Rattle.std.specs.Prelude.{◌≡◌, ◌≤◌, ◌^◌, ◌*◌, [], IfOk, IfErr, cond};
+ghost use Rattle.std.specs.Prelude.{◌≡◌, ℕ, ◌≤◌, ◌^◌, ◌*◌, [], IfOk, IfErr, cond};
 ghost use Rattle.policy_types.specs.Valid.{IsId, IsValid};
 ghost use Rattle.office_state.specs.Posting.{reply_of};
 ghost use Rattle.office_state.specs.Opening.{HasNotOpened};
@@ -77,7 +77,7 @@ pub fn post_issues<D: Disk + Send, W: Watching + Send, R: Threads + Wait + Sync>
     callers: u32,
     each: u32,
 ) -> Result<(D, u64), StartFault<D>>
-    requires told { W.told watchers [] }
+    requires told { (before : ℕ) → W.told watchers before [] }
     requires callers { (1 ≤ callers) × (callers ≤ 32) }
     requires each { each ≤ 2 ^ 26 }
     ensures posted { IfOk result (λ ended. HasPosted D.Disk disk watchers ended.0 (callers * each) ended.1) }

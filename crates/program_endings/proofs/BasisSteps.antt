@@ -1,7 +1,7 @@
 -- How a mode ends without its basis, and what its status tells of the basis
-use Rattle.std.proofs.Common.{◌≡◌, ◌⊎◌, ℕ, List, Option, Some, refl, subst, inl, inr}
-use Rattle.std.specs.Prelude.{IfSome}
+use Rattle.std.proofs.Common.{◌≡◌, ◌⊎◌, ℕ, List, refl, subst, inl, inr}
 use Rattle.outside_io.specs.Faults.{Rose}
+use Rattle.outside_io.specs.Shelves.{Files}
 use Rattle.basis_shelf.specs.Answers.{IfBad}
 use Rattle.basis_book.specs.Dated.{Dated}
 use Rattle.basis_shelf.specs.Bases.{IsBasis}
@@ -19,7 +19,7 @@ use Rattle.program_endings.specs.Writing.{Shelving, Stream, WroteOrFailed}
 
 -- the answer that there is no basis
 pub no_basis : (name : List ℕ) (shelf : Shelving) (output : Stream) (ending : Ending) (cause : NoBasis)
-    → IfSome shelf.files (λ files. IfBad (IsFirstBadFile files name) cause)
+    → ((files : Files) → shelf.Agrees files → IfBad (IsFirstBadFile files name) cause)
     → (cause ≡ ShelfFailed → Rose shelf.faults_before shelf.faults_after)
     → SaysNoBasis cause output ending → EndsNoBasis name shelf output ending
 no_basis name shelf output BadBasis (Bad bad) first failed says = (bad, first, says)
@@ -30,15 +30,13 @@ no_basis name shelf output _ (Bad bad) first failed says = absurd says
 no_basis name shelf output _ ShelfFailed first failed says = absurd says
 no_basis name shelf output _ NoRoom first failed says = absurd says
 
-module _ (output : Stream) (name : List ℕ) (shelf : Shelving) (files : List ℕ → Option (List ℕ)) (told : shelf.files ≡ Some files)
+module _ (output : Stream) (name : List ℕ) (shelf : Shelving) (files : Files) (agrees : shelf.Agrees files)
     (shelf_held : Rose shelf.faults_before shelf.faults_after → ⊥) where
   -- a basis that the shelf has isn't refused
   pub basis_refused : (ending : Ending) (basis : List Dated) → IsBasis files name basis → EndsNoBasis name shelf output ending
       → status_of ending ≡ 9
   basis_refused BadBasis basis is ends =
-      absurd
-      (basis_or_bad files name basis ends.0 is
-      (subst (λ (t : Option (List ℕ → Option (List ℕ))). IfSome t (λ fs. IsFirstBadFile fs name ends.0)) told ends.1))
+      absurd (basis_or_bad files name basis ends.0 is (ends.1 files agrees))
   basis_refused ReadFault basis is ends = absurd (shelf_held ends.0)
   basis_refused NoMemory basis is ends = refl
   basis_refused _ basis is ends = absurd ends
@@ -47,9 +45,7 @@ module _ (output : Stream) (name : List ℕ) (shelf : Shelving) (files : List �
   pub bad_refused : (ending : Ending) (bad : ABadBasis) → IsFirstBadFile files name bad → EndsNoBasis name shelf output ending
       → SaysBadFile bad output (status_of ending) ⊎ (status_of ending ≡ 9)
   bad_refused BadBasis bad first ends =
-      let same : ends.0 ≡ bad =
-      one_first_bad files name ends.0 bad
-      (subst (λ (t : Option (List ℕ → Option (List ℕ))). IfSome t (λ fs. IsFirstBadFile fs name ends.0)) told ends.1) first in
+      let same : ends.0 ≡ bad = one_first_bad files name ends.0 bad (ends.1 files agrees) first in
       inl (refl, subst (λ (b : ABadBasis). WroteOrFailed output (bad_basis_text b)) same ends.2)
   bad_refused ReadFault bad first ends = absurd (shelf_held ends.0)
   bad_refused NoMemory bad first ends = inr refl

@@ -26,14 +26,14 @@ of_the_file NoRoom output said = said
 
 module _ {D : Type 0} (g : Ghosts D) (old new : D) where
   -- then the file opens to no commands
-  pub opens_to_none : (output : Stream) → IsRefusedJournal g old new output → g.honest old → OpensToNone (g.reads old)
+  pub opens_to_none : (output : Stream) → IsRefusedJournal g old new output → g.honest new → OpensToNone (g.reads old)
   opens_to_none output refused honest =
       shown_opens_to_none (g.reads old) refused.cause (of_the_file refused.cause output refused.line) (refused.shown honest)
 
   -- what a mode that only reads says of a file that opens to none, and of one that opens to some commands
   module _ (Tells : (List ℕ → Type 0) → Type 0) (output : Stream) where
     pub read_as_before : (ending : Ending) → EndsReadOnly g old new Tells output ending
-        → ((Wrote : List ℕ → Type 0) → Tells Wrote → ⊥) → g.honest old → OpensToNone (g.reads old) → g.reads new ≡ g.reads old
+        → ((Wrote : List ℕ → Type 0) → Tells Wrote → ⊥) → g.honest new → OpensToNone (g.reads old) → g.reads new ≡ g.reads old
     read_as_before Done ends never honest none = absurd (never (WroteAll output) ends)
     read_as_before WriteFault ends never honest none = absurd (never (AppendsPart output.before output.after) ends.1)
     read_as_before BadJournal ends never honest none = (ends.alone.unwritten honest (finished (g.reads old) none)).facts.reads
@@ -42,7 +42,7 @@ module _ {D : Type 0} (g : Ghosts D) (old new : D) where
     read_as_before _ ends never honest none = absurd ends
 
     pub read_to_end : (ending : Ending) (commands : List Command)
-        → EndsReadOnly g old new Tells output ending → g.honest old → Opens (g.reads old) commands
+        → EndsReadOnly g old new Tells output ending → g.honest new → Opens (g.reads old) commands
         → (Rose output.faults_before output.faults_after → ⊥) → (Rose (g.faults old) (g.faults new) → ⊥)
         → (status_of ending ≡ 0) ⊎ (status_of ending ≡ 9)
     read_to_end Done commands ends honest opens output_held disk_held = inl refl

@@ -23,7 +23,7 @@ SaysWhy _ _ = ⊥
 pub record IsRefusedJournal {D : Type 0} (g : Ghosts D) (old new : D) (output : Stream) : Type 0 where
   pub cause : StartCause
   pub line : SaysWhy cause output
-  pub shown : g.honest old → IsShown (g.reads old) cause
+  pub shown : g.honest new → IsShown (g.reads old) cause
   pub quiet : g.faults new ≡ g.faults old
   pub alone : IsLeftAlone g old new
 

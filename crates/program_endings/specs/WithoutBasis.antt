@@ -1,6 +1,7 @@
 -- How a mode ends without the basis that it needs: the line that says why
-use Rattle.std.specs.Prelude.{◌≡◌, ℕ, List, codes, IfSome}
+use Rattle.std.specs.Prelude.{◌≡◌, ℕ, List, codes}
 use Rattle.outside_io.specs.Faults.{Rose}
+use Rattle.outside_io.specs.Shelves.{Files}
 use Rattle.basis_shelf.specs.FirstBad.{IsFirstBadFile}
 use Rattle.basis_shelf.specs.Lines.{bad_basis_text}
 use Rattle.basis_shelf.specs.declared.fault.BadBasis.{BadBasis}
@@ -21,7 +22,7 @@ SaysNoBasis _ _ _ = ⊥
 -- how a mode ends without the basis that it needs: the first bad file is named, or the shelf failed, or memory was refused
 abbrev pub EndsNoBasis : List ℕ → Shelving → Stream → Ending → Type 0
 EndsNoBasis name shelf output NoRightBasis =
-    (bad : BadBasis) × IfSome shelf.files (λ files. IsFirstBadFile files name bad) × WroteOrFailed output (bad_basis_text bad)
+    (bad : BadBasis) × ((files : Files) → shelf.Agrees files → IsFirstBadFile files name bad) × WroteOrFailed output (bad_basis_text bad)
 EndsNoBasis name shelf output ReadFault =
     Rose shelf.faults_before shelf.faults_after × WroteLine output (codes "readfault")
 EndsNoBasis name shelf output NoMemory = WroteLine output (codes "nomemory")

@@ -1,11 +1,48 @@
--- What the program reads and writes
-use Rattle.std.specs.Prelude.{ℕ, ◌⊎◌, List, [], ◌∷◌, ◌++◌, Option}
-use Rattle.std.specs.Io.KnownBytes.{Appends}
+-- What passes between the program and its devices in a call
+use Rattle.std.specs.Prelude.{◌≡◌, ℕ, ◌⊎◌, List, [], ◌∷◌, ◌++◌, Option, Some, IfSome}
+use Rattle.std.specs.Io.KnownBytes.{Appends, IsAtEnd}
 use Rattle.outside_io.specs.Faults.{Rose}
+use Rattle.outside_io.specs.Shelves.{Files}
 use Rattle.outside_io.specs.Streams.{AppendsPart}
 
--- an input or an output at two moments: its count of faults, and where it tells them the bytes that are left in it
--- or that were written to it
+-- an input at two moments: its count of faults, the bytes that are left in it where it tells them, the bytes that it gave
+-- so far, and whether a read of it has seen the end
+pub record Input : Type 1 where
+  pub faults_before : ℕ
+  pub faults_after : ℕ
+  pub left_before : Option (List ℕ)
+  pub left_after : Option (List ℕ)
+  pub given_before : List ℕ
+  pub given_after : List ℕ
+  pub Ended : Type 0
+
+-- an input between two moments
+abbrev pub input_between : {Device : Type 0} → (Device → ℕ) → (Device → Option (List ℕ)) → (Device → List ℕ) → (Device → Type 0)
+    → Device → Device → Input
+input_between faults left given ended old new = record {
+  faults_before = faults old;
+  faults_after = faults new;
+  left_before = left old;
+  left_after = left new;
+  given_before = given old;
+  given_after = given new;
+  Ended = ended new;
+}
+
+-- the input gave just these bytes in the call, up to its end; where it tells what is left in it, that was these, and
+-- nothing is left
+pub record GaveAll (input : Input) (bytes : List ℕ) : Type 0 where
+  pub given : input.given_after ≡ input.given_before ++ bytes
+  pub ended : input.Ended
+  pub left : IfSome input.left_before (λ told. told ≡ bytes)
+  pub end : IsAtEnd input.left_after
+
+-- the bytes are the whole input of the call: they were left in it, or it gave just them, up to its end
+abbrev pub IsWholeInput : Input → List ℕ → Type 0
+IsWholeInput input bytes =
+    (input.left_before ≡ Some bytes) ⊎ ((input.given_after ≡ input.given_before ++ bytes) × input.Ended)
+
+-- an output at two moments: its count of faults, and where it tells them the bytes that were written to it
 pub record Stream : Type 0 where
   pub faults_before : ℕ
   pub faults_after : ℕ
@@ -37,13 +74,12 @@ WroteOrFailed output bytes = WroteAll output bytes ⊎ WrotePart output bytes
 abbrev pub WroteLine : Stream → List ℕ → Type 0
 WroteLine output line = WroteOrFailed output (line ++ 10 ∷ [])
 
--- a shelf at two moments: its count of faults, and where it tells them the files that it has, by their names
-pub record Shelving : Type 0 where
+-- a shelf at two moments: its count of faults, and which files give each of its answers so far, by their names
+pub record Shelving : Type 1 where
   pub faults_before : ℕ
   pub faults_after : ℕ
-  pub files : Option (List ℕ → Option (List ℕ))
+  pub Agrees : Files → Type 0
 
 -- a shelf between two moments
-abbrev pub shelf_between : {Device : Type 0} → (Device → ℕ) → (Device → Option (List ℕ → Option (List ℕ))) → Device → Device
-    → Shelving
-shelf_between faults files old new = record { faults_before = faults old; faults_after = faults new; files = files old }
+abbrev pub shelf_between : {Device : Type 0} → (Device → ℕ) → (Device → Files → Type 0) → Device → Device → Shelving
+shelf_between faults agrees old new = record { faults_before = faults old; faults_after = faults new; Agrees = agrees new }

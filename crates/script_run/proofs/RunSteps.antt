@@ -28,7 +28,7 @@ use Rattle.lane_runner.specs.declared.transcript.Transcript.{Transcript}
 use Rattle.program_endings.specs.declared.ending.Ending.{Ending}
 use Rattle.program_endings.specs.declared.ending.Ending.TheVariants.{Done, BadScript, BadJournal, ReadFault as InputFault, WriteFault, DiskFault, NoMemory}
 use Rattle.program_endings.specs.Replies.{AreAnswered, AreAny, HaveAFault, LackMemory}
-use Rattle.program_endings.specs.Writing.{Shelving, Stream, WroteAll, WroteNothing}
+use Rattle.program_endings.specs.Writing.{Input, Shelving, Stream, WroteAll, WroteNothing}
 use Rattle.program_endings.specs.Refusals.{SaysUnopened}
 use Rattle.program_endings.proofs.FaultSteps.{rose_in}
 use Rattle.program_endings.proofs.ListSteps.{same_opened}
@@ -38,16 +38,11 @@ use Rattle.transcript_text.specs.Told.{IsWritable, any_faulted, any_lacked, run_
 use Rattle.transcript_text.proofs.Telling.{Telling, telling}
 use Rattle.script_run.specs.declared.intake.Unread.{Unread}
 use Rattle.script_run.specs.declared.intake.Unread.TheVariants.{TooLong, BadRow, ReadFault, NoMemory as OutOfMemory}
-use Rattle.script_run.specs.Running.{EndsLanes, EndsRun}
+use Rattle.script_run.specs.Running.{EndsRun}
 use Rattle.script_run.specs.Outcome.{EndsScript, IsRunOf}
-use Rattle.script_run.specs.Script.{EndsUnread, IsReadAs, IsRefused, most_script_bytes}
+use Rattle.script_run.specs.Script.{EndsUnread, GaveBadRow, GaveTooMany}
 use Rattle.script_run.specs.inside.Unread.{SaysUnread}
 use Rattle.script_run.specs.inside.Ran.{EndsRan, EndsTold}
-
--- an output that isn't touched had nothing written to it
-pub nothing_written : (told : Option (List ℕ)) → Appends told told []
-nothing_written None = tt
-nothing_written (Some xs) = sym (append-nil xs)
 
 -- a text that is written whole ends a run by what is told of its lines
 by_lines : (lines : List TranscriptLine) (reports : List Report) (output : Stream) (faulted lacked : Bool) → any_faulted lines ≡ faulted
@@ -103,7 +98,7 @@ module _ {D W : Type 0} (g : Ghosts D) (w : WatcherGhosts W) (old disk : D) (lan
       history = closing.seen;
       answered = ran.answered;
       text = told_texts transcript.lines;
-      opened = started.opened;
+      opened = (left_from all_told.opening).opened;
       merge = all_told.merge;
       legal = subst (λ (n : ℕ). IsLegal (opened_on started.opening.commands n) closing.seen) started.faults all_told.history.legal;
       pins = all_told.pins;
@@ -149,29 +144,11 @@ module _ {D W : Type 0} (g : Ghosts D) (w : WatcherGhosts W) (old disk : D) (lan
   ends_ran (Err lack) output NoMemory answered same ends = let left = untouched same in inl (ends, left.0, left.1)
   ends_ran (Err lack) output _ answered same ends = absurd ends
 
-refused_long : (told : Option (List ℕ)) (output : Stream) → IfSome told (λ t. most_script_bytes < length t)
-    → SaysUnread TooLong output BadScript → IfSome told (λ t. IsRefused t output)
-refused_long None output long said = tt
-refused_long (Some t) output long said = inl (long, said)
-
-refused_row : (told : Option (List ℕ)) (output : Stream) (row field : ℕ)
-    → IfSome told (λ t. (length t ≤ most_script_bytes) × IsFirstScriptFault t row field)
-    → SaysUnread (BadRow row field) output BadScript → IfSome told (λ t. IsRefused t output)
-refused_row None output row field fault said = tt
-refused_row (Some t) output row field fault said = inr (row, (field, fault.0, fault.1, said))
-
 -- what is known of an input that gave no script
-pub record StopsReading (input : Stream) (unread : Unread) : Type 0 where
-  pub too_long : unread ≡ TooLong → IfSome input.before (λ t. most_script_bytes < length t)
-  pub bad_row : (row field : ℕ) → unread ≡ BadRow row field
-      → IfSome input.before (λ t. (length t ≤ most_script_bytes) × IsFirstScriptFault t row field)
+pub record StopsReading (input : Input) (unread : Unread) : Type 0 where
+  pub too_long : unread ≡ TooLong → GaveTooMany input
+  pub bad_row : (row field : ℕ) → unread ≡ BadRow row field → GaveBadRow input row field
   pub fault : unread ≡ ReadFault → Rose input.faults_before input.faults_after
-
-told_lanes : (told : Option (List ℕ)) (bytes : List ℕ) (lanes : List Lane) → IfSome told (λ t. t ≡ bytes)
-    → Reads bytes lanes → length bytes ≤ most_script_bytes → IsReadAs told lanes
-told_lanes None bytes lanes same read short = tt
-told_lanes (Some t) bytes lanes same read short =
-    subst (λ (b : List ℕ). (length b ≤ most_script_bytes) × Reads b lanes) (sym same) (short, read)
 
 -- what is known of a disk on which no office was opened gives the ending
 pub ends_unopened : {D : Type 0} (g : Ghosts D) (old new : D) (lanes : List Lane) (basis : List Dated) (auditors : List Auditor)
@@ -184,24 +161,15 @@ ends_unopened g old new lanes basis auditors output (BadRecord n) NoMemory not s
 ends_unopened g old new lanes basis auditors output NoRoom NoMemory not said = inl (said, not.alone, not.told)
 ends_unopened g old new lanes basis auditors output _ _ not said = absurd said
 
--- a run that read its script ends as its script's run does
-pub ends_script : {D : Type 0} (g : Ghosts D) (old new : D) (name : List ℕ) (auditors : List Auditor) (input output : Stream)
-    (shelf : Shelving) (ShelfStays : Type 0) (lanes : List Lane) (bytes : List ℕ) (ending : Ending)
-    → Reads bytes lanes → length bytes ≤ most_script_bytes → IfSome input.before (λ t. t ≡ bytes) → IsAtEnd input.after
-    → EndsLanes g old new lanes name auditors shelf output ShelfStays ending
-    → EndsRun g old new name auditors input output shelf ShelfStays ending
-ends_script g old new name auditors input output shelf ShelfStays lanes bytes ending read short same end ends =
-    inl (record { lanes = lanes; read = told_lanes input.before bytes lanes same read short; end = end; ends = ends })
-
 -- one that read none leaves the shelf and the disk
-pub ends_unread : {D : Type 0} (g : Ghosts D) (disk : D) (name : List ℕ) (auditors : List Auditor) (input output : Stream)
+pub ends_unread : {D : Type 0} (g : Ghosts D) (disk : D) (name : List ℕ) (auditors : List Auditor) (input : Input) (output : Stream)
     (shelf : Shelving) (ShelfStays : Type 0) (unread : Unread) (ending : Ending) → ShelfStays → StopsReading input unread
     → SaysUnread unread output ending → EndsRun g disk disk name auditors input output shelf ShelfStays ending
 ends_unread g disk name auditors input output shelf ShelfStays unread ending stays is says = inr (refl, stays, by unread ending is says)
   where
     by : (unread : Unread) (ending : Ending) → StopsReading input unread → SaysUnread unread output ending → EndsUnread input output ending
-    by TooLong BadScript is said = refused_long input.before output (is.too_long refl) said
-    by (BadRow row field) BadScript is said = refused_row input.before output row field (is.bad_row row field refl) said
+    by TooLong BadScript is said = inl (is.too_long refl, said)
+    by (BadRow row field) BadScript is said = inr (row, (field, is.bad_row row field refl, said))
     by (BadRow row field) NoMemory is said = said
     by ReadFault InputFault is said = (is.fault refl, said)
     by OutOfMemory NoMemory is said = said

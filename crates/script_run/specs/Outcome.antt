@@ -31,7 +31,7 @@ pub record IsRunOf {D : Type 0} (g : Ghosts D) (old new : D) (lanes : List Lane)
   pub history : List Entry
   pub answered : List AnsweredLine
   pub text : List ℕ
-  pub opened : g.honest old → Opens (g.reads old) commands
+  pub opened : g.honest new → Opens (g.reads old) commands
   pub merge : IsMerge history lanes callers dry
   pub legal : IsLegal (opened_on commands (g.faults old)) history
   pub pins : ArePins history dry

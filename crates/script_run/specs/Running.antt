@@ -1,13 +1,13 @@
 -- How a run ends, with the script and the basis that it needs
-use Rattle.std.specs.Prelude.{◌≡◌, ℕ, ◌⊎◌, true, false, List, [], Some, IfSome, Option}
-use Rattle.std.specs.Io.KnownBytes.{IsAtEnd}
+use Rattle.std.specs.Prelude.{◌≡◌, ℕ, ◌⊎◌, true, false, List, []}
+use Rattle.outside_io.specs.Shelves.{Files}
 use Rattle.outside_io.specs.declared.disks.Disk.{Ghosts}
 use Rattle.policy_types.specs.declared.script.Lane.{Lane}
 use Rattle.watcher_set.specs.Noted.{Auditor}
 use Rattle.basis_book.specs.Dated.{Dated}
 use Rattle.basis_shelf.specs.Bases.{IsBasis}
 use Rattle.program_endings.specs.WithoutBasis.{EndsNoBasis}
-use Rattle.program_endings.specs.Writing.{Shelving, Stream}
+use Rattle.program_endings.specs.Writing.{GaveAll, Input, Shelving, Stream}
 use Rattle.program_endings.specs.declared.ending.Ending.{Ending}
 use Rattle.script_run.specs.Outcome.{EndsScript}
 use Rattle.script_run.specs.Script.{EndsUnread, IsReadAs, asks_for_values}
@@ -16,7 +16,7 @@ use Rattle.script_run.specs.Script.{EndsUnread, IsReadAs, asks_for_values}
 pub record EndsScriptBy {D : Type 0} (g : Ghosts D) (old new : D) (lanes : List Lane) (name : List ℕ) (auditors : List Auditor)
     (shelf : Shelving) (output : Stream) (ending : Ending) : Type 0 where
   pub basis : List Dated
-  pub is : IfSome shelf.files (λ files. IsBasis files name basis)
+  pub is : (files : Files) → shelf.Agrees files → IsBasis files name basis
   pub ends : EndsScript g old new lanes basis auditors output ending
 
 -- how a script's run ends that needs the basis of this name; where there is none, the disk isn't touched
@@ -32,23 +32,32 @@ EndsLanes g old new lanes name auditors shelf output ShelfStays ending =
     ((asks_for_values lanes ≡ false) × ShelfStays × EndsScript g old new lanes [] auditors output ending)
     ⊎ ((asks_for_values lanes ≡ true) × EndsByName g old new lanes name auditors shelf output ending)
 
--- the input was read to its end as a script, whose run ended so
+-- what the input gave up to its end was read as a script, whose run ended so
 pub record EndsRead {D : Type 0} (g : Ghosts D) (old new : D) (name : List ℕ) (auditors : List Auditor)
-    (input output : Stream) (shelf : Shelving) (ShelfStays : Type 0) (ending : Ending) : Type 0 where
+    (input : Input) (output : Stream) (shelf : Shelving) (ShelfStays : Type 0) (ending : Ending) : Type 0 where
+  pub bytes : List ℕ
+  pub gave : GaveAll input bytes
   pub lanes : List Lane
-  pub read : IsReadAs input.before lanes
-  pub end : IsAtEnd input.after
+  pub read : IsReadAs bytes lanes
   pub ends : EndsLanes g old new lanes name auditors shelf output ShelfStays ending
 
 -- a run that read no script leaves the shelf and the disk, and has nobody told
-abbrev pub EndsRun : {D : Type 0} → Ghosts D → D → D → List ℕ → List Auditor → Stream → Stream → Shelving
+abbrev pub EndsRun : {D : Type 0} → Ghosts D → D → D → List ℕ → List Auditor → Input → Stream → Shelving
     → (ShelfStays : Type 0) → Ending → Type 0
 EndsRun g old new name auditors input output shelf ShelfStays ending =
     EndsRead g old new name auditors input output shelf ShelfStays ending
     ⊎ ((new ≡ old) × ShelfStays × EndsUnread input output ending)
 
--- where a line asks for values, the shelf has the basis of this name
-abbrev pub HasItsBasis : List Lane → List ℕ → Option (List ℕ → Option (List ℕ)) → Type 0
-HasItsBasis lanes name told =
-    asks_for_values lanes ≡ true → (files : List ℕ → Option (List ℕ))
-    × ((basis : List Dated) × (told ≡ Some files) × IsBasis files name basis)
+-- what the input gave up to its end was read as a script, a line of which asks for values
+pub record ReadsForValues (input : Input) : Type 0 where
+  pub bytes : List ℕ
+  pub gave : GaveAll input bytes
+  pub lanes : List Lane
+  pub read : IsReadAs bytes lanes
+  pub asks : asks_for_values lanes ≡ true
+
+-- where a line asks for values, files that the shelf's answers agree with have the basis of this name
+abbrev pub HasItsBasis : List Lane → List ℕ → Shelving → Type 0
+HasItsBasis lanes name shelf =
+    asks_for_values lanes ≡ true
+    → (files : Files) × ((basis : List Dated) × shelf.Agrees files × IsBasis files name basis)

@@ -1,8 +1,8 @@
 // What is read from the input.
-ghost use Rattle.std.specs.Prelude.{◌≡◌, ◌<◌, ◌≤◌, ℕ, List, Err, length, IfOk, IfSome, OnOk, IsErrOf};
-ghost use Rattle.std.specs.Io.KnownBytes.{IsAtEnd};
+ghost use Rattle.std.specs.Prelude.{◌≡◌, ◌≤◌, ℕ, List, Err, IfOk, IsErrOf};
 ghost use Rattle.outside_io.specs.Faults.{Rose};
-ghost use Rattle.command_csv.specs.Reads.{IsFirstScriptFault, Reads};
+ghost use Rattle.program_endings.specs.Writing.{GaveAll, input_between};
+ghost use Rattle.script_run.specs.Script.{GaveBadRow, GaveTooMany, IsReadAs};
 ghost use Rattle.script_run.specs.declared.intake.Unread.TheVariants.{BadRow};
 
 use command_csv::{ScriptFault, read_script};
@@ -25,12 +25,12 @@ pub enum Unread {
 
 /// The script on the input, which is read to its end.
 pub fn read_lanes<S: Source>(alloc: Global, input: &mut S) -> Result<Script, Unread>
-    ensures ok { IfOk result (λ lanes. (bytes : List ℕ) × Reads bytes lanes × (length bytes ≤ 16777216)
-        × IfSome (S.left input.old) (λ told. told ≡ bytes)) }
-    ensures end { OnOk result (IsAtEnd (S.left input.new)) }
-    ensures too_long { IsErrOf result Unread.TooLong → IfSome (S.left input.old) (λ told. 16777216 < length told) }
+    ensures ok { IfOk result (λ lanes. (bytes : List ℕ) × IsReadAs bytes lanes
+        × GaveAll (input_between S.faults S.left S.given S.ended input.old input.new) bytes) }
+    ensures too_long { IsErrOf result Unread.TooLong
+        → GaveTooMany (input_between S.faults S.left S.given S.ended input.old input.new) }
     ensures bad_row { (row field : ℕ) → result ≡ Err (BadRow row field)
-        → IfSome (S.left input.old) (λ told. (length told ≤ 16777216) × IsFirstScriptFault told row field) }
+        → GaveBadRow (input_between S.faults S.left S.given S.ended input.old input.new) row field }
     ensures fault { IsErrOf result Unread.ReadFault → Rose (S.faults input.old) (S.faults input.new) }
     ensures later { S.faults input.old ≤ S.faults input.new }
 {

@@ -1,6 +1,6 @@
 // A run of a script: the basis is fetched where a line asks for values, the office is opened, each lane of the script is run
 // by a caller of its own, the office is closed, then the transcript is written.
-ghost use Rattle.std.specs.Prelude.{◌≡◌, ◌≤◌, [], All, IfOk, length};
+ghost use Rattle.std.specs.Prelude.{◌≡◌, ℕ, ◌≤◌, [], All, IfOk, length};
 ghost use Rattle.std.specs.List.{list_any};
 ghost use Rattle.lane_runner.specs.Lanes.{is_value};
 ghost use Rattle.shared_office.specs.Offices.{IsOfficeHistory};
@@ -9,7 +9,7 @@ ghost use Rattle.turn_lock.specs.Passes.{PassFacts};
 ghost use Rattle.script_run.specs.Running.{EndsByName, EndsLanes, EndsRun};
 ghost use Rattle.script_run.specs.Outcome.{EndsScript};
 ghost use Rattle.script_run.specs.Script.{asks_for_values};
-ghost use Rattle.program_endings.specs.Writing.{between, shelf_between};
+ghost use Rattle.program_endings.specs.Writing.{between, input_between, shelf_between};
 ghost use Rattle.transcript_text.specs.Lanes.{AreScriptLanes};
 ghost use Rattle.script_run.specs.inside.Ran.{EndsRan, EndsTold};
 ghost use Rattle.transcript_text.specs.Told.{IsWritable};
@@ -52,9 +52,9 @@ pub fn run<
     watchers: W,
     gate: &G,
 ) -> Finished<D>
-    requires told { W.told watchers [] }
-    ensures ends { EndsRun D.Disk disk result.disk name.now (W.handed watchers) (between S.faults S.left input.old input.new)
-        (between K.faults K.written output.old output.new) (shelf_between H.faults H.files shelf.old shelf.new)
+    requires told { (before : ℕ) → W.told watchers before [] }
+    ensures ends { EndsRun D.Disk disk result.disk name.now (W.handed watchers) (input_between S.faults S.left S.given S.ended input.old input.new)
+        (between K.faults K.written output.old output.new) (shelf_between H.faults H.agrees shelf.old shelf.new)
         (shelf.new ≡ shelf.old) result.ending }
     ensures files { H.files shelf.new ≡ H.files shelf.old }
 {
@@ -90,8 +90,8 @@ fn run_script<
     gate: &G,
 ) -> Finished<D>
     requires lanes { AreScriptLanes lanes.now }
-    requires told { W.told watchers [] }
-    ensures ends { EndsLanes D.Disk disk result.disk lanes.now name.now (W.handed watchers) (shelf_between H.faults H.files shelf.old shelf.new)
+    requires told { (before : ℕ) → W.told watchers before [] }
+    ensures ends { EndsLanes D.Disk disk result.disk lanes.now name.now (W.handed watchers) (shelf_between H.faults H.agrees shelf.old shelf.new)
         (between K.faults K.written output.old output.new) (shelf.new ≡ shelf.old) result.ending }
     ensures files { H.files shelf.new ≡ H.files shelf.old }
 {
@@ -122,8 +122,8 @@ fn run_by_name<
     gate: &G,
 ) -> Finished<D>
     requires lanes { AreScriptLanes lanes.now }
-    requires told { W.told watchers [] }
-    ensures ends { EndsByName D.Disk disk result.disk lanes.now name.now (W.handed watchers) (shelf_between H.faults H.files shelf.old shelf.new)
+    requires told { (before : ℕ) → W.told watchers before [] }
+    ensures ends { EndsByName D.Disk disk result.disk lanes.now name.now (W.handed watchers) (shelf_between H.faults H.agrees shelf.old shelf.new)
         (between K.faults K.written output.old output.new) result.ending }
     ensures files { H.files shelf.new ≡ H.files shelf.old }
 {
@@ -148,7 +148,7 @@ fn run_by<R: Threads + Wait + Sync, K: Sink, D: Disk + Send, W: Watching + Send,
     gate: &G,
 ) -> Finished<D>
     requires lanes { AreScriptLanes lanes.now }
-    requires told { W.told watchers [] }
+    requires told { (before : ℕ) → W.told watchers before [] }
     ensures ends { EndsScript D.Disk disk result.disk lanes.now basis.now (W.handed watchers)
         (between K.faults K.written output.old output.new) result.ending }
 {

@@ -1,10 +1,9 @@
 -- What the exit status tells of a generated script, written or run
-use Rattle.std.proofs.Common.{◌≡◌, ℕ, ◌⊎◌, List, codes, refl, ap, subst, inl, inr, Option, Some, pos}
-use Rattle.std.specs.Prelude.{IfSome}
+use Rattle.std.proofs.Common.{◌≡◌, ℕ, ◌⊎◌, List, codes, refl, ap, inl, inr}
 use Rattle.outside_io.specs.Faults.{Rose}
+use Rattle.outside_io.specs.Shelves.{Files}
 use Rattle.outside_io.specs.declared.disks.Disk.{Ghosts}
 use Rattle.policy_types.specs.declared.command.Command.{Command}
-use Rattle.policy_types.specs.declared.entry.At.TheVariants.{Now}
 use Rattle.policy_types.specs.declared.entry.Entry.{Entry}
 use Rattle.policy_types.specs.declared.script.Lane.{Lane}
 use Rattle.policy_machine.specs.History.{Opening}
@@ -35,12 +34,12 @@ generate_to_end seed count lanes output _ ends output_held = absurd ends
 
 module _ {D : Type 0} (g : Ghosts D) (old new : D) where
   nowhere : {A : Type 0} (lanes : List Lane) (workers : ℕ) (Tells : Opening → List Entry → List ℕ → Type 0) → IsLoadOf g old new lanes workers Tells
-      → g.honest old → OpensToNone (g.reads old) → A
+      → g.honest new → OpensToNone (g.reads old) → A
   nowhere lanes workers Tells load honest none = absurd (none load.commands (load.opened honest))
 
   module _ (lanes : List Lane) (workers : ℕ) (basis : List Dated) (output : Stream) where
     loading_as_before : (ending : Ending) → EndsLoading g old new lanes workers basis output ending
-        → g.honest old → OpensToNone (g.reads old) → g.reads new ≡ g.reads old
+        → g.honest new → OpensToNone (g.reads old) → g.reads new ≡ g.reads old
     loading_as_before Done ends honest none = nowhere _ _ _ ends honest none
     loading_as_before BadJournal ends honest none = (ends.alone.unwritten honest (finished (g.reads old) none)).facts.reads
     loading_as_before WriteFault ends honest none = nowhere _ _ _ ends.1 honest none
@@ -56,7 +55,7 @@ module _ {D : Type 0} (g : Ghosts D) (old new : D) where
     loading_as_before _ ends honest none = absurd ends
 
     loading_to_end : (ending : Ending) (commands : List Command) → EndsLoading g old new lanes workers basis output ending
-        → g.honest old → Opens (g.reads old) commands
+        → g.honest new → Opens (g.reads old) commands
         → (Rose output.faults_before output.faults_after → ⊥) → (Rose (g.faults old) (g.faults new) → ⊥)
         → (status_of ending ≡ 0) ⊎ (status_of ending ≡ 9)
     loading_to_end Done commands ends honest opens output_held disk_held = inl refl
@@ -68,7 +67,7 @@ module _ {D : Type 0} (g : Ghosts D) (old new : D) where
     loading_to_end _ commands ends honest opens output_held disk_held = absurd ends
 
     loading_refused : (ending : Ending) → EndsLoading g old new lanes workers basis output ending
-        → g.honest old → OpensToNone (g.reads old) → (Rose (g.faults old) (g.faults new) → ⊥)
+        → g.honest new → OpensToNone (g.reads old) → (Rose (g.faults old) (g.faults new) → ⊥)
         → (status_of ending ≡ 5) ⊎ (status_of ending ≡ 9)
     loading_refused BadJournal ends honest none disk_held = inl refl
     loading_refused NoMemory ends honest none disk_held = inr refl
@@ -82,7 +81,7 @@ module _ {D : Type 0} (g : Ghosts D) (old new : D) where
     all_lanes = generated_lanes seed lanes count
 
     pub load_as_before : (ending : Ending) → EndsLoad g old new seed count lanes workers shelf output ending
-        → g.honest old → OpensToNone (g.reads old) → g.reads new ≡ g.reads old
+        → g.honest new → OpensToNone (g.reads old) → g.reads new ≡ g.reads old
     load_as_before ending ends honest none = elim ends [
       | inl by ↦ elim by.ends [
         | inl load ↦ loading_as_before all_lanes workers by.basis output ending load honest none
@@ -120,9 +119,9 @@ module _ {D : Type 0} (g : Ghosts D) (old new : D) where
       | inr no_basis ↦ no_basis.1
     ]
 
-    module _ (files : List ℕ → Option (List ℕ)) (told : shelf.files ≡ Some files) where
+    module _ (files : Files) (agrees : shelf.Agrees files) where
       pub load_to_end : (ending : Ending) (basis : List Dated) (commands : List Command) → EndsLoad g old new seed count lanes workers shelf output ending
-          → IsBasis files (codes "basis.csv") basis → g.honest old → Opens (g.reads old) commands
+          → IsBasis files (codes "basis.csv") basis → g.honest new → Opens (g.reads old) commands
           → (Rose shelf.faults_before shelf.faults_after → ⊥) → (Rose output.faults_before output.faults_after → ⊥)
           → (Rose (g.faults old) (g.faults new) → ⊥) → (status_of ending ≡ 0) ⊎ (status_of ending ≡ 9)
       load_to_end ending basis commands ends is honest opens shelf_held output_held disk_held = elim ends [
@@ -130,11 +129,11 @@ module _ {D : Type 0} (g : Ghosts D) (old new : D) where
           | inl load ↦ loading_to_end all_lanes workers by.basis output ending commands load honest opens output_held disk_held
           | inr early ↦ inr (ap status_of early.1)
         ]
-        | inr no_basis ↦ inr (basis_refused output (codes "basis.csv") shelf files told shelf_held ending basis is no_basis.1)
+        | inr no_basis ↦ inr (basis_refused output (codes "basis.csv") shelf files agrees shelf_held ending basis is no_basis.1)
       ]
 
       pub load_refused : (ending : Ending) (basis : List Dated) → EndsLoad g old new seed count lanes workers shelf output ending
-          → IsBasis files (codes "basis.csv") basis → g.honest old → OpensToNone (g.reads old)
+          → IsBasis files (codes "basis.csv") basis → g.honest new → OpensToNone (g.reads old)
           → (Rose shelf.faults_before shelf.faults_after → ⊥) → (Rose (g.faults old) (g.faults new) → ⊥)
           → (status_of ending ≡ 5) ⊎ (status_of ending ≡ 9)
       load_refused ending basis ends is honest none shelf_held disk_held = elim ends [
@@ -142,14 +141,13 @@ module _ {D : Type 0} (g : Ghosts D) (old new : D) where
           | inl load ↦ loading_refused all_lanes workers by.basis output ending load honest none disk_held
           | inr early ↦ inr (ap status_of early.1)
         ]
-        | inr no_basis ↦ inr (basis_refused output (codes "basis.csv") shelf files told shelf_held ending basis is no_basis.1)
+        | inr no_basis ↦ inr (basis_refused output (codes "basis.csv") shelf files agrees shelf_held ending basis is no_basis.1)
       ]
 
       pub load_unfit : (ending : Ending) (bad : ABadBasis) → EndsLoad g old new seed count lanes workers shelf output ending
           → IsFirstBadFile files (codes "basis.csv") bad → (Rose shelf.faults_before shelf.faults_after → ⊥)
           → SaysBadFile bad output (status_of ending) ⊎ (status_of ending ≡ 9)
       load_unfit ending bad ends first shelf_held = elim ends [
-        | inl by ↦ absurd (basis_or_bad files (codes "basis.csv") by.basis bad
-            (subst (λ (t : Option (List ℕ → Option (List ℕ))). IfSome t (λ fs. IsBasis fs (codes "basis.csv") by.basis)) told by.is) first)
-        | inr no_basis ↦ bad_refused output (codes "basis.csv") shelf files told shelf_held ending bad first no_basis.1
+        | inl by ↦ absurd (basis_or_bad files (codes "basis.csv") by.basis bad (by.is files agrees) first)
+        | inr no_basis ↦ bad_refused output (codes "basis.csv") shelf files agrees shelf_held ending bad first no_basis.1
       ]

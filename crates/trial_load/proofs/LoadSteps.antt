@@ -167,7 +167,7 @@ module _ {D W : Type 0} (g : Ghosts D) (w : WatcherGhosts W) (old disk : D) (lan
     dry = dry_pins turn answer;
     postings = mid.seen;
     valuation = behind.rest;
-    opened = started.opened;
+    opened = left.opened;
     merge = subst (λ (h : List Entry). IsMerge h (valuation_lane workers ∷ lanes) (0 ∷ transcript.callers) (dry_pins turn answer)) behind.seen merge;
     before = behind.others;
     behind = behind.own;

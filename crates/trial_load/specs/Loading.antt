@@ -1,8 +1,9 @@
 -- How `load` ends: the generated lanes were run, the policies were valued at the count, and a line tells of it
-use Rattle.std.specs.Prelude.{◌≡◌, ◌≢◌, ℕ, ◌⊎◌, ℤ, pos, Bool, true, false, List, [], ◌∷◌, ◌++◌, codes, decimal, length, IfSome}
+use Rattle.std.specs.Prelude.{◌≡◌, ◌≢◌, ℕ, ◌⊎◌, ℤ, pos, Bool, true, false, List, [], ◌∷◌, ◌++◌, codes, decimal, length}
 use Rattle.std.specs.Io.KnownBytes.{Appends}
 use Rattle.std.specs.List.{AllByRecursion, AllZip, count_by}
 use Rattle.outside_io.specs.Faults.{Rose}
+use Rattle.outside_io.specs.Shelves.{Files}
 use Rattle.outside_io.specs.Streams.{AppendsPart}
 use Rattle.outside_io.specs.declared.disks.Disk.{Ghosts}
 use Rattle.policy_types.specs.declared.command.Command.{Command}
@@ -70,7 +71,7 @@ pub record IsLoadOf {D : Type 0} (g : Ghosts D) (old new : D) (lanes : List Lane
   pub dry : List ℕ
   pub postings : List Entry
   pub valuation : List Entry
-  pub opened : g.honest old → Opens (g.reads old) commands
+  pub opened : g.honest new → Opens (g.reads old) commands
   pub merge : IsMerge (postings ++ valuation) (valuation_lane workers ∷ lanes) (valuer ∷ callers) dry
   pub before : AllByRecursion (λ (entry : Entry). entry.caller ≢ valuer) postings
   pub behind : AllByRecursion (λ (entry : Entry). entry.caller ≡ valuer) valuation
@@ -121,7 +122,7 @@ EndsBegun g old new seed count lanes workers basis output ending =
 pub record EndsLoadBy {D : Type 0} (g : Ghosts D) (old new : D) (seed count lanes workers : ℕ) (shelf : Shelving)
     (output : Stream) (ending : Ending) : Type 0 where
   pub basis : List Dated
-  pub is : IfSome shelf.files (λ files. IsBasis files (codes "basis.csv") basis)
+  pub is : (files : Files) → shelf.Agrees files → IsBasis files (codes "basis.csv") basis
   pub ends : EndsBegun g old new seed count lanes workers basis output ending
 
 -- how `load` ends; without a basis the disk isn't touched

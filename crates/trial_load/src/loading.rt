@@ -54,7 +54,7 @@ pub fn load<R: Threads + Wait + Sync, K: Sink, H: Shelf, D: Disk + Send, G: Gate
     requires lanes { (1 ≤ lanes) × (lanes ≤ 8) }
     requires workers { (1 ≤ workers) × (workers ≤ 64) }
     ensures ends { EndsLoad D.Disk disk result.disk seed count lanes workers
-        (shelf_between H.faults H.files shelf.old shelf.new)
+        (shelf_between H.faults H.agrees shelf.old shelf.new)
         (between K.faults K.written output.old output.new) result.ending }
     ensures files { H.files shelf.new ≡ H.files shelf.old }
 {

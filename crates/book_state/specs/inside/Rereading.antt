@@ -1,5 +1,5 @@
 -- What reading a journal's records again tells, for one policy
-use Rattle.std.specs.Prelude.{◌≡◌, ◌↔◌, ℕ, List, [], ◌∷◌, ◌++◌, ◌<◌, length, take, slice_index_or, IsOk, codes}
+use Rattle.std.specs.Prelude.{◌≡◌, ℕ, List, [], ◌∷◌, ◌++◌, ◌<◌, length, take, slice_index_or, IsOk, codes}
 use Rattle.std.specs.List.{AllByRecursion}
 use Rattle.outside_io.specs.Faults.{Rose}
 use Rattle.outside_io.specs.Streams.{AppendsPart}
@@ -52,13 +52,14 @@ pub record IsNext {D : Type 0} {g : Ghosts D} (old new : Journal D g) (account :
   pub command : Command
   pub holds : IsAccount account (commands ++ command ∷ [])
   pub quiet : IsQuiet old (disk_of new)
-  pub spelled : BodiesHave old (λ bodies. slice_index_or bodies n [] ≡ spelling_of command)
+  pub spelled : BodiesHave old (disk_of new) (λ bodies. slice_index_or bodies n [] ≡ spelling_of command)
 
 -- why record n isn't read: the disk failed, its body spells no command that can be next, or there was no memory
 abbrev pub StopsReading : {D : Type 0} {g : Ghosts D} → Journal D g → Journal D g → ℕ → List Command → StartCause → Type 0
 StopsReading old new n commands (FaultyDisk count) = HasFailed old (disk_of new) count
 StopsReading old new n commands (BadRecord m) =
-    (m ≡ n) × IsQuiet old (disk_of new) × BodiesHave old (λ bodies. SpellsNoNext (slice_index_or bodies n []) commands)
+    (m ≡ n) × IsQuiet old (disk_of new)
+    × BodiesHave old (disk_of new) (λ bodies. SpellsNoNext (slice_index_or bodies n []) commands)
 StopsReading old new n commands NoRoom = IsQuiet old (disk_of new)
 StopsReading old new n commands NotAJournal = ⊥
 
@@ -68,7 +69,7 @@ pub record AreRead {D : Type 0} {g : Ghosts D} (old new : Journal D g) (account 
   pub holds : IsAccount account commands
   pub each : length commands ≡ n
   pub quiet : IsQuiet old (disk_of new)
-  pub front : BodiesHave old (λ bodies. take n bodies ≡ bodies_of commands)
+  pub front : BodiesHave old (disk_of new) (λ bodies. take n bodies ≡ bodies_of commands)
 
 -- the bodies aren't those of commands that the rules accept one after the other
 pub record IsReadUpTo (n : ℕ) (bodies : List (List ℕ)) : Type 0 where
@@ -82,7 +83,7 @@ pub record IsReadUpTo (n : ℕ) (bodies : List (List ℕ)) : Type 0 where
 -- why not every record was read
 abbrev pub HasStoppedReading : {D : Type 0} {g : Ghosts D} → Journal D g → D → StartCause → Type 0
 HasStoppedReading journal disk (FaultyDisk count) = HasFailed journal disk count
-HasStoppedReading journal disk (BadRecord n) = IsQuiet journal disk × BodiesHave journal (IsReadUpTo n)
+HasStoppedReading journal disk (BadRecord n) = IsQuiet journal disk × BodiesHave journal disk (IsReadUpTo n)
 HasStoppedReading journal disk NoRoom = IsQuiet journal disk
 HasStoppedReading journal disk NotAJournal = ⊥
 
@@ -94,30 +95,31 @@ pub record IsReadFrom {D : Type 0} {g : Ghosts D} (journal : Journal D g) (disk 
   pub commands : List Command
   pub holds : IsAccount account commands
   pub quiet : IsQuiet journal disk
-  pub bodies : BodiesHave journal (λ bodies. bodies ≡ bodies_of commands)
+  pub bodies : BodiesHave journal disk (λ bodies. bodies ≡ bodies_of commands)
 
 -- the account couldn't be read from a journal
 pub record IsStoppedFrom {D : Type 0} {g : Ghosts D} (journal : Journal D g) (disk : D) (cause : StartCause) : Type 0 where
   pub looked : IsLookedAt g (disk_of journal) disk
   pub why : HasStoppedReading journal disk cause
 
--- The account was read from the commands of the disk's file. A file that is no unfinished creation was only looked at.
+-- The account was read from the commands of the disk's file, where the disk comes back honest, as it was before then. A
+-- file that is no unfinished creation was only looked at.
 pub record HasRead {D : Type 0} (g : Ghosts D) (old new : D) (account : Account) (id : ℕ) : Type 0 where
   pub named : account.id ≡ id
   pub commands : List Command
   pub holds : IsAccount account commands
-  pub opened : g.honest old → (others : List Command) → Opens (g.reads old) others → commands ≡ others
-  pub honesty : (g.honest old) ↔ (g.honest new)
+  pub opened : g.honest new → (others : List Command) → Opens (g.reads old) others → commands ≡ others
+  pub honesty : g.honest new → g.honest old
   pub quiet : g.faults new ≡ g.faults old
-  pub unwritten : g.honest old → ¬ IsUnfinished (g.reads old) → LooksOn g old new
+  pub unwritten : g.honest new → ¬ IsUnfinished (g.reads old) → LooksOn g old new
 
 -- The account wasn't read from the disk's file, since the disk failed, or the file opens to no commands, or for want of
 -- memory.
 pub record HasNotRead {D : Type 0} (g : Ghosts D) (old new : D) (cause : StartCause) : Type 0 where
   pub told : TellsFault (g.faults old) (g.faults new) cause
-  pub shown : g.honest old → IsOfTheFile cause → OpensToNone (g.reads old)
-  pub honesty : (g.honest old) ↔ (g.honest new)
-  pub unwritten : g.honest old → ¬ IsUnfinished (g.reads old) → LooksOn g old new
+  pub shown : g.honest new → IsOfTheFile cause → OpensToNone (g.reads old)
+  pub honesty : g.honest new → g.honest old
+  pub unwritten : g.honest new → ¬ IsUnfinished (g.reads old) → LooksOn g old new
 
 -- how an account's text was written, of the commands that were read again
 pub record IsAccounted {D : Type 0} (g : Ghosts D) (old new : D) (id : ℕ) (Wrote : List ℕ → Type 0) : Type 0 where
@@ -137,6 +139,6 @@ EndsReading g old new id output DiskFault =
     (count : ℕ) × WroteLine output (codes "diskfault") × HasNotRead g old new (FaultyDisk count)
 EndsReading g old new id output NoMemory =
     WroteLine output (codes "nomemory")
-    × ((g.honest old) ↔ (g.honest new)) × (g.faults new ≡ g.faults old)
-    × (g.honest old → ¬ IsUnfinished (g.reads old) → LooksOn g old new)
+    × (g.honest new → g.honest old) × (g.faults new ≡ g.faults old)
+    × (g.honest new → ¬ IsUnfinished (g.reads old) → LooksOn g old new)
 EndsReading g old new id output _ = ⊥

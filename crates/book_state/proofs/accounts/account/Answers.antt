@@ -11,7 +11,7 @@ returns-in-Ok g c =
     let opened = c.in-Ok.ensures.opened in
     let closed = c.close-disk.ensures.left [] opened.stands in
     ends_reading g.D.Disk g.met.D.Disk.counts_now g.met.D.Disk.reads_as_image c.args.disk c.close-disk.result.0 c.write_account.result.disk c.args.id _
-    (opening_of c.in-Ok.office).commands opened.opened
+    (opening_of c.in-Ok.office).commands
     (opened_left g.D.Disk (begun_of c.in-Ok.office) c.args.disk c.close-disk.result.0 (opening_of c.in-Ok.office).commands opened.begun closed)
     c.write_account.result.ending c.write_account.ensures
 

@@ -12,4 +12,4 @@ returns-in_err-read_record-clause-read g c =
     let within : c.loop-n.n < count_of start = omega (arith, c.loop-n-test.true, c.count-n-end.ensures) in
     rw (p.1, p.2)
     (stopped g.D.Disk start c.loop-n.journal c.read_record.new.journal c.loop-n.account c.loop-n.n read within
-    c.loop-n.invariant.stays c.in_err-read_record.field-0.0 (c.in_err-read_record.ensures.read read.commands read.holds read.each))
+    c.loop-n.invariant.stays c.read_record.ensures.stays.disk.honesty c.in_err-read_record.field-0.0 (c.in_err-read_record.ensures.read read.commands read.holds read.each))

@@ -1,19 +1,24 @@
-use Rattle.std.proofs.Common.{ℕ, ◌≡◌, ◌∙◌, ap, refl, Err}
+use Rattle.std.proofs.Common.{ℕ, ◌≡◌, ◌∙◌, ap, inl, refl, Err}
 use Rattle.script_run.specs.declared.intake.Unread.TheVariants.{TooLong, BadRow, ReadFault}
-use Rattle.script_run.proofs.RunSteps.{ends_script, ends_unread}
+use Rattle.script_run.proofs.RunSteps.{ends_unread}
 use Rattle.script_run.proofs.ScriptSteps.{script_lanes}
 use Rattle.script_run.proofs.running.run.Goals as goal
 
 pub run_script-requires-clause-lanes : goal.run_script-requires-clause-lanes
 run_script-requires-clause-lanes g c κs within =
     let read = c.in-Ok.ensures.ok in
-    rw c.as_slice-lanes.ensures (script_lanes read.0 _ read.1 read.2)
+    rw c.as_slice-lanes.ensures (script_lanes read.0 _ read.1.1 read.1.0)
 
 pub returns-in-Ok-clause-ends : goal.returns-in-Ok-clause-ends
 returns-in-Ok-clause-ends g c =
     let read = c.in-Ok.ensures.ok in
-    ends_script g.D.Disk _ _ c.args.name.now _ _ _ _ _ c.in-Ok.script read.0 c.run_script.result.ending read.1 read.2 read.3 c.in-Ok.ensures.end
-    (rw c.as_slice-lanes.ensures at c.run_script.ensures.ends)
+    inl (record {
+      bytes = read.0;
+      gave = read.2;
+      lanes = c.in-Ok.script;
+      read = read.1;
+      ends = rw c.as_slice-lanes.ensures at c.run_script.ensures.ends;
+    })
 
 pub returns-in-Err-clause-ends : goal.returns-in-Err-clause-ends
 returns-in-Err-clause-ends g c =

@@ -7,7 +7,7 @@ use Rattle.trial_load.proofs.loading.load.Goals as goal
 
 pub returns-clause-ends : goal.returns-clause-ends
 returns-clause-ends g c =
-    let shelf : Shelving = shelf_between g.H.Shelf.faults g.H.Shelf.files c.args.shelf.now c.fetch_basis.new.shelf in
+    let shelf : Shelving = shelf_between g.H.Shelf.faults g.H.Shelf.agrees c.args.shelf.now c.fetch_basis.new.shelf in
     let out : Stream = between g.K.Sink.faults g.K.Sink.written c.args.output.now c.refuse_basis.new.output in
     inr (
       refl,
