@@ -38,6 +38,7 @@ impl FileCalls {
     }
 
     // The length was asked for, and this was told.
+    #[inline(always)]
     pub(crate) fn note_length(&mut self, told: &Result<u64, Failed>)
         ensures { self.new ≡ Measured (result_ok told.now) ∷ self.old }
     {
@@ -48,6 +49,7 @@ impl FileCalls {
     }
 
     // As many bytes as the buffer has were asked for, and where that was done these are what was given.
+    #[inline(always)]
     pub(crate) fn note_read(&mut self, at: u64, buf: &[u8], done: bool)
         ensures { self.new ≡ ReadFrom at (length buf.now) (if done then Some buf.now else None) ∷ self.old }
     {
@@ -59,6 +61,7 @@ impl FileCalls {
     }
 
     // These bytes were written, or that failed.
+    #[inline(always)]
     pub(crate) fn note_write(&mut self, at: u64, bytes: &[u8], done: bool)
         ensures { self.new ≡ WrittenTo at bytes.now done ∷ self.old }
     {
@@ -70,6 +73,7 @@ impl FileCalls {
     }
 
     // What was written was made safe, or that failed.
+    #[inline(always)]
     pub(crate) fn note_sync(&mut self, done: bool)
         ensures { self.new ≡ Synced done ∷ self.old }
     {
