@@ -1,7 +1,7 @@
 pub mod Disks
 pub mod Faults
 pub mod Memory
-pub mod Notes
+pub mod inside
 pub mod Plans
 pub mod Shelves
 pub mod Streams

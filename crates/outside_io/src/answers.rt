@@ -1,7 +1,7 @@
 // What a shelf answered, for contracts alone.
 ghost use Rattle.std.specs.Prelude.{◌≡◌, List, [], ◌∷◌, map};
 ghost use Rattle.outside_io.specs.Shelves.{Answer, Found, Absent, TooLong};
-ghost use Rattle.outside_io.specs.Notes.{answer_of};
+ghost use Rattle.outside_io.specs.inside.Notes.{answer_of};
 
 use crate::record::Record;
 use std::marker::Model;

@@ -1,7 +1,7 @@
 // Notes that only contracts read.
 ghost use Rattle.std.specs.Prelude.{◌≡◌, List, [], ◌∷◌};
 ghost use Rattle.std.specs.Borrow.{ftrue};
-ghost use Rattle.outside_io.specs.Notes.{Note};
+ghost use Rattle.outside_io.specs.inside.Notes.{Note};
 
 use std::marker::{Model, PhantomData};
 
