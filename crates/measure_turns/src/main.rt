@@ -18,7 +18,7 @@ mod waiting;
 use counter::{Ticks, count_turns};
 use issues::post_issues;
 use lane::MOST_CALLERS;
-use outside_io::FileDisk;
+use outside_io::{AnyFile, FileDisk};
 use std::env::Args;
 use std::process::ExitCode;
 use std::sync::Barrier;
@@ -76,7 +76,7 @@ fn main(rt: HostRuntime) -> io::Result<ExitCode> {
             if each > MOST_ISSUES {
                 return Ok(ExitCode::from(2));
             }
-            let disk = FileDisk::at(rt, "journal.life");
+            let disk = FileDisk::at(rt, "journal.life", AnyFile);
             let Ok((disk, accepted)) = post_issues(&rt, alloc, disk, NoWatchers, callers, each)
             else {
                 return Ok(ExitCode::from(8));
