@@ -26,7 +26,7 @@ mod turns;
 mod waiting;
 mod words;
 
-use outside_io::FileDisk;
+use outside_io::{AnyFile, FileDisk};
 use reserves::measure_reserves;
 use sleeping_disk::SleepingDisk;
 use std::process::ExitCode;
@@ -48,7 +48,7 @@ fn main(rt: HostRuntime) -> io::Result<ExitCode> {
         "turns" => measure_turns(&rt, &mut words)?,
         "waiting" => measure_waiting(&rt, &mut words)?,
         "postings" => {
-            let disk = FileDisk::at(rt, "journal.life");
+            let disk = FileDisk::at(rt, "journal.life", AnyFile);
             measure_postings(&rt, &mut words, "postings", disk)?
         }
         "sleeping" => {
