@@ -128,7 +128,8 @@ def check_journal(after: Journal, commands: list[Command]) -> None:
     demand(len(found) == len(commands), f"the journal has {len(found)} records of {len(commands)}")
 
 
-def check(script: bytes, transcript: str, before: bytes, after: bytes, basis: Sequence[BasisRow], known: Known | None = None) -> int:
+def check(script: bytes, transcript: str, before: bytes, after: bytes, basis: Sequence[BasisRow],
+          known: Known | None = None) -> int:
     """Checks a script, the text of its transcript, the bytes of the journal before and after, and the basis as `read_basis`
     gives it; says how many lines there are, or raises `Wrong`. `known` keeps exact values for further calls."""
     lines = read_script(script)

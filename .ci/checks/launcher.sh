@@ -65,7 +65,8 @@ wait
 launch state </dev/null
 tail -n 1 out | grep -q '^count,12$' || complain "eight postings of two previews: $(tail -n 1 out)"
 # one that waits for the other's output may not wait for its journal
-sh "$launcher" generate 5 2000 8 2>/dev/null | timeout 60 sh "$launcher" run >out 2>/dev/null || complain "a pipe between two previews hangs"
+sh "$launcher" generate 5 2000 8 2>/dev/null | timeout 60 sh "$launcher" run >out 2>/dev/null ||
+    complain "a pipe between two previews hangs"
 leaves_none
 
 begin "a preview beside a real journal"
@@ -133,7 +134,8 @@ def on_a_terminal(*words):
 with open("journal.life") as file:
     fcntl.flock(file, fcntl.LOCK_EX)
     status, said = on_a_terminal("state")
-    assert status == 8 and said.startswith("diskfault") and f"journal.life is held by process {os.getpid()}, " in said, (status, said)
+    holder = f"journal.life is held by process {os.getpid()}, "
+    assert status == 8 and said.startswith("diskfault") and holder in said, (status, said)
 status, said = on_a_terminal("state", "0")
 assert status == 2 and said.startswith("usage") and "life: the words" in said, (status, said)
 PY

@@ -68,11 +68,13 @@ python3 - <<'PY' >found
 import sqlite3
 money = lambda cents: f"{'-' if cents < 0 else ''}{abs(cents) // 100}.{abs(cents) % 100:02}"
 database = sqlite3.connect("journal.db")
-for row in database.execute("select * from policy order by (select min(position) from command where command.policy = policy.policy)"):
-    number, status, plan, age, years, amount, premium, issued, paid, outstanding = row
-    print(",".join(map(str, ["policy", number, status, plan, age, years, money(amount), money(premium), issued, paid, money(outstanding)])))
+issues = "select policy.* from policy join command on command.policy = policy.policy and kind = 'issue' order by position"
+for number, status, plan, age, years, amount, premium, issued, paid, outstanding in database.execute(issues):
+    fields = [number, status, plan, age, years, money(amount), money(premium), issued, paid, money(outstanding)]
+    print(",".join(["policy", *map(str, fields)]))
 for account in ("cash", "premiums", "incurred", "payable"):
-    print(f"balance,{account},{money(database.execute('select sum(cents) from booking where account = ?', [account]).fetchone()[0])}")
+    (cents,) = database.execute("select sum(cents) from booking where account = ?", [account]).fetchone()
+    print(f"balance,{account},{money(cents)}")
 print(f"count,{database.execute('select count(*) from command').fetchone()[0]}")
 PY
 cmp -s found state || complain "the SQLite file has another state"
@@ -83,7 +85,8 @@ go_on "positions of days"
 for day in 2021-01-19 2022-01-20 2024-03-12 2199-12-31; do
     says position_on "$day" journal.life
     "$life" value "$day" --at "$(cat out)" </dev/null >block || complain "value at the position of $day"
-    python3 "$tools/read_journal.py" journal.life | awk -F, -v day="$day" '/^[0-9]/ && $4 > day { exit } /^[0-9]/ { n = $1 } END { print n + 0 }' >wanted
+    python3 "$tools/read_journal.py" journal.life |
+        awk -F, -v day="$day" '/^[0-9]/ && $4 > day { exit } /^[0-9]/ { n = $1 } END { print n + 0 }' >wanted
     prints wanted
 done
 refuses "2021-02-29 is no day" position_on 2021-02-29 journal.life

@@ -145,7 +145,8 @@ def main():
         print(f"documents: {name}:{line}: {what}", file=sys.stderr)
     if wrong:
         sys.exit(1)
-    print(f"documents: lists, tables and links of {len(pages)} pages are whole, and FORMATS.md has {len(printed_words(root))} words")
+    words = len(printed_words(root))
+    print(f"documents: lists, tables and links of {len(pages)} pages are whole, and FORMATS.md has all {words} words")
 
 
 if __name__ == "__main__":

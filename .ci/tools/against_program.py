@@ -78,11 +78,13 @@ def judge_journal(program, data):
     status, text = program.run("state")
     journal = read_journal(data)
     if journal.refused:
-        need((status, text) == (5, journal.refused + "\n"), f"read_journal says {journal.refused} ({journal.why}), and the program {status}, {text!r}, of {data.hex()}")
+        need((status, text) == (5, journal.refused + "\n"), f"read_journal says {journal.refused} ({journal.why}), and the "
+             f"program {status}, {text!r}, of {data.hex()}")
         return 1
     balances = [f"balance,{account},{money(cents)}" for account, cents in balances_of(journal.commands).items()]
     wanted = [*balances, f"count,{len(journal.commands)}"]
-    need(status == 0 and text.splitlines()[-5:] == wanted, f"read_journal says {wanted}, and the program {status}, {text[-200:]!r}, of {data.hex()}")
+    need(status == 0 and text.splitlines()[-5:] == wanted, f"read_journal says {wanted}, and the program {status}, "
+         f"{text[-200:]!r}, of {data.hex()}")
     return 0
 
 
@@ -95,9 +97,10 @@ def drawn_script(draw):
         place = draw.randrange(len(rows))
         fields = rows[place].split(",")
         which = draw.randrange(len(fields))
-        fields[which] = draw.choice([fields[which][:-1], fields[which] + "0", "0" + fields[which], '"' + fields[which] + '"',
-                                     '"' + fields[which], " " + fields[which], "", "9", "-1", "2100-02-29", "now", "whole", "value",
-                                     fields[which] + '"', "\u00e9", "1.5", "0.00", "00", "129", "130", "4000001", "64", "65"])
+        field = fields[which]
+        fields[which] = draw.choice([field[:-1], field + "0", "0" + field, '"' + field + '"', '"' + field, " " + field,
+                                     field + '"', "", "9", "-1", "2100-02-29", "now", "whole", "value", "\u00e9", "1.5", "0.00", "00", "129",
+                                     "130", "4000001", "64", "65"])
         if draw.random() < 0.2:
             fields = draw.choice([fields[:which], [*fields, ""], [*fields, "x"], [",".join(fields[:2])]])
         rows[place] = ",".join(fields)
@@ -109,7 +112,8 @@ def judge_script(program, data):
     status, text = program.run("run", script=data)
     lines = read_script(data)
     if isinstance(lines, Fault):
-        need((status, text) == (3, lines.answer + "\n"), f"script_lines says {lines.answer}, and the program {status}, {text[:80]!r}, of {data!r}")
+        need((status, text) == (3, lines.answer + "\n"), f"script_lines says {lines.answer}, and the program {status}, "
+             f"{text[:80]!r}, of {data!r}")
         return 1
     need(status in (0, 4), f"script_lines takes {data!r}, and the program says {status}, {text[:80]!r}")
     return 0
@@ -117,23 +121,28 @@ def judge_script(program, data):
 
 # --- tables ---
 
+WRONG_RATES = ["1.1", "-1", "", "0,1", "0.0000000001", "x", "1E-999", "0.1<!-- -->", "<b/>0.1", "&lt;"]
+STRANGE_ROWS = ["<Y>0.1</Y>", '<Y t="131">0</Y>', '<Y t="7">0</Y>', '<Y t="x">0</Y>', "<Z/>", '<Axis t="1"/>',
+                '<Y t="00">0.1</Y>', '<Y u="1" t="0" >0.1</Y>', "<Y t='0'>\n 0.1\t</Y>", '<Y t="0"/>']
+FACTORS = [None, None, "", "0", " 1.0 ", "1000", "1<!-- -->", " "]
+DECLARATIONS = ["", '<?xml version="1.0"?>', '<?xml version="1.0" encoding="utf-8"?>\n']
+
+
 def drawn_table(draw):
     """A table's file with something in it that is passed over, or that isn't right."""
     first = draw.choice([0, 0, 5, 128])
     rates = [draw.choice(["0.1", "1", "1.", ".5", "9E-05", "0.000000001", "0", "1e0"]) for _ in range(draw.randrange(1, 4))]
     if draw.random() < 0.3:
-        rates[draw.randrange(len(rates))] = draw.choice(["1.1", "-1", "", "0,1", "0.0000000001", "x", "1E-999", "0.1<!-- -->", "<b/>0.1", "&lt;"])
+        rates[draw.randrange(len(rates))] = draw.choice(WRONG_RATES)
     rows = [f'<Y t="{first + place}">{rate}</Y>' for place, rate in enumerate(rates)]
     if draw.random() < 0.3:
-        rows[draw.randrange(len(rows))] = draw.choice(["<Y>0.1</Y>", '<Y t="131">0</Y>', '<Y t="7">0</Y>', '<Y t="x">0</Y>', "<Z/>", '<Axis t="1"/>',
-                                                       '<Y t="00">0.1</Y>', '<Y u="1" t="0" >0.1</Y>', "<Y t='0'>\n 0.1\t</Y>", '<Y t="0"/>'])
-    factor = draw.choice(["", "", "<ScalingFactor/>", "<ScalingFactor>0</ScalingFactor>", "<ScalingFactor> 1.0 </ScalingFactor>",
-                          "<ScalingFactor>1000</ScalingFactor>", "<ScalingFactor>1<!-- --></ScalingFactor>", "<ScalingFactor> </ScalingFactor>"])
-    table = f"<Table><MetaData>{factor}</MetaData><Values><Axis>{''.join(rows)}</Axis></Values></Table>"
-    text = "".join([draw.choice(["", "", "\ufeff"]), draw.choice(["", '<?xml version="1.0"?>', '<?xml version="1.0" encoding="utf-8"?>\n']),
-                    draw.choice(["", "<!-- \u00e9\u00df\u2192 -->", " \n"]), "<XTbML>", draw.choice(["", "<Table/>", "<Other>&amp;</Other>"]),
-                    table, draw.choice(["", table, "<Y t='1'>9</Y>"]), "</XTbML>", draw.choice(["", "\n", "<!-- -->"])])
-    return broken(draw, text.encode())
+        rows[draw.randrange(len(rows))] = draw.choice(STRANGE_ROWS)
+    factor = draw.choice(FACTORS)
+    scaling = "" if factor is None else f"<ScalingFactor>{factor}</ScalingFactor>"
+    table = f"<Table><MetaData>{scaling}</MetaData><Values><Axis>{''.join(rows)}</Axis></Values></Table>"
+    head = [draw.choice(["", "", "\ufeff"]), draw.choice(DECLARATIONS), draw.choice(["", "<!-- \u00e9\u00df\u2192 -->", " \n"])]
+    around = [draw.choice(["", "<Table/>", "<Other>&amp;</Other>"]), table, draw.choice(["", table, "<Y t='1'>9</Y>"])]
+    return broken(draw, "".join([*head, "<XTbML>", *around, "</XTbML>", draw.choice(["", "\n", "<!-- -->"])]).encode())
 
 
 def broken(draw, data):
@@ -142,8 +151,9 @@ def broken(draw, data):
     if what == 0:
         return data[:draw.randrange(len(data))]
     if what == 1:
-        old, new = draw.choice([(b"XTbML", b"XTBML"), (b"<Values>", b"<Value>"), (b"Axis", b"axis"), (b"<Axis>", b"<Axis id='a'>"),
-                                (b"<XTbML>", b"<!DOCTYPE x><XTbML>"), (b"</Table>", b"</Table><![CDATA[x]]>"), (b"</Y>", b"</y>")])
+        old, new = draw.choice([(b"XTbML", b"XTBML"), (b"<Values>", b"<Value>"), (b"Axis", b"axis"), (b"</Y>", b"</y>"),
+                                (b"<Axis>", b"<Axis id='a'>"), (b"<XTbML>", b"<!DOCTYPE x><XTbML>"),
+                                (b"</Table>", b"</Table><![CDATA[x]]>")])
         return data.replace(old, new)
     return data
 
@@ -173,8 +183,9 @@ def main():
     program.write("t.xml", b'<XTbML><Table><Values><Axis><Y t="0">1</Y></Axis></Values></Table></XTbML>')
     scripts = sum(judge_script(program, drawn_script(draw)) for _ in range(SCRIPTS))
     journals = sum(judge_journal(program, drawn_journal(draw)) for _ in range(JOURNALS))
-    need(len(words) >= 8 and min(scripts, journals) > 50, f"too little was tried: {words}, {scripts} scripts, {journals} journals")
-    print(f"tools: as the program, {journals} of {JOURNALS} journals are refused, {scripts} of {SCRIPTS} scripts, and of {TABLES} tables {words}")
+    tried = f"{journals} of {JOURNALS} journals are refused, {scripts} of {SCRIPTS} scripts, and of {TABLES} tables {words}"
+    need(len(words) >= 8 and min(scripts, journals) > 50, f"too little was tried: {tried}")
+    print(f"tools: as by the program, {tried}")
 
 
 main()

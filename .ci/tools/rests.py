@@ -43,7 +43,7 @@ def run_up_to(draw, lines, book, turns):
 
 
 def is_a_run(lines, book, commands, rest):
-    """Whether these commands are what a run leaves that answered just the rows that aren't in the rest, in some order of turns."""
+    """Whether a run may leave these commands that answered just the rows that aren't in the rest, in some order of turns."""
     lanes = {lane: rows[:len(rows) - len(rest[lane])] for lane, rows in lanes_of(lines).items()}
     return can_leave(lanes, dict.fromkeys(lanes, 0), book, commands, set())
 
@@ -104,13 +104,15 @@ def judge_equal(draw):
     """Few kinds of rows in three lanes, so that most stand in several: the rest has to be that of some run."""
     rows = [f"{draw.randrange(1, 4)},{draw.choice(SETTLEMENTS)}" for _ in range(draw.randrange(2, 12))]
     lines = read_script("\n".join(rows).encode())
-    begun = read_script(b"1,issue,1,2020-01-01,whole,30,0,60.00,1.00\n1,claim,1,2020-02-01\n1,issue,2,2020-01-01,whole,30,0,10.00,1.00\n")
+    begun = read_script(b"1,issue,1,2020-01-01,whole,30,0,60.00,1.00\n1,claim,1,2020-02-01\n"
+                        b"1,issue,2,2020-01-01,whole,30,0,10.00,1.00\n")
     opening = [line.command for line in begun]
     for cut in range(CUTS):
         book = Book(opening)
         run_up_to(draw, lines, book, draw.randrange(len(lines) + 1))
         rest = rest_of(lines, Book(opening), book.commands[len(opening):])
-        need(is_a_run(lines, Book(opening), book.commands, rest), f"no run of {rows} leaves {[words_of(it) for it in book.commands]} and this rest")
+        need(is_a_run(lines, Book(opening), book.commands, rest),
+             f"no run of {rows} leaves {[words_of(it) for it in book.commands]} and this rest")
 
 
 def judge_strange(draw):
@@ -133,7 +135,7 @@ def main():
     for _ in range(EQUAL_RUNS):
         judge_equal(draw)
     judge_strange(draw)
-    print(f"tools: the rests of {RUNS} scripts are what was left, and of {EQUAL_RUNS * CUTS} with equal rows each is that of some run")
+    print(f"tools: the rests of {RUNS} scripts are what was left, and of {EQUAL_RUNS * CUTS} with equal rows each is a run's")
 
 
 main()

@@ -6,6 +6,7 @@ use outside_io::*;
 use std::collections::BTreeMap;
 use std::fs;
 use std::fs::{File, OpenOptions};
+use std::io::pipe;
 use std::process::Abort;
 use std::test::Fail;
 
@@ -108,6 +109,26 @@ fn a_full_device_fails(rt: HostRuntime) -> Result<(), Fail> {
     let written = full.write_at(0, b"a line");
     let synced = full.sync();
     assert!(rt; (written, synced, full.faults()) == (Err(Failed), Err(Failed), 2));
+    Ok(())
+}
+
+// What goes into a pipe comes out of it; with nobody at its other end a write fails.
+#[test]
+fn a_pipe_is_a_stream(rt: HostRuntime) -> Result<(), Fail> {
+    let (reader, writer) = pipe(&rt)?;
+    let mut sink = StdSink::new(writer);
+    let mut source = StdSource::new(reader);
+    let written = write_all(&mut sink, b"through");
+    drop(sink);
+    let Ok(read) = read_all(rt.alloc(), &mut source, 7) else {
+        return Err(Fail::new("not read"));
+    };
+    assert!(rt; (written, read.as_slice()) == (Ok(()), b"through".as_slice()));
+    assert!(rt; source.faults() == 0);
+    let (reader, writer) = pipe(&rt)?;
+    drop(reader);
+    let mut sink = StdSink::new(writer);
+    assert!(rt; (write_all(&mut sink, b"lost"), sink.faults()) == (Err(WriteFault), 1));
     Ok(())
 }
 
