@@ -4,7 +4,7 @@
 mod words;
 
 use life_app::{Ended, life};
-use outside_io::{FileDisk, FolderShelf, OpenGate, StdSink, StdSource, write_all};
+use outside_io::{AnyFile, FileDisk, FolderShelf, OpenGate, StdSink, StdSource, write_all};
 use policy_types::Watcher;
 use std::alloc::AllocError;
 use std::env;
@@ -39,7 +39,7 @@ fn main(rt: HostRuntime) -> ExitCode {
     watchers.push_reserved(counting);
     watchers.push_reserved(adding);
     let mut shelf = FolderShelf::new(rt);
-    let disk = FileDisk::at(rt, JOURNAL);
+    let disk = FileDisk::at(rt, JOURNAL, AnyFile);
     let Ended { status, disk } = life(
         &rt,
         alloc,

@@ -1,4 +1,7 @@
 pub mod Disks
+pub mod DiskLaws
+pub mod FileCalls
+pub mod FileLaws
 pub mod Faults
 pub mod Memory
 pub mod inside

@@ -28,6 +28,7 @@ impl Pieces {
     }
 
     // One piece more, and how many bytes there was room for.
+    #[inline(always)]
     pub(crate) fn note(&mut self, room: usize, bytes: &[u8])
         ensures { self.new ≡ record { room = room; bytes = bytes.now } ∷ self.old }
     {

@@ -25,7 +25,7 @@ use Rattle.turn_lock.specs.History.{entries_of}
 use Rattle.turn_lock.specs.Passes.{Holding, IsFirst, OwnsAll, Page, PassFacts, callers as numbers_of}
 use Rattle.lane_runner.specs.AnsweredLines.{AnsweredLine, turns_in}
 use Rattle.policy_types.specs.Lanes.{lines_in}
-use Rattle.lane_runner.specs.Transcripts.{HasAnsweredLanes, IsOutcome, IsToldAnswer as IsToldOf, dry_of, lacked_memory}
+use Rattle.lane_runner.specs.Transcripts.{HasAnsweredLanes, IsOutcome, IsTold as IsToldOf, dry_of, lacked_memory}
 use Rattle.lane_runner.specs.declared.transcript.TranscriptLine.{TranscriptLine}
 use Rattle.lane_runner.specs.declared.transcript.Transcript.{Transcript}
 use Rattle.program_endings.specs.Replies.{ArePins, HasBlank, IsAnswered, IsPinned, IsUnfaulted}
