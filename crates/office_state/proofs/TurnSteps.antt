@@ -23,7 +23,6 @@ use Rattle.posting_journal.specs.Files.{IsJournal}
 use Rattle.posting_journal.specs.Runs.{Leaves}
 use Rattle.posting_journal.specs.States.{StandsFor as JournalStands, IsKept, count_of as records_in, disk_of as disk_under, is_clean}
 use Rattle.posting_journal.specs.declared.journal.Journal.{Journal}
-use Rattle.posting_journal.proofs.Written.{staged_either}
 use Rattle.watcher_set.specs.declared.watching.Watching.{Ghosts as WatcherGhosts}
 use Rattle.arrayvec.specs.ArrayVec.{ArrayVec}
 use Rattle.office_state.specs.declared.books.Books.{Books}
@@ -39,7 +38,7 @@ use Rattle.office_state.specs.States.{begun_of, commands_of, disk_of, opening_of
 use Rattle.office_state.specs.inside.Books.{commands_in}
 use Rattle.office_state.specs.inside.Holding.{IsLeftBehind, JournalHolds}
 use Rattle.office_state.specs.inside.Records.{Records}
-use Rattle.office_state.proofs.HistorySteps.{accepted-same, all_before, all_in, all_up_to, commands-more, commands-same, faults-same, faults_after-more, faults_after-same, faults_met, faults-more, holds_all, holds_more, holds_once-push, is_due, is_fresh, pending-now, pending-push, posting}
+use Rattle.office_state.proofs.HistorySteps.{accepted-same, all_before, all_in, all_up_to, commands-more, commands-same, faults-same, faults_after-more, faults_after-same, faults_met, faults-more, holds_all, holds_more, is_due, is_fresh, pending-now, posting}
 use Rattle.office_state.proofs.KeptSteps.{keeps_more, keeps_still, keeps_unaccepted, kept_now, least_now}
 use Rattle.office_state.proofs.ImageSteps.{holds_now, journal_of, journal_of_more, left_still, now_later, since_on, since_still}
 use Rattle.office_state.proofs.KeepingSteps.{all-more, values-book}
