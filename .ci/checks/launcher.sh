@@ -109,6 +109,57 @@ touch "$copy/out/preview/life_preview"
 launch state </dev/null
 notes_are "a preview"
 
+# a stand-in for the kit, which proves nothing and does what STAND_IN says
+begin "proving"
+mkdir kit
+cat >kit/rt <<'KIT'
+#!/bin/sh
+case $STAND_IN-$1 in
+    stopped-all) sleep 60 & echo $! >"$NOTED"; wait ;;
+    unproved-all) echo "== policy_types"; echo "policy_types: failed (1)"; exit 1 ;;
+    *-all) echo "== policy_types"; echo "== life_cli"; echo "== summary"; echo "policy_types: ok"; sleep 2 ;;
+    unbuilt-run) echo "rt: the library policy_types did not build"; exit 1 ;;
+    edited-run) sleep 0.1; touch src/main.rt; sleep 0.1; cp "$PROGRAM" out/life_cli; echo "rt: running out/life_cli;"; exit 2 ;;
+    kept-run) echo "rt: running out/life_cli;"; exit 2 ;;
+    built-run) cp "$PROGRAM" out/life_cli; echo "rt: running out/life_cli;"; exit 2 ;;
+esac
+KIT
+chmod +x kit/rt
+
+# `life prove` with the stand-in: what it does, the status, a note, and whether the program is then current
+proves() {
+    PATH=$work/proving/kit:$PATH STAND_IN=$1 PROGRAM=$program sh "$launcher" prove >out 2>notes </dev/null
+    status=$?
+    [ "$status" = "$2" ] || complain "$1: status $status: $(cat notes)"
+    notes_are "$3"
+    sleep 0.1
+    touch "$copy/out/preview/life_preview"
+    launch state </dev/null
+    if [ "$4" = current ]; then
+        [ ! -s notes ] || complain "$1: the program isn't current"
+    else
+        notes_are "a preview"
+    fi
+}
+
+main=$copy/crates/life_cli/src/main.rt
+proves built 0 "checked life_cli, 2 of" current
+touch "$main"
+proves unproved 70 "^policy_types: failed" old
+proves unbuilt 70 "not proved and built" old
+proves edited 70 "not proved and built" old
+proves kept 0 "is proved and built, after" current
+touch "$main"
+PATH=$work/proving/kit:$PATH STAND_IN=stopped NOTED=$work/noted sh "$launcher" prove >out 2>notes </dev/null &
+stopped=$!
+until [ -s "$work/noted" ]; do sleep 0.1; done
+kill "$stopped"
+wait "$stopped"
+[ $? = 130 ] || complain "it isn't stopped: $(cat notes)"
+sleep 0.2
+# one that has ended may still be waiting to be taken note of
+ps -o stat= -p "$(cat "$work/noted")" | grep -qv '^Z' && complain "the kit goes on after the launcher was stopped"
+
 begin "hints on a terminal"
 touch "$copy/crates/life_cli/out/life_cli"
 "$life" run <"$first.csv" >transcript

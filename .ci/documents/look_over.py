@@ -1,4 +1,5 @@
-"""Looks that the pages are whole: lists, tables, links, and that each word which the program can print is documented.
+"""Looks that the pages are whole: lists, tables, links, the layers of crates; and that each word which the program can
+print is documented.
 
 usage: python3 look_over.py ROOT PAGE..
 """
@@ -132,10 +133,30 @@ def wrong_words(root):
         yield 0, f"the program can print `{word}`, which FORMATS.md doesn't tell"
 
 
+def wrong_layers(root):
+    """Crates whose libraries in MAP.md's layers aren't those of crates.txt; MAP.md has those of tests without their libraries."""
+    stands = {}
+    with open(os.path.join(root, "crates.txt"), encoding="utf-8") as file:
+        for line in file:
+            crate = re.match(r"([a-z_]+)[^:#]*:(.*)", line)
+            if crate and not crate[1].endswith("_tests"):
+                stands[crate[1]] = set(crate[2].split())
+    with open(os.path.join(root, "docs", "MAP.md"), encoding="utf-8") as file:
+        layers = file.read().split("\n## Layers\n")[1].split("\n## ")[0]
+    told = {}
+    for item in re.finditer(r"^- ((?:`\w+`, )*`\w+`):(.*?)(?=^- |^\*\*|\n\n|\Z)", layers, re.M | re.S):
+        libraries = set(re.findall(r"`(\w+)`", item[2].partition("Stands")[2]))
+        told.update((name, libraries) for name in re.findall(r"`(\w+)`", item[1]))
+    for crate, libraries in sorted(stands.items()):
+        if told.get(crate) != libraries:
+            yield 0, f"{crate} stands on {sorted(libraries)}, and is told to stand on {sorted(told.get(crate, []))}"
+
+
 def main():
     root, *names = sys.argv[1:]
     pages = {name: Page(root, name) for name in names}
     wrong = [("docs/FORMATS.md", *each) for each in wrong_words(root)]
+    wrong += [("docs/MAP.md", *each) for each in wrong_layers(root)]
     for name, page in pages.items():
         if page.unended:
             wrong.append((name, len(page.lines), "the last block isn't ended"))

@@ -99,8 +99,8 @@ def drawn_script(draw):
         which = draw.randrange(len(fields))
         field = fields[which]
         fields[which] = draw.choice([field[:-1], field + "0", "0" + field, '"' + field + '"', '"' + field, " " + field,
-                                     field + '"', "", "9", "-1", "2100-02-29", "now", "whole", "value", "\u00e9", "1.5", "0.00", "00", "129",
-                                     "130", "4000001", "64", "65"])
+                                     field + '"', "", "9", "-1", "2100-02-29", "now", "whole", "value", "\u00e9", "1.5", "0.00", "00",
+                                     "129", "130", "4000001", "64", "65"])
         if draw.random() < 0.2:
             fields = draw.choice([fields[:which], [*fields, ""], [*fields, "x"], [",".join(fields[:2])]])
         rows[place] = ",".join(fields)

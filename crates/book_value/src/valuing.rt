@@ -13,7 +13,9 @@ use basis_book::{Basis, Name};
 use basis_shelf::fetch_basis;
 use outside_io::{Disk, Gate, Shelf, Sink};
 use policy_types::{At, PinRefusal};
-use program_endings::{Ending, Finished, end, lack_memory, refuse_basis, refuse_journal, write_text};
+use program_endings::{
+    Ending, Finished, end, lack_memory, refuse_basis, refuse_journal, write_text,
+};
 use report_text::print_block;
 use shared_office::{Office, OfficeCalls, OfficePass, close};
 use snapshot_value::{Valuation, ValueFault};

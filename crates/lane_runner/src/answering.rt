@@ -38,6 +38,7 @@ pub fn answer_lane<D: Disk, W: Watching, G: Gate, R: Wait>(
     ensures answered { HasAnswered basis.now lane.now.number lane.now.lines pass.old pass.new lines.new.items }
     ensures facts { PassFacts IsOfficeHistory pass.new }
 {
+    // What is known of every pass (`PassFacts`) is told of this one here.
     pass.caller();
     answer_lines(
         rt,

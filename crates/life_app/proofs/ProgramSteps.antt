@@ -1,5 +1,5 @@
 -- What the exit status tells of the words, the script, the basis and the file
-use Rattle.std.proofs.Common.{◌≡◌, ℕ, ◌≤◌, ◌<◌, ◌⊎◌, ℤ, List, length, refl, ap, sym, ◌∙◌, subst, inl, inr, Option, None, Some, String, Global, codes, arith}
+use Rattle.std.proofs.Common.{◌≡◌, ℕ, ◌≤◌, ◌<◌, ◌⊎◌, ℤ, List, length, refl, ap, subst, inl, inr, None, Some, String, Global, codes, arith}
 use Rattle.std.specs.Prelude.{true}
 use Rattle.outside_io.specs.declared.disks.Disk.{Ghosts}
 use Rattle.outside_io.specs.Faults.{Rose}

@@ -1,7 +1,6 @@
 -- How a run ends, by what its parts did
-use Rattle.std.proofs.Common.{◌≡◌, ℕ, ◌≤◌, ◌<◌, Bool, true, false, List, [], ◌++◌, length, refl, ap, sym, ◌∙◌, subst, inl, inr, Option, Some, None, Result, Ok, Err, append-nil}
-use Rattle.std.specs.Prelude.{All, IfOk, IfSome, OnErr, if◌then◌else◌}
-use Rattle.std.specs.Io.KnownBytes.{Appends, IsAtEnd}
+use Rattle.std.proofs.Common.{◌≡◌, ℕ, Bool, true, false, List, [], ◌++◌, refl, ap, sym, ◌∙◌, subst, inl, inr, Some, Result, Ok, Err}
+use Rattle.std.specs.Prelude.{All, IfOk, OnErr, if◌then◌else◌}
 use Rattle.outside_io.specs.Faults.{Rose}
 use Rattle.outside_io.specs.Streams.{AppendsPart}
 use Rattle.outside_io.specs.declared.disks.Disk.{Ghosts}
@@ -14,7 +13,6 @@ use Rattle.policy_types.specs.declared.entry.Entry.{Entry}
 use Rattle.policy_machine.specs.History.{IsLegal, accepted_of, opened_on}
 use Rattle.watcher_set.specs.Noted.{Auditor, reports_of}
 use Rattle.watcher_set.specs.declared.watching.Watching.{Ghosts as WatcherGhosts}
-use Rattle.command_csv.specs.Reads.{IsFirstScriptFault, Reads}
 use Rattle.office_state.specs.declared.faults.StartCause.{StartCause}
 use Rattle.office_state.specs.declared.faults.StartCause.TheVariants.{DiskFault as FaultyDisk, NotAJournal, BadRecord, NoMemory as NoRoom}
 use Rattle.office_state.specs.Images.{IsLeftAlone, IsLeftBy}

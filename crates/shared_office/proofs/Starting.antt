@@ -43,20 +43,6 @@ module _ {D W : Type 0} (g : Ghosts D) (w : WatcherGhosts W) where
       let left = subst (λ (begun : D). IsLeftBy g begun disk (opened_on (opening_of office).commands (g.faults begun)) []) opened.begun closed in
       record { told = left.faults; shown = λ honest. tt; alone = left.alone tt }
 
-  -- an office that was opened, under the lock
-  pub started : (old : D) (watchers handed : W) (state : OfficeState D W g w) (pass : Holding (OfficeOpening D W)) → HasOpened old state
-      → handed ≡ watchers → IsFirst (record { opening = opening_of state; begun = begun_of state; watchers = handed }) pass
-      → HasStartedOffice g old watchers pass
-  started old watchers handed state pass opened same first = record {
-    opening = opening_of state;
-    first = subst (λ (begun : D). IsFirst (record { opening = opening_of state; begun = begun; watchers = watchers }) pass) opened.begun
-        (subst (λ (these : W). IsFirst (record { opening = opening_of state; begun = begun_of state; watchers = these }) pass) same first);
-    faults = ap g.faults opened.begun;
-    held = disk_of state;
-    honesty = opened.honesty;
-    opened = opened.opened;
-  }
-
   module _ (shared : SharedState D W g w) (pass : Holding (OfficeOpening D W)) (stood : SharedStandsFor shared pass.seen)
       (opened : pass.opening ≡ Some (opening_on shared)) (whole : OwnsAll pass) where
     -- the state was taken out and closed
