@@ -9,7 +9,7 @@ ghost use Rattle.snapshot_value.specs.Valuing.{most_turns};
 ghost use Rattle.lane_runner.specs.Lanes.{IsRightLane, IsRightLine};
 ghost use Rattle.lane_runner.specs.inside.Parts.{HasAnswered, IsRoomFor, outcome_of, turns_for, turns_needed};
 
-use crate::transcript::{TranscriptLine, Outcome};
+use crate::transcript::{Outcome, TranscriptLine};
 use basis_book::Basis;
 use outside_io::{Disk, Gate};
 use policy_types::{At, Command, Lane, Line};

@@ -11,7 +11,7 @@ ghost use Rattle.lane_runner.specs.Transcripts.{HasAnsweredLanes};
 ghost use Rattle.lane_runner.specs.inside.Parts.{HasEntered, HasLeft, HasLaneRoom, HasRunAt, HaveRun, IsReadySeat, IsReadyAt, IsRoomFor, shares_to_enter, turns_to_enter};
 
 use crate::answering::answer_lane;
-use crate::transcript::{TranscriptLine, TranscriptLines, Callers, Transcript};
+use crate::transcript::{Callers, Transcript, TranscriptLine, TranscriptLines};
 use basis_book::Basis;
 use outside_io::{Disk, Gate};
 use policy_types::{Lane, NoMemory};
