@@ -24,6 +24,13 @@ LEAST = 200
 TABLE = (b'\xef\xbb\xbf <?xml version="1.0"?>\n<!-- Q --><XTbML><Table><MetaData><ScalingFactor> 1.0 </ScalingFactor></MetaData>'
          b"<Values><Axis id='a'>\n<Y t=\"0\">0.1</Y><Y t='01' >2E-1</Y><Y t=\"2\">.25<!-- -->"
          b'</Y></Axis></Values></Table><Table/></XTbML>\n').replace(b"<!-- --></Y>", b"</Y><!-- -->")
+# policies in force that the tables fit, so that a valuation rests on their rates
+VALUED = b"""1,issue,1,2004-02-29,whole,0,0,1000.00,400.00
+1,issue,2,2004-03-01,endowment,0,2,1000.00,400.00
+1,issue,3,2012-03-01,endowment,20,3,1000.00,330.00
+1,issue,4,2016-02-29,limited,100,5,100000000.00,100000000.00
+1,issue,5,2019-06-01,term,0,3,2000.00,1.00
+"""
 BASIS = b'2000-01-01,q.xml,0\r\n\n"2010-01-01",m.xml,300\n2015-02-28,g.xml,2000'
 
 
@@ -38,8 +45,12 @@ def book_of_forty():
     return book
 
 
+def book_of_values():
+    return Book(line.command for line in read_script(VALUED))
+
+
 def files(book):
-    """Each file by its kind. The journal has a closed gate and a rest behind its records, as a crash may leave it."""
+    """Each file by its kind."""
     return {"journal": file_of(book.commands), "script": script_of_forty() + b"2,trim\n3,value,2021-01-01,7,64\n", "basis": BASIS,
             "table": TABLE}
 
@@ -64,7 +75,7 @@ def judge(trials, book, case):
         return judged(trials[kind], bytes(data))
     if kind == "script":
         return judge_script(trials[kind], bytes(data))
-    return (judge_basis if kind == "basis" else judge_table)(trials[kind], bytes(data), book)
+    return (judge_basis if kind == "basis" else judge_table)(trials[kind], bytes(data), book_of_values())
 
 
 def main():

@@ -13,7 +13,7 @@ import random
 import sys
 import time
 
-from changed_bytes import BASIS, TABLE, book_of_forty, script_of_forty
+from changed_bytes import BASIS, TABLE, book_of_forty, book_of_values, script_of_forty
 from formats import Wrong
 from rules import Book
 from scripts import MIDDLE, make_script
@@ -113,8 +113,8 @@ def judge(trials, book, draw, kind):
     if kind == "journal":
         return draw.choice([judge_journal, judge_posting])(trial, drawn_journal(draw, book))
     if kind == "basis":
-        return judge_basis(trial, spoilt(draw, BASIS, TOKENS["basis"], 3), book)
-    return judge_table(trial, spoilt(draw, draw.choice(tables(trial.folder)), TOKENS["table"], 4), book)
+        return judge_basis(trial, spoilt(draw, BASIS, TOKENS["basis"], 3), book_of_values())
+    return judge_table(trial, spoilt(draw, draw.choice(tables(trial.folder)), TOKENS["table"], 4), book_of_values())
 
 
 def main():

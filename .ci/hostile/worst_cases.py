@@ -10,7 +10,6 @@ import shutil
 import subprocess
 import sys
 import tempfile
-import time
 
 from big_journals import WRITERS, write
 
@@ -82,17 +81,18 @@ def cases(part):
 
 
 def measured(program, folder, words):
-    """Seconds, processor seconds, MiB, status and last line."""
-    with open(os.path.join(folder, "script"), "ab+") as script, open(os.path.join(folder, "out"), "wb+") as out:
+    """Seconds, processor seconds, MiB, status and last line. GNU time starts the program: a child of Python's own would be
+    reckoned with the memory of Python."""
+    path = lambda name: os.path.join(folder, name)
+    with open(path("script"), "ab+") as script, open(path("out"), "wb+") as out:
         script.seek(0)
-        began = time.monotonic()
-        child = subprocess.Popen(["timeout", str(SECONDS), program, *words], cwd=folder, stdin=script, stdout=out)
-        _, status, used = os.wait4(child.pid, 0)
-        child.returncode = os.waitstatus_to_exitcode(status)
-        seconds = time.monotonic() - began
+        timed = ["/usr/bin/time", "-q", "-f", "%e %U %S %M", "-o", path("used"), "timeout", str(SECONDS), program, *words]
+        status = subprocess.run(timed, cwd=folder, stdin=script, stdout=out, check=False).returncode
         out.seek(max(os.path.getsize(out.name) - 300, 0))
         last = (out.read().decode("ascii", "replace").splitlines() or [""])[-1]
-    return seconds, used.ru_utime + used.ru_stime, used.ru_maxrss / 1024, child.returncode, last
+    with open(path("used"), encoding="ascii") as used:
+        seconds, user, system, kibibytes = map(float, used.read().split())
+    return seconds, user + system, kibibytes / 1024, status, last
 
 
 def main():
