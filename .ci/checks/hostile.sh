@@ -9,7 +9,7 @@ quick=$(mktemp -d -p /dev/shm 2>/dev/null) || quick=$work
 # a run of this script over a journal that is there: the status and the answer that it must have
 answers() {
     printf '%s\n' "$2" >wanted
-    timeout "${patience:-60}" "$life" run <"${3:-$nothing}" >out
+    timeout "${patience:-300}" "$life" run <"${3:-$nothing}" >out
     judge $? "$1" wanted
 }
 
