@@ -109,9 +109,11 @@ printf '0,value,2021-01-01,1,1\nrow,7001,inforce,0,pasttable\ntotal,0.00,0.00,1\
 "$life" value 2021-01-01 </dev/null >out
 judge $? 0 wanted
 
-wait "$bytes" || { complain "changed bytes"; kept=yes; }
+name="changed bytes"
+wait "$bytes" || { complain "a case failed"; kept=yes; }
 cat "$work/bytes"
-wait "$drawn" || { complain "drawn cases"; kept=yes; }
+name="drawn cases"
+wait "$drawn" || { complain "a case failed"; kept=yes; }
 cat "$work/drawn"
 
 # A journal that is full, and one with a further open gate, which is the last byte. A program that LIFE_PROGRAM names is
@@ -134,7 +136,7 @@ else
 fi
 
 if [ -n "${kept:-}" ]; then
-    trap - EXIT
+    [ "$quick" != "$work" ] || trap - EXIT
     echo "hostile: the files are in $quick" >&2
     exit 1
 fi
