@@ -1,17 +1,17 @@
 -- What a line's command makes of words: it takes those that pieces spell, and finds the pieces' values
-use Rattle.std.proofs.Common.{◌≡◌, ◌&&◌, ◌||◌, Bool, true, false, cond, fold, not, List, [], ◌∷◌, ◌++◌, map, Option, Some, None, option_map, is_some, unwrap_or, refl, sym, ap, ap₂, ◌∙◌, subst, bytes_eq, append-nil, append_assoc, arith, true≢false}
+use Rattle.std.proofs.Common.{◌≡◌, ◌&&◌, ◌||◌, Bool, true, false, cond, fold, not, List, [], ◌∷◌, ◌++◌, map, None, is_some, unwrap_or, refl, sym, ap, ap₂, ◌∙◌, subst, bytes_eq, append-nil, append_assoc, arith, true≢false}
 use Rattle.std.specs.List.{list_any}
-use Rattle.clap.specs.Walk.{Row, Rule, Text, Walk, all_of, idle, walked, settled, finished, with_default, has_row, rows_after, nothing_held}
+use Rattle.clap.specs.Walk.{Row, Rule, Text, Walk, all_of, idle, settled, finished, with_default, has_row, rows_after, nothing_held}
 use Rattle.clap.specs.Simple.{App, built, entered, matches_of}
 use Rattle.clap.specs.Takes.{is_given}
 use Rattle.clap.specs.Kinds.{Kinds, or_else, check_kinds}
 use Rattle.clap.specs.Faults.{built_fault, fault_of, walk_fault, settle_fault, defaults_fault, check_fault, entered_fault, given_default_fault}
 use Rattle.life_args.specs.Pieces.{WordPiece, bare, apart, joined, spelled, bare_values, option_values, value_under, IsAmong, HasOnly}
-use Rattle.life_args.specs.inside.Lines.{ArePlain, IsPlain, Spelling, alone_id, has_odd, is_odd, line_app}
+use Rattle.life_args.specs.inside.Lines.{ArePlain, IsPlain, Spelling, alone_id, has_odd, is_odd, line_app, values_of}
 use Rattle.life_args.proofs.Lexing.{IsOptionName}
 use Rattle.life_args.proofs.Rules.{IsGood, add, filled_alone, filled_option, filled_options, own, rules, same}
-use Rattle.life_args.proofs.Steps.{all_rows, leaf, settles, stand}
-use Rattle.life_args.proofs.Walks.{ends, none_first, none_second, pieces_of, put, reads, total}
+use Rattle.life_args.proofs.Steps.{leaf, settles, stand}
+use Rattle.life_args.proofs.Walks.{ends, none_first, none_second, pieces_of, put, reads}
 
 -- ---- the values of rows
 
@@ -25,7 +25,7 @@ apart_names a b other = go (bytes_eq a b) refl
     go true e = absurd (other (same a b e))
     go false e = refl
 
-differ : (a b : Text) → bytes_eq a b ≡ false → a ≡ b → ⊥
+pub differ : (a b : Text) → bytes_eq a b ≡ false → a ≡ b → ⊥
 differ a b e is = true≢false (sym (own b) ∙ ap (λ (x : Text). bytes_eq x b) (sym is) ∙ e)
 
 -- a value is added to those of its id
@@ -47,7 +47,7 @@ values_added id name value (r ∷ rows) = go (bytes_eq r.id name) (bytes_eq r.id
     go false false d e rest = rw (d, e) rest
 
 -- the values that pieces give an id
-abbrev pub picked : Text → List WordPiece → List Text
+abbrev picked : Text → List WordPiece → List Text
 picked id [] = []
 picked id (bare value ∷ pieces) = value_under id alone_id value (picked id pieces)
 picked id (apart name value ∷ pieces) = value_under id name value (picked id pieces)
@@ -72,7 +72,7 @@ put_values id (joined name value ∷ pieces) rows =
 passed : (id name value : Text) (values : List Text) → bytes_eq name id ≡ false → value_under id name value values ≡ values
 passed id name value values other = ap (λ (t : Bool). cond t (value ∷ values) values) other
 
-pub option_picked : (name : Text) → bytes_eq alone_id name ≡ false → (pieces : List WordPiece) → picked name pieces ≡ option_values name pieces
+option_picked : (name : Text) → bytes_eq alone_id name ≡ false → (pieces : List WordPiece) → picked name pieces ≡ option_values name pieces
 option_picked name other [] = refl
 option_picked name other (bare value ∷ pieces) = passed name alone_id value (picked name pieces) other ∙ option_picked name other pieces
 option_picked name other (apart one value ∷ pieces) = ap (value_under name one value) (option_picked name other pieces)
@@ -145,9 +145,26 @@ module _ (names : List Text) (good : (name : Text) → IsAmong names name → Is
       let settle = none_first (settle_fault (rules names) false end.held) _ (none_second (entered_fault app end.stopped) _ (none_second (walk_fault (leaf (rules names)) [] start words) _ all)) in
       pieces_of names good words even (ap₂ or_else walk settle)
 
+  -- the values that stand alone, and those of each id
+  other_id : (name : Text) → IsAmong names name → bytes_eq name alone_id ≡ false
+  other_id name among = apart_names name alone_id (λ is. differ alone_id name (good name among).other (sym is))
+
+  alone_picked : (pieces : List WordPiece) → HasOnly names pieces → picked alone_id pieces ≡ bare_values pieces
+  alone_picked [] only = refl
+  alone_picked (bare value ∷ pieces) only = ap (λ vs. value ∷ vs) (alone_picked pieces only)
+  alone_picked (apart name value ∷ pieces) only = passed alone_id name value (picked alone_id pieces) (other_id name only.0) ∙ alone_picked pieces only.1
+  alone_picked (joined name value ∷ pieces) only = passed alone_id name value (picked alone_id pieces) (other_id name only.0) ∙ alone_picked pieces only.1
+
+  all_picked : (pieces : List WordPiece) → HasOnly names pieces → (id : Text) → picked id pieces ≡ values_of pieces id
+  all_picked pieces only id = go (bytes_eq alone_id id) refl
+    where
+      go : (t : Bool) → bytes_eq alone_id id ≡ t → picked id pieces ≡ values_of pieces id
+      go true e = subst (λ (n : Text). picked n pieces ≡ values_of pieces n) (same alone_id id e) (alone_picked pieces only)
+      go false e = rw e (option_picked id e pieces)
+
   -- words that pieces spell are taken, and the values are the pieces'
   pub spelled_taken : (words : List Text) (pieces : List WordPiece) → Spelling names words pieces
-      → (fault_of (line_app names) words ≡ []) × ((id : Text) → values_in id (matches_of (line_app names) words) ≡ picked id pieces)
+      → (fault_of (line_app names) words ≡ []) × ((id : Text) → values_in id (matches_of (line_app names) words) ≡ values_of pieces id)
   spelled_taken words pieces spelling =
       let read = reads names good pieces [] None idle tt tt spelling.only spelling.plain in
       let walk = none_first (walk_fault (leaf (rules names)) [] start (spelled pieces)) _ read.fault in
@@ -159,11 +176,10 @@ module _ (names : List Text) (good : (name : Text) → IsAmong names name → Is
       let rows : finished (rules names) (stand read.before read.last read.waiting).held ≡ put pieces [] =
       all_finished names (settled (rules names) (stand read.before read.last read.waiting).held).rows
       ∙ ap (λ h. h.rows) (settles names read.before read.last read.is_use) ∙ read.all in
-      let spells = spelling.spells in
-      (
+      let spells = spelling.spells in (
         level_is words ∙ ap (λ ws. level ws (ends names good start ws)) spells ∙ ap (level (spelled pieces)) read.at_end ∙ ap₂ or_else walk (ap₂ or_else settled_is (ap₂ or_else fits check)),
         λ id. ap (values_in id) (rows_are words ∙ ap (λ ws. finished (rules names) (ends names good start ws).held) spells ∙ ap (λ (w : Walk). finished (rules names) w.held) read.at_end ∙ rows)
-            ∙ put_values id pieces [],
+            ∙ put_values id pieces [] ∙ all_picked pieces spelling.only id,
       )
 
   -- no word of pieces is odd
@@ -185,13 +201,3 @@ module _ (names : List Text) (good : (name : Text) → IsAmong names name → Is
 
   pub spelled_even : (words : List Text) (pieces : List WordPiece) → Spelling names words pieces → has_odd words ≡ false
   spelled_even words pieces spelling = ap has_odd spelling.spells ∙ even pieces spelling.only spelling.plain
-
-  -- the values that stand alone
-  other_id : (name : Text) → IsAmong names name → bytes_eq name alone_id ≡ false
-  other_id name among = apart_names name alone_id (λ is. differ alone_id name (good name among).other (sym is))
-
-  pub alone_picked : (pieces : List WordPiece) → HasOnly names pieces → picked alone_id pieces ≡ bare_values pieces
-  alone_picked [] only = refl
-  alone_picked (bare value ∷ pieces) only = ap (λ vs. value ∷ vs) (alone_picked pieces only)
-  alone_picked (apart name value ∷ pieces) only = passed alone_id name value (picked alone_id pieces) (other_id name only.0) ∙ alone_picked pieces only.1
-  alone_picked (joined name value ∷ pieces) only = passed alone_id name value (picked alone_id pieces) (other_id name only.0) ∙ alone_picked pieces only.1

@@ -1,5 +1,5 @@
 -- Values say one mode at most
-use Rattle.std.proofs.Common.{◌≡◌, ℕ, ◌≤◌, ◌<◌, cond, Bool, true, false, List, [], ◌∷◌, Option, Some, None, refl, sym, ap, ◌∙◌, subst, arith, lit≤, ℤ, codes, decimal}
+use Rattle.std.proofs.Common.{◌≡◌, ℕ, ◌≤◌, cond, Bool, true, false, List, [], ◌∷◌, Option, Some, None, refl, sym, ap, ◌∙◌, subst, arith, lit≤, ℤ, codes, decimal}
 use Rattle.std.specs.Prelude.{◌==◌, ◌||◌}
 use Rattle.std.proofs.lemmas.Fmt.{decimal_injective}
 use Rattle.clap.specs.Walk.{Text}
@@ -12,6 +12,7 @@ use Rattle.life_args.specs.declared.mode.Mode.{Mode}
 use Rattle.life_args.specs.declared.mode.Mode.TheVariants as mode
 use Rattle.life_args.specs.Pieces.{AtMostOne}
 use Rattle.life_args.specs.Values.{IsPositionOr, AreWorkersOr, IsBasisOr, IsPolicyOr}
+use Rattle.life_args.specs.inside.Lines.{alone_id}
 use Rattle.life_args.specs.inside.Verbs.{AreDraws, SaysMode, verb_of}
 use Rattle.life_args.proofs.Texts.{text_of_day}
 
@@ -72,8 +73,7 @@ three_draws a b c x y z rest more e first other =
     let da : decimal a ≡ decimal x = cc in
     let db : decimal b ≡ decimal y = cc in
     let dc : decimal c ≡ decimal z = cc in
-    let rests : rest ≡ more = cc in
-    (
+    let rests : rest ≡ more = cc in (
       decimal_injective a x (omega (arith, first.0)) (omega (arith, other.0)) da,
       decimal_injective b y (omega (arith, first.1.1)) (omega (arith, other.1.1)) db,
       decimal_injective c z (omega (arith, first.2.1)) (omega (arith, other.2.1)) dc,
@@ -82,24 +82,24 @@ three_draws a b c x y z rest more e first other =
 
 -- ---- the modes
 
-pub same_mode : (alone : List Text) (options : Text → List Text) (one two : Mode) → verb_of one ≡ verb_of two → SaysMode alone options one → SaysMode alone options two → one ≡ two
-same_mode alone options (mode.Run a) (mode.Run b) e first other = ap mode.Run (one_lone (options (codes "basis")) IsBasisOr a b (λ o. one_basis o a b) first.1 other.1)
-same_mode alone options (mode.Value on position workers basis) (mode.Value day place crew file) e first other =
+pub same_mode : (values : Text → List Text) (one two : Mode) → verb_of one ≡ verb_of two → SaysMode values one → SaysMode values two → one ≡ two
+same_mode values (mode.Run a) (mode.Run b) e first other = ap mode.Run (one_lone (values (codes "basis")) IsBasisOr a b (λ o. one_basis o a b) first.1 other.1)
+same_mode values (mode.Value on position workers basis) (mode.Value day place crew file) e first other =
     let lists : first.0.0 ∷ [] ≡ other.0.0 ∷ [] = sym first.0.1 ∙ other.0.1 in
     let value : first.0.0 ≡ other.0.0 = cc in
     let days = same_day on day first.0.2.0 other.0.2.0 (sym first.0.2.1 ∙ value ∙ other.0.2.1) in
-    let places = one_lone (options (codes "at")) IsPositionOr position place (λ o. one_position o position place) first.1 other.1 in
-    let crews = one_lone (options (codes "workers")) AreWorkersOr workers crew (λ o. one_crew o workers crew) first.2 other.2 in
-    let files = one_lone (options (codes "basis")) IsBasisOr basis file (λ o. one_basis o basis file) first.3 other.3 in
+    let places = one_lone (values (codes "at")) IsPositionOr position place (λ o. one_position o position place) first.1 other.1 in
+    let crews = one_lone (values (codes "workers")) AreWorkersOr workers crew (λ o. one_crew o workers crew) first.2 other.2 in
+    let files = one_lone (values (codes "basis")) IsBasisOr basis file (λ o. one_basis o basis file) first.3 other.3 in
     λ i. mode.Value (days i) (places i) (crews i) (files i)
-same_mode alone options (mode.State a) (mode.State b) e first other = ap mode.State (one_lone alone IsPolicyOr a b (λ o. one_policy o a b) first other)
-same_mode alone options (mode.Generate a b c) (mode.Generate x y z) e first other =
+same_mode values (mode.State a) (mode.State b) e first other = ap mode.State (one_lone (values alone_id) IsPolicyOr a b (λ o. one_policy o a b) first other)
+same_mode values (mode.Generate a b c) (mode.Generate x y z) e first other =
     let all = three_draws a b c x y z [] [] (sym first.0 ∙ other.0) first.1 other.1 in
     λ i. mode.Generate (all.0 i) (all.1 i) (all.2 i)
-same_mode alone options (mode.Load a b c d) (mode.Load x y z w) e first other =
+same_mode values (mode.Load a b c d) (mode.Load x y z w) e first other =
     let all = three_draws a b c x y z (decimal d ∷ []) (decimal w ∷ []) (sym first.0 ∙ other.0) first.1 other.1 in
     let rests : decimal d ∷ [] ≡ decimal w ∷ [] = all.3 in
     let text : decimal d ≡ decimal w = cc in
     let crews = decimal_injective d w (omega (arith, first.2.1)) (omega (arith, other.2.1)) text in
     λ i. mode.Load (all.0 i) (all.1 i) (all.2 i) (crews i)
-same_mode alone options one two e first other = absurd (cc)
+same_mode values one two e first other = absurd (cc)

@@ -1,10 +1,9 @@
 -- The arguments of a line's command, as `clap` fills them in
-use Rattle.std.proofs.Common.{◌≡◌, ◌⊎◌, ℕ, Bool, true, false, List, [], ◌∷◌, map, Option, Some, None, refl, sym, ap, ◌∙◌, inl, inr, bytes_eq, true≢false}
+use Rattle.std.proofs.Common.{◌≡◌, ◌⊎◌, ℕ, Bool, true, false, List, [], ◌∷◌, map, Some, None, refl, sym, ap, ◌∙◌, inl, inr, bytes_eq, true≢false}
 use Rattle.std.proofs.lemmas.Slice.Eq.{bytes_eq-Decides}
 use Rattle.clap.specs.Walk.{Row, Rule, Text, arg_by_id, arg_by_long, most_values, used, with_values}
 use Rattle.clap.specs.Simple.{filled, filled_from, with_index}
 use Rattle.clap.specs.Faults.{use_fault}
-use Rattle.clap.specs.Kinds.{Kinds}
 use Rattle.clap.specs.declared.builder.value_parser.Reading.TheVariants.{AsWritten}
 use Rattle.clap.specs.declared.error.kind.ErrorKind.TheVariants.{InvalidValue}
 use Rattle.clap.specs.declared.parser.matches.ValueSource.TheVariants.{CommandLine}

@@ -1,5 +1,5 @@
 -- What a mode's values say, value by value
-use Rattle.std.proofs.Common.{◌≡◌, ◌∙◌, ℕ, ℤ, arith, codes, decimal, sym, subst, List, [], ◌∷◌, Option, Result, Ok, Err, IsErrAnd}
+use Rattle.std.proofs.Common.{◌≡◌, ◌∙◌, ℕ, arith, codes, decimal, sym, subst, List, [], ◌∷◌, Option, Result, Err, IsErrAnd}
 use Rattle.clap.specs.Words.{Text}
 use Rattle.clap.specs.declared.parser.matches.Found.{Found}
 use Rattle.policy_types.specs.declared.entry.At.{At}

@@ -1,18 +1,17 @@
 -- One word of `clap`'s walk over a line
-use Rattle.std.proofs.Common.{◌≡◌, ◌&&◌, ◌+◌, ℕ, Bool, true, false, cond, fold, List, [], ◌∷◌, Option, Some, None, option_map, refl, sym, ap, ap₂, ◌∙◌, inl, inr, bytes_eq, codes, nat_lt}
+use Rattle.std.proofs.Common.{◌≡◌, ◌&&◌, ℕ, Bool, true, false, cond, List, [], ◌∷◌, Option, Some, None, option_map, refl, ap, ap₂, ◌∙◌, bytes_eq, codes, nat_lt}
 use Rattle.std.specs.Prelude.{⊤}
 use Rattle.std.specs.Option.{option_map_or}
-use Rattle.clap.specs.Lexer.{long_of, short_of}
+use Rattle.clap.specs.Lexer.{long_of}
 use Rattle.clap.specs.Walk.{Held, Row, Rule, Step, Text, Waiting, Walk, idle, option, positional, next, settled, settled_rows, value, used, walked, arg_by_id, arg_by_long, is_pending, word_met, plain_word, option_word, pushed, after_step, after_flag, long_met, long_or_other, long_word, short_or_plain, subcommand_met, subcommand_or_other, to_positional, trailing}
 use Rattle.clap.specs.Simple.{Shape, new_shape}
-use Rattle.clap.specs.Faults.{settle_fault, turn_fault, walk_fault, use_fault, word_fault, other_fault, step_fault, positional_fault, flag_word_fault, bundle_fault, long_fault}
+use Rattle.clap.specs.Faults.{settle_fault, turn_fault, use_fault, word_fault, other_fault, step_fault, flag_word_fault, bundle_fault, long_fault}
 use Rattle.clap.specs.Kinds.{Kinds, or_else}
 use Rattle.clap.specs.declared.error.kind.ErrorKind.{ErrorKind}
 use Rattle.clap.specs.declared.error.kind.ErrorKind.TheVariants.{InvalidValue, UnknownArgument}
-use Rattle.life_args.specs.Pieces.{IsAmong}
 use Rattle.life_args.specs.inside.Lines.{alone_id}
 use Rattle.life_args.proofs.Lexing.{IsValueWord, IsNamed}
-use Rattle.life_args.proofs.Rules.{IsKnown, add, alone_known, filled_alone, filled_option, own, rules}
+use Rattle.life_args.proofs.Rules.{IsKnown, add, filled_alone, filled_option, own, rules}
 
 -- a built command without subcommands
 abbrev pub leaf : List Rule → Shape

@@ -1,5 +1,5 @@
 -- Values as texts
-use Rattle.std.proofs.Common.{◌≡◌, ◌≢◌, ◌+◌, ◌==◌, ◌<◌, ◌≤◌, ◌^◌, ℕ, false, List, [], ◌∷◌, length, get_or, sym, ap, subst, arith, inl, inr, decimal, eq-zero-or-pos, ℤ}
+use Rattle.std.proofs.Common.{◌≡◌, ◌≢◌, ◌+◌, ◌<◌, ◌^◌, ℕ, List, [], ◌∷◌, length, get_or, sym, ap, subst, arith, inl, inr, decimal, eq-zero-or-pos, ℤ}
 use Rattle.std.proofs.lemmas.Bool.Decides.{nat_tests}
 use Rattle.std.proofs.lemmas.Fmt.{decimal_digit, decimal_nonempty, first_decimal}
 use Rattle.std.proofs.lemmas.Int.{ints}

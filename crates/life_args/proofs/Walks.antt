@@ -1,14 +1,13 @@
 -- `clap`'s walk over the words that pieces spell, and the pieces of the words that it takes
-use Rattle.std.proofs.Common.{◌≡◌, ◌⊎◌, ◌||◌, Bool, true, false, fold, List, [], ◌∷◌, ◌++◌, Option, Some, None, refl, sym, ap, ap₂, ◌∙◌, inl, inr, true≢false}
-use Rattle.std.specs.Prelude.{⊤}
-use Rattle.clap.specs.Walk.{Row, Text, Waiting, Walk, idle, positional, walked, arg_by_long}
+use Rattle.std.proofs.Common.{◌≡◌, ◌||◌, Bool, true, false, fold, List, [], ◌∷◌, ◌++◌, Option, Some, None, refl, sym, ap, ap₂, ◌∙◌, inl, inr, true≢false}
+use Rattle.clap.specs.Walk.{Row, Text, Waiting, Walk, idle, positional, walked}
 use Rattle.clap.specs.Faults.{settle_fault, walk_fault}
 use Rattle.clap.specs.Kinds.{Kinds, or_else}
 use Rattle.life_args.specs.Pieces.{WordPiece, bare, spelled, IsAmong, HasOnly}
 use Rattle.life_args.specs.Pieces.{apart as apart_piece, joined as joined_piece}
-use Rattle.life_args.specs.inside.Lines.{ArePlain, IsPlain, Spelling, alone_id, has_odd, is_odd}
+use Rattle.life_args.specs.inside.Lines.{ArePlain, Spelling, alone_id, has_odd, is_odd}
 use Rattle.life_args.proofs.Lexing.{IsNamed, Seen, alone, apart, joined, seen, plain_word, apart_named, joined_named}
-use Rattle.life_args.proofs.Rules.{IsGood, IsKnown, add, alone_known, filled_option, long_found, long_is, option_known}
+use Rattle.life_args.proofs.Rules.{IsGood, IsKnown, add, alone_known, long_found, long_is, option_known}
 use Rattle.life_args.proofs.Steps.{Goes, IsFaulty, IsFree, IsUse, Use, all_rows, c, s, stand, want, no_owing, alone_goes, name_goes, value_goes, joined_goes, unknown_faulty, wanting_faulty, unfilled}
 
 -- the rows after the uses of pieces

@@ -85,10 +85,7 @@ fn option<'a>(alloc: Global, name: &'a str) -> Arg<'a>
 }
 
 // What a command makes of words.
-fn take_words<'a>(
-    command: Command<'a>,
-    words: &'a [String],
-) -> Result<ArgMatches<'a>, WordsFault>
+fn take_words<'a>(command: Command<'a>, words: &'a [String]) -> Result<ArgMatches<'a>, WordsFault>
     requires { is_simple_and_free (app_of command) ≡ true }
     ensures { TakesWords (app_of command.entry) (map string_bytes words.entry.now) result }
 {

@@ -5,7 +5,9 @@ ghost use Rattle.life_args.specs.inside.Verbs.{AreDrawn, AsksFor};
 
 use crate::fault::WordsFault;
 use crate::mode::Mode;
-use crate::values::{basis_of, day_of, four, is_empty, number_of, one, policy_of, position_of, three, workers_of};
+use crate::values::{
+    basis_of, day_of, four, is_empty, number_of, one, policy_of, position_of, three, workers_of,
+};
 use crate::verb::Verb;
 use clap::ArgMatches;
 use std::alloc::Global;

@@ -1,5 +1,6 @@
-ghost use Rattle.std.specs.Prelude.{◌≡◌};
-ghost use Rattle.life_args.specs.inside.Verbs.{verb_named as named};
+ghost use Rattle.std.specs.Prelude.{◌≡◌, ◌≢◌, IfSome, IfNone};
+ghost use Rattle.life_args.specs.declared.verb.Verb.{Verb};
+ghost use Rattle.life_args.specs.inside.Verbs.{word_of};
 
 /// What the first word may be.
 #[derive(Clone, Copy, PartialEq, Eq, Debug)]
@@ -13,7 +14,8 @@ pub enum Verb {
 
 /// The verb that a word is, if it is one.
 pub fn verb_named(word: &str) -> Option<Verb>
-    ensures { result ≡ named word.now }
+    ensures some { IfSome result (λ verb. word.now ≡ word_of verb) }
+    ensures none { IfNone result ((verb : Verb) → word.now ≢ word_of verb) }
 {
     if word == "run" {
         return Some(Verb::Run);

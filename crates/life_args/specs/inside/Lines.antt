@@ -1,7 +1,7 @@
 -- How `clap` reads the words behind a verb, and what private calls answer
-use Rattle.std.specs.Prelude.{◌≡◌, ◌≢◌, ◌==◌, ◌&&◌, ⊤, ℕ, Bool, true, false, not, List, [], ◌∷◌, map, bytes_eq, codes, Option, Some, Result, Ok, Err, option_map, unwrap_or}
+use Rattle.std.specs.Prelude.{◌≡◌, ◌≢◌, ◌==◌, ◌&&◌, ⊤, Bool, true, false, not, List, [], ◌∷◌, map, bytes_eq, codes, cond, Some, Result, Ok, Err, option_map, unwrap_or}
 use Rattle.std.specs.List.{list_any}
-use Rattle.clap.specs.Words.{App, Row, Rule, Text, all_of, fault_of, found_of, matched_of, matches_of, new_app, new_rule, raw_values, rows_of, with_rule}
+use Rattle.clap.specs.Words.{App, Rule, Text, fault_of, found_of, matched_of, matches_of, new_app, new_rule, raw_values, rows_of}
 use Rattle.clap.specs.declared.builder.action.ArgAction.TheVariants.{Append}
 use Rattle.clap.specs.declared.parser.matches.ArgMatches.{ArgMatches}
 use Rattle.clap.specs.declared.parser.matches.Found.{Found}
@@ -73,16 +73,15 @@ TakesWords app words (Err NoMemory) = ⊤
 abbrev pub values_named : Found → Text → List Text
 values_named found id = unwrap_or (option_map raw_values (matched_of found id)) []
 
--- the values alone and those of each option are the pieces'
-pub record Finds (found : Found) (pieces : List WordPiece) : Type 0 where
-  pub alone : values_named found alone_id ≡ bare_values pieces
-  pub options : (name : Text) → bytes_eq alone_id name ≡ false → values_named found name ≡ option_values name pieces
+-- the values of an id among pieces
+abbrev pub values_of : List WordPiece → Text → List Text
+values_of pieces id = cond (bytes_eq alone_id id) (bare_values pieces) (option_values id pieces)
 
 -- the words are spelled by pieces; and whatever pieces spell them, what was found is theirs
 pub record IsLine (names words : List Text) (line : ArgMatches) : Type 0 where
   pub pieces : List WordPiece
   pub spelling : Spelling names words pieces
-  pub every : (others : List WordPiece) → Spelling names words others → Finds (found_of line) others
+  pub every : (others : List WordPiece) → Spelling names words others → (id : Text) → values_named (found_of line) id ≡ values_of others id
 
 abbrev pub ReadsLine : List Text → List Text → Result ArgMatches WordsFault → Type 0
 ReadsLine names words (Ok line) = IsLine names words line

@@ -1,5 +1,5 @@
 -- The modes by their first words: the options of each, and what its values have to say
-use Rattle.std.specs.Prelude.{◌≡◌, ◌≤◌, ⊤, ℕ, List, [], ◌∷◌, codes, decimal, bytes_eq, cond, map, option_map, unwrap_or, Option, Some, None, Result, Ok, Err}
+use Rattle.std.specs.Prelude.{◌≡◌, ◌≤◌, ℕ, List, [], ◌∷◌, codes, decimal, map, option_map, unwrap_or, Option, Some, None, Result, Ok, Err}
 use Rattle.std.specs.Borrow.{Bor}
 use Rattle.clap.specs.declared.parser.matches.Found.{Found}
 use Rattle.life_args.specs.declared.fault.WordsFault.{WordsFault}
@@ -17,14 +17,6 @@ word_of Value = codes "value"
 word_of State = codes "state"
 word_of Generate = codes "generate"
 word_of Load = codes "load"
-
-abbrev pub verb_named : List ℕ → Option Verb
-verb_named word =
-    cond (bytes_eq word (codes "run")) (Some Run)
-    (cond (bytes_eq word (codes "value")) (Some Value)
-    (cond (bytes_eq word (codes "state")) (Some State)
-    (cond (bytes_eq word (codes "generate")) (Some Generate)
-    (cond (bytes_eq word (codes "load")) (Some Load) None))))
 
 abbrev pub verb_of : Mode → Verb
 verb_of (mode.Run basis) = Run
@@ -73,23 +65,23 @@ pub record AreDrawn (seed count lanes : List ℕ) (drawn : ℕ × ℕ × ℕ) : 
 abbrev pub AreDraws : (seed count lanes : ℕ) → Type 0
 AreDraws seed count lanes = IsSeed seed × IsPolicyCount count × IsLaneCount lanes
 
--- the values that stand alone, and those of each option, say the mode
-abbrev pub SaysMode : List (List ℕ) → (List ℕ → List (List ℕ)) → Mode → Type 0
-SaysMode alone options (mode.Run basis) =
-    (alone ≡ []) × AtMostOne (options (codes "basis")) (λ given. IsBasisOr given basis)
-SaysMode alone options (mode.Value on position workers basis) =
-    JustOne alone (λ value. IsDayValue value on)
-    × AtMostOne (options (codes "at")) (λ given. IsPositionOr given position)
-    × AtMostOne (options (codes "workers")) (λ given. AreWorkersOr given workers)
-    × AtMostOne (options (codes "basis")) (λ given. IsBasisOr given basis)
-SaysMode alone options (mode.State id) = AtMostOne alone (λ given. IsPolicyOr given id)
-SaysMode alone options (mode.Generate seed count lanes) =
-    (alone ≡ decimal seed ∷ decimal count ∷ decimal lanes ∷ []) × AreDraws seed count lanes
-SaysMode alone options (mode.Load seed count lanes workers) =
-    (alone ≡ decimal seed ∷ decimal count ∷ decimal lanes ∷ decimal workers ∷ [])
+-- the values of each id say the mode
+abbrev pub SaysMode : (List ℕ → List (List ℕ)) → Mode → Type 0
+SaysMode values (mode.Run basis) =
+    (values alone_id ≡ []) × AtMostOne (values (codes "basis")) (λ given. IsBasisOr given basis)
+SaysMode values (mode.Value on position workers basis) =
+    JustOne (values alone_id) (λ value. IsDayValue value on)
+    × AtMostOne (values (codes "at")) (λ given. IsPositionOr given position)
+    × AtMostOne (values (codes "workers")) (λ given. AreWorkersOr given workers)
+    × AtMostOne (values (codes "basis")) (λ given. IsBasisOr given basis)
+SaysMode values (mode.State id) = AtMostOne (values alone_id) (λ given. IsPolicyOr given id)
+SaysMode values (mode.Generate seed count lanes) =
+    (values alone_id ≡ decimal seed ∷ decimal count ∷ decimal lanes ∷ []) × AreDraws seed count lanes
+SaysMode values (mode.Load seed count lanes workers) =
+    (values alone_id ≡ decimal seed ∷ decimal count ∷ decimal lanes ∷ decimal workers ∷ [])
     × AreDraws seed count lanes × IsWorkerCount workers
 
 -- what was found behind a verb asks for the mode
 pub record AsksFor (verb : Verb) (found : Found) (mode : Mode) : Type 0 where
   pub is : verb_of mode ≡ verb
-  pub says : SaysMode (values_named found alone_id) (values_named found) mode
+  pub says : SaysMode (values_named found) mode

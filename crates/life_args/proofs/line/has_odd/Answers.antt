@@ -1,4 +1,4 @@
-use Rattle.std.proofs.Common.{◌∙◌, ap, sym, map, string_bytes}
+use Rattle.std.proofs.Common.{◌∙◌, ap, sym, string_bytes}
 use Rattle.std.proofs.lemmas.List.Folds.{list_any_at}
 use Rattle.clap.proofs.WalkLemmas.{list_any-map}
 use Rattle.life_args.specs.inside.Lines.{is_odd}
