@@ -12,7 +12,8 @@ import subprocess
 import sys
 import time
 
-PROGRAM = os.environ.get("LIFE_PROGRAM") or os.path.join(os.path.dirname(os.path.abspath(__file__)), "../crates/life_cli/out/life_cli")
+HERE = os.path.dirname(os.path.abspath(__file__))
+PROGRAM = os.environ.get("LIFE_PROGRAM") or os.path.join(HERE, "../crates/life_cli/out/life_cli")
 CLERKS, POSTINGS_EACH, LONGEST_SECONDS = 8, 400, 0.9
 
 

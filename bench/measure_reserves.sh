@@ -14,10 +14,10 @@ timed() {
     awk -v s="$seconds" -v n="$count" 'BEGIN { printf "%.2f seconds, %.0f policies a second\n", s, n / s }'
 }
 
-cd "$here/../crates/measure_reserves" || exit 1
-rt run -- 1 1 >/dev/null 2>&1 || exit 1
-echo "measure_reserves:"
-timed ./out/measure_reserves
+cd "$here/../crates/measure" || exit 1
+rt run -- reserves 1 1 >/dev/null 2>&1 || exit 1
+echo "measure reserves:"
+timed ./out/measure reserves
 if command -v rustc >/dev/null; then
     plain=$(mktemp)
     rustc -O -o "$plain" "$here/plain_reserves.rs" || exit 1

@@ -4,9 +4,9 @@
 # axis: elements that the reader passes over with text in them, elements nested 60 deep, empty elements, or text; or
 # the table is repeated. Processor time is measured, the least of some turns. Needs rt and python3.
 set -e
-cd "$(dirname "$0")/../crates/measure_tables"
-rt run -- 1 > /dev/null
-exec python3 - "$PWD/out/measure_tables" "$PWD/data/g.xml" <<'EOF'
+cd "$(dirname "$0")/../crates/measure"
+rt run -- tables 1 > /dev/null
+exec python3 - "$PWD/out/measure" "$PWD/../../examples/g.xml" <<'EOF'
 import os, resource, subprocess, sys, tempfile, time, xml.parsers.expat
 
 program, archive = sys.argv[1:3]
@@ -58,7 +58,7 @@ def least(call, which, turns=5):
 
 
 def run(name, times):
-    return subprocess.run([program, str(times), name], check=True, capture_output=True, text=True).stdout.strip()
+    return subprocess.run([program, "tables", str(times), name], check=True, capture_output=True, text=True).stdout.strip()
 
 
 FILLINGS = [

@@ -1,19 +1,19 @@
 #!/bin/sh
 # Times `life value` over the hundred thousand policies of the workload, on one thread, beside the bare loop over
-# `reserve_bounds` of measure_reserves on the same policies. Prints for each the seconds of processor time (medians of
+# `reserve_bounds` of `measure reserves` on the same policies. Prints for each the seconds of processor time (medians of
 # five rounds in turn), policies a second, the sums of the bounds, the peak memory, and the time of a valuation of one
 # policy from start to end. The valuation alone is what is left when a valuation on a day before all issues is taken
 # away, which opens the same journal and prints as many rows. The journal is written in one go by this script.
 # usage: sh bench/measure_value.sh   (needs python3 and GNU time)
 root=$(cd "$(dirname "$0")/.." && pwd) || exit 2
 sh "$root/life" prove || exit 2
-(cd "$root/crates/measure_reserves" && rt run -- 1 1 >/dev/null 2>&1) || exit 2
+(cd "$root/crates/measure" && rt run -- reserves 1 1 >/dev/null 2>&1) || exit 2
 work=$(mktemp -d) || exit 2
 trap 'rm -rf "$work"' EXIT
 cp "$root/examples/g.xml" "$work/g.xml" || exit 2
 cd "$work" || exit 2
 printf '1900-01-01,g.xml,400\n' >basis.csv
-python3 - "$root/crates/life_cli/out/life_cli" "$root/crates/measure_reserves/out/measure_reserves" <<'PY'
+python3 - "$root/crates/life_cli/out/life_cli" "$root/crates/measure/out/measure" <<'PY'
 import resource, statistics, subprocess, sys, time
 
 program, bare = sys.argv[1], sys.argv[2]
@@ -55,7 +55,7 @@ make_journal(COUNT)
 commands = {
     "life value 2020-12-31": [program, "value", "2020-12-31"],
     "life value 1999-12-31": [program, "value", "1999-12-31"],
-    "measure_reserves": [bare, "1", str(COUNT)],
+    "measure reserves": [bare, "reserves", "1", str(COUNT)],
 }
 rounds = {name: [] for name in commands}
 for _ in range(5):
@@ -66,7 +66,7 @@ for name in commands:
     print("%-22s %6.3f s of processor time, %6.3f s by the clock, %6.1f MiB  %s" % (
         name, median[name], statistics.median(one[1] for one in rounds[name]), max(one[2] for one in rounds[name]),
         rounds[name][0][3]))
-whole, idle, loop = median["life value 2020-12-31"], median["life value 1999-12-31"], median["measure_reserves"]
+whole, idle, loop = median["life value 2020-12-31"], median["life value 1999-12-31"], median["measure reserves"]
 print("the whole run   %8.0f policies a second" % (COUNT / whole))
 print("valuation alone %8.0f policies a second" % (COUNT / (whole - idle)))
 print("bare loop       %8.0f policies a second; the valuation alone is %.2f of it" % (COUNT / loop, loop / (whole - idle)))

@@ -1,5 +1,5 @@
 //! The same bounds over the same policies in plain Rust, with the processor's own 128-bit division, to time beside
-//! `measure_reserves`. Nothing here is proved.
+//! `measure reserves`. Nothing here is proved.
 const UNIT: u128 = 10_000_000_000_000_000;
 
 #[derive(Clone, Copy, Default)]

@@ -16,7 +16,7 @@ import os
 from typing import Sequence
 
 from check_values import check_block
-from commands import Command, body_of
+from commands import Command, words_of
 from formats import Wrong, bytes_of, complain, demand, number_of, printed_rows
 from journals import Journal, read_journal
 from reserves import Known
@@ -123,11 +123,13 @@ def check_journal(after: Journal, commands: list[Command]) -> None:
     demand(not after.refused, f"the journal after the run: {after.refused}: {after.why}")
     found = after.commands
     for position, (command, wanted) in enumerate(zip(found, commands), 1):
-        demand(command == wanted, f"record {position} of the journal is {body_of(command).hex()}, and was accepted as {body_of(wanted).hex()}")
+        demand(command == wanted, f"record {position} of the journal is {','.join(words_of(command))}, "
+                                  f"and was accepted as {','.join(words_of(wanted))}")
     demand(len(found) == len(commands), f"the journal has {len(found)} records of {len(commands)}")
 
 
-def check(script: bytes, transcript: str, before: bytes, after: bytes, basis: Sequence[BasisRow], known: Known | None = None) -> int:
+def check(script: bytes, transcript: str, before: bytes, after: bytes, basis: Sequence[BasisRow],
+          known: Known | None = None) -> int:
     """Checks a script, the text of its transcript, the bytes of the journal before and after, and the basis as `read_basis`
     gives it; says how many lines there are, or raises `Wrong`. `known` keeps exact values for further calls."""
     lines = read_script(script)

@@ -53,7 +53,8 @@ def demand_valid(command: Command) -> None:
             demand(1 <= cents <= most, f"the {name} is {money(cents)}")
     if command.kind == "issue":
         demand(command.age <= OLDEST_AT_ISSUE, f"the age is {command.age}")
-        demand(years_fit(command.plan, command.age, command.years), f"a {command.plan} at age {command.age} has {command.years} years")
+        fits = years_fit(command.plan, command.age, command.years)
+        demand(fits, f"a {command.plan} at age {command.age} has {command.years} years")
 
 
 def body_of(command: Command) -> bytes:

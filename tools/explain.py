@@ -18,11 +18,12 @@ from script_lines import Fault, read_script
 from tables import BadBasis, Element, NotXml, basis_rows, factor_of, path_of, read_table, root_of
 
 SHOWN = 60
-BASIS_ROW = ("a row: a day 1900-01-01 to 2199-12-31, the file name of a table (1 to 64 letters, digits, . _ -, the first a letter or "
-             f"a digit), and basis points 0 to {MOST_POINTS} without a leading zero")
+BASIS_ROW = ("a row: a day 1900-01-01 to 2199-12-31, the file name of a table (1 to 64 letters, digits, . _ -, the first a "
+             f"letter or a digit), and basis points 0 to {MOST_POINTS} without a leading zero")
 # what is wanted in a table's file where a check applies
 WANTED = {
-    "notdocument": "an XML document: this tag, comment or byte may not stand here, or the file ends too early (no DOCTYPE, no CDATA)",
+    "notdocument": ("an XML document: this tag, comment or byte may not stand here, or the file ends too early "
+                    "(no DOCTYPE, no CDATA)"),
     "notable": "the path XTbML, Table, Values, Axis with rates Y in it; it breaks off behind this element",
     "select": "one axis of ages with ultimate rates; here the rates go by the duration too (a select table)",
     "scaled": "rates that stand as they are: a ScalingFactor that is absent, empty, 0 or 1",
@@ -96,7 +97,9 @@ def explain_basis_row(path: str, place: int, word: str) -> None:
         print(f"{path} has {len(rows_in(bytes_of(path)))} rows\nwanted: at most {MOST_BASIS_ROWS}")
         return
     row = row_of(path, place)
-    wanted = BASIS_ROW if word == "badrow" else f"a day after that of the row before, which is {row_of(path, place - 1).fields[0]}"
+    wanted = BASIS_ROW
+    if word == "notrising":
+        wanted = f"a day after that of the row before, which is {row_of(path, place - 1).fields[0]}"
     print(f"line {row.line} of {path}, row {place}\nfound:  {row.text}\nwanted: {wanted}")
 
 
@@ -153,7 +156,8 @@ def passed_over(path: list[Element]) -> list[str]:
     others = sorted({child.name for child in root.children} - {"Table"})
     others += [f"MetaData/{child.name}" for data in table.children if data.name == "MetaData" for child in data.children
                if child.name != "ScalingFactor"]
-    further = sum(child.name == "Values" for child in table.children) - 1 + sum(child.name == "Axis" for child in values.children) - 1
+    further = sum(child.name == "Values" for child in table.children) - 1
+    further += sum(child.name == "Axis" for child in values.children) - 1
     if further:
         found.append(f"{further} further Values or Axis in it: only the first is read")
     extra = sorted({name for row in axis.children if row.name == "Y" for name in row.attributes} - {"t"})
@@ -175,9 +179,12 @@ def explain_table(path: str) -> None:
         raise Wrong(f"{bad}\nline {line} of {path}: {shown(data[place:])}\nwanted: {WANTED[bad.word]}") from bad
     found, _ = path_of(root_of(data))
     factor = factor_of(found[1])
-    print(f"taken of {path}: the rates of the ages {table.first} to {table.last}, from line {line_and_column(data, found[3].at)[0]} on")
-    print(f"  first {float(table.rates[0]):.9f}, last {float(table.rates[-1]):.9f}" + ("" if table.rates[-1] == 1 else ", which is below 1"))
-    print(f"  scaling factor: {factor.text.strip() or 'empty' if factor else 'none'}; the axis is taken as ages, whatever its name says")
+    line, _ = line_and_column(data, found[3].at)
+    below = "" if table.rates[-1] == 1 else ", which is below 1"
+    scaling = (factor.text.strip() or "empty") if factor else "none"
+    print(f"taken of {path}: the rates of the ages {table.first} to {table.last}, from line {line} on")
+    print(f"  first {float(table.rates[0]):.9f}, last {float(table.rates[-1]):.9f}{below}")
+    print(f"  scaling factor: {scaling}; the axis is taken as ages, whatever its name says")
     print("passed over: " + ("; ".join(passed_over(found)) or "nothing"))
 
 

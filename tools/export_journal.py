@@ -72,7 +72,8 @@ def write_sqlite(journal: Journal, path: str) -> None:
 def main() -> None:
     parser = argparse.ArgumentParser(description=__doc__, formatter_class=argparse.RawDescriptionHelpFormatter)
     forms = parser.add_subparsers(dest="form", metavar="FORM", required=True)
-    for name, says in (("csv", "CSV, on standard output"), ("jsonl", "JSON lines, on standard output"), ("sqlite", "a SQLite file")):
+    says_of = {"csv": "CSV, on standard output", "jsonl": "JSON lines, on standard output", "sqlite": "a SQLite file"}
+    for name, says in says_of.items():
         form = forms.add_parser(name, help=says)
         form.add_argument("journal", metavar="JOURNAL", help="the file, as journal.life")
         if name == "sqlite":

@@ -24,7 +24,8 @@ def amounts_of(text: str) -> dict[tuple[str, str], tuple[int, int]]:
         if row[0] != "policy":
             demand(row[0] in ("balance", "count"), f"{','.join(row)} is no line of life state")
             continue
-        demand(len(row) == POLICY_FIELDS and row[2] in STATUSES and row[3] in PLANS.values(), f"{','.join(row)} is no policy's line")
+        is_policy = len(row) == POLICY_FIELDS and row[2] in STATUSES and row[3] in PLANS.values()
+        demand(is_policy, f"{','.join(row)} is no policy's line")
         policies, cents = found.get((row[3], row[2]), (0, 0))
         found[row[3], row[2]] = policies + 1, cents + printed_cents(row[6])
     return found

@@ -141,11 +141,11 @@ def tell(lanes: dict[int, list[Line]], rest: dict[int, list[Line]], records: int
 
 
 def tell_equal(answered: list[Line], rest: list[Line]) -> None:
-    """Rows of the rest that equal an answered row of another lane: the journal doesn't say whose was accepted."""
+    """Rows of the rest that equal an answered row of another lane."""
     for line in rest:
         like = [it for it in answered if it.command and it.command == line.command and it.lane != line.lane]
         if like:
-            remark(f"row {line.row.number} equals row {like[0].row.number}: one of the two was answered, and the journal doesn't say which")
+            remark(f"row {line.row.number} equals row {like[0].row.number}, which is taken as the one that was accepted")
 
 
 def rest_of(lines: list[Line], begun: Book, records: list[Command]) -> dict[int, list[Line]]:

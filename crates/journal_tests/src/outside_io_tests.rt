@@ -1,9 +1,13 @@
 // The devices in memory fail where they are told to, and the real ones write, read and find real
 // files.
+ghost use Rattle.std.specs.Prelude.{◌≤◌};
+
 use outside_io::*;
 use std::collections::BTreeMap;
 use std::fs;
-use std::fs::File;
+use std::fs::{File, OpenOptions};
+use std::io::pipe;
+use std::process::Abort;
 use std::test::Fail;
 
 const TEXT: &[u8] = b"three words here";
@@ -35,10 +39,11 @@ fn devices_in_memory(rt: HostRuntime) -> Result<(), Fail> {
     Ok(())
 }
 
-// A disk that a thread can take.
-fn write_and_sync<D: Disk + Send>(disk: &mut D, at: u64, bytes: &[u8]) -> Result<(), Failed>
-    requires { D.honest disk.old → ⊥ }
-{
+// A disk that a thread can take. A place past the end isn't written.
+fn write_and_sync<D: Disk + Send>(disk: &mut D, at: u64, bytes: &[u8]) -> Result<(), Failed> {
+    if at > disk.len()? {
+        return Err(Failed);
+    }
     disk.write_at(at, bytes)?;
     disk.sync()
 }
@@ -47,7 +52,7 @@ fn write_and_sync<D: Disk + Send>(disk: &mut D, at: u64, bytes: &[u8]) -> Result
 fn a_real_file_is_a_disk(rt: HostRuntime) -> Result<(), Fail> {
     let name = "outside_io_disk.test";
     let _ = fs::remove_file(&rt, name);
-    let mut disk = FileDisk::at(rt.clone()?, name);
+    let mut disk = FileDisk::at(rt.clone()?, name, AnyFile);
     assert!(rt;
         fs::metadata(&rt, name).is_err(),
         "nothing before the first call"
@@ -57,15 +62,10 @@ fn a_real_file_is_a_disk(rt: HostRuntime) -> Result<(), Fail> {
     let second = write_and_sync(&mut disk, 2, b"FIRST");
     assert!(rt; (empty, first, second) == (Ok(0), Ok(()), Ok(())));
     drop(disk);
-    let mut again = FileDisk::at(rt.clone()?, name);
-    let mut part = [0; 7];
-    let length = again.len();
-    let inside = again.read(1, &mut part);
-    let beyond = again.read(6, &mut [0; 7]);
-    assert!(rt; (length, inside, beyond) == (Ok(12), Ok(()), Err(Failed)));
-    assert!(rt; (part, again.faults()) == (*b" FIRST ", 1));
+    let mut again = FileDisk::at(rt.clone()?, name, AnyFile);
+    assert_eq!(rt; read_back(&rt, &mut again, 1)?, *b" FIRST ");
     // while one holds the file another is refused, and writes nothing
-    let mut other = FileDisk::at(rt.clone()?, name);
+    let mut other = FileDisk::at(rt.clone()?, name, AnyFile);
     let refused = write_and_sync(&mut other, 0, b"over it");
     assert!(rt; (refused, other.faults(), again.len()) == (Err(Failed), 1, Ok(12)));
     drop(again);
@@ -74,13 +74,61 @@ fn a_real_file_is_a_disk(rt: HostRuntime) -> Result<(), Fail> {
     Ok(())
 }
 
+// Seven bytes of a file of twelve.
+fn read_back<D: Disk>(rt: &impl Abort, disk: &mut D, at: u64) -> Result<[u8; 7], Fail>
+    requires { at ≤ 5 }
+{
+    let length = disk.len().map_err(|_| "no length")?;
+    assert!(rt; length == 12);
+    let mut part = [0; 7];
+    disk.read(at, &mut part).map_err(|_| "not read")?;
+    Ok(part)
+}
+
+// A file that is cut by someone else gives fewer bytes than it told of: such a read fails.
+#[test]
+fn a_file_that_was_cut_fails(rt: HostRuntime) -> Result<(), Fail> {
+    let name = "outside_io_cut.test";
+    let _ = fs::remove_file(&rt, name);
+    let mut disk = FileDisk::at(rt.clone()?, name, AnyFile);
+    assert!(rt; write_and_sync(&mut disk, 0, b"twelve bytes") == Ok(()));
+    let length = disk.len().map_err(|_| "no length")?;
+    assert!(rt; length == 12);
+    let file = OpenOptions::new().write(true).open(&rt, name)?;
+    file.set_len(8)?;
+    let cut = disk.read(5, &mut [0; 7]);
+    assert!(rt; (cut, disk.faults()) == (Err(Failed), 1));
+    fs::remove_file(&rt, name)?;
+    Ok(())
+}
+
 // A write that the device refuses, and a sync that it can't make, are faults.
 #[test]
 fn a_full_device_fails(rt: HostRuntime) -> Result<(), Fail> {
-    let mut full = FileDisk::at(rt.clone()?, "/dev/full");
+    let mut full = FileDisk::at(rt.clone()?, "/dev/full", AnyFile);
     let written = full.write_at(0, b"a line");
     let synced = full.sync();
     assert!(rt; (written, synced, full.faults()) == (Err(Failed), Err(Failed), 2));
+    Ok(())
+}
+
+// What goes into a pipe comes out of it; with nobody at its other end a write fails.
+#[test]
+fn a_pipe_is_a_stream(rt: HostRuntime) -> Result<(), Fail> {
+    let (reader, writer) = pipe(&rt)?;
+    let mut sink = StdSink::new(writer);
+    let mut source = StdSource::new(reader);
+    let written = write_all(&mut sink, b"through");
+    drop(sink);
+    let Ok(read) = read_all(rt.alloc(), &mut source, 7) else {
+        return Err(Fail::new("not read"));
+    };
+    assert!(rt; (written, read.as_slice()) == (Ok(()), b"through".as_slice()));
+    assert!(rt; source.faults() == 0);
+    let (reader, writer) = pipe(&rt)?;
+    drop(reader);
+    let mut sink = StdSink::new(writer);
+    assert!(rt; (write_all(&mut sink, b"lost"), sink.faults()) == (Err(WriteFault), 1));
     Ok(())
 }
 

@@ -9,7 +9,7 @@ ghost use Rattle.snapshot_value.specs.Valuing.{most_turns};
 ghost use Rattle.lane_runner.specs.Lanes.{IsRightLane, IsRightLine};
 ghost use Rattle.lane_runner.specs.inside.Parts.{HasAnswered, IsRoomFor, outcome_of, turns_for, turns_needed};
 
-use crate::transcript::{TranscriptLine, Outcome};
+use crate::transcript::{Outcome, TranscriptLine};
 use basis_book::Basis;
 use outside_io::{Disk, Gate};
 use policy_types::{At, Command, Lane, Line};
@@ -38,6 +38,7 @@ pub fn answer_lane<D: Disk, W: Watching, G: Gate, R: Wait>(
     ensures answered { HasAnswered basis.now lane.now.number lane.now.lines pass.old pass.new lines.new.items }
     ensures facts { PassFacts IsOfficeHistory pass.new }
 {
+    // What is known of every pass (`PassFacts`) is told of this one here.
     pass.caller();
     answer_lines(
         rt,

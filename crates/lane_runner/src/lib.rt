@@ -6,4 +6,4 @@ mod running;
 mod transcript;
 
 pub use running::run_lanes;
-pub use transcript::{TranscriptLine, TranscriptLines, Callers, Outcome, Transcript};
+pub use transcript::{Callers, Outcome, Transcript, TranscriptLine, TranscriptLines};

@@ -11,7 +11,7 @@ ghost use Rattle.lane_runner.specs.Transcripts.{HasAnsweredLanes};
 ghost use Rattle.lane_runner.specs.inside.Parts.{HasEntered, HasLeft, HasLaneRoom, HasRunAt, HaveRun, IsReadySeat, IsReadyAt, IsRoomFor, shares_to_enter, turns_to_enter};
 
 use crate::answering::answer_lane;
-use crate::transcript::{TranscriptLine, TranscriptLines, Callers, Transcript};
+use crate::transcript::{Callers, Transcript, TranscriptLine, TranscriptLines};
 use basis_book::Basis;
 use outside_io::{Disk, Gate};
 use policy_types::{Lane, NoMemory};
@@ -54,6 +54,7 @@ pub fn run_lanes<D: Disk + Send, W: Watching + Send, G: Gate + Sync, R: Threads 
     ensures refused { OnErr result (pass.new ≡ pass.old) }
     ensures facts { PassFacts IsOfficeHistory pass.new }
 {
+    // What is known of every pass (`PassFacts`) is told of this one here.
     pass.caller();
     let room = room_for::<D, W>(alloc, lanes)?;
     Ok(run_in(rt, alloc, office, pass, lanes, basis, gate, room))
@@ -84,10 +85,12 @@ fn run_in<D: Disk + Send, W: Watching + Send, G: Gate + Sync, R: Threads + Wait 
         mut callers,
         mut lines,
     } = room;
+    // What is known of every pass (`PassFacts`) is told of this one here.
     pass.caller();
     enter_all(office, pass, rooms, &mut seats);
     run_seats(rt, alloc, office, lanes, basis, gate, &mut seats);
     leave_all(office, pass, seats, &mut callers, &mut lines);
+    // What is known of every pass (`PassFacts`) is told of this one here.
     pass.caller();
     put_in_order(&mut lines);
     Transcript {

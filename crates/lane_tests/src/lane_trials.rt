@@ -1,5 +1,5 @@
 // Lanes that are run on an office in memory.
-ghost use Rattle.std.specs.Prelude.{◌≡◌, ◌≤◌, [], ◌∷◌, All, IsTrue, length, map};
+ghost use Rattle.std.specs.Prelude.{◌≡◌, ℕ, ◌≤◌, [], ◌∷◌, All, IsTrue, length, map};
 ghost use Rattle.std.specs.List.{AllByRecursion, filter};
 ghost use Rattle.policy_types.specs.Lanes.{AreRising};
 ghost use Rattle.lane_runner.specs.Lanes.{AreRightLanes, IsRightLane, IsRightLine, is_value};
@@ -103,7 +103,7 @@ pub fn run_watched<W: Watching + Send, G: Gate + Sync, R: Threads + Wait + Sync>
     lanes: &[Lane],
     gate: &G,
 ) -> Result<(Transcript, Reports), Fail>
-    requires { W.told watchers [] }
+    requires { (before : ℕ) → W.told watchers before [] }
 {
     let basis = flat_basis(alloc)?;
     let empty = MemoryDisk::new(alloc, Vec::new(alloc), Vec::new(alloc));

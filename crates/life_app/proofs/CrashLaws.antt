@@ -5,10 +5,10 @@ use Rattle.policy_types.specs.declared.command.Command.{Command}
 use Rattle.policy_types.specs.declared.entry.Entry.{Entry}
 use Rattle.policy_machine.specs.History.{Opening, accepted_of, commands_after}
 use Rattle.posting_journal.specs.Runs.{IsSafe}
-use Rattle.life_app.specs.Crashes.{AreAllHeld, AreHeld, HasRun}
 use Rattle.office_state.specs.Images.{HoldsOnce, IsLeftAlone, IsOneMore}
 use Rattle.office_state.specs.Journals.{Opens}
 use Rattle.office_state.proofs.JournalLaws.{opens_to_one}
+use Rattle.life_app.specs.Crashes.{AreAllHeld, AreHeld, HasRun}
 
 -- a file that opens to the commands from before the run
 as_before : (opening : Opening) (history : List Entry) (image : List ℕ) → Opens image opening.commands → HoldsOnce opening history image
@@ -64,7 +64,7 @@ next_commands opening history image commands holds opens = record {
 module _ {D : Type 0} (g : Ghosts D) (old new : D) (opening : Opening) (history : List Entry) where
   pub during : HasRun g old new opening history → (image : List ℕ) → g.left_since new (g.clock old) image → HoldsOnce opening history image
   during ran image left = elim (ran.left.since ran.honest image left) [
-    | inl before ↦ as_before opening history image (subst (λ bytes. Opens bytes opening.commands) (sym (ran.safe image before)) ran.opens)
+    | inl before ↦ as_before opening history image (subst (λ bytes. Opens bytes opening.commands) (sym (ran.safe image before)) (ran.left.opened ran.honest))
     | inr held ↦ held
   ]
 
@@ -81,7 +81,7 @@ module _ {D : Type 0} (g : Ghosts D) (old new : D) (opening : Opening) (history 
 
 module _ {E : Type 0} (g : Ghosts E) (next last : E) (opening : Opening) (history : List Entry)
     (holds : HoldsOnce opening history (g.reads next)) where
-  pub unopened_again : g.honest next → IsSafe g next → IsLeftAlone g next last → (image : List ℕ)
+  pub unopened_again : g.honest last → IsSafe g next → IsLeftAlone g next last → (image : List ℕ)
       → g.left_since last (g.clock next) image → HoldsOnce opening history image
   unopened_again honest safe alone image left = elim (alone.since honest image left) [
     | inl before ↦ subst (HoldsOnce opening history) (sym (safe image before)) holds
@@ -91,5 +91,5 @@ module _ {E : Type 0} (g : Ghosts E) (next last : E) (opening : Opening) (histor
   pub opened_again : (second : Opening) → HasRun g next last second [] → (image : List ℕ)
       → g.left_since last (g.clock next) image → HoldsOnce opening history image
   opened_again second ran image left =
-      alike opening history (g.reads next) image second.commands holds ran.opens
+      alike opening history (g.reads next) image second.commands holds (ran.left.opened ran.honest)
       (opens_as_begun second image (during g next last second [] ran image left))

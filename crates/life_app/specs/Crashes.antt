@@ -6,14 +6,12 @@ use Rattle.policy_types.specs.declared.entry.Entry.{Entry}
 use Rattle.policy_machine.specs.History.{Opening, accepted_of, commands_after}
 use Rattle.posting_journal.specs.Runs.{IsSafe}
 use Rattle.office_state.specs.Images.{IsLeftBy, IsOneMore, IsPending}
-use Rattle.office_state.specs.Journals.{Opens}
 
--- An office was opened on the commands of an honest disk's file, when a crash left just what is read, and the turns of
--- the history left the disk so.
+-- An office was opened on the disk's file, when a crash left just what is read, and the turns of the history left the
+-- disk so, which comes back honest.
 pub record HasRun {D : Type 0} (g : Ghosts D) (old new : D) (opening : Opening) (history : List Entry) : Type 0 where
-  pub honest : g.honest old
+  pub honest : g.honest new
   pub safe : IsSafe g old
-  pub opens : Opens (g.reads old) opening.commands
   pub left : IsLeftBy g old new opening history
 
 -- the commands from before the run, then a front of what it accepted, then at most one more, whose posting faulted when

@@ -1,14 +1,5 @@
 pub mod Words
-pub mod Status
-pub mod Transcript
-pub mod Writing
-pub mod Script
-pub mod Outcome
-pub mod Books
-pub mod Stating
-pub mod Valuing
-pub mod Generating
-pub mod Loading
+pub mod Needs
 pub mod Obeys
 pub mod Crashes
 pub mod Worked

@@ -14,10 +14,10 @@ use Rattle.policy_types.specs.declared.entry.Entry.{Entry}
 use Rattle.policy_types.specs.declared.script.Line.TheVariants.{Post as PostLine}
 use Rattle.policy_types.specs.declared.script.Lane.{Lane}
 use Rattle.lane_runner.specs.AnsweredLines.{AnsweredLine, AreLinesOf}
-use Rattle.life_app.specs.Books.{books_text, policy_account}
 use Rattle.policy_machine.specs.History.{opened_on}
 use Rattle.policy_machine.specs.Worked.Cases.{policy_issue}
-use Rattle.life_app.specs.Transcript.{IsTranscript, posting_text, reports_text, trim_text, unpinned_text, unvalued_text, watcher_text}
+use Rattle.transcript_text.specs.Transcript.{IsTranscript, posting_text, reports_text, trim_text, unpinned_text, unvalued_text, watcher_text}
+use Rattle.book_state.specs.Books.{books_text, policy_account}
 
 abbrev pub first_premium : Command
 first_premium = Premium 7001 (pos 18262) 40000

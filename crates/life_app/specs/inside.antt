@@ -1,5 +1,1 @@
-pub mod Told
-pub mod Parts
-pub mod Rereading
-pub mod Valued
-pub mod Loaded
+pub mod Unasked

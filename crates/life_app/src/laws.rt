@@ -1,5 +1,5 @@
 // What the definitions have to mean, as functions that do nothing.
-ghost use Rattle.std.specs.Prelude.{◌≡◌, ◌⊎◌, ℕ, List, [], Some};
+ghost use Rattle.std.specs.Prelude.{◌≡◌, ◌⊎◌, ℕ, List, []};
 ghost use Rattle.policy_types.specs.declared.command.Command.{Command};
 ghost use Rattle.policy_types.specs.declared.entry.Entry.{Entry};
 ghost use Rattle.policy_machine.specs.History.{Opening};
@@ -8,14 +8,14 @@ ghost use Rattle.command_csv.specs.Reads.{IsFirstScriptFault};
 ghost use Rattle.life_app.specs.Crashes.{AreAllHeld, AreHeld, HasRun};
 ghost use Rattle.office_state.specs.Images.{HoldsOnce, IsLeftAlone};
 ghost use Rattle.office_state.specs.Journals.{Opens};
-ghost use Rattle.life_app.specs.Script.{IsReadable, IsUnreadable};
+ghost use Rattle.script_run.specs.Script.{IsReadable, IsUnreadable};
 
 use outside_io::Disk;
 
 /// Every script is read or refused, and none is both; one that isn't too long has one first fault.
 pub fn scripts_are_read_or_refused()
-    ensures either { (bytes : List ℕ) → IsReadable (Some bytes) ⊎ IsUnreadable bytes }
-    ensures not_both { (bytes : List ℕ) → IsReadable (Some bytes) → IsUnreadable bytes → ⊥ }
+    ensures either { (bytes : List ℕ) → IsReadable bytes ⊎ IsUnreadable bytes }
+    ensures not_both { (bytes : List ℕ) → IsReadable bytes → IsUnreadable bytes → ⊥ }
     ensures one { (bytes : List ℕ) (row other field place : ℕ) → IsFirstScriptFault bytes row field
         → IsFirstScriptFault bytes other place → (row ≡ other) × (field ≡ place) }
 {}
@@ -44,6 +44,6 @@ pub fn crashes_of_an_opening<D: Disk>()
         → HoldsOnce opening history (D.reads next) → HasRun D.Disk next last second []
         → D.left_since last (D.clock next) image → HoldsOnce opening history image }
     ensures unopened { (next last : D) (opening : Opening) (history : List Entry) (image : List ℕ)
-        → HoldsOnce opening history (D.reads next) → D.honest next → IsSafe D.Disk next → IsLeftAlone D.Disk next last
+        → HoldsOnce opening history (D.reads next) → D.honest last → IsSafe D.Disk next → IsLeftAlone D.Disk next last
         → D.left_since last (D.clock next) image → HoldsOnce opening history image }
 {}

@@ -1,5 +1,6 @@
 // Policies drawn from a seed.
-ghost use Rattle.std.specs.Prelude.{◌≡◌, ◌<◌, ◌≤◌, ◌+◌, ◌^◌, pos, ◌≤ℤ◌};
+ghost use Rattle.std.specs.Prelude.{◌≡◌, ℕ, ◌<◌, ◌≤◌, ◌+◌, ◌^◌, pos, ◌≤ℤ◌};
+ghost use Rattle.policy_types.specs.Valid.{AreYears};
 ghost use Rattle.load_maker.specs.Generator.{renewed, drawn_below, plan_drawn, years_drawn, policy_of_draws, policy_drawn, renewed_by_policy};
 
 use policy_types::Plan;
@@ -7,7 +8,7 @@ use policy_types::Plan;
 /// 2000-01-01, in days since 1970-01-01.
 const FIRST_ISSUE: i32 = 10_957;
 
-// What is drawn of a policy; amount and premium are cents.
+/// What is drawn of a policy; amount and premium are cents.
 #[derive(Clone, Copy)]
 pub struct Drawn {
     pub plan: Plan,
@@ -18,7 +19,7 @@ pub struct Drawn {
     pub issued: i32,
 }
 
-// The number from which policies are drawn, below 2^31.
+/// The number from which policies are drawn, below 2^31.
 #[derive(Drop)]
 pub struct Generator {
     state: u64,
@@ -26,6 +27,7 @@ pub struct Generator {
 }
 
 impl Generator {
+    /// Begins with the seed.
     pub fn new(seed: u32) -> Generator
         requires { seed < 2 ^ 31 }
         ensures { result.state ≡ seed }
@@ -33,11 +35,12 @@ impl Generator {
         Generator { state: seed as u64 }
     }
 
-    // The next policy: plan, age, years, amount and day of issue are drawn in this order.
+    /// The next policy: plan, age, years, amount and day of issue are drawn in this order.
     #[tactic(auto, unfolding(crate::specs::Generator::policy_drawn, crate::specs::Generator::renewed_by_policy))]
     pub fn next_policy(&mut self) -> Drawn
         ensures state { self.new.state ≡ renewed_by_policy self.old.state }
         ensures policy { result ≡ policy_drawn self.old.state }
+        ensures years { AreYears result.plan result.age result.years }
         ensures amount { result.amount ≤ 100000000 }
         ensures premium { result.premium ≤ 2000000 }
         ensures issued { (pos 10957 ≤ℤ result.issued) × (result.issued ≤ℤ pos 14606) }
@@ -68,6 +71,7 @@ fn policy_of(for_plan: u64, for_age: u64, for_years: u64, for_amount: u64, for_d
     requires money { for_amount < 1000 }
     requires day { for_day < 3650 }
     ensures policy { result ≡ policy_of_draws for_plan for_age for_years for_amount for_day }
+    ensures years { AreYears result.plan result.age result.years }
     ensures amount { result.amount ≤ 100000000 }
     ensures premium { result.premium ≤ 2000000 }
     ensures issued { (pos 10957 ≤ℤ result.issued) × (result.issued ≤ℤ pos 14606) }
@@ -106,7 +110,8 @@ fn plan_of(draw: u64) -> Plan
 // The years of a draw, but none for whole life.
 fn years_of(plan: Plan, draw: u8) -> u8
     requires { draw < 20 }
-    ensures { result ≡ years_drawn plan draw }
+    ensures drawn { result ≡ years_drawn plan draw }
+    ensures fit { (age : ℕ) → age ≤ 79 → AreYears plan age result }
 {
     match plan {
         Plan::Whole => 0,

@@ -7,6 +7,7 @@ mod rows;
 mod script;
 mod worked;
 
+pub use generator::{Drawn, Generator};
 pub use lanes::make_lanes;
 pub use script::make_script;
 pub use worked::seed_of_1;

@@ -4,9 +4,10 @@ use Rattle.std.specs.declared.alloc.Global.{Global}
 use Rattle.std.specs.Cmp.Derive.{both_true}
 use Rattle.std.proofs.lemmas.Bool.{le-leb}
 use Rattle.memory_disk.specs.First.{first_bytes}
-use Rattle.memory_disk.specs.History.{put, reaching, bytes_after, images_after, IsImage, WasImage, all_within, WritesNothing}
-use Rattle.outside_io.specs.Disks.{Looks, Elapses, Only, Follows, Torn}
-use Rattle.memory_disk.specs.HistoryLaws.{bytes_as_image, torn_put, length-reaching}
+use Rattle.memory_disk.specs.History.{reaching, bytes_after, images_after, IsImage, WasImage, all_within, WritesNothing}
+use Rattle.outside_io.specs.Disks.{put, Looks, Elapses, Only, Follows, Torn}
+use Rattle.memory_disk.specs.HistoryLaws.{bytes_as_image, length-reaching}
+use Rattle.outside_io.specs.DiskLaws.{torn_put}
 use Rattle.memory_disk.proofs.Pushed.{bytes_after-append, all_within-append, images_after-append, elapses_push, elapses_not}
 use Rattle.memory_disk.specs.declared.disk_call.DiskCall.{DiskCall}
 use Rattle.memory_disk.specs.declared.disk_call.DiskCall.TheVariants.{Len, Read, Write, Sync}

@@ -3,9 +3,9 @@ use Rattle.std.specs.declared.alloc.Global.{Global}
 use Rattle.std.proofs.Common.{Vec, Result, Ok, Err, IfOk, ◌≡◌, ℕ, ◌≤◌, Bool, true, false, List, [], ◌∷◌, length, take, nat_le, refl, arith, cond}
 use Rattle.std.proofs.lemmas.List.{length-take}
 use Rattle.std.proofs.lemmas.Bool.{leb-true}
-use Rattle.outside_io.specs.Disks.{Torn}
-use Rattle.memory_disk.specs.History.{put, put_within, reaching, images_after, kept_after, IsImage}
-use Rattle.memory_disk.specs.HistoryLaws.{torn_put, torn_same}
+use Rattle.outside_io.specs.Disks.{Torn, put}
+use Rattle.memory_disk.specs.History.{put_within, reaching, images_after, kept_after, IsImage}
+use Rattle.outside_io.specs.DiskLaws.{torn_put, torn_same}
 use Rattle.memory_disk.specs.declared.disk_call.DiskCall.{DiskCall}
 use Rattle.memory_disk.specs.declared.disk_call.DiskCall.TheVariants.{Len, Read, Write, Sync}
 

@@ -2,13 +2,9 @@
 -- read, and the images that a crash may leave.
 use Rattle.std.specs.declared.alloc.Global.{Global}
 use Rattle.std.specs.Prelude.{⊤, Vec, ◌≡◌, ℕ, ◌+◌, ◌/◌, ◌≤◌, Bool, true, false, List, [], ◌∷◌, ◌++◌, length, take, drop, nat_le, if◌then◌else◌, ◌&&◌}
-use Rattle.outside_io.specs.Disks.{Torn}
+use Rattle.outside_io.specs.Disks.{put, torn_images}
 use Rattle.memory_disk.specs.declared.disk_call.DiskCall.{DiskCall}
 use Rattle.memory_disk.specs.declared.disk_call.DiskCall.TheVariants.{Write, Sync}
-
--- old with these bytes over it from a place on
-abbrev pub put : List ℕ → ℕ → List ℕ → List ℕ
-put old at bytes = take at old ++ bytes ++ drop (at + length bytes) old
 
 -- What of a write a read then gives. Of one that failed it is the first half, rounded up.
 abbrev pub reaching : Bool → List ℕ → List ℕ
@@ -21,10 +17,6 @@ bytes_after bytes [] = bytes
 bytes_after bytes (Write at written failed ∷ calls) =
     bytes_after (put bytes at (reaching failed written.items)) calls
 bytes_after bytes (call ∷ calls) = bytes_after bytes calls
-
--- the images after a write of so many bytes
-abbrev pub torn_images : (List ℕ → Type 0) → ℕ → ℕ → List ℕ → Type 0
-torn_images images at many later = (earlier : List ℕ) × images earlier × Torn at many earlier later
 
 -- the images that a crash may leave after these calls, from what a read gave and the images before
 abbrev pub images_after : List ℕ → (List ℕ → Type 0) → List DiskCall → List ℕ → Type 0

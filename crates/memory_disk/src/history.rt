@@ -1,7 +1,7 @@
 // What a disk had at first, and every call since.
 ghost use Rattle.std.specs.Prelude.{◌≡◌, ◌+◌, ◌<◌, ◌≤◌, ◌++◌, ◌∷◌, [], true, false, if◌then◌else◌, length, IfOk, IsSome, IsTrue, OnOk, vec_len, vec_capacity};
-ghost use Rattle.outside_io.specs.Disks.{Looks, Elapses, Follows, Torn, Only};
-ghost use Rattle.memory_disk.specs.History.{bytes_after, all_within, put, reaching, WritesNothing, IsWriteOf, IsImage, WasImage};
+ghost use Rattle.outside_io.specs.Disks.{Looks, Elapses, Follows, Torn, Only, put};
+ghost use Rattle.memory_disk.specs.History.{bytes_after, all_within, reaching, WritesNothing, IsWriteOf, IsImage, WasImage};
 ghost use Rattle.memory_disk.specs.First.{first_bytes};
 ghost use Rattle.memory_disk.specs.declared.disk_call.DiskCall.TheVariants.{Sync};
 

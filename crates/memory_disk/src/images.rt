@@ -1,6 +1,7 @@
 // One image of a moment, made by going through the calls up to then.
 ghost use Rattle.std.specs.Prelude.{◌≡◌, ◌∷◌, ℕ, List, take, IfOk, OnOk};
-ghost use Rattle.memory_disk.specs.History.{put, put_within, reaching, kept_after};
+ghost use Rattle.memory_disk.specs.History.{put_within, reaching, kept_after};
+ghost use Rattle.outside_io.specs.Disks.{put};
 ghost use Rattle.memory_disk.specs.declared.disk_call.DiskCall.{DiskCall as Call};
 
 use crate::DiskCall;

@@ -125,6 +125,14 @@ few_accepted opening history commands kept few not_full =
       | inr more ↦ let same : n ≡ m = omega (arith, few, more) in absurd (other same)
     ]
 
+-- the position of one command more, counted on from the opening
+pub next_position : (opening : Opening) (history : List Entry) (commands : List Command) (command : Command) (position : ℕ)
+    → commands ≡ commands_after opening history → position ≡ length (commands ++ command ∷ [])
+    → position ≡ length opening.commands + length (accepted_of history) + 1
+next_position opening history commands command position kept at =
+    at ∙ length-append commands (command ∷ [])
+    ∙ ap (λ n. n + 1) (ap length kept ∙ length-append opening.commands (accepted_of history))
+
 -- a posting that faulted did so in a longer history too
 faulted-push : (history : List Entry) (command : Command) (after : List Entry) (entry : Entry) → HasFaultedBefore history command after
     → HasFaultedBefore (history ++ entry ∷ []) command (after ++ entry ∷ [])

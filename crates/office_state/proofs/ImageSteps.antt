@@ -1,48 +1,26 @@
 -- What one more turn does to what is known of images
-use Rattle.std.proofs.Common.{◌≡◌, ◌⊎◌, ℕ, ◌+◌, ◌≤◌, Bool, true, false, List, [], ◌∷◌, ◌++◌, length, refl, ap, sym, ◌∙◌, subst, None, Ok, Err, Result, length-append, arith, inl, inr}
+use Rattle.std.proofs.Common.{◌≡◌, ℕ, ◌≤◌, Bool, true, false, List, [], ◌∷◌, ◌++◌, refl, subst, inl, inr}
 use Rattle.std.proofs.lemmas.List.{map-append}
-use Rattle.std.specs.Prelude.{is_ok, OnOk, OnErr}
 use Rattle.std.specs.List.{AllByRecursion}
 use Rattle.outside_io.specs.declared.disks.Disk.{Ghosts}
-use Rattle.outside_io.specs.Faults.{Rose}
 use Rattle.policy_types.specs.declared.command.Command.{Command}
-use Rattle.policy_types.specs.declared.policy.Policy.{Policy}
-use Rattle.policy_types.specs.declared.entry.Reply.{Reply}
-use Rattle.policy_types.specs.declared.entry.Reply.TheVariants.{Accepted, Faulted}
 use Rattle.policy_types.specs.declared.entry.Entry.{Entry}
-use Rattle.policy_types.specs.Valid.{IsValid, id_of}
-use Rattle.policy_machine.specs.Accounts.{ledger_of}
-use Rattle.policy_machine.specs.Book.{book, policy_of, IsAccepted}
-use Rattle.policy_machine.specs.Rules.{next}
-use Rattle.policy_machine.specs.History.{Opening, IsDue, IsLegal, accepted_of, commands_after, floor_of, floor_set, pin_of, refusal_due}
-use Rattle.policy_machine.proofs.BookLemmas.{IsAccepted-push}
-use Rattle.policy_machine.proofs.HistoryGrowth.{floor_of-kept}
-use Rattle.policy_machine.proofs.HistoryLemmas.{IsLegalAfter-push, accepted_of-push}
+use Rattle.policy_types.specs.Valid.{IsValid}
+use Rattle.policy_machine.specs.Book.{IsAccepted}
+use Rattle.policy_machine.specs.History.{Opening, accepted_of, commands_after}
 use Rattle.record_codec.specs.Spelling.{spelling_of}
 use Rattle.posting_journal.specs.Files.{IsJournal}
 use Rattle.posting_journal.specs.Runs.{Leaves}
-use Rattle.posting_journal.specs.States.{StandsFor as JournalStands, IsKept, count_of as records_in, disk_of as disk_under, is_clean}
+use Rattle.posting_journal.specs.States.{IsKept, disk_of as disk_under, is_clean}
 use Rattle.posting_journal.specs.declared.journal.Journal.{Journal}
 use Rattle.posting_journal.proofs.Written.{staged_either}
-use Rattle.watcher_set.specs.declared.watching.Watching.{Ghosts as WatcherGhosts}
-use Rattle.arrayvec.specs.ArrayVec.{ArrayVec}
-use Rattle.office_state.specs.declared.books.Books.{Books}
-use Rattle.office_state.specs.declared.held.Held.{Held}
-use Rattle.office_state.specs.declared.state.OfficeState.{OfficeState}
-use Rattle.office_state.specs.declared.answer.Answer.TheVariants.{Accepted as AcceptedAt, DiskFault}
-use Rattle.office_state.specs.Images.{HoldsNow, HoldsOnce, IsLeftBy, IsQuietReply}
+use Rattle.office_state.specs.Images.{HoldsNow, HoldsOnce}
 use Rattle.office_state.specs.Journals.{JournalBytes, bodies_of}
-use Rattle.office_state.specs.Pins.{pins_held}
-use Rattle.office_state.specs.Posting.{CrashesIn}
-use Rattle.office_state.specs.Standing.{LeavesSince, StandsFor}
-use Rattle.office_state.specs.States.{begun_of, commands_of, disk_of, opening_of}
-use Rattle.office_state.specs.inside.Books.{commands_in}
+use Rattle.office_state.specs.Standing.{LeavesSince}
 use Rattle.office_state.specs.inside.Holding.{IsLeftBehind, JournalHolds}
-use Rattle.office_state.specs.inside.Records.{Records}
-use Rattle.office_state.proofs.HistorySteps.{accepted-same, all_before, all_in, all_up_to, commands-more, commands-same, faults-same, faults_after-more, faults_after-same, faults_met, faults-more, holds_all, holds_more, holds_once-push, is_due, is_fresh, pending-now, pending-push, posting}
-use Rattle.office_state.proofs.KeepingSteps.{all-more, values-book}
+use Rattle.office_state.proofs.HistorySteps.{commands-same, holds_all, holds_more, holds_once-push, pending-push}
+use Rattle.office_state.proofs.KeepingSteps.{all-more}
 use Rattle.office_state.proofs.OpeningSteps.{synced_before}
-use Rattle.office_state.proofs.PinSteps.{pins_held-same}
 
 -- the file of commands' bodies is their journal
 pub journal_of : (image : List ℕ) (commands : List Command) → AllByRecursion IsValid commands → IsAccepted commands

@@ -5,11 +5,11 @@ use Rattle.outside_io.specs.declared.disks.Disk.{Ghosts}
 use Rattle.policy_types.specs.declared.command.Command.{Command}
 use Rattle.policy_types.specs.declared.entry.Entry.{Entry}
 use Rattle.policy_machine.specs.History.{Opening, accepted_by, accepted_of, commands_after}
-use Rattle.posting_journal.specs.Runs.{Leaves, LooksOn}
+use Rattle.posting_journal.specs.Runs.{Leaves}
 use Rattle.office_state.specs.Images.{HasKept, HoldsAtLeast, HoldsNow, KeepsAccepted}
 use Rattle.office_state.specs.Journals.{JournalBytes, Opens}
 use Rattle.office_state.proofs.HistorySteps.{commands-same, pending-push}
-use Rattle.office_state.proofs.OpeningSteps.{CountsNow, OnlyNow, looked_since}
+use Rattle.office_state.proofs.OpeningSteps.{OnlyNow}
 
 -- a beginning of a list with one more behind it is the whole, or one of the list
 front_or_whole : {X : Type 0} (xs front rest : List X) (x : X) → xs ++ x ∷ [] ≡ front ++ rest
@@ -145,18 +145,3 @@ module _ {D : Type 0} (g : Ghosts D) (begun : D) (opening : Opening) where
     pub keeps_unaccepted : accepted_of (entry ∷ []) ≡ [] → KeepsAccepted g begun new opening (turns ++ entry ∷ [])
     keeps_unaccepted none =
         keeps_more (kept_still new turns entry none (kept_on old new turns P moments least (whole_of old turns keeps)))
-
-  -- a disk that was only looked at since
-  pub keeps_looked : CountsNow g → (mid new : D) (turns : List Entry) → g.honest mid → LooksOn g mid new
-      → KeepsAccepted g begun mid opening turns → KeepsAccepted g begun new opening turns
-  keeps_looked counts_now mid new turns honest looks keeps front rest same =
-      let kept = keeps front rest same in
-      record {
-        stood = kept.stood;
-        honest = kept.honest;
-        later = kept.later;
-        passed = omega (arith, kept.passed, looks.time.later);
-        images = kept.images;
-        since = λ (image : List ℕ) (left : g.left_since new (g.clock kept.stood) image).
-            kept.since image (looked_since g counts_now mid new honest looks (g.clock kept.stood) kept.passed image left);
-      }

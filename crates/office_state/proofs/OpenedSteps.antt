@@ -57,7 +57,7 @@ module _ {D : Type 0} (g : Ghosts D) (old : D) (journal : Journal D g) (started 
     alone = looked_alone g old journal started counts_now reads_image new none.looked;
   }
 
-  module _ {W : Type 0} {w : WatcherGhosts W} (watchers : W) (fresh : w.told watchers []) (state : OfficeState D W g w)
+  module _ {W : Type 0} {w : WatcherGhosts W} (watchers : W) (fresh : (before : ℕ) → w.told watchers before []) (state : OfficeState D W g w)
       (made : IsOfficeOf journal old watchers state) where
     -- the state with what it was opened on in plain sight
     abbrev known : OfficeState D W g w
@@ -151,7 +151,7 @@ module _ {D : Type 0} (g : Ghosts D) (old : D) (journal : Journal D g) (started 
                 (kept_now g old opening (disk_of state) [] only_now honest (later honest) (now honest));
             fault_count = quiet;
             alone = λ still. looked_alone g old journal started counts_now reads_image (disk_of state) made.stays.disk;
-            told = subst (λ these. w.told these []) (sym made.watched) fresh;
+            told = subst (λ these. w.told these (length opening.commands) []) (sym made.watched) (fresh (length opening.commands));
             inside = record {
               later = later;
               opened = omega (arith, quiet);

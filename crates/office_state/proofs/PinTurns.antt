@@ -63,7 +63,7 @@ module _ {D W : Type 0} {g : Ghosts D} {w : WatcherGhosts W} (old : OfficeState 
       → StandsFor {w = w} (after pins floor) (turns ++ entry ∷ [])
   step entry none quiet due pins pinned floor floored =
       stands_still old turns stands old.books counted entry refl none quiet due pins pinned floor floored
-      old.watchers (λ heard told. told)
+      old.watchers (λ before heard told. told)
 
   floor_still : (entry : Entry) → floor_set entry.reply ≡ None → old.floor ≡ floor_of (turns ++ entry ∷ [])
   floor_still entry none = stands.floor ∙ sym (floor_of-kept turns entry none)

@@ -23,7 +23,6 @@ use Rattle.posting_journal.specs.Files.{IsJournal}
 use Rattle.posting_journal.specs.Runs.{Leaves}
 use Rattle.posting_journal.specs.States.{StandsFor as JournalStands, IsKept, count_of as records_in, disk_of as disk_under, is_clean}
 use Rattle.posting_journal.specs.declared.journal.Journal.{Journal}
-use Rattle.posting_journal.proofs.Written.{staged_either}
 use Rattle.watcher_set.specs.declared.watching.Watching.{Ghosts as WatcherGhosts}
 use Rattle.arrayvec.specs.ArrayVec.{ArrayVec}
 use Rattle.office_state.specs.declared.books.Books.{Books}
@@ -39,7 +38,7 @@ use Rattle.office_state.specs.States.{begun_of, commands_of, disk_of, opening_of
 use Rattle.office_state.specs.inside.Books.{commands_in}
 use Rattle.office_state.specs.inside.Holding.{IsLeftBehind, JournalHolds}
 use Rattle.office_state.specs.inside.Records.{Records}
-use Rattle.office_state.proofs.HistorySteps.{accepted-same, all_before, all_in, all_up_to, commands-more, commands-same, faults-same, faults_after-more, faults_after-same, faults_met, faults-more, holds_all, holds_more, holds_once-push, is_due, is_fresh, pending-now, pending-push, posting}
+use Rattle.office_state.proofs.HistorySteps.{accepted-same, all_before, all_in, all_up_to, commands-more, commands-same, faults-same, faults_after-more, faults_after-same, faults_met, faults-more, holds_all, holds_more, is_due, is_fresh, pending-now, posting}
 use Rattle.office_state.proofs.KeptSteps.{keeps_more, keeps_still, keeps_unaccepted, kept_now, least_now}
 use Rattle.office_state.proofs.ImageSteps.{holds_now, journal_of, journal_of_more, left_still, now_later, since_on, since_still}
 use Rattle.office_state.proofs.KeepingSteps.{all-more, values-book}
@@ -81,13 +80,17 @@ module _ {D W : Type 0} {g : Ghosts D} {w : WatcherGhosts W} where
     abbrev commands : List Command
     commands = commands_after opening turns
 
+    -- so many commands stand before those that the watchers were told of
+    abbrev behind : ℕ
+    behind = length opening.commands
+
     -- a turn that leaves the journal and the commands
     pub stands_still : (books : Books) (counted : records_in old.journal ≡ length (commands_in books)) (entry : Entry)
         → commands_in books ≡ commands_of old → accepted_of (entry ∷ []) ≡ [] → faults_met (entry ∷ []) ≡ []
         → IsDue opening turns entry.caller entry.call entry.reply
         → (pins : ArrayVec Held) → pins.items ≡ pins_held (turns ++ entry ∷ [])
         → (floor : ℕ) → floor ≡ floor_of (turns ++ entry ∷ [])
-        → (watchers : W) → ((heard : List Command) → w.told old.watchers heard → w.told watchers heard)
+        → (watchers : W) → ((before : ℕ) (heard : List Command) → w.told old.watchers before heard → w.told watchers before heard)
         → StandsFor {w = w} (record { journal = old.journal; books = books; watchers = watchers; turns = old.turns + 1; pins = pins; floor = floor; begun = old.begun; recovered = old.recovered; counted = counted })
         (turns ++ entry ∷ [])
     stands_still books counted entry as_was none quiet due pins pinned floor floored watchers told =
@@ -118,7 +121,7 @@ module _ {D W : Type 0} {g : Ghosts D} {w : WatcherGhosts W} where
               keeps_still g (begun_of old) opening (disk_of old) turns entry none (stands.images_kept honest);
           fault_count = stands.fault_count ∙ sym (faults_after-same opening turns entry quiet);
           alone = λ still. stands.alone (all_before (λ (e : Entry). IsQuietReply e.reply) turns (entry ∷ []) still);
-          told = subst (w.told watchers) (sym (accepted-same turns entry none)) (told (accepted_of turns) stands.told);
+          told = subst (w.told watchers behind) (sym (accepted-same turns entry none)) (told behind (accepted_of turns) stands.told);
           inside = record {
             later = stands.inside.later;
             opened = stands.inside.opened;
@@ -129,7 +132,7 @@ module _ {D W : Type 0} {g : Ghosts D} {w : WatcherGhosts W} where
 
     -- it stands for the same turns with other books of the same commands, and watchers who were told of the same
     pub stands_with : (books : Books) (counted : records_in old.journal ≡ length (commands_in books)) → commands_in books ≡ commands_of old
-        → (watchers : W) → ((heard : List Command) → w.told old.watchers heard → w.told watchers heard)
+        → (watchers : W) → ((before : ℕ) (heard : List Command) → w.told old.watchers before heard → w.told watchers before heard)
         → StandsFor {w = w} (record { journal = old.journal; books = books; watchers = watchers; turns = old.turns; pins = old.pins; floor = old.floor; begun = old.begun; recovered = old.recovered; counted = counted }) turns
     stands_with books counted as_was watchers told =
         let kept : commands_in books ≡ commands = as_was ∙ stands.kept in
@@ -148,7 +151,7 @@ module _ {D W : Type 0} {g : Ghosts D} {w : WatcherGhosts W} where
           images_kept = stands.images_kept;
           fault_count = stands.fault_count;
           alone = stands.alone;
-          told = told (accepted_of turns) stands.told;
+          told = told behind (accepted_of turns) stands.told;
           inside = stands.inside;
         }
 
@@ -259,7 +262,7 @@ module _ {D W : Type 0} {g : Ghosts D} {w : WatcherGhosts W} where
       module _ (books : Books) (counted : records_in journal ≡ length (commands_in books)) (count : ℕ) (value : T)
           (quiet : g.faults (disk_under journal) ≡ g.faults (disk_of old)) (more : commands_in books ≡ commands_of old ++ command ∷ [])
           (few : length (commands_of old) ≡ 4000000 → ⊥) (ok : result ≡ Ok value) (position : count ≡ length (commands_in books))
-          (watchers : W) (told : (heard : List Command) → w.told old.watchers heard → w.told watchers (heard ++ command ∷ []))
+          (watchers : W) (told : (before : ℕ) (heard : List Command) → w.told old.watchers before heard → count ≡ before + length heard + 1 → w.told watchers before (heard ++ command ∷ []))
           (only_now : OnlyNow g) where
         pub stands_accepted : (caller : ℕ)
             → StandsFor {w = w} (record { journal = journal; books = books; watchers = watchers; turns = old.turns + 1; pins = old.pins; floor = old.floor; begun = old.begun; recovered = old.recovered; counted = counted })
@@ -298,7 +301,8 @@ module _ {D W : Type 0} {g : Ghosts D} {w : WatcherGhosts W} where
                   (later_on honest) (now honest));
               fault_count = quiet ∙ stands.fault_count ∙ sym (faults_after-same opening turns entry refl);
               alone = λ still. absurd (all_in (λ (e : Entry). IsQuietReply e.reply) turns [] entry still);
-              told = subst (w.told watchers) (sym (accepted_of-push turns entry)) (told (accepted_of turns) stands.told);
+              told = subst (w.told watchers behind) (sym (accepted_of-push turns entry)) (told behind (accepted_of turns) stands.told
+                  (at ∙ ap (λ n. n + 1) (length-append opening.commands (accepted_of turns))));
               inside = record {
                 later = later_on;
                 opened = rw quiet stands.inside.opened;
@@ -364,7 +368,7 @@ module _ {D W : Type 0} {g : Ghosts D} {w : WatcherGhosts W} where
                   (moments honest) least (stands.images_kept (honesty honest)) refl;
               fault_count = sym told ∙ sym (faults_after-more opening turns caller command count);
               alone = λ still. absurd (all_in (λ (e : Entry). IsQuietReply e.reply) turns [] entry still);
-              told = subst (w.told old.watchers) (sym (accepted-same turns entry refl)) stands.told;
+              told = subst (w.told old.watchers behind) (sym (accepted-same turns entry refl)) stands.told;
               inside = record {
                 later = later_on;
                 opened = omega (arith, later, stands.inside.opened);

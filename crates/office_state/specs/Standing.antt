@@ -50,6 +50,6 @@ pub record StandsFor {D W : Type 0} {g : Ghosts D} {w : WatcherGhosts W} (state 
   pub fault_count : g.faults (disk_of state) ≡ faults_after (opening_of state) turns
   -- while no posting was accepted or met a fault, the disk is left as opening it left it
   pub alone : AreQuiet turns → IsLeftAlone g (begun_of state) (disk_of state)
-  -- its watchers were told of just the accepted commands, in their order
-  pub told : w.told state.watchers (accepted_of turns)
+  -- its watchers were told of just the accepted commands, in their order, each at its position behind the opening's
+  pub told : w.told state.watchers (length (opening_of state).commands) (accepted_of turns)
   pub inside : Holds (begun_of state) state.journal (opening_of state) turns

@@ -1,5 +1,5 @@
 // An office is opened on a disk: its journal is opened, and each record is decided anew, in order.
-ghost use Rattle.std.specs.Prelude.{◌≡◌, [], IfOk, IfErr};
+ghost use Rattle.std.specs.Prelude.{◌≡◌, ℕ, [], IfOk, IfErr};
 ghost use Rattle.office_state.specs.Opening.{HasOpened, HasNotOpened};
 ghost use Rattle.office_state.specs.States.{auditors_of};
 ghost use Rattle.office_state.specs.inside.Replays.{IsOfficeOf, HasNoOffice, as_cause};
@@ -19,7 +19,7 @@ impl<D: Disk, W: Watching> OfficeState<D, W> {
     /// The office of the disk's journal, with watchers who were told of nothing. Over any file but an unfinished creation
     /// nothing is written.
     pub fn open(alloc: Global, disk: D, watchers: W) -> Result<OfficeState<D, W>, StartFault<D>>
-        requires { W.told watchers [] }
+        requires { (before : ℕ) → W.told watchers before [] }
         ensures opened { IfOk result (λ state. HasOpened disk state) }
         ensures auditors { IfOk result (λ state. auditors_of state ≡ W.handed watchers) }
         ensures refused { IfErr result (λ fault. HasNotOpened D.Disk disk fault.disk fault.cause) }

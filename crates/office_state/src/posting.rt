@@ -101,7 +101,7 @@ impl<D: Disk, W: Watching> OfficeState<D, W> {
 fn take_memory<W: Watching>(books: &mut Books, watchers: &mut W) -> Result<(), NoMemory>
     ensures commands { commands_in books.new ≡ commands_in books.old }
     ensures handed { W.handed watchers.new ≡ W.handed watchers.old }
-    ensures told { (commands : List ACommand) → W.told watchers.old commands → W.told watchers.new commands }
+    ensures told { (before : ℕ) (commands : List ACommand) → W.told watchers.old before commands → W.told watchers.new before commands }
     ensures room { OnOk result (1 ≤ room_in books.new) }
     ensures ready { OnOk result (W.has_room watchers.new) }
 {

@@ -1,5 +1,5 @@
 // An office on a disk in memory, the postings that it is given, and what it answers and shows.
-ghost use Rattle.std.specs.Prelude.{[]};
+ghost use Rattle.std.specs.Prelude.{ℕ, []};
 
 use memory_disk::MemoryDisk;
 use office_state::{Answer, OfficeState, StartCause};
@@ -81,7 +81,7 @@ pub(crate) fn watched_on<W: Watching>(
     failing: &[u64],
     watchers: W,
 ) -> Result<Result<Desk<W>, StartCause>, AllocError>
-    requires { W.told watchers [] }
+    requires { (before : ℕ) → W.told watchers before [] }
 {
     let disk = MemoryDisk::new(
         alloc,

@@ -1,5 +1,5 @@
 // Watchers of an office: those who find no memory, and the reports of those who do.
-ghost use Rattle.std.specs.Prelude.{[]};
+ghost use Rattle.std.specs.Prelude.{ℕ, []};
 
 use crate::office_desk::{
     Posting, accepted, answers, office_on, policy, refused, shows, watched_on,
@@ -29,7 +29,7 @@ struct Forgetful {
 impl Watching for Forgetful {
     ghost handed = { λ _. [] };
 
-    ghost told = { λ _ _. Unit {0} };
+    ghost told = { λ _ _ _. Unit {0} };
 
     ghost has_room = { λ _. Unit {0} };
 
@@ -88,7 +88,7 @@ fn reports_after<W: Watching>(
     watchers: W,
     postings: &[Posting],
 ) -> Result<Option<Reports>, AllocError>
-    requires { W.told watchers [] }
+    requires { (before : ℕ) → W.told watchers before [] }
 {
     let Ok(mut desk) = watched_on(alloc, &[], failing, watchers)? else {
         return Ok(None);

@@ -1,5 +1,5 @@
 // What the watchers of a shared office have to say at its end.
-ghost use Rattle.std.specs.Prelude.{◌≡◌, ◌≤◌, []};
+ghost use Rattle.std.specs.Prelude.{◌≡◌, ℕ, ◌≤◌, []};
 
 use crate::policies::NEW_YEAR;
 use crate::shared_callers::{issues, number};
@@ -77,7 +77,7 @@ fn reported<D: Disk + Send, W: Watching + Send, R: Threads + Wait + Sync>(
     watchers: W,
     policies: u16,
 ) -> Result<(D, Reports), StartFault<D>>
-    requires { W.told watchers [] }
+    requires { (before : ℕ) → W.told watchers before [] }
 {
     let (office, pass) = Office::start(alloc, disk, watchers)?;
     let pass = two_pay(rt, &office, pass, policies);

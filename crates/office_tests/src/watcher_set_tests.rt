@@ -1,5 +1,5 @@
 // Reports of sets of auditors, expected by hand.
-ghost use Rattle.std.specs.Prelude.{◌≡◌, [], length, IsTrue};
+ghost use Rattle.std.specs.Prelude.{◌≡◌, ℕ, [], length, IsTrue};
 ghost use Rattle.std.specs.List.{AllByRecursion};
 
 use crate::policies::{NEW_YEAR, issue};
@@ -22,6 +22,8 @@ impl Watcher for Guest {
     ghost use Rattle.std.specs.Prelude.{◌==◌, ◌-◌, length, vec_len, vec_capacity};
 
     ghost noted = { λ guest. guest.count.noted.items };
+
+    ghost last = { λ guest. guest.count.last.value };
 
     ghost spare = { λ guest. vec_capacity guest.count.noted - vec_len guest.count.noted };
 
@@ -68,7 +70,7 @@ fn told<W: Watching + Send>(
     token: &Arc<u8>,
     owners: &[usize],
 ) -> Result<Reports, Fail>
-    requires { W.told watchers [] }
+    requires { (before : ℕ) → W.told watchers before [] }
 {
     assert!(rt; commands.len() < 100);
     for (place, command) in commands.iter().enumerate() {

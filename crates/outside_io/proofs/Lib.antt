@@ -1,2 +1,4 @@
+pub mod FileSteps
+pub mod LawLemmas
 pub mod Moments
 pub mod StreamLemmas

@@ -9,9 +9,13 @@ pub record HasDiskCause {T E : Type 0} (before now : ℕ) (result : Result T E) 
   pub failed : OnErr result (Rose before now)
   pub succeeded : OnOk result (now ≡ before)
 
+-- old with these bytes over it from a place on
+abbrev pub put : List ℕ → ℕ → List ℕ → List ℕ
+put old at bytes = take at old ++ bytes ++ drop (at + length bytes) old
+
 -- new is old with these bytes from a place on
 abbrev pub Holds : List ℕ → ℕ → List ℕ → List ℕ → Type 0
-Holds old at bytes new = new ≡ take at old ++ bytes ++ drop (at + length bytes) old
+Holds old at bytes new = new ≡ put old at bytes
 
 -- A write that a crash or a fault cuts short: in its range and past the old end any bytes,
 -- elsewhere those of before, and a length from the old to the new.
@@ -20,6 +24,10 @@ pub record Torn (at many : ℕ) (old new : List ℕ) : Type 0 where
   pub after : drop (at + many) new ≡ drop (at + many) old
   pub no_shorter : length old ≤ length new
   pub no_longer : length new ≤ max (length old) (at + many)
+
+-- the images after a write of so many bytes
+abbrev pub torn_images : (List ℕ → Type 0) → ℕ → ℕ → List ℕ → Type 0
+torn_images images at many later = (earlier : List ℕ) × images earlier × Torn at many earlier later
 
 -- each new image is an old one after a step
 abbrev pub Follows : (List ℕ → List ℕ → Type 0) → (List ℕ → Type 0) → (List ℕ → Type 0) → Type 0

@@ -1,7 +1,10 @@
 pub mod Disks
+pub mod DiskLaws
+pub mod FileCalls
+pub mod FileLaws
 pub mod Faults
 pub mod Memory
-pub mod Notes
+pub mod inside
 pub mod Plans
 pub mod Shelves
 pub mod Streams

@@ -21,23 +21,23 @@ pub record Answer : Type 0 where
   pub told : Told
 
 -- of a file with these bytes, or of none, this is told
-abbrev pub IsTold : Option (List ℕ) → Told → Type 0
-IsTold file (Found bytes) = file ≡ Some bytes
-IsTold file Absent = file ≡ None
-IsTold file TooLong = IsSomeAnd file (λ bytes. 4194304 < length bytes)
+abbrev pub FileTells : Option (List ℕ) → Told → Type 0
+FileTells file (Found bytes) = file ≡ Some bytes
+FileTells file Absent = file ≡ None
+FileTells file TooLong = IsSomeAnd file (λ bytes. 4194304 < length bytes)
 
 -- each answer is the one that these files give
 abbrev pub Agrees : List Answer → Files → Type 0
 Agrees [] files = ⊤
-Agrees (answer ∷ earlier) files = Agrees earlier files × IsTold (files answer.name) answer.told
+Agrees (answer ∷ earlier) files = Agrees earlier files × FileTells (files answer.name) answer.told
 
 -- the answer to this name came to those before, where the shelf told of the file
-abbrev pub Answers : List ℕ → Result (Vec ℕ Global) FetchFault → List Answer → List Answer → Type 0
-Answers name (Ok bytes) before now = now ≡ record { name = name; told = Found bytes.items } ∷ before
-Answers name (Err fault.Absent) before now = now ≡ record { name = name; told = Absent } ∷ before
-Answers name (Err fault.TooLong) before now = now ≡ record { name = name; told = TooLong } ∷ before
-Answers name (Err fault.Failed) before now = now ≡ before
-Answers name (Err fault.NoMemory) before now = now ≡ before
+abbrev pub KeepsAnswer : List ℕ → Result (Vec ℕ Global) FetchFault → List Answer → List Answer → Type 0
+KeepsAnswer name (Ok bytes) before now = now ≡ record { name = name; told = Found bytes.items } ∷ before
+KeepsAnswer name (Err fault.Absent) before now = now ≡ record { name = name; told = Absent } ∷ before
+KeepsAnswer name (Err fault.TooLong) before now = now ≡ record { name = name; told = TooLong } ∷ before
+KeepsAnswer name (Err fault.Failed) before now = now ≡ before
+KeepsAnswer name (Err fault.NoMemory) before now = now ≡ before
 
 -- these are those files
 abbrev pub AreFiles : Files → Files → Type 0

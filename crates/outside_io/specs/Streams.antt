@@ -35,16 +35,16 @@ abbrev pub GivesMore : ℕ → List ℕ → List ℕ → Type 0
 GivesMore limit before now = (front : List ℕ) × (now ≡ before ++ front) × (limit < length front)
 
 -- A piece that passed through a stream, and how many bytes there was room for.
-pub record Piece : Type 0 where
+pub record StreamPiece : Type 0 where
   pub room : ℕ
   pub bytes : List ℕ
 
 -- the bytes that passed, in order; the newest piece stands first
-abbrev pub passed_bytes : List Piece → List ℕ
+abbrev pub passed_bytes : List StreamPiece → List ℕ
 passed_bytes [] = []
 passed_bytes (piece ∷ earlier) = passed_bytes earlier ++ piece.bytes
 
 -- a piece was empty though there was room
-abbrev pub HasEnd : List Piece → Type 0
+abbrev pub HasEnd : List StreamPiece → Type 0
 HasEnd [] = ⊥
 HasEnd (piece ∷ earlier) = HasEnd earlier ⊎ ((length piece.bytes ≡ 0) × (0 < piece.room))

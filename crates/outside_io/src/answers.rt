@@ -1,7 +1,7 @@
 // What a shelf answered, for contracts alone.
 ghost use Rattle.std.specs.Prelude.{◌≡◌, List, [], ◌∷◌, map};
 ghost use Rattle.outside_io.specs.Shelves.{Answer, Found, Absent, TooLong};
-ghost use Rattle.outside_io.specs.Notes.{answer_of};
+ghost use Rattle.outside_io.specs.inside.Notes.{answer_of};
 
 use crate::record::Record;
 use std::marker::Model;
@@ -34,6 +34,7 @@ impl Answers {
     }
 
     // The file with this name has these bytes.
+    #[inline(always)]
     pub(crate) fn note_found(&mut self, name: &str, bytes: &[u8])
         ensures { self.new ≡ record { name = name.now; told = Found bytes.now } ∷ self.old }
     {
@@ -41,6 +42,7 @@ impl Answers {
     }
 
     // There is no file with this name.
+    #[inline(always)]
     pub(crate) fn note_absent(&mut self, name: &str)
         ensures { self.new ≡ record { name = name.now; told = Absent } ∷ self.old }
     {
@@ -48,6 +50,7 @@ impl Answers {
     }
 
     // The file with this name has too many bytes.
+    #[inline(always)]
     pub(crate) fn note_too_long(&mut self, name: &str)
         ensures { self.new ≡ record { name = name.now; told = TooLong } ∷ self.old }
     {

@@ -1,7 +1,7 @@
 // The files of the folder in which the program runs, as a shelf. It notes its answers, for contracts alone.
 ghost use Rattle.std.specs.Prelude.{◌≡◌, ℕ, ◌<◌, ◌≤◌, [], None, Some, Option, List, length, vec_len, IfOk, IsSomeAnd, IsErrOf};
 ghost use Rattle.outside_io.specs.Faults.{Rose};
-ghost use Rattle.outside_io.specs.Shelves.{Files, Agrees, Answers as Keeps, no_files};
+ghost use Rattle.outside_io.specs.Shelves.{Files, Agrees, KeepsAnswer, no_files};
 
 use crate::answers::Answers;
 use crate::shelves::SHELF_LIMIT;
@@ -59,7 +59,7 @@ impl<R: Files> Shelf for FolderShelf<R> {
         ensures failed { IsErrOf result FetchFault.Failed → Rose self.old.faults self.new.faults }
         ensures counted { self.old.faults < self.new.faults → IsErrOf result FetchFault.Failed }
         ensures later { self.old.faults ≤ self.new.faults }
-        ensures kept { Keeps name.now result self.old.answers self.new.answers }
+        ensures kept { KeepsAnswer name.now result self.old.answers self.new.answers }
     {
         // Opens the file with this name, once, and reads it to its end.
         let answer = read_file(&self.files, alloc, name);

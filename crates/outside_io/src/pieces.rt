@@ -1,7 +1,7 @@
 // The pieces that passed through a stream, for contracts alone.
 ghost use Rattle.std.specs.Prelude.{◌≡◌, List, [], ◌∷◌, map};
-ghost use Rattle.outside_io.specs.Streams.{Piece};
-ghost use Rattle.outside_io.specs.Notes.{piece_of};
+ghost use Rattle.outside_io.specs.Streams.{StreamPiece};
+ghost use Rattle.outside_io.specs.inside.Notes.{stream_piece_of};
 
 use crate::record::Record;
 use std::marker::Model;
@@ -13,9 +13,9 @@ pub(crate) struct Pieces {
 }
 
 impl Model for Pieces {
-    ghost Value = { List Piece };
+    ghost Value = { List StreamPiece };
 
-    ghost view = { λ pieces. map piece_of pieces.record.notes };
+    ghost view = { λ pieces. map stream_piece_of pieces.record.notes };
 }
 
 impl Pieces {
@@ -28,6 +28,7 @@ impl Pieces {
     }
 
     // One piece more, and how many bytes there was room for.
+    #[inline(always)]
     pub(crate) fn note(&mut self, room: usize, bytes: &[u8])
         ensures { self.new ≡ record { room = room; bytes = bytes.now } ∷ self.old }
     {

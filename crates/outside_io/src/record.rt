@@ -1,7 +1,7 @@
 // Notes that only contracts read.
 ghost use Rattle.std.specs.Prelude.{◌≡◌, List, [], ◌∷◌};
 ghost use Rattle.std.specs.Borrow.{ftrue};
-ghost use Rattle.outside_io.specs.Notes.{Note};
+ghost use Rattle.outside_io.specs.inside.Notes.{Note};
 
 use std::marker::{Model, PhantomData};
 
@@ -16,6 +16,9 @@ impl Model for Record {
     ghost also_owns = { λ _. ftrue };
 }
 
+// It owns nothing.
+unsafe impl Send for Record {}
+
 impl Record {
     pub(crate) fn new() -> Record
         ensures { result.notes ≡ [] }
@@ -25,6 +28,7 @@ impl Record {
         }
     }
 
+    #[inline(always)]
     pub(crate) fn note(&mut self, _numbers: &[u64], _name: &[u8], _bytes: &[u8])
         ensures { self.new.notes ≡ record { numbers = _numbers.now; name = _name.now; bytes = _bytes.now } ∷ self.old.notes }
     {}

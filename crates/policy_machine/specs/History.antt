@@ -43,7 +43,8 @@ abbrev pub fault_of : Reply → Option ℕ
 fault_of (Faulted count) = Some count
 fault_of _ = None
 
--- a count of faults is above an earlier one; at its type's end it stands still
+-- A count of faults is above an earlier one. Where the earlier one is the last value of a count, 2 ^ 64 - 1, nothing is above
+-- it: the count is that value again, so there two faults have one number
 abbrev pub IsAbove : ℕ → ℕ → Type 0
 IsAbove earlier count = min (earlier + 1) (2 ^ 64 - 1) ≤ count
 

@@ -5,6 +5,8 @@ use crate::watcher::{Attention, NoMemory, Report, Watcher};
 impl Watcher for Box<dyn Watcher + Send> {
     ghost noted = { λ it. (Watcher-box it).noted it.value };
 
+    ghost last = { λ it. (Watcher-box it).last it.value };
+
     ghost spare = { λ it. (Watcher-box it).spare it.value };
 
     ghost stops = { λ it. (Watcher-box it).stops it.value };

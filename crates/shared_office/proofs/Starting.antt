@@ -13,14 +13,29 @@ use Rattle.office_state.specs.declared.state.OfficeState.{OfficeState}
 use Rattle.office_state.specs.Images.{IsLeftBy}
 use Rattle.office_state.specs.Opening.{HasNotOpened, HasOpened}
 use Rattle.office_state.specs.Standing.{StandsFor}
-use Rattle.office_state.specs.States.{auditors_of, begun_of, commands_of, opening_of}
-use Rattle.turn_lock.specs.Passes.{Holding, OwnsAll}
+use Rattle.office_state.specs.States.{auditors_of, begun_of, commands_of, disk_of, opening_of}
+use Rattle.turn_lock.specs.Passes.{Holding, IsFirst, OwnsAll}
 use Rattle.shared_office.specs.Offices.{OfficeOpening}
-use Rattle.shared_office.specs.Starting.{HasClosed}
+use Rattle.shared_office.specs.Starting.{HasClosed, HasStartedOffice}
 use Rattle.shared_office.specs.declared.state.SharedState.{SharedState}
 use Rattle.shared_office.specs.inside.Standing.{SharedStandsFor, opening_on}
 
 module _ {D W : Type 0} (g : Ghosts D) (w : WatcherGhosts W) where
+  -- an office that was opened, and put under the lock
+  pub started : (old : D) (watchers handed : W) (state : OfficeState D W g w) → HasOpened old state → handed ≡ watchers
+      → (pass : Holding (OfficeOpening D W))
+      → IsFirst (record { opening = opening_of state; begun = begun_of state; watchers = handed }) pass
+      → HasStartedOffice g old watchers pass
+  started old watchers handed state opened same pass first = record {
+    opening = opening_of state;
+    first = subst (λ begun. IsFirst (record { opening = opening_of state; begun = begun; watchers = watchers }) pass) opened.begun
+        (subst (λ these. IsFirst (record { opening = opening_of state; begun = begun_of state; watchers = these }) pass) same first);
+    faults = ap g.faults opened.begun;
+    held = disk_of state;
+    honesty = opened.honesty;
+    opened = opened.opened;
+  }
+
   -- an office that was closed again for want of memory, before any turn
   pub unopened : (old : D) (office : OfficeState D W g w) → HasOpened old office → (disk : D)
       → IsLeftBy g (begun_of office) disk (opening_of office) [] → HasNotOpened g old disk NoMemory

@@ -1,5 +1,5 @@
 // The calls of an office, each through a shared reference and a caller's pass.
-ghost use Rattle.std.specs.Prelude.{◌≡◌, ◌≤◌, [], IfOk, IfErr};
+ghost use Rattle.std.specs.Prelude.{◌≡◌, ℕ, ◌≤◌, [], IfOk, IfErr};
 ghost use Rattle.money_ledgers.specs.Balances.{balances};
 ghost use Rattle.policy_types.specs.Valid.{IsValid};
 ghost use Rattle.policy_types.specs.declared.entry.Call.TheVariants.{Pin as PinCall, PinAt};
@@ -40,7 +40,7 @@ pub trait OfficeCalls<D: Disk, W: Watching> {
     /// The office of the disk's journal, with watchers who were told of nothing yet, and its first pass. They are dropped
     /// where no office is opened.
     fn start(alloc: Global, disk: D, watchers: W) -> Result<(Self, OfficePass<D, W>), StartFault<D>>
-        requires told { W.told watchers [] }
+        requires told { (before : ℕ) → W.told watchers before [] }
         ensures started { IfOk result (λ made. HasStartedOffice D.Disk disk watchers made.1
             × (made.1.turnstile ≡ office made.0) × PassFacts IsOfficeHistory made.1) }
         ensures refused { IfErr result (λ fault. HasNotOpened D.Disk disk fault.disk fault.cause) };

@@ -1,5 +1,5 @@
 -- What has become of the auditors that were handed in, each at its place
-use Rattle.std.specs.Prelude.{◌≡◌, ◌≤◌, true, false, List}
+use Rattle.std.specs.Prelude.{◌≡◌, ℕ, ◌+◌, ◌≤◌, true, false, List, length}
 use Rattle.std.specs.List.{AllByRecursion, AllZip}
 use Rattle.policy_types.specs.declared.command.Command.{Command}
 use Rattle.policy_types.specs.declared.watcher.Report.{Report}
@@ -13,9 +13,11 @@ module _ {B : Type 0} (g : Ghosts B) where
   abbrev pub auditor_of : B → Auditor
   auditor_of watcher = record { stops = g.stops watcher; number = g.number watcher }
 
-  -- one that goes on has noted all commands, at none of which it was done; its test and its number are what they were
-  pub record Listens (auditor : Auditor) (commands : List Command) (watcher : B) : Type 0 where
+  -- One that goes on has noted all commands, which stand right behind so many others, and knows the position of the last.
+  -- It was done at none of them; its test and its number are what they were
+  pub record Listens (auditor : Auditor) (before : ℕ) (commands : List Command) (watcher : B) : Type 0 where
     pub noted : g.noted watcher ≡ commands
+    pub last : 1 ≤ length commands → g.last watcher ≡ before + length commands
     pub goes_on : is_done auditor.stops commands ≡ false
     pub stops : (list : List Command) → g.stops watcher list ≡ auditor.stops list
     pub number : (list : List Command) → g.number watcher list ≡ auditor.number list
@@ -25,13 +27,14 @@ module _ {B : Type 0} (g : Ghosts B) where
     pub done : is_done auditor.stops commands ≡ true
     pub left : report ≡ report_of commands auditor
 
-  abbrev pub HasHeard : List Command → Auditor → Place B → Type 0
-  HasHeard commands auditor (Listening watcher) = Listens auditor commands watcher
-  HasHeard commands auditor (Reported report) = HasReported auditor commands report
+  abbrev pub HasHeard : ℕ → List Command → Auditor → Place B → Type 0
+  HasHeard before commands auditor (Listening watcher) = Listens auditor before commands watcher
+  HasHeard before commands auditor (Reported report) = HasReported auditor commands report
 
   -- all of them, each at its own place
-  pub record AreTold (commands : List Command) (auditors : List Auditor) (places : List (Place B)) : Type 0 where
-    pub each : AllZip (HasHeard commands) auditors places
+  pub record AreTold (before : ℕ) (commands : List Command) (auditors : List Auditor) (places : List (Place B)) : Type 0
+    where
+      pub each : AllZip (HasHeard before commands) auditors places
 
   -- there is room for one command more, if it goes on
   abbrev pub HasSpareRoom : Place B → Type 0

@@ -2,12 +2,14 @@ ghost use Rattle.std.specs.Prelude.{◌≡◌, ◌==◌, ◌-◌, ◌≤◌, [],
 
 use policy_types::{Attention, Command, NoMemory, Report, Watcher};
 use std::alloc::Global;
+use std::snapshot::Snapshot;
 
 /// Counts the commands, and is done at its limit-th.
 #[derive(Drop)]
 pub struct CountWatcher {
     limit: u32,
     noted: Vec<Command>,
+    last: Snapshot<u32>,
     ghost few: { vec_len noted ≤ 4000000 },
 }
 
@@ -22,12 +24,15 @@ impl CountWatcher {
         CountWatcher {
             limit,
             noted: Vec::new(alloc),
+            last: Snapshot::of(&0),
         }
     }
 }
 
 impl Watcher for CountWatcher {
     ghost noted = { λ watcher. watcher.noted.items };
+
+    ghost last = { λ watcher. watcher.last.value };
 
     ghost spare = { λ watcher. vec_capacity watcher.noted - vec_len watcher.noted };
 
@@ -42,8 +47,9 @@ impl Watcher for CountWatcher {
         }
     }
 
-    fn note(&mut self, _position: u32, command: &Command) -> Attention {
+    fn note(&mut self, position: u32, command: &Command) -> Attention {
         self.noted.push_reserved(*command);
+        self.last = Snapshot::of(&position);
         if self.noted.len() == self.limit as usize {
             Attention::Done
         } else {

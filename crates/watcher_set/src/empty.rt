@@ -11,7 +11,7 @@ pub struct NoWatchers;
 impl Watching for NoWatchers {
     ghost handed = { λ _. [] };
 
-    ghost told = { λ _ _. Unit {0} };
+    ghost told = { λ _ _ _. Unit {0} };
 
     ghost has_room = { λ _. Unit {0} };
 

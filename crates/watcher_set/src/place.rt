@@ -30,12 +30,12 @@ pub(crate) fn ready_place<B: Watcher>(place: &mut Place<B>) -> Result<(), NoMemo
     }
 }
 
-/// Tells the auditor, if it goes on. One that is then done gives its report and is dropped.
+/// Tells the auditor, if it goes on, of the command at this position. One that is then done gives its report and is dropped.
 pub(crate) fn note_place<B: Watcher>(place: &mut Place<B>, position: u32, command: &Command)
     requires room { HasSpareRoom B.Watcher place.old }
-    requires few { MayBeTold B.Watcher place.old }
+    requires next { MayBeTold B.Watcher position place.old }
     requires valid { IsValid command.now }
-    ensures { Hears B.Watcher command.now place.old place.new }
+    ensures { Hears B.Watcher position command.now place.old place.new }
 {
     let Place::Listening(watcher) = place else {
         return;

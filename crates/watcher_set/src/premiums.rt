@@ -4,11 +4,13 @@ ghost use Rattle.watcher_set.specs.Premiums.{paid_by, premiums_of};
 
 use policy_types::{Attention, Command, NoMemory, Report, Watcher};
 use std::alloc::Global;
+use std::snapshot::Snapshot;
 
 /// Adds up the payments of premiums, and is never done.
 #[derive(Drop)]
 pub struct PremiumWatcher {
     noted: Vec<Command>,
+    last: Snapshot<u32>,
     sum: u64,
     ghost few: { vec_len noted ≤ 4000000 },
     ghost summed: { sum ≡ premiums_of noted.items },
@@ -24,6 +26,7 @@ impl PremiumWatcher {
     {
         PremiumWatcher {
             noted: Vec::new(alloc),
+            last: Snapshot::of(&0),
             sum: 0,
         }
     }
@@ -31,6 +34,8 @@ impl PremiumWatcher {
 
 impl Watcher for PremiumWatcher {
     ghost noted = { λ watcher. watcher.noted.items };
+
+    ghost last = { λ watcher. watcher.last.value };
 
     ghost spare = { λ watcher. vec_capacity watcher.noted - vec_len watcher.noted };
 
@@ -45,9 +50,10 @@ impl Watcher for PremiumWatcher {
         }
     }
 
-    fn note(&mut self, _position: u32, command: &Command) -> Attention {
+    fn note(&mut self, position: u32, command: &Command) -> Attention {
         self.sum += premium_in(command);
         self.noted.push_reserved(*command);
+        self.last = Snapshot::of(&position);
         Attention::More
     }
 

@@ -1,4 +1,4 @@
-ghost use Rattle.std.specs.Prelude.{◌≡◌, ◌≤◌, ◌<◌, List, [], ◌∷◌, ◌++◌, length, OnOk};
+ghost use Rattle.std.specs.Prelude.{◌≡◌, ℕ, ◌+◌, ◌≤◌, ◌<◌, List, [], ◌∷◌, ◌++◌, length, OnOk};
 ghost use Rattle.policy_types.specs.declared.command.Command.{Command as ACommand};
 ghost use Rattle.policy_types.specs.Limits.{most_commands};
 ghost use Rattle.policy_types.specs.Valid.{IsValid};
@@ -12,8 +12,8 @@ use policy_types::{Command, NoMemory, Watcher};
 
 /// Readies each auditor that goes on.
 pub(crate) fn ready_all<B: Watcher>(places: &mut [Place<B>]) -> Result<(), NoMemory>
-    ensures told { (commands : List ACommand) (auditors : List Auditor) → AreTold B.Watcher commands auditors places.old
-        → AreTold B.Watcher commands auditors places.new }
+    ensures told { (before : ℕ) (commands : List ACommand) (auditors : List Auditor)
+        → AreTold B.Watcher before commands auditors places.old → AreTold B.Watcher before commands auditors places.new }
     ensures ok { OnOk result (HaveRoom B.Watcher places.new) }
 {
     for place in places.iter_mut() {
@@ -22,14 +22,16 @@ pub(crate) fn ready_all<B: Watcher>(places: &mut [Place<B>]) -> Result<(), NoMem
     Ok(())
 }
 
-/// Tells each auditor that goes on.
+/// Tells each auditor that goes on of the command at this position.
 pub(crate) fn note_all<B: Watcher>(places: &mut [Place<B>], position: u32, command: &Command)
     requires room { HaveRoom B.Watcher places.old }
     requires valid { IsValid command.now }
-    requires few { (commands : List ACommand) × (auditors : List Auditor)
-        × AreTold B.Watcher commands auditors places.old × length commands < most_commands }
-    ensures { (commands : List ACommand) (auditors : List Auditor) → AreTold B.Watcher commands auditors places.old
-        → AreTold B.Watcher (commands ++ command.now ∷ []) auditors places.new }
+    requires next { (before : ℕ) × (commands : List ACommand) × (auditors : List Auditor)
+        × AreTold B.Watcher before commands auditors places.old × (length commands < most_commands)
+        × (position ≡ before + length commands + 1) }
+    ensures { (before : ℕ) (commands : List ACommand) (auditors : List Auditor)
+        → AreTold B.Watcher before commands auditors places.old → position ≡ before + length commands + 1
+        → AreTold B.Watcher before (commands ++ command.now ∷ []) auditors places.new }
 {
     for place in places.iter_mut() {
         note_place(place, position, command);
@@ -39,8 +41,8 @@ pub(crate) fn note_all<B: Watcher>(places: &mut [Place<B>], position: u32, comma
 /// The reports of all places, in order.
 pub(crate) fn reports_of_all<B: Watcher>(places: &[Place<B>]) -> Reports
     requires { length places.now ≤ most_watchers }
-    ensures { (commands : List ACommand) (auditors : List Auditor) → AreTold B.Watcher commands auditors places.now
-        → result ≡ reports_of auditors commands }
+    ensures { (before : ℕ) (commands : List ACommand) (auditors : List Auditor)
+        → AreTold B.Watcher before commands auditors places.now → result ≡ reports_of auditors commands }
 {
     let mut reports = Reports::none();
     for place in places {

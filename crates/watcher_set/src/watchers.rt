@@ -1,4 +1,4 @@
-ghost use Rattle.std.specs.Prelude.{◌≡◌, ◌≤◌, List, [], ◌∷◌, ◌++◌, length, map};
+ghost use Rattle.std.specs.Prelude.{◌≡◌, ℕ, ◌≤◌, List, [], ◌∷◌, ◌++◌, length, map};
 ghost use Rattle.std.specs.List.{AllByRecursion};
 ghost use Rattle.watcher_set.specs.Limits.{most_watchers};
 ghost use Rattle.watcher_set.specs.Told.{auditor_of, AreTold, HaveRoom};
@@ -24,7 +24,7 @@ impl<B: Watcher> Watchers<B> {
         requires few { length auditors.items ≤ most_watchers }
         requires fresh { AllByRecursion (λ b. B.noted b ≡ []) auditors.items }
         ensures handed { ⟦<Watchers<B> as Watching>⟧.handed result ≡ map (auditor_of B.Watcher) auditors.items }
-        ensures told { ⟦<Watchers<B> as Watching>⟧.told result [] }
+        ensures told { (before : ℕ) → ⟦<Watchers<B> as Watching>⟧.told result before [] }
     {
         let handed = Snapshot::of(&auditors);
         let mut places: ArrayVec<Place<B>, MOST_WATCHERS> = ArrayVec::new();
@@ -38,7 +38,8 @@ impl<B: Watcher> Watchers<B> {
 impl<B: Watcher> Watching for Watchers<B> {
     ghost handed = { λ it. map (auditor_of B.Watcher) it.handed.value.items };
 
-    ghost told = { λ it commands. AreTold B.Watcher commands (map (auditor_of B.Watcher) it.handed.value.items) it.places.items };
+    ghost told = { λ it before commands. AreTold B.Watcher before commands
+        (map (auditor_of B.Watcher) it.handed.value.items) it.places.items };
 
     ghost has_room = { λ it. HaveRoom B.Watcher it.places.items };
 

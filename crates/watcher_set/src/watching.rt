@@ -1,4 +1,4 @@
-ghost use Rattle.std.specs.Prelude.{◌≡◌, ℕ, ◌<◌, List, [], ◌∷◌, ◌++◌, length, OnOk};
+ghost use Rattle.std.specs.Prelude.{◌≡◌, ℕ, ◌+◌, ◌<◌, List, [], ◌∷◌, ◌++◌, length, OnOk};
 ghost use Rattle.policy_types.specs.declared.command.Command.{Command as ACommand};
 ghost use Rattle.policy_types.specs.Limits.{most_commands};
 ghost use Rattle.policy_types.specs.Valid.{IsValid};
@@ -12,8 +12,9 @@ pub trait Watching: Drop {
     /// The auditors as they were handed in, in their order.
     ghost handed: { Self → List Auditor };
 
-    /// It was told of these commands, in this order, since it was handed in.
-    ghost told: { Self → List ACommand → Type 0 };
+    /// Since it was handed in it was told of these commands, in this order, each at its position: those right behind
+    /// so many.
+    ghost told: { Self → ℕ → List ACommand → Type 0 };
 
     /// Each auditor that is left has room for one command.
     ghost has_room: { Self → Type 0 };
@@ -21,19 +22,22 @@ pub trait Watching: Drop {
     /// Makes room for one command. For want of memory nobody was told of anything.
     fn ready(&mut self) -> Result<(), NoMemory>
         ensures handed { handed self.new ≡ handed self.old }
-        ensures told { (commands : List ACommand) → told self.old commands → told self.new commands }
+        ensures told { (before : ℕ) (commands : List ACommand) → told self.old before commands → told self.new before commands }
         ensures ok { OnOk result (has_room self.new) };
 
-    /// Tells each auditor that is left of the command at this position of the accepted list. It takes no memory.
+    /// Tells each auditor that is left of the command at this position among all that were accepted, counted from 1: right
+    /// behind the last of which the set was told. It takes no memory.
     fn note(&mut self, position: u32, command: &Command)
         requires room { has_room self.old }
         requires valid { IsValid command.now }
-        requires few { (commands : List ACommand) × told self.old commands × length commands < most_commands }
+        requires next { (before : ℕ) × (commands : List ACommand) × told self.old before commands
+            × (length commands < most_commands) × (position ≡ before + length commands + 1) }
         ensures handed { handed self.new ≡ handed self.old }
-        ensures told { (commands : List ACommand) → told self.old commands
-            → told self.new (commands ++ command.now ∷ []) };
+        ensures told { (before : ℕ) (commands : List ACommand) → told self.old before commands
+            → position ≡ before + length commands + 1 → told self.new before (commands ++ command.now ∷ []) };
 
     /// The reports, in the order in which the auditors were handed in.
     fn finish(self) -> Reports
-        ensures { (commands : List ACommand) → told self commands → result ≡ reports_of (handed self) commands };
+        ensures { (before : ℕ) (commands : List ACommand) → told self before commands
+            → result ≡ reports_of (handed self) commands };
 }

@@ -1,5 +1,5 @@
 -- What the calls of one auditor do at its place
-use Rattle.std.specs.Prelude.{◌≡◌, ◌<◌, true, false, List, [], ◌∷◌, ◌++◌, length}
+use Rattle.std.specs.Prelude.{◌≡◌, ℕ, ◌+◌, ◌<◌, ◌≤◌, true, false, List, [], ◌∷◌, ◌++◌, length}
 use Rattle.policy_types.specs.declared.command.Command.{Command}
 use Rattle.policy_types.specs.declared.watcher.Report.{Report}
 use Rattle.policy_types.specs.declared.watcher.Watcher.{Ghosts}
@@ -8,10 +8,12 @@ use Rattle.watcher_set.specs.declared.place.Place.{Place}
 use Rattle.watcher_set.specs.declared.place.Place.TheVariants.{Listening, Reported}
 
 module _ {B : Type 0} (g : Ghosts B) where
-  -- fewer commands are noted than there may be, if it goes on
-  abbrev pub MayBeTold : Place B → Type 0
-  MayBeTold (Listening watcher) = length (g.noted watcher) < most_commands
-  MayBeTold (Reported report) = Unit {0}
+  -- if it goes on, it has noted fewer commands than there may be, and this is the position behind the last of them
+  abbrev pub MayBeTold : ℕ → Place B → Type 0
+  MayBeTold position (Listening watcher) =
+      (length (g.noted watcher) < most_commands) × (1 ≤ position)
+      × (1 ≤ length (g.noted watcher) → position ≡ g.last watcher + 1)
+  MayBeTold position (Reported report) = Unit {0}
 
   -- its test and its number stay
   pub record SameAuditor (old new : B) : Type 0 where
@@ -20,7 +22,8 @@ module _ {B : Type 0} (g : Ghosts B) where
 
   -- all stays but the room
   abbrev pub Stays : Place B → Place B → Type 0
-  Stays (Listening old) (Listening new) = (g.noted new ≡ g.noted old) × SameAuditor old new
+  Stays (Listening old) (Listening new) =
+      (g.noted new ≡ g.noted old) × (g.last new ≡ g.last old) × SameAuditor old new
   Stays (Reported old) (Reported new) = new ≡ old
   Stays _ _ = ⊥
 
@@ -28,15 +31,15 @@ module _ {B : Type 0} (g : Ghosts B) where
   abbrev pub report_by : B → List Command → Report
   report_by watcher list = record { seen = length list; tally = g.number watcher list }
 
-  -- it notes the command; where it is then done it leaves its report
-  abbrev pub Hears : Command → Place B → Place B → Type 0
-  Hears command (Listening old) (Listening new) =
-      (g.noted new ≡ g.noted old ++ command ∷ []) × (g.stops old (g.noted old ++ command ∷ []) ≡ false)
-      × SameAuditor old new
-  Hears command (Listening old) (Reported report) =
+  -- it notes the command at its position; where it is then done it leaves its report
+  abbrev pub Hears : ℕ → Command → Place B → Place B → Type 0
+  Hears position command (Listening old) (Listening new) =
+      (g.noted new ≡ g.noted old ++ command ∷ []) × (g.last new ≡ position)
+      × (g.stops old (g.noted old ++ command ∷ []) ≡ false) × SameAuditor old new
+  Hears position command (Listening old) (Reported report) =
       (g.stops old (g.noted old ++ command ∷ []) ≡ true) × (report ≡ report_by old (g.noted old ++ command ∷ []))
-  Hears command (Reported old) (Reported new) = new ≡ old
-  Hears command (Reported old) (Listening new) = ⊥
+  Hears position command (Reported old) (Reported new) = new ≡ old
+  Hears position command (Reported old) (Listening new) = ⊥
 
   -- the report that was kept, or the one that the auditor gives now
   abbrev pub report_at : Place B → Report

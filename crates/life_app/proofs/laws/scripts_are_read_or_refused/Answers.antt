@@ -1,5 +1,5 @@
 use Rattle.command_csv.proofs.Faults.{one_fault}
-use Rattle.life_app.proofs.ProgramSteps.{not_both, read_or_refused}
+use Rattle.script_run.proofs.ScriptStatus.{not_both, read_or_refused}
 use Rattle.life_app.proofs.laws.scripts_are_read_or_refused.Goals as goal
 
 pub returns : goal.returns

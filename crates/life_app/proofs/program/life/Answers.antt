@@ -58,3 +58,6 @@ returns-clause-unloaded g c = rw c.status.ensures (step.unloaded g.D.Disk c.args
 
 pub returns-clause-unfit_load : goal.returns-clause-unfit_load
 returns-clause-unfit_load g c = rw c.status.ensures (step.unfit_load g.D.Disk c.args.disk c.obey-finished.result.disk _ c.args.words.now _ _ _ _ _ c.obey-finished.result.ending c.obey-finished.ensures.does)
+
+pub returns-clause-too_long : goal.returns-clause-too_long
+returns-clause-too_long g c = rw c.status.ensures (step.script_too_long g.D.Disk c.args.disk c.obey-finished.result.disk _ c.args.words.now _ _ _ _ _ c.obey-finished.result.ending c.obey-finished.ensures.does)

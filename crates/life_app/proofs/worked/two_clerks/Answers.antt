@@ -2,7 +2,7 @@ use Rattle.std.specs.Fmt.{digits}
 use Rattle.std.proofs.Common.{[], refl, lit<}
 use Rattle.policy_types.specs.declared.refusal.Refusal.TheVariants.{Unknown}
 use Rattle.policy_types.specs.declared.entry.Reply.TheVariants.{Accepted, Refused}
-use Rattle.life_app.specs.Transcript.{posting_text}
+use Rattle.transcript_text.specs.Transcript.{posting_text}
 use Rattle.life_app.specs.Worked.{first_premium}
 use Rattle.policy_machine.specs.Worked.Cases.{policy_issue}
 use Rattle.life_app.proofs.worked.two_clerks.Goals as goal

@@ -6,10 +6,10 @@ use Rattle.watcher_set.proofs.Telling.{AreTold-still, Readied, stays_same}
 use Rattle.watcher_set.proofs.rounds.ready_all.Goals as goal
 
 pub returns-in_err-ready_place-clause-told : goal.returns-in_err-ready_place-clause-told
-returns-in_err-ready_place-clause-told g c commands auditors told =
+returns-in_err-ready_place-clause-told g c before commands auditors told =
     let ghosts = g.B.Watcher in
     let so_far = Halfway-weaker (Readied ghosts) (Stays ghosts) (λ old new readied. readied.0) _ _ _ c.loop-place.invariant in
-    AreTold-still ghosts commands auditors c.args.places.now _ told
+    AreTold-still ghosts before commands auditors c.args.places.now _ told
     (AllZip-from_halfway (Stays ghosts) (stays_same ghosts) (suc c.loop-place.place-index) _ _
     (Halfway-step (Stays ghosts) c.loop-place.place-index c.args.places.now c.loop-place.places _ _ so_far
     (omega (arith, c.loop-place-test.true, c.loop-place.auto.places)) c.in_err-ready_place.ensures.stays))
@@ -24,10 +24,10 @@ loop-place-preserved g c =
     (c.in_ok-ready_place.ensures.stays, c.in_ok-ready_place.ensures.ok))
 
 pub returns-clause-told : goal.returns-clause-told
-returns-clause-told g c commands auditors told =
+returns-clause-told g c before commands auditors told =
     let ghosts = g.B.Watcher in
     let so_far = Halfway-weaker (Readied ghosts) (Stays ghosts) (λ old new readied. readied.0) _ _ _ c.loop-place.invariant in
-    AreTold-still ghosts commands auditors c.args.places.now c.loop-place.places told
+    AreTold-still ghosts before commands auditors c.args.places.now c.loop-place.places told
     (AllZip-from_halfway (Stays ghosts) (stays_same ghosts) c.loop-place.place-index _ _ so_far)
 
 pub returns-clause-ok : goal.returns-clause-ok

@@ -8,7 +8,7 @@ use Rattle.policy_machine.specs.Rules.{next}
 use Rattle.policy_machine.specs.History.{accepted_of, commands_after}
 use Rattle.office_state.specs.Standing.{StandsFor}
 use Rattle.office_state.specs.States.{commands_of, opening_of}
-use Rattle.office_state.proofs.HistorySteps.{few_accepted, is_full, posting}
+use Rattle.office_state.proofs.HistorySteps.{few_accepted, is_full, next_position, posting}
 use Rattle.office_state.proofs.TurnSteps.{crash_accepted, crash_faulted, posted_floor, posted_pins, stands_accepted, stands_faulted, stands_still}
 use Rattle.office_state.proofs.state.OfficeState.accept.Goals as goal
 
@@ -22,15 +22,18 @@ returns-then-count-eq-MOST_COMMANDS-clause-stands g c = λ (history : List Entry
     (is_full (commands_after (opening_of old) history) command c.args.policy decided full)
     old.pins (stands.pins ∙ posted_pins history caller command (Refused Full) refl)
     old.floor (stands.floor ∙ posted_floor history caller command (Refused Full) refl)
-    old.watchers (λ heard told. told)
+    old.watchers (λ before heard told. told)
 
-pub note-requires-clause-few : goal.note-requires-clause-few
-note-requires-clause-few g c =
+pub note-requires-clause-next : goal.note-requires-clause-next
+note-requires-clause-next g c =
     let (history, stands) = c.requires.stands in (
+      _,
       accepted_of history,
       stands.told,
       few_accepted (opening_of c.args.self.now) history (commands_of c.args.self.now) stands.kept c.args.self.now.books.kept.few
           (λ full. c.if-count-eq-MOST_COMMANDS.false (c.count.ensures ∙ full)),
+      next_position (opening_of c.args.self.now) history (commands_of c.args.self.now) c.args.command.now c.count-position.result
+          stands.kept (c.count-position.ensures ∙ ap length c.keep.ensures.commands),
     )
 
 pub returns-in-Ok-clause-stands : goal.returns-in-Ok-clause-stands

@@ -14,4 +14,4 @@ returns-clause-left g c = λ (history : List Entry) (stands : StandsFor c.args.s
 
 pub returns-clause-reports : goal.returns-clause-reports
 returns-clause-reports g c = λ (history : List Entry) (stands : StandsFor c.args.self history).
-    c.finish.ensures (accepted_of history) stands.told
+    c.finish.ensures _ (accepted_of history) stands.told

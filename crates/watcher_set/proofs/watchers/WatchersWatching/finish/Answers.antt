@@ -1,5 +1,5 @@
 use Rattle.watcher_set.proofs.watchers.WatchersWatching.finish.Goals as goal
 
 pub returns : goal.returns
-returns g c commands told =
-    c.reports_of_all.ensures commands _ (rw c.as_slice.ensures.value told)
+returns g c before commands told =
+    c.reports_of_all.ensures before commands _ (rw c.as_slice.ensures.value told)

@@ -1,0 +1,236 @@
+#!/bin/sh
+# Each tool beside the program's own output, and at least one case in which it has to complain.
+. "$(dirname "$0")/../common.sh"
+
+# a tool that has to be content, and print what `wanted` has, where that is given
+says() {
+    tool=$1
+    shift
+    python3 "$tools/$tool.py" "$@" >out 2>remarks || complain "$tool $*: $(cat remarks)"
+}
+
+prints() {
+    cmp -s "$1" out || complain "$tool printed: $(head -n 5 out)"
+}
+
+# a tool that has to complain, with status 1 and these words on standard error
+refuses() {
+    words=$1
+    tool=$2
+    shift 2
+    python3 "$tools/$tool.py" "$@" >out 2>remarks
+    status=$?
+    [ "$status" = 1 ] && grep -q -e "$words" remarks || complain "$tool $*: status $status: $(cat out remarks)"
+}
+
+begin "each tool tells its usage"
+for tool in "$tools"/*.py; do
+    grep -q '^if __name__' "$tool" || continue
+    python3 "$tool" --help | grep -q '^usage: ' || complain "$tool has no --help"
+    python3 "$tool" --nonsense >out 2>&1
+    [ $? = 2 ] || complain "$tool takes wrong words"
+done
+
+begin "readers say what the program says, of drawn files"
+python3 "$root/.ci/tools/against_program.py" "$program" "$root" "$work/drawn" || failed=1
+python3 "$root/.ci/tools/rests.py" "$root" || failed=1
+
+begin_with_examples "the small office"
+cp "$examples/small-office.csv" .
+"$life" run <small-office.csv >transcript
+"$life" state </dev/null >state
+says read_journal journal.life
+grep -e '^balance,' -e '^count,' out >found
+grep -e '^balance,' -e '^count,' state >wanted
+cmp -s found wanted || complain "read_journal has other balances than state"
+"$life" state 14 </dev/null | sed -n 's/^entry,\([0-9]*\),\([a-z]*\),/\1,\2,14,/p' >wanted
+grep '^[0-9]*,[a-z]*,14,' out | cmp -s - wanted || complain "read_journal lists other records of policy 14 than state 14"
+head -c 100 journal.life >cut.life
+refuses "record 1: it is cut short" read_journal cut.life
+refuses "No such file" read_journal nowhere.life
+
+go_on "exports"
+says export_journal csv journal.life
+python3 - <<'PY' >found
+import csv
+for row in csv.DictReader(open("out")):
+    fields = [row[name] for name in ("plan", "age", "years", "amount", "premium") if row[name]]
+    if row["policy"] == "14":
+        print(",".join(["entry", row["position"], row["kind"], row["day"], *fields]))
+PY
+"$life" state 14 </dev/null | grep '^entry,' >wanted
+cmp -s found wanted || complain "the CSV isn't what state 14 prints"
+says export_journal jsonl journal.life
+python3 -c 'import json; print(sum(json.loads(line)["policy"] == 14 for line in open("out")))' >found
+wc -l <wanted | cmp -s - found || complain "the JSON lines have other records"
+says export_journal sqlite journal.life journal.db
+python3 - <<'PY' >found
+import sqlite3
+money = lambda cents: f"{'-' if cents < 0 else ''}{abs(cents) // 100}.{abs(cents) % 100:02}"
+database = sqlite3.connect("journal.db")
+issues = "select policy.* from policy join command on command.policy = policy.policy and kind = 'issue' order by position"
+for number, status, plan, age, years, amount, premium, issued, paid, outstanding in database.execute(issues):
+    fields = [number, status, plan, age, years, money(amount), money(premium), issued, paid, money(outstanding)]
+    print(",".join(["policy", *map(str, fields)]))
+for account in ("cash", "premiums", "incurred", "payable"):
+    (cents,) = database.execute("select sum(cents) from booking where account = ?", [account]).fetchone()
+    print(f"balance,{account},{money(cents)}")
+print(f"count,{database.execute('select count(*) from command').fetchone()[0]}")
+PY
+cmp -s found state || complain "the SQLite file has another state"
+refuses "there already" export_journal sqlite journal.life journal.db
+refuses "badjournal,badrecord,1" export_journal csv cut.life
+
+go_on "positions of days"
+for day in 2021-01-19 2022-01-20 2024-03-12 2199-12-31; do
+    says position_on "$day" journal.life
+    "$life" value "$day" --at "$(cat out)" </dev/null >block || complain "value at the position of $day"
+    python3 "$tools/read_journal.py" journal.life |
+        awk -F, -v day="$day" '/^[0-9]/ && $4 > day { exit } /^[0-9]/ { n = $1 } END { print n + 0 }' >wanted
+    prints wanted
+done
+refuses "2021-02-29 is no day" position_on 2021-02-29 journal.life
+# a command of an earlier day, posted after one of a later day, is told
+printf '1,issue,1,2020-05-01,whole,30,0,60.00,1.00\n1,issue,2,2020-04-01,whole,30,0,60.00,1.00\n' >late.csv
+mkdir late && (cd late && "$life" run <../late.csv >transcript)
+says position_on 2020-04-30 late/journal.life
+echo 0 >wanted
+prints wanted
+grep -q '2,issue,2,2020-04-01' remarks || complain "position_on says nothing of the later posted command"
+
+go_on "values"
+"$life" value 2024-03-12 </dev/null >block
+says check_values journal.life basis.csv block
+# tables that the program takes: a byte order mark, a comment that isn't ASCII, a blank before the end of a tag
+"$life" value 2024-03-12 </dev/null | sed -n 's/^row,14,//p' >row
+cp g.xml plain.xml
+{
+    printf '\357\273\277<?xml version="1.0" encoding="utf-8"?>\n<!-- Sterblichkeit der M\303\244nner -->\n'
+    sed -e 1d -e 's/<Y t="50">/<Y t="50" >/' -e 's/<Y t="51">/<Y\n  t = "51">/' plain.xml
+} >g.xml
+"$life" value 2024-03-12 </dev/null >block || complain "the program doesn't take the table"
+grep -q "^row,14,$(cat row)" block || complain "the program takes another table"
+says check_values journal.life basis.csv block
+# a bound that is two cents off, a word in place of a value, and a total that isn't the sum
+sed 's/^\(row,14,.*\),[^,]*$/\1,9999.99/' block >wrong
+refuses "doesn't enclose" check_values journal.life basis.csv wrong
+sed 's/^row,14,.*/row,14,inforce,3,nobasis/' block >wrong
+refuses "has a value" check_values journal.life basis.csv wrong
+sed 's/^\(total,.*\),0$/\1,1/' block >wrong
+refuses "isn't total" check_values journal.life basis.csv wrong
+cp plain.xml g.xml
+
+go_on "transcripts"
+says check_transcript small-office.csv transcript /dev/null journal.life basis.csv
+sed 's/refused,taken/refused,unknown/' transcript >wrong
+refuses "and the rules say" check_transcript small-office.csv wrong /dev/null journal.life basis.csv
+refuses "record 1 of the journal is issue,1" check_transcript small-office.csv transcript /dev/null late/journal.life basis.csv
+
+go_on "dry runs"
+cp journal.life before
+printf '1,premium,12,2025-02-28,310.00\n1,value,2025-02-28,now,1\n' >next.csv
+says dry_run next.csv --life "$life"
+leaves before
+cp out wanted
+"$life" run <next.csv >transcript || complain "the run ended with $?"
+cmp -s wanted transcript || complain "the dry run had another transcript than the run"
+python3 -c 'import fcntl, sys, time
+file = open("journal.life")
+fcntl.flock(file, fcntl.LOCK_EX)
+print("held", flush=True)
+time.sleep(60)' >held &
+holder=$!
+until grep -q held held 2>/dev/null; do sleep 0.05; done
+refuses "held by another run" dry_run next.csv --life "$life"
+kill "$holder"
+
+go_on "drawings"
+for day in 2022-12-31 2023-12-31 2024-12-31; do "$life" value "$day" </dev/null; done >valuations
+says plot_reserves valuations
+python3 - <<'PY' || complain "the drawing of reserves isn't that of the totals"
+import xml.dom.minidom
+totals = [line.split(",")[2] for line in open("valuations") if line.startswith("total,")]
+drawn = xml.dom.minidom.parse("out")
+assert len(drawn.getElementsByTagName("circle")) == len(totals) == 3
+heights = [float(it.getAttribute("cy")) for it in drawn.getElementsByTagName("circle")]
+assert sorted(heights, reverse=True) == [y for _, y in sorted(zip(map(float, totals), heights))]
+assert max(totals, key=float) in [it.firstChild.data for it in drawn.getElementsByTagName("text")]
+PY
+says plot_reserves --policy 14 --policy 12 valuations
+refuses "policy 99 has bounds in none" plot_reserves --policy 99 valuations
+grep -v '^row,14,' valuations >wrong
+refuses "add up to another total" plot_reserves wrong
+says plot_book state
+python3 - <<'PY' || complain "the drawing of the book isn't that of the state"
+import xml.dom.minidom
+words = [it.firstChild.data for it in xml.dom.minidom.parse("out").getElementsByTagName("text")]
+policies = [line.split(",") for line in open("state") if line.startswith("policy,")]
+assert words[0] == f"amounts insured, {len(policies)} policies"
+assert "whole inforce 2" in words and "25000.00" in words, words
+PY
+refuses "isn't what life state prints" plot_book transcript
+
+begin_with_examples "explanations of scripts"
+cp "$examples/bad-day.csv" .
+"$life" run <bad-day.csv >answer
+says explain "$(cat answer)" bad-day.csv
+grep -q "^line 2 of bad-day.csv, field 4$" out || complain "explain: $(cat out)"
+printf '\n\n1,issue,7001,2020-01-01,endowment,0,3,1000.00,400.00\r\n1,lapse,1\n' >short.csv
+"$life" run <short.csv >answer
+says explain "$(cat answer)" short.csv
+grep -q "^line 4 of short.csv, field 4$" out && grep -q '^found:  the row has ended$' out || complain "explain: $(cat out)"
+refuses "the first fault of short.csv is badscript,2,4" explain badscript,1,1 short.csv
+refuses "has no fault" explain badscript,1,1 "$examples/two-clerks.csv"
+
+go_on "explanations of bases"
+# a case: what the file t.xml or the basis is made of, and what is told of it
+explains() {
+    "$life" value 2021-01-01 </dev/null >answer
+    says explain "$(cat answer)"
+    grep -q -e "$1" out || complain "explain of $(cat answer): $(cat out)"
+}
+echo 1900-01-01,t.xml,400 >basis.csv
+explains "no such file"
+printf '<XTbML><Table><Values><Axis>\n  <Y t="0">0.1</Y>\n  <Y t="1">0.0004213387291</Y>' >t.xml
+explains "^parser: "
+printf '<XTbML><Table><Values><Axis>\n  <Y t="0">0.1</Y>\n  <Y t="1">0.0004213387291</Y></Axis></Values></Table></XTbML>' >t.xml
+explains "^line 3 of t.xml, byte 3 "
+printf '<XTbML><Table><Values><Axis>\n  <Axis t="0"/></Axis></Values></Table></XTbML>' >t.xml
+explains "^line 2 of t.xml, byte 3 "
+printf '<html><body>not found</body></html>' >t.xml
+explains "^wanted: the path XTbML"
+printf '1900-01-01,q.xml,0\n\n1900-01-01,q.xml,0\n' >basis.csv
+explains "^line 3 of basis.csv, row 2$"
+printf '1900-01-01,q.xml,4%%\n' >basis.csv
+explains "^wanted: a row: "
+refuses "has no bad row" explain badbasis,basis.csv,1,badrow "$examples"
+refuses "is a table that is taken" explain badbasis,q.xml,28,notdocument
+refuses "is no word of a bad basis" explain badbasis,q.xml,28,strange
+# what is passed over without a word
+sed 's#</XTbML>#<Table><Values><Axis><Y t="0">1</Y></Axis></Values></Table></XTbML>#' q.xml >two.xml
+says explain two.xml
+grep -q "ages 0 to 4" out && grep -q "1 further Table" out || complain "explain: $(cat out)"
+
+begin "the rest of a killed run"
+for n in 1 2 3 4 5 6 7 8; do
+    for k in 1 2 3 4 5 6 7 8 9; do
+        for m in 0 1 2 3 4 5 6 7 8 9; do echo "$n,issue,$n$k$m,2020-01-01,endowment,0,3,1000.00,400.00"; done
+    done
+done >script
+# the program, killed once the journal has a part of the script
+"$program" run <script >killed &
+run=$!
+until [ "$({ wc -c <journal.life || echo 0; } 2>/dev/null)" -gt 9000 ]; do sleep 0.01; done
+kill -9 "$run"
+wait "$run" 2>/dev/null
+says rest_of_script script journal.life 0
+mv out rest
+[ ! -s killed ] || complain "the killed run printed something"
+before=$(python3 "$tools/read_journal.py" journal.life | sed -n 's/^count,//p')
+[ $((before + $(wc -l <rest))) = 720 ] || complain "$before were accepted and $(wc -l <rest) are left of 720"
+"$life" run <rest >transcript
+[ "$(grep -c ,accepted, transcript)" = "$(wc -l <rest)" ] || complain "a row of the rest was refused"
+refuses "no run of this script leaves this journal" rest_of_script rest journal.life 0
+refuses "before the run there were 721" rest_of_script script journal.life 721
+
+end "each tool says what the program says, and complains where it must"

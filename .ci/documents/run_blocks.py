@@ -1,0 +1,150 @@
+"""Runs the documented commands of each page, and compares what they print with what the page shows.
+
+usage: python3 run_blocks.py PROGRAM ROOT FOLDER PAGE..
+
+A page is one session of a shell, begun at the top of a copy of the repository that has the program as if it had just
+been proved. Its blocks ```console are run in order: a line `$ COMMAND` is a command, and the lines below it, up to the
+next one or to the end of the block, are what it prints, standard output and standard error together. A line `...`
+stands for any lines, and `...` in a line for any text of it. Lines that begin with `life: ` are the launcher's, and
+aren't compared. Other blocks aren't run, nor are commands that prove, which are named here.
+"""
+import os
+import re
+import select
+import shutil
+import subprocess
+import sys
+import time
+
+PROVES = ("rt ", "sh life prove", "sh ../life prove", "sh .ci/run", "git clone")
+SECONDS = 120
+ENDED = "documents-command-ended"
+
+
+class Command:
+    """A documented command: where it stands, its text, and the lines that it is to print."""
+
+    def __init__(self, page, line, text):
+        self.place, self.text, self.wanted = f"{page}:{line}", text, []
+
+
+def commands_in(page, text):
+    """The commands of a page's blocks, in order."""
+    found, fence = [], None
+    for number, line in enumerate(text.split("\n"), 1):
+        if line.startswith("```"):
+            fence = line[3:].strip() if fence is None else None
+        elif fence == "console" and line.startswith("$ "):
+            found.append(Command(page, number, line[2:]))
+        elif fence == "console" and found:
+            found[-1].wanted.append(line)
+        elif fence == "console":
+            sys.exit(f"documents: {page}:{number}: a block begins with output")
+    if fence is not None:
+        sys.exit(f"documents: {page}: the last block isn't ended")
+    return found
+
+
+def pattern_of(lines):
+    """What the lines of a page stand for."""
+    parts = []
+    for line in lines:
+        if line == "...":
+            parts.append("(?:.*\n)*")
+        else:
+            parts.append(".*".join(map(re.escape, line.split("..."))) + "\n")
+    return "".join(parts)
+
+
+def told(lines):
+    return [line for line in lines if not line.startswith("life: ")]
+
+
+def is_as_shown(wanted, printed):
+    text = "".join(line + "\n" for line in told(printed))
+    return re.fullmatch(pattern_of(told(wanted)), text) is not None
+
+
+class Session:
+    """A shell at the top of a copy of the repository."""
+
+    def __init__(self, top):
+        self.shell = subprocess.Popen(["sh"], cwd=top, stdin=subprocess.PIPE, stdout=subprocess.PIPE, stderr=subprocess.STDOUT,
+                                      start_new_session=True, env={**os.environ, "LC_ALL": "C"})
+        os.set_blocking(self.shell.stdout.fileno(), False)
+        self.send("status=0")
+
+    def send(self, text):
+        self.shell.stdin.write((text + "\n").encode())
+        self.shell.stdin.flush()
+
+    def run(self, text):
+        """The lines that a command prints, or none where it doesn't end."""
+        # `$?` of a command is the status of the one before
+        self.send(f"(exit $status); {{ {text}\n}} </dev/null; status=$?; printf '\\n{ENDED}\\n'")
+        said, until = b"", time.monotonic() + SECONDS
+        while not said.endswith(f"\n{ENDED}\n".encode()):
+            if time.monotonic() > until or self.shell.poll() is not None:
+                return None
+            if select.select([self.shell.stdout], [], [], 1)[0]:
+                said += os.read(self.shell.stdout.fileno(), 1 << 16)
+        text = said[:-len(ENDED) - 2].decode("utf-8", "replace")
+        return text[:-1].split("\n") if text.endswith("\n") else text.split("\n") if text else []
+
+    def end(self):
+        self.shell.stdin.close()
+        self.shell.wait()
+
+
+def copy_repository(root, program, top):
+    """A clone of the tracked files, with the program where the launcher looks for it."""
+    files = subprocess.run(["git", "ls-files", "-z"], cwd=root, stdout=subprocess.PIPE, check=True).stdout.decode().split("\0")
+    for name in filter(None, files):
+        path = os.path.join(top, name)
+        os.makedirs(os.path.dirname(path), exist_ok=True)
+        if os.path.exists(os.path.join(root, name)):
+            shutil.copy2(os.path.join(root, name), path)
+    out = os.path.join(top, "crates", "life_cli", "out")
+    os.makedirs(out)
+    shutil.copy(program, os.path.join(out, "life_cli"))
+
+
+def run_page(page, root, program, folder):
+    """Runs a page's commands; gives their number, and what isn't as it is shown."""
+    with open(os.path.join(root, page), encoding="utf-8") as file:
+        commands = commands_in(page, file.read())
+    if not commands:
+        return 0, []
+    top = os.path.join(folder, page.replace("/", "-"))
+    copy_repository(root, program, top)
+    session, wrong = Session(top), []
+    for command in commands:
+        if command.text.startswith(PROVES):
+            continue
+        printed = session.run(command.text)
+        if printed is None:
+            session.shell.kill()
+            return len(commands), [*wrong, f"{command.place}: `{command.text}` doesn't end"]
+        if not is_as_shown(command.wanted, printed):
+            shown = "\n    ".join(printed[:30])
+            wrong.append(f"{command.place}: `{command.text}` prints\n    {shown}")
+    session.end()
+    return len(commands), wrong
+
+
+def main():
+    program, root, folder, *pages = sys.argv[1:]
+    count, wrong = 0, []
+    for page in pages:
+        commands, found = run_page(page, root, os.path.abspath(program), folder)
+        count += commands
+        wrong += found
+    for each in wrong:
+        print(f"documents: {each}", file=sys.stderr)
+    if wrong:
+        sys.exit(1)
+    print(f"documents: {count} commands print what is shown")
+
+
+if __name__ == "__main__":
+    main()

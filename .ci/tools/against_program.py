@@ -1,0 +1,191 @@
+"""The tools' readers of journals, scripts and tables beside the program: on drawn files, most of them with a fault, both
+have to say the same.
+
+usage: python3 against_program.py PROGRAM ROOT FOLDER
+"""
+import os
+import random
+import subprocess
+import sys
+
+ROOT = sys.argv[2]
+sys.path[:0] = [os.path.join(ROOT, "tools"), os.path.join(ROOT, ".ci", "stress")]
+
+from formats import Wrong, money
+from journals import file_of, read_journal
+from rules import Book, balances_of
+from scripts import make_book, make_script
+from script_lines import Fault, read_script
+from tables import NotXml, read_basis
+
+JOURNALS, SCRIPTS, TABLES = 150, 150, 200
+
+
+class Program:
+    """The program in a folder of its own."""
+
+    def __init__(self, program, folder):
+        self.program, self.folder = program, folder
+        os.makedirs(folder)
+
+    def write(self, name, data):
+        with open(os.path.join(self.folder, name), "wb") as file:
+            file.write(data)
+
+    def remove(self, name):
+        path = os.path.join(self.folder, name)
+        if os.path.exists(path):
+            os.remove(path)
+
+    def run(self, *words, script=b""):
+        ran = subprocess.run([self.program, *words], cwd=self.folder, input=script, stdout=subprocess.PIPE)
+        return ran.returncode, ran.stdout.decode("ascii")
+
+
+def need(right, message):
+    if not right:
+        sys.exit(f"tools: {message}")
+
+
+# --- journals ---
+
+def drawn_journal(draw):
+    """The bytes of a journal with something changed, cut off, put in or left as it is."""
+    book = make_book(draw, draw.randrange(4))
+    # which leaves the commands in the book that the script would have accepted
+    make_script(draw, book)
+    data = bytearray(file_of(book.commands[:draw.randrange(1, 60)]))
+    what = draw.randrange(8)
+    if what == 0:
+        return bytes(draw.choice([0, 0, 1, 65]) for _ in range(draw.randrange(21)))
+    if what == 1:
+        return bytes(data[:draw.randrange(len(data) + 1)])
+    if what == 2:
+        data[draw.randrange(18)] ^= 1 << draw.randrange(8)
+    if what in (3, 4) and len(data) > 18:
+        place = draw.randrange(17, len(data))
+        data[place] ^= 1 << draw.randrange(8)
+    if what == 5 and len(data) > 18 + 65:
+        record = draw.randrange((len(data) - 18) // 65)
+        del data[17 + 65 * record:82 + 65 * record]
+    if what == 6:
+        data += bytes(draw.randrange(256) for _ in range(draw.randrange(200)))
+    return bytes(data)
+
+
+def judge_journal(program, data):
+    program.write("journal.life", data)
+    status, text = program.run("state")
+    journal = read_journal(data)
+    if journal.refused:
+        need((status, text) == (5, journal.refused + "\n"), f"read_journal says {journal.refused} ({journal.why}), and the "
+             f"program {status}, {text!r}, of {data.hex()}")
+        return 1
+    balances = [f"balance,{account},{money(cents)}" for account, cents in balances_of(journal.commands).items()]
+    wanted = [*balances, f"count,{len(journal.commands)}"]
+    need(status == 0 and text.splitlines()[-5:] == wanted, f"read_journal says {wanted}, and the program {status}, "
+         f"{text[-200:]!r}, of {data.hex()}")
+    return 0
+
+
+# --- scripts ---
+
+def drawn_script(draw):
+    """A script with something changed in a row or two."""
+    rows = make_script(draw, Book()).split("\n")[:30]
+    for _ in range(draw.randrange(3)):
+        place = draw.randrange(len(rows))
+        fields = rows[place].split(",")
+        which = draw.randrange(len(fields))
+        field = fields[which]
+        fields[which] = draw.choice([field[:-1], field + "0", "0" + field, '"' + field + '"', '"' + field, " " + field,
+                                     field + '"', "", "9", "-1", "2100-02-29", "now", "whole", "value", "\u00e9", "1.5", "0.00", "00",
+                                     "129", "130", "4000001", "64", "65"])
+        if draw.random() < 0.2:
+            fields = draw.choice([fields[:which], [*fields, ""], [*fields, "x"], [",".join(fields[:2])]])
+        rows[place] = ",".join(fields)
+    return draw.choice(["\n", "\n", "\r\n", "\r", "\n\n"]).join(rows).encode() + draw.choice([b"", b"\n", b"\n\n"])
+
+
+def judge_script(program, data):
+    program.remove("journal.life")
+    status, text = program.run("run", script=data)
+    lines = read_script(data)
+    if isinstance(lines, Fault):
+        need((status, text) == (3, lines.answer + "\n"), f"script_lines says {lines.answer}, and the program {status}, "
+             f"{text[:80]!r}, of {data!r}")
+        return 1
+    need(status in (0, 4), f"script_lines takes {data!r}, and the program says {status}, {text[:80]!r}")
+    return 0
+
+
+# --- tables ---
+
+WRONG_RATES = ["1.1", "-1", "", "0,1", "0.0000000001", "x", "1E-999", "0.1<!-- -->", "<b/>0.1", "&lt;"]
+STRANGE_ROWS = ["<Y>0.1</Y>", '<Y t="131">0</Y>', '<Y t="7">0</Y>', '<Y t="x">0</Y>', "<Z/>", '<Axis t="1"/>',
+                '<Y t="00">0.1</Y>', '<Y u="1" t="0" >0.1</Y>', "<Y t='0'>\n 0.1\t</Y>", '<Y t="0"/>']
+FACTORS = [None, None, "", "0", " 1.0 ", "1000", "1<!-- -->", " "]
+DECLARATIONS = ["", '<?xml version="1.0"?>', '<?xml version="1.0" encoding="utf-8"?>\n']
+
+
+def drawn_table(draw):
+    """A table's file with something in it that is passed over, or that isn't right."""
+    first = draw.choice([0, 0, 5, 128])
+    rates = [draw.choice(["0.1", "1", "1.", ".5", "9E-05", "0.000000001", "0", "1e0"]) for _ in range(draw.randrange(1, 4))]
+    if draw.random() < 0.3:
+        rates[draw.randrange(len(rates))] = draw.choice(WRONG_RATES)
+    rows = [f'<Y t="{first + place}">{rate}</Y>' for place, rate in enumerate(rates)]
+    if draw.random() < 0.3:
+        rows[draw.randrange(len(rows))] = draw.choice(STRANGE_ROWS)
+    factor = draw.choice(FACTORS)
+    scaling = "" if factor is None else f"<ScalingFactor>{factor}</ScalingFactor>"
+    table = f"<Table><MetaData>{scaling}</MetaData><Values><Axis>{''.join(rows)}</Axis></Values></Table>"
+    head = [draw.choice(["", "", "\ufeff"]), draw.choice(DECLARATIONS), draw.choice(["", "<!-- \u00e9\u00df\u2192 -->", " \n"])]
+    around = [draw.choice(["", "<Table/>", "<Other>&amp;</Other>"]), table, draw.choice(["", table, "<Y t='1'>9</Y>"])]
+    return broken(draw, "".join([*head, "<XTbML>", *around, "</XTbML>", draw.choice(["", "\n", "<!-- -->"])]).encode())
+
+
+def broken(draw, data):
+    """The file, at times cut short or with a piece changed."""
+    what = draw.randrange(10)
+    if what == 0:
+        return data[:draw.randrange(len(data))]
+    if what == 1:
+        old, new = draw.choice([(b"XTbML", b"XTBML"), (b"<Values>", b"<Value>"), (b"Axis", b"axis"), (b"</Y>", b"</y>"),
+                                (b"<Axis>", b"<Axis id='a'>"), (b"<XTbML>", b"<!DOCTYPE x><XTbML>"),
+                                (b"</Table>", b"</Table><![CDATA[x]]>")])
+        return data.replace(old, new)
+    return data
+
+
+def judge_table(program, data):
+    """Whether the file is refused by both, or only an XML parser refuses it."""
+    program.write("t.xml", data)
+    status, text = program.run("value", "2021-01-01")
+    try:
+        read_basis(os.path.join(program.folder, "basis.csv"))
+    except NotXml:
+        need(status == 0 or text.endswith(",notdocument\n"), f"a table is no XML, and the program says {text!r} of {data!r}")
+        return "no XML"
+    except Wrong as wrong:
+        need((status, text) == (4, f"{wrong}\n"), f"tables says {wrong}, and the program {status}, {text!r}, of {data!r}")
+        return str(wrong).split(",")[-1]
+    need(status == 0, f"tables takes a table, and the program says {text!r}, of {data!r}")
+    return "taken"
+
+
+def main():
+    draw = random.Random(7)
+    program = Program(os.path.abspath(sys.argv[1]), sys.argv[3])
+    program.write("basis.csv", b"1900-01-01,t.xml,0\n")
+    found = [judge_table(program, drawn_table(draw)) for _ in range(TABLES)]
+    words = {word: found.count(word) for word in sorted(set(found))}
+    program.write("t.xml", b'<XTbML><Table><Values><Axis><Y t="0">1</Y></Axis></Values></Table></XTbML>')
+    scripts = sum(judge_script(program, drawn_script(draw)) for _ in range(SCRIPTS))
+    journals = sum(judge_journal(program, drawn_journal(draw)) for _ in range(JOURNALS))
+    tried = f"{journals} of {JOURNALS} journals are refused, {scripts} of {SCRIPTS} scripts, and of {TABLES} tables {words}"
+    need(len(words) >= 8 and min(scripts, journals) > 50, f"too little was tried: {tried}")
+    print(f"tools: as by the program, {tried}")
+
+
+main()

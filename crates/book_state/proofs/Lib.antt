@@ -1,0 +1,4 @@
+pub mod LookSteps
+pub mod ReadingSteps
+pub mod StateSteps
+pub mod StateStatus

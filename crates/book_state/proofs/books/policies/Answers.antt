@@ -1,0 +1,21 @@
+use Rattle.std.proofs.Common.{◌<◌, ◌∙◌, length, take, arith}
+use Rattle.policy_machine.specs.Book.{book}
+use Rattle.office_state.specs.States.{commands_of}
+use Rattle.book_state.proofs.StateSteps.{lines_more}
+use Rattle.book_state.proofs.StateSteps.{policy_sound}
+use Rattle.book_state.proofs.books.policies.Goals as goal
+
+pub add_policy-requires : goal.add_policy-requires
+add_policy-requires g c =
+    let within : c.loop-index.index < length (book (take c.count-count.result (commands_of c.args.office.now))) =
+    omega (arith, c.loop-index-test.true, c.policies-index-end.ensures) in
+    policy_sound (commands_of c.args.office.now) c.count-count.result c.loop-index.index c.policy-policy.result c.requires.valid within
+    c.policy-policy.ensures
+
+pub loop-index-preserved : goal.loop-index-preserved
+loop-index-preserved g c =
+    let within : c.loop-index.index < length (book (take c.count-count.result (commands_of c.args.office.now))) =
+    omega (arith, c.loop-index-test.true, c.policies-index-end.ensures) in
+    c.in_ok-add_policy.ensures
+    ∙ lines_more (commands_of c.args.office.now) c.loop-index.index c.count-count.result c.policy-policy.result _ c.count-count.ensures
+    within c.policy-policy.ensures c.loop-index.invariant

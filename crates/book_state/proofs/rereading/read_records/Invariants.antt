@@ -1,0 +1,11 @@
+use Rattle.std.proofs.Common.{◌≡◌}
+use Rattle.office_state.specs.inside.Replays.{StaysAs}
+use Rattle.book_state.specs.inside.Rereading.{AreRead}
+use Rattle.book_state.proofs.rereading.read_records.Given as goal
+
+abbrev pub invariant-loop-n : goal.invariant-loop-n
+invariant-loop-n g l = record {
+  stays : StaysAs l.fn.journal l.journal;
+  named : l.account.id ≡ l.fn.account.id;
+  read : AreRead l.fn.journal l.journal l.account l.n;
+}

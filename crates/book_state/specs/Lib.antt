@@ -1,0 +1,3 @@
+pub mod Books
+pub mod Stating
+pub mod inside

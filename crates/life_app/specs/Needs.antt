@@ -1,0 +1,35 @@
+-- What the words need of the basis and the disk
+use Rattle.std.specs.Prelude.{◌≡◌, ℕ, ◌<◌, ◌⊎◌, ℤ, List, length, codes, String}
+use Rattle.std.specs.Global.{Global}
+use Rattle.outside_io.specs.Shelves.{Files}
+use Rattle.outside_io.specs.declared.disks.Disk.{Ghosts}
+use Rattle.policy_types.specs.declared.command.Command.{Command}
+use Rattle.policy_types.specs.declared.entry.At.{At}
+use Rattle.policy_types.specs.declared.entry.At.TheVariants.{Position}
+use Rattle.basis_shelf.specs.FirstBad.{IsFirstBadFile}
+use Rattle.basis_shelf.specs.Lines.{bad_basis_text}
+use Rattle.basis_shelf.specs.declared.fault.BadBasis.{BadBasis}
+use Rattle.office_state.specs.Journals.{Opens}
+use Rattle.program_endings.specs.Writing.{Input, Shelving, Stream, WroteOrFailed}
+use Rattle.script_run.specs.Running.{ReadsForValues}
+use Rattle.life_app.specs.Words.{AskForLoad, AskForRun, AskForValue}
+
+-- the words need the basis of this name: they ask for values, or to run a script of which a line does, or to run a
+-- generated script
+abbrev pub NeedBasis : List (String Global) → Input → List ℕ → Type 0
+NeedBasis words input name =
+    ((on : ℤ) × ((at : At) × AskForValue words on at name))
+    ⊎ (AskForRun words name × ReadsForValues input)
+    ⊎ (AskForLoad words × (name ≡ codes "basis.csv"))
+
+-- the words need a basis of which a file is bad, and the first bad one is named
+abbrev pub HasBadFile : List (String Global) → Input → Shelving → Stream → Type 0
+HasBadFile words input shelf output =
+    (name : List ℕ) × ((bad : BadBasis) × NeedBasis words input name
+    × ((files : Files) → shelf.Agrees files → IsFirstBadFile files name bad) × WroteOrFailed output (bad_basis_text bad))
+
+-- the words ask for values after more commands than the disk's file opens to
+abbrev pub IsPastTheEnd : {D : Type 0} → Ghosts D → D → D → List (String Global) → Type 0
+IsPastTheEnd g old new words =
+    (on : ℤ) × ((p : ℕ) × ((name : List ℕ) × AskForValue words on (Position p) name
+    × (g.honest new → (commands : List Command) × Opens (g.reads old) commands × (length commands < p))))

@@ -1,0 +1,40 @@
+use Rattle.std.proofs.Common.{ℕ, inl, inr, refl, ap, ◌∙◌}
+use denote.Param.Object.{read_made}
+use Rattle.watcher_set.specs.Noted.{Auditor}
+use Rattle.program_endings.specs.Status.{status_of}
+use Rattle.program_endings.specs.declared.ending.Ending.{Ending}
+use Rattle.program_endings.specs.declared.ending.Ending.TheVariants.{NoMemory}
+use Rattle.watcher_set.specs.declared.counting.CountWatcher.{CountWatcher}
+use Rattle.life_cli.specs.Shipped.{shipped_auditors, count_auditor}
+use Rattle.life_cli.proofs.FromStart.{obeys_with, seen_of_two}
+use Rattle.life_cli.proofs.shipped.obey.OwnLists.{own-1}
+use Rattle.life_cli.proofs.shipped.obey.Goals as goal
+
+pub returns-in_default : goal.returns-in_default
+returns-in_default g c = record {
+  obeys = record {
+    ending = NoMemory;
+    exits = c.status-status.ensures ∙ ap (λ (e : Ending). status_of e) c.lack_memory.ensures.so;
+    does = inr (record { disk = refl; input = refl; shelf = refl; says = c.lack_memory.ensures.wrote });
+  };
+}
+
+pub returns : goal.returns
+returns g c = record {
+  obeys = obeys_with _ _ _ _ _ _ _ _ _ _ _ shipped_auditors
+      (
+      seen_of_two _ _ _ _ _ _ _ _ _ c.push_reserved-2.ensures.items c.push_reserved.ensures.items c.reserve-room.ensures.items c.new-auditors.ensures.items
+      (
+      read_made own-1 (own-1.entry (inl tt)) (inl tt) refl Auditor (λ j v. record { stops = j.1.stops v; number = j.1.number v })
+      c.into_dyn_box.result.vtable c.into_dyn_box.result.value _ c.into_dyn_box.ensures.1
+      ∙ ap (λ (limit : ℕ). count_auditor limit)
+      (let same = rw (c.in-Ok-Ok-Ok.is-0) at c.new-counting.ensures.ok in ap (λ (auditor : CountWatcher). auditor.limit) same ∙ c.new.ensures.limit)
+      )
+      (
+      read_made own-1 (own-1.entry (inr (inl tt))) (inr (inl tt)) refl Auditor (λ j v. record { stops = j.1.stops v; number = j.1.number v })
+      c.into_dyn_box-2.result.vtable c.into_dyn_box-2.result.value _ c.into_dyn_box-2.ensures.1
+      ∙ refl
+      )
+      )
+      c.life.ensures.obeys;
+}

@@ -1,0 +1,61 @@
+//! Does one thing again and again, so that it can be timed. The first word says what, the others how often:
+//!
+//! - `tables TIMES FILE..` reads each file so many times. One whose name ends in `.xml` is a table file, any other a basis
+//!   file. For each there is a line, `table,FILE,FIRST_AGE,LAST_AGE` or `basis,FILE,ROWS`, or in place of the numbers what
+//!   is wrong with the file, or `unread` where it is to be read no times; `toolong,FILE` for one of more than 4 MiB.
+//! - `reserves SEED COUNT` values so many policies drawn from a seed below 2^31, and prints the sums of the bounds in
+//!   cents: `reserves,POLICIES,UNVALUED,LOWER,UPPER`.
+//! - `turns CALLERS TURNS` has so many callers, 1 to 32, take so many turns each on a counter, and prints the count at the
+//!   end: `turns,CALLERS,COUNT`.
+//! - `waiting SECONDS` has eight callers take one turn each, of which the first works for so long while the others wait,
+//!   and prints `waiting,8,COUNT`.
+//! - `postings CALLERS COUNT` has so many callers issue COUNT policies in all, each as many (a rest is left out), at the
+//!   office of `journal.life` in the folder where it runs, and prints `postings,CALLERS,ACCEPTED`.
+//! - `sleeping CALLERS COUNT` does the same on a disk in memory whose sync sleeps 50 microseconds.
+//!
+//! The status is 2 where the words are others, 8 where the journal doesn't open, 9 where there is no memory.
+#![tactic(auto)]
+
+mod counter;
+mod issues;
+mod lane;
+mod reserves;
+mod sleeping_disk;
+mod tables;
+mod turns;
+mod waiting;
+mod words;
+
+use outside_io::{AnyFile, FileDisk};
+use reserves::measure_reserves;
+use sleeping_disk::SleepingDisk;
+use std::process::ExitCode;
+use std::{env, io};
+use tables::measure_tables;
+use turns::{measure_postings, measure_turns, measure_waiting};
+use words::Outcome;
+
+fn main(rt: HostRuntime) -> io::Result<ExitCode> {
+    let mut words = env::args(&rt)?;
+    let _program = words.next();
+    let Some(word) = words.next() else {
+        return Ok(ExitCode::from(Outcome::OtherWords.status()));
+    };
+    let alloc = rt.alloc();
+    let outcome = match word.as_str() {
+        "tables" => measure_tables(&rt, &mut words)?,
+        "reserves" => measure_reserves(&rt, &mut words)?,
+        "turns" => measure_turns(&rt, &mut words)?,
+        "waiting" => measure_waiting(&rt, &mut words)?,
+        "postings" => {
+            let disk = FileDisk::at(rt, "journal.life", AnyFile);
+            measure_postings(&rt, &mut words, "postings", disk)?
+        }
+        "sleeping" => {
+            let disk = SleepingDisk::new(&rt, alloc);
+            measure_postings(&rt, &mut words, "sleeping", disk)?
+        }
+        _ => Outcome::OtherWords,
+    };
+    Ok(ExitCode::from(outcome.status()))
+}

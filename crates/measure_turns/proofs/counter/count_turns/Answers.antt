@@ -1,8 +1,0 @@
-use Rattle.std.proofs.Common.{◌∙◌}
-use Rattle.measure_turns.proofs.Taking.{turns_in_all}
-use Rattle.measure_turns.proofs.counter.count_turns.Goals as goal
-
-pub returns : goal.returns
-returns g c =
-    c.close.ensures.stood
-    ∙ turns_in_all _ g.L.Lane.counts _ _ _ c.in-Ok.pass _ c.in-Ok.ensures.ok.0 c.lanes-pass.ensures.take c.close.ensures.facts c.close.ensures.whole

@@ -1,0 +1,157 @@
+// A file of the system. Each call of it is noted with what the system answered, for contracts alone.
+ghost use Rattle.std.specs.Prelude.{◌≡◌, [], ◌∷◌, Some, None, length, is_ok, if◌then◌else◌};
+ghost use Rattle.std.specs.Result.{result_ok};
+ghost use Rattle.outside_io.specs.Disks.{HasDiskCause};
+ghost use Rattle.outside_io.specs.FileCalls.{Measured, ReadFrom, WrittenTo, Synced};
+
+use crate::Failed;
+use crate::counting::counted;
+use crate::file_calls::FileCalls;
+use std::fs::{File, OpenOptions};
+use std::io;
+use std::io::ErrorKind;
+use std::os::unix::fs::FileExt;
+use std::rt::Files;
+
+// The file with a name in the folder in which the program runs. It is opened, or made, at the first call; nothing of it
+// is cut off. It is locked against other processes that do the same, until it is dropped; where one of them has it, the
+// call fails and counts.
+#[derive(Drop)]
+pub(crate) struct NotedFile<R: Files<File = File>> {
+    files: R,
+    name: &'static str,
+    file: Option<File>,
+    pub(crate) faults: u64,
+    pub(crate) calls: FileCalls,
+}
+
+impl<R: Files<File = File>> NotedFile<R> {
+    // Touches nothing.
+    pub(crate) fn at(files: R, name: &'static str) -> NotedFile<R>
+        ensures faults { result.faults ≡ 0 }
+        ensures calls { result.calls ≡ [] }
+    {
+        NotedFile {
+            files,
+            name,
+            file: None,
+            faults: 0,
+            calls: FileCalls::new(),
+        }
+    }
+
+    pub(crate) fn len(&mut self) -> Result<u64, Failed>
+        ensures cause { HasDiskCause self.old.faults self.new.faults result }
+        ensures noted { self.new.calls ≡ Measured (result_ok result) ∷ self.old.calls }
+    {
+        // The length that the system tells of the open file, asked for once; or that it told none.
+        let told = ask_length(&self.files, self.name, &mut self.file);
+        let told = counted(told, &mut self.faults);
+        // What is noted is what is answered.
+        self.calls.note_length(&told);
+        told
+    }
+
+    pub(crate) fn read(&mut self, at: u64, buf: &mut [u8]) -> Result<(), Failed>
+        ensures cause { HasDiskCause self.old.faults self.new.faults result }
+        ensures noted { self.new.calls
+            ≡ ReadFrom at (length buf.old) (if is_ok result then Some buf.new else None) ∷ self.old.calls }
+    {
+        // Success says that the system filled the whole buffer from that place of the file on.
+        let filled = fill(&self.files, self.name, &mut self.file, at, buf);
+        let filled = counted(filled, &mut self.faults);
+        // The buffer is noted as the system left it; nothing wrote it since.
+        self.calls.note_read(at, buf, filled.is_ok());
+        filled
+    }
+
+    pub(crate) fn write(&mut self, at: u64, bytes: &[u8]) -> Result<(), Failed>
+        ensures cause { HasDiskCause self.old.faults self.new.faults result }
+        ensures noted { self.new.calls ≡ WrittenTo at bytes.now (is_ok result) ∷ self.old.calls }
+    {
+        // Success says that the system took all the bytes at that place; of a failure some may have gone there.
+        let written = put(&self.files, self.name, &mut self.file, at, bytes);
+        let written = counted(written, &mut self.faults);
+        // Noted where it failed too, since a part may have been written.
+        self.calls.note_write(at, bytes, written.is_ok());
+        written
+    }
+
+    pub(crate) fn sync(&mut self) -> Result<(), Failed>
+        ensures cause { HasDiskCause self.old.faults self.new.faults result }
+        ensures noted { self.new.calls ≡ Synced (is_ok result) ∷ self.old.calls }
+    {
+        // Success says that the system made safe what was written; after a failure nothing may be safe any more.
+        let synced = make_safe(&self.files, self.name, &mut self.file);
+        let synced = counted(synced, &mut self.faults);
+        // Noted where it failed too: a success after it means nothing.
+        self.calls.note_sync(synced.is_ok());
+        synced
+    }
+}
+
+fn ask_length<R: Files<File = File>>(
+    files: &R,
+    name: &str,
+    slot: &mut Option<File>,
+) -> io::Result<u64> {
+    Ok(opened(files, name, slot)?.metadata()?.len())
+}
+
+fn fill<R: Files<File = File>>(
+    files: &R,
+    name: &str,
+    slot: &mut Option<File>,
+    at: u64,
+    buf: &mut [u8],
+) -> io::Result<()> {
+    opened(files, name, slot)?.read_exact_at(buf, at)
+}
+
+fn put<R: Files<File = File>>(
+    files: &R,
+    name: &str,
+    slot: &mut Option<File>,
+    at: u64,
+    bytes: &[u8],
+) -> io::Result<()> {
+    opened(files, name, slot)?.write_all_at(bytes, at)
+}
+
+fn make_safe<R: Files<File = File>>(
+    files: &R,
+    name: &str,
+    slot: &mut Option<File>,
+) -> io::Result<()> {
+    opened(files, name, slot)?.sync_all()
+}
+
+// The file, which the first call opens or makes.
+fn opened<'a, R: Files<File = File>>(
+    files: &R,
+    name: &str,
+    slot: &'a mut Option<File>,
+) -> io::Result<&'a File> {
+    if slot.is_none() {
+        *slot = Some(open_or_make(files, name)?);
+    }
+    match slot {
+        Some(file) => Ok(file),
+        None => Err(io::Error::from(ErrorKind::NotFound)),
+    }
+}
+
+// The file is safe only once its folder is. A run that made the file may have ended before that, so every run sees to
+// it.
+fn open_or_make<R: Files<File = File>>(files: &R, name: &str) -> io::Result<File> {
+    let file = OpenOptions::new()
+        .read(true)
+        .write(true)
+        .create(true)
+        .open(files, name)?;
+    if file.try_lock().is_err() {
+        return Err(io::Error::from(ErrorKind::WouldBlock));
+    }
+    File::open(files, ".")?.sync_all()?;
+    Ok(file)
+}

@@ -1,0 +1,8 @@
+pub mod ListSteps
+pub mod TurnSteps
+pub mod QuietTurns
+pub mod FaultSteps
+pub mod ReadOnlySteps
+pub mod BasisSteps
+pub mod BlockSteps
+pub mod StatusSteps

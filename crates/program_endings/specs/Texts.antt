@@ -1,0 +1,33 @@
+-- How a text is written, and how a mode ends that only reads
+use Rattle.std.specs.Prelude.{ℕ, List, codes, Result, Ok, Err, Vec, ◌≡◌}
+use Rattle.std.specs.Global.{Global}
+use Rattle.policy_types.specs.declared.watcher.NoMemory.{NoMemory as Lack}
+use Rattle.outside_io.specs.Faults.{Rose}
+use Rattle.outside_io.specs.Streams.{AppendsPart}
+use Rattle.outside_io.specs.declared.disks.Disk.{Ghosts}
+use Rattle.office_state.specs.Images.{IsLeftAlone}
+use Rattle.program_endings.specs.declared.ending.Ending.{Ending}
+use Rattle.program_endings.specs.declared.ending.Ending.TheVariants.{Done, BadJournal, WriteFault, DiskFault, NoMemory}
+use Rattle.program_endings.specs.Writing.{Stream, WroteAll, WroteLine}
+use Rattle.program_endings.specs.Refusals.{IsRefusedJournal}
+
+-- How a text is written: whole, or a front of it, or a line in its place where there was no memory for it.
+abbrev pub EndsText : Result (Vec ℕ Global) Lack → Stream → Ending → Type 0
+EndsText (Ok text) output Done = WroteAll output text.items
+EndsText (Ok text) output WriteFault =
+    Rose output.faults_before output.faults_after × AppendsPart output.before output.after text.items
+EndsText (Err lack) output NoMemory = WroteLine output (codes "nomemory")
+EndsText _ _ _ = ⊥
+
+-- How a mode ends that only reads the disk's file: what its text tells of the file was written, whole or a front of it
+-- where the output failed; or no text was, and the disk is left alone.
+abbrev pub EndsReadOnly : {D : Type 0} → Ghosts D → D → D → ((List ℕ → Type 0) → Type 0) → Stream → Ending → Type 0
+EndsReadOnly g old new Tells output Done = Tells (WroteAll output)
+EndsReadOnly g old new Tells output BadJournal = IsRefusedJournal g old new output
+EndsReadOnly g old new Tells output WriteFault =
+    Rose output.faults_before output.faults_after × Tells (AppendsPart output.before output.after)
+EndsReadOnly g old new Tells output DiskFault =
+    Rose (g.faults old) (g.faults new) × WroteLine output (codes "diskfault") × IsLeftAlone g old new
+EndsReadOnly g old new Tells output NoMemory =
+    WroteLine output (codes "nomemory") × IsLeftAlone g old new × (g.faults new ≡ g.faults old)
+EndsReadOnly g old new Tells output _ = ⊥

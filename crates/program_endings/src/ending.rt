@@ -1,0 +1,48 @@
+ghost use Rattle.std.specs.Prelude.{◌≡◌};
+
+/// How a run of the program ends.
+#[derive(Clone, Copy, PartialEq, Eq, Debug)]
+pub enum Ending {
+    /// All was read to the end, and every line is answered.
+    Done,
+    /// The words aren't of a command.
+    Usage,
+    /// The script is too long, or a row of it is no line.
+    BadScript,
+    /// A file of the basis is absent, too long or refused.
+    BadBasis,
+    /// The disk's file is no journal.
+    BadJournal,
+    /// The input failed, or the shelf.
+    ReadFault,
+    /// The output failed.
+    WriteFault,
+    /// The disk failed, at the opening or in a posting.
+    DiskFault,
+    /// Memory was refused.
+    NoMemory,
+    /// There are fewer commands than were to be valued.
+    Ahead,
+}
+
+impl Ending {
+    ghost use Rattle.program_endings.specs.Status.{status_of};
+
+    /// The program's exit status.
+    pub fn status(self) -> u8
+        ensures { result ≡ status_of self }
+    {
+        match self {
+            Ending::Done => 0,
+            Ending::Usage => 2,
+            Ending::BadScript => 3,
+            Ending::BadBasis => 4,
+            Ending::BadJournal => 5,
+            Ending::ReadFault => 6,
+            Ending::WriteFault => 7,
+            Ending::DiskFault => 8,
+            Ending::NoMemory => 9,
+            Ending::Ahead => 10,
+        }
+    }
+}

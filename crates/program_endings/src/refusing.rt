@@ -1,0 +1,59 @@
+// Why there is no office, and why there is no basis, in a line.
+ghost use Rattle.std.specs.Prelude.{◌≤◌};
+ghost use Rattle.basis_shelf.specs.declared.fault.NoBasis.TheVariants.{Bad};
+ghost use Rattle.office_state.specs.declared.faults.StartCause.TheVariants.{BadRecord};
+ghost use Rattle.program_endings.specs.Refusals.{SaysUnopened};
+ghost use Rattle.program_endings.specs.WithoutBasis.{SaysNoBasis};
+ghost use Rattle.program_endings.specs.Writing.{between};
+
+use crate::ending::Ending;
+use crate::saying::{end, lack_memory};
+use basis_shelf::{BadBasis, NoBasis, bad_basis_line};
+use office_state::StartCause;
+use outside_io::Sink;
+use std::alloc::Global;
+
+/// Says why no office was opened.
+pub fn refuse_journal<K: Sink>(alloc: Global, cause: StartCause, output: &mut K) -> Ending
+    ensures later { K.faults output.old ≤ K.faults output.new }
+    ensures says { SaysUnopened cause (between K.faults K.written output.old output.new) result }
+{
+    match cause {
+        StartCause::DiskFault(_) => end(output, b"diskfault\n", Ending::DiskFault),
+        StartCause::NotAJournal => end(output, b"badjournal,notajournal\n", Ending::BadJournal),
+        StartCause::BadRecord(n) => refuse_record(alloc, n, output),
+        StartCause::NoMemory => lack_memory(output),
+    }
+}
+
+fn refuse_record<K: Sink>(alloc: Global, n: u32, output: &mut K) -> Ending
+    ensures later { K.faults output.old ≤ K.faults output.new }
+    ensures says { SaysUnopened (BadRecord n) (between K.faults K.written output.old output.new) result }
+{
+    match format!(in alloc; "badjournal,badrecord,{n}\n") {
+        Ok(line) => end(output, line.as_bytes(), Ending::BadJournal),
+        Err(_) => lack_memory(output),
+    }
+}
+
+/// Says why there is no basis.
+pub fn refuse_basis<K: Sink>(alloc: Global, cause: NoBasis, output: &mut K) -> Ending
+    ensures later { K.faults output.old ≤ K.faults output.new }
+    ensures says { SaysNoBasis cause (between K.faults K.written output.old output.new) result }
+{
+    match cause {
+        NoBasis::Bad(bad) => refuse_file(alloc, &bad, output),
+        NoBasis::ReadFault => end(output, b"readfault\n", Ending::ReadFault),
+        NoBasis::NoMemory => lack_memory(output),
+    }
+}
+
+fn refuse_file<K: Sink>(alloc: Global, bad: &BadBasis, output: &mut K) -> Ending
+    ensures later { K.faults output.old ≤ K.faults output.new }
+    ensures says { SaysNoBasis (Bad bad.now) (between K.faults K.written output.old output.new) result }
+{
+    match bad_basis_line(alloc, bad) {
+        Ok(line) => end(output, line.as_slice(), Ending::BadBasis),
+        Err(_) => lack_memory(output),
+    }
+}

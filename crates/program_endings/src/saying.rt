@@ -1,0 +1,59 @@
+// What is written: a line that stands alone, or a whole text.
+ghost use Rattle.std.specs.Prelude.{◌≡◌, ◌≤◌, ◌++◌, codes, OnOk};
+ghost use Rattle.program_endings.specs.Texts.{EndsText};
+ghost use Rattle.program_endings.specs.Writing.{WroteLine, WroteOrFailed, between};
+ghost use Rattle.program_endings.specs.declared.ending.Ending.TheVariants.{NoMemory as NoRoom};
+
+use crate::ending::Ending;
+use outside_io::{Sink, write_all};
+use policy_types::NoMemory;
+
+/// Writes a line. Where the output fails, a front of it was written.
+pub fn say<K: Sink>(output: &mut K, line: &[u8])
+    ensures later { K.faults output.old ≤ K.faults output.new }
+    ensures wrote { WroteOrFailed (between K.faults K.written output.old output.new) line.now }
+{
+    let _ = write_all(output, line);
+}
+
+/// Writes a line, and ends so.
+pub fn end<K: Sink>(output: &mut K, line: &[u8], ending: Ending) -> Ending
+    ensures later { K.faults output.old ≤ K.faults output.new }
+    ensures wrote { WroteOrFailed (between K.faults K.written output.old output.new) line.now }
+    ensures so { result ≡ ending }
+{
+    say(output, line);
+    ending
+}
+
+/// Says that there is no memory.
+pub fn lack_memory<K: Sink>(output: &mut K) -> Ending
+    ensures later { K.faults output.old ≤ K.faults output.new }
+    ensures wrote { WroteLine (between K.faults K.written output.old output.new) (codes "nomemory") }
+    ensures so { result ≡ NoRoom }
+{
+    end(output, b"nomemory\n", Ending::NoMemory)
+}
+
+/// Adds more to a text.
+pub fn add(text: &mut Vec<u8>, more: &[u8]) -> Result<(), NoMemory>
+    ensures { OnOk result (text.new.items ≡ text.old.items ++ more.now) }
+{
+    match text.extend_from_slice(more) {
+        Ok(()) => Ok(()),
+        Err(_) => Err(NoMemory),
+    }
+}
+
+/// Writes a text, or says that there was no memory for it.
+pub fn write_text<K: Sink>(text: Result<Vec<u8>, NoMemory>, output: &mut K) -> Ending
+    ensures { EndsText text (between K.faults K.written output.old output.new) result }
+{
+    let Ok(text) = text else {
+        return lack_memory(output);
+    };
+    match write_all(output, text.as_slice()) {
+        Ok(()) => Ending::Done,
+        Err(_) => Ending::WriteFault,
+    }
+}

@@ -1,0 +1,4 @@
+pub mod ScriptSteps
+pub mod RunSteps
+pub mod ScriptStatus
+pub mod RunStatus

@@ -1,0 +1,174 @@
+-- How a run ends, by what its parts did
+use Rattle.std.proofs.Common.{◌≡◌, ℕ, Bool, true, false, List, [], ◌++◌, refl, ap, sym, ◌∙◌, subst, inl, inr, Some, Result, Ok, Err}
+use Rattle.std.specs.Prelude.{All, IfOk, OnErr, if◌then◌else◌}
+use Rattle.outside_io.specs.Faults.{Rose}
+use Rattle.outside_io.specs.Streams.{AppendsPart}
+use Rattle.outside_io.specs.declared.disks.Disk.{Ghosts}
+use Rattle.basis_book.specs.Dated.{Dated}
+use Rattle.policy_types.specs.Accounts.{Booking}
+use Rattle.policy_types.specs.declared.watcher.NoMemory.{NoMemory as Lack}
+use Rattle.policy_types.specs.declared.watcher.Report.{Report}
+use Rattle.policy_types.specs.declared.script.Lane.{Lane}
+use Rattle.policy_types.specs.declared.entry.Entry.{Entry}
+use Rattle.policy_machine.specs.History.{IsLegal, accepted_of, opened_on}
+use Rattle.watcher_set.specs.Noted.{Auditor, reports_of}
+use Rattle.watcher_set.specs.declared.watching.Watching.{Ghosts as WatcherGhosts}
+use Rattle.office_state.specs.declared.faults.StartCause.{StartCause}
+use Rattle.office_state.specs.declared.faults.StartCause.TheVariants.{DiskFault as FaultyDisk, NotAJournal, BadRecord, NoMemory as NoRoom}
+use Rattle.office_state.specs.Images.{IsLeftAlone, IsLeftBy}
+use Rattle.office_state.specs.Opening.{HasNotOpened}
+use Rattle.shared_office.specs.Offices.{IsOfficeHistory, OfficeOpening}
+use Rattle.shared_office.specs.Starting.{HasClosed, HasStartedOffice}
+use Rattle.turn_lock.specs.Passes.{Holding, PassFacts}
+use Rattle.lane_runner.specs.Transcripts.{HasAnsweredLanes, dry_of}
+use Rattle.lane_runner.specs.declared.transcript.TranscriptLine.{TranscriptLine}
+use Rattle.lane_runner.specs.declared.transcript.Transcript.{Transcript}
+use Rattle.program_endings.specs.declared.ending.Ending.{Ending}
+use Rattle.program_endings.specs.declared.ending.Ending.TheVariants.{Done, BadScript, BadJournal, ReadFault as InputFault, WriteFault, DiskFault, NoMemory}
+use Rattle.program_endings.specs.Replies.{AreAnswered, AreAny, HaveAFault, LackMemory}
+use Rattle.program_endings.specs.Writing.{Input, Shelving, Stream, WroteAll, WroteNothing}
+use Rattle.program_endings.specs.Refusals.{SaysUnopened}
+use Rattle.program_endings.proofs.FaultSteps.{rose_in}
+use Rattle.program_endings.proofs.ListSteps.{same_opened}
+use Rattle.transcript_text.specs.Transcript.{IsTranscript, reports_text}
+use Rattle.transcript_text.specs.Lanes.{AreScriptLanes}
+use Rattle.transcript_text.specs.Told.{IsWritable, any_faulted, any_lacked, run_text, told_texts}
+use Rattle.transcript_text.proofs.Telling.{Telling, telling}
+use Rattle.script_run.specs.declared.intake.Unread.{Unread}
+use Rattle.script_run.specs.declared.intake.Unread.TheVariants.{TooLong, BadRow, ReadFault, NoMemory as OutOfMemory}
+use Rattle.script_run.specs.Running.{EndsRun}
+use Rattle.script_run.specs.Outcome.{EndsScript, IsRunOf}
+use Rattle.script_run.specs.Script.{EndsUnread, GaveBadRow, GaveTooMany}
+use Rattle.script_run.specs.inside.Unread.{SaysUnread}
+use Rattle.script_run.specs.inside.Ran.{EndsRan, EndsTold}
+
+-- a text that is written whole ends a run by what is told of its lines
+by_lines : (lines : List TranscriptLine) (reports : List Report) (output : Stream) (faulted lacked : Bool) → any_faulted lines ≡ faulted
+    → any_lacked lines ≡ lacked → WroteAll output (run_text lines reports)
+    → EndsTold lines reports output (if faulted then DiskFault else if lacked then NoMemory else Done)
+by_lines lines reports output true lacked failed short wrote = (failed, wrote)
+by_lines lines reports output false true whole short wrote = inr (whole, short, wrote)
+by_lines lines reports output false false whole found wrote = (whole, found, wrote)
+
+pub ends_as_told : (lines : List TranscriptLine) (reports : List Report) (output : Stream) (ending : Ending)
+    → ending ≡ (if any_faulted lines then DiskFault else if any_lacked lines then NoMemory else Done)
+    → WroteAll output (run_text lines reports) → EndsTold lines reports output ending
+ends_as_told lines reports output ending is wrote =
+    subst (EndsTold lines reports output) (sym is) (by_lines lines reports output (any_faulted lines) (any_lacked lines) refl refl wrote)
+
+-- An office ran lanes and was closed.
+module _ {D W : Type 0} (g : Ghosts D) (w : WatcherGhosts W) (old disk : D) (lanes : List Lane) (basis : List Dated) (watchers : W)
+    (first closing : Holding (OfficeOpening D W)) (balances : Booking) (reports : List Report) (started : HasStartedOffice g old watchers first)
+    (facts : PassFacts IsOfficeHistory closing) (closed : HasClosed g w closing disk balances reports) (script : AreScriptLanes lanes) where
+  abbrev opened : OfficeOpening D W
+  opened = record { opening = started.opening; begun = old; watchers = watchers }
+
+  abbrev auditors : List Auditor
+  auditors = w.handed watchers
+
+  -- the disk is left by what the office's last pass has seen
+  left_from : closing.opening ≡ Some opened → IsLeftBy g old disk (opened_on started.opening.commands (g.faults old)) closing.seen
+  left_from is =
+      let same : closed.opening ≡ opened = same_opened closed.opening opened (sym closed.opened ∙ is) in
+      let left : IsLeftBy g old disk started.opening closing.seen =
+      subst (λ (o : OfficeOpening D W). IsLeftBy g o.begun disk o.opening closing.seen) same closed.disk in
+      subst (λ (n : ℕ). IsLeftBy g old disk (opened_on started.opening.commands n) closing.seen) started.faults left
+
+  -- and the auditors report what it has seen accepted
+  reports_from : closing.opening ≡ Some opened → reports ≡ reports_of auditors (accepted_of closing.seen)
+  reports_from is =
+      let same : closed.opening ≡ opened = same_opened closed.opening opened (sym closed.opened ∙ is) in
+      closed.reports ∙ ap (λ (o : OfficeOpening D W). reports_of (w.handed o.watchers) (accepted_of closing.seen)) same
+
+  module _ (transcript : Transcript) (ran : HasAnsweredLanes basis lanes first closing transcript) where
+    all_told : Telling basis lanes closing transcript opened ran.answered
+    all_told = telling basis lanes first closing transcript opened ran started.first facts closed.whole script
+
+    pub lines_writable : All IsWritable transcript.lines
+    lines_writable = all_told.writable
+
+    run_of : (Wrote : List ℕ → Type 0) (Replies : List Entry → List ℕ → Type 0) → Wrote (run_text transcript.lines reports)
+        → Replies closing.seen (dry_of transcript.lines) → IsRunOf g old disk lanes basis auditors Wrote Replies
+    run_of Wrote Replies wrote replies = record {
+      commands = started.opening.commands;
+      callers = transcript.callers;
+      dry = dry_of transcript.lines;
+      history = closing.seen;
+      answered = ran.answered;
+      text = told_texts transcript.lines;
+      opened = (left_from all_told.opening).opened;
+      merge = all_told.merge;
+      legal = subst (λ (n : ℕ). IsLegal (opened_on started.opening.commands n) closing.seen) started.faults all_told.history.legal;
+      pins = all_told.pins;
+      lines = ran.lines;
+      tells = subst (λ (n : ℕ). IsTranscript (opened_on started.opening.commands n) closing.seen basis (dry_of transcript.lines) ran.answered (told_texts transcript.lines))
+          started.faults all_told.tells;
+      wrote = subst (λ (rs : List Report). Wrote (told_texts transcript.lines ++ reports_text rs)) (reports_from all_told.opening) wrote;
+      replies = replies;
+      disk = left_from all_told.opening;
+    }
+
+    ends_told : (output : Stream) (ending : Ending) → EndsTold transcript.lines reports output ending
+        → EndsScript g old disk lanes basis auditors output ending
+    ends_told output Done ends = run_of (WroteAll output) AreAnswered ends.2 (all_told.answered ends.0 ends.1, all_told.none_dry ends.1)
+    ends_told output WriteFault ends = (ends.0, run_of (AppendsPart output.before output.after) AreAny ends.1 tt)
+    ends_told output DiskFault ends =
+        let fault = all_told.fault ends.0 in
+        let left = left_from all_told.opening in
+        let legal = subst (λ (n : ℕ). IsLegal (opened_on started.opening.commands n) closing.seen) started.faults all_told.history.legal in
+        let rose = rose_in (opened_on started.opening.commands (g.faults old)) closing.seen fault.0 legal.due fault.1 in
+        (subst (Rose (g.faults old)) (sym left.faults) rose, inr (run_of (WroteAll output) HaveAFault ends.1 fault))
+    ends_told output NoMemory (inl unwritten) = inr (inl (run_of (WroteNothing output) AreAny unwritten tt))
+    ends_told output NoMemory (inr short) =
+        inr (inr (run_of (WroteAll output) LackMemory short.2 (all_told.unfaulted short.0, all_told.some_lacked short.1)))
+    ends_told output _ ends = absurd ends
+
+  -- where there was no memory to run them, nothing was turned
+  untouched : closing ≡ first → IsLeftAlone g old disk × (g.faults disk ≡ g.faults old)
+  untouched same =
+      let is : closing.opening ≡ Some opened = ap (λ (p : Holding (OfficeOpening D W)). p.opening) same ∙ started.first.opened in
+      let none : closing.seen ≡ [] = ap (λ (p : Holding (OfficeOpening D W)). p.seen) same ∙ started.first.seen in
+      let left = subst (IsLeftBy g old disk (opened_on started.opening.commands (g.faults old))) none (left_from is) in
+      (left.alone tt, left.faults)
+
+  pub ran_writable : (ran : Result Transcript Lack) → IfOk ran (HasAnsweredLanes basis lanes first closing)
+      → IfOk ran (λ (transcript : Transcript). All IsWritable transcript.lines)
+  ran_writable (Ok transcript) answered = lines_writable transcript answered
+  ran_writable (Err lack) answered = tt
+
+  pub ends_ran : (ran : Result Transcript Lack) (output : Stream) (ending : Ending) → IfOk ran (HasAnsweredLanes basis lanes first closing)
+      → OnErr ran (closing ≡ first) → EndsRan ran reports output ending → EndsScript g old disk lanes basis auditors output ending
+  ends_ran (Ok transcript) output ending answered same ends = ends_told transcript answered output ending ends
+  ends_ran (Err lack) output NoMemory answered same ends = let left = untouched same in inl (ends, left.0, left.1)
+  ends_ran (Err lack) output _ answered same ends = absurd ends
+
+-- what is known of an input that gave no script
+pub record StopsReading (input : Input) (unread : Unread) : Type 0 where
+  pub too_long : unread ≡ TooLong → GaveTooMany input
+  pub bad_row : (row field : ℕ) → unread ≡ BadRow row field → GaveBadRow input row field
+  pub fault : unread ≡ ReadFault → Rose input.faults_before input.faults_after
+
+-- what is known of a disk on which no office was opened gives the ending
+pub ends_unopened : {D : Type 0} (g : Ghosts D) (old new : D) (lanes : List Lane) (basis : List Dated) (auditors : List Auditor)
+    (output : Stream) (cause : StartCause) (ending : Ending) → HasNotOpened g old new cause → SaysUnopened cause output ending
+    → EndsScript g old new lanes basis auditors output ending
+ends_unopened g old new lanes basis auditors output (FaultyDisk count) DiskFault not said = (not.told.1, inl (said, not.alone))
+ends_unopened g old new lanes basis auditors output NotAJournal BadJournal not said = record { cause = NotAJournal; line = said; shown = not.shown; quiet = not.told; alone = not.alone }
+ends_unopened g old new lanes basis auditors output (BadRecord n) BadJournal not said = record { cause = BadRecord n; line = said; shown = not.shown; quiet = not.told; alone = not.alone }
+ends_unopened g old new lanes basis auditors output (BadRecord n) NoMemory not said = inl (said, not.alone, not.told)
+ends_unopened g old new lanes basis auditors output NoRoom NoMemory not said = inl (said, not.alone, not.told)
+ends_unopened g old new lanes basis auditors output _ _ not said = absurd said
+
+-- one that read none leaves the shelf and the disk
+pub ends_unread : {D : Type 0} (g : Ghosts D) (disk : D) (name : List ℕ) (auditors : List Auditor) (input : Input) (output : Stream)
+    (shelf : Shelving) (ShelfStays : Type 0) (unread : Unread) (ending : Ending) → ShelfStays → StopsReading input unread
+    → SaysUnread unread output ending → EndsRun g disk disk name auditors input output shelf ShelfStays ending
+ends_unread g disk name auditors input output shelf ShelfStays unread ending stays is says = inr (refl, stays, by unread ending is says)
+  where
+    by : (unread : Unread) (ending : Ending) → StopsReading input unread → SaysUnread unread output ending → EndsUnread input output ending
+    by TooLong BadScript is said = inl (is.too_long refl, said)
+    by (BadRow row field) BadScript is said = inr (row, (field, is.bad_row row field refl, said))
+    by (BadRow row field) NoMemory is said = said
+    by ReadFault InputFault is said = (is.fault refl, said)
+    by OutOfMemory NoMemory is said = said
+    by _ _ is said = absurd said

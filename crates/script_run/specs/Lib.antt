@@ -1,0 +1,4 @@
+pub mod Script
+pub mod Outcome
+pub mod Running
+pub mod inside

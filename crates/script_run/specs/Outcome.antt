@@ -1,0 +1,61 @@
+-- How a run ends that read its script: what was written, the history that the text tells of, and the disk
+use Rattle.std.specs.Prelude.{◌≡◌, ℕ, ◌⊎◌, List, ◌++◌, codes}
+use Rattle.basis_book.specs.Dated.{Dated}
+use Rattle.outside_io.specs.Faults.{Rose}
+use Rattle.outside_io.specs.Streams.{AppendsPart}
+use Rattle.outside_io.specs.declared.disks.Disk.{Ghosts}
+use Rattle.policy_types.specs.declared.command.Command.{Command}
+use Rattle.policy_types.specs.declared.entry.Entry.{Entry}
+use Rattle.policy_types.specs.declared.script.Lane.{Lane}
+use Rattle.policy_machine.specs.History.{IsLegal, accepted_of, opened_on}
+use Rattle.policy_machine.specs.Merge.{IsMerge}
+use Rattle.watcher_set.specs.Noted.{Auditor, reports_of}
+use Rattle.lane_runner.specs.AnsweredLines.{AnsweredLine, AreLinesOf}
+use Rattle.office_state.specs.Images.{IsLeftAlone, IsLeftBy}
+use Rattle.office_state.specs.Journals.{Opens}
+use Rattle.program_endings.specs.declared.ending.Ending.{Ending}
+use Rattle.program_endings.specs.declared.ending.Ending.TheVariants.{Done, BadJournal, WriteFault, DiskFault, NoMemory}
+use Rattle.program_endings.specs.Writing.{Stream, WroteAll, WroteNothing, WroteLine}
+use Rattle.program_endings.specs.Replies.{ArePins, AreAnswered, LackMemory, HaveAFault, AreAny}
+use Rattle.program_endings.specs.Refusals.{IsRefusedJournal}
+use Rattle.transcript_text.specs.Transcript.{IsTranscript, reports_text}
+
+-- The office was opened on the commands of the disk's file. The lanes' lines are answered once, in order, by a legal
+-- history from there. The text is that of the answered lines, then the reports that the auditors give of what was accepted.
+-- The disk holds what was accepted. The pins of the valuations that found no memory are dry.
+pub record IsRunOf {D : Type 0} (g : Ghosts D) (old new : D) (lanes : List Lane) (basis : List Dated)
+    (auditors : List Auditor) (Wrote : List ℕ → Type 0) (Replies : List Entry → List ℕ → Type 0) : Type 0 where
+  pub commands : List Command
+  pub callers : List ℕ
+  pub dry : List ℕ
+  pub history : List Entry
+  pub answered : List AnsweredLine
+  pub text : List ℕ
+  pub opened : g.honest new → Opens (g.reads old) commands
+  pub merge : IsMerge history lanes callers dry
+  pub legal : IsLegal (opened_on commands (g.faults old)) history
+  pub pins : ArePins history dry
+  pub lines : AreLinesOf answered history lanes callers dry
+  pub tells : IsTranscript (opened_on commands (g.faults old)) history basis dry answered text
+  pub wrote : Wrote (text ++ reports_text (reports_of auditors (accepted_of history)))
+  pub replies : Replies history dry
+  pub disk : IsLeftBy g old new (opened_on commands (g.faults old)) history
+
+-- How a run ends that read its script, and has the basis that it needs. The text is written whole unless the output failed,
+-- or there was no memory for it when the lanes had ended. Where no posting was made for want of memory, or no office was
+-- opened, the disk is left alone.
+abbrev pub EndsScript : {D : Type 0} → Ghosts D → D → D → List Lane → List Dated → List Auditor → Stream → Ending → Type 0
+EndsScript g old new lanes basis auditors output Done = IsRunOf g old new lanes basis auditors (WroteAll output) AreAnswered
+EndsScript g old new lanes basis auditors output BadJournal = IsRefusedJournal g old new output
+EndsScript g old new lanes basis auditors output WriteFault =
+    Rose output.faults_before output.faults_after
+    × IsRunOf g old new lanes basis auditors (AppendsPart output.before output.after) AreAny
+EndsScript g old new lanes basis auditors output DiskFault =
+    Rose (g.faults old) (g.faults new)
+    × ((WroteLine output (codes "diskfault") × IsLeftAlone g old new)
+    ⊎ IsRunOf g old new lanes basis auditors (WroteAll output) HaveAFault)
+EndsScript g old new lanes basis auditors output NoMemory =
+    (WroteLine output (codes "nomemory") × IsLeftAlone g old new × (g.faults new ≡ g.faults old))
+    ⊎ IsRunOf g old new lanes basis auditors (WroteNothing output) AreAny
+    ⊎ IsRunOf g old new lanes basis auditors (WroteAll output) LackMemory
+EndsScript g old new lanes basis auditors output _ = ⊥

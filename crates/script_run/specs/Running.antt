@@ -1,0 +1,63 @@
+-- How a run ends, with the script and the basis that it needs
+use Rattle.std.specs.Prelude.{◌≡◌, ℕ, ◌⊎◌, true, false, List, []}
+use Rattle.outside_io.specs.Shelves.{Files}
+use Rattle.outside_io.specs.declared.disks.Disk.{Ghosts}
+use Rattle.policy_types.specs.declared.script.Lane.{Lane}
+use Rattle.watcher_set.specs.Noted.{Auditor}
+use Rattle.basis_book.specs.Dated.{Dated}
+use Rattle.basis_shelf.specs.Bases.{IsBasis}
+use Rattle.program_endings.specs.WithoutBasis.{EndsNoBasis}
+use Rattle.program_endings.specs.Writing.{GaveAll, Input, Shelving, Stream}
+use Rattle.program_endings.specs.declared.ending.Ending.{Ending}
+use Rattle.script_run.specs.Outcome.{EndsScript}
+use Rattle.script_run.specs.Script.{EndsUnread, IsReadAs, asks_for_values}
+
+-- the shelf has this basis under the name, and a script's run ended so by it
+pub record EndsScriptBy {D : Type 0} (g : Ghosts D) (old new : D) (lanes : List Lane) (name : List ℕ) (auditors : List Auditor)
+    (shelf : Shelving) (output : Stream) (ending : Ending) : Type 0 where
+  pub basis : List Dated
+  pub is : (files : Files) → shelf.Agrees files → IsBasis files name basis
+  pub ends : EndsScript g old new lanes basis auditors output ending
+
+-- how a script's run ends that needs the basis of this name; where there is none, the disk isn't touched
+abbrev pub EndsByName : {D : Type 0} → Ghosts D → D → D → List Lane → List ℕ → List Auditor → Shelving → Stream → Ending
+    → Type 0
+EndsByName g old new lanes name auditors shelf output ending =
+    EndsScriptBy g old new lanes name auditors shelf output ending ⊎ ((new ≡ old) × EndsNoBasis name shelf output ending)
+
+-- How a script's run ends. Where no line asks for values, no basis is needed and the shelf stays.
+abbrev pub EndsLanes : {D : Type 0} → Ghosts D → D → D → List Lane → List ℕ → List Auditor → Shelving → Stream
+    → (ShelfStays : Type 0) → Ending → Type 0
+EndsLanes g old new lanes name auditors shelf output ShelfStays ending =
+    ((asks_for_values lanes ≡ false) × ShelfStays × EndsScript g old new lanes [] auditors output ending)
+    ⊎ ((asks_for_values lanes ≡ true) × EndsByName g old new lanes name auditors shelf output ending)
+
+-- what the input gave up to its end was read as a script, whose run ended so
+pub record EndsRead {D : Type 0} (g : Ghosts D) (old new : D) (name : List ℕ) (auditors : List Auditor)
+    (input : Input) (output : Stream) (shelf : Shelving) (ShelfStays : Type 0) (ending : Ending) : Type 0 where
+  pub bytes : List ℕ
+  pub gave : GaveAll input bytes
+  pub lanes : List Lane
+  pub read : IsReadAs bytes lanes
+  pub ends : EndsLanes g old new lanes name auditors shelf output ShelfStays ending
+
+-- a run that read no script leaves the shelf and the disk, and has nobody told
+abbrev pub EndsRun : {D : Type 0} → Ghosts D → D → D → List ℕ → List Auditor → Input → Stream → Shelving
+    → (ShelfStays : Type 0) → Ending → Type 0
+EndsRun g old new name auditors input output shelf ShelfStays ending =
+    EndsRead g old new name auditors input output shelf ShelfStays ending
+    ⊎ ((new ≡ old) × ShelfStays × EndsUnread input output ending)
+
+-- what the input gave up to its end was read as a script, a line of which asks for values
+pub record ReadsForValues (input : Input) : Type 0 where
+  pub bytes : List ℕ
+  pub gave : GaveAll input bytes
+  pub lanes : List Lane
+  pub read : IsReadAs bytes lanes
+  pub asks : asks_for_values lanes ≡ true
+
+-- where a line asks for values, files that the shelf's answers agree with have the basis of this name
+abbrev pub HasItsBasis : List Lane → List ℕ → Shelving → Type 0
+HasItsBasis lanes name shelf =
+    asks_for_values lanes ≡ true
+    → (files : Files) × ((basis : List Dated) × shelf.Agrees files × IsBasis files name basis)

@@ -1,0 +1,254 @@
+// A run of a script: the basis is fetched where a line asks for values, the office is opened, each lane of the script is run
+// by a caller of its own, the office is closed, then the transcript is written.
+ghost use Rattle.std.specs.Prelude.{◌≡◌, ℕ, ◌≤◌, [], All, IfOk, length};
+ghost use Rattle.std.specs.List.{list_any};
+ghost use Rattle.lane_runner.specs.Lanes.{is_value};
+ghost use Rattle.shared_office.specs.Offices.{IsOfficeHistory};
+ghost use Rattle.shared_office.specs.Starting.{HasStartedOffice};
+ghost use Rattle.turn_lock.specs.Passes.{PassFacts};
+ghost use Rattle.script_run.specs.Running.{EndsByName, EndsLanes, EndsRun};
+ghost use Rattle.script_run.specs.Outcome.{EndsScript};
+ghost use Rattle.script_run.specs.Script.{asks_for_values};
+ghost use Rattle.program_endings.specs.Writing.{between, input_between, shelf_between};
+ghost use Rattle.transcript_text.specs.Lanes.{AreScriptLanes};
+ghost use Rattle.script_run.specs.inside.Ran.{EndsRan, EndsTold};
+ghost use Rattle.transcript_text.specs.Told.{IsWritable};
+
+use crate::intake::read_lanes;
+use crate::refusing::refuse;
+use basis_book::{Basis, BasisRows, Name};
+use basis_shelf::fetch_basis;
+use indexmap::IndexMap;
+use lane_runner::{Transcript, TranscriptLine, run_lanes};
+use outside_io::{Disk, Gate, Shelf, Sink, Source, write_all};
+use policy_types::{Lane, Line, NoMemory, Report};
+use program_endings::{Ending, Finished, lack_memory, refuse_basis, refuse_journal};
+use shared_office::{Office, OfficeCalls, OfficePass, close};
+use std::alloc::Global;
+use std::sync::Wait;
+use std::thread::Threads;
+use transcript_text::{ending_of, transcript};
+use watcher_set::Watching;
+
+/// Reads a script, opens the office on the disk, answers the script's lines, and writes the transcript and what the
+/// watchers report of the accepted postings. The basis of the valuations is that of this name; where there are none the
+/// shelf isn't touched.
+pub fn run<
+    R: Threads + Wait + Sync,
+    S: Source,
+    K: Sink,
+    H: Shelf,
+    D: Disk + Send,
+    W: Watching + Send,
+    G: Gate + Sync,
+>(
+    rt: &R,
+    alloc: Global,
+    name: &Name,
+    input: &mut S,
+    output: &mut K,
+    shelf: &mut H,
+    disk: D,
+    watchers: W,
+    gate: &G,
+) -> Finished<D>
+    requires told { (before : ℕ) → W.told watchers before [] }
+    ensures ends { EndsRun D.Disk disk result.disk name.now (W.handed watchers) (input_between S.faults S.left S.given S.ended input.old input.new)
+        (between K.faults K.written output.old output.new) (shelf_between H.faults H.agrees shelf.old shelf.new)
+        (shelf.new ≡ shelf.old) result.ending }
+    ensures files { H.files shelf.new ≡ H.files shelf.old }
+{
+    match read_lanes(alloc, input) {
+        Ok(script) => {
+            let lanes = script.as_slice();
+            run_script(rt, alloc, name, lanes, output, shelf, disk, watchers, gate)
+        }
+        Err(unread) => Finished {
+            ending: refuse(alloc, unread, output),
+            disk,
+        },
+    }
+}
+
+// Runs the lanes of a script, with the basis that it needs.
+fn run_script<
+    R: Threads + Wait + Sync,
+    K: Sink,
+    H: Shelf,
+    D: Disk + Send,
+    W: Watching + Send,
+    G: Gate + Sync,
+>(
+    rt: &R,
+    alloc: Global,
+    name: &Name,
+    lanes: &[Lane],
+    output: &mut K,
+    shelf: &mut H,
+    disk: D,
+    watchers: W,
+    gate: &G,
+) -> Finished<D>
+    requires lanes { AreScriptLanes lanes.now }
+    requires told { (before : ℕ) → W.told watchers before [] }
+    ensures ends { EndsLanes D.Disk disk result.disk lanes.now name.now (W.handed watchers) (shelf_between H.faults H.agrees shelf.old shelf.new)
+        (between K.faults K.written output.old output.new) (shelf.new ≡ shelf.old) result.ending }
+    ensures files { H.files shelf.new ≡ H.files shelf.old }
+{
+    if needs_basis(lanes) {
+        return run_by_name(rt, alloc, name, lanes, output, shelf, disk, watchers, gate);
+    }
+    let basis = empty_basis(alloc);
+    run_by(rt, alloc, lanes, &basis, output, disk, watchers, gate)
+}
+
+// Runs lanes by the basis of this name.
+fn run_by_name<
+    R: Threads + Wait + Sync,
+    K: Sink,
+    H: Shelf,
+    D: Disk + Send,
+    W: Watching + Send,
+    G: Gate + Sync,
+>(
+    rt: &R,
+    alloc: Global,
+    name: &Name,
+    lanes: &[Lane],
+    output: &mut K,
+    shelf: &mut H,
+    disk: D,
+    watchers: W,
+    gate: &G,
+) -> Finished<D>
+    requires lanes { AreScriptLanes lanes.now }
+    requires told { (before : ℕ) → W.told watchers before [] }
+    ensures ends { EndsByName D.Disk disk result.disk lanes.now name.now (W.handed watchers) (shelf_between H.faults H.agrees shelf.old shelf.new)
+        (between K.faults K.written output.old output.new) result.ending }
+    ensures files { H.files shelf.new ≡ H.files shelf.old }
+{
+    match fetch_basis(alloc, name, shelf) {
+        Ok(basis) => run_by(rt, alloc, lanes, &basis, output, disk, watchers, gate),
+        Err(cause) => Finished {
+            ending: refuse_basis(alloc, cause, output),
+            disk,
+        },
+    }
+}
+
+// Runs lanes by a basis.
+fn run_by<R: Threads + Wait + Sync, K: Sink, D: Disk + Send, W: Watching + Send, G: Gate + Sync>(
+    rt: &R,
+    alloc: Global,
+    lanes: &[Lane],
+    basis: &Basis,
+    output: &mut K,
+    disk: D,
+    watchers: W,
+    gate: &G,
+) -> Finished<D>
+    requires lanes { AreScriptLanes lanes.now }
+    requires told { (before : ℕ) → W.told watchers before [] }
+    ensures ends { EndsScript D.Disk disk result.disk lanes.now basis.now (W.handed watchers)
+        (between K.faults K.written output.old output.new) result.ending }
+{
+    match Office::start(alloc, disk, watchers) {
+        Ok((office, pass)) => run_office(rt, alloc, lanes, basis, office, pass, output, gate),
+        Err(fault) => Finished {
+            ending: refuse_journal(alloc, fault.cause, output),
+            disk: fault.disk,
+        },
+    }
+}
+
+// Runs the lanes, closes the office, and writes the transcript.
+fn run_office<
+    R: Threads + Wait + Sync,
+    K: Sink,
+    D: Disk + Send,
+    W: Watching + Send,
+    G: Gate + Sync,
+>(
+    rt: &R,
+    alloc: Global,
+    lanes: &[Lane],
+    basis: &Basis,
+    office: Office<D, W>,
+    pass: OfficePass<D, W>,
+    output: &mut K,
+    gate: &G,
+) -> Finished<D>
+    requires lanes { AreScriptLanes lanes.now }
+    requires ours { pass.turnstile ≡ office }
+    requires started { (old : D) × ((watchers : W) × HasStartedOffice D.Disk old watchers pass) }
+    requires facts { PassFacts IsOfficeHistory pass }
+    ensures ends { (old : D) (watchers : W) → HasStartedOffice D.Disk old watchers pass
+        → EndsScript D.Disk old result.disk lanes.now basis.now (W.handed watchers)
+        (between K.faults K.written output.old output.new) result.ending }
+{
+    let mut pass = pass;
+    let ran = run_lanes(rt, alloc, &office, &mut pass, lanes, basis, gate);
+    let (disk, _, reports) = close(office, pass);
+    let ending = write_ran(alloc, ran, reports.as_slice(), output);
+    Finished { ending, disk }
+}
+
+// Writes what the lanes were answered and what the auditors report, or that there was no memory to run the lanes.
+fn write_ran<K: Sink>(
+    alloc: Global,
+    ran: Result<Transcript, NoMemory>,
+    reports: &[Report],
+    output: &mut K,
+) -> Ending
+    requires writable { IfOk ran (λ transcript. All IsWritable transcript.lines) }
+    requires few { length reports.now ≤ 16 }
+    ensures ends { EndsRan ran reports.now (between K.faults K.written output.old output.new) result }
+{
+    match ran {
+        Ok(transcript) => write_lines(alloc, transcript.lines.as_slice(), reports, output),
+        Err(_) => lack_memory(output),
+    }
+}
+
+fn write_lines<K: Sink>(
+    alloc: Global,
+    lines: &[TranscriptLine],
+    reports: &[Report],
+    output: &mut K,
+) -> Ending
+    requires writable { All IsWritable lines.now }
+    requires few { length reports.now ≤ 16 }
+    ensures ends { EndsTold lines.now reports.now (between K.faults K.written output.old output.new) result }
+{
+    let Ok(text) = transcript(alloc, lines, reports) else {
+        return Ending::NoMemory;
+    };
+    match write_all(output, text.as_slice()) {
+        Ok(()) => ending_of(lines),
+        Err(_) => Ending::WriteFault,
+    }
+}
+
+// Whether a line of a lane asks for values.
+fn needs_basis(lanes: &[Lane]) -> bool
+    ensures { result ≡ asks_for_values lanes.now }
+{
+    lanes.iter().any(|lane| has_value(lane.lines.as_slice()))
+}
+
+fn has_value(lines: &[Line]) -> bool
+    ensures { result ≡ list_any is_value lines.now }
+{
+    lines.iter().any(|line| matches!(*line, Line::Value { .. }))
+}
+
+// A basis without rows.
+fn empty_basis(alloc: Global) -> Basis
+    ensures { result ≡ [] }
+{
+    let rows = BasisRows::new(Vec::new(alloc));
+    let Ok(basis) = Basis::of(rows, IndexMap::new(alloc)) else {
+        unreachable!()
+    };
+    basis
+}

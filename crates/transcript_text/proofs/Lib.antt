@@ -1,0 +1,5 @@
+pub mod RefusalSteps
+pub mod AnswerSteps
+pub mod TextSteps
+pub mod ToldSteps
+pub mod Telling

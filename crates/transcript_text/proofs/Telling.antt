@@ -1,0 +1,280 @@
+-- What is told of the lanes that were run, against the history of their office
+use Rattle.std.proofs.Common.{◌≡◌, ◌⊎◌, ℕ, ◌-◌, ◌==◌, Bool, true, false, List, [], ◌∷◌, ◌++◌, map, take, Some, refl, ap, sym, ◌∙◌, subst, inl, inr, arith}
+use Rattle.std.specs.Prelude.{All, slice_get}
+use Rattle.std.specs.List.{AllByRecursion, AllZip, Contains, enumerate_from}
+use Rattle.std.proofs.lemmas.Bool.{eq-eqb}
+use Rattle.std.proofs.lemmas.List.Elements.{All-from_recursion}
+use Rattle.basis_book.specs.Dated.{Dated}
+use Rattle.policy_types.specs.declared.command.Command.{Command}
+use Rattle.policy_types.specs.declared.entry.Call.{Call}
+use Rattle.policy_types.specs.declared.entry.Call.TheVariants.{Post as PostCall}
+use Rattle.policy_types.specs.declared.entry.Entry.{Entry}
+use Rattle.policy_types.specs.declared.entry.Reply.{Reply}
+use Rattle.policy_types.specs.declared.entry.Reply.TheVariants.{Faulted}
+use Rattle.policy_types.specs.declared.script.Line.{Line}
+use Rattle.policy_types.specs.declared.script.Line.TheVariants.{Post}
+use Rattle.policy_types.specs.declared.script.Lane.{Lane}
+use Rattle.policy_machine.specs.History.{IsDue, commands_after}
+use Rattle.policy_machine.specs.Merge.{AnswersLine, IsMerge, Placed}
+use Rattle.command_csv.specs.Reads.{IsScriptLine}
+use Rattle.office_state.specs.Images.{HasFaulted}
+use Rattle.office_state.specs.Posting.{reply_of}
+use Rattle.office_state.specs.declared.answer.Answer.{Answer}
+use Rattle.shared_office.specs.Offices.{IsOfficeHistory, OfficeOpening}
+use Rattle.turn_lock.specs.History.{entries_of}
+use Rattle.turn_lock.specs.Passes.{Holding, IsFirst, OwnsAll, Page, PassFacts, callers as numbers_of}
+use Rattle.lane_runner.specs.AnsweredLines.{AnsweredLine, turns_in}
+use Rattle.policy_types.specs.Lanes.{lines_in}
+use Rattle.lane_runner.specs.Transcripts.{HasAnsweredLanes, IsOutcome, IsTold as IsToldOf, dry_of, lacked_memory}
+use Rattle.lane_runner.specs.declared.transcript.TranscriptLine.{TranscriptLine}
+use Rattle.lane_runner.specs.declared.transcript.Transcript.{Transcript}
+use Rattle.program_endings.specs.Replies.{ArePins, HasBlank, IsAnswered, IsPinned, IsUnfaulted}
+use Rattle.program_endings.proofs.ListSteps.{Has, all_has, any_none, any_some, contains_of_has, has_enumerate, has_filter, has_map, has_of_contains, of_all, of_enumerate, of_filter, of_map, parted, zip_left, zip_right, same_opened}
+use Rattle.program_endings.proofs.TurnSteps.{due_at, posted_first, posts, quiet_reply, unfaulted_if_answered}
+use Rattle.transcript_text.specs.Transcript.{IsTranscript}
+use Rattle.transcript_text.specs.Lanes.{AreScriptLanes}
+use Rattle.transcript_text.specs.Told.{IsToldAnswer, IsWritable, IsWritableOutcome, any_faulted, any_lacked, has_faulted, lacks_memory, told_texts}
+use Rattle.transcript_text.proofs.AnswerSteps.{is_told}
+use Rattle.transcript_text.proofs.TextSteps.{transcript_of}
+use Rattle.transcript_text.proofs.ToldSteps.{line_turn, line_in, turn_line, page_numbers, valid_front, outcome_writable, lacked_pin, told_fault, told_unfaulted, told_answered, lacked_which, not_lacked, told_blank, post_call}
+
+-- what is known of lanes that were run, once their office is closed
+pub record Telling {D W : Type 0} (basis : List Dated) (lanes : List Lane) (closing : Holding (OfficeOpening D W)) (transcript : Transcript)
+    (opened : OfficeOpening D W) (shown : List AnsweredLine) : Type 0 where
+  pub opening : closing.opening ≡ Some opened
+  pub history : IsOfficeHistory opened closing.seen
+  pub merge : IsMerge closing.seen lanes transcript.callers (dry_of transcript.lines)
+  pub writable : All IsWritable transcript.lines
+  pub tells : IsTranscript opened.opening closing.seen basis (dry_of transcript.lines) shown (told_texts transcript.lines)
+  pub pins : ArePins closing.seen (dry_of transcript.lines)
+  pub none_dry : any_lacked transcript.lines ≡ false → dry_of transcript.lines ≡ []
+  pub some_lacked : any_lacked transcript.lines ≡ true → HasBlank closing.seen ⊎ ((pin : ℕ) × Contains (dry_of transcript.lines) pin)
+  pub fault : any_faulted transcript.lines ≡ true → (command : Command) × HasFaulted closing.seen command
+  pub unfaulted : any_faulted transcript.lines ≡ false → AllByRecursion (λ (entry : Entry). IsUnfaulted entry.reply) closing.seen
+  pub answered : any_faulted transcript.lines ≡ false → any_lacked transcript.lines ≡ false
+      → AllByRecursion (λ (entry : Entry). IsAnswered entry.reply) closing.seen
+
+module _ {D W : Type 0} (basis : List Dated) (lanes : List Lane) (first closing : Holding (OfficeOpening D W)) (transcript : Transcript)
+    (opened : OfficeOpening D W) (ran : HasAnsweredLanes basis lanes first closing transcript) (is_first : IsFirst opened first)
+    (facts : PassFacts IsOfficeHistory closing) (whole : OwnsAll closing) (script : AreScriptLanes lanes) where
+  abbrev history : List Entry
+  history = closing.seen
+
+  abbrev dry : List ℕ
+  dry = dry_of transcript.lines
+
+  closing_opened : closing.opening ≡ Some opened
+  closing_opened = ran.pass.opening ∙ is_first.opened
+
+  is_history : IsOfficeHistory opened closing.seen
+  is_history =
+      let lawful = facts.lawful in
+      let same : lawful.0 ≡ opened = same_opened lawful.0 opened (sym lawful.1 ∙ closing_opened) in
+      subst (λ (o : OfficeOpening D W). IsOfficeHistory o closing.seen) same lawful.2
+
+  told : AllZip (IsToldOf opened.opening closing.seen basis) ran.answered transcript.lines
+  told =
+      let same : ran.opened ≡ opened = same_opened ran.opened opened (sym ran.opening ∙ closing_opened) in
+      subst (λ (o : OfficeOpening D W). AllZip (IsToldOf o.opening closing.seen basis) ran.answered transcript.lines) same ran.told
+
+  all_callers : numbers_of closing ≡ 0 ∷ transcript.callers
+  all_callers =
+      let number : closing.caller ≡ 0 = ran.pass.caller ∙ is_first.caller in
+      let ended : closing.ended ≡ map (λ n. (n, entries_of closing.seen n)) transcript.callers =
+      ran.pass.ended ∙ ap (λ (ps : List Page). ps ++ map (λ n. (n, entries_of closing.seen n)) transcript.callers) is_first.ended in
+      let numbers : map (λ (page : Page). page.0) closing.ended ≡ transcript.callers =
+      ap (map (λ (page : Page). page.0)) ended ∙ page_numbers closing.seen transcript.callers in
+      λ i. number i ∷ numbers i
+
+  none_own : entries_of closing.seen 0 ≡ []
+  none_own =
+      subst (λ n. entries_of closing.seen n ≡ []) is_first.caller
+      (ran.pass.own ∙ ap (λ (es : List Entry). entries_of es first.caller) is_first.seen)
+
+  theirs : (entry : Entry) → Has closing.seen entry → Has transcript.callers entry.caller
+  theirs entry has = by among
+    where
+      among : Has (0 ∷ transcript.callers) entry.caller
+      among = has_of_contains (0 ∷ transcript.callers) entry.caller
+          (subst (λ (ns : List ℕ). Contains ns entry.caller) all_callers (of_all (λ (e : Entry). Contains (numbers_of closing) e.caller) closing.seen entry whole has))
+
+      by : Has (0 ∷ transcript.callers) entry.caller → Has transcript.callers entry.caller
+      by (inl same) = absurd (subst (λ (es : List Entry). Has es entry) none_own
+          (has_filter (λ (e : Entry). e.caller == 0) closing.seen entry (eq-eqb entry.caller 0 (sym same)) has))
+      by (inr later) = later
+
+  merge : IsMerge closing.seen lanes transcript.callers dry
+  merge = record {
+    distinct = ran.pass.distinct;
+    theirs = all_has (λ (entry : Entry). Contains transcript.callers entry.caller) closing.seen
+        (λ entry has. contains_of_has transcript.callers entry.caller (theirs entry has));
+    answers = ran.answers;
+  }
+
+  clerk_of : (one : AnsweredLine) → Has ran.answered one → Has (map (λ (lane : Lane). lane.number) lanes) one.clerk
+  clerk_of one has = has_of_contains (map (λ (lane : Lane). lane.number) lanes) one.clerk
+      (of_all (λ (one : AnsweredLine). Contains (map (λ (lane : Lane). lane.number) lanes) one.clerk) ran.answered one ran.lines.clerks has)
+
+  placed : (one : AnsweredLine) → Has ran.answered one → slice_get closing.seen one.first.0 ≡ Some one.first.1
+  placed one has =
+      let by_caller = line_turn ran.answered closing.seen lanes transcript.callers one one.first ran.lines.each (clerk_of one has) has (inl refl) in
+      let kept = of_filter (λ (turn : Placed). turn.1.caller == by_caller.0) (enumerate_from 0 closing.seen) one.first by_caller.1 in
+      let there = of_enumerate 0 closing.seen one.first.0 one.first.1 kept.0 in
+      let none : one.first.0 - 0 ≡ one.first.0 = omega arith in
+      subst (λ k. slice_get closing.seen k ≡ Some one.first.1) none there.1
+
+  answers : (one : AnsweredLine) → Has ran.answered one → AnswersLine dry one.line (one.first ∷ one.rest)
+  answers one has = of_all (λ (one : AnsweredLine). AnswersLine dry one.line (turns_in one)) ran.answered one ran.lines.turns has
+
+  due : (k : ℕ) (entry : Entry) → slice_get closing.seen k ≡ Some entry → IsDue opened.opening (take k closing.seen) entry.caller entry.call entry.reply
+  due k entry there = due_at opened.opening [] closing.seen k entry is_history.legal.due there
+
+  -- the answers to postings can be written
+  can_tell : (one : AnsweredLine) → Has ran.answered one → (command : Command) (answer : Answer) → one.line ≡ Post command
+      → one.first.1.reply ≡ reply_of answer → IsToldAnswer answer
+  can_tell one has command answer posts_it is =
+      let there = placed one has in
+      let call : one.first.1.call ≡ PostCall command = post_call dry one.line one.first one.rest command (answers one has) posts_it in
+      let due_there = subst (λ (c : Call). IsDue opened.opening (take one.first.0 closing.seen) one.first.1.caller c one.first.1.reply) call (due one.first.0 one.first.1 there) in
+      let told_due = subst (λ (r : Reply). IsDue opened.opening (take one.first.0 closing.seen) one.first.1.caller (PostCall command) r) is due_there in
+      is_told opened.opening (take one.first.0 closing.seen) one.first.1.caller command answer
+      (valid_front opened.opening closing.seen one.first.0 is_history.valid) told_due
+
+  writable : All IsWritable transcript.lines
+  writable = All-from_recursion IsWritable transcript.lines (all_has IsWritable transcript.lines one_writable)
+    where
+      one_writable : (line : TranscriptLine) → Has transcript.lines line → IsWritable line
+      one_writable line has =
+          let pair = zip_right (IsToldOf opened.opening closing.seen basis) ran.answered transcript.lines line told has in
+          let one = pair.0 in
+          let right = of_all IsScriptLine (lines_in lanes) one.line script.lines
+          (line_in ran.answered closing.seen lanes transcript.callers one ran.lines.each (clerk_of one pair.1) pair.1) in
+          subst (λ (l : Line). IsWritableOutcome l line.outcome) (sym pair.2.line)
+          (outcome_writable one.line one.first.1.reply line.outcome (commands_after opened.opening (take one.first.0 closing.seen)) basis pair.2.outcome right
+          (can_tell one pair.1))
+
+  tells : IsTranscript opened.opening closing.seen basis dry ran.answered (told_texts transcript.lines)
+  tells = transcript_of opened.opening closing.seen basis dry ran.answered transcript.lines told ran.dry
+
+  pins : ArePins closing.seen dry
+  pins = all_has (λ (n : ℕ). (entry : Entry) × (slice_get closing.seen n ≡ Some entry) × IsPinned entry.reply) dry one_pin
+    where
+      one_pin : (n : ℕ) → Has dry n → (entry : Entry) × (slice_get closing.seen n ≡ Some entry) × IsPinned entry.reply
+      one_pin n has =
+          let from = of_map (λ (line : TranscriptLine). line.turn) _ n has in
+          let kept = of_filter (λ (line : TranscriptLine). lacked_memory line.outcome) transcript.lines from.0 from.1 in
+          let pair = zip_right (IsToldOf opened.opening closing.seen basis) ran.answered transcript.lines from.0 told kept.0 in
+          let one = pair.0 in
+          let place : one.first.0 ≡ n = sym pair.2.turn ∙ from.2 in (
+            one.first.1,
+            subst (λ k. slice_get closing.seen k ≡ Some one.first.1) place (placed one pair.1),
+            lacked_pin one.line one.first.1.reply from.0.outcome (commands_after opened.opening (take one.first.0 closing.seen)) basis pair.2.outcome kept.1,
+          )
+
+  -- the endings
+  none_dry : any_lacked transcript.lines ≡ false → dry ≡ []
+  none_dry none = by transcript.lines (any_none (λ (line : TranscriptLine). lacks_memory line.outcome) transcript.lines none)
+    where
+      by : (lines : List TranscriptLine) → AllByRecursion (λ (line : TranscriptLine). lacks_memory line.outcome ≡ false) lines → dry_of lines ≡ []
+      by [] none = refl
+      by (line ∷ lines) none = rw (not_lacked line.outcome none.0) (by lines none.1)
+
+  some_lacked : any_lacked transcript.lines ≡ true → HasBlank closing.seen ⊎ ((pin : ℕ) × Contains dry pin)
+  some_lacked some =
+      let line = any_some (λ (line : TranscriptLine). lacks_memory line.outcome) transcript.lines some in
+      let pair = zip_right (IsToldOf opened.opening closing.seen basis) ran.answered transcript.lines line.0 told line.1 in
+      let one = pair.0 in
+      elim (lacked_which line.0.outcome line.2) [
+        | inl posted ↦ inl (
+          one.first.0,
+          (
+            one.first.1,
+            placed one pair.1,
+            told_blank one.line one.first.1.reply (commands_after opened.opening (take one.first.0 closing.seen)) basis
+                (subst (IsOutcome (commands_after opened.opening (take one.first.0 closing.seen)) basis one.line one.first.1.reply) posted pair.2.outcome),
+          ),
+        )
+        | inr valued ↦
+            let kept = has_filter (λ (line : TranscriptLine). lacked_memory line.outcome) transcript.lines line.0 valued line.1 in
+            inr (line.0.turn, contains_of_has dry line.0.turn (has_map (λ (line : TranscriptLine). line.turn) _ line.0 kept))
+      ]
+
+  a_fault : any_faulted transcript.lines ≡ true → (command : Command) × HasFaulted closing.seen command
+  a_fault some =
+      let line = any_some (λ (line : TranscriptLine). has_faulted line.outcome) transcript.lines some in
+      let pair = zip_right (IsToldOf opened.opening closing.seen basis) ran.answered transcript.lines line.0 told line.1 in
+      let one = pair.0 in
+      let fault = told_fault one.line one.first.1.reply line.0.outcome (commands_after opened.opening (take one.first.0 closing.seen)) basis pair.2.outcome line.2 in
+      let there = placed one pair.1 in
+      let parts = parted closing.seen one.first.0 one.first.1 there in
+      let call = post_call dry one.line one.first one.rest fault.0 (answers one pair.1) fault.1.1 in
+      let entry : one.first.1 ≡ record { caller = one.first.1.caller; call = PostCall fault.0; reply = Faulted fault.1.0 } =
+      ap (λ (c : Call). let made : Entry = record { caller = one.first.1.caller; call = c; reply = one.first.1.reply } in made) call
+      ∙ ap (λ (r : Reply). let made : Entry = record { caller = one.first.1.caller; call = PostCall fault.0; reply = r } in made) fault.1.2 in (
+        fault.0,
+        (
+          parts.0,
+          record {
+            before = take one.first.0 closing.seen;
+            caller = one.first.1.caller;
+            count = fault.1.0;
+            turns = parts.1 ∙ ap (λ (e : Entry). take one.first.0 closing.seen ++ e ∷ parts.0) entry;
+          },
+        ),
+      )
+
+  -- what holds of every reply to another call, and of what is told of every posting, holds of all replies
+  each_reply : (P : Reply → Type 0) → ((reply : Reply) → IsAnswered reply → P reply)
+      → ((command : Command) (reply : Reply) (line : TranscriptLine) (commands : List Command) → Has transcript.lines line
+      → IsOutcome commands basis (Post command) reply line.outcome → P reply)
+      → AllByRecursion (λ (entry : Entry). P entry.reply) closing.seen
+  each_reply P others postings = all_has (λ (entry : Entry). P entry.reply) closing.seen (λ entry has. one entry has (posts entry.call) refl)
+    where
+      one : (entry : Entry) → Has closing.seen entry → (b : Bool) → posts entry.call ≡ b → P entry.reply
+      one entry has false quiet =
+          let place = has_enumerate 0 closing.seen entry has in
+          let there = of_enumerate 0 closing.seen place.0 entry place.1 in
+          others entry.reply
+          (quiet_reply opened.opening (take (place.0 - 0) closing.seen) entry.caller entry.call entry.reply (due (place.0 - 0) entry there.1) quiet)
+      one entry has true posted =
+          let of_line = turn_line ran.answered closing.seen lanes transcript.callers entry ran.lines.each (theirs entry has) has in
+          let line = of_line.0 in
+          let is_first_turn = posted_first dry line.line line.first line.rest (of_line.2.0, entry) (answers line of_line.1) of_line.2.1 posted in
+          let same : line.first.1 ≡ entry = ap (λ (t : Placed). t.1) is_first_turn.0 in
+          let pair = zip_left (IsToldOf opened.opening closing.seen basis) ran.answered transcript.lines line told of_line.1 in
+          let commands = commands_after opened.opening (take line.first.0 closing.seen) in
+          let outcome = subst (λ (l : Line). IsOutcome commands basis l line.first.1.reply pair.0.outcome) is_first_turn.1.1 pair.2.outcome in
+          let here = subst (λ (e : Entry). IsOutcome commands basis (Post is_first_turn.1.0) e.reply pair.0.outcome) same outcome in
+          postings is_first_turn.1.0 entry.reply pair.0 commands pair.1 here
+
+  unfaulted : any_faulted transcript.lines ≡ false → AllByRecursion (λ (entry : Entry). IsUnfaulted entry.reply) closing.seen
+  unfaulted whole =
+      let none = any_none (λ (l : TranscriptLine). has_faulted l.outcome) transcript.lines whole in
+      each_reply IsUnfaulted unfaulted_if_answered
+      (λ command reply line commands has is. told_unfaulted command reply line.outcome commands basis is
+      (of_all (λ (l : TranscriptLine). has_faulted l.outcome ≡ false) transcript.lines line none has))
+
+  answered : any_faulted transcript.lines ≡ false → any_lacked transcript.lines ≡ false
+      → AllByRecursion (λ (entry : Entry). IsAnswered entry.reply) closing.seen
+  answered whole found =
+      let none = any_none (λ (l : TranscriptLine). has_faulted l.outcome) transcript.lines whole in
+      let none_lacked = any_none (λ (l : TranscriptLine). lacks_memory l.outcome) transcript.lines found in
+      each_reply IsAnswered (λ reply is. is)
+      (λ command reply line commands has is. told_answered command reply line.outcome commands basis is
+      (of_all (λ (l : TranscriptLine). has_faulted l.outcome ≡ false) transcript.lines line none has)
+      (of_all (λ (l : TranscriptLine). lacks_memory l.outcome ≡ false) transcript.lines line none_lacked has))
+
+  pub telling : Telling basis lanes closing transcript opened ran.answered
+  telling = record {
+    opening = closing_opened;
+    history = is_history;
+    merge = merge;
+    writable = writable;
+    tells = tells;
+    pins = pins;
+    none_dry = none_dry;
+    some_lacked = some_lacked;
+    fault = a_fault;
+    unfaulted = unfaulted;
+    answered = answered;
+  }

@@ -1,0 +1,93 @@
+-- What answers can be written, the text of what is told of answered lines, and what it tells of the run
+use Rattle.std.specs.Prelude.{◌<◌, ℕ, ◌^◌, Bool, true, false, List, [], ◌++◌}
+use Rattle.std.specs.List.{flat_map, list_any}
+use Rattle.policy_types.specs.declared.refusal.Refusal.{Refusal}
+use Rattle.policy_types.specs.declared.refusal.Refusal.TheVariants.{Taken, Unknown, BeforeLast, WrongStatus, TermOver, NothingDue, TooEarly, GraceOver, NotInArrears, TooLate, WrongAmount, NotAReduction, NotMatured, OverSettled, Full}
+use Rattle.policy_types.specs.declared.script.Line.{Line}
+use Rattle.policy_types.specs.declared.script.Line.TheVariants.{Post, Value, Trim}
+use Rattle.policy_types.specs.declared.watcher.Report.{Report}
+use Rattle.life_dates.specs.Calendar.{IsDay, IsTermDay}
+use Rattle.office_state.specs.declared.answer.Answer.{Answer}
+use Rattle.office_state.specs.declared.answer.Answer.TheVariants.{Refused, DiskFault, NoMemory}
+use Rattle.office_state.specs.Posting.{reply_of}
+use Rattle.report_text.specs.Block.{block_text}
+use Rattle.lane_runner.specs.declared.transcript.TranscriptLine.{TranscriptLine}
+use Rattle.lane_runner.specs.declared.transcript.Outcome.{Outcome}
+use Rattle.lane_runner.specs.declared.transcript.Outcome.TheVariants.{Posted, Trimmed, Valued, ValueRefused, ValueNoMemory}
+use Rattle.program_endings.specs.Blocks.{IsWritableBlock}
+use Rattle.transcript_text.specs.Transcript.{posting_text, reports_text, trim_text, unpinned_text, unvalued_text}
+
+-- the day or amount of the refusal can be written
+abbrev pub IsPrintable : Refusal → Type 0
+IsPrintable Taken = Unit {0}
+IsPrintable Unknown = Unit {0}
+IsPrintable (BeforeLast last) = IsTermDay last
+IsPrintable (WrongStatus status) = Unit {0}
+IsPrintable (TermOver end) = IsTermDay end
+IsPrintable NothingDue = Unit {0}
+IsPrintable (TooEarly due) = IsTermDay due
+IsPrintable (GraceOver due) = IsTermDay due
+IsPrintable (NotInArrears due) = IsTermDay due
+IsPrintable (TooLate limit) = IsTermDay limit
+IsPrintable (WrongAmount amount) = amount < 2 ^ 63
+IsPrintable (NotAReduction amount) = amount < 2 ^ 63
+IsPrintable (NotMatured end) = IsTermDay end
+IsPrintable (OverSettled outstanding) = outstanding < 2 ^ 63
+IsPrintable Full = Unit {0}
+
+-- a refusal can be written
+abbrev pub IsToldAnswer : Answer → Type 0
+IsToldAnswer (Refused refusal) = IsPrintable refusal
+IsToldAnswer _ = Unit {0}
+
+-- what is told of a line can be written
+abbrev pub IsWritableOutcome : Line → Outcome → Type 0
+IsWritableOutcome (Post command) (Posted answer) = IsToldAnswer answer
+IsWritableOutcome Trim (Trimmed floor) = Unit {0}
+IsWritableOutcome (Value on at workers) (Valued valuation) = IsDay on × IsWritableBlock valuation
+IsWritableOutcome (Value on at workers) (ValueRefused refusal) = IsDay on
+IsWritableOutcome (Value on at workers) ValueNoMemory = IsDay on
+IsWritableOutcome _ _ = ⊥
+
+abbrev pub IsWritable : TranscriptLine → Type 0
+IsWritable told = IsWritableOutcome told.line told.outcome
+
+-- the text of what is told of a clerk's line
+abbrev pub outcome_text : ℕ → Line → Outcome → List ℕ
+outcome_text clerk (Post command) (Posted answer) = posting_text clerk command (reply_of answer)
+outcome_text clerk Trim (Trimmed floor) = trim_text clerk floor
+outcome_text clerk (Value on at workers) (Valued valuation) = block_text clerk on valuation.position valuation.rows
+outcome_text clerk (Value on at workers) (ValueRefused refusal) = unpinned_text clerk on refusal
+outcome_text clerk (Value on at workers) ValueNoMemory = unvalued_text clerk on
+outcome_text clerk _ _ = []
+
+abbrev pub told_text : TranscriptLine → List ℕ
+told_text told = outcome_text told.lane told.line told.outcome
+
+abbrev pub told_texts : List TranscriptLine → List ℕ
+told_texts lines = flat_map told_text lines
+
+-- the text of a run: what is told of the lines, then the auditors' reports
+abbrev pub run_text : List TranscriptLine → List Report → List ℕ
+run_text lines reports = told_texts lines ++ reports_text reports
+
+abbrev pub is_faulted : Answer → Bool
+is_faulted (DiskFault count) = true
+is_faulted _ = false
+
+-- the disk failed in the line's posting
+abbrev pub has_faulted : Outcome → Bool
+has_faulted (Posted answer) = is_faulted answer
+has_faulted _ = false
+
+abbrev pub any_faulted : List TranscriptLine → Bool
+any_faulted lines = list_any (λ (told : TranscriptLine). has_faulted told.outcome) lines
+
+-- memory was lacking for the line's posting, or for its valuation
+abbrev pub lacks_memory : Outcome → Bool
+lacks_memory (Posted NoMemory) = true
+lacks_memory ValueNoMemory = true
+lacks_memory _ = false
+
+abbrev pub any_lacked : List TranscriptLine → Bool
+any_lacked lines = list_any (λ (told : TranscriptLine). lacks_memory told.outcome) lines

@@ -1,0 +1,132 @@
+-- What a load's turns and answers are
+use Rattle.std.proofs.Common.{◌≡◌, ℕ, zero, suc, Bool, false, cond, List, [], ◌∷◌, ◌++◌, map, Some, Ok, Err, refl, ap, sym, ◌∙◌, subst, arith, append-nil, append_assoc}
+use Rattle.std.specs.Prelude.{slice_get}
+use Rattle.std.specs.List.{AllByRecursion, AllZip}
+use Rattle.std.proofs.lemmas.Bool.{cond-false, false≢true}
+use Rattle.std.proofs.lemmas.List.{take_all}
+use Rattle.std.proofs.lemmas.List.Sums.{sum_by-cons}
+use Rattle.basis_book.specs.Dated.{Dated}
+use Rattle.policy_types.specs.declared.command.Command.{Command}
+use Rattle.policy_types.specs.declared.entry.Call.{Call}
+use Rattle.policy_types.specs.declared.entry.Call.TheVariants.{Post as PostCall, Pin as PinCall, PinAt, Read, Unpin, Trim as TrimCall}
+use Rattle.policy_types.specs.declared.entry.Entry.{Entry}
+use Rattle.policy_types.specs.declared.entry.PinRefusal.{PinRefusal}
+use Rattle.policy_types.specs.declared.entry.Reply.{Reply}
+use Rattle.policy_types.specs.declared.entry.Reply.TheVariants.{Accepted, Refused, Faulted, Pinned, PinRefused, Slice, Unpinned, Floor, Blank}
+use Rattle.policy_types.specs.declared.script.Line.TheVariants.{Post}
+use Rattle.policy_machine.specs.Book.{book}
+use Rattle.policy_machine.specs.History.{Opening, IsDue, IsLegalAfter, commands_after}
+use Rattle.snapshot_value.specs.Valuing.{AnswersPin as IsValueAnswer, IsValuedRow}
+use Rattle.snapshot_value.specs.declared.valuation.Valuation.{Valuation}
+use Rattle.snapshot_value.specs.declared.valuation.ValueFault.TheVariants.{Pin as NoPin, NoMemory as NoValues}
+use Rattle.lane_runner.specs.Transcripts.{IsOutcome, dry_of, lacked_memory}
+use Rattle.lane_runner.specs.declared.transcript.TranscriptLine.{TranscriptLine}
+use Rattle.lane_runner.specs.declared.transcript.Outcome.{Outcome}
+use Rattle.lane_runner.specs.declared.transcript.Outcome.TheVariants.{Posted, Trimmed, Valued, ValueRefused, ValueNoMemory}
+use Rattle.program_endings.specs.Replies.{IsAnswered, IsPinned}
+use Rattle.program_endings.specs.Blocks.{IsWritableBlock}
+use Rattle.program_endings.proofs.QuietTurns.{ArePostless}
+use Rattle.program_endings.proofs.TurnSteps.{posts, quiet_reply}
+use Rattle.program_endings.proofs.BlockSteps.{block_writable}
+use Rattle.trial_load.specs.Loading.{is_refusal, load_day, refused_in}
+
+-- turns that post nothing are answered
+pub legal_back : (opening : Opening) (before xs ys : List Entry) → IsLegalAfter opening before (xs ++ ys) → IsLegalAfter opening (before ++ xs) ys
+legal_back opening before [] ys legal = subst (λ (b : List Entry). IsLegalAfter opening b ys) (sym (append-nil before)) legal
+legal_back opening before (x ∷ xs) ys legal =
+    subst (λ (b : List Entry). IsLegalAfter opening b ys) (append_assoc before (x ∷ []) xs) (legal_back opening (before ++ x ∷ []) xs ys legal.1)
+
+pub legal_front : (opening : Opening) (before xs ys : List Entry) → IsLegalAfter opening before (xs ++ ys) → IsLegalAfter opening before xs
+legal_front opening before [] ys legal = tt
+legal_front opening before (x ∷ xs) ys legal = (legal.0, legal_front opening (before ++ x ∷ []) xs ys legal.1)
+
+pub answered_turns : (opening : Opening) (before history : List Entry) → IsLegalAfter opening before history → ArePostless history
+    → AllByRecursion (λ (entry : Entry). IsAnswered entry.reply) history
+answered_turns opening before [] legal quiet = tt
+answered_turns opening before (entry ∷ history) legal quiet = (
+  quiet_reply opening before entry.caller entry.call entry.reply legal.0 quiet.0,
+  answered_turns opening (before ++ entry ∷ []) history legal.1 quiet.1,
+)
+
+not_refused : (call : Call) (reply : Reply) → posts call ≡ false → is_refusal call reply ≡ false
+not_refused (PostCall command) reply quiet = absurd (false≢true (sym quiet))
+not_refused PinCall reply quiet = refl
+not_refused (PinAt p) reply quiet = refl
+not_refused (Read pin first) reply quiet = refl
+not_refused (Unpin pin) reply quiet = refl
+not_refused TrimCall reply quiet = refl
+
+pub none_refused : (history : List Entry) → ArePostless history → refused_in history ≡ 0
+none_refused [] quiet = refl
+none_refused (entry ∷ history) quiet =
+    let first = ap {B = ℕ} (λ (b : Bool). cond b 1 0) (not_refused entry.call entry.reply quiet.0) in
+    let rest = none_refused history quiet.1 in
+    let whole = sum_by-cons (λ (entry : Entry). cond (is_refusal entry.call entry.reply) 1 0) entry history in
+    omega (arith, first, rest, whole)
+
+pub in_front : (xs ys : List Entry) (n : ℕ) (entry : Entry) → slice_get xs n ≡ Some entry → slice_get (xs ++ ys) n ≡ Some entry
+in_front [] ys n entry there = absurd (cc)
+in_front (x ∷ xs) ys zero entry there = there
+in_front (x ∷ xs) ys (suc n) entry there = in_front xs ys n entry there
+
+-- a valuation that found no memory was pinned
+pub pinned_if_dry : (commands : List Command) (basis : List Dated) (reply : Reply) → IsValueAnswer commands basis load_day reply (Err NoValues) → IsPinned reply
+pinned_if_dry commands basis (Pinned position policies) is = tt
+pinned_if_dry commands basis (PinRefused refusal) is = absurd is
+pinned_if_dry commands basis (Accepted position) is = absurd is
+pinned_if_dry commands basis (Refused refusal) is = absurd is
+pinned_if_dry commands basis (Faulted count) is = absurd is
+pinned_if_dry commands basis (Slice policies) is = absurd is
+pinned_if_dry commands basis Unpinned is = absurd is
+pinned_if_dry commands basis (Floor floor) is = absurd is
+pinned_if_dry commands basis Blank is = absurd is
+
+-- one whose pin was refused
+pub refused_pin : (commands : List Command) (basis : List Dated) (reply : Reply) (why : PinRefusal) → IsValueAnswer commands basis load_day reply (Err (NoPin why))
+    → (refusal : PinRefusal) × (reply ≡ PinRefused refusal)
+refused_pin commands basis (PinRefused refusal) why is = (refusal, refl)
+refused_pin commands basis (Pinned position policies) why is = absurd is
+refused_pin commands basis (Accepted position) why is = absurd is
+refused_pin commands basis (Refused refusal) why is = absurd is
+refused_pin commands basis (Faulted count) why is = absurd is
+refused_pin commands basis (Slice policies) why is = absurd is
+refused_pin commands basis Unpinned why is = absurd is
+refused_pin commands basis (Floor floor) why is = absurd is
+refused_pin commands basis Blank why is = absurd is
+
+-- what is known of the rows of a valuation of all commands
+pub record AreLastRows (commands : List Command) (basis : List Dated) (valuation : Valuation) : Type 0 where
+  pub writable : IsWritableBlock valuation
+  pub each : AllZip (IsValuedRow basis load_day) (book commands) valuation.rows
+
+pub last_rows : (opening : Opening) (before : List Entry) (caller : ℕ) (basis : List Dated) (reply : Reply) (valuation : Valuation)
+    → IsDue opening before caller PinCall reply → IsValueAnswer (commands_after opening before) basis load_day reply (Ok valuation)
+    → AreLastRows (commands_after opening before) basis valuation
+last_rows opening before caller basis (Pinned position policies) valuation due is =
+    let all = take_all position (commands_after opening before) (omega (arith, due.1)) in
+    record {
+      writable = block_writable (commands_after opening before) basis load_day position valuation is;
+      each = subst (λ (cs : List Command). AllZip (IsValuedRow basis load_day) (book cs) valuation.rows) all is.rows.each;
+    }
+last_rows opening before caller basis (PinRefused refusal) valuation due is = absurd is
+last_rows opening before caller basis (Accepted position) valuation due is = absurd is
+last_rows opening before caller basis (Refused refusal) valuation due is = absurd is
+last_rows opening before caller basis (Faulted count) valuation due is = absurd is
+last_rows opening before caller basis (Slice policies) valuation due is = absurd is
+last_rows opening before caller basis Unpinned valuation due is = absurd is
+last_rows opening before caller basis (Floor floor) valuation due is = absurd is
+last_rows opening before caller basis Blank valuation due is = absurd is
+
+-- what is told of a posting is no valuation
+pub posting_found : (command : Command) (reply : Reply) (outcome : Outcome) (commands : List Command) (basis : List Dated)
+    → IsOutcome commands basis (Post command) reply outcome → lacked_memory outcome ≡ false
+posting_found command reply (Posted answer) commands basis told = refl
+posting_found command reply (Trimmed floor) commands basis told = absurd told
+posting_found command reply (Valued valuation) commands basis told = absurd told
+posting_found command reply (ValueRefused refusal) commands basis told = absurd told
+posting_found command reply ValueNoMemory commands basis told = absurd told
+
+pub none_dry_of : (lines : List TranscriptLine) → AllByRecursion (λ (line : TranscriptLine). lacked_memory line.outcome ≡ false) lines → dry_of lines ≡ []
+none_dry_of [] none = refl
+none_dry_of (line ∷ lines) none =
+    ap (map (λ (told : TranscriptLine). told.turn)) (cond-false (lacked_memory line.outcome) _ _ none.0) ∙ none_dry_of lines none.1

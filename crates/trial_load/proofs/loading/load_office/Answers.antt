@@ -1,0 +1,27 @@
+use Rattle.std.proofs.Common.{List, subst}
+use Rattle.lane_runner.specs.declared.transcript.TranscriptLine.{TranscriptLine}
+use Rattle.program_endings.specs.Writing.{Stream, between}
+use Rattle.trial_load.specs.inside.Loaded.{EndsLoaded}
+use Rattle.trial_load.proofs.LoadSteps.{ends_loaded, load_answer}
+use Rattle.trial_load.proofs.loading.load_office.Goals as goal
+
+pub write_loaded-ending-requires : goal.write_loaded-ending-requires
+write_loaded-ending-requires g c =
+    let started = c.requires.started.1 in
+    record {
+      answer = load_answer g.D.Disk g.W.Watching c.requires.started.0 c.close-disk-2.result.0 c.args.lanes.now c.args.workers c.value-valued.result.turn
+          c.args.basis.now started.0 c.args.pass c.run_lanes.new.pass c.value-valued.new.pass _ _ c.in-Ok.transcript c.value-valued.result.answer started.1
+          c.in-Ok.ensures.answered c.in-Ok.ensures.facts c.value-valued.ensures.valued c.close-disk-2.ensures.facts c.close-disk-2.ensures.closed c.requires.lanes;
+    }
+
+pub returns : goal.returns
+returns g c =
+    let out : Stream = between g.K.Sink.faults g.K.Sink.written c.args.output.now c.write_loaded-ending.new.output in
+    record {
+      ends = λ old watchers started.
+          ends_loaded g.D.Disk g.W.Watching old c.close-disk-2.result.0 c.args.lanes.now c.args.workers c.value-valued.result.turn c.args.basis.now watchers
+          c.args.pass c.run_lanes.new.pass c.value-valued.new.pass _ _ c.in-Ok.transcript c.value-valued.result.answer started c.in-Ok.ensures.answered
+          c.in-Ok.ensures.facts c.value-valued.ensures.valued c.close-disk-2.ensures.facts c.close-disk-2.ensures.closed c.requires.lanes
+          out c.write_loaded-ending.result
+          (subst (λ (lines : List TranscriptLine). EndsLoaded lines c.value-valued.result.answer out c.write_loaded-ending.result) c.as_slice.ensures c.write_loaded-ending.ensures);
+    }

@@ -1,0 +1,72 @@
+-- How the parts of `load` end
+use Rattle.std.specs.Prelude.{◌≡◌, ◌⊎◌, ℕ, Bool, true, false, List, [], Result, Ok, Err}
+use Rattle.std.specs.Io.KnownBytes.{Appends}
+use Rattle.std.specs.List.{AllByRecursion, count_by}
+use Rattle.outside_io.specs.Faults.{Rose}
+use Rattle.outside_io.specs.Streams.{AppendsPart}
+use Rattle.policy_types.specs.declared.script.Lane.{Lane}
+use Rattle.office_state.specs.declared.answer.Answer.TheVariants.{Accepted, Refused}
+use Rattle.policy_value.specs.declared.worth.Row.{Row}
+use Rattle.snapshot_value.specs.declared.valuation.Valuation.{Valuation}
+use Rattle.snapshot_value.specs.declared.valuation.ValueFault.{ValueFault}
+use Rattle.snapshot_value.specs.declared.valuation.ValueFault.TheVariants.{Pin, NoMemory as NoValues}
+use Rattle.policy_types.specs.Lanes.{lines_in}
+use Rattle.lane_runner.specs.declared.transcript.TranscriptLine.{TranscriptLine}
+use Rattle.lane_runner.specs.declared.transcript.Outcome.{Outcome}
+use Rattle.lane_runner.specs.declared.transcript.Outcome.TheVariants.{Posted}
+use Rattle.load_maker.specs.GeneratedLanes.{IsValidPosting}
+use Rattle.program_endings.specs.Writing.{Stream, WroteAll}
+use Rattle.program_endings.specs.declared.ending.Ending.{Ending}
+use Rattle.program_endings.specs.declared.ending.Ending.TheVariants.{Done, WriteFault, DiskFault, NoMemory}
+use Rattle.program_endings.specs.Blocks.{IsWritableBlock}
+use Rattle.transcript_text.specs.Lanes.{AreScriptLanes}
+use Rattle.transcript_text.specs.Told.{any_faulted, any_lacked}
+use Rattle.trial_load.specs.Loading.{load_text}
+
+-- lanes that can be run, and only post
+pub record AreLoadLanes (lanes : List Lane) : Type 0 where
+  pub script : AreScriptLanes lanes
+  pub postings : AllByRecursion IsValidPosting (lines_in lanes)
+
+-- what is told of a posting that was accepted, and of one that was refused
+abbrev pub tells_accepted : Outcome → Bool
+tells_accepted (Posted (Accepted position)) = true
+tells_accepted _ = false
+
+abbrev pub tells_refused : Outcome → Bool
+tells_refused (Posted (Refused refusal)) = true
+tells_refused _ = false
+
+abbrev pub accepted_lines : List TranscriptLine → ℕ
+accepted_lines lines = count_by (λ (told : TranscriptLine). tells_accepted told.outcome) lines
+
+abbrev pub refused_lines : List TranscriptLine → ℕ
+refused_lines lines = count_by (λ (told : TranscriptLine). tells_refused told.outcome) lines
+
+-- the answers to a valuation behind postings alone: its rows, which can be written, or that it found no memory
+abbrev pub IsLoadAnswer : Result Valuation ValueFault → Type 0
+IsLoadAnswer (Ok valuation) = IsWritableBlock valuation
+IsLoadAnswer (Err NoValues) = Unit {0}
+IsLoadAnswer (Err (Pin refusal)) = ⊥
+
+-- what is written of the lines of a load and the rows of its valuation, and then by what is told of the lines
+abbrev pub EndsLine : List TranscriptLine → List Row → Stream → Ending → Type 0
+EndsLine lines rows output Done =
+    (any_faulted lines ≡ false) × (any_lacked lines ≡ false)
+    × WroteAll output (load_text (accepted_lines lines) (refused_lines lines) rows)
+EndsLine lines rows output DiskFault =
+    (any_faulted lines ≡ true) × WroteAll output (load_text (accepted_lines lines) (refused_lines lines) rows)
+EndsLine lines rows output WriteFault =
+    Rose output.faults_before output.faults_after
+    × AppendsPart output.before output.after (load_text (accepted_lines lines) (refused_lines lines) rows)
+EndsLine lines rows output NoMemory =
+    Appends output.before output.after []
+    ⊎ ((any_faulted lines ≡ false) × (any_lacked lines ≡ true)
+    × WroteAll output (load_text (accepted_lines lines) (refused_lines lines) rows))
+EndsLine lines rows output _ = ⊥
+
+-- the same, where nothing is written of a valuation that found no memory
+abbrev pub EndsLoaded : List TranscriptLine → Result Valuation ValueFault → Stream → Ending → Type 0
+EndsLoaded lines (Ok valuation) output ending = EndsLine lines valuation.rows output ending
+EndsLoaded lines (Err NoValues) output NoMemory = Appends output.before output.after []
+EndsLoaded lines (Err fault) output _ = ⊥

@@ -1,0 +1,19 @@
+// The generated script, as a text.
+ghost use Rattle.std.specs.Prelude.{◌<◌, ◌≤◌, ◌^◌};
+ghost use Rattle.trial_load.specs.Generating.{EndsGenerate};
+ghost use Rattle.program_endings.specs.Writing.{between};
+
+use load_maker::make_script;
+use outside_io::Sink;
+use program_endings::{Ending, write_text};
+use std::alloc::Global;
+
+/// Writes the script of so many policies drawn from a seed, dealt out to the lanes.
+pub fn generate<K: Sink>(alloc: Global, seed: u32, count: u32, lanes: u8, output: &mut K) -> Ending
+    requires seed { seed < 2 ^ 31 }
+    requires count { (1 ≤ count) × (count ≤ 100000) }
+    requires lanes { (1 ≤ lanes) × (lanes ≤ 8) }
+    ensures { EndsGenerate seed count lanes (between K.faults K.written output.old output.new) result }
+{
+    write_text(make_script(alloc, seed, count, lanes), output)
+}

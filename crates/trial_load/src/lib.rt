@@ -1,0 +1,8 @@
+//! A generated script: its text, or its run over a disk with a valuation behind it.
+#![tactic(auto)]
+
+mod generating;
+mod loading;
+
+pub use generating::generate;
+pub use loading::load;

@@ -1,0 +1,263 @@
+// A generated script is run, and its policies are valued then.
+ghost use Rattle.std.specs.Prelude.{◌≡◌, ◌<◌, ◌≤◌, ◌^◌, IfOk, All, codes, length};
+ghost use Rattle.shared_office.specs.Offices.{IsOfficeHistory};
+ghost use Rattle.shared_office.specs.Starting.{HasStartedOffice};
+ghost use Rattle.turn_lock.specs.Passes.{PassFacts};
+ghost use Rattle.trial_load.specs.Loading.{EndsBegun, EndsLoad, EndsLoading, load_text};
+ghost use Rattle.program_endings.specs.Writing.{between, shelf_between};
+ghost use Rattle.trial_load.specs.inside.Loaded.{AreLoadLanes, EndsLine, EndsLoaded, IsLoadAnswer, accepted_lines, refused_lines, tells_accepted, tells_refused};
+ghost use Rattle.program_endings.specs.Blocks.{IsWritableBlock};
+ghost use Rattle.report_text.specs.Block.{AreSummable};
+
+use basis_book::{Basis, Name};
+use basis_shelf::fetch_basis;
+use itoa::Buffer;
+use lane_runner::{Outcome, TranscriptLine, run_lanes};
+use load_maker::make_lanes;
+use outside_io::{Disk, Gate, Shelf, Sink, write_all};
+use policy_types::{At, Lane, NoMemory};
+use policy_value::Rows;
+use program_endings::{Ending, Finished, lack_memory, refuse_basis, refuse_journal};
+use report_text::Totals;
+use shared_office::{Answer, Office, OfficeCalls, OfficePass, close};
+use snapshot_value::{Valuation, ValueFault};
+use std::alloc::Global;
+use std::sync::Wait;
+use std::thread::Threads;
+use text_lines::{LineWriter, Text};
+use transcript_text::ending_of;
+use watcher_set::{NoWatchers, Watching};
+
+/// 2020-12-31, in days since 1970-01-01.
+const LOAD_DAY: i32 = 18_627;
+
+/// A valuation that no lane of a script asks for.
+const NO_LANE: u8 = 0;
+
+/// Runs the script of so many policies drawn from a seed, values all policies then by the basis `basis.csv`, and writes
+/// how many postings were accepted and refused, and what the values add up to. The basis is fetched before the disk is
+/// touched.
+pub fn load<R: Threads + Wait + Sync, K: Sink, H: Shelf, D: Disk + Send, G: Gate + Sync>(
+    rt: &R,
+    alloc: Global,
+    seed: u32,
+    count: u32,
+    lanes: u8,
+    workers: u8,
+    output: &mut K,
+    shelf: &mut H,
+    disk: D,
+    gate: &G,
+) -> Finished<D>
+    requires seed { seed < 2 ^ 31 }
+    requires count { (1 ≤ count) × (count ≤ 100000) }
+    requires lanes { (1 ≤ lanes) × (lanes ≤ 8) }
+    requires workers { (1 ≤ workers) × (workers ≤ 64) }
+    ensures ends { EndsLoad D.Disk disk result.disk seed count lanes workers
+        (shelf_between H.faults H.agrees shelf.old shelf.new)
+        (between K.faults K.written output.old output.new) result.ending }
+    ensures files { H.files shelf.new ≡ H.files shelf.old }
+{
+    let Ok(name) = basis_name(alloc) else {
+        return Finished {
+            ending: lack_memory(output),
+            disk,
+        };
+    };
+    match fetch_basis(alloc, &name, shelf) {
+        Ok(basis) => {
+            load_by(
+                rt, alloc, seed, count, lanes, workers, &basis, output, disk, gate,
+            )
+        }
+        Err(cause) => Finished {
+            ending: refuse_basis(alloc, cause, output),
+            disk,
+        },
+    }
+}
+
+// The name of the basis file.
+fn basis_name(alloc: Global) -> Result<Name, NoMemory>
+    ensures { IfOk result (λ name. name ≡ codes "basis.csv") }
+{
+    match Name::of(alloc, b"basis.csv") {
+        Ok(Some(name)) => Ok(name),
+        Ok(None) => unreachable!(),
+        Err(NoMemory) => Err(NoMemory),
+    }
+}
+
+// Runs the generated lanes by a basis.
+fn load_by<R: Threads + Wait + Sync, K: Sink, D: Disk + Send, G: Gate + Sync>(
+    rt: &R,
+    alloc: Global,
+    seed: u32,
+    count: u32,
+    lanes: u8,
+    workers: u8,
+    basis: &Basis,
+    output: &mut K,
+    disk: D,
+    gate: &G,
+) -> Finished<D>
+    requires seed { seed < 2 ^ 31 }
+    requires count { (1 ≤ count) × (count ≤ 100000) }
+    requires lanes { (1 ≤ lanes) × (lanes ≤ 8) }
+    requires workers { (1 ≤ workers) × (workers ≤ 64) }
+    ensures { EndsBegun D.Disk disk result.disk seed count lanes workers basis.now
+        (between K.faults K.written output.old output.new) result.ending }
+{
+    let Ok(script) = make_lanes(alloc, seed, count, lanes) else {
+        return Finished {
+            ending: lack_memory(output),
+            disk,
+        };
+    };
+    let lanes = script.as_slice();
+    match Office::start(alloc, disk, NoWatchers) {
+        Ok((office, pass)) => {
+            load_office(rt, alloc, lanes, workers, basis, office, pass, output, gate)
+        }
+        Err(fault) => Finished {
+            ending: refuse_journal(alloc, fault.cause, output),
+            disk: fault.disk,
+        },
+    }
+}
+
+// Runs lanes at an office, values its policies then, closes it, and writes the line.
+fn load_office<
+    R: Threads + Wait + Sync,
+    K: Sink,
+    D: Disk + Send,
+    W: Watching + Send,
+    G: Gate + Sync,
+>(
+    rt: &R,
+    alloc: Global,
+    lanes: &[Lane],
+    workers: u8,
+    basis: &Basis,
+    office: Office<D, W>,
+    pass: OfficePass<D, W>,
+    output: &mut K,
+    gate: &G,
+) -> Finished<D>
+    requires lanes { AreLoadLanes lanes.now }
+    requires workers { (1 ≤ workers) × (workers ≤ 64) }
+    requires ours { pass.turnstile ≡ office }
+    requires started { (old : D) × ((watchers : W) × HasStartedOffice D.Disk old watchers pass) }
+    requires facts { PassFacts IsOfficeHistory pass }
+    ensures ends { (old : D) (watchers : W) → HasStartedOffice D.Disk old watchers pass
+        → EndsLoading D.Disk old result.disk lanes.now workers basis.now
+        (between K.faults K.written output.old output.new) result.ending }
+{
+    let mut pass = pass;
+    let Ok(transcript) = run_lanes(rt, alloc, &office, &mut pass, lanes, basis, gate) else {
+        let (disk, _, _) = close(office, pass);
+        return Finished {
+            ending: lack_memory(output),
+            disk,
+        };
+    };
+    let valued = snapshot_value::value(
+        rt,
+        alloc,
+        &office,
+        &mut pass,
+        basis,
+        LOAD_DAY,
+        At::Now,
+        workers,
+        NO_LANE,
+        gate,
+    );
+    let (disk, _, _) = close(office, pass);
+    let ending = write_loaded(alloc, transcript.lines.as_slice(), valued.answer, output);
+    Finished { ending, disk }
+}
+
+// Writes the line of a load, but not where its valuation found no memory.
+fn write_loaded<K: Sink>(
+    alloc: Global,
+    lines: &[TranscriptLine],
+    answer: Result<Valuation, ValueFault>,
+    output: &mut K,
+) -> Ending
+    requires answer { IsLoadAnswer answer }
+    ensures { EndsLoaded lines.now answer (between K.faults K.written output.old output.new) result }
+{
+    match answer {
+        Ok(valuation) => write_line(alloc, lines, &valuation.rows, output),
+        Err(ValueFault::NoMemory) => Ending::NoMemory,
+        Err(ValueFault::Pin(_)) => unreachable!(),
+    }
+}
+
+fn write_line<K: Sink>(
+    alloc: Global,
+    lines: &[TranscriptLine],
+    rows: &Rows,
+    output: &mut K,
+) -> Ending
+    requires rows { length rows.now ≤ 4000000 }
+    requires bounded { AreSummable rows.now }
+    ensures { EndsLine lines.now rows.now (between K.faults K.written output.old output.new) result }
+{
+    let accepted = count_accepted(lines);
+    let refused = count_refused(lines);
+    let Ok(line) = load_line(alloc, accepted, refused, rows) else {
+        return Ending::NoMemory;
+    };
+    match write_all(output, line.as_slice()) {
+        Ok(()) => ending_of(lines),
+        Err(_) => Ending::WriteFault,
+    }
+}
+
+// How many postings were accepted.
+fn count_accepted(lines: &[TranscriptLine]) -> usize
+    ensures { result ≡ accepted_lines lines.now }
+{
+    lines.iter().filter(|line| accepted(&line.outcome)).count()
+}
+
+fn accepted(outcome: &Outcome) -> bool
+    ensures { result ≡ tells_accepted outcome.now }
+{
+    matches!(*outcome, Outcome::Posted(Answer::Accepted(_)))
+}
+
+// How many postings were refused.
+fn count_refused(lines: &[TranscriptLine]) -> usize
+    ensures { result ≡ refused_lines lines.now }
+{
+    lines.iter().filter(|line| refused(&line.outcome)).count()
+}
+
+fn refused(outcome: &Outcome) -> bool
+    ensures { result ≡ tells_refused outcome.now }
+{
+    matches!(*outcome, Outcome::Posted(Answer::Refused(_)))
+}
+
+// The line of a load, as `load,2,0,1,0.00,0.00,1`.
+fn load_line(alloc: Global, accepted: usize, refused: usize, rows: &Rows) -> Result<Text, NoMemory>
+    requires rows { length rows.now ≤ 4000000 }
+    requires bounded { AreSummable rows.now }
+    ensures { IfOk result (λ text. text ≡ load_text accepted refused rows.now) }
+{
+    let totals = Totals::of(rows);
+    let mut line = LineWriter::new(alloc);
+    line.first("load")?;
+    let mut buffer = Buffer::new();
+    line.word(buffer.format(accepted as u64))?;
+    line.word(buffer.format(refused as u64))?;
+    line.number(rows.as_slice().len() as u32)?;
+    line.cents(totals.lower as i64)?;
+    line.cents(totals.upper as i64)?;
+    line.number(totals.unvalued)?;
+    line.end()?;
+    Ok(line.into_text())
+}
