@@ -13,7 +13,7 @@ use Rattle.life_args.specs.declared.verb.Verb.{Verb}
 use Rattle.life_args.specs.Pieces.{WordPiece, AtMostOne}
 use Rattle.life_args.specs.Words.{AreWords, AskFor, AskForNothing, IsFaultOf}
 use Rattle.life_args.specs.inside.Lines.{GivesAsked, IsLine, ReadsLine, Spelling, TakesWords, has_odd, line_app, values_of}
-use Rattle.life_args.specs.inside.Verbs.{AsksFor, IsLone, SaysMode, options_of, verb_of, word_of}
+use Rattle.life_args.specs.inside.Verbs.{AsksFor, IsLone, SaysMode, options_of, verb_of, verb_word}
 use Rattle.life_args.proofs.Lines.{spelled_even, spelled_taken, taken_spelled, values_in}
 use Rattle.life_args.proofs.Asking.{asked, asking, good, same_verb}
 use Rattle.life_args.proofs.Once.{same_mode}
@@ -80,24 +80,24 @@ odd_refused verb words odd pieces spelling = true≢false (sym odd ∙ spelled_e
 -- ---- a mode
 
 -- words ask for a mode of their verb, whose pieces spell them
-asked_of : (verb : Verb) (words : List Text) (one : Mode) → AreWords (word_of verb ∷ words) one
+asked_of : (verb : Verb) (words : List Text) (one : Mode) → AreWords (verb_word verb ∷ words) one
     → (verb_of one ≡ verb) × ((pieces : List WordPiece) × Spelling (options_of verb) words pieces × SaysMode (values_of pieces) one)
 asked_of verb words one are =
-    let asks = asked (word_of verb) words one are in
+    let asks = asked (verb_word verb) words one are in
     let same = same_verb (verb_of one) verb (sym asks.0) in
     (same, (asks.1.pieces, subst (λ v. Spelling (options_of v) words asks.1.pieces) same asks.1.spelling, asks.1.says))
 
 module _ (verb : Verb) (words : List Text) where
-  pub line_refused : (r : Result Mode WordsFault) (fault : WordsFault) → IsErrAnd r (λ y. y ≡ fault) → ReadsLine (options_of verb) words (Err fault) → GivesAsked (AreWords (word_of verb ∷ words)) r
-  line_refused r fault is reads = handed_on r fault (AreWords (word_of verb ∷ words)) is (λ usage one are.
+  pub line_refused : (r : Result Mode WordsFault) (fault : WordsFault) → IsErrAnd r (λ y. y ≡ fault) → ReadsLine (options_of verb) words (Err fault) → GivesAsked (AreWords (verb_word verb ∷ words)) r
+  line_refused r fault is reads = handed_on r fault (AreWords (verb_word verb ∷ words)) is (λ usage one are.
       let asks = asked_of verb words one are in
       (subst (λ f. ReadsLine (options_of verb) words (Err f)) usage reads) asks.1.0 asks.1.1)
 
-  pub mode_given : (line : ArgMatches) (r : Result Mode WordsFault) → IsLine (options_of verb) words line → GivesAsked (AsksFor verb (found_of line)) r → GivesAsked (AreWords (word_of verb ∷ words)) r
+  pub mode_given : (line : ArgMatches) (r : Result Mode WordsFault) → IsLine (options_of verb) words line → GivesAsked (AsksFor verb (found_of line)) r → GivesAsked (AreWords (verb_word verb ∷ words)) r
   mode_given line (Ok one) read gives =
       let says = subst (λ (v : Text → List Text). SaysMode v one) (λ i id. read.every read.pieces read.spelling id i) gives.says in
       let spelling = subst (λ v. Spelling (options_of v) words read.pieces) (sym gives.is) read.spelling in
-      subst (λ v. AreWords (word_of v ∷ words) one) gives.is (asking words one (record { pieces = read.pieces; spelling = spelling; says = says }))
+      subst (λ v. AreWords (verb_word v ∷ words) one) gives.is (asking words one (record { pieces = read.pieces; spelling = spelling; says = says }))
   mode_given line (Err Usage) read gives = λ one are.
       let asks = asked_of verb words one are in
       gives one (record { is = asks.0; says = subst (λ (v : Text → List Text). SaysMode v one) (λ i id. (sym (read.every asks.1.0 asks.1.1 id)) i) asks.1.2 })
@@ -126,7 +126,7 @@ answered words texts r same gives = go r (subst (λ ws. GivesAsked (AreWords ws)
     go (Err Usage) h = (tt, h)
     go (Err NoMemory) h = (tt, tt)
 
-pub unnamed : (words : List (String Global)) (first : String Global) → 1 ≤ length words → first ≡ get_or words 0 first → ((verb : Verb) → string_bytes first ≡ word_of verb → ⊥) → AskForNothing words
+pub unnamed : (words : List (String Global)) (first : String Global) → 1 ≤ length words → first ≡ get_or words 0 first → ((verb : Verb) → string_bytes first ≡ verb_word verb → ⊥) → AskForNothing words
 unnamed words first some is none one asks =
     let there = split_words words first (string_bytes first) some is refl in
     none (verb_of one) (asked (string_bytes first) (map string_bytes (behind words)) one (subst (λ ws. AreWords ws one) (sym there) asks)).0

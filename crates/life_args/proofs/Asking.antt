@@ -13,8 +13,8 @@ use Rattle.life_args.specs.declared.verb.Verb.TheVariants.{Run, Value, State, Ge
 use Rattle.life_args.specs.Pieces.{WordPiece, bare, apart, joined, spelled, bare_values, option_values, value_under, IsAmong, HasOnly, AtMostOne}
 use Rattle.life_args.specs.Values.{IsPositionOr, AreWorkersOr, IsBasisOr, IsPolicyOr}
 use Rattle.life_args.specs.Words.{AreWords}
-use Rattle.life_args.specs.inside.Lines.{ArePlain, IsPlain, Spelling, alone_id, line_app, values_of}
-use Rattle.life_args.specs.inside.Verbs.{SaysMode, options_of, verb_of, word_of}
+use Rattle.life_args.specs.inside.Lines.{ArePlain, IsPlainText, Spelling, alone_id, line_app, values_of}
+use Rattle.life_args.specs.inside.Verbs.{SaysMode, options_of, verb_of, verb_word}
 use Rattle.life_args.proofs.Rules.{IsGood, own}
 use Rattle.life_args.proofs.Lines.{differ}
 use Rattle.life_args.proofs.Texts.{plain_day, plain_decimal, plain_name}
@@ -22,13 +22,13 @@ use Rattle.life_args.proofs.Texts.{plain_day, plain_decimal, plain_name}
 -- ---- the verbs
 
 -- each has a word of its own
-pub same_verb : (a b : Verb) → word_of a ≡ word_of b → a ≡ b
+pub same_verb : (a b : Verb) → verb_word a ≡ verb_word b → a ≡ b
 same_verb Run Run e = refl
 same_verb Value Value e = refl
 same_verb State State e = refl
 same_verb Generate Generate e = refl
 same_verb Load Load e = refl
-same_verb a b e = absurd (differ (word_of a) (word_of b) refl e)
+same_verb a b e = absurd (differ (verb_word a) (verb_word b) refl e)
 
 pub simple : (verb : Verb) → is_simple_and_free (line_app (options_of verb)) ≡ true
 simple Run = refl
@@ -64,28 +64,28 @@ good verb = each IsGood (options_of verb) (all_good verb)
 
 abbrev EachPlain : List Text → Type 0
 EachPlain [] = ⊤
-EachPlain (value ∷ values) = IsPlain value × EachPlain values
+EachPlain (value ∷ values) = IsPlainText value × EachPlain values
 
-plain_lone : (values : List Text) (P : Option Text → Type 0) → AtMostOne values P → ((value : Text) → P (Some value) → IsPlain value) → EachPlain values
+plain_lone : (values : List Text) (P : Option Text → Type 0) → AtMostOne values P → ((value : Text) → P (Some value) → IsPlainText value) → EachPlain values
 plain_lone [] P asked plain = tt
 plain_lone (value ∷ []) P asked plain = (plain value asked, tt)
 plain_lone (value ∷ other ∷ values) P asked plain = absurd asked
 
-plain_position : (position : At) (value : Text) → IsPositionOr (Some value) position → IsPlain value
+plain_position : (position : At) (value : Text) → IsPositionOr (Some value) position → IsPlainText value
 plain_position Now value asked = absurd asked
 plain_position (Position n) value asked = plain_decimal value n (omega (arith, asked.0)) asked.1
 
-plain_workers : (workers : ℕ) (value : Text) → AreWorkersOr (Some value) workers → IsPlain value
+plain_workers : (workers : ℕ) (value : Text) → AreWorkersOr (Some value) workers → IsPlainText value
 plain_workers workers value asked = plain_decimal value workers (omega (arith, asked.1)) asked.2
 
-plain_basis : (basis : Text) (value : Text) → IsBasisOr (Some value) basis → IsPlain value
+plain_basis : (basis : Text) (value : Text) → IsBasisOr (Some value) basis → IsPlainText value
 plain_basis basis value asked = plain_name value asked.0
 
-plain_policy : (id : Option ℕ) (value : Text) → IsPolicyOr (Some value) id → IsPlain value
+plain_policy : (id : Option ℕ) (value : Text) → IsPolicyOr (Some value) id → IsPlainText value
 plain_policy None value asked = absurd asked
 plain_policy (Some id) value asked = plain_decimal value id (omega (arith, asked.0)) asked.1
 
-plain_number : (most n : ℕ) → most < 2 ^ 64 → n ≤ most → IsPlain (decimal n)
+plain_number : (most n : ℕ) → most < 2 ^ 64 → n ≤ most → IsPlainText (decimal n)
 plain_number most n small high = plain_decimal (decimal n) n (omega arith) refl
 
 rest_plain : (name one value : Text) (values : List Text) → EachPlain (value_under name one value values) → EachPlain values
@@ -95,7 +95,7 @@ rest_plain name one value values plain = go (bytes_eq one name) plain
     go true h = h.1
     go false h = h
 
-own_plain : (name value : Text) (values : List Text) → EachPlain (value_under name name value values) → IsPlain value
+own_plain : (name value : Text) (values : List Text) → EachPlain (value_under name name value values) → IsPlainText value
 own_plain name value values plain = (subst (λ (t : Bool). EachPlain (cond t (value ∷ values) values)) (own name) plain).0
 
 are_plain : (names : List Text) (pieces : List WordPiece) → HasOnly names pieces → EachPlain (bare_values pieces) → ((name : Text) → IsAmong names name → EachPlain (option_values name pieces)) → ArePlain pieces
@@ -120,7 +120,7 @@ pub record Asked (mode : Mode) (words : List Text) : Type 0 where
   pub spelling : Spelling (options_of (verb_of mode)) words pieces
   pub says : SaysMode (values_of pieces) mode
 
-pub asked : (word : Text) (words : List Text) (one : Mode) → AreWords (word ∷ words) one → (word ≡ word_of (verb_of one)) × Asked one words
+pub asked : (word : Text) (words : List Text) (one : Mode) → AreWords (word ∷ words) one → (word ≡ verb_word (verb_of one)) × Asked one words
 asked word words (mode.Run basis) are =
     let is = are.1 in
     (are.0, record {
@@ -167,7 +167,7 @@ all_bare (bare value ∷ pieces) only = ap (λ (ws : List Text). value ∷ ws) (
 all_bare (apart name value ∷ pieces) only = absurd only.0
 all_bare (joined name value ∷ pieces) only = absurd only.0
 
-pub asking : (words : List Text) (one : Mode) → Asked one words → AreWords (word_of (verb_of one) ∷ words) one
+pub asking : (words : List Text) (one : Mode) → Asked one words → AreWords (verb_word (verb_of one) ∷ words) one
 asking words (mode.Run basis) is = (refl, record { pieces = is.pieces; spells = is.spelling.spells; only = is.spelling.only; alone = is.says.0; basis_is = is.says.1 })
 asking words (mode.Value on position workers basis) is = (
   refl,

@@ -5,7 +5,7 @@ use Rattle.clap.specs.Lexer.{has_byte, long_of, name_and_value, short_of}
 use Rattle.clap.specs.Walk.{Text}
 use Rattle.clap.proofs.CutLemmas.{Lacks}
 use Rattle.clap.proofs.LexerLemmas.{name_and_value-at, name_and_value-without}
-use Rattle.life_args.specs.inside.Lines.{IsPlain, is_odd}
+use Rattle.life_args.specs.inside.Lines.{IsPlainText, is_odd}
 
 -- the word is read as a value where one may stand
 pub record IsValueWord (word : Text) : Type 0 where
@@ -18,7 +18,7 @@ pub record IsNamed (word name : Text) (given : Option Text) : Type 0 where
   pub no_hyphens : bytes_eq word (45 ∷ 45 ∷ []) ≡ false
   pub reads : long_of word ≡ Some (name, given)
 
-pub plain_word : (word : Text) → IsPlain word → IsValueWord word
+pub plain_word : (word : Text) → IsPlainText word → IsValueWord word
 plain_word [] plain = record { no_hyphens = refl; no_long = refl; no_short = refl }
 plain_word (x ∷ xs) plain = record { no_hyphens = rw plain refl; no_long = rw plain refl; no_short = rw plain refl }
 
@@ -49,7 +49,7 @@ joined_named (x ∷ xs) value is = record { no_hyphens = refl; reads = ap Some (
 
 -- each word that isn't odd is one of these
 pub data Seen (word : Text) : Type 0 where
-  alone : IsPlain word → Seen word
+  alone : IsPlainText word → Seen word
   apart : (name : Text) → word ≡ 45 ∷ 45 ∷ name → IsNamed word name None → Seen word
   joined : (name value : Text) → word ≡ 45 ∷ 45 ∷ (name ++ 61 ∷ value) → IsNamed word name (Some value) → Seen word
 

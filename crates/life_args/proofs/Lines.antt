@@ -7,7 +7,7 @@ use Rattle.clap.specs.Takes.{is_given}
 use Rattle.clap.specs.Kinds.{Kinds, or_else, check_kinds}
 use Rattle.clap.specs.Faults.{built_fault, fault_of, walk_fault, settle_fault, defaults_fault, check_fault, entered_fault, given_default_fault}
 use Rattle.life_args.specs.Pieces.{WordPiece, bare, apart, joined, spelled, bare_values, option_values, value_under, IsAmong, HasOnly}
-use Rattle.life_args.specs.inside.Lines.{ArePlain, IsPlain, Spelling, alone_id, has_odd, is_odd, line_app, values_of}
+use Rattle.life_args.specs.inside.Lines.{ArePlain, IsPlainText, Spelling, alone_id, has_odd, is_odd, line_app, values_of}
 use Rattle.life_args.proofs.Lexing.{IsOptionName}
 use Rattle.life_args.proofs.Rules.{IsGood, add, filled_alone, filled_option, filled_options, own, rules, same}
 use Rattle.life_args.proofs.Steps.{leaf, settles, stand}
@@ -183,7 +183,7 @@ module _ (names : List Text) (good : (name : Text) → IsAmong names name → Is
       )
 
   -- no word of pieces is odd
-  plain_even : (word : Text) → IsPlain word → is_odd word ≡ false
+  plain_even : (word : Text) → IsPlainText word → is_odd word ≡ false
   plain_even [] plain = refl
   plain_even (x ∷ xs) plain = rw plain refl
 

@@ -7,13 +7,13 @@ use Rattle.life_dates.specs.Calendar.{IsDay, IsTermDay}
 use Rattle.life_dates.specs.DayText.{day_text, IsDayText}
 use Rattle.life_dates.proofs.TextLemmas.{IsDayText-day_text, day_text-only}
 use Rattle.basis_book.specs.Name.{IsName}
-use Rattle.life_args.specs.inside.Lines.{IsPlain}
+use Rattle.life_args.specs.inside.Lines.{IsPlainText}
 
 abbrev Text : Type 0
 Text = List ℕ
 
 -- a text that begins with another byte than a hyphen
-begins : (text : Text) → 0 < length text → get_or text 0 0 ≢ 45 → IsPlain text
+begins : (text : Text) → 0 < length text → get_or text 0 0 ≢ 45 → IsPlainText text
 begins [] some ne = absurd (omega arith)
 begins (x ∷ xs) some ne = grind (arith, nat_tests)
 
@@ -23,14 +23,14 @@ first_of_decimal n small = elim (eq-zero-or-pos n) [
   | inr more ↦ let first : 48 < get_or (decimal n) 0 0 = first_decimal n more small in omega arith
 ]
 
-pub plain_decimal : (text : Text) (n : ℕ) → n < 2 ^ 64 → text ≡ decimal n → IsPlain text
-plain_decimal text n small is = subst IsPlain (sym is) (begins (decimal n) (decimal_nonempty n small) (first_of_decimal n small))
+pub plain_decimal : (text : Text) (n : ℕ) → n < 2 ^ 64 → text ≡ decimal n → IsPlainText text
+plain_decimal text n small is = subst IsPlainText (sym is) (begins (decimal n) (decimal_nonempty n small) (first_of_decimal n small))
 
-pub plain_day : (text : Text) (day : ℤ) → text ≡ day_text day → IsPlain text
+pub plain_day : (text : Text) (day : ℤ) → text ≡ day_text day → IsPlainText text
 unfolding day_text
-plain_day text day is = subst IsPlain (sym is) (begins (day_text day) (omega arith) (omega arith))
+plain_day text day is = subst IsPlainText (sym is) (begins (day_text day) (omega arith) (omega arith))
 
-pub plain_name : (text : Text) → IsName text → IsPlain text
+pub plain_name : (text : Text) → IsName text → IsPlainText text
 plain_name text is = begins text (omega (arith, is.some)) first
   where
     first : get_or text 0 0 ≢ 45

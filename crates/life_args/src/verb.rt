@@ -1,6 +1,6 @@
 ghost use Rattle.std.specs.Prelude.{◌≡◌, ◌≢◌, IfSome, IfNone};
 ghost use Rattle.life_args.specs.declared.verb.Verb.{Verb};
-ghost use Rattle.life_args.specs.inside.Verbs.{word_of};
+ghost use Rattle.life_args.specs.inside.Verbs.{verb_word};
 
 /// What the first word may be.
 #[derive(Clone, Copy, PartialEq, Eq, Debug)]
@@ -14,8 +14,8 @@ pub enum Verb {
 
 /// The verb that a word is, if it is one.
 pub fn verb_named(word: &str) -> Option<Verb>
-    ensures some { IfSome result (λ verb. word.now ≡ word_of verb) }
-    ensures none { IfNone result ((verb : Verb) → word.now ≢ word_of verb) }
+    ensures some { IfSome result (λ verb. word.now ≡ verb_word verb) }
+    ensures none { IfNone result ((verb : Verb) → word.now ≢ verb_word verb) }
 {
     if word == "run" {
         return Some(Verb::Run);

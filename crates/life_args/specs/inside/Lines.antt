@@ -26,14 +26,14 @@ abbrev pub has_odd : List Text → Bool
 has_odd words = list_any is_odd words
 
 -- a value in a word of its own doesn't begin with a hyphen
-abbrev pub IsPlain : Text → Type 0
-IsPlain [] = ⊤
-IsPlain (byte ∷ bytes) = (byte == 45) ≡ false
+abbrev pub IsPlainText : Text → Type 0
+IsPlainText [] = ⊤
+IsPlainText (byte ∷ bytes) = (byte == 45) ≡ false
 
 abbrev pub ArePlain : List WordPiece → Type 0
 ArePlain [] = ⊤
-ArePlain (bare value ∷ pieces) = IsPlain value × ArePlain pieces
-ArePlain (apart name value ∷ pieces) = IsPlain value × ArePlain pieces
+ArePlain (bare value ∷ pieces) = IsPlainText value × ArePlain pieces
+ArePlain (apart name value ∷ pieces) = IsPlainText value × ArePlain pieces
 ArePlain (joined name value ∷ pieces) = ArePlain pieces
 
 -- the pieces spell the words, and each option has one of these names

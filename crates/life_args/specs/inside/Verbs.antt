@@ -11,12 +11,12 @@ use Rattle.life_args.specs.Pieces.{AtMostOne}
 use Rattle.life_args.specs.Values.{IsDayValue, IsPositionOr, AreWorkersOr, IsBasisOr, IsPolicyOr, IsSeed, IsPolicyCount, IsLaneCount, IsWorkerCount}
 use Rattle.life_args.specs.inside.Lines.{GivesAsked, alone_id, values_named}
 
-abbrev pub word_of : Verb → List ℕ
-word_of Run = codes "run"
-word_of Value = codes "value"
-word_of State = codes "state"
-word_of Generate = codes "generate"
-word_of Load = codes "load"
+abbrev pub verb_word : Verb → List ℕ
+verb_word Run = codes "run"
+verb_word Value = codes "value"
+verb_word State = codes "state"
+verb_word Generate = codes "generate"
+verb_word Load = codes "load"
 
 abbrev pub verb_of : Mode → Verb
 verb_of (mode.Run basis) = Run
