@@ -1,31 +1,12 @@
 -- What the program does on the devices that it is shipped with, from its start to its end
-use Rattle.std.specs.Prelude.{◌≡◌, ◌≤◌, ◌<◌, ◌==◌, ◌⊎◌, ℕ, ℤ, true, false, List, [], ◌∷◌, length, codes, Option, None, Some, String}
+use Rattle.std.specs.Prelude.{◌≡◌, ◌==◌, ℕ, false, List, [], ◌∷◌, length, Option, None, Some, String}
 use Rattle.std.specs.Global.{Global}
-use Rattle.outside_io.specs.Faults.{Rose}
 use Rattle.outside_io.specs.Shelves.{Files}
-use Rattle.outside_io.specs.Streams.{GivesMore}
 use Rattle.outside_io.specs.declared.disks.Disk.{Ghosts}
-use Rattle.policy_types.specs.declared.command.Command.{Command}
-use Rattle.policy_types.specs.declared.entry.At.{At}
-use Rattle.policy_types.specs.declared.entry.At.TheVariants.{Position}
-use Rattle.policy_types.specs.declared.script.Lane.{Lane}
 use Rattle.watcher_set.specs.Noted.{Auditor}
 use Rattle.watcher_set.specs.Premiums.{premiums_of}
-use Rattle.basis_book.specs.Dated.{Dated}
-use Rattle.basis_shelf.specs.declared.fault.BadBasis.{BadBasis}
-use Rattle.basis_shelf.specs.Bases.{IsBasis}
-use Rattle.basis_shelf.specs.FirstBad.{IsFirstBadFile}
-use Rattle.command_csv.specs.Reads.{Reads}
-use Rattle.life_args.specs.Words.{AskForNothing}
-use Rattle.office_state.specs.Journals.{Opens, OpensToNone}
-use Rattle.program_endings.specs.WithoutBasis.{SaysBadFile}
-use Rattle.program_endings.specs.Writing.{Input, IsWholeInput, Shelving, Stream}
-use Rattle.script_run.specs.Script.{IsUnreadable, asks_for_values}
-use Rattle.script_run.specs.Running.{HasItsBasis}
-use Rattle.book_value.specs.Valuing.{position_of}
-use Rattle.life_app.specs.Needs.{HasBadFile, IsPastTheEnd}
+use Rattle.program_endings.specs.Writing.{Input, Shelving, Stream}
 use Rattle.life_app.specs.Obeys.{Obeys}
-use Rattle.life_app.specs.Words.{AskForGenerate, AskForLoad, AskForRun, AskForState, AskForValue}
 
 -- it counts commands, and is done at so many
 abbrev pub count_auditor : ℕ → Auditor
