@@ -122,43 +122,63 @@ pub record Asked (mode : Mode) (words : List Text) : Type 0 where
 
 pub asked : (word : Text) (words : List Text) (one : Mode) → AreWords (word ∷ words) one → (word ≡ verb_word (verb_of one)) × Asked one words
 asked word words (mode.Run basis) are =
-    let is = are.1 in
-    (are.0, record {
-      pieces = is.pieces;
-      spelling = spelling_of (options_of Run) words is.pieces is.spells is.only (subst EachPlain (sym is.alone) tt) (plain_lone _ (λ given. IsBasisOr given basis) is.basis_is (plain_basis basis), tt);
-      says = (is.alone, is.basis_is);
-    })
+    let is = are.1 in (
+      are.0,
+      record {
+        pieces = is.pieces;
+        spelling = spelling_of (options_of Run) words is.pieces is.spells is.only (subst EachPlain (sym is.alone) tt) (plain_lone _ (λ given. IsBasisOr given basis) is.basis_is (plain_basis basis), tt);
+        says = (is.alone, is.basis_is);
+      },
+    )
 asked word words (mode.Value on position workers basis) are =
-    let is = are.1 in
-    (are.0, record {
-      pieces = is.pieces;
-      spelling = spelling_of (options_of Value) words is.pieces is.spells is.only (subst EachPlain (sym is.alone) (plain_day is.day on is.day_is.1, tt))
-      (plain_lone _ (λ given. IsPositionOr given position) is.position_is (plain_position position),
-    (plain_lone _ (λ given. AreWorkersOr given workers) is.workers_are (plain_workers workers), (plain_lone _ (λ given. IsBasisOr given basis) is.basis_is (plain_basis basis), tt)));
-      says = ((is.day, is.alone, is.day_is), is.position_is, is.workers_are, is.basis_is);
-    })
+    let is = are.1 in (
+      are.0,
+      record {
+        pieces = is.pieces;
+        spelling = spelling_of (options_of Value) words is.pieces is.spells is.only (subst EachPlain (sym is.alone) (plain_day is.day on is.day_is.1, tt)) (
+          plain_lone _ (λ given. IsPositionOr given position) is.position_is (plain_position position),
+          (plain_lone _ (λ given. AreWorkersOr given workers) is.workers_are (plain_workers workers), (plain_lone _ (λ given. IsBasisOr given basis) is.basis_is (plain_basis basis), tt)),
+        );
+        says = ((is.day, is.alone, is.day_is), is.position_is, is.workers_are, is.basis_is);
+      },
+    )
 asked word words (mode.State id) are =
-    let is = are.1 in
-    (are.0, record {
-      pieces = is.pieces;
-      spelling = spelling_of [] words is.pieces is.spells is.only (plain_lone _ (λ given. IsPolicyOr given id) is.id_is (plain_policy id)) tt;
-      says = is.id_is;
-    })
+    let is = are.1 in (
+      are.0,
+      record {
+        pieces = is.pieces;
+        spelling = spelling_of [] words is.pieces is.spells is.only (plain_lone _ (λ given. IsPolicyOr given id) is.id_is (plain_policy id)) tt;
+        says = is.id_is;
+      },
+    )
 asked word words (mode.Generate seed count lanes) are =
-    let is = are.1 in
-    (are.0, record {
-      pieces = bare (decimal seed) ∷ bare (decimal count) ∷ bare (decimal lanes) ∷ [];
-      spelling = record { spells = is.spells; only = tt; plain = (plain_number 2147483647 seed (omega arith) is.seed_in, (plain_number 100000 count (omega arith) is.count_in.1, (plain_number 8 lanes (omega arith) is.lanes_in.1, tt))) };
-      says = (refl, (is.seed_in, is.count_in, is.lanes_in));
-    })
+    let is = are.1 in (
+      are.0,
+      record {
+        pieces = bare (decimal seed) ∷ bare (decimal count) ∷ bare (decimal lanes) ∷ [];
+        spelling = record { spells = is.spells; only = tt; plain = (plain_number 2147483647 seed (omega arith) is.seed_in, (plain_number 100000 count (omega arith) is.count_in.1, (plain_number 8 lanes (omega arith) is.lanes_in.1, tt))) };
+        says = (refl, (is.seed_in, is.count_in, is.lanes_in));
+      },
+    )
 asked word words (mode.Load seed count lanes workers) are =
-    let is = are.1 in
-    (are.0, record {
-      pieces = bare (decimal seed) ∷ bare (decimal count) ∷ bare (decimal lanes) ∷ bare (decimal workers) ∷ [];
-      spelling = record { spells = is.spells; only = tt; plain = (plain_number 2147483647 seed (omega arith) is.seed_in, (plain_number 100000 count (omega arith) is.count_in.1,
-    (plain_number 8 lanes (omega arith) is.lanes_in.1, (plain_number 64 workers (omega arith) is.workers_in.1, tt)))) };
-      says = (refl, (is.seed_in, is.count_in, is.lanes_in), is.workers_in);
-    })
+    let is = are.1 in (
+      are.0,
+      record {
+        pieces = bare (decimal seed) ∷ bare (decimal count) ∷ bare (decimal lanes) ∷ bare (decimal workers) ∷ [];
+        spelling = record {
+          spells = is.spells;
+          only = tt;
+          plain = (
+            plain_number 2147483647 seed (omega arith) is.seed_in,
+            (
+              plain_number 100000 count (omega arith) is.count_in.1,
+              (plain_number 8 lanes (omega arith) is.lanes_in.1, (plain_number 64 workers (omega arith) is.workers_in.1, tt)),
+            ),
+          );
+        };
+        says = (refl, (is.seed_in, is.count_in, is.lanes_in), is.workers_in);
+      },
+    )
 
 -- without options each piece is a word
 all_bare : (pieces : List WordPiece) → HasOnly [] pieces → spelled pieces ≡ bare_values pieces
