@@ -1,5 +1,5 @@
 -- The select period of the select age at a place.
-use Rattle.std.proofs.Common.{◌≡◌, ℕ, ◌+◌, ◌-◌, ◌<◌, ◌≤◌, [], List, length, arith}
+use Rattle.std.proofs.Common.{◌≡◌, ℕ, ◌+◌, ◌-◌, ◌<◌, [], List, length, arith}
 use Rattle.std.specs.Prelude.{slice_index_or}
 use Rattle.rate_table.specs.Rates.{Rates}
 use Rattle.select_rates.specs.Select.{Selected, IsSelectPeriod, AreSelected}

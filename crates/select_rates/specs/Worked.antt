@@ -1,8 +1,8 @@
 -- Rates worked by hand: issue ages 0 and 1 with a select period of two years, over table Q, whose rates of the ages 0 to
 -- 4 are 0.1, 0.2, 0.25, 0.5 and 1.
-use Rattle.std.specs.Prelude.{ℕ, List, [], ◌∷◌}
+use Rattle.std.specs.Prelude.{[], ◌∷◌}
 use Rattle.rate_table.specs.Rates.{Rates}
-use Rattle.select_rates.specs.Select.{Selected, AreSelected, HasSelectRate, SelectRate}
+use Rattle.select_rates.specs.Select.{Selected, HasSelectRate, SelectRate}
 
 abbrev pub table_q : Rates
 table_q = record { first_age = 0; rates = 100000000 ∷ 200000000 ∷ 250000000 ∷ 500000000 ∷ 1000000000 ∷ [] }
@@ -12,7 +12,7 @@ abbrev pub selected_q : Selected
 selected_q = record {
   first_age = 0;
   rows = (50000000 ∷ 100000000 ∷ []) ∷ (100000000 ∷ 200000000 ∷ []) ∷ [];
-  ultimate = table_q
+  ultimate = table_q;
 }
 
 -- issue age 0: two select rates, and from duration 2 on the ultimate ones of the ages 2 to 4
@@ -45,7 +45,7 @@ abbrev pub late_q : Selected
 late_q = record {
   first_age = 3;
   rows = (10000000 ∷ []) ∷ (20000000 ∷ 30000000 ∷ 40000000 ∷ []) ∷ [];
-  ultimate = table_q
+  ultimate = table_q;
 }
 
 pub record LateSelectAges : Type 0 where

@@ -1,12 +1,11 @@
 ghost use Rattle.std.specs.Prelude.{◌≡◌, ◌<◌, ◌≤◌, ◌+◌, [], length, slice_index, slice_index_or, EachIndex, IfOk};
 ghost use Rattle.rate_table.specs.Rates.{ONE};
 ghost use Rattle.select_rates.specs.Select.{IsSelectPeriod, AreSelected};
-ghost use Rattle.select_rates.specs.inside.Joined.{AreJoined, IsJoined, AreTables};
+ghost use Rattle.select_rates.specs.inside.Joined.{AreJoined, IsJoined, AreJoinedTables};
 
-use crate::fault::NoMemory;
 use crate::rows::SelectRows;
 use rate_table::RateTable;
-use std::alloc::Global;
+use std::alloc::{AllocError, Global};
 
 /// The table of each select age.
 pub fn prepare(
@@ -14,17 +13,15 @@ pub fn prepare(
     first_age: u8,
     rows: &SelectRows,
     ultimate: &RateTable,
-) -> Result<Vec<RateTable>, NoMemory>
+) -> Result<Vec<RateTable>, AllocError>
     requires { AreSelected (record { first_age = first_age; rows = rows.now; ultimate = ultimate.now }) }
     ensures count { IfOk result (λ tables. length tables.items ≡ length rows.now) }
-    ensures each { IfOk result (λ tables. AreTables ultimate.now first_age rows.now tables.items) }
+    ensures each { IfOk result (λ tables. AreJoinedTables ultimate.now first_age rows.now tables.items) }
 {
     let mut tables = Vec::new(alloc);
     for index in 0..rows.len() {
         let table = table_at(alloc, first_age, rows, index, ultimate)?;
-        if tables.push(table).is_err() {
-            return Err(NoMemory);
-        }
+        tables.push(table)?;
     }
     Ok(tables)
 }
@@ -37,7 +34,7 @@ fn table_at(
     rows: &SelectRows,
     index: usize,
     ultimate: &RateTable,
-) -> Result<RateTable, NoMemory>
+) -> Result<RateTable, AllocError>
     requires selected { AreSelected (record { first_age = first_age; rows = rows.now; ultimate = ultimate.now }) }
     requires within { index < length rows.now }
     ensures { IfOk result (IsJoined ultimate.now (first_age + index) (slice_index_or rows.now index [])) }
@@ -46,12 +43,7 @@ fn table_at(
 }
 
 /// The table of an issue age.
-fn join(
-    alloc: Global,
-    age: u8,
-    select: &[u32],
-    ultimate: &RateTable,
-) -> Result<RateTable, NoMemory>
+fn join(alloc: Global, age: u8, select: &[u32], ultimate: &RateTable) -> Result<RateTable, AllocError>
     requires { IsSelectPeriod ultimate.now age select.now }
     ensures { IfOk result (IsJoined ultimate.now age select.now) }
 {
@@ -68,7 +60,7 @@ fn join_rates(
     age: u8,
     select: &[u32],
     ultimate: &RateTable,
-) -> Result<Vec<u32>, NoMemory>
+) -> Result<Vec<u32>, AllocError>
     requires { IsSelectPeriod ultimate.now age select.now }
     ensures joined { IfOk result (λ rates. AreJoined ultimate.now age select.now rates.items) }
     ensures bound { IfOk result (λ rates. EachIndex rates.items (λ k. slice_index rates.items k ≤ ONE)) }

@@ -3,14 +3,12 @@
 #![tactic(auto)]
 
 mod any;
-mod fault;
 mod joining;
 mod rows;
 mod table;
 mod worked;
 
 pub use any::AnyTable;
-pub use fault::NoMemory;
 pub use rows::SelectRows;
 pub use table::SelectTable;
 pub use worked::{

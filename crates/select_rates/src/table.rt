@@ -3,11 +3,10 @@ ghost use Rattle.select_rates.specs.Select.{Selected, AreSelected};
 ghost use Rattle.select_rates.specs.inside.Joined.{ArePrepared};
 ghost use Rattle.select_rates.specs.Table.{IsTableOf};
 
-use crate::fault::NoMemory;
 use crate::joining::prepare;
 use crate::rows::SelectRows;
 use rate_table::RateTable;
-use std::alloc::Global;
+use std::alloc::{AllocError, Global};
 use std::marker::Model;
 use std::snapshot::Snapshot;
 
@@ -42,7 +41,7 @@ impl SelectTable {
         first_age: u8,
         rows: SelectRows,
         ultimate: RateTable,
-    ) -> Result<SelectTable, NoMemory>
+    ) -> Result<SelectTable, AllocError>
         requires { AreSelected (record { first_age = first_age; rows = rows; ultimate = ultimate }) }
         ensures { let given : Selected = record { first_age = first_age; rows = rows; ultimate = ultimate } in
             IfOk result (λ table. table ≡ given) }

@@ -13,12 +13,12 @@ pub record IsJoined (ultimate : Rates) (age : ℕ) (select : List ℕ) (given : 
   pub rates : AreJoined ultimate age select given.rates
 
 -- the tables of the first select ages, in order
-abbrev pub AreTables : Rates → ℕ → List (List ℕ) → List Rates → Type 0
-AreTables ultimate first_age rows tables = (k : ℕ) (d : Rates) → k < length tables
+abbrev pub AreJoinedTables : Rates → ℕ → List (List ℕ) → List Rates → Type 0
+AreJoinedTables ultimate first_age rows tables = (k : ℕ) (d : Rates) → k < length tables
     → IsJoined ultimate (first_age + k) (slice_index_or rows k []) (slice_index_or tables k d)
 
 -- the tables of all select ages
 pub record ArePrepared (table : Selected) (tables : List Rates) : Type 0 where
   pub selected : AreSelected table
   pub count : length tables ≡ length table.rows
-  pub each : AreTables table.ultimate table.first_age table.rows tables
+  pub each : AreJoinedTables table.ultimate table.first_age table.rows tables
