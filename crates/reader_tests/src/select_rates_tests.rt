@@ -30,7 +30,11 @@ const EARLY: &[(u8, u8, &[u32])] = &[
             1_000_000_000,
         ],
     ),
-    (1, 1, &[100_000_000, 200_000_000, 500_000_000, 1_000_000_000]),
+    (
+        1,
+        1,
+        &[100_000_000, 200_000_000, 500_000_000, 1_000_000_000],
+    ),
     (2, 0, TABLE_Q),
     (255, 0, TABLE_Q),
 ];
@@ -69,7 +73,11 @@ fn two_rows(alloc: Global, first: &[u32], second: &[u32]) -> Result<SelectRows, 
 
 fn early(alloc: Global) -> Result<AnyTable, Fail> {
     select_rates_that_make_tables();
-    let rows = two_rows(alloc, &[50_000_000, 100_000_000], &[100_000_000, 200_000_000])?;
+    let rows = two_rows(
+        alloc,
+        &[50_000_000, 100_000_000],
+        &[100_000_000, 200_000_000],
+    )?;
     let table = SelectTable::new(alloc, 0, rows, ultimate(alloc)?)?;
     Ok(AnyTable::Select(table))
 }
@@ -91,11 +99,19 @@ fn along(table: &AnyTable, age: u8) -> Option<(u8, &[u32])> {
 fn tables_of_issue_ages(rt: HostRuntime) -> Result<(), Fail> {
     let early = early(rt.alloc())?;
     for (age, first_age, rates) in EARLY {
-        assert_eq!(rt; along(&early, *age), Some((*first_age, *rates)), "issue age {age}");
+        assert_eq!(rt;
+            along(&early, *age),
+            Some((*first_age, *rates)),
+            "issue age {age}"
+        );
     }
     let late = late(rt.alloc())?;
     for (age, first_age, rates) in LATE {
-        assert_eq!(rt; along(&late, *age), Some((*first_age, *rates)), "issue age {age}");
+        assert_eq!(rt;
+            along(&late, *age),
+            Some((*first_age, *rates)),
+            "issue age {age}"
+        );
     }
     assert_eq!(rt; along(&late, 2), None);
     assert_eq!(rt; along(&late, 0), None);
