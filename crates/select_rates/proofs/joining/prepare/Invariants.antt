@@ -1,0 +1,9 @@
+use Rattle.std.proofs.Common.{◌≡◌, length}
+use Rattle.select_rates.specs.inside.Joined.{AreJoinedTables}
+use Rattle.select_rates.proofs.joining.prepare.Given as goal
+
+abbrev pub invariant-loop-index : goal.invariant-loop-index
+invariant-loop-index l = record {
+  count : length l.tables.items ≡ l.index;
+  each : AreJoinedTables l.ultimate l.first_age l.rows l.tables.items;
+}

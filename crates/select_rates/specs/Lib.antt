@@ -1,0 +1,5 @@
+pub mod Select
+pub mod Table
+pub mod Along
+pub mod Worked
+pub mod inside

@@ -1,0 +1,26 @@
+ghost use Rattle.std.specs.Prelude.{◌↔◌, IsNone, IfSome};
+ghost use Rattle.select_rates.specs.Along.{IsBelow, IsAlong};
+
+use crate::table::SelectTable;
+use rate_table::RateTable;
+
+/// A mortality table, whose rates are by age alone, or by age and duration.
+#[derive(Drop)]
+pub enum AnyTable {
+    Aggregate(RateTable),
+    Select(SelectTable),
+}
+
+impl AnyTable {
+    /// The table of an issue age: at each attained age it has the rate of a life that was insured at that age. `None`
+    /// exactly where the table is select and the age lies below its first select age.
+    pub fn along(&self, age: u8) -> Option<&RateTable>
+        ensures below { IsNone result ↔ IsBelow self.now age }
+        ensures table { IfSome result (λ table. IsAlong self.now age table.now) }
+    {
+        match self {
+            AnyTable::Aggregate(table) => Some(table),
+            AnyTable::Select(table) => table.along(age),
+        }
+    }
+}
