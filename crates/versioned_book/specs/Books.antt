@@ -1,7 +1,6 @@
 -- A book and the settings that it stands for.
 use Rattle.std.specs.Prelude.{◌≡◌, ℕ, ◌+◌, ◌<◌, ◌≤◌, List, [], ◌∷◌, length, map, filter, nat_eq, nat_le, slice_get, None, Some, vec_len, vec_capacity}
-use Rattle.std.specs.List.{sum_by}
-use Rattle.indexmap.specs.IndexMap.{get, keys, values, spare}
+use Rattle.indexmap.specs.IndexMap.{get, keys, spare}
 use Rattle.versioned_book.specs.Versions.{IsRisingTo, trimmed, versions}
 use Rattle.versioned_book.specs.Settings.{Setting, keys_of, own, positions, until}
 use Rattle.versioned_book.specs.declared.chain.Chain.{Chain}
@@ -12,9 +11,14 @@ module _ {V : Type 0} where
   abbrev pub many : Chain V → ℕ
   many chain = length (versions chain)
 
+  -- how many versions these entries have
+  abbrev pub many_in : List (ℕ × Chain V) → ℕ
+  many_in [] = 0
+  many_in (e ∷ es) = many e.1 + many_in es
+
   -- how many versions a book keeps
   abbrev pub kept_of : VersionedBook V → ℕ
-  kept_of book = sum_by many (values book.chains)
+  kept_of book = many_in book.chains.entries
 
   -- the book stands for these settings, of which it keeps what its floor and the positions above it need
   pub record IsBookOf (book : VersionedBook V) (sets : List (Setting V)) : Type 0 where

@@ -64,6 +64,8 @@ impl<V: Copy> VersionedBook<V> {
         ensures book { (sets : List (Setting V)) → IsBookOf self.old sets → IsBookOf self.new (sets ++ record { key = key; position = position; value = value } ∷ []) }
         ensures floor { (self.new.floor ≡ self.old.floor) × (self.new.last ≡ position) }
     {
+        self.last = position;
+        self.kept += 1;
         match self.chains.get_index_of(&key) {
             Some(index) => {
                 let (_key, chain) = self.chains.pair_mut(index);
@@ -75,8 +77,6 @@ impl<V: Copy> VersionedBook<V> {
                 self.firsts.push_reserved(position);
             }
         }
-        self.last = position;
-        self.kept += 1;
     }
 
     /// The newest value of a key.
@@ -128,15 +128,15 @@ impl<V: Copy> VersionedBook<V> {
         ensures book { (sets : List (Setting V)) → IsBookOf self.old sets → IsBookOf self.new sets }
         ensures floor { (self.new.floor ≡ min floor self.old.last) × (self.new.last ≡ self.old.last) }
     {
-        let floor = if floor < self.last { floor } else { self.last };
-        if floor == self.floor {
+        let new_floor = if floor < self.last { floor } else { self.last };
+        if new_floor == self.floor {
             return;
         }
         for index in 0..self.chains.len() {
             let (_key, chain) = self.chains.pair_mut(index);
-            let dropped = chain.cut(floor);
+            let dropped = chain.cut(new_floor);
             self.kept -= dropped as u32;
         }
-        self.floor = floor;
+        self.floor = new_floor;
     }
 }
