@@ -5,3 +5,4 @@ pub mod FirstSetting
 pub mod Places
 pub mod Trimming
 pub mod KeptFew
+pub mod Looking
