@@ -1,9 +1,8 @@
 -- How many keys there are at a position, and the value of one of them.
 use Rattle.std.proofs.Common.{◌≡◌, ℕ, zero, suc, ◌+◌, ◌<◌, ◌≤◌, Bool, true, false, nat_eq, nat_le, List, [], ◌∷◌, length, filter, map, slice_get, get_or, Option, None, Some, IsSome, is_some, Result, Ok, OnOk, refl, sym, ap, ◌∙◌, subst, cond, if◌then◌else◌, arith}
-use Rattle.std.proofs.lemmas.Bool.{le-leb, leb-true, leb-false}
+use Rattle.std.proofs.lemmas.Bool.{le-leb, leb-true, leb-false, lt-leb}
 use Rattle.std.proofs.lemmas.List.{length-map}
 use Rattle.std.proofs.lemmas.Option.{slice_get-get_or, slice_get_within}
-use Rattle.std.specs.List.Sorted.{IsPartitionPoint}
 use Rattle.indexmap.specs.IndexMap.{get, keys}
 use Rattle.versioned_book.specs.Versions.{IsRising, IsRisingTo, or_else, trimmed, value_at, versions}
 use Rattle.versioned_book.specs.Settings.{Setting, keys_of, own, until}
@@ -26,21 +25,21 @@ in_order low (x ∷ qs) last zero (suc j) d h le within = omega (arith, all_high
 in_order low (x ∷ qs) last (suc i) zero d h le within = absurd (omega (arith, le))
 in_order low (x ∷ qs) last (suc i) (suc j) d h le within = in_order x qs last i j d h.1 (omega (arith, le)) (omega (arith, within))
 
-pub parted : (p low : ℕ) (qs : List ℕ) (last i j d : ℕ) → IsRisingTo low qs last → i ≤ j → j < length qs → nat_le (get_or qs j d) p ≡ true → nat_le (get_or qs i d) p ≡ true
-parted p low qs last i j d h le within e = le-leb (get_or qs i d) p (omega (arith, in_order low qs last i j d h le within, leb-true (get_or qs j d) p e))
+pub front_until : (p low : ℕ) (qs : List ℕ) (last j : ℕ) → IsRisingTo low qs last → j < length qs → get_or qs j 0 ≤ p → (i : ℕ) → i < j + 1 → nat_le (get_or qs i 0) p ≡ true
+front_until p low qs last j h within e i le = le-leb (get_or qs i 0) p (omega (arith, in_order low qs last i j 0 h (omega (arith, le)) within, e))
 
-pub partition_count : (p : ℕ) (qs : List ℕ) (r : ℕ) → r ≤ length qs → ((k d : ℕ) → 0 ≤ k → k < r → nat_le (get_or qs k d) p ≡ true)
-    → ((k d : ℕ) → r ≤ k → k < length qs → nat_le (get_or qs k d) p ≡ false) → r ≡ length (filter (λ q. nat_le q p) qs)
+pub back_past : (p low : ℕ) (qs : List ℕ) (last j : ℕ) → IsRisingTo low qs last → p < get_or qs j 0 → (i : ℕ) → j ≤ i → i < length qs → nat_le (get_or qs i 0) p ≡ false
+back_past p low qs last j h e i le within = lt-leb (get_or qs i 0) p (omega (arith, in_order low qs last j i 0 h le within, e))
+
+pub partition_count : (p : ℕ) (qs : List ℕ) (r : ℕ) → r ≤ length qs → ((k : ℕ) → k < r → nat_le (get_or qs k 0) p ≡ true)
+    → ((k : ℕ) → r ≤ k → k < length qs → nat_le (get_or qs k 0) p ≡ false) → r ≡ length (filter (λ q. nat_le q p) qs)
 partition_count p [] r within front back = omega (arith, within)
 partition_count p (x ∷ qs) zero within front back =
-    partition_count p qs zero (omega arith) (λ k d a b. absurd (omega (arith, b))) (λ k d a b. back (suc k) d (omega arith) (omega (arith, b)))
-    ∙ sym (ap (λ b. length (cond b (x ∷ filter (λ q. nat_le q p) qs) (filter (λ q. nat_le q p) qs))) (back zero 0 (omega arith) (omega arith)))
+    partition_count p qs zero (omega arith) (λ k b. absurd (omega (arith, b))) (λ k a b. back (suc k) (omega arith) (omega (arith, b)))
+    ∙ sym (ap (λ b. length (cond b (x ∷ filter (λ q. nat_le q p) qs) (filter (λ q. nat_le q p) qs))) (back zero (omega arith) (omega arith)))
 partition_count p (x ∷ qs) (suc r) within front back =
-    ap suc (partition_count p qs r (omega (arith, within)) (λ k d a b. front (suc k) d (omega arith) (omega (arith, b))) (λ k d a b. back (suc k) d (omega (arith, a)) (omega (arith, b))))
-    ∙ sym (ap (λ b. length (cond b (x ∷ filter (λ q. nat_le q p) qs) (filter (λ q. nat_le q p) qs))) (front zero 0 (omega arith) (omega arith)))
-
-pub count_found : (p : ℕ) (items qs : List ℕ) (r : ℕ) → items ≡ qs → r ≤ length items → IsPartitionPoint (λ q. nat_le q p ≡ true) (λ q. nat_le q p ≡ false) items r → r ≡ length (filter (λ q. nat_le q p) qs)
-count_found p items qs r e within parts = partition_count p items r within parts.0 parts.1 ∙ ap (λ l. length (filter (λ q. nat_le q p) l)) e
+    ap suc (partition_count p qs r (omega (arith, within)) (λ k b. front (suc k) (omega (arith, b))) (λ k a b. back (suc k) (omega (arith, a)) (omega (arith, b))))
+    ∙ sym (ap (λ b. length (cond b (x ∷ filter (λ q. nat_le q p) qs) (filter (λ q. nat_le q p) qs))) (front zero (omega arith)))
 
 pub until_few : (p low : ℕ) (qs : List ℕ) (last : ℕ) → IsRisingTo low qs last → low ≤ p → low + length (filter (λ q. nat_le q p) qs) ≤ p
 until_few p low [] last h within = omega (arith, within)

@@ -116,8 +116,6 @@ module _ {V : Type 0} where
     value_at-trimmed_from p x [] h = refl
     value_at-trimmed_from p x (w ∷ vs) h = by (nat_le w.0 floor) refl (value_at-trimmed_from p w vs h)
       where
-        other : Option V
-        other = if nat_le x.0 p then Some x.1 else None
         by : (b : Bool) → nat_le w.0 floor ≡ b → value_at p (trimmed_from floor w vs) ≡ value_at p (w ∷ vs)
             → value_at p (if b then trimmed_from floor w vs else x ∷ w ∷ vs) ≡ value_at p (x ∷ w ∷ vs)
         by true e rest =
@@ -184,8 +182,6 @@ module _ {V : Type 0} where
     few_from low x (w ∷ vs) h =
         by (nat_le w.0 floor) (nat_lt floor w.0) refl refl (few_from x.0 w vs h.1) (all_after w.0 vs)
       where
-        later : ℕ
-        later = length (filter (λ v. nat_lt floor v.0) vs)
         by : (b c : Bool) → nat_le w.0 floor ≡ b → nat_lt floor w.0 ≡ c → length (trimmed_from floor w vs) ≤ length (filter (λ v. nat_lt floor v.0) vs) + 1
             → (floor ≤ w.0 → IsRising w.0 vs → length (filter (λ v. nat_lt floor v.0) vs) ≡ length vs)
             → length (if b then trimmed_from floor w vs else x ∷ w ∷ vs) ≤ length (cond c (w ∷ filter (λ v. nat_lt floor v.0) vs) (filter (λ v. nat_lt floor v.0) vs)) + 1

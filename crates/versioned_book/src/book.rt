@@ -1,9 +1,9 @@
 // The book: a chain of versions for each key, in the order in which the keys were first set.
-ghost use Rattle.std.specs.Prelude.{◌≡◌, ℕ, ◌+◌, ◌<◌, ◌≤◌, [], ◌∷◌, ◌++◌, List, length, min, nat_eq, nat_le, slice_get, Some, IfOk, OnOk, vec_len};
+ghost use Rattle.std.specs.Prelude.{◌≡◌, ℕ, ◌+◌, ◌<◌, ◌≤◌, [], ◌∷◌, ◌++◌, List, filter, length, min, nat_eq, nat_le, slice_get, Some, IfOk, OnOk, vec_len};
 ghost use Rattle.indexmap.specs.IndexMap.{keys, index_map_len};
 ghost use Rattle.versioned_book.specs.Books.{HasRoom, IsBookOf, Stands, kept_of};
 ghost use Rattle.versioned_book.specs.Settings.{Setting, after, keys_of, own, until};
-ghost use Rattle.versioned_book.specs.Versions.{AreFewSteps, newest_of, trimmed, value_at};
+ghost use Rattle.versioned_book.specs.Versions.{AreFewSteps, IsRisingTo, newest_of, trimmed, value_at};
 
 use crate::Chain;
 use indexmap::IndexMap;
@@ -94,11 +94,7 @@ impl<V: Copy> VersionedBook<V> {
         requires { Stands self.now }
         ensures { (sets : List (Setting V)) → IsBookOf self.now sets → result ≡ length (keys_of (until p sets)) }
     {
-        self.firsts.as_slice().partition_point(
-            |first: &u32| -> bool
-                ensures { result ≡ nat_le first.now p }
-            { *first <= p },
-        ) as u32
+        many_until(self.firsts.as_slice(), p) as u32
     }
 
     /// The value of the index-th key at a position from the floor on, in few steps: two to their number is at most twice
@@ -139,4 +135,22 @@ impl<V: Copy> VersionedBook<V> {
         }
         self.floor = new_floor;
     }
+}
+
+// How many of rising positions are at or before p.
+fn many_until(positions: &[u32], p: u32) -> usize
+    requires { (last : ℕ) × IsRisingTo 0 positions.now last }
+    ensures { result ≡ length (filter (λ first. nat_le first p) positions.now) }
+{
+    let mut low = 0;
+    let mut high = positions.len();
+    while low < high {
+        let middle = low + (high - low) / 2;
+        if positions[middle] <= p {
+            low = middle + 1;
+        } else {
+            high = middle;
+        }
+    }
+    low
 }
