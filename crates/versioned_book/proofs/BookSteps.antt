@@ -1,18 +1,15 @@
 -- What a call does to what a book stands for.
-use Rattle.std.proofs.Common.{◌≡◌, ℕ, zero, suc, ◌+◌, ◌<◌, ◌≤◌, Bool, true, false, true≢false, nat_eq, nat_le, nat_lt, List, [], ◌∷◌, ◌++◌, length, filter, map, slice_get, Option, None, Some, IsSome, refl, sym, ap, ◌∙◌, subst, if◌then◌else◌, cond, ◌⊎◌, inl, inr, eq-eqb, arith}
-use Rattle.std.proofs.lemmas.Bool.{leb-true, leb-false, le-leb, lt-leb, eqb-true, cases_lt}
-use Rattle.std.proofs.lemmas.List.{length_push}
-use Rattle.std.proofs.lemmas.List.Elements.{filter-append}
+use Rattle.std.proofs.Common.{◌≡◌, ℕ, zero, suc, ◌+◌, ◌<◌, ◌≤◌, Bool, true, false, nat_eq, nat_le, List, [], ◌∷◌, ◌++◌, length, filter, map, slice_get, None, Some, refl, sym, ap, ◌∙◌, subst, ◌⊎◌, inl, inr, arith}
+use Rattle.std.proofs.lemmas.Bool.{eqb-true, cases_lt}
 use Rattle.std.specs.List.{list_any}
-use Rattle.std.specs.Map.{lookup, keys_of as entry_keys}
 use Rattle.indexmap.specs.IndexMap.{get, keys, set_value_at, Updates}
-use Rattle.versioned_book.specs.Versions.{IsRising, IsRisingTo, trimmed, versions}
+use Rattle.versioned_book.specs.Versions.{IsRisingTo, trimmed, versions}
 use Rattle.versioned_book.specs.Settings.{Setting, keys_of, own, positions, until}
 use Rattle.versioned_book.specs.Books.{IsBookOf, kept_of, many, many_in}
 use Rattle.versioned_book.specs.declared.chain.Chain.{Chain}
 use Rattle.versioned_book.specs.declared.book.VersionedBook.{VersionedBook}
 use Rattle.versioned_book.proofs.VersionSteps.{some_same, trimmed-push}
-use Rattle.versioned_book.proofs.SettingSteps.{all_until, any_absent, any_found, keys_of-new, keys_of-old, none_until, own-other, own-push, positions_rise, rising-few, rising-longer, rising-push, until_all, until_past}
+use Rattle.versioned_book.proofs.SettingSteps.{all_until, any_found, keys_of-old, own-other, own-push, positions_rise, rising-longer, until_all, until_past}
 
 module _ {V : Type 0} where
   -- the number of versions, where one chain is another
@@ -58,9 +55,9 @@ module _ {V : Type 0} where
             let this : s.key ≡ key = eqb-true s.key key is in
             let got : more ≡ c = some_same more c (sym updates.1 ∙ ap (get nat_eq new.chains) this ∙ e) in
             let all : versions more ≡ trimmed book.floor (own s.key (sets ++ s ∷ [])) =
-                  pushed ∙ ap (λ l. l ++ (s.position, s.value) ∷ []) (h.kept s.key chain found)
-                  ∙ sym (trimmed-push book.floor (own s.key sets) (s.position, s.value) (omega (arith, h.floor, rises)))
-                  ∙ ap (trimmed book.floor) (sym (own-push sets s)) in
+            pushed ∙ ap (λ l. l ++ (s.position, s.value) ∷ []) (h.kept s.key chain found)
+            ∙ sym (trimmed-push book.floor (own s.key sets) (s.position, s.value) (omega (arith, h.floor, rises)))
+            ∙ ap (trimmed book.floor) (sym (own-push sets s)) in
             ap versions (sym got) ∙ all ∙ ap (λ k. trimmed book.floor (own k (sets ++ s ∷ []))) this ∙ ap (λ f. trimmed f (own key (sets ++ s ∷ []))) (sym floor)
         by false isnt =
             h.kept key c (sym (updates.2 key isnt) ∙ e) ∙ ap (λ f. trimmed f (own key sets)) (sym floor) ∙ ap (trimmed new.floor) (sym (own-other sets s key isnt))
@@ -81,10 +78,12 @@ module _ {V : Type 0} where
       where
         by : (t : Bool) → nat_eq s.key key ≡ t → (v : V) (rest : List (ℕ × V)) → own key sets ≡ (first, v) ∷ rest
             → (v : V) × (rest : List (ℕ × V)) × (own key (sets ++ s ∷ []) ≡ (first, v) ∷ rest)
-        by true this v rest e =
-            (v, rest ++ (s.position, s.value) ∷ [],
-                subst (λ k. own k (sets ++ s ∷ []) ≡ own k sets ++ (s.position, s.value) ∷ []) (eqb-true s.key key this) (own-push sets s)
-                ∙ ap (λ l. l ++ (s.position, s.value) ∷ []) e)
+        by true this v rest e = (
+          v,
+          rest ++ (s.position, s.value) ∷ [],
+          subst (λ k. own k (sets ++ s ∷ []) ≡ own k sets ++ (s.position, s.value) ∷ []) (eqb-true s.key key this) (own-push sets s)
+              ∙ ap (λ l. l ++ (s.position, s.value) ∷ []) e,
+        )
         by false isnt v rest e = (v, rest, own-other sets s key isnt ∙ e)
 
     counts_more : (p : ℕ) → length (keys_of (until p (sets ++ s ∷ []))) ≡ length (filter (λ first. nat_le first p) new.firsts.items)
@@ -98,17 +97,17 @@ module _ {V : Type 0} where
 
     pub set_more : IsBookOf new (sets ++ s ∷ [])
     set_more = record {
-        order = same ∙ h.order ∙ sym old_keys;
-        kept = kept_more;
-        absent = absent_more;
-        rising = subst (λ l. IsRisingTo 0 (positions (sets ++ s ∷ [])) l) (sym last) (positions_rise sets s book.last h.rising rises);
-        floor = omega (arith, floor, last, h.floor, rises);
-        firsts = subst (λ l. IsRisingTo 0 l new.last) (sym firsts) (rising-longer 0 book.firsts.items book.last new.last h.firsts (omega (arith, last, rises)));
-        begun = begun_more;
-        counts = counts_more;
-        count = kept ∙ ap (λ n. n + 1) h.count ∙ sym one_more;
-        bound = omega (arith, kept, last, h.bound, rises)
-      }
+      order = same ∙ h.order ∙ sym old_keys;
+      kept = kept_more;
+      absent = absent_more;
+      rising = subst (λ l. IsRisingTo 0 (positions (sets ++ s ∷ [])) l) (sym last) (positions_rise sets s book.last h.rising rises);
+      floor = omega (arith, floor, last, h.floor, rises);
+      firsts = subst (λ l. IsRisingTo 0 l new.last) (sym firsts) (rising-longer 0 book.firsts.items book.last new.last h.firsts (omega (arith, last, rises)));
+      begun = begun_more;
+      counts = counts_more;
+      count = kept ∙ ap (λ n. n + 1) h.count ∙ sym one_more;
+      bound = omega (arith, kept, last, h.bound, rises);
+    }
 
   -- room for a key changes nothing
   module _ (book new : VersionedBook V) (sets : List (Setting V)) (key : ℕ) (chain more : Chain V)
@@ -135,14 +134,14 @@ module _ {V : Type 0} where
 
     pub reserved : IsBookOf new sets
     reserved = record {
-        order = same ∙ h.order;
-        kept = kept_same;
-        absent = absent_same;
-        rising = subst (λ l. IsRisingTo 0 (positions sets) l) (sym last) h.rising;
-        floor = omega (arith, floor, last, h.floor);
-        firsts = subst (λ l. IsRisingTo 0 l new.last) (sym firsts) (subst (λ l. IsRisingTo 0 book.firsts.items l) (sym last) h.firsts);
-        begun = λ i k first at is. h.begun i k first (sym (ap (λ l. slice_get l i) firsts) ∙ at) is;
-        counts = λ p. h.counts p ∙ sym (ap (λ l. length (filter (λ first. nat_le first p) l)) firsts);
-        count = kept ∙ h.count ∙ sym many_same;
-        bound = omega (arith, kept, last, h.bound)
-      }
+      order = same ∙ h.order;
+      kept = kept_same;
+      absent = absent_same;
+      rising = subst (λ l. IsRisingTo 0 (positions sets) l) (sym last) h.rising;
+      floor = omega (arith, floor, last, h.floor);
+      firsts = subst (λ l. IsRisingTo 0 l new.last) (sym firsts) (subst (λ l. IsRisingTo 0 book.firsts.items l) (sym last) h.firsts);
+      begun = λ i k first at is. h.begun i k first (sym (ap (λ l. slice_get l i) firsts) ∙ at) is;
+      counts = λ p. h.counts p ∙ sym (ap (λ l. length (filter (λ first. nat_le first p) l)) firsts);
+      count = kept ∙ h.count ∙ sym many_same;
+      bound = omega (arith, kept, last, h.bound);
+    }

@@ -1,12 +1,12 @@
 -- The first setting of a key.
-use Rattle.std.proofs.Common.{◌≡◌, ℕ, zero, suc, ◌+◌, ◌<◌, ◌≤◌, Bool, true, false, nat_eq, nat_le, nat_lt, List, [], ◌∷◌, ◌++◌, length, filter, map, slice_get, Option, None, Some, refl, sym, ap, ◌∙◌, subst, cond, ◌⊎◌, inl, inr, append-nil, arith}
+use Rattle.std.proofs.Common.{◌≡◌, ℕ, zero, suc, ◌+◌, ◌<◌, ◌≤◌, Bool, true, false, nat_eq, nat_le, List, [], ◌∷◌, ◌++◌, length, filter, slice_get, None, Some, refl, sym, ap, ◌∙◌, subst, cond, ◌⊎◌, inl, inr, append-nil, arith}
 use Rattle.std.proofs.lemmas.Bool.{lt-leb, eqb-true, cases_lt}
 use Rattle.std.proofs.lemmas.List.{length_push, map-append}
 use Rattle.std.proofs.lemmas.List.Elements.{filter-append}
 use Rattle.std.proofs.lemmas.Option.{slice_get_within}
 use Rattle.std.specs.List.{list_any}
 use Rattle.std.specs.Map.{keys_of as entry_keys}
-use Rattle.indexmap.specs.IndexMap.{get, keys, Updates}
+use Rattle.indexmap.specs.IndexMap.{get, Updates}
 use Rattle.versioned_book.specs.Versions.{IsRisingTo, trimmed, versions}
 use Rattle.versioned_book.specs.Settings.{Setting, keys_of, own, positions, until}
 use Rattle.versioned_book.specs.Books.{IsBookOf, kept_of, many, many_in}
@@ -82,8 +82,8 @@ module _ {V : Type 0} (book new : VersionedBook V) (sets : List (Setting V)) (s 
       by (inl past) =
           ap (λ l. length (keys_of l)) (until_past p sets s past) ∙ h.counts p
           ∙ sym (ap length (filter-append (λ first. nat_le first p) book.firsts.items (s.position ∷ [])
-              ∙ ap (λ b. filter (λ first. nat_le first p) book.firsts.items ++ cond b (s.position ∷ []) []) (lt-leb s.position p past)
-              ∙ append-nil (filter (λ first. nat_le first p) book.firsts.items)))
+          ∙ ap (λ b. filter (λ first. nat_le first p) book.firsts.items ++ cond b (s.position ∷ []) []) (lt-leb s.position p past)
+          ∙ append-nil (filter (λ first. nat_le first p) book.firsts.items)))
       by (inr within) =
           ap (λ l. length (keys_of l)) (until_all p 0 (sets ++ s ∷ []) s.position (positions_rise sets s book.last h.rising rises) within)
           ∙ ap length new_keys ∙ length_push (keys_of sets) s.key ∙ ap (λ n. n + 1) (as_many book sets h) ∙ sym (length_push book.firsts.items s.position)
@@ -91,17 +91,17 @@ module _ {V : Type 0} (book new : VersionedBook V) (sets : List (Setting V)) (s 
 
   pub set_first : IsBookOf new (sets ++ s ∷ [])
   set_first = record {
-      order = ap entry_keys entries ∙ map-append (λ (e : ℕ × Chain V). e.0) book.chains.entries ((s.key, chain) ∷ []) ∙ ap (λ l. l ++ s.key ∷ []) h.order ∙ sym new_keys;
-      kept = kept_first;
-      absent = absent_first;
-      rising = subst (λ l. IsRisingTo 0 (positions (sets ++ s ∷ [])) l) (sym last) (positions_rise sets s book.last h.rising rises);
-      floor = omega (arith, floor, last, h.floor, rises);
-      firsts = subst (λ l. IsRisingTo 0 l new.last) (sym firsts) (subst (λ l. IsRisingTo 0 (book.firsts.items ++ s.position ∷ []) l) (sym last) (rising-push 0 book.firsts.items book.last s.position h.firsts rises));
-      begun = begun_first;
-      counts = counts_first;
-      count =
-          let m : kept_of new ≡ kept_of book + many chain = ap many_in entries ∙ many_in-push book.chains.entries s.key chain in
-          let l : many chain ≡ 1 = ap length one in
-          omega (arith, kept, h.count, m, l);
-      bound = omega (arith, kept, last, h.bound, rises)
-    }
+    order = ap entry_keys entries ∙ map-append (λ (e : ℕ × Chain V). e.0) book.chains.entries ((s.key, chain) ∷ []) ∙ ap (λ l. l ++ s.key ∷ []) h.order ∙ sym new_keys;
+    kept = kept_first;
+    absent = absent_first;
+    rising = subst (λ l. IsRisingTo 0 (positions (sets ++ s ∷ [])) l) (sym last) (positions_rise sets s book.last h.rising rises);
+    floor = omega (arith, floor, last, h.floor, rises);
+    firsts = subst (λ l. IsRisingTo 0 l new.last) (sym firsts) (subst (λ l. IsRisingTo 0 (book.firsts.items ++ s.position ∷ []) l) (sym last) (rising-push 0 book.firsts.items book.last s.position h.firsts rises));
+    begun = begun_first;
+    counts = counts_first;
+    count =
+        let m : kept_of new ≡ kept_of book + many chain = ap many_in entries ∙ many_in-push book.chains.entries s.key chain in
+        let l : many chain ≡ 1 = ap length one in
+        omega (arith, kept, h.count, m, l);
+    bound = omega (arith, kept, last, h.bound, rises);
+  }

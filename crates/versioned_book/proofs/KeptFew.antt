@@ -1,11 +1,10 @@
 -- How many versions are kept: at most one for each key, and one for each setting after the floor.
-use Rattle.std.proofs.Common.{◌≡◌, ℕ, zero, suc, slice_get, ◌+◌, ◌≤◌, Bool, true, false, nat_eq, nat_lt, List, [], ◌∷◌, ◌++◌, length, filter, Option, None, Some, refl, sym, ap, ◌∙◌, subst, cond, if◌then◌else◌, ◌||◌, eq-eqb, arith}
+use Rattle.std.proofs.Common.{◌≡◌, ℕ, zero, suc, slice_get, ◌+◌, ◌≤◌, Bool, true, false, nat_eq, List, [], ◌∷◌, ◌++◌, length, Some, refl, sym, ap, ◌∙◌, subst, cond, if◌then◌else◌, ◌||◌, eq-eqb, arith}
 use Rattle.std.proofs.lemmas.Bool.{eqb-true}
 use Rattle.std.proofs.lemmas.List.{length-map}
 use Rattle.std.specs.List.{list_any}
 use Rattle.std.specs.Map.{lookup, keys_of as entry_keys}
 use Rattle.indexmap.specs.IndexMap.{get, keys}
-use Rattle.versioned_book.specs.Versions.{trimmed, versions}
 use Rattle.versioned_book.specs.Settings.{Setting, after, keys_after, keys_of, own, with_key}
 use Rattle.versioned_book.specs.Books.{IsBookOf, kept_of, many, many_in}
 use Rattle.versioned_book.specs.declared.chain.Chain.{Chain}
@@ -109,8 +108,11 @@ module _ {V : Type 0} where
       → ((key : ℕ) (c : Chain V) → lookup (nat_eq key) es ≡ Some c → many c ≤ length (own key sets) + 1) → many_in es ≤ length es + all_own sets (entry_keys es)
   chains_few sets [] apart h = omega arith
   chains_few sets (e ∷ es) apart h =
-      omega (arith, h e.0 e.1 (ap (λ b. cond b (Some e.1) (lookup (nat_eq e.0) es)) (eq-eqb e.0 e.0 refl)),
-          chains_few sets es apart.1 (λ key c found. h key c (lookup_past e es apart.0 key c found)))
+      omega (
+        arith,
+        h e.0 e.1 (ap (λ b. cond b (Some e.1) (lookup (nat_eq e.0) es)) (eq-eqb e.0 e.0 refl)),
+        chains_few sets es apart.1 (λ key c found. h key c (lookup_past e es apart.0 key c found)),
+      )
 
   pub book_apart : (book : VersionedBook V) (sets : List (Setting V)) → IsBookOf book sets → AreApart (keys book.chains)
   book_apart book sets h = subst AreApart (sym h.order) (apart-after [] sets tt)
@@ -118,8 +120,13 @@ module _ {V : Type 0} where
   pub kept_few : (book : VersionedBook V) (sets : List (Setting V)) → IsBookOf book sets → kept_of book ≤ length (keys_of sets) + length (after book.floor sets)
   kept_few book sets h =
       let apart : AreApart (keys book.chains) = subst AreApart (sym h.order) (apart-after [] sets tt) in
-      omega (arith, chains_few (after book.floor sets) book.chains.entries apart each, own_few (after book.floor sets) (keys book.chains) apart,
-          length-map book.chains.entries (λ (e : ℕ × Chain V). e.0), ap length h.order)
+      omega (
+        arith,
+        chains_few (after book.floor sets) book.chains.entries apart each,
+        own_few (after book.floor sets) (keys book.chains) apart,
+        length-map book.chains.entries (λ (e : ℕ × Chain V). e.0),
+        ap length h.order,
+      )
     where
       each : (key : ℕ) (c : Chain V) → get nat_eq book.chains key ≡ Some c → many c ≤ length (own key (after book.floor sets)) + 1
       each key c found =

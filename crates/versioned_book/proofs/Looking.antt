@@ -1,15 +1,15 @@
 -- How many keys there are at a position, and the value of one of them.
-use Rattle.std.proofs.Common.{◌≡◌, ℕ, zero, suc, ◌+◌, ◌<◌, ◌≤◌, Bool, true, false, nat_eq, nat_le, List, [], ◌∷◌, length, filter, map, slice_get, get_or, Option, None, Some, IsSome, is_some, Result, Ok, OnOk, refl, sym, ap, ◌∙◌, subst, cond, if◌then◌else◌, arith}
+use Rattle.std.proofs.Common.{◌≡◌, ℕ, zero, suc, ◌+◌, ◌<◌, ◌≤◌, Bool, true, false, nat_eq, nat_le, List, [], ◌∷◌, length, filter, slice_get, get_or, Option, None, Some, IsSome, is_some, Result, Ok, OnOk, refl, sym, ap, ◌∙◌, subst, cond, if◌then◌else◌, arith}
 use Rattle.std.proofs.lemmas.Bool.{le-leb, leb-true, leb-false, lt-leb}
 use Rattle.std.proofs.lemmas.List.{length-map}
-use Rattle.std.proofs.lemmas.Option.{slice_get-get_or, slice_get_within}
-use Rattle.indexmap.specs.IndexMap.{get, keys}
+use Rattle.std.proofs.lemmas.Option.{slice_get_within}
+use Rattle.indexmap.specs.IndexMap.{get}
 use Rattle.versioned_book.specs.Versions.{IsRising, IsRisingTo, or_else, trimmed, value_at, versions}
 use Rattle.versioned_book.specs.Settings.{Setting, keys_of, own, until}
 use Rattle.versioned_book.specs.Books.{IsBookOf}
 use Rattle.versioned_book.specs.declared.chain.Chain.{Chain}
 use Rattle.versioned_book.specs.declared.book.VersionedBook.{VersionedBook}
-use Rattle.versioned_book.proofs.VersionSteps.{rising-trimmed, some_same, value_at-trimmed}
+use Rattle.versioned_book.proofs.VersionSteps.{rising-trimmed, value_at-trimmed}
 use Rattle.versioned_book.proofs.SettingSteps.{first_until, none_until, own_rising}
 use Rattle.versioned_book.proofs.BookSteps.{as_many, key_at_place}
 
@@ -81,7 +81,7 @@ module _ {V : Type 0} where
         place = sym (ap (λ l. slice_get l index) h.order) ∙ key_at_place book.chains.entries index key chain entry;
         kept = kept;
         rising = subst (IsRising 0) (sym kept) (rising-trimmed book.floor 0 (own key sets) (own_rising key 0 sets book.last h.rising));
-        value = λ p from. ap (value_at p) kept ∙ value_at-trimmed book.floor p (own key sets) from
+        value = λ p from. ap (value_at p) kept ∙ value_at-trimmed book.floor p (own key sets) from;
       }
 
   -- it has a value where the key was there
@@ -91,5 +91,5 @@ module _ {V : Type 0} where
       let first = first_until p 0 book.firsts.items book.last index h.firsts (subst (λ n. index < n) (h.counts p) within) in
       let b = h.begun index key first.0 first.1 place in
       let one : value_at p (own key sets) ≡ or_else (value_at p b.1) (Some b.0) =
-            ap (value_at p) b.2 ∙ ap (λ t. or_else (value_at p b.1) (if t then Some b.0 else None)) (le-leb first.0 p first.2) in
+      ap (value_at p) b.2 ∙ ap (λ t. or_else (value_at p b.1) (if t then Some b.0 else None)) (le-leb first.0 p first.2) in
       subst IsSome (sym one) (some_else (value_at p b.1) b.0)

@@ -1,5 +1,5 @@
 -- The entry of a key in a map of chains, before and after a write to its chain.
-use Rattle.std.proofs.Common.{◌≡◌, ℕ, ◌+◌, Bool, true, nat_eq, List, slice_get, get_or, position, Option, Some, Result, Ok, Err, OnOk, refl, sym, ap, ◌∙◌, subst, arith}
+use Rattle.std.proofs.Common.{◌≡◌, ℕ, ◌+◌, true, nat_eq, slice_get, get_or, position, Some, Result, Ok, Err, OnOk, sym, ◌∙◌, subst}
 use Rattle.std.proofs.lemmas.Bool.{eqb-true}
 use Rattle.std.proofs.lemmas.List.Quantifiers.{position-Some}
 use Rattle.std.proofs.lemmas.Option.{get_or_from_slice_get}
@@ -32,5 +32,5 @@ module _ {V S : Type 0} where
         found = sym value ∙ value_at_place m.entries i k chain entry;
         updates = subst (λ x. Updates nat_eq m (with_value_at m i w) x (Some w)) is (updates-with_value_at m i w nat_eq_equiv unique k chain entry);
         same = keys-with_value_at m i w;
-        sum = many_in-set m.entries i k chain w entry
+        sum = many_in-set m.entries i k chain w entry;
       }

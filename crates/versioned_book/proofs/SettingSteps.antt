@@ -1,11 +1,9 @@
 -- One more setting: the keys, the versions of each, and how many keys there were at a position.
-use Rattle.std.proofs.Common.{◌≡◌, ℕ, zero, suc, ◌+◌, ◌<◌, ◌≤◌, Bool, true, false, true≢false, nat_eq, nat_le, nat_lt, List, [], ◌∷◌, ◌++◌, length, filter, map, slice_get, Option, None, Some, IsSome, refl, sym, ap, ◌∙◌, subst, if◌then◌else◌, cond, ◌||◌, eq-eqb, append-nil, append_assoc, arith}
+use Rattle.std.proofs.Common.{◌≡◌, ℕ, zero, suc, ◌+◌, ◌<◌, ◌≤◌, Bool, true, false, nat_eq, nat_le, nat_lt, List, [], ◌∷◌, ◌++◌, length, filter, slice_get, None, Some, refl, sym, ap, ◌∙◌, subst, if◌then◌else◌, cond, ◌||◌, eq-eqb, append-nil, arith}
 use Rattle.std.proofs.lemmas.Bool.{leb-true, leb-false, le-leb, lt-leb}
-use Rattle.std.proofs.lemmas.List.{length_push}
 use Rattle.std.proofs.lemmas.List.Elements.{filter-append}
 use Rattle.std.specs.List.{list_any}
 use Rattle.std.specs.Map.{lookup, keys_of as entry_keys}
-use Rattle.std.proofs.lemmas.Bool.{eqb-true}
 use Rattle.versioned_book.specs.Versions.{IsRising, IsRisingTo}
 use Rattle.versioned_book.specs.Settings.{Setting, after, keys_after, keys_of, own, positions, until, with_key}
 
@@ -140,10 +138,12 @@ module _ {V : Type 0} where
           ≡ cond b (if nat_eq s.key key then (s.position, s.value) ∷ own key (after floor sets) else own key (after floor sets)) (own key (after floor sets))
       left true = refl
       left false = refl
+
       right : (c : Bool) → filter (λ v. nat_lt floor v.0) (if c then (s.position, s.value) ∷ own key sets else own key sets)
           ≡ (if c then cond (nat_lt floor s.position) ((s.position, s.value) ∷ filter (λ v. nat_lt floor v.0) (own key sets)) (filter (λ v. nat_lt floor v.0) (own key sets)) else filter (λ v. nat_lt floor v.0) (own key sets))
       right true = refl
       right false = refl
+
       middle : (b c : Bool) → own key (after floor sets) ≡ filter (λ v. nat_lt floor v.0) (own key sets)
           → cond b (if c then (s.position, s.value) ∷ own key (after floor sets) else own key (after floor sets)) (own key (after floor sets))
           ≡ (if c then cond b ((s.position, s.value) ∷ filter (λ v. nat_lt floor v.0) (own key sets)) (filter (λ v. nat_lt floor v.0) (own key sets)) else filter (λ v. nat_lt floor v.0) (own key sets))

@@ -1,12 +1,11 @@
 -- A trim, chain by chain.
-use Rattle.std.proofs.Common.{◌≡◌, ℕ, zero, suc, ◌+◌, ◌<◌, ◌≤◌, Bool, true, false, nat_eq, nat_le, List, [], ◌∷◌, length, filter, map, slice_get, Option, None, Some, refl, sym, ap, ◌∙◌, subst, cond, ◌⊎◌, inl, inr, arith}
+use Rattle.std.proofs.Common.{◌≡◌, ℕ, suc, ◌+◌, ◌<◌, ◌≤◌, Bool, true, false, nat_eq, nat_le, List, [], ◌∷◌, length, filter, slice_get, None, Some, refl, sym, ap, ◌∙◌, subst, cond, ◌⊎◌, inl, inr, arith}
 use Rattle.std.proofs.lemmas.Bool.{eqb-true, eq-eqb, cases_lt}
-use Rattle.std.proofs.lemmas.List.{length-map}
 use Rattle.std.proofs.lemmas.Option.{slice_get_within}
 use Rattle.std.specs.Map.{lookup, keys_of as entry_keys}
 use Rattle.indexmap.specs.IndexMap.{get, keys, Updates}
 use Rattle.versioned_book.specs.Versions.{IsRisingTo, trimmed, versions}
-use Rattle.versioned_book.specs.Settings.{Setting, keys_of, own, positions, until}
+use Rattle.versioned_book.specs.Settings.{Setting, own, positions}
 use Rattle.versioned_book.specs.Books.{IsBookOf, kept_of, many, many_in}
 use Rattle.versioned_book.specs.declared.chain.Chain.{Chain}
 use Rattle.versioned_book.specs.declared.book.VersionedBook.{VersionedBook}
@@ -40,14 +39,14 @@ module _ {V : Type 0} where
 
   pub none_cut : (book : VersionedBook V) (sets : List (Setting V)) (floor : ℕ) → IsBookOf book sets → AreCut book book sets floor 0
   none_cut book sets floor h = record {
-      same = refl;
-      each = λ key c e. let p = place_of book.chains.entries key c e in inr (p.0, omega arith, p.1, h.kept key c e);
-      absent = h.absent;
-      count = h.count;
-      bound = omega arith;
-      firsts = refl;
-      last = refl
-    }
+    same = refl;
+    each = λ key c e. let p = place_of book.chains.entries key c e in inr (p.0, omega arith, p.1, h.kept key c e);
+    absent = h.absent;
+    count = h.count;
+    bound = omega arith;
+    firsts = refl;
+    last = refl;
+  }
 
   module _ (book now next : VersionedBook V) (sets : List (Setting V)) (floor i key dropped : ℕ) (chain cut : Chain V)
       (later : book.floor ≤ floor) (place : slice_get (keys now.chains) i ≡ Some key)
@@ -76,6 +75,7 @@ module _ {V : Type 0} where
                 let at : r.0 ≡ i = omega (arith, not_past, r.1) in
                 let is : key ≡ k = some_same key k (sym place ∙ ap (λ l. slice_get l i) h.same ∙ sym (ap (slice_get (keys book.chains)) at) ∙ r.2) in
                 let yes : nat_eq key k ≡ true = eq-eqb key k is in cc
+
         by : (b : Bool) → nat_eq key k ≡ b → IsCutOr book sets floor (i + 1) k c
         by true is =
             let this : key ≡ k = eqb-true key k is in
@@ -92,14 +92,14 @@ module _ {V : Type 0} where
 
     pub cut_more : AreCut book next sets floor (i + 1)
     cut_more = record {
-        same = same ∙ h.same;
-        each = each_more;
-        absent = absent_next;
-        count = omega (arith, kept, h.count, sum, drops);
-        bound = omega (arith, kept, h.bound);
-        firsts = firsts ∙ h.firsts;
-        last = last ∙ h.last
-      }
+      same = same ∙ h.same;
+      each = each_more;
+      absent = absent_next;
+      count = omega (arith, kept, h.count, sum, drops);
+      bound = omega (arith, kept, h.bound);
+      firsts = firsts ∙ h.firsts;
+      last = last ∙ h.last;
+    }
 
   -- so many are dropped at most as were kept
   pub dropped_few : (book now : VersionedBook V) (sets : List (Setting V)) (floor i dropped kept_after many_before many_after : ℕ) → AreCut book now sets floor i
@@ -130,5 +130,5 @@ module _ {V : Type 0} where
           begun = λ i k first at is. h.begun i k first (sym (ap (λ l. slice_get l i) firsts_same) ∙ at) is;
           counts = λ p. h.counts p ∙ sym (ap (λ l. length (filter (λ first. nat_le first p) l)) firsts_same);
           count = kept ∙ done.count ∙ sym (ap (λ m. many_in m.entries) chains);
-          bound = omega (arith, kept, done.bound, h.bound, last_same)
+          bound = omega (arith, kept, done.bound, h.bound, last_same);
         }

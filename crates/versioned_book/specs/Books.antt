@@ -1,5 +1,5 @@
 -- A book and the settings that it stands for.
-use Rattle.std.specs.Prelude.{◌≡◌, ℕ, ◌+◌, ◌<◌, ◌≤◌, List, [], ◌∷◌, length, map, filter, nat_eq, nat_le, slice_get, None, Some, vec_len, vec_capacity}
+use Rattle.std.specs.Prelude.{◌≡◌, ℕ, ◌+◌, ◌<◌, ◌≤◌, List, [], ◌∷◌, length, filter, nat_eq, nat_le, slice_get, None, Some, vec_len, vec_capacity}
 use Rattle.indexmap.specs.IndexMap.{get, keys, spare}
 use Rattle.versioned_book.specs.Versions.{IsRisingTo, trimmed, versions}
 use Rattle.versioned_book.specs.Settings.{Setting, keys_of, own, positions, until}

@@ -1,5 +1,5 @@
 -- The settings of all keys, in the order in which they were made.
-use Rattle.std.specs.Prelude.{◌≡◌, ℕ, List, [], ◌∷◌, ◌++◌, filter, map, if◌then◌else◌, nat_eq, nat_le, nat_lt}
+use Rattle.std.specs.Prelude.{ℕ, List, [], ◌∷◌, ◌++◌, filter, map, if◌then◌else◌, nat_eq, nat_le, nat_lt}
 use Rattle.std.specs.List.{list_any}
 
 -- a value that a key takes at a position

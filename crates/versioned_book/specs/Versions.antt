@@ -1,5 +1,5 @@
 -- A key's versions: the values that it took, each with its position, in the order of setting.
-use Rattle.std.specs.Prelude.{◌≡◌, ℕ, ◌+◌, ◌*◌, ◌^◌, ◌<◌, ◌≤◌, slice_get, List, [], ◌∷◌, ◌++◌, Option, None, Some, if◌then◌else◌, nat_le}
+use Rattle.std.specs.Prelude.{◌≡◌, ℕ, ◌+◌, ◌*◌, ◌^◌, ◌<◌, ◌≤◌, List, [], ◌∷◌, ◌++◌, Option, None, Some, if◌then◌else◌, nat_le}
 use Rattle.versioned_book.specs.declared.chain.Chain.{Chain}
 
 -- the positions rise, and stand above the first number and not above the last

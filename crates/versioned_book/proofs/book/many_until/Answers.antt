@@ -11,15 +11,20 @@ pub loop-low-preserved-then-positions-middle : goal.loop-low-preserved-then-posi
 loop-low-preserved-then-positions-middle c =
     let i = c.loop-low.invariant in
     let wide = c.loop-low-test.true in
-    let middle = c.loop-low.low + (c.loop-low.high - c.loop-low.low) / 2 in
-    (omega (arith, wide), i.1,
-        front_until c.args.p 0 c.args.positions.now c.requires.0 middle c.requires.1 (omega (arith, wide, i.1)) c.if-positions-middle.true,
-        i.3)
+    let middle = c.loop-low.low + (c.loop-low.high - c.loop-low.low) / 2 in (
+      omega (arith, wide),
+      i.1,
+      front_until c.args.p 0 c.args.positions.now c.requires.0 middle c.requires.1 (omega (arith, wide, i.1)) c.if-positions-middle.true,
+      i.3,
+    )
 
 pub loop-low-preserved : goal.loop-low-preserved
 loop-low-preserved c =
     let i = c.loop-low.invariant in
     let wide = c.loop-low-test.true in
-    let middle = c.loop-low.low + (c.loop-low.high - c.loop-low.low) / 2 in
-    (omega (arith, wide), omega (arith, wide, i.1), i.2,
-        back_past c.args.p 0 c.args.positions.now c.requires.0 middle c.requires.1 c.if-positions-middle.false)
+    let middle = c.loop-low.low + (c.loop-low.high - c.loop-low.low) / 2 in (
+      omega (arith, wide),
+      omega (arith, wide, i.1),
+      i.2,
+      back_past c.args.p 0 c.args.positions.now c.requires.0 middle c.requires.1 c.if-positions-middle.false,
+    )

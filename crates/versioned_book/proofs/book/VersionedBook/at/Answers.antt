@@ -1,4 +1,4 @@
-use Rattle.std.proofs.Common.{◌≡◌, Some, refl, sym, ap, ◌∙◌, subst, slice_get, length, IsSome, IfSome, nat_eq, arith}
+use Rattle.std.proofs.Common.{◌≡◌, Some, sym, ap, ◌∙◌, subst, length, IsSome, IfSome, nat_eq}
 use Rattle.std.specs.Option.{option_map}
 use Rattle.std.specs.Map.Iter.{deref_pair}
 use Rattle.indexmap.specs.IndexMap.{get}

@@ -1,6 +1,5 @@
 use Rattle.std.proofs.Common.{sym, subst, ◌≤◌, ◌+◌, length}
 use Rattle.versioned_book.specs.Settings.{after, keys_of}
-use Rattle.versioned_book.proofs.FirstSetting.{set_first}
 use Rattle.versioned_book.proofs.KeptFew.{kept_few}
 use Rattle.versioned_book.proofs.book.VersionedBook.kept.Goals as goal
 

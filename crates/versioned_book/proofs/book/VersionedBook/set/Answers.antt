@@ -1,4 +1,4 @@
-use Rattle.std.proofs.Common.{◌+◌, refl, sym, ap, ◌∙◌, length, arith}
+use Rattle.std.proofs.Common.{refl, ap, ◌∙◌, length, arith}
 use Rattle.std.proofs.lemmas.List.{length_push}
 use Rattle.indexmap.proofs.CallerLemmas.{insert_entry-new}
 use Rattle.std.proofs.Common.{nat_eq}
@@ -17,13 +17,13 @@ returns-in-Some-clause-book g c sets h =
     let more = c.push.new.self in
     let p = placed c.args.self.now.chains c.args.key c.in-Some.index c.pair_mut-chain.result.0.now chain more c.in-Some.ensures.index e.value c.in-Some.ensures.value e.unique in
     set_more c.args.self.now _ sets (record { key = c.args.key; position = c.args.position; value = c.args.value }) chain more p.found p.updates p.same
-      (omega (arith, p.sum, ap length c.push.ensures, length_push (versions chain) (c.args.position, c.args.value)))
-      c.push.ensures refl refl refl refl c.requires.rising h
+    (omega (arith, p.sum, ap length c.push.ensures, length_push (versions chain) (c.args.position, c.args.value)))
+    c.push.ensures refl refl refl refl c.requires.rising h
 
 pub returns-in-None-clause-book : goal.returns-in-None-clause-book
 returns-in-None-clause-book g c sets h =
     let absent = none_of (get nat_eq c.args.self.now.chains c.args.key) c.in-None.ensures.found in
     set_first c.args.self.now _ sets (record { key = c.args.key; position = c.args.position; value = c.args.value }) c.of-chain.result absent
-      (ok_of c.insert.result c.unwrap.result c.unwrap.ensures c.insert.ensures.updates)
-      (ok_of c.insert.result c.unwrap.result c.unwrap.ensures c.insert.ensures.entries ∙ insert_entry-new nat_eq c.args.self.now.chains c.args.key c.of-chain.result absent)
-      c.of-chain.ensures c.push_reserved.ensures.items refl refl refl c.requires.rising h
+    (ok_of c.insert.result c.unwrap.result c.unwrap.ensures c.insert.ensures.updates)
+    (ok_of c.insert.result c.unwrap.result c.unwrap.ensures c.insert.ensures.entries ∙ insert_entry-new nat_eq c.args.self.now.chains c.args.key c.of-chain.result absent)
+    c.of-chain.ensures c.push_reserved.ensures.items refl refl refl c.requires.rising h

@@ -1,11 +1,10 @@
-use Rattle.std.proofs.Common.{◌≡◌, ◌≤◌, ◌+◌, refl, sym, ap, ◌∙◌, subst, length, arith}
+use Rattle.std.proofs.Common.{◌≤◌, refl, sym, subst, arith}
 use Rattle.std.proofs.lemmas.List.{length-map}
 use Rattle.std.specs.Cmp.{nat_eq_equiv}
 use Rattle.indexmap.proofs.CallerLemmas.{keys-with_value_at, updates-with_value_at}
-use Rattle.versioned_book.specs.Books.{kept_of, many, many_in}
 use Rattle.versioned_book.proofs.BookSteps.{key_at_place, many_in-set}
 use Rattle.versioned_book.proofs.KeptFew.{AreApart, book_apart, lookup_at}
-use Rattle.versioned_book.proofs.Trimming.{all_cut, cut_more, dropped_few, none_cut}
+use Rattle.versioned_book.proofs.Trimming.{all_cut, cut_more, none_cut}
 use Rattle.versioned_book.proofs.book.VersionedBook.trim.Goals as goal
 use Rattle.versioned_book.proofs.book.VersionedBook.trim.Goals.{then-floor-self, else-floor-self}
 
@@ -42,16 +41,16 @@ loop-index-preserved g c sets h =
     let apart = subst AreApart (sym before.same) (book_apart c.args.self.now sets h) in
     let sum = many_in-set m.entries i k chain cut e.value in
     let later : c.args.self.now.floor ≤ c.if-floor-self.new_floor =
-          elim c.if-floor-self.branch [ then-floor-self w ↦ omega (arith, w.new_floor-is, c.requires.rising) | else-floor-self w ↦ omega (arith, w.new_floor-is, h.floor) ] in
+    elim c.if-floor-self.branch [ then-floor-self w ↦ omega (arith, w.new_floor-is, c.requires.rising) | else-floor-self w ↦ omega (arith, w.new_floor-is, h.floor) ] in
     cut_more c.args.self.now c.loop-index.self _ sets c.if-floor-self.new_floor i k c.cut-dropped.result chain cut later
-      (key_at_place m.entries i k chain e.value) (lookup_at m.entries i k chain apart e.value)
-      (updates-with_value_at m i cut nat_eq_equiv e.unique k chain e.value) (keys-with_value_at m i cut)
-      c.cut-dropped.ensures.kept c.cut-dropped.ensures.count sum refl refl (omega (arith, before.count, sum, c.cut-dropped.ensures.count)) before
+    (key_at_place m.entries i k chain e.value) (lookup_at m.entries i k chain apart e.value)
+    (updates-with_value_at m i cut nat_eq_equiv e.unique k chain e.value) (keys-with_value_at m i cut)
+    c.cut-dropped.ensures.kept c.cut-dropped.ensures.count sum refl refl (omega (arith, before.count, sum, c.cut-dropped.ensures.count)) before
 
 pub returns-clause-book : goal.returns-clause-book
 returns-clause-book g c sets h =
     let done = c.loop-index.invariant sets h in
     let later : c.if-floor-self.new_floor ≤ c.args.self.now.last =
-          elim c.if-floor-self.branch [ then-floor-self w ↦ omega (arith, w.new_floor-is, w.if-floor-self.true) | else-floor-self w ↦ omega (arith, w.new_floor-is) ] in
+    elim c.if-floor-self.branch [ then-floor-self w ↦ omega (arith, w.new_floor-is, w.if-floor-self.true) | else-floor-self w ↦ omega (arith, w.new_floor-is) ] in
     all_cut c.args.self.now c.loop-index.self _ sets c.if-floor-self.new_floor c.loop-index.index later
-      (omega (arith, c.loop-index-test.false, c.len-index-end.ensures.len, length-map c.args.self.now.chains.entries (λ e. e.0))) refl refl refl refl refl h done
+    (omega (arith, c.loop-index-test.false, c.len-index-end.ensures.len, length-map c.args.self.now.chains.entries (λ e. e.0))) refl refl refl refl refl h done

@@ -1,4 +1,4 @@
-use Rattle.std.proofs.Common.{◌≡◌, ◌≤◌, List}
+use Rattle.std.proofs.Common.{List}
 use Rattle.versioned_book.specs.Settings.{Setting}
 use Rattle.versioned_book.specs.Books.{IsBookOf}
 use Rattle.versioned_book.proofs.Trimming.{AreCut}

@@ -8,6 +8,7 @@ returns-then-floor-next-clause-rest g c =
     c.loop-count.invariant.1 ∙ trim_stop_at c.args.floor c.loop-count.count (versions c.args.self.now) c.version-next.result c.version-next.ensures c.if-floor-next.true
 
 pub loop-count-preserved : goal.loop-count-preserved
-loop-count-preserved g c =
-    (omega (arith, c.loop-count-test.true, c.len.ensures),
-        c.loop-count.invariant.1 ∙ trim_step_at c.args.floor c.loop-count.count (versions c.args.self.now) c.version-next.result c.version-next.ensures c.if-floor-next.false)
+loop-count-preserved g c = (
+  omega (arith, c.loop-count-test.true, c.len.ensures),
+  c.loop-count.invariant.1 ∙ trim_step_at c.args.floor c.loop-count.count (versions c.args.self.now) c.version-next.result c.version-next.ensures c.if-floor-next.false,
+)
