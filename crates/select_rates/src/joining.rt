@@ -43,7 +43,12 @@ fn table_at(
 }
 
 /// The table of an issue age.
-fn join(alloc: Global, age: u8, select: &[u32], ultimate: &RateTable) -> Result<RateTable, AllocError>
+fn join(
+    alloc: Global,
+    age: u8,
+    select: &[u32],
+    ultimate: &RateTable,
+) -> Result<RateTable, AllocError>
     requires { IsSelectPeriod ultimate.now age select.now }
     ensures { IfOk result (IsJoined ultimate.now age select.now) }
 {

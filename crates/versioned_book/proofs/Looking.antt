@@ -1,0 +1,95 @@
+-- How many keys there are at a position, and the value of one of them.
+use Rattle.std.proofs.Common.{◌≡◌, ℕ, zero, suc, ◌+◌, ◌<◌, ◌≤◌, Bool, true, false, nat_eq, nat_le, List, [], ◌∷◌, length, filter, slice_get, get_or, Option, None, Some, IsSome, is_some, Result, Ok, OnOk, refl, sym, ap, ◌∙◌, subst, cond, if◌then◌else◌, arith}
+use Rattle.std.proofs.lemmas.Bool.{le-leb, leb-true, leb-false, lt-leb}
+use Rattle.std.proofs.lemmas.List.{length-map}
+use Rattle.std.proofs.lemmas.Option.{slice_get_within}
+use Rattle.indexmap.specs.IndexMap.{get}
+use Rattle.versioned_book.specs.Versions.{IsRising, IsRisingTo, or_else, trimmed, value_at, versions}
+use Rattle.versioned_book.specs.Settings.{Setting, keys_of, own, until}
+use Rattle.versioned_book.specs.Books.{IsBookOf}
+use Rattle.versioned_book.specs.declared.chain.Chain.{Chain}
+use Rattle.versioned_book.specs.declared.book.VersionedBook.{VersionedBook}
+use Rattle.versioned_book.proofs.VersionSteps.{rising-trimmed, value_at-trimmed}
+use Rattle.versioned_book.proofs.SettingSteps.{first_until, none_until, own_rising}
+use Rattle.versioned_book.proofs.BookSteps.{as_many, key_at_place}
+
+all_higher : (low : ℕ) (qs : List ℕ) (last j d : ℕ) → IsRisingTo low qs last → j < length qs → low < get_or qs j d
+all_higher low [] last j d h within = absurd (omega (arith, within))
+all_higher low (x ∷ qs) last zero d h within = h.0
+all_higher low (x ∷ qs) last (suc j) d h within = omega (arith, h.0, all_higher x qs last j d h.1 (omega (arith, within)))
+
+in_order : (low : ℕ) (qs : List ℕ) (last i j d : ℕ) → IsRisingTo low qs last → i ≤ j → j < length qs → get_or qs i d ≤ get_or qs j d
+in_order low [] last i j d h le within = absurd (omega (arith, within))
+in_order low (x ∷ qs) last zero zero d h le within = omega arith
+in_order low (x ∷ qs) last zero (suc j) d h le within = omega (arith, all_higher x qs last j d h.1 (omega (arith, within)))
+in_order low (x ∷ qs) last (suc i) zero d h le within = absurd (omega (arith, le))
+in_order low (x ∷ qs) last (suc i) (suc j) d h le within = in_order x qs last i j d h.1 (omega (arith, le)) (omega (arith, within))
+
+pub front_until : (p low : ℕ) (qs : List ℕ) (last j : ℕ) → IsRisingTo low qs last → j < length qs → get_or qs j 0 ≤ p → (i : ℕ) → i < j + 1 → nat_le (get_or qs i 0) p ≡ true
+front_until p low qs last j h within e i le = le-leb (get_or qs i 0) p (omega (arith, in_order low qs last i j 0 h (omega (arith, le)) within, e))
+
+pub back_past : (p low : ℕ) (qs : List ℕ) (last j : ℕ) → IsRisingTo low qs last → p < get_or qs j 0 → (i : ℕ) → j ≤ i → i < length qs → nat_le (get_or qs i 0) p ≡ false
+back_past p low qs last j h e i le within = lt-leb (get_or qs i 0) p (omega (arith, in_order low qs last j i 0 h le within, e))
+
+pub partition_count : (p : ℕ) (qs : List ℕ) (r : ℕ) → r ≤ length qs → ((k : ℕ) → k < r → nat_le (get_or qs k 0) p ≡ true)
+    → ((k : ℕ) → r ≤ k → k < length qs → nat_le (get_or qs k 0) p ≡ false) → r ≡ length (filter (λ q. nat_le q p) qs)
+partition_count p [] r within front back = omega (arith, within)
+partition_count p (x ∷ qs) zero within front back =
+    partition_count p qs zero (omega arith) (λ k b. absurd (omega (arith, b))) (λ k a b. back (suc k) (omega arith) (omega (arith, b)))
+    ∙ sym (ap (λ b. length (cond b (x ∷ filter (λ q. nat_le q p) qs) (filter (λ q. nat_le q p) qs))) (back zero (omega arith) (omega arith)))
+partition_count p (x ∷ qs) (suc r) within front back =
+    ap suc (partition_count p qs r (omega (arith, within)) (λ k b. front (suc k) (omega (arith, b))) (λ k a b. back (suc k) (omega (arith, a)) (omega (arith, b))))
+    ∙ sym (ap (λ b. length (cond b (x ∷ filter (λ q. nat_le q p) qs) (filter (λ q. nat_le q p) qs))) (front zero (omega arith)))
+
+pub until_few : (p low : ℕ) (qs : List ℕ) (last : ℕ) → IsRisingTo low qs last → low ≤ p → low + length (filter (λ q. nat_le q p) qs) ≤ p
+until_few p low [] last h within = omega (arith, within)
+until_few p low (x ∷ qs) last h within = by (nat_le x p) refl (until_few p x qs last h.1)
+  where
+    by : (b : Bool) → nat_le x p ≡ b → (x ≤ p → x + length (filter (λ q. nat_le q p) qs) ≤ p) → low + length (cond b (x ∷ filter (λ q. nat_le q p) qs) (filter (λ q. nat_le q p) qs)) ≤ p
+    by true e rest = omega (arith, h.0, rest (leb-true x p e))
+    by false e rest = omega (arith, within, ap length (none_until p x qs last h.1 (omega (arith, leb-false x p e))))
+
+pub none_of : {X : Type 0} (o : Option X) → false ≡ is_some o → o ≡ None
+none_of None h = refl
+none_of (Some x) h = cc
+
+pub ok_of : {A E : Type 0} {P : Type 0} (r : Result A E) (x : A) → r ≡ Ok x → OnOk r P → P
+ok_of {A} {E} {P} r x e h = subst (λ t. OnOk t P) e h
+
+module _ {V : Type 0} where
+  some_else : (a : Option V) (v : V) → IsSome (or_else a (Some v))
+  some_else None v = refl
+  some_else (Some w) v = refl
+
+  pub within_keys : (book : VersionedBook V) (sets : List (Setting V)) (p index : ℕ) → IsBookOf book sets → index < length (keys_of (until p sets)) → index < length book.chains.entries
+  within_keys book sets p index h within =
+      let first = first_until p 0 book.firsts.items book.last index h.firsts (subst (λ n. index < n) (h.counts p) within) in
+      omega (arith, slice_get_within book.firsts.items index first.0 first.1, as_many book sets h, ap length h.order, length-map book.chains.entries (λ (e : ℕ × Chain V). e.0))
+
+  -- the chain at an index: what it holds, and that it has a value at each position that the key is there at
+  pub record IsChainAt (book : VersionedBook V) (sets : List (Setting V)) (index key : ℕ) (chain : Chain V) : Type 0 where
+    pub place : slice_get (keys_of sets) index ≡ Some key
+    pub kept : versions chain ≡ trimmed book.floor (own key sets)
+    pub rising : IsRising 0 (versions chain)
+    pub value : (p : ℕ) → book.floor ≤ p → value_at p (versions chain) ≡ value_at p (own key sets)
+
+  pub chain_at : (book : VersionedBook V) (sets : List (Setting V)) (index key : ℕ) (chain : Chain V) → IsBookOf book sets → slice_get book.chains.entries index ≡ Some (key, chain)
+      → get nat_eq book.chains key ≡ Some chain → IsChainAt book sets index key chain
+  chain_at book sets index key chain h entry found =
+      let kept : versions chain ≡ trimmed book.floor (own key sets) = h.kept key chain found in
+      record {
+        place = sym (ap (λ l. slice_get l index) h.order) ∙ key_at_place book.chains.entries index key chain entry;
+        kept = kept;
+        rising = subst (IsRising 0) (sym kept) (rising-trimmed book.floor 0 (own key sets) (own_rising key 0 sets book.last h.rising));
+        value = λ p from. ap (value_at p) kept ∙ value_at-trimmed book.floor p (own key sets) from;
+      }
+
+  -- it has a value where the key was there
+  pub has_value : (book : VersionedBook V) (sets : List (Setting V)) (p index key : ℕ) → IsBookOf book sets → slice_get (keys_of sets) index ≡ Some key
+      → index < length (keys_of (until p sets)) → IsSome (value_at p (own key sets))
+  has_value book sets p index key h place within =
+      let first = first_until p 0 book.firsts.items book.last index h.firsts (subst (λ n. index < n) (h.counts p) within) in
+      let b = h.begun index key first.0 first.1 place in
+      let one : value_at p (own key sets) ≡ or_else (value_at p b.1) (Some b.0) =
+      ap (value_at p) b.2 ∙ ap (λ t. or_else (value_at p b.1) (if t then Some b.0 else None)) (le-leb first.0 p first.2) in
+      subst IsSome (sym one) (some_else (value_at p b.1) b.0)

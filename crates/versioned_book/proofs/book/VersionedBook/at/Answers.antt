@@ -1,0 +1,49 @@
+use Rattle.std.proofs.Common.{◌≡◌, Some, sym, ap, ◌∙◌, subst, length, IsSome, IfSome, nat_eq}
+use Rattle.std.specs.Option.{option_map}
+use Rattle.std.specs.Map.Iter.{deref_pair}
+use Rattle.indexmap.specs.IndexMap.{get}
+use Rattle.versioned_book.specs.Settings.{own}
+use Rattle.versioned_book.specs.Versions.{AreFewSteps, trimmed, value_at}
+use Rattle.versioned_book.proofs.Looking.{chain_at, has_value, within_keys}
+use Rattle.versioned_book.proofs.VersionSteps.{some_same}
+use Rattle.versioned_book.proofs.book.VersionedBook.at.Goals as goal
+
+pub unwrap-requires : goal.unwrap-requires
+unwrap-requires g c =
+    let s = c.requires.stands in
+    c.get_index.ensures.found.1 (within_keys c.args.self.now s.0 c.args.p c.args.index s.1 s.2)
+
+pub at-requires : goal.at-requires
+at-requires g c =
+    let s = c.requires.stands in
+    let pair = c.unwrap.result in
+    let entry = sym c.get_index.ensures.entry ∙ ap (option_map deref_pair) c.unwrap.ensures in
+    let found = subst (λ o. IfSome o (λ p. get nat_eq c.args.self.now.chains p.0.now ≡ Some p.1.now)) c.unwrap.ensures c.get_index.ensures.value in
+    (chain_at c.args.self.now s.0 c.args.index pair.0.now pair.1.now s.1 entry found).rising
+
+pub unwrap-requires-2 : goal.unwrap-requires-2
+unwrap-requires-2 g c =
+    let s = c.requires.stands in
+    let pair = c.unwrap.result in
+    let entry = sym c.get_index.ensures.entry ∙ ap (option_map deref_pair) c.unwrap.ensures in
+    let found = subst (λ o. IfSome o (λ p. get nat_eq c.args.self.now.chains p.0.now ≡ Some p.1.now)) c.unwrap.ensures c.get_index.ensures.value in
+    let there = chain_at c.args.self.now s.0 c.args.index pair.0.now pair.1.now s.1 entry found in
+    subst IsSome (sym (c.at.ensures.value ∙ there.value c.args.p c.requires.floor)) (has_value c.args.self.now s.0 c.args.p c.args.index pair.0.now s.1 there.place s.2)
+
+pub returns-clause-value : goal.returns-clause-value
+returns-clause-value g c sets key h place =
+    let pair = c.unwrap.result in
+    let entry = sym c.get_index.ensures.entry ∙ ap (option_map deref_pair) c.unwrap.ensures in
+    let found = subst (λ o. IfSome o (λ p. get nat_eq c.args.self.now.chains p.0.now ≡ Some p.1.now)) c.unwrap.ensures c.get_index.ensures.value in
+    let there = chain_at c.args.self.now sets c.args.index pair.0.now pair.1.now h entry found in
+    let same = some_same key pair.0.now (sym place ∙ there.place) in
+    ap (λ k. value_at c.args.p (own k sets)) same ∙ sym (there.value c.args.p c.requires.floor) ∙ sym c.at.ensures.value ∙ c.unwrap-2.ensures
+
+pub returns-clause-looks : goal.returns-clause-looks
+returns-clause-looks g c sets key h place =
+    let pair = c.unwrap.result in
+    let entry = sym c.get_index.ensures.entry ∙ ap (option_map deref_pair) c.unwrap.ensures in
+    let found = subst (λ o. IfSome o (λ p. get nat_eq c.args.self.now.chains p.0.now ≡ Some p.1.now)) c.unwrap.ensures c.get_index.ensures.value in
+    let there = chain_at c.args.self.now sets c.args.index pair.0.now pair.1.now h entry found in
+    let same = some_same key pair.0.now (sym place ∙ there.place) in
+    subst (λ n. AreFewSteps c.args.steps.now c.at.new.steps n) (ap length there.kept ∙ ap (λ k. length (trimmed c.args.self.now.floor (own k sets))) (sym same)) c.at.ensures.looks

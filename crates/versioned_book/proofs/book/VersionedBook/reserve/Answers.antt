@@ -1,0 +1,23 @@
+use Rattle.std.proofs.Common.{◌≡◌, None, Some, ap, sym, ◌∙◌, refl, subst, length, vec_len, vec_capacity, ◌<◌, arith}
+use Rattle.versioned_book.proofs.BookSteps.{reserved}
+use Rattle.versioned_book.proofs.Places.{on_ok, placed}
+use Rattle.versioned_book.proofs.VersionSteps.{some_same}
+use Rattle.versioned_book.proofs.book.VersionedBook.reserve.Goals as goal
+
+pub returns-in-Some-clause-room : goal.returns-in-Some-clause-room
+returns-in-Some-clause-room g c =
+    let e = c.pair_mut-chain.ensures in
+    let p = placed c.args.self.now.chains c.args.key c.in-Some.index c.pair_mut-chain.result.0.now c.pair_mut-chain.result.1.now c.reserve.new.self c.in-Some.ensures.index e.value c.in-Some.ensures.value e.unique in
+    on_ok c.reserve.result
+    (λ room. record {
+      fresh = λ none. (let clash : Some c.reserve.new.self ≡ None = sym p.updates.1 ∙ none in cc);
+      more = λ chain got. subst (λ x. vec_len x.older < vec_capacity x.older) (some_same c.reserve.new.self chain (sym p.updates.1 ∙ got)) room;
+    })
+    c.reserve.ensures.room
+
+pub returns-in-Some-clause-book : goal.returns-in-Some-clause-book
+returns-in-Some-clause-book g c sets h =
+    let e = c.pair_mut-chain.ensures in
+    let p = placed c.args.self.now.chains c.args.key c.in-Some.index c.pair_mut-chain.result.0.now c.pair_mut-chain.result.1.now c.reserve.new.self c.in-Some.ensures.index e.value c.in-Some.ensures.value e.unique in
+    reserved c.args.self.now _ sets c.args.key c.pair_mut-chain.result.1.now c.reserve.new.self p.found p.updates p.same c.reserve.ensures.same
+    (omega (arith, p.sum, ap length c.reserve.ensures.same)) refl refl refl refl h

@@ -1,0 +1,14 @@
+use Rattle.std.proofs.Common.{◌∙◌, arith}
+use Rattle.versioned_book.specs.Versions.{versions}
+use Rattle.versioned_book.proofs.VersionSteps.{trim_step_at, trim_stop_at}
+use Rattle.versioned_book.proofs.chain.Chain.unneeded.Goals as goal
+
+pub returns-then-floor-next-clause-rest : goal.returns-then-floor-next-clause-rest
+returns-then-floor-next-clause-rest g c =
+    c.loop-count.invariant.1 ∙ trim_stop_at c.args.floor c.loop-count.count (versions c.args.self.now) c.version-next.result c.version-next.ensures c.if-floor-next.true
+
+pub loop-count-preserved : goal.loop-count-preserved
+loop-count-preserved g c = (
+  omega (arith, c.loop-count-test.true, c.len.ensures),
+  c.loop-count.invariant.1 ∙ trim_step_at c.args.floor c.loop-count.count (versions c.args.self.now) c.version-next.result c.version-next.ensures c.if-floor-next.false,
+)

@@ -1,0 +1,3 @@
+pub mod Versions
+pub mod Settings
+pub mod Books

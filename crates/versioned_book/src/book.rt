@@ -1,0 +1,156 @@
+// The book: a chain of versions for each key, in the order in which the keys were first set.
+ghost use Rattle.std.specs.Prelude.{◌≡◌, ℕ, ◌+◌, ◌<◌, ◌≤◌, [], ◌∷◌, ◌++◌, List, filter, length, min, nat_eq, nat_le, slice_get, Some, IfOk, OnOk, vec_len};
+ghost use Rattle.indexmap.specs.IndexMap.{keys, index_map_len};
+ghost use Rattle.versioned_book.specs.Books.{HasRoom, IsBookOf, Stands, kept_of};
+ghost use Rattle.versioned_book.specs.Settings.{Setting, after, keys_of, own, until};
+ghost use Rattle.versioned_book.specs.Versions.{AreFewSteps, IsRisingTo, newest_of, trimmed, value_at};
+
+use crate::Chain;
+use indexmap::IndexMap;
+use outside_io::Steps;
+use std::alloc::{AllocError, Global};
+use std::sync::ledger::Ledger;
+
+/// Values by key, with their past from the floor on.
+#[derive(Drop)]
+pub struct VersionedBook<V: Copy> {
+    chains: IndexMap<u32, Chain<V>>,
+    firsts: Vec<u32>,
+    floor: u32,
+    last: u32,
+    kept: u32,
+    alloc: Global,
+}
+
+impl<V: Copy> VersionedBook<V> {
+    /// A book with no keys and the floor 0. It takes no memory yet.
+    pub fn new(alloc: Global) -> VersionedBook<V>
+        ensures book { IsBookOf result [] }
+        ensures floor { (result.floor ≡ 0) × (result.last ≡ 0) }
+    {
+        VersionedBook {
+            chains: IndexMap::new(alloc),
+            firsts: Vec::new(alloc),
+            floor: 0,
+            last: 0,
+            kept: 0,
+            alloc,
+        }
+    }
+
+    /// Makes room for one setting of the key. What the book holds stays, also on an error.
+    pub fn reserve(&mut self, key: u32) -> Result<(), AllocError>
+        ensures room { OnOk result (HasRoom self.new key) }
+        ensures book { (sets : List (Setting V)) → IsBookOf self.old sets → IsBookOf self.new sets }
+        ensures floor { (self.new.floor ≡ self.old.floor) × (self.new.last ≡ self.old.last) }
+    {
+        match self.chains.get_index_of(&key) {
+            Some(index) => {
+                let (_key, chain) = self.chains.pair_mut(index);
+                chain.reserve()
+            }
+            None => {
+                self.firsts.reserve(1)?;
+                self.chains.reserve(1)
+            }
+        }
+    }
+
+    /// Sets the value of a key, for which room was made, at a position above all before.
+    pub fn set(&mut self, key: u32, position: u32, value: V)
+        requires room { HasRoom self.old key }
+        requires rising { self.old.last < position }
+        requires stands { Stands self.old }
+        ensures book { (sets : List (Setting V)) → IsBookOf self.old sets → IsBookOf self.new (sets ++ record { key = key; position = position; value = value } ∷ []) }
+        ensures floor { (self.new.floor ≡ self.old.floor) × (self.new.last ≡ position) }
+    {
+        self.last = position;
+        self.kept += 1;
+        match self.chains.get_index_of(&key) {
+            Some(index) => {
+                let (_key, chain) = self.chains.pair_mut(index);
+                chain.push(position, value);
+            }
+            None => {
+                let chain = Chain::of(self.alloc, position, value);
+                self.chains.insert(key, chain).unwrap();
+                self.firsts.push_reserved(position);
+            }
+        }
+    }
+
+    /// The newest value of a key.
+    pub fn get(&self, key: u32) -> Option<V>
+        ensures { (sets : List (Setting V)) → IsBookOf self.now sets → result ≡ newest_of (own key sets) }
+    {
+        match self.chains.get(&key) {
+            Some(chain) => Some(chain.newest().1),
+            None => None,
+        }
+    }
+
+    /// How many keys were first set at or before a position, also below the floor.
+    pub fn count_at(&self, p: u32) -> u32
+        requires { Stands self.now }
+        ensures { (sets : List (Setting V)) → IsBookOf self.now sets → result ≡ length (keys_of (until p sets)) }
+    {
+        many_until(self.firsts.as_slice(), p) as u32
+    }
+
+    /// The value of the index-th key at a position from the floor on, in few steps: two to their number is at most twice
+    /// the number of the key's kept versions and one more.
+    pub fn at<L: Ledger>(&self, index: u32, p: u32, steps: &mut Steps<L>) -> V
+        requires stands { (sets : List (Setting V)) × IsBookOf self.now sets × (index < length (keys_of (until p sets))) }
+        requires floor { self.now.floor ≤ p }
+        ensures value { (sets : List (Setting V)) (key : ℕ) → IsBookOf self.now sets → slice_get (keys_of sets) index ≡ Some key → value_at p (own key sets) ≡ Some result }
+        ensures looks { (sets : List (Setting V)) (key : ℕ) → IsBookOf self.now sets → slice_get (keys_of sets) index ≡ Some key → AreFewSteps steps.old steps.new (length (trimmed self.now.floor (own key sets))) }
+    {
+        let (_key, chain) = self.chains.get_index(index as usize).unwrap();
+        chain.at(p, steps).unwrap()
+    }
+
+    /// How many versions are kept.
+    pub fn kept(&self) -> u32
+        ensures kept { (sets : List (Setting V)) → IsBookOf self.now sets → result ≡ kept_of self.now }
+        ensures few { (sets : List (Setting V)) → IsBookOf self.now sets → result ≤ length (keys_of sets) + length (after self.now.floor sets) }
+    {
+        self.kept
+    }
+
+    /// Drops what no position from the floor on needs. A floor above the last setting counts as the position of that.
+    pub fn trim(&mut self, floor: u32)
+        requires rising { self.old.floor ≤ floor }
+        requires stands { Stands self.old }
+        ensures book { (sets : List (Setting V)) → IsBookOf self.old sets → IsBookOf self.new sets }
+        ensures floor { (self.new.floor ≡ min floor self.old.last) × (self.new.last ≡ self.old.last) }
+    {
+        let new_floor = if floor < self.last { floor } else { self.last };
+        if new_floor == self.floor {
+            return;
+        }
+        for index in 0..self.chains.len() {
+            let (_key, chain) = self.chains.pair_mut(index);
+            let dropped = chain.cut(new_floor);
+            self.kept -= dropped as u32;
+        }
+        self.floor = new_floor;
+    }
+}
+
+// How many of rising positions are at or before p.
+fn many_until(positions: &[u32], p: u32) -> usize
+    requires { (last : ℕ) × IsRisingTo 0 positions.now last }
+    ensures { result ≡ length (filter (λ first. nat_le first p) positions.now) }
+{
+    let mut low = 0;
+    let mut high = positions.len();
+    while low < high {
+        let middle = low + (high - low) / 2;
+        if positions[middle] <= p {
+            low = middle + 1;
+        } else {
+            high = middle;
+        }
+    }
+    low
+}

@@ -1,0 +1,8 @@
+//! Values by key, each with its past: what a key's value was at any position that is still kept.
+#![tactic(auto)]
+
+mod book;
+mod chain;
+
+pub use book::VersionedBook;
+pub use chain::Chain;
