@@ -3,7 +3,7 @@ use Rattle.std.proofs.Common.{◌≡◌, ℕ, zero, suc, ◌+◌, ◌<◌, ◌�
 use Rattle.std.proofs.lemmas.Bool.{eqb-true, cases_lt}
 use Rattle.std.specs.List.{list_any}
 use Rattle.indexmap.specs.IndexMap.{get, keys, set_value_at, Updates}
-use Rattle.versioned_book.specs.Versions.{IsRisingTo, trimmed, versions}
+use Rattle.versioned_book.specs.Versions.{IsRisingTo, versions_from, versions}
 use Rattle.versioned_book.specs.Settings.{Setting, keys_of, own, positions, until}
 use Rattle.versioned_book.specs.Books.{IsBookOf, kept_of, many, many_in}
 use Rattle.versioned_book.specs.declared.chain.Chain.{Chain}
@@ -47,20 +47,20 @@ module _ {V : Type 0} where
     old_keys : keys_of (sets ++ s ∷ []) ≡ keys_of sets
     old_keys = keys_of-old sets s (subst (λ ks. list_any (nat_eq s.key) ks ≡ true) h.order (any_found s.key book.chains.entries chain found))
 
-    kept_more : (key : ℕ) (c : Chain V) → get nat_eq new.chains key ≡ Some c → versions c ≡ trimmed new.floor (own key (sets ++ s ∷ []))
+    kept_more : (key : ℕ) (c : Chain V) → get nat_eq new.chains key ≡ Some c → versions c ≡ versions_from new.floor (own key (sets ++ s ∷ []))
     kept_more key c e = by (nat_eq s.key key) refl
       where
-        by : (b : Bool) → nat_eq s.key key ≡ b → versions c ≡ trimmed new.floor (own key (sets ++ s ∷ []))
+        by : (b : Bool) → nat_eq s.key key ≡ b → versions c ≡ versions_from new.floor (own key (sets ++ s ∷ []))
         by true is =
             let this : s.key ≡ key = eqb-true s.key key is in
             let got : more ≡ c = some_same more c (sym updates.1 ∙ ap (get nat_eq new.chains) this ∙ e) in
-            let all : versions more ≡ trimmed book.floor (own s.key (sets ++ s ∷ [])) =
+            let all : versions more ≡ versions_from book.floor (own s.key (sets ++ s ∷ [])) =
             pushed ∙ ap (λ l. l ++ (s.position, s.value) ∷ []) (h.kept s.key chain found)
             ∙ sym (trimmed-push book.floor (own s.key sets) (s.position, s.value) (omega (arith, h.floor, rises)))
-            ∙ ap (trimmed book.floor) (sym (own-push sets s)) in
-            ap versions (sym got) ∙ all ∙ ap (λ k. trimmed book.floor (own k (sets ++ s ∷ []))) this ∙ ap (λ f. trimmed f (own key (sets ++ s ∷ []))) (sym floor)
+            ∙ ap (versions_from book.floor) (sym (own-push sets s)) in
+            ap versions (sym got) ∙ all ∙ ap (λ k. versions_from book.floor (own k (sets ++ s ∷ []))) this ∙ ap (λ f. versions_from f (own key (sets ++ s ∷ []))) (sym floor)
         by false isnt =
-            h.kept key c (sym (updates.2 key isnt) ∙ e) ∙ ap (λ f. trimmed f (own key sets)) (sym floor) ∙ ap (trimmed new.floor) (sym (own-other sets s key isnt))
+            h.kept key c (sym (updates.2 key isnt) ∙ e) ∙ ap (λ f. versions_from f (own key sets)) (sym floor) ∙ ap (versions_from new.floor) (sym (own-other sets s key isnt))
 
     absent_more : (key : ℕ) → get nat_eq new.chains key ≡ None → own key (sets ++ s ∷ []) ≡ []
     absent_more key e = by (nat_eq s.key key) refl
@@ -115,14 +115,14 @@ module _ {V : Type 0} where
       (as_before : versions more ≡ versions chain) (many_same : kept_of new ≡ kept_of book)
       (firsts : new.firsts.items ≡ book.firsts.items) (floor : new.floor ≡ book.floor) (last : new.last ≡ book.last) (kept : new.kept ≡ book.kept)
       (h : IsBookOf book sets) where
-    kept_same : (k : ℕ) (c : Chain V) → get nat_eq new.chains k ≡ Some c → versions c ≡ trimmed new.floor (own k sets)
-    kept_same k c e = by (nat_eq key k) refl ∙ ap (λ f. trimmed f (own k sets)) (sym floor)
+    kept_same : (k : ℕ) (c : Chain V) → get nat_eq new.chains k ≡ Some c → versions c ≡ versions_from new.floor (own k sets)
+    kept_same k c e = by (nat_eq key k) refl ∙ ap (λ f. versions_from f (own k sets)) (sym floor)
       where
-        by : (b : Bool) → nat_eq key k ≡ b → versions c ≡ trimmed book.floor (own k sets)
+        by : (b : Bool) → nat_eq key k ≡ b → versions c ≡ versions_from book.floor (own k sets)
         by true is =
             let this : key ≡ k = eqb-true key k is in
             let got : more ≡ c = some_same more c (sym updates.1 ∙ ap (get nat_eq new.chains) this ∙ e) in
-            ap versions (sym got) ∙ as_before ∙ h.kept key chain found ∙ ap (λ x. trimmed book.floor (own x sets)) this
+            ap versions (sym got) ∙ as_before ∙ h.kept key chain found ∙ ap (λ x. versions_from book.floor (own x sets)) this
         by false isnt = h.kept k c (sym (updates.2 k isnt) ∙ e)
 
     absent_same : (k : ℕ) → get nat_eq new.chains k ≡ None → own k sets ≡ []

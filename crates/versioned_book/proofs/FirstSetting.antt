@@ -7,7 +7,7 @@ use Rattle.std.proofs.lemmas.Option.{slice_get_within}
 use Rattle.std.specs.List.{list_any}
 use Rattle.std.specs.Map.{keys_of as entry_keys}
 use Rattle.indexmap.specs.IndexMap.{get, Updates}
-use Rattle.versioned_book.specs.Versions.{IsRisingTo, trimmed, versions}
+use Rattle.versioned_book.specs.Versions.{IsRisingTo, versions_from, versions}
 use Rattle.versioned_book.specs.Settings.{Setting, keys_of, own, positions, until}
 use Rattle.versioned_book.specs.Books.{IsBookOf, kept_of, many, many_in}
 use Rattle.versioned_book.specs.declared.chain.Chain.{Chain}
@@ -34,16 +34,16 @@ module _ {V : Type 0} (book new : VersionedBook V) (sets : List (Setting V)) (s 
   own_one : own s.key (sets ++ s ∷ []) ≡ (s.position, s.value) ∷ []
   own_one = own-push sets s ∙ ap (λ l. l ++ (s.position, s.value) ∷ []) (h.absent s.key absent)
 
-  kept_first : (key : ℕ) (c : Chain V) → get nat_eq new.chains key ≡ Some c → versions c ≡ trimmed new.floor (own key (sets ++ s ∷ []))
+  kept_first : (key : ℕ) (c : Chain V) → get nat_eq new.chains key ≡ Some c → versions c ≡ versions_from new.floor (own key (sets ++ s ∷ []))
   kept_first key c e = by (nat_eq s.key key) refl
     where
-      by : (b : Bool) → nat_eq s.key key ≡ b → versions c ≡ trimmed new.floor (own key (sets ++ s ∷ []))
+      by : (b : Bool) → nat_eq s.key key ≡ b → versions c ≡ versions_from new.floor (own key (sets ++ s ∷ []))
       by true is =
           let this : s.key ≡ key = eqb-true s.key key is in
           let got : chain ≡ c = some_same chain c (sym updates.1 ∙ ap (get nat_eq new.chains) this ∙ e) in
-          ap versions (sym got) ∙ one ∙ sym (ap (trimmed new.floor) own_one) ∙ ap (λ k. trimmed new.floor (own k (sets ++ s ∷ []))) this
+          ap versions (sym got) ∙ one ∙ sym (ap (versions_from new.floor) own_one) ∙ ap (λ k. versions_from new.floor (own k (sets ++ s ∷ []))) this
       by false isnt =
-          h.kept key c (sym (updates.2 key isnt) ∙ e) ∙ ap (λ f. trimmed f (own key sets)) (sym floor) ∙ ap (trimmed new.floor) (sym (own-other sets s key isnt))
+          h.kept key c (sym (updates.2 key isnt) ∙ e) ∙ ap (λ f. versions_from f (own key sets)) (sym floor) ∙ ap (versions_from new.floor) (sym (own-other sets s key isnt))
 
   absent_first : (key : ℕ) → get nat_eq new.chains key ≡ None → own key (sets ++ s ∷ []) ≡ []
   absent_first key e = by (nat_eq s.key key) refl

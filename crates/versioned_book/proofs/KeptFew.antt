@@ -5,7 +5,7 @@ use Rattle.std.proofs.lemmas.List.{length-map}
 use Rattle.std.specs.List.{list_any}
 use Rattle.std.specs.Map.{lookup, keys_of as entry_keys}
 use Rattle.indexmap.specs.IndexMap.{get, keys}
-use Rattle.versioned_book.specs.Settings.{Setting, after, keys_after, keys_of, own, with_key}
+use Rattle.versioned_book.specs.Settings.{Setting, settings_after, keys_after, keys_of, own, with_key}
 use Rattle.versioned_book.specs.Books.{IsBookOf, kept_of, many, many_in}
 use Rattle.versioned_book.specs.declared.chain.Chain.{Chain}
 use Rattle.versioned_book.specs.declared.book.VersionedBook.{VersionedBook}
@@ -117,17 +117,17 @@ module _ {V : Type 0} where
   pub book_apart : (book : VersionedBook V) (sets : List (Setting V)) → IsBookOf book sets → AreApart (keys book.chains)
   book_apart book sets h = subst AreApart (sym h.order) (apart-after [] sets tt)
 
-  pub kept_few : (book : VersionedBook V) (sets : List (Setting V)) → IsBookOf book sets → kept_of book ≤ length (keys_of sets) + length (after book.floor sets)
+  pub kept_few : (book : VersionedBook V) (sets : List (Setting V)) → IsBookOf book sets → kept_of book ≤ length (keys_of sets) + length (settings_after book.floor sets)
   kept_few book sets h =
       let apart : AreApart (keys book.chains) = subst AreApart (sym h.order) (apart-after [] sets tt) in
       omega (
         arith,
-        chains_few (after book.floor sets) book.chains.entries apart each,
-        own_few (after book.floor sets) (keys book.chains) apart,
+        chains_few (settings_after book.floor sets) book.chains.entries apart each,
+        own_few (settings_after book.floor sets) (keys book.chains) apart,
         length-map book.chains.entries (λ (e : ℕ × Chain V). e.0),
         ap length h.order,
       )
     where
-      each : (key : ℕ) (c : Chain V) → get nat_eq book.chains key ≡ Some c → many c ≤ length (own key (after book.floor sets)) + 1
+      each : (key : ℕ) (c : Chain V) → get nat_eq book.chains key ≡ Some c → many c ≤ length (own key (settings_after book.floor sets)) + 1
       each key c found =
           omega (arith, ap length (h.kept key c found), few_trimmed book.floor 0 (own key sets) (own_rising key 0 sets book.last h.rising), ap length (own-after key book.floor sets))

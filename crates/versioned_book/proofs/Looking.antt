@@ -4,7 +4,7 @@ use Rattle.std.proofs.lemmas.Bool.{le-leb, leb-true, leb-false, lt-leb}
 use Rattle.std.proofs.lemmas.List.{length-map}
 use Rattle.std.proofs.lemmas.Option.{slice_get_within}
 use Rattle.indexmap.specs.IndexMap.{get}
-use Rattle.versioned_book.specs.Versions.{IsRising, IsRisingTo, or_else, trimmed, value_at, versions}
+use Rattle.versioned_book.specs.Versions.{IsRising, IsRisingTo, or_else, versions_from, value_at, versions}
 use Rattle.versioned_book.specs.Settings.{Setting, keys_of, own, until}
 use Rattle.versioned_book.specs.Books.{IsBookOf}
 use Rattle.versioned_book.specs.declared.chain.Chain.{Chain}
@@ -69,14 +69,14 @@ module _ {V : Type 0} where
   -- the chain at an index: what it holds, and that it has a value at each position that the key is there at
   pub record IsChainAt (book : VersionedBook V) (sets : List (Setting V)) (index key : ℕ) (chain : Chain V) : Type 0 where
     pub place : slice_get (keys_of sets) index ≡ Some key
-    pub kept : versions chain ≡ trimmed book.floor (own key sets)
+    pub kept : versions chain ≡ versions_from book.floor (own key sets)
     pub rising : IsRising 0 (versions chain)
     pub value : (p : ℕ) → book.floor ≤ p → value_at p (versions chain) ≡ value_at p (own key sets)
 
   pub chain_at : (book : VersionedBook V) (sets : List (Setting V)) (index key : ℕ) (chain : Chain V) → IsBookOf book sets → slice_get book.chains.entries index ≡ Some (key, chain)
       → get nat_eq book.chains key ≡ Some chain → IsChainAt book sets index key chain
   chain_at book sets index key chain h entry found =
-      let kept : versions chain ≡ trimmed book.floor (own key sets) = h.kept key chain found in
+      let kept : versions chain ≡ versions_from book.floor (own key sets) = h.kept key chain found in
       record {
         place = sym (ap (λ l. slice_get l index) h.order) ∙ key_at_place book.chains.entries index key chain entry;
         kept = kept;

@@ -5,7 +5,7 @@ use Rattle.std.proofs.lemmas.List.Elements.{filter-append}
 use Rattle.std.specs.List.{list_any}
 use Rattle.std.specs.Map.{lookup, keys_of as entry_keys}
 use Rattle.versioned_book.specs.Versions.{IsRising, IsRisingTo}
-use Rattle.versioned_book.specs.Settings.{Setting, after, keys_after, keys_of, own, positions, until, with_key}
+use Rattle.versioned_book.specs.Settings.{Setting, settings_after, keys_after, keys_of, own, positions, until, with_key}
 
 -- a key is among the keys exactly where a look-up finds it
 pub any_found : {X : Type 0} (key : ℕ) (es : List (ℕ × X)) (x : X) → lookup (nat_eq key) es ≡ Some x → list_any (nat_eq key) (entry_keys es) ≡ true
@@ -129,13 +129,13 @@ module _ {V : Type 0} where
       ∙ ap (λ b. until p sets ++ cond b (s ∷ []) []) (lt-leb s.position p past) ∙ append-nil (until p sets)
 
   -- the keys among the settings after a floor, and the settings of a key after it
-  pub own-after : (key floor : ℕ) (sets : List (Setting V)) → own key (after floor sets) ≡ filter (λ v. nat_lt floor v.0) (own key sets)
+  pub own-after : (key floor : ℕ) (sets : List (Setting V)) → own key (settings_after floor sets) ≡ filter (λ v. nat_lt floor v.0) (own key sets)
   own-after key floor [] = refl
   own-after key floor (s ∷ sets) =
       left (nat_lt floor s.position) ∙ middle (nat_lt floor s.position) (nat_eq s.key key) (own-after key floor sets) ∙ sym (right (nat_eq s.key key))
     where
-      left : (b : Bool) → own key (cond b (s ∷ after floor sets) (after floor sets))
-          ≡ cond b (if nat_eq s.key key then (s.position, s.value) ∷ own key (after floor sets) else own key (after floor sets)) (own key (after floor sets))
+      left : (b : Bool) → own key (cond b (s ∷ settings_after floor sets) (settings_after floor sets))
+          ≡ cond b (if nat_eq s.key key then (s.position, s.value) ∷ own key (settings_after floor sets) else own key (settings_after floor sets)) (own key (settings_after floor sets))
       left true = refl
       left false = refl
 
@@ -144,8 +144,8 @@ module _ {V : Type 0} where
       right true = refl
       right false = refl
 
-      middle : (b c : Bool) → own key (after floor sets) ≡ filter (λ v. nat_lt floor v.0) (own key sets)
-          → cond b (if c then (s.position, s.value) ∷ own key (after floor sets) else own key (after floor sets)) (own key (after floor sets))
+      middle : (b c : Bool) → own key (settings_after floor sets) ≡ filter (λ v. nat_lt floor v.0) (own key sets)
+          → cond b (if c then (s.position, s.value) ∷ own key (settings_after floor sets) else own key (settings_after floor sets)) (own key (settings_after floor sets))
           ≡ (if c then cond b ((s.position, s.value) ∷ filter (λ v. nat_lt floor v.0) (own key sets)) (filter (λ v. nat_lt floor v.0) (own key sets)) else filter (λ v. nat_lt floor v.0) (own key sets))
       middle true true rest = ap (λ l. (s.position, s.value) ∷ l) rest
       middle true false rest = rest

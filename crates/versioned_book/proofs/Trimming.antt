@@ -4,7 +4,7 @@ use Rattle.std.proofs.lemmas.Bool.{eqb-true, eq-eqb, cases_lt}
 use Rattle.std.proofs.lemmas.Option.{slice_get_within}
 use Rattle.std.specs.Map.{lookup, keys_of as entry_keys}
 use Rattle.indexmap.specs.IndexMap.{get, keys, Updates}
-use Rattle.versioned_book.specs.Versions.{IsRisingTo, trimmed, versions}
+use Rattle.versioned_book.specs.Versions.{IsRisingTo, versions_from, versions}
 use Rattle.versioned_book.specs.Settings.{Setting, own, positions}
 use Rattle.versioned_book.specs.Books.{IsBookOf, kept_of, many, many_in}
 use Rattle.versioned_book.specs.declared.chain.Chain.{Chain}
@@ -24,8 +24,8 @@ module _ {V : Type 0} where
   -- the chain is trimmed, or as before and its place isn't reached
   abbrev pub IsCutOr : VersionedBook V → List (Setting V) → ℕ → ℕ → ℕ → Chain V → Type 0
   IsCutOr book sets floor i key c =
-      (versions c ≡ trimmed floor (own key sets))
-      ⊎ ((j : ℕ) × (i ≤ j) × (slice_get (keys book.chains) j ≡ Some key) × (versions c ≡ trimmed book.floor (own key sets)))
+      (versions c ≡ versions_from floor (own key sets))
+      ⊎ ((j : ℕ) × (i ≤ j) × (slice_get (keys book.chains) j ≡ Some key) × (versions c ≡ versions_from book.floor (own key sets)))
 
   -- the first i chains are trimmed
   pub record AreCut (book now : VersionedBook V) (sets : List (Setting V)) (floor i : ℕ) : Type 0 where
@@ -51,16 +51,16 @@ module _ {V : Type 0} where
   module _ (book now next : VersionedBook V) (sets : List (Setting V)) (floor i key dropped : ℕ) (chain cut : Chain V)
       (later : book.floor ≤ floor) (place : slice_get (keys now.chains) i ≡ Some key)
       (found : get nat_eq now.chains key ≡ Some chain) (updates : Updates nat_eq now.chains next.chains key (Some cut)) (same : keys next.chains ≡ keys now.chains)
-      (trims : versions cut ≡ trimmed floor (versions chain)) (drops : many chain ≡ many cut + dropped)
+      (trims : versions cut ≡ versions_from floor (versions chain)) (drops : many chain ≡ many cut + dropped)
       (sum : kept_of next + many chain ≡ kept_of now + many cut)
       (firsts : next.firsts.items ≡ now.firsts.items) (last : next.last ≡ now.last) (kept : next.kept + dropped ≡ now.kept)
       (h : AreCut book now sets floor i) where
-    this_cut : versions cut ≡ trimmed floor (own key sets)
+    this_cut : versions cut ≡ versions_from floor (own key sets)
     this_cut = by (h.each key chain found)
       where
-        by : IsCutOr book sets floor i key chain → versions cut ≡ trimmed floor (own key sets)
-        by (inl e) = trims ∙ ap (trimmed floor) e ∙ trim_again floor floor (own key sets) (omega arith)
-        by (inr r) = trims ∙ ap (trimmed floor) r.3 ∙ trim_again floor book.floor (own key sets) later
+        by : IsCutOr book sets floor i key chain → versions cut ≡ versions_from floor (own key sets)
+        by (inl e) = trims ∙ ap (versions_from floor) e ∙ trim_again floor floor (own key sets) (omega arith)
+        by (inr r) = trims ∙ ap (versions_from floor) r.3 ∙ trim_again floor book.floor (own key sets) later
 
     each_more : (k : ℕ) (c : Chain V) → get nat_eq next.chains k ≡ Some c → IsCutOr book sets floor (i + 1) k c
     each_more k c e = by (nat_eq key k) refl
@@ -80,7 +80,7 @@ module _ {V : Type 0} where
         by true is =
             let this : key ≡ k = eqb-true key k is in
             let got : cut ≡ c = some_same cut c (sym updates.1 ∙ ap (get nat_eq next.chains) this ∙ e) in
-            inl (ap versions (sym got) ∙ this_cut ∙ ap (λ x. trimmed floor (own x sets)) this)
+            inl (ap versions (sym got) ∙ this_cut ∙ ap (λ x. versions_from floor (own x sets)) this)
         by false isnt = other isnt (h.each k c (sym (updates.2 k isnt) ∙ e))
 
     absent_next : (k : ℕ) → get nat_eq next.chains k ≡ None → own k sets ≡ []
@@ -109,10 +109,10 @@ module _ {V : Type 0} where
   module _ (book now next : VersionedBook V) (sets : List (Setting V)) (floor i : ℕ) (later : floor ≤ book.last) (all : length (keys book.chains) ≤ i)
       (chains : next.chains ≡ now.chains) (firsts : next.firsts.items ≡ now.firsts.items) (to : next.floor ≡ floor) (last : next.last ≡ now.last) (kept : next.kept ≡ now.kept)
       (h : IsBookOf book sets) (done : AreCut book now sets floor i) where
-    kept_cut : (key : ℕ) (c : Chain V) → get nat_eq next.chains key ≡ Some c → versions c ≡ trimmed next.floor (own key sets)
-    kept_cut key c e = by (done.each key c (sym (ap (λ m. get nat_eq m key) chains) ∙ e)) ∙ ap (λ f. trimmed f (own key sets)) (sym to)
+    kept_cut : (key : ℕ) (c : Chain V) → get nat_eq next.chains key ≡ Some c → versions c ≡ versions_from next.floor (own key sets)
+    kept_cut key c e = by (done.each key c (sym (ap (λ m. get nat_eq m key) chains) ∙ e)) ∙ ap (λ f. versions_from f (own key sets)) (sym to)
       where
-        by : IsCutOr book sets floor i key c → versions c ≡ trimmed floor (own key sets)
+        by : IsCutOr book sets floor i key c → versions c ≡ versions_from floor (own key sets)
         by (inl a) = a
         by (inr r) = absurd (omega (arith, slice_get_within (keys book.chains) r.0 key r.2, r.1, all))
 

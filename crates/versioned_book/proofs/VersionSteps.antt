@@ -5,7 +5,7 @@ use Rattle.std.proofs.lemmas.List.{take_more}
 use Rattle.std.proofs.lemmas.Option.{slice_get_within, get_or_from_slice_get}
 use Rattle.std.proofs.Math.Seq.{take-append_seam}
 use Rattle.std.proofs.Math.Nat.{mul-le-mul_left}
-use Rattle.versioned_book.specs.Versions.{IsRising, newest_of, or_else, trimmed, trimmed_from, value_at}
+use Rattle.versioned_book.specs.Versions.{IsRising, newest_of, or_else, versions_from, trimmed_from, value_at}
 
 pub some_same : {X : Type 0} (x y : X) → Some x ≡ Some y → x ≡ y
 some_same x y h = ap (λ o. unwrap_or o x) h
@@ -77,7 +77,7 @@ module _ {V : Type 0} where
   newest_of-push (x ∷ xs) v = ap (λ o. or_else o (Some x.1)) (newest_of-push xs v)
 
   -- a trim, version by version
-  pub trim_step : (floor i : ℕ) (vs : List (ℕ × V)) (e : ℕ × V) → slice_get vs (suc i) ≡ Some e → e.0 ≤ floor → trimmed floor (drop i vs) ≡ trimmed floor (drop (suc i) vs)
+  pub trim_step : (floor i : ℕ) (vs : List (ℕ × V)) (e : ℕ × V) → slice_get vs (suc i) ≡ Some e → e.0 ≤ floor → versions_from floor (drop i vs) ≡ versions_from floor (drop (suc i) vs)
   trim_step floor zero [] e at h = refl
   trim_step floor (suc i) [] e at h = refl
   trim_step floor zero (v ∷ []) e at h = cc
@@ -85,7 +85,7 @@ module _ {V : Type 0} where
       ap (λ b. if b then trimmed_from floor w vs else v ∷ w ∷ vs) (le-leb w.0 floor (subst (λ x. x.0 ≤ floor) (sym (some_same w e at)) h))
   trim_step floor (suc i) (v ∷ vs) e at h = trim_step floor i vs e at h
 
-  pub trim_stop : (floor i : ℕ) (vs : List (ℕ × V)) (e : ℕ × V) → slice_get vs (suc i) ≡ Some e → floor < e.0 → trimmed floor (drop i vs) ≡ drop i vs
+  pub trim_stop : (floor i : ℕ) (vs : List (ℕ × V)) (e : ℕ × V) → slice_get vs (suc i) ≡ Some e → floor < e.0 → versions_from floor (drop i vs) ≡ drop i vs
   trim_stop floor zero [] e at h = refl
   trim_stop floor (suc i) [] e at h = refl
   trim_stop floor zero (v ∷ []) e at h = refl
@@ -93,7 +93,7 @@ module _ {V : Type 0} where
       ap (λ b. if b then trimmed_from floor w vs else v ∷ w ∷ vs) (lt-leb w.0 floor (subst (λ x. floor < x.0) (sym (some_same w e at)) h))
   trim_stop floor (suc i) (v ∷ vs) e at h = trim_stop floor i vs e at h
 
-  pub trim_end : (floor : ℕ) (vs : List (ℕ × V)) (v : ℕ × V) → trimmed floor (drop (length vs) (vs ++ v ∷ [])) ≡ drop (length vs) (vs ++ v ∷ [])
+  pub trim_end : (floor : ℕ) (vs : List (ℕ × V)) (v : ℕ × V) → versions_from floor (drop (length vs) (vs ++ v ∷ [])) ≡ drop (length vs) (vs ++ v ∷ [])
   trim_end floor [] v = refl
   trim_end floor (x ∷ vs) v = trim_end floor vs v
 
@@ -108,7 +108,7 @@ module _ {V : Type 0} where
         by false rest = refl
 
     -- a version above the floor stays behind what a trim leaves
-    pub trimmed-push : (vs : List (ℕ × V)) (v : ℕ × V) → floor < v.0 → trimmed floor (vs ++ v ∷ []) ≡ trimmed floor vs ++ v ∷ []
+    pub trimmed-push : (vs : List (ℕ × V)) (v : ℕ × V) → floor < v.0 → versions_from floor (vs ++ v ∷ []) ≡ versions_from floor vs ++ v ∷ []
     trimmed-push [] v h = refl
     trimmed-push (x ∷ vs) v h = trimmed_from-push x vs v h
 
@@ -125,7 +125,7 @@ module _ {V : Type 0} where
         by false e rest = refl
 
     -- no position from the floor on sees a trim
-    pub value_at-trimmed : (p : ℕ) (vs : List (ℕ × V)) → floor ≤ p → value_at p (trimmed floor vs) ≡ value_at p vs
+    pub value_at-trimmed : (p : ℕ) (vs : List (ℕ × V)) → floor ≤ p → value_at p (versions_from floor vs) ≡ value_at p vs
     value_at-trimmed p [] h = refl
     value_at-trimmed p (x ∷ vs) h = value_at-trimmed_from p x vs h
 
@@ -137,21 +137,21 @@ module _ {V : Type 0} where
         by true rest = rest ∙ sym (or_else-some (newest_of vs) (Some x.1) w.1)
         by false rest = refl
 
-    pub newest_of-trimmed : (vs : List (ℕ × V)) → newest_of (trimmed floor vs) ≡ newest_of vs
+    pub newest_of-trimmed : (vs : List (ℕ × V)) → newest_of (versions_from floor vs) ≡ newest_of vs
     newest_of-trimmed [] = refl
     newest_of-trimmed (x ∷ vs) = newest_of-trimmed_from x vs
 
-    trim_again_from : (old : ℕ) (x : ℕ × V) (vs : List (ℕ × V)) → old ≤ floor → trimmed floor (trimmed_from old x vs) ≡ trimmed_from floor x vs
+    trim_again_from : (old : ℕ) (x : ℕ × V) (vs : List (ℕ × V)) → old ≤ floor → versions_from floor (trimmed_from old x vs) ≡ trimmed_from floor x vs
     trim_again_from old x [] h = refl
     trim_again_from old x (w ∷ vs) h = by (nat_le w.0 old) refl (trim_again_from old w vs h)
       where
-        by : (b : Bool) → nat_le w.0 old ≡ b → trimmed floor (trimmed_from old w vs) ≡ trimmed_from floor w vs
-            → trimmed floor (if b then trimmed_from old w vs else x ∷ w ∷ vs) ≡ trimmed_from floor x (w ∷ vs)
+        by : (b : Bool) → nat_le w.0 old ≡ b → versions_from floor (trimmed_from old w vs) ≡ trimmed_from floor w vs
+            → versions_from floor (if b then trimmed_from old w vs else x ∷ w ∷ vs) ≡ trimmed_from floor x (w ∷ vs)
         by true e rest = rest ∙ sym (ap (λ b. if b then trimmed_from floor w vs else x ∷ w ∷ vs) (le-leb w.0 floor (omega (arith, leb-true w.0 old e, h))))
         by false e rest = refl
 
     -- a trim at a later floor makes an earlier one as if it had never been
-    pub trim_again : (old : ℕ) (vs : List (ℕ × V)) → old ≤ floor → trimmed floor (trimmed old vs) ≡ trimmed floor vs
+    pub trim_again : (old : ℕ) (vs : List (ℕ × V)) → old ≤ floor → versions_from floor (versions_from old vs) ≡ versions_from floor vs
     trim_again old [] h = refl
     trim_again old (x ∷ vs) h = trim_again_from old x vs h
 
@@ -163,7 +163,7 @@ module _ {V : Type 0} where
         by true rest = rest
         by false rest = h
 
-    pub rising-trimmed : (low : ℕ) (vs : List (ℕ × V)) → IsRising low vs → IsRising low (trimmed floor vs)
+    pub rising-trimmed : (low : ℕ) (vs : List (ℕ × V)) → IsRising low vs → IsRising low (versions_from floor vs)
     rising-trimmed low [] h = h
     rising-trimmed low (x ∷ vs) h = rising-trimmed_from low x vs h
 
@@ -191,7 +191,7 @@ module _ {V : Type 0} where
         by false false e f rest all = absurd (omega (arith, leb-false w.0 floor e, leb-false (suc floor) w.0 f))
 
     -- a trim leaves at most one version more than those after the floor
-    pub few_trimmed : (low : ℕ) (vs : List (ℕ × V)) → IsRising low vs → length (trimmed floor vs) ≤ length (filter (λ v. nat_lt floor v.0) vs) + 1
+    pub few_trimmed : (low : ℕ) (vs : List (ℕ × V)) → IsRising low vs → length (versions_from floor vs) ≤ length (filter (λ v. nat_lt floor v.0) vs) + 1
     few_trimmed low [] h = omega arith
     few_trimmed low (x ∷ vs) h = by (nat_lt floor x.0) (few_from low x vs h)
       where
@@ -201,11 +201,11 @@ module _ {V : Type 0} where
         by false rest = rest
 
   -- the same, as the code counts
-  pub trim_step_at : (floor i : ℕ) (vs : List (ℕ × V)) (e : ℕ × V) → slice_get vs (i + 1) ≡ Some e → e.0 ≤ floor → trimmed floor (drop i vs) ≡ trimmed floor (drop (i + 1) vs)
+  pub trim_step_at : (floor i : ℕ) (vs : List (ℕ × V)) (e : ℕ × V) → slice_get vs (i + 1) ≡ Some e → e.0 ≤ floor → versions_from floor (drop i vs) ≡ versions_from floor (drop (i + 1) vs)
   trim_step_at floor i vs e at h =
-      trim_step floor i vs e (ap (slice_get vs) (sym (add-one i)) ∙ at) h ∙ sym (ap (λ k. trimmed floor (drop k vs)) (add-one i))
+      trim_step floor i vs e (ap (slice_get vs) (sym (add-one i)) ∙ at) h ∙ sym (ap (λ k. versions_from floor (drop k vs)) (add-one i))
 
-  pub trim_stop_at : (floor i : ℕ) (vs : List (ℕ × V)) (e : ℕ × V) → slice_get vs (i + 1) ≡ Some e → floor < e.0 → trimmed floor (drop i vs) ≡ drop i vs
+  pub trim_stop_at : (floor i : ℕ) (vs : List (ℕ × V)) (e : ℕ × V) → slice_get vs (i + 1) ≡ Some e → floor < e.0 → versions_from floor (drop i vs) ≡ drop i vs
   trim_stop_at floor i vs e at h = trim_stop floor i vs e (ap (slice_get vs) (sym (add-one i)) ∙ at) h
 
   -- a position before the newest needs the older ones alone

@@ -1,7 +1,7 @@
 -- A book and the settings that it stands for.
 use Rattle.std.specs.Prelude.{◌≡◌, ℕ, ◌+◌, ◌<◌, ◌≤◌, List, [], ◌∷◌, length, filter, nat_eq, nat_le, slice_get, None, Some, vec_len, vec_capacity}
 use Rattle.indexmap.specs.IndexMap.{get, keys, spare}
-use Rattle.versioned_book.specs.Versions.{IsRisingTo, trimmed, versions}
+use Rattle.versioned_book.specs.Versions.{IsRisingTo, versions_from, versions}
 use Rattle.versioned_book.specs.Settings.{Setting, keys_of, own, positions, until}
 use Rattle.versioned_book.specs.declared.chain.Chain.{Chain}
 use Rattle.versioned_book.specs.declared.book.VersionedBook.{VersionedBook}
@@ -23,7 +23,7 @@ module _ {V : Type 0} where
   -- the book stands for these settings, of which it keeps what its floor and the positions above it need
   pub record IsBookOf (book : VersionedBook V) (sets : List (Setting V)) : Type 0 where
     pub order : keys book.chains ≡ keys_of sets
-    pub kept : (key : ℕ) (chain : Chain V) → get nat_eq book.chains key ≡ Some chain → versions chain ≡ trimmed book.floor (own key sets)
+    pub kept : (key : ℕ) (chain : Chain V) → get nat_eq book.chains key ≡ Some chain → versions chain ≡ versions_from book.floor (own key sets)
     pub absent : (key : ℕ) → get nat_eq book.chains key ≡ None → own key sets ≡ []
     pub rising : IsRisingTo 0 (positions sets) book.last
     pub floor : book.floor ≤ book.last
@@ -34,10 +34,10 @@ module _ {V : Type 0} where
     pub bound : book.kept ≤ book.last
 
   -- the book stands for some settings, as each book does that the calls have made
-  abbrev pub Stands : VersionedBook V → Type 0
-  Stands book = (sets : List (Setting V)) × IsBookOf book sets
+  abbrev pub IsSomeBook : VersionedBook V → Type 0
+  IsSomeBook book = (sets : List (Setting V)) × IsBookOf book sets
 
   -- one more setting of this key needs no memory
-  pub record HasRoom (book : VersionedBook V) (key : ℕ) : Type 0 where
+  pub record CanSet (book : VersionedBook V) (key : ℕ) : Type 0 where
     pub fresh : get nat_eq book.chains key ≡ None → (0 < spare book.chains) × (vec_len book.firsts < vec_capacity book.firsts)
     pub more : (chain : Chain V) → get nat_eq book.chains key ≡ Some chain → vec_len chain.older < vec_capacity chain.older

@@ -32,8 +32,8 @@ module _ {V : Type 0} where
   until p sets = filter (λ s. nat_le s.position p) sets
 
   -- the settings after a position
-  abbrev pub after : ℕ → List (Setting V) → List (Setting V)
-  after p sets = filter (λ s. nat_lt p s.position) sets
+  abbrev pub settings_after : ℕ → List (Setting V) → List (Setting V)
+  settings_after p sets = filter (λ s. nat_lt p s.position) sets
 
   -- the positions of the settings, in their order
   abbrev pub positions : List (Setting V) → List ℕ

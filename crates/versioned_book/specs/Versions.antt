@@ -34,9 +34,9 @@ module _ {V : Type 0} where
   trimmed_from floor v (w ∷ vs) = if nat_le w.0 floor then trimmed_from floor w vs else v ∷ w ∷ vs
 
   -- the versions that some position from the floor on needs
-  abbrev pub trimmed : ℕ → List (ℕ × V) → List (ℕ × V)
-  trimmed floor [] = []
-  trimmed floor (v ∷ vs) = trimmed_from floor v vs
+  abbrev pub versions_from : ℕ → List (ℕ × V) → List (ℕ × V)
+  versions_from floor [] = []
+  versions_from floor (v ∷ vs) = trimmed_from floor v vs
 
 -- all versions of a chain, the oldest first
 abbrev pub versions : {V : Type 0} → Chain V → List (ℕ × V)

@@ -1,9 +1,9 @@
 // The book: a chain of versions for each key, in the order in which the keys were first set.
 ghost use Rattle.std.specs.Prelude.{◌≡◌, ℕ, ◌+◌, ◌<◌, ◌≤◌, [], ◌∷◌, ◌++◌, List, filter, length, min, nat_eq, nat_le, slice_get, Some, IfOk, OnOk, vec_len};
 ghost use Rattle.indexmap.specs.IndexMap.{keys, index_map_len};
-ghost use Rattle.versioned_book.specs.Books.{HasRoom, IsBookOf, Stands, kept_of};
-ghost use Rattle.versioned_book.specs.Settings.{Setting, after, keys_of, own, until};
-ghost use Rattle.versioned_book.specs.Versions.{AreFewSteps, IsRisingTo, newest_of, trimmed, value_at};
+ghost use Rattle.versioned_book.specs.Books.{CanSet, IsBookOf, IsSomeBook, kept_of};
+ghost use Rattle.versioned_book.specs.Settings.{Setting, settings_after, keys_of, own, until};
+ghost use Rattle.versioned_book.specs.Versions.{AreFewSteps, IsRisingTo, newest_of, versions_from, value_at};
 
 use crate::Chain;
 use indexmap::IndexMap;
@@ -40,7 +40,7 @@ impl<V: Copy> VersionedBook<V> {
 
     /// Makes room for one setting of the key. What the book holds stays, also on an error.
     pub fn reserve(&mut self, key: u32) -> Result<(), AllocError>
-        ensures room { OnOk result (HasRoom self.new key) }
+        ensures room { OnOk result (CanSet self.new key) }
         ensures book { (sets : List (Setting V)) → IsBookOf self.old sets → IsBookOf self.new sets }
         ensures floor { (self.new.floor ≡ self.old.floor) × (self.new.last ≡ self.old.last) }
     {
@@ -58,9 +58,9 @@ impl<V: Copy> VersionedBook<V> {
 
     /// Sets the value of a key, for which room was made, at a position above all before.
     pub fn set(&mut self, key: u32, position: u32, value: V)
-        requires room { HasRoom self.old key }
+        requires room { CanSet self.old key }
         requires rising { self.old.last < position }
-        requires stands { Stands self.old }
+        requires stands { IsSomeBook self.old }
         ensures book { (sets : List (Setting V)) → IsBookOf self.old sets → IsBookOf self.new (sets ++ record { key = key; position = position; value = value } ∷ []) }
         ensures floor { (self.new.floor ≡ self.old.floor) × (self.new.last ≡ position) }
     {
@@ -91,7 +91,7 @@ impl<V: Copy> VersionedBook<V> {
 
     /// How many keys were first set at or before a position, also below the floor.
     pub fn count_at(&self, p: u32) -> u32
-        requires { Stands self.now }
+        requires { IsSomeBook self.now }
         ensures { (sets : List (Setting V)) → IsBookOf self.now sets → result ≡ length (keys_of (until p sets)) }
     {
         many_until(self.firsts.as_slice(), p) as u32
@@ -103,7 +103,7 @@ impl<V: Copy> VersionedBook<V> {
         requires stands { (sets : List (Setting V)) × IsBookOf self.now sets × (index < length (keys_of (until p sets))) }
         requires floor { self.now.floor ≤ p }
         ensures value { (sets : List (Setting V)) (key : ℕ) → IsBookOf self.now sets → slice_get (keys_of sets) index ≡ Some key → value_at p (own key sets) ≡ Some result }
-        ensures looks { (sets : List (Setting V)) (key : ℕ) → IsBookOf self.now sets → slice_get (keys_of sets) index ≡ Some key → AreFewSteps steps.old steps.new (length (trimmed self.now.floor (own key sets))) }
+        ensures looks { (sets : List (Setting V)) (key : ℕ) → IsBookOf self.now sets → slice_get (keys_of sets) index ≡ Some key → AreFewSteps steps.old steps.new (length (versions_from self.now.floor (own key sets))) }
     {
         let (_key, chain) = self.chains.get_index(index as usize).unwrap();
         chain.at(p, steps).unwrap()
@@ -112,7 +112,7 @@ impl<V: Copy> VersionedBook<V> {
     /// How many versions are kept.
     pub fn kept(&self) -> u32
         ensures kept { (sets : List (Setting V)) → IsBookOf self.now sets → result ≡ kept_of self.now }
-        ensures few { (sets : List (Setting V)) → IsBookOf self.now sets → result ≤ length (keys_of sets) + length (after self.now.floor sets) }
+        ensures few { (sets : List (Setting V)) → IsBookOf self.now sets → result ≤ length (keys_of sets) + length (settings_after self.now.floor sets) }
     {
         self.kept
     }
@@ -120,7 +120,7 @@ impl<V: Copy> VersionedBook<V> {
     /// Drops what no position from the floor on needs. A floor above the last setting counts as the position of that.
     pub fn trim(&mut self, floor: u32)
         requires rising { self.old.floor ≤ floor }
-        requires stands { Stands self.old }
+        requires stands { IsSomeBook self.old }
         ensures book { (sets : List (Setting V)) → IsBookOf self.old sets → IsBookOf self.new sets }
         ensures floor { (self.new.floor ≡ min floor self.old.last) × (self.new.last ≡ self.old.last) }
     {

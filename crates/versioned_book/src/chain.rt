@@ -1,6 +1,6 @@
 // The versions of one key. The newest stands by itself, so that a key with one version takes no memory of its own.
 ghost use Rattle.std.specs.Prelude.{drop, None, ◌≡◌, ◌+◌, ◌*◌, ◌^◌, ◌<◌, ◌≤◌, [], ◌∷◌, ◌++◌, length, map, slice_get, Some, OnOk, vec_len, vec_capacity};
-ghost use Rattle.versioned_book.specs.Versions.{AreFewSteps, IsRising, newest_of, trimmed, value_at, versions};
+ghost use Rattle.versioned_book.specs.Versions.{AreFewSteps, IsRising, newest_of, versions_from, value_at, versions};
 
 use outside_io::Steps;
 use std::alloc::{AllocError, Global};
@@ -88,7 +88,7 @@ impl<V: Copy> Chain<V> {
 
     /// Drops the versions that no position from the floor on needs, and says how many they were.
     pub fn cut(&mut self, floor: u32) -> usize
-        ensures kept { versions self.new ≡ trimmed floor (versions self.old) }
+        ensures kept { versions self.new ≡ versions_from floor (versions self.old) }
         ensures count { length (versions self.old) ≡ length (versions self.new) + result }
     {
         let count = self.unneeded(floor);
@@ -99,7 +99,7 @@ impl<V: Copy> Chain<V> {
     // How many of the oldest versions no position from the floor on needs.
     fn unneeded(&self, floor: u32) -> usize
         ensures within { result ≤ vec_len self.now.older }
-        ensures rest { trimmed floor (versions self.now) ≡ drop result (versions self.now) }
+        ensures rest { versions_from floor (versions self.now) ≡ drop result (versions self.now) }
     {
         let mut count = 0;
         while count < self.older.len() {

@@ -3,7 +3,7 @@ use Rattle.std.specs.Option.{option_map}
 use Rattle.std.specs.Map.Iter.{deref_pair}
 use Rattle.indexmap.specs.IndexMap.{get}
 use Rattle.versioned_book.specs.Settings.{own}
-use Rattle.versioned_book.specs.Versions.{AreFewSteps, trimmed, value_at}
+use Rattle.versioned_book.specs.Versions.{AreFewSteps, versions_from, value_at}
 use Rattle.versioned_book.proofs.Looking.{chain_at, has_value, within_keys}
 use Rattle.versioned_book.proofs.VersionSteps.{some_same}
 use Rattle.versioned_book.proofs.book.VersionedBook.at.Goals as goal
@@ -46,4 +46,4 @@ returns-clause-looks g c sets key h place =
     let found = subst (λ o. IfSome o (λ p. get nat_eq c.args.self.now.chains p.0.now ≡ Some p.1.now)) c.unwrap.ensures c.get_index.ensures.value in
     let there = chain_at c.args.self.now sets c.args.index pair.0.now pair.1.now h entry found in
     let same = some_same key pair.0.now (sym place ∙ there.place) in
-    subst (λ n. AreFewSteps c.args.steps.now c.at.new.steps n) (ap length there.kept ∙ ap (λ k. length (trimmed c.args.self.now.floor (own k sets))) (sym same)) c.at.ensures.looks
+    subst (λ n. AreFewSteps c.args.steps.now c.at.new.steps n) (ap length there.kept ∙ ap (λ k. length (versions_from c.args.self.now.floor (own k sets))) (sym same)) c.at.ensures.looks
