@@ -3,12 +3,15 @@
 usage: python3 memory.py PROGRAM FOLDER SEED
 
 The answer has to be the right text, or that memory was wanting: `nomemory` before the first posting, lines answered so, or
-no text where the lanes had ended; with status 9 each time, and with a file that holds what was accepted. Below some limit
-the system can't load the program, which then says nothing: it must lie below the one that docs/CLERK.md tells.
+no text where the lanes had ended; with status 9 each time, and with a file that holds what was accepted. In two cases the system ends the program, which then
+can say nothing, as docs/CLERK.md tells: below some limit it can't be loaded; and where memory ends just where the stack of
+the first thread has to grow, the system has no other answer than a signal. strace records where such a signal points.
 """
 import collections
 import os
 import random
+import re
+import signal
 import sys
 from concurrent.futures import ThreadPoolExecutor
 from dataclasses import dataclass
@@ -22,7 +25,11 @@ from tables import read_basis
 AT_ONCE = 2
 KIB = 1024
 AMPLE, LOADED_FROM = 256 * 1024, 4 * 1024
-DRAWN, FINE, STEP = 30, 25, 8
+DRAWN, FINE, PAGE = 30, 40, 4
+# the stacks of the first thread lie from here on, and nothing else does
+STACKS_FROM = 0x7ffb_0000_0000
+# a thread's stack with its guard, and what the program takes besides, in KiB
+THREAD, BESIDE = 8256, 3100
 BEFORE = 150
 
 
@@ -34,10 +41,12 @@ class Mode:
     before: bytes
 
 
-def modes():
+def modes(program, folder):
+    # what `load` runs is what `generate` writes
+    generated = Desk(program, folder).run(["generate", "1", "300", "8"]).text.encode()
     before = file_of(many_policies(BEFORE).commands)
     return [Mode("run", ["run"], eight_clerks(25, BEFORE), before), Mode("value", ["value", "2021-01-01"], b"", before),
-            Mode("state", ["state"], b"", before), Mode("load", ["load", "1", "300", "8", "1"], b"", b"")]
+            Mode("state", ["state"], b"", before), Mode("load", ["load", "1", "300", "8", "1"], generated, b"")]
 
 
 class Trial:
@@ -57,15 +66,21 @@ class Trial:
     def try_limit(self, kib):
         """What became of a run under this limit: a word."""
         desk = self.desk(f"{kib}")
-        ended = desk.run(self.mode.words, ["prlimit", f"--as={kib * KIB}"])
+        strace = ["strace", "-f", "-qq", "-o", desk.path("log"), "-e", "trace=none", "-e", "signal=SIGSEGV"]
+        ended = desk.run(self.mode.words, [*strace, "prlimit", f"--as={kib * KIB}"])
+        at = re.search(rb"SIGSEGV \{.*si_addr=0x([0-9a-f]+)", read_bytes(desk.path("log")))
         try:
-            word = self.judge(kib, ended)
+            word = self.judge(kib, ended, int(at[1], 16) if at else 0)
         except Exception as wrong:
             raise Wrong(f"{self.mode.name} under {kib} KiB: status {ended.status}: {reason(wrong)}; the files are in {desk.folder}")
         self.seen[word] += 1
         return word
 
-    def judge(self, kib, ended):
+    def judge(self, kib, ended, pointed):
+        if ended.status == -signal.SIGSEGV and pointed >= STACKS_FROM:
+            demand(not ended.text, f"printed {ended.text[:200]!r}")
+            judge_unanswered(self.mode.script, self.mode.before, ended.after, False)
+            return "stack"
         if ended.status == 127 or ended.status < 0 or "error while loading" in ended.complaints:
             demand(kib < LOADED_FROM, f"it isn't loaded, or a signal ended it: {ended.complaints[:200]}")
             demand(ended.text == "" and ended.after == self.mode.before, "it had begun")
@@ -91,9 +106,9 @@ class Trial:
     def judge_part(self, ended):
         """Status 9 behind the first turn: some lines were answered so, or there was no memory for the text."""
         demand(self.mode.name in ("run", "load"), f"printed {ended.text[:200]!r}")
-        if self.mode.name == "load":
+        if self.mode.name == "load" and ended.text:
             posted = len(commands_in(ended.after, "the file afterwards"))
-            demand(ended.text == "" or ended.text.startswith(f"load,{posted},"), f"{posted} records, and printed {ended.text!r}")
+            demand(ended.text.startswith(f"load,{posted},"), f"{posted} records, and printed {ended.text!r}")
         elif ended.text:
             run = follow(self.mode.script, ended.text, self.mode.before, self.basis, self.known)
             demand(run.unserved and not run.faults, "no line wanted memory, at status 9")
@@ -103,22 +118,24 @@ class Trial:
 
 
 def limits(draw):
-    """Falling limits, by a fifth each time, and drawn ones between."""
+    """Limits that fall by a fifth each time, drawn ones between, and some that leave little beside the stacks of threads."""
     falling, limit = [], AMPLE
     while limit > 64:
         falling.append(limit)
         limit = limit * 4 // 5
-    return falling + [int(LOADED_FROM * (AMPLE / LOADED_FROM) ** draw.random()) for _ in range(DRAWN)]
+    drawn = [int(LOADED_FROM * (AMPLE / LOADED_FROM) ** draw.random()) for _ in range(DRAWN)]
+    return falling + drawn + [BESIDE + THREAD * (n % 8) + draw.randrange(50) * PAGE for n in range(DRAWN)]
 
 
 def try_mode(trial, draw):
-    """All limits, and then those just below the least under which the answer was right, where memory ends in between."""
+    """All limits, and then each page of those between the greatest that doesn't load the program and the right answers."""
     with ThreadPoolExecutor(AT_ONCE) as pool:
         tried = limits(draw)
         words = dict(zip(tried, pool.map(trial.try_limit, tried)))
-        least = min(kib for kib, word in words.items() if word == "right")
-        list(pool.map(trial.try_limit, [least - STEP * n for n in range(1, FINE + 1)]))
-    demand(all(word != "not loaded" for kib, word in words.items() if kib > least), "a limit above that loads it doesn't")
+        below = max(kib for kib, word in words.items() if word == "not loaded")
+        at_least = min(kib for kib, word in words.items() if word == "right")
+        between = range(below, at_least, PAGE)
+        list(pool.map(trial.try_limit, draw.sample(between, min(FINE, len(between)))))
 
 
 def main():
@@ -127,12 +144,13 @@ def main():
         print("faults: a preview asks for more memory than any limit gives, so memory isn't tried; the proved program is")
         return
     seen = collections.Counter()
-    for mode in modes():
+    for mode in modes(program, os.path.join(folder, "generated")):
         trial = Trial(program, os.path.join(folder, mode.name), mode)
         try_mode(trial, random.Random(f"{seed} {mode.name}"))
         seen += trial.seen
     print(f"faults: {sum(seen.values())} limits of memory: {seen['right']} right texts, {seen['nomemory']} ended with nomemory, "
-          f"{seen['in part']} with a part, {seen['not loaded']} were too small for the program to be loaded")
+          f"{seen['in part']} with a part; {seen['not loaded']} were too small to load the program, and {seen['stack']} ended where "
+          "its stack had to grow")
 
 
 if __name__ == "__main__":

@@ -47,6 +47,7 @@ class Desk:
         self.program, self.folder = program, os.path.realpath(folder)
         for name in ("basis.csv", "q.xml", "g.xml"):
             shutil.copy(os.path.join(ROOT, "examples", name), folder)
+        self.lay(b"")
 
     def path(self, name):
         return os.path.join(self.folder, name)
