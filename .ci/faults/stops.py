@@ -14,7 +14,7 @@ import time
 
 from judge import Wrong, demand, judge_transcript, judge_unanswered, reason
 from journals import file_of
-from runs import Desk, default_signals
+from runs import Desk, Ended, default_signals
 from scenes import eight_clerks, many_policies
 from tables import read_basis
 
@@ -110,6 +110,30 @@ def try_closed_pipes(desk):
         demand(desk.journal() == before, f"{' '.join(words)} changed the file")
 
 
+def pause(run):
+    """Stops the program for a moment, once it has had time to wait for something."""
+    for number in (signal.SIGSTOP, signal.SIGCONT):
+        time.sleep(0.1)
+        run.send_signal(number)
+
+
+def try_pauses(desk):
+    """A run that is stopped, and goes on, while it waits for the rest of its input and for room in its output."""
+    before, script = file_of(many_policies(4000).commands), eight_clerks(EACH, 4000)
+    desk.lay(before)
+    run = subprocess.Popen([desk.program, "run"], cwd=desk.folder, stdin=subprocess.PIPE, stdout=subprocess.PIPE, bufsize=0,
+                           preexec_fn=default_signals)
+    run.stdin.write(script[:1000])
+    pause(run)
+    run.stdin.write(script[1000:])
+    run.stdin.close()
+    text = run.stdout.read(1)
+    pause(run)
+    text += run.stdout.read()
+    ended = Ended(run.wait(60), text.decode("ascii", "replace"), "", desk.journal())
+    judge_transcript(script, ended, before, read_basis(desk.path("basis.csv")), {})
+
+
 def try_all(trials, tries, draw):
     for number in range(tries):
         trial = trials[number % len(trials)]
@@ -127,9 +151,11 @@ def main():
     try_all(runs, RUNS, draw)
     try_all(openings, OPENINGS, draw)
     try_closed_pipes(Desk(program, os.path.join(quick, "pipes")))
+    try_pauses(Desk(program, os.path.join(quick, "paused")))
     print(f"faults: {RUNS} runs of eight clerks with two valuations stopped by SIGTERM, SIGINT or SIGKILL, "
           f"{sum(it.amid for it in runs)} amid their postings, and {OPENINGS} openings of {LARGE} records, "
-          f"{sum(it.amid for it in openings)} before their end: nothing is lost; a closed pipe gives 7, and keeps the postings")
+          f"{sum(it.amid for it in openings)} before their end: nothing is lost; a closed pipe gives 7, and keeps the postings; "
+          "a pause changes nothing")
 
 
 if __name__ == "__main__":
