@@ -1,5 +1,5 @@
 -- What the exit status tells of the words, the script, the basis and the file
-use Rattle.std.proofs.Common.{◌≡◌, ℕ, ◌≤◌, ◌<◌, ◌⊎◌, ℤ, List, length, refl, ap, subst, inl, inr, None, Some, String, Global, codes, arith}
+use Rattle.std.proofs.Common.{◌≡◌, ℕ, ◌≤◌, ◌<◌, ◌⊎◌, ℤ, List, length, map, string_bytes, refl, ap, subst, inl, inr, None, Some, String, Global, codes, arith}
 use Rattle.std.specs.Prelude.{true}
 use Rattle.outside_io.specs.declared.disks.Disk.{Ghosts}
 use Rattle.outside_io.specs.Faults.{Rose}
@@ -15,7 +15,7 @@ use Rattle.basis_shelf.specs.Bases.{IsBasis}
 use Rattle.basis_shelf.specs.FirstBad.{IsFirstBadFile}
 use Rattle.basis_shelf.specs.declared.fault.BadBasis.{BadBasis as ABadBasis}
 use Rattle.command_csv.specs.Reads.{Reads}
-use Rattle.life_args.proofs.Once.{words_ask_once}
+use Rattle.life_args.proofs.Answering.{ask_once}
 use Rattle.life_args.specs.Words.{AskFor, AskForNothing}
 use Rattle.life_args.specs.declared.mode.Mode.{Mode}
 use Rattle.life_args.specs.declared.mode.Mode.TheVariants.{Run, Value, State, Generate, Load}
@@ -52,7 +52,7 @@ module _ {D : Type 0} (g : Ghosts D) (old new : D) (auditors : List Auditor) whe
     as_asked ending does mode asked = elim does [
       | inl (other, asked_too, ends) ↦ inl (
           subst (λ (m : Mode). EndsMode g old new m auditors input output shelf InputStays ShelfStays ending)
-          (words_ask_once words other mode asked_too asked) ends
+          (ask_once (map string_bytes words) other mode asked_too asked) ends
           )
       | inr none ↦ inr (unasked ending none.says mode asked)
     ]

@@ -1,208 +1,203 @@
--- What a command without subcommands makes of words, by their pieces
-use Rattle.std.proofs.Common.{◌≡◌, ◌⊎◌, ◌≤◌, ◌&&◌, ◌||◌, Bool, true, false, cond, not, fold, List, [], ◌∷◌, length, Option, Some, None, is_some, refl, sym, ap, ap₂, ◌∙◌, subst, arith, inl, inr, bytes_eq, true≢false}
-use Rattle.std.specs.Prelude.{⊤}
+-- What a line's command makes of words: it takes those that pieces spell, and finds the pieces' values
+use Rattle.std.proofs.Common.{◌≡◌, ◌&&◌, ◌||◌, Bool, true, false, cond, fold, not, List, [], ◌∷◌, ◌++◌, map, None, is_some, unwrap_or, refl, sym, ap, ap₂, ◌∙◌, subst, bytes_eq, append-nil, append_assoc, arith, true≢false}
 use Rattle.std.specs.List.{list_any}
-use Rattle.std.proofs.lemmas.Slice.Eq.{bytes_eq-Decides}
-use Rattle.clap.specs.Walk.{Row, Rule, Text, Walk, idle, walked, settled, finished, with_default, has_row, rows_after, nothing_held}
-use Rattle.clap.specs.Simple.{App, entered}
+use Rattle.clap.specs.Walk.{Row, Rule, Text, Walk, all_of, idle, settled, finished, with_default, has_row, rows_after, nothing_held}
+use Rattle.clap.specs.Simple.{App, built, entered, matches_of}
 use Rattle.clap.specs.Takes.{is_given}
 use Rattle.clap.specs.Kinds.{Kinds, or_else, check_kinds}
-use Rattle.clap.specs.Faults.{built_fault, walk_fault, settle_fault, defaults_fault, default_fault, given_default_fault, check_fault, entered_fault}
+use Rattle.clap.specs.Faults.{built_fault, fault_of, walk_fault, settle_fault, defaults_fault, check_fault, entered_fault, given_default_fault}
 use Rattle.life_args.specs.Pieces.{WordPiece, bare, apart, joined, spelled, bare_values, option_values, value_under, IsAmong, HasOnly}
-use Rattle.life_args.specs.inside.Commands.{HasHyphens}
-use Rattle.life_args.proofs.Causes.{none_first, none_second}
-use Rattle.life_args.proofs.Lexing.{IsPlain}
-use Rattle.life_args.proofs.Tables.{Argument, named, placed, rule, rules, options, own}
-use Rattle.life_args.proofs.Turns.{held, leaf, stand}
-use Rattle.life_args.proofs.Walks.{Use, puts, repeats, uses, ArePlain, AreOptionNames, HasPlaces, Walks, walks, pieces_of, no_hyphens_in}
-use Rattle.life_args.proofs.Repeats.{found, values_for, IsFound, found_after, AreOnce, none_repeated, option_uses, no_option, place_uses, place_once, AreApart}
+use Rattle.life_args.specs.inside.Lines.{ArePlain, IsPlainText, Spelling, alone_id, has_odd, is_odd, line_app, values_of}
+use Rattle.life_args.proofs.Lexing.{IsOptionName}
+use Rattle.life_args.proofs.Rules.{IsGood, add, filled_alone, filled_option, filled_options, own, rules, same}
+use Rattle.life_args.proofs.Steps.{leaf, settles, stand}
+use Rattle.life_args.proofs.Walks.{ends, none_first, none_second, pieces_of, put, reads}
 
--- ---- no argument has a default
+-- ---- the values of rows
 
-same_either : (b : Bool) (rows : List Row) → cond b rows rows ≡ rows
+abbrev pub values_in : Text → List Row → List Text
+values_in id rows = unwrap_or (all_of id rows) []
+
+apart_names : (a b : Text) → (a ≡ b → ⊥) → bytes_eq a b ≡ false
+apart_names a b other = go (bytes_eq a b) refl
+  where
+    go : (t : Bool) → bytes_eq a b ≡ t → t ≡ false
+    go true e = absurd (other (same a b e))
+    go false e = refl
+
+pub differ : (a b : Text) → bytes_eq a b ≡ false → a ≡ b → ⊥
+differ a b e is = true≢false (sym (own b) ∙ ap (λ (x : Text). bytes_eq x b) (sym is) ∙ e)
+
+-- a value is added to those of its id
+values_added : (id name value : Text) (rows : List Row) → values_in id (add name value rows) ≡ values_in id rows ++ cond (bytes_eq name id) (value ∷ []) []
+values_added id name value [] = go (bytes_eq name id) refl
+  where
+    go : (t : Bool) → bytes_eq name id ≡ t → values_in id (add name value []) ≡ cond (bytes_eq name id) (value ∷ []) []
+    go true e = rw e refl
+    go false e = rw e refl
+values_added id name value (r ∷ rows) = go (bytes_eq r.id name) (bytes_eq r.id id) refl refl (values_added id name value rows)
+  where
+    go : (a b : Bool) → bytes_eq r.id name ≡ a → bytes_eq r.id id ≡ b → values_in id (add name value rows) ≡ values_in id rows ++ cond (bytes_eq name id) (value ∷ []) []
+        → values_in id (add name value (r ∷ rows)) ≡ values_in id (r ∷ rows) ++ cond (bytes_eq name id) (value ∷ []) []
+    go true true d e rest = let its : bytes_eq name id ≡ true = ap (λ (n : Text). bytes_eq n id) (sym (same r.id name d)) ∙ e in rw (d, e, its) refl
+    go true false d e rest = let its : bytes_eq name id ≡ false = ap (λ (n : Text). bytes_eq n id) (sym (same r.id name d)) ∙ e in rw (d, e, its) (sym (append-nil (values_in id rows)))
+    go false true d e rest =
+        let its : bytes_eq name id ≡ false = apart_names name id (λ is. differ r.id name d (same r.id id e ∙ sym is)) in
+        rw (d, e, its) (sym (append-nil r.values))
+    go false false d e rest = rw (d, e) rest
+
+-- the values that pieces give an id
+abbrev picked : Text → List WordPiece → List Text
+picked id [] = []
+picked id (bare value ∷ pieces) = value_under id alone_id value (picked id pieces)
+picked id (apart name value ∷ pieces) = value_under id name value (picked id pieces)
+picked id (joined name value ∷ pieces) = value_under id name value (picked id pieces)
+
+one_more : (t : Bool) (value : Text) (values more : List Text) → (values ++ cond t (value ∷ []) []) ++ more ≡ values ++ cond t (value ∷ more) more
+one_more true value values more = append_assoc values (value ∷ []) more
+one_more false value values more = ap (λ vs. vs ++ more) (append-nil values)
+
+put_values : (id : Text) (pieces : List WordPiece) (rows : List Row) → values_in id (put pieces rows) ≡ values_in id rows ++ picked id pieces
+put_values id [] rows = sym (append-nil (values_in id rows))
+put_values id (bare value ∷ pieces) rows =
+    put_values id pieces (add alone_id value rows) ∙ ap (λ vs. vs ++ picked id pieces) (values_added id alone_id value rows)
+    ∙ one_more (bytes_eq alone_id id) value (values_in id rows) (picked id pieces)
+put_values id (apart name value ∷ pieces) rows =
+    put_values id pieces (add name value rows) ∙ ap (λ vs. vs ++ picked id pieces) (values_added id name value rows)
+    ∙ one_more (bytes_eq name id) value (values_in id rows) (picked id pieces)
+put_values id (joined name value ∷ pieces) rows =
+    put_values id pieces (add name value rows) ∙ ap (λ vs. vs ++ picked id pieces) (values_added id name value rows)
+    ∙ one_more (bytes_eq name id) value (values_in id rows) (picked id pieces)
+
+passed : (id name value : Text) (values : List Text) → bytes_eq name id ≡ false → value_under id name value values ≡ values
+passed id name value values other = ap (λ (t : Bool). cond t (value ∷ values) values) other
+
+option_picked : (name : Text) → bytes_eq alone_id name ≡ false → (pieces : List WordPiece) → picked name pieces ≡ option_values name pieces
+option_picked name other [] = refl
+option_picked name other (bare value ∷ pieces) = passed name alone_id value (picked name pieces) other ∙ option_picked name other pieces
+option_picked name other (apart one value ∷ pieces) = ap (value_under name one value) (option_picked name other pieces)
+option_picked name other (joined one value ∷ pieces) = ap (value_under name one value) (option_picked name other pieces)
+
+-- ---- no argument has a default, and none must be given
+
+same_either : (t : Bool) (rows : List Row) → cond t rows rows ≡ rows
 same_either true rows = refl
 same_either false rows = refl
 
-default_is : (a : Argument) (rows : List Row) → with_default rows (rule a) ≡ rows
-default_is (named n) rows = same_either (has_row n rows) rows
-default_is (placed n i r) rows = same_either (has_row n rows) rows
-
-no_defaults : (table : List Argument) (rows : List Row) → fold with_default rows (rules table) ≡ rows
-no_defaults [] rows = refl
-no_defaults (a ∷ rest) rows = ap (λ (r : List Row). fold with_default r (rules rest)) (default_is a rows) ∙ no_defaults rest rows
-
-or_true : (b : Bool) → (b || true) ≡ true
+or_true : (t : Bool) → (t || true) ≡ true
 or_true true = refl
 or_true false = refl
 
-default_fits : (a : Argument) (rows : List Row) → default_fault rows (rule a) ≡ []
-default_fits (named n) rows = ap (λ (b : Bool). cond b [] (given_default_fault (rule (named n)) [])) (or_true (has_row n rows))
-default_fits (placed n i r) rows = ap (λ (b : Bool). cond b [] (given_default_fault (rule (placed n i r)) [])) (or_true (has_row n rows))
+no_defaults : (names : List Text) (rows : List Row) → fold with_default rows (map filled_option names) ≡ rows
+no_defaults [] rows = refl
+no_defaults (name ∷ names) rows = ap (λ (r : List Row). fold with_default r (map filled_option names)) (same_either (has_row name rows) rows) ∙ no_defaults names rows
 
-defaults_fit : (table : List Argument) (rows : List Row) → defaults_fault rows (rules table) ≡ []
+pub all_finished : (names : List Text) (rows : List Row) → fold with_default rows (rules names) ≡ rows
+all_finished names rows = ap (λ (r : List Row). fold with_default r (map filled_option names)) (same_either (has_row alone_id rows) rows) ∙ no_defaults names rows
+
+default_fits : (argument : Rule) (t : Bool) → cond (t || true) [] (given_default_fault argument []) ≡ []
+default_fits argument t = ap (λ (b : Bool). cond b [] (given_default_fault argument [])) (or_true t)
+
+defaults_fit : (names : List Text) (rows : List Row) → defaults_fault rows (map filled_option names) ≡ []
 unfolding defaults_fault
 defaults_fit [] rows = refl
-defaults_fit (a ∷ rest) rows = ap₂ or_else (default_fits a rows) (defaults_fit rest (with_default rows (rule a)))
+defaults_fit (name ∷ names) rows = ap₂ or_else (default_fits (filled_option name) (has_row name rows)) (defaults_fit names (with_default rows (filled_option name)))
 
--- ---- values that are plain
+all_fit : (names : List Text) (rows : List Row) → defaults_fault rows (rules names) ≡ []
+unfolding defaults_fault
+all_fit names rows = ap₂ or_else (default_fits filled_alone (has_row alone_id rows)) (defaults_fit names (with_default rows filled_alone))
 
-abbrev pub EachPlain : List Text → Type 0
-EachPlain [] = ⊤
-EachPlain (value ∷ values) = IsPlain value × EachPlain values
-
-plain_under : (name one value : Text) (values : List Text) → EachPlain (value_under name one value values) → EachPlain values
-plain_under name one value values each = go (bytes_eq one name) refl
-  where
-    go : (b : Bool) → bytes_eq one name ≡ b → EachPlain values
-    go true e = (subst (λ (b : Bool). EachPlain (cond b (value ∷ values) values)) e each).1
-    go false e = subst (λ (b : Bool). EachPlain (cond b (value ∷ values) values)) e each
-
-plain_own : (name value : Text) (values : List Text) → EachPlain (value_under name name value values) → IsPlain value
-plain_own name value values each = (subst (λ (b : Bool). EachPlain (cond b (value ∷ values) values)) (own name) each).0
-
-pub are_plain : (all : List Text) (pieces : List WordPiece) → HasOnly all pieces → EachPlain (bare_values pieces) → ((name : Text) → IsAmong all name → EachPlain (option_values name pieces)) → ArePlain pieces
-are_plain all [] only alone each = tt
-are_plain all (bare value ∷ pieces) only alone each = (alone.0, are_plain all pieces only alone.1 each)
-are_plain all (apart one value ∷ pieces) only alone each = (
-  plain_own one value (option_values one pieces) (each one only.0),
-  are_plain all pieces only.1 alone (λ name among. plain_under name one value (option_values name pieces) (each name among)),
-)
-are_plain all (joined one value ∷ pieces) only alone each =
-    are_plain all pieces only.1 alone (λ name among. plain_under name one value (option_values name pieces) (each name among))
-
--- ---- no name is used twice
-
-among_or_out : (all : List Text) (name : Text) → IsAmong all name ⊎ (IsAmong all name → ⊥)
-among_or_out [] name = inr (λ among. among)
-among_or_out (one ∷ all) name = go (bytes_eq name one) refl (among_or_out all name)
-  where
-    go : (b : Bool) → bytes_eq name one ≡ b → (IsAmong all name ⊎ (IsAmong all name → ⊥)) → IsAmong (one ∷ all) name ⊎ (IsAmong (one ∷ all) name → ⊥)
-    go true e rest = inl (inl ((bytes_eq-Decides name one).0 e))
-    go false e (inl among) = inl (inr among)
-    go false e (inr out) = inr (λ among. elim among [
-      | inl is ↦ true≢false (sym ((bytes_eq-Decides name one).1 is) ∙ e)
-      | inr more ↦ out more
-    ])
-
-options_once : (all : List Text) (pieces : List WordPiece) → HasOnly all pieces → ((name : Text) → IsAmong all name → length (option_values name pieces) ≤ 1) → (name : Text) → length (option_values name pieces) ≤ 1
-options_once all pieces only once name = elim (among_or_out all name) [
-  | inl among ↦ once name among
-  | inr out ↦ let none : length (option_values name pieces) ≡ 0 = ap length (no_option all name pieces only out) in omega arith
-]
-
--- no place has an option's name
-abbrev pub AreOthers : List Text → List Text → Type 0
-AreOthers all [] = ⊤
-AreOthers all (name ∷ left) = (IsAmong all name → ⊥) × AreOthers all left
-
-other_names : (all left : List Text) (name : Text) → AreOthers all left → IsAmong left name → IsAmong all name → ⊥
-other_names all [] name others among = absurd among
-other_names all (one ∷ left) name others (inl is) = λ h. others.0 (subst (IsAmong all) is h)
-other_names all (one ∷ left) name others (inr more) = other_names all left name others.1 more
-
-uses_once : (all left : List Text) (pieces : List WordPiece) → AreOthers all left → AreApart left → HasOnly all pieces
-    → ((name : Text) → IsAmong all name → length (option_values name pieces) ≤ 1) → (name : Text) → length (values_for name (uses left pieces)) ≤ 1
-uses_once all left pieces others apart_all only once name = elim (among_or_out left name) [
-  | inl among ↦ subst (λ vs. length vs ≤ 1) (sym (place_uses all name left pieces only (other_names all left name others among))) (place_once name left (bare_values pieces) apart_all)
-  | inr out ↦ subst (λ vs. length vs ≤ 1) (sym (option_uses name left pieces out)) (options_once all pieces only once name)
-]
+none_required : (names : List Text) (rows : List Row) → list_any (λ (a : Rule). a.required && not (is_given a.id rows)) (map filled_option names) ≡ false
+none_required [] rows = refl
+none_required (name ∷ names) rows = none_required names rows
 
 -- ---- the whole
 
-abbrev pub leaf_app : Text → List Argument → App
-leaf_app name table = record { top = leaf name (rules table); subs = [] }
+module _ (names : List Text) (good : (name : Text) → IsAmong names name → IsGood name) where
+  abbrev app : App
+  app = record { top = leaf (rules names); subs = [] }
 
-abbrev pub leaf_fault : Text → List Argument → List Text → Kinds
-leaf_fault name table words = built_fault (leaf_app name table) nothing_held words
+  built_is : built (line_app names) ≡ app
+  built_is = ap (λ (rest : List Rule). record { top = leaf (filled_alone ∷ rest); subs = [] }) (filled_options 2 names)
 
-abbrev pub leaf_rows : List Argument → List Text → List Row
-leaf_rows table words = rows_after (rules table) [] words
-
--- what is found of each name
-abbrev pub FindsAll : List Use → List Row → Type 0
-FindsAll us rows = (name : Text) → IsFound (values_for name us) (found name rows)
-
-module _ (name : Text) (table : List Argument) (good : AreOptionNames (options table)) (left : List Text) (at_places : HasPlaces table 1 left) (others : AreOthers (options table) left) (apart_all : AreApart left) where
   abbrev start : Walk
-  start = stand [] None idle 1
+  start = stand [] None idle
 
   abbrev level : List Text → Walk → Kinds
-  level words w = or_else (walk_fault (leaf name (rules table)) [] start words)
-      (or_else (entered_fault (leaf_app name table) w.stopped)
-      (or_else (settle_fault (rules table) false w.held)
-      (or_else (defaults_fault (settled (rules table) w.held).rows (rules table))
-      (check_fault (leaf name (rules table)) (finished (rules table) w.held) (is_some (entered (leaf_app name table) w.stopped))))))
+  level words w = or_else (walk_fault (leaf (rules names)) [] start words)
+      (or_else (entered_fault app w.stopped)
+      (or_else (settle_fault (rules names) false w.held)
+      (or_else (defaults_fault (settled (rules names) w.held).rows (rules names))
+      (check_fault (leaf (rules names)) (finished (rules names) w.held) (is_some (entered app w.stopped))))))
 
-  level_is : (words : List Text) → leaf_fault name table words ≡ level words (fold (walked (rules table) []) start words)
-  level_is words = refl
+  level_is : (words : List Text) → fault_of (line_app names) words ≡ level words (ends names good start words)
+  level_is words = ap (λ (a : App). built_fault a nothing_held words) built_is
 
-  rows_are : (pieces : List WordPiece) (w : Walks name table good [] None 1 left pieces) → leaf_rows table (spelled pieces) ≡ puts (uses left pieces) []
-  rows_are pieces w =
-      ap (λ (v : Walk). finished (rules table) v.held) w.ends_at
-      ∙ no_defaults table (settled (rules table) (held w.rows_after w.pending_after)).rows ∙ w.settled
+  rows_are : (words : List Text) → matches_of (line_app names) words ≡ finished (rules names) (ends names good start words).held
+  rows_are words = ap (λ (a : App). rows_after a.top.rules [] words) built_is
 
-  -- the words that are taken are spelled by pieces, whose values are found
-  pub record IsReadAs (words : List Text) : Type 0 where
-    pub pieces : List WordPiece
-    pub spells : words ≡ spelled pieces
-    pub only : HasOnly (options table) pieces
-    pub few : length (bare_values pieces) ≤ length left
-    pub finds : FindsAll (uses left pieces) (leaf_rows table words)
+  -- the words that are taken are spelled by pieces
+  pub taken_spelled : (words : List Text) → has_odd words ≡ false → fault_of (line_app names) words ≡ [] → (pieces : List WordPiece) × Spelling names words pieces
+  taken_spelled words even taken =
+      let end : Walk = ends names good start words in
+      let all : level words end ≡ [] = sym (level_is words) ∙ taken in
+      let walk = none_first (walk_fault (leaf (rules names)) [] start words) _ all in
+      let settle = none_first (settle_fault (rules names) false end.held) _ (none_second (entered_fault app end.stopped) _ (none_second (walk_fault (leaf (rules names)) [] start words) _ all)) in
+      pieces_of names good words even (ap₂ or_else walk settle)
 
-  -- where a walk over pieces has no fault, nothing is repeated
-  unrepeated : (pieces : List WordPiece) (w : Walks name table good [] None 1 left pieces)
-      → or_else (walk_fault (leaf name (rules table)) [] start (spelled pieces)) (settle_fault (rules table) false (fold (walked (rules table) []) start (spelled pieces)).held) ≡ []
-      → repeats (uses left pieces) [] ≡ []
-  unrepeated pieces w taken =
-      sym w.faults ∙ ap (λ (v : Walk). or_else (walk_fault (leaf name (rules table)) [] start (spelled pieces)) (settle_fault (rules table) false v.held)) (sym w.ends_at) ∙ taken
+  -- the values that stand alone, and those of each id
+  other_id : (name : Text) → IsAmong names name → bytes_eq name alone_id ≡ false
+  other_id name among = apart_names name alone_id (λ is. differ alone_id name (good name among).other (sym is))
 
-  pub taken_reads : (words : List Text) → (HasHyphens words → ⊥) → leaf_fault name table words ≡ [] → IsReadAs words
-  taken_reads words free taken =
-      let end : Walk = fold (walked (rules table) []) start words in
-      let walk : walk_fault (leaf name (rules table)) [] start words ≡ [] = none_first _ _ taken in
-      let settle : settle_fault (rules table) false end.held ≡ [] = none_first _ _ (none_second (entered_fault (leaf_app name table) end.stopped) _ (none_second (walk_fault (leaf name (rules table)) [] start words) _ taken)) in
-      let both : or_else (walk_fault (leaf name (rules table)) [] start words) (settle_fault (rules table) false end.held) ≡ [] = ap₂ or_else walk settle in
-      let found_pieces = pieces_of name table good words free [] None 1 left at_places both in
-      let w = walks name table good found_pieces.pieces [] None 1 left at_places found_pieces.only found_pieces.are found_pieces.few in
-      let spells : words ≡ spelled found_pieces.pieces = found_pieces.spells in
-      let none = unrepeated found_pieces.pieces w
-      (subst (λ (ws : List Text). or_else (walk_fault (leaf name (rules table)) [] start ws) (settle_fault (rules table) false (fold (walked (rules table) []) start ws).held) ≡ []) spells both) in
-      let rows : leaf_rows table words ≡ puts (uses left found_pieces.pieces) [] = ap (leaf_rows table) spells ∙ rows_are found_pieces.pieces w in
-      record {
-        pieces = found_pieces.pieces;
-        spells = spells;
-        only = found_pieces.only;
-        few = found_pieces.few;
-        finds = λ one. subst (λ (rs : List Row). IsFound (values_for one (uses left found_pieces.pieces)) (found one rs)) (sym rows) (found_after one (uses left found_pieces.pieces) [] refl none);
-      }
+  alone_picked : (pieces : List WordPiece) → HasOnly names pieces → picked alone_id pieces ≡ bare_values pieces
+  alone_picked [] only = refl
+  alone_picked (bare value ∷ pieces) only = ap (λ vs. value ∷ vs) (alone_picked pieces only)
+  alone_picked (apart name value ∷ pieces) only = passed alone_id name value (picked alone_id pieces) (other_id name only.0) ∙ alone_picked pieces only.1
+  alone_picked (joined name value ∷ pieces) only = passed alone_id name value (picked alone_id pieces) (other_id name only.0) ∙ alone_picked pieces only.1
 
-  pub pieces_taken : (pieces : List WordPiece) → HasOnly (options table) pieces → length (bare_values pieces) ≤ length left
-      → EachPlain (bare_values pieces) → ((one : Text) → IsAmong (options table) one → EachPlain (option_values one pieces))
-      → ((one : Text) → IsAmong (options table) one → length (option_values one pieces) ≤ 1)
-      → ((rows : List Row) → FindsAll (uses left pieces) rows → list_any (λ (a : Rule). a.required && not (is_given a.id rows)) (rules table) ≡ false)
-      → (leaf_fault name table (spelled pieces) ≡ []) × FindsAll (uses left pieces) (leaf_rows table (spelled pieces)) × (HasHyphens (spelled pieces) → ⊥)
-  pieces_taken pieces only few alone each once given =
-      let are = are_plain (options table) pieces only alone each in
-      let w = walks name table good pieces [] None 1 left at_places only are few in
-      let first : AreOnce (uses left pieces) [] = record {
-        once = uses_once (options table) left pieces others apart_all only once;
-        fresh = λ one x some. nothing_found one x some;
-      } in
-      let none = none_repeated (uses left pieces) [] first in
-      let all : or_else (walk_fault (leaf name (rules table)) [] start (spelled pieces)) (settle_fault (rules table) false (held w.rows_after w.pending_after)) ≡ [] = w.faults ∙ none in
-      let rows = rows_are pieces w in
-      let finds : FindsAll (uses left pieces) (leaf_rows table (spelled pieces)) =
-      λ one. subst (λ (rs : List Row). IsFound (values_for one (uses left pieces)) (found one rs)) (sym rows) (found_after one (uses left pieces) [] refl none) in
-      let walk = none_first _ _ all in
-      let settle = none_second _ _ all in
-      let defaults = defaults_fit table (settled (rules table) (held w.rows_after w.pending_after)).rows in
-      let end_rows : finished (rules table) (held w.rows_after w.pending_after) ≡ puts (uses left pieces) [] =
-      no_defaults table (settled (rules table) (held w.rows_after w.pending_after)).rows ∙ w.settled in
-      let finds_end : FindsAll (uses left pieces) (finished (rules table) (held w.rows_after w.pending_after)) =
-      λ one. subst (λ (rs : List Row). IsFound (values_for one (uses left pieces)) (found one rs)) (sym end_rows) (found_after one (uses left pieces) [] refl none) in
-      let check : check_fault (leaf name (rules table)) (finished (rules table) (held w.rows_after w.pending_after)) false ≡ [] =
-      ap (λ (b : Bool). check_kinds false false b) (given (finished (rules table) (held w.rows_after w.pending_after)) finds_end) in
-      (ap (level (spelled pieces)) w.ends_at ∙ ap₂ or_else walk (ap₂ or_else settle (ap₂ or_else defaults check)), finds, no_hyphens_in (options table) good pieces only are)
+  all_picked : (pieces : List WordPiece) → HasOnly names pieces → (id : Text) → picked id pieces ≡ values_of pieces id
+  all_picked pieces only id = go (bytes_eq alone_id id) refl
     where
-      nothing_found : (one : Text) (x : Row) → found one [] ≡ Some x → values_for one (uses left pieces) ≡ []
-      nothing_found one x some = let clash : ◌≡◌ {A = Option Row} None (Some x) = some in absurd (cc)
+      go : (t : Bool) → bytes_eq alone_id id ≡ t → picked id pieces ≡ values_of pieces id
+      go true e = subst (λ (n : Text). picked n pieces ≡ values_of pieces n) (same alone_id id e) (alone_picked pieces only)
+      go false e = rw e (option_picked id e pieces)
+
+  -- words that pieces spell are taken, and the values are the pieces'
+  pub spelled_taken : (words : List Text) (pieces : List WordPiece) → Spelling names words pieces
+      → (fault_of (line_app names) words ≡ []) × ((id : Text) → values_in id (matches_of (line_app names) words) ≡ values_of pieces id)
+  spelled_taken words pieces spelling =
+      let read = reads names good pieces [] None idle tt tt spelling.only spelling.plain in
+      let walk = none_first (walk_fault (leaf (rules names)) [] start (spelled pieces)) _ read.fault in
+      let settle : settle_fault (rules names) false (ends names good start (spelled pieces)).held ≡ [] = none_second (walk_fault (leaf (rules names)) [] start (spelled pieces)) _ read.fault in
+      let check : check_fault (leaf (rules names)) (finished (rules names) (stand read.before read.last read.waiting).held) false ≡ [] =
+      ap (λ (t : Bool). check_kinds false false t) (none_required names (finished (rules names) (stand read.before read.last read.waiting).held)) in
+      let settled_is = subst (λ (w : Walk). settle_fault (rules names) false w.held ≡ []) read.at_end settle in
+      let fits = all_fit names (settled (rules names) (stand read.before read.last read.waiting).held).rows in
+      let rows : finished (rules names) (stand read.before read.last read.waiting).held ≡ put pieces [] =
+      all_finished names (settled (rules names) (stand read.before read.last read.waiting).held).rows
+      ∙ ap (λ h. h.rows) (settles names read.before read.last read.is_use) ∙ read.all in
+      let spells = spelling.spells in (
+        level_is words ∙ ap (λ ws. level ws (ends names good start ws)) spells ∙ ap (level (spelled pieces)) read.at_end ∙ ap₂ or_else walk (ap₂ or_else settled_is (ap₂ or_else fits check)),
+        λ id. ap (values_in id) (rows_are words ∙ ap (λ ws. finished (rules names) (ends names good start ws).held) spells ∙ ap (λ (w : Walk). finished (rules names) w.held) read.at_end ∙ rows)
+            ∙ put_values id pieces [] ∙ all_picked pieces spelling.only id,
+      )
+
+  -- no word of pieces is odd
+  plain_even : (word : Text) → IsPlainText word → is_odd word ≡ false
+  plain_even [] plain = refl
+  plain_even (x ∷ xs) plain = rw plain refl
+
+  named_even : (name rest : Text) → IsOptionName name → is_odd (45 ∷ 45 ∷ (name ++ rest)) ≡ false
+  named_even [] rest is = absurd (omega (arith, is.some))
+  named_even (x ∷ xs) rest is = refl
+
+  even : (pieces : List WordPiece) → HasOnly names pieces → ArePlain pieces → has_odd (spelled pieces) ≡ false
+  even [] only plain = refl
+  even (bare value ∷ pieces) only plain = ap₂ ◌||◌ (plain_even value plain.0) (even pieces only plain.1)
+  even (apart name value ∷ pieces) only plain =
+      ap₂ ◌||◌ (subst (λ (n : Text). is_odd (45 ∷ 45 ∷ n) ≡ false) (append-nil name) (named_even name [] (good name only.0).named))
+      (ap₂ ◌||◌ (plain_even value plain.0) (even pieces only.1 plain.1))
+  even (joined name value ∷ pieces) only plain = ap₂ ◌||◌ (named_even name (61 ∷ value) (good name only.0).named) (even pieces only.1 plain)
+
+  pub spelled_even : (words : List Text) (pieces : List WordPiece) → Spelling names words pieces → has_odd words ≡ false
+  spelled_even words pieces spelling = ap has_odd spelling.spells ∙ even pieces spelling.only spelling.plain

@@ -1,23 +1,20 @@
--- Words ask for one mode at most
-use Rattle.std.proofs.Common.{◌≡◌, ℕ, ◌≤◌, ◌<◌, ◌^◌, cond, Bool, true, false, List, [], ◌∷◌, Option, Some, None, refl, sym, ap, ◌∙◌, subst, arith, lit≤, ℤ, codes, decimal, map, string_bytes, String}
+-- Values say one mode at most
+use Rattle.std.proofs.Common.{◌≡◌, ℕ, ◌≤◌, cond, Bool, true, false, List, [], ◌∷◌, Option, Some, None, refl, sym, ap, ◌∙◌, subst, arith, lit≤, ℤ, codes, decimal}
 use Rattle.std.specs.Prelude.{◌==◌, ◌||◌}
-use Rattle.std.specs.Global.{Global}
 use Rattle.std.proofs.lemmas.Fmt.{decimal_injective}
-use Rattle.clap.specs.Walk.{Row, Text, first_of}
-use Rattle.clap.specs.Simple.{matches_of}
+use Rattle.clap.specs.Walk.{Text}
 use Rattle.policy_types.specs.declared.entry.At.{At}
 use Rattle.policy_types.specs.declared.entry.At.TheVariants.{Now, Position}
 use Rattle.life_dates.specs.Calendar.{IsDay, days_in_month, is_leap_year, day_number}
 use Rattle.life_dates.specs.DayText.{day_text}
 use Rattle.life_dates.proofs.TextLemmas.{read_exact}
 use Rattle.life_args.specs.declared.mode.Mode.{Mode}
-use Rattle.life_args.specs.declared.mode.Mode.TheVariants.{Run, Value, State, Generate, Load}
+use Rattle.life_args.specs.declared.mode.Mode.TheVariants as mode
+use Rattle.life_args.specs.Pieces.{AtMostOne}
 use Rattle.life_args.specs.Values.{IsPositionOr, AreWorkersOr, IsBasisOr, IsPolicyOr}
-use Rattle.life_args.specs.Words.{AreWords, AskFor}
-use Rattle.life_args.specs.inside.Commands.{IsDayIn, IsNumberIn, run_app, value_app, state_app}
+use Rattle.life_args.specs.inside.Lines.{alone_id}
+use Rattle.life_args.specs.inside.Verbs.{AreDraws, SaysMode, verb_of}
 use Rattle.life_args.proofs.Texts.{text_of_day}
-use Rattle.life_args.proofs.Modes.{differ, run_reads, value_reads, state_reads}
-use Rattle.life_args.proofs.Numbers.{generate_reads, load_reads}
 
 -- ---- a day's text is of one day
 
@@ -44,10 +41,6 @@ same_day a b a_in b_in e =
 
 -- ---- what a value says is one
 
-one_day : (o : Option Text) (a b : ℤ) → IsDayIn o a → IsDayIn o b → a ≡ b
-one_day None a b first other = absurd first
-one_day (Some value) a b first other = same_day a b first.0 other.0 (sym first.1 ∙ other.1)
-
 one_position : (o : Option Text) (a b : At) → IsPositionOr o a → IsPositionOr o b → a ≡ b
 one_position None a b first other = first ∙ sym other
 one_position (Some value) Now b first other = absurd first
@@ -68,63 +61,45 @@ one_policy (Some value) None b first other = absurd first
 one_policy (Some value) (Some m) None first other = absurd other
 one_policy (Some value) (Some m) (Some n) first other = ap Some (decimal_injective m n (omega (arith, first.0.1)) (omega (arith, other.0.1)) (sym first.1 ∙ other.1))
 
-one_number : (o : Option Text) (least most a b : ℕ) → most < 2 ^ 64 → IsNumberIn least most o a → IsNumberIn least most o b → a ≡ b
-one_number o least most a b small first other =
-    let same : ◌≡◌ {A = Option Text} (Some (decimal a)) (Some (decimal b)) = sym first.is ∙ other.is in
-    decimal_injective a b (omega (arith, first.high)) (omega (arith, other.high)) (cc)
+one_lone : {T : Type 0} (values : List Text) (P : Option Text → T → Type 0) (a b : T) → ((o : Option Text) → P o a → P o b → a ≡ b)
+    → AtMostOne values (λ given. P given a) → AtMostOne values (λ given. P given b) → a ≡ b
+one_lone [] P a b one first other = one None first other
+one_lone (value ∷ []) P a b one first other = one (Some value) first other
+one_lone (value ∷ more ∷ values) P a b one first other = absurd first
 
--- ---- the words
+three_draws : (a b c x y z : ℕ) (rest more : List Text) → decimal a ∷ decimal b ∷ decimal c ∷ rest ≡ decimal x ∷ decimal y ∷ decimal z ∷ more
+    → AreDraws a b c → AreDraws x y z → (a ≡ x) × (b ≡ y) × (c ≡ z) × (rest ≡ more)
+three_draws a b c x y z rest more e first other =
+    let da : decimal a ≡ decimal x = cc in
+    let db : decimal b ≡ decimal y = cc in
+    let dc : decimal c ≡ decimal z = cc in
+    let rests : rest ≡ more = cc in (
+      decimal_injective a x (omega (arith, first.0)) (omega (arith, other.0)) da,
+      decimal_injective b y (omega (arith, first.1.1)) (omega (arith, other.1.1)) db,
+      decimal_injective c z (omega (arith, first.2.1)) (omega (arith, other.2.1)) dc,
+      rests,
+    )
 
-asked_once : (words : List Text) (mode other : Mode) → AreWords words mode → AreWords words other → mode ≡ other
-asked_once [] mode other first second = absurd first
-asked_once (word ∷ words) (Run a) (Run b) first second =
-    ap Run (one_basis (first_of (codes "basis") (matches_of run_app words)) a b (run_reads words a first.1).1 (run_reads words b second.1).1)
-asked_once (word ∷ words) (Run a) (Value on position workers b) first second = absurd (differ (codes "run") (codes "value") refl (sym first.0 ∙ second.0))
-asked_once (word ∷ words) (Run a) (State id) first second = absurd (differ (codes "run") (codes "state") refl (sym first.0 ∙ second.0))
-asked_once (word ∷ words) (Value on position workers basis) (Run b) first second = absurd (differ (codes "value") (codes "run") refl (sym first.0 ∙ second.0))
-asked_once (word ∷ words) (Value on position workers basis) (State id) first second = absurd (differ (codes "value") (codes "state") refl (sym first.0 ∙ second.0))
-asked_once (word ∷ words) (Value on position workers basis) (Value day at_place crew file) first second =
-    let rows : List Row = matches_of value_app words in
-    let one = (value_reads words on position workers basis first.1).1 in
-    let two = (value_reads words day at_place crew file second.1).1 in
-    let days = one_day (first_of (codes "on") rows) on day one.day_is two.day_is in
-    let positions = one_position (first_of (codes "at") rows) position at_place one.position_is two.position_is in
-    let crews = one_crew (first_of (codes "workers") rows) workers crew one.workers_are two.workers_are in
-    let files = one_basis (first_of (codes "basis") rows) basis file one.basis_is two.basis_is in
-    λ i. Value (days i) (positions i) (crews i) (files i)
-asked_once (word ∷ words) (State id) (Run b) first second = absurd (differ (codes "state") (codes "run") refl (sym first.0 ∙ second.0))
-asked_once (word ∷ words) (State id) (Value on position workers basis) first second = absurd (differ (codes "state") (codes "value") refl (sym first.0 ∙ second.0))
-asked_once (word ∷ words) (State id) (State other) first second =
-    ap State (one_policy (first_of (codes "id") (matches_of state_app words)) id other (state_reads words id first.1).1 (state_reads words other second.1).1)
-asked_once (word ∷ words) (Run basis) (Generate seed_too count_too lanes_too) first second = absurd (differ (codes "run") (codes "generate") refl (sym first.0 ∙ second.0))
-asked_once (word ∷ words) (Run basis) (Load seed_too count_too lanes_too workers_too) first second = absurd (differ (codes "run") (codes "load") refl (sym first.0 ∙ second.0))
-asked_once (word ∷ words) (Value on position workers basis) (Generate seed_too count_too lanes_too) first second = absurd (differ (codes "value") (codes "generate") refl (sym first.0 ∙ second.0))
-asked_once (word ∷ words) (Value on position workers basis) (Load seed_too count_too lanes_too workers_too) first second = absurd (differ (codes "value") (codes "load") refl (sym first.0 ∙ second.0))
-asked_once (word ∷ words) (State id) (Generate seed_too count_too lanes_too) first second = absurd (differ (codes "state") (codes "generate") refl (sym first.0 ∙ second.0))
-asked_once (word ∷ words) (State id) (Load seed_too count_too lanes_too workers_too) first second = absurd (differ (codes "state") (codes "load") refl (sym first.0 ∙ second.0))
-asked_once (word ∷ words) (Generate seed count lanes) (Run basis_too) first second = absurd (differ (codes "generate") (codes "run") refl (sym first.0 ∙ second.0))
-asked_once (word ∷ words) (Generate seed count lanes) (Value on_too position_too workers_too basis_too) first second = absurd (differ (codes "generate") (codes "value") refl (sym first.0 ∙ second.0))
-asked_once (word ∷ words) (Generate seed count lanes) (State id_too) first second = absurd (differ (codes "generate") (codes "state") refl (sym first.0 ∙ second.0))
-asked_once (word ∷ words) (Generate seed count lanes) (Load seed_too count_too lanes_too workers_too) first second = absurd (differ (codes "generate") (codes "load") refl (sym first.0 ∙ second.0))
-asked_once (word ∷ words) (Load seed count lanes workers) (Run basis_too) first second = absurd (differ (codes "load") (codes "run") refl (sym first.0 ∙ second.0))
-asked_once (word ∷ words) (Load seed count lanes workers) (Value on_too position_too workers_too basis_too) first second = absurd (differ (codes "load") (codes "value") refl (sym first.0 ∙ second.0))
-asked_once (word ∷ words) (Load seed count lanes workers) (State id_too) first second = absurd (differ (codes "load") (codes "state") refl (sym first.0 ∙ second.0))
-asked_once (word ∷ words) (Load seed count lanes workers) (Generate seed_too count_too lanes_too) first second = absurd (differ (codes "load") (codes "generate") refl (sym first.0 ∙ second.0))
-asked_once (word ∷ words) (Generate seed count lanes) (Generate other_seed other_count other_lanes) first second =
-    let one = (generate_reads words seed count lanes first.1).1 in
-    let two = (generate_reads words other_seed other_count other_lanes second.1).1 in
-    let seeds = one_number _ 0 2147483647 seed other_seed (omega arith) one.seed_is two.seed_is in
-    let counts = one_number _ 1 100000 count other_count (omega arith) one.count_is two.count_is in
-    let all_lanes = one_number _ 1 8 lanes other_lanes (omega arith) one.lanes_is two.lanes_is in
-    λ i. Generate (seeds i) (counts i) (all_lanes i)
-asked_once (word ∷ words) (Load seed count lanes workers) (Load other_seed other_count other_lanes other_workers) first second =
-    let one = (load_reads words seed count lanes workers first.1).1 in
-    let two = (load_reads words other_seed other_count other_lanes other_workers second.1).1 in
-    let seeds = one_number _ 0 2147483647 seed other_seed (omega arith) one.seed_is two.seed_is in
-    let counts = one_number _ 1 100000 count other_count (omega arith) one.count_is two.count_is in
-    let all_lanes = one_number _ 1 8 lanes other_lanes (omega arith) one.lanes_is two.lanes_is in
-    let crews = one_number _ 1 64 workers other_workers (omega arith) one.workers_is two.workers_is in
-    λ i. Load (seeds i) (counts i) (all_lanes i) (crews i)
+-- ---- the modes
 
-pub words_ask_once : (words : List (String Global)) (mode other : Mode) → AskFor words mode → AskFor words other → mode ≡ other
-words_ask_once words mode other first second = asked_once (map string_bytes words) mode other first second
+pub same_mode : (values : Text → List Text) (one two : Mode) → verb_of one ≡ verb_of two → SaysMode values one → SaysMode values two → one ≡ two
+same_mode values (mode.Run a) (mode.Run b) e first other = ap mode.Run (one_lone (values (codes "basis")) IsBasisOr a b (λ o. one_basis o a b) first.1 other.1)
+same_mode values (mode.Value on position workers basis) (mode.Value day place crew file) e first other =
+    let lists : first.0.0 ∷ [] ≡ other.0.0 ∷ [] = sym first.0.1 ∙ other.0.1 in
+    let value : first.0.0 ≡ other.0.0 = cc in
+    let days = same_day on day first.0.2.0 other.0.2.0 (sym first.0.2.1 ∙ value ∙ other.0.2.1) in
+    let places = one_lone (values (codes "at")) IsPositionOr position place (λ o. one_position o position place) first.1 other.1 in
+    let crews = one_lone (values (codes "workers")) AreWorkersOr workers crew (λ o. one_crew o workers crew) first.2 other.2 in
+    let files = one_lone (values (codes "basis")) IsBasisOr basis file (λ o. one_basis o basis file) first.3 other.3 in
+    λ i. mode.Value (days i) (places i) (crews i) (files i)
+same_mode values (mode.State a) (mode.State b) e first other = ap mode.State (one_lone (values alone_id) IsPolicyOr a b (λ o. one_policy o a b) first other)
+same_mode values (mode.Generate a b c) (mode.Generate x y z) e first other =
+    let all = three_draws a b c x y z [] [] (sym first.0 ∙ other.0) first.1 other.1 in
+    λ i. mode.Generate (all.0 i) (all.1 i) (all.2 i)
+same_mode values (mode.Load a b c d) (mode.Load x y z w) e first other =
+    let all = three_draws a b c x y z (decimal d ∷ []) (decimal w ∷ []) (sym first.0 ∙ other.0) first.1 other.1 in
+    let rests : decimal d ∷ [] ≡ decimal w ∷ [] = all.3 in
+    let text : decimal d ≡ decimal w = cc in
+    let crews = decimal_injective d w (omega (arith, first.2.1)) (omega (arith, other.2.1)) text in
+    λ i. mode.Load (all.0 i) (all.1 i) (all.2 i) (crews i)
+same_mode values one two e first other = absurd (cc)

@@ -1,22 +1,21 @@
 -- Values as texts
-use Rattle.std.proofs.Common.{◌≡◌, ◌≢◌, ◌+◌, ◌==◌, ◌<◌, ◌≤◌, ◌^◌, ℕ, false, List, [], ◌∷◌, length, get_or, Option, Some, option_and_then, slice_get, sym, ap, subst, arith, inl, inr, decimal, eq-zero-or-pos, ℤ}
+use Rattle.std.proofs.Common.{◌≡◌, ◌≢◌, ◌+◌, ◌<◌, ◌^◌, ℕ, List, [], ◌∷◌, length, get_or, sym, ap, subst, arith, inl, inr, decimal, eq-zero-or-pos, ℤ}
 use Rattle.std.proofs.lemmas.Bool.Decides.{nat_tests}
 use Rattle.std.proofs.lemmas.Fmt.{decimal_digit, decimal_nonempty, first_decimal}
-use Rattle.clap.specs.Walk.{Row, Text}
 use Rattle.std.proofs.lemmas.Int.{ints}
 use Rattle.life_dates.specs.Calendar.{IsDay, IsTermDay}
 use Rattle.life_dates.specs.DayText.{day_text, IsDayText}
 use Rattle.life_dates.proofs.TextLemmas.{IsDayText-day_text, day_text-only}
 use Rattle.basis_book.specs.Name.{IsName}
-use Rattle.life_args.specs.Pieces.{AtMostOne}
-use Rattle.life_args.proofs.Lexing.{IsPlain, no_hyphen}
-use Rattle.life_args.proofs.Repeats.{IsFound}
-use Rattle.life_args.proofs.Lines.{EachPlain}
+use Rattle.life_args.specs.inside.Lines.{IsPlainText}
+
+abbrev Text : Type 0
+Text = List ℕ
 
 -- a text that begins with another byte than a hyphen
-begins : (text : Text) → 0 < length text → get_or text 0 0 ≢ 45 → IsPlain text
+begins : (text : Text) → 0 < length text → get_or text 0 0 ≢ 45 → IsPlainText text
 begins [] some ne = absurd (omega arith)
-begins (x ∷ xs) some ne = let e : (x == 45) ≡ false = grind (arith, nat_tests) in no_hyphen x xs e
+begins (x ∷ xs) some ne = grind (arith, nat_tests)
 
 first_of_decimal : (n : ℕ) → n < 2 ^ 64 → get_or (decimal n) 0 0 ≢ 45
 first_of_decimal n small = elim (eq-zero-or-pos n) [
@@ -24,14 +23,14 @@ first_of_decimal n small = elim (eq-zero-or-pos n) [
   | inr more ↦ let first : 48 < get_or (decimal n) 0 0 = first_decimal n more small in omega arith
 ]
 
-pub plain_decimal : (text : Text) (n : ℕ) → n < 2 ^ 64 → text ≡ decimal n → IsPlain text
-plain_decimal text n small is = subst IsPlain (sym is) (begins (decimal n) (decimal_nonempty n small) (first_of_decimal n small))
+pub plain_decimal : (text : Text) (n : ℕ) → n < 2 ^ 64 → text ≡ decimal n → IsPlainText text
+plain_decimal text n small is = subst IsPlainText (sym is) (begins (decimal n) (decimal_nonempty n small) (first_of_decimal n small))
 
-pub plain_day : (text : Text) (day : ℤ) → text ≡ day_text day → IsPlain text
+pub plain_day : (text : Text) (day : ℤ) → text ≡ day_text day → IsPlainText text
 unfolding day_text
-plain_day text day is = subst IsPlain (sym is) (begins (day_text day) (omega arith) (omega arith))
+plain_day text day is = subst IsPlainText (sym is) (begins (day_text day) (omega arith) (omega arith))
 
-pub plain_name : (text : Text) → IsName text → IsPlain text
+pub plain_name : (text : Text) → IsName text → IsPlainText text
 plain_name text is = begins text (omega (arith, is.some)) first
   where
     first : get_or text 0 0 ≢ 45
@@ -49,27 +48,3 @@ text_of_day text day is e = subst (λ (t : Text). IsDayText t day) (sym e) (IsDa
 
 pub day_of_text : (text : Text) (day : ℤ) → IsDay day → IsDayText text day → text ≡ day_text day
 day_of_text text day is said = day_text-only text day (term_day day is) said
-
--- the first value of a row that was found
-abbrev pub first : Option Row → Option Text
-first o = option_and_then (λ (r : Row). slice_get r.values 0) o
-
-pub reads : (values : List Text) (P : Option Text → Type 0) (o : Option Row) → IsFound values o → AtMostOne values P → P (first o)
-reads [] P o is asked = subst (λ (x : Option Row). P (first x)) (sym is) asked
-reads (value ∷ []) P o is asked = subst (λ (x : Option Row). P (first x)) (sym is.1) asked
-reads (value ∷ other ∷ values) P o is asked = absurd is
-
-pub says : (values : List Text) (P : Option Text → Type 0) (o : Option Row) → IsFound values o → P (first o) → AtMostOne values P
-says [] P o is asked = subst (λ (x : Option Row). P (first x)) is asked
-says (value ∷ []) P o is asked = subst (λ (x : Option Row). P (first x)) is.1 asked
-says (value ∷ other ∷ values) P o is asked = absurd is
-
-pub plain_values : (values : List Text) (P : Option Text → Type 0) → AtMostOne values P → ((value : Text) → P (Some value) → IsPlain value) → EachPlain values
-plain_values [] P asked plain = tt
-plain_values (value ∷ []) P asked plain = (plain value asked, tt)
-plain_values (value ∷ other ∷ values) P asked plain = absurd asked
-
-pub at_most_one : (values : List Text) (P : Option Text → Type 0) → AtMostOne values P → length values ≤ 1
-at_most_one [] P asked = omega arith
-at_most_one (value ∷ []) P asked = omega arith
-at_most_one (value ∷ other ∷ values) P asked = absurd asked

@@ -1,18 +1,14 @@
 //! What the program is asked to do, by the words of its command line.
 #![tactic(auto)]
 
-mod commands;
 mod fault;
-mod generate;
 mod laws;
 mod line;
-mod load;
 mod mode;
+mod modes;
 mod reading;
-mod run;
-mod state;
-mod value;
 mod values;
+mod verb;
 
 pub use fault::WordsFault;
 pub use laws::words_ask_once;

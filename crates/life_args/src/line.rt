@@ -1,21 +1,96 @@
-ghost use Rattle.std.specs.Prelude.{◌≡◌, true, map, string_bytes};
-ghost use Rattle.clap.specs.Words.{app_of, is_simple_and_free};
-ghost use Rattle.life_args.specs.inside.Commands.{TakesWords};
+// What stands behind the first word: values that stand alone, and options with their values.
+ghost use Rattle.std.specs.Prelude.{◌≡◌, [], true, IfOk, false, map, string_bytes};
+ghost use Rattle.clap.specs.Words.{app_of, is_simple_and_free, rule_of};
+ghost use Rattle.life_args.specs.inside.Lines as lines;
+ghost use Rattle.life_args.specs.inside.Lines.{ReadsLine, TakesWords, line_app, option_rule};
+ghost use Rattle.life_args.specs.inside.Verbs.{options_of};
 
 use crate::fault::WordsFault;
+use crate::verb::Verb;
 use clap::error::ErrorKind;
-use clap::{ArgMatches, Command};
+use clap::{Arg, ArgAction, ArgMatches, Command};
+use std::alloc::{AllocError, Global};
 
-/// What a command makes of words.
+/// What `clap` makes of the words behind a verb: the values that stand alone, and those of each option. How many there
+/// may be is judged where they are read.
 pub fn read_line<'a>(
-    command: Command<'a>,
+    alloc: Global,
+    verb: Verb,
     words: &'a [String],
 ) -> Result<ArgMatches<'a>, WordsFault>
+    ensures { ReadsLine (options_of verb) (map string_bytes words.entry.now) result }
+{
+    if has_odd(words) {
+        return Err(WordsFault::Usage);
+    }
+    match command_of(alloc, verb) {
+        Ok(command) => take_words(command, words),
+        Err(_) => Err(WordsFault::NoMemory),
+    }
+}
+
+// Whether a word begins with a hyphen and is no option. `clap` would take `--`, and reads `-x` as a flag.
+fn has_odd(words: &[String]) -> bool
+    ensures { result ≡ lines.has_odd (map string_bytes words.now) }
+{
+    for word in words {
+        if is_odd(word.as_str()) {
+            return true;
+        }
+    }
+    false
+}
+
+fn is_odd(word: &str) -> bool
+    ensures { result ≡ lines.is_odd word.now }
+{
+    match word.as_bytes() {
+        [b'-', b'-', _, ..] => false,
+        [b'-', ..] => true,
+        _ => false,
+    }
+}
+
+// The command that takes values alone and the options of the verb.
+fn command_of<'a>(alloc: Global, verb: Verb) -> Result<Command<'a>, AllocError>
+    ensures { IfOk result (λ command. app_of command ≡ line_app (options_of verb)) }
+{
+    let command = optionless(alloc)?;
+    match verb {
+        Verb::Run => command.arg(option(alloc, "basis")),
+        Verb::Value => command
+            .arg(option(alloc, "at"))?
+            .arg(option(alloc, "workers"))?
+            .arg(option(alloc, "basis")),
+        Verb::State | Verb::Generate | Verb::Load => Ok(command),
+    }
+}
+
+fn optionless<'a>(alloc: Global) -> Result<Command<'a>, AllocError>
+    ensures { IfOk result (λ command. app_of command ≡ line_app []) }
+{
+    let values = Arg::new(alloc, "values").action(ArgAction::Append);
+    Command::new(alloc, "life")
+        .no_binary_name(true)
+        .disable_help_flag(true)
+        .arg(values)
+}
+
+// An option, which may have a value each time that it is used.
+fn option<'a>(alloc: Global, name: &'a str) -> Arg<'a>
+    ensures rule { rule_of result ≡ option_rule name.entry.now }
+    ensures local { result.global ≡ false }
+{
+    Arg::new(alloc, name).long(name).action(ArgAction::Append)
+}
+
+// What a command makes of words.
+fn take_words<'a>(command: Command<'a>, words: &'a [String]) -> Result<ArgMatches<'a>, WordsFault>
     requires { is_simple_and_free (app_of command) ≡ true }
     ensures { TakesWords (app_of command.entry) (map string_bytes words.entry.now) result }
 {
     match command.try_get_matches_from(words) {
-        Ok(matches) => Ok(matches),
+        Ok(line) => Ok(line),
         Err(error) => Err(fault_of(error.kind())),
     }
 }

@@ -1,14 +1,11 @@
-ghost use Rattle.std.specs.Prelude.{◌≡◌, ◌↔◌, IsTrue, IfOk, IfErr, codes, string_bytes, map, SomeIndex};
+ghost use Rattle.std.specs.Prelude.{IfOk, IfErr};
 ghost use Rattle.life_args.specs.Words.{AskFor, IsFaultOf};
-ghost use Rattle.life_args.specs.inside.Commands.{HasHyphens};
 
 use crate::fault::WordsFault;
-use crate::generate::read_generate;
-use crate::load::read_load;
+use crate::line::read_line;
 use crate::mode::Mode;
-use crate::run::read_run;
-use crate::state::read_state;
-use crate::value::read_value;
+use crate::modes::mode_of;
+use crate::verb::verb_named;
 use std::alloc::Global;
 
 /// What the words behind the program's name ask for.
@@ -19,36 +16,9 @@ pub fn read_words(alloc: Global, words: &[String]) -> Result<Mode, WordsFault>
     let [first, rest @ ..] = words else {
         return Err(WordsFault::Usage);
     };
-    // `clap` would take a `--` that is no value's.
-    if has_hyphens(rest) {
+    let Some(verb) = verb_named(first.as_str()) else {
         return Err(WordsFault::Usage);
-    }
-    if first.as_str() == "run" {
-        return read_run(alloc, rest);
-    }
-    if first.as_str() == "value" {
-        return read_value(alloc, rest);
-    }
-    if first.as_str() == "state" {
-        return read_state(alloc, rest);
-    }
-    if first.as_str() == "generate" {
-        return read_generate(alloc, rest);
-    }
-    if first.as_str() == "load" {
-        return read_load(alloc, rest);
-    }
-    Err(WordsFault::Usage)
-}
-
-// Whether a word is `--`.
-fn has_hyphens(words: &[String]) -> bool
-    ensures { IsTrue result ↔ HasHyphens (map string_bytes words.now) }
-{
-    for word in words {
-        if word.as_str() == "--" {
-            return true;
-        }
-    }
-    false
+    };
+    let line = read_line(alloc, verb, rest)?;
+    mode_of(alloc, verb, &line)
 }

@@ -1,7 +1,9 @@
 // What the values of a command line say.
-ghost use Rattle.std.specs.Prelude.{◌≡◌, ◌≢◌, ◌≤◌, ℕ, IfSome, IfNone, decimal, option_map};
-ghost use Rattle.life_args.specs.Values.{IsPositionOr, AreWorkersOr, IsBasisOr, IsPolicyOr};
-ghost use Rattle.life_args.specs.inside.Commands.{GivesAsked, IsDayIn, IsNumberIn};
+ghost use Rattle.std.specs.Prelude.{◌≡◌, ◌≢◌, ◌≤◌, ◌↔◌, ℕ, [], ◌∷◌, length, IsTrue, IfSome, IfNone, decimal, option_map};
+ghost use Rattle.life_args.specs.Pieces.{AtMostOne};
+ghost use Rattle.life_args.specs.Values.{IsDayValue, IsPositionOr, AreWorkersOr, IsBasisOr, IsPolicyOr};
+ghost use Rattle.life_args.specs.inside.Lines.{GivesAsked};
+ghost use Rattle.life_args.specs.inside.Verbs.{GivesLone, IsNumberValue, texts_of};
 
 use crate::fault::WordsFault;
 use basis_book::Name;
@@ -11,17 +13,105 @@ use policy_types::{At, NoMemory};
 use std::alloc::Global;
 
 /// The day of a valuation, in days since 1970-01-01.
-pub fn day_of(value: Option<&str>) -> Result<i32, WordsFault>
-    ensures { GivesAsked (IsDayIn (option_map (λ text. text.now) value.entry)) result }
+pub fn day_of(value: &str) -> Result<i32, WordsFault>
+    ensures { GivesAsked (IsDayValue value.now) result }
 {
-    let Some(text) = value else {
-        return Err(WordsFault::Usage);
-    };
-    parse_day(text.as_bytes()).ok_or(WordsFault::Usage)
+    parse_day(value.as_bytes()).ok_or(WordsFault::Usage)
 }
 
 /// The position of a valuation: the end of the journal where none is given.
-pub fn position_or(value: Option<&str>) -> Result<At, WordsFault>
+pub fn position_of(values: Option<&[&str]>) -> Result<At, WordsFault>
+    ensures { GivesAsked (λ at. AtMostOne (texts_of values.entry) (λ given. IsPositionOr given at)) result }
+{
+    position_or(lone(values)?)
+}
+
+/// The number of workers: 1 where none is given.
+pub fn workers_of(values: Option<&[&str]>) -> Result<u8, WordsFault>
+    ensures { GivesAsked (λ workers. AtMostOne (texts_of values.entry) (λ given. AreWorkersOr given workers)) result }
+{
+    workers_or(lone(values)?)
+}
+
+/// The name of the basis file: `basis.csv` where none is given.
+pub fn basis_of(alloc: Global, values: Option<&[&str]>) -> Result<Name, WordsFault>
+    ensures { GivesAsked (λ basis. AtMostOne (texts_of values.entry) (λ given. IsBasisOr given basis)) result }
+{
+    basis_or(alloc, lone(values)?)
+}
+
+/// The number of the policy whose entries are asked for, if one is given.
+pub fn policy_of(values: Option<&[&str]>) -> Result<Option<u32>, WordsFault>
+    ensures { GivesAsked (λ id. AtMostOne (texts_of values.entry) (λ given. IsPolicyOr given id)) result }
+{
+    policy_or(lone(values)?)
+}
+
+/// A number from `least` to `most`.
+pub fn number_of(value: &str, least: u64, most: u64) -> Result<u64, WordsFault>
+    ensures { GivesAsked (IsNumberValue least most value.now) result }
+{
+    match parse_number(value.as_bytes(), most) {
+        Some(number) if least <= number => Ok(number),
+        _ => Err(WordsFault::Usage),
+    }
+}
+
+/// Whether there is no value.
+pub fn is_empty(values: Option<&[&str]>) -> bool
+    ensures { IsTrue result ↔ (texts_of values.entry ≡ []) }
+{
+    match values {
+        None | Some([]) => true,
+        _ => false,
+    }
+}
+
+/// The value, where there is just one.
+pub fn one<'a>(values: Option<&[&'a str]>) -> Option<&'a str>
+    ensures some { IfSome result (λ value. texts_of values.entry ≡ value.now ∷ []) }
+    ensures none { IfNone result (length (texts_of values.entry) ≢ 1) }
+{
+    match values {
+        Some([value]) => Some(*value),
+        _ => None,
+    }
+}
+
+/// The values, where there are three.
+pub fn three<'a>(values: Option<&[&'a str]>) -> Option<(&'a str, &'a str, &'a str)>
+    ensures some { IfSome result (λ all. texts_of values.entry ≡ all.0.now ∷ all.1.now ∷ all.2.now ∷ []) }
+    ensures none { IfNone result (length (texts_of values.entry) ≢ 3) }
+{
+    match values {
+        Some([a, b, c]) => Some((*a, *b, *c)),
+        _ => None,
+    }
+}
+
+/// The values, where there are four.
+pub fn four<'a>(values: Option<&[&'a str]>) -> Option<(&'a str, &'a str, &'a str, &'a str)>
+    ensures some { IfSome result (λ all. texts_of values.entry ≡ all.0.now ∷ all.1.now ∷ all.2.now ∷ all.3.now ∷ []) }
+    ensures none { IfNone result (length (texts_of values.entry) ≢ 4) }
+{
+    match values {
+        Some([a, b, c, d]) => Some((*a, *b, *c, *d)),
+        _ => None,
+    }
+}
+
+// The value, where there is one at most.
+fn lone<'a>(values: Option<&[&'a str]>) -> Result<Option<&'a str>, WordsFault>
+    ensures { GivesLone (texts_of values.entry) result }
+{
+    match values {
+        None | Some([]) => Ok(None),
+        Some([value]) => Ok(Some(*value)),
+        _ => Err(WordsFault::Usage),
+    }
+}
+
+fn position_or(value: Option<&str>) -> Result<At, WordsFault>
     ensures { GivesAsked (IsPositionOr (option_map (λ text. text.now) value.entry)) result }
 {
     let Some(text) = value else {
@@ -33,8 +123,7 @@ pub fn position_or(value: Option<&str>) -> Result<At, WordsFault>
     }
 }
 
-/// The number of workers: 1 where none is given.
-pub fn workers_or(value: Option<&str>) -> Result<u8, WordsFault>
+fn workers_or(value: Option<&str>) -> Result<u8, WordsFault>
     ensures { GivesAsked (AreWorkersOr (option_map (λ text. text.now) value.entry)) result }
 {
     let Some(text) = value else {
@@ -46,8 +135,7 @@ pub fn workers_or(value: Option<&str>) -> Result<u8, WordsFault>
     }
 }
 
-/// The name of the basis file: `basis.csv` where none is given.
-pub fn basis_or(alloc: Global, value: Option<&str>) -> Result<Name, WordsFault>
+fn basis_or(alloc: Global, value: Option<&str>) -> Result<Name, WordsFault>
     ensures { GivesAsked (IsBasisOr (option_map (λ text. text.now) value.entry)) result }
 {
     let text = match value {
@@ -61,8 +149,7 @@ pub fn basis_or(alloc: Global, value: Option<&str>) -> Result<Name, WordsFault>
     }
 }
 
-/// The number of the policy whose entries are asked for, if one is given.
-pub fn policy_or(value: Option<&str>) -> Result<Option<u32>, WordsFault>
+fn policy_or(value: Option<&str>) -> Result<Option<u32>, WordsFault>
     ensures { GivesAsked (IsPolicyOr (option_map (λ text. text.now) value.entry)) result }
 {
     let Some(text) = value else {
@@ -72,22 +159,6 @@ pub fn policy_or(value: Option<&str>) -> Result<Option<u32>, WordsFault>
         Some(id) => Ok(Some(id as u32)),
         None => Err(WordsFault::Usage),
     }
-}
-
-/// A number from `least` to `most`, which has to be given.
-pub fn number_of(value: Option<&str>, least: u64, most: u64) -> Result<u64, WordsFault>
-    ensures { GivesAsked (IsNumberIn least most (option_map (λ text. text.now) value.entry)) result }
-{
-    let Some(text) = value else {
-        return Err(WordsFault::Usage);
-    };
-    let Some(number) = parse_number(text.as_bytes(), most) else {
-        return Err(WordsFault::Usage);
-    };
-    if number < least {
-        return Err(WordsFault::Usage);
-    }
-    Ok(number)
 }
 
 // A number from 1 to `most`.

@@ -10,6 +10,10 @@ mod disk_tests;
 #[cfg(test)]
 mod load_tests;
 #[cfg(test)]
+mod lying_disk;
+#[cfg(test)]
+mod lying_disk_tests;
+#[cfg(test)]
 mod policy_tests;
 #[cfg(test)]
 mod run_tests;

@@ -1,10 +1,17 @@
-use Rattle.clap.specs.Words.{app_of, built, is_simple}
-use Rattle.clap.specs.Faults.{is_free_app}
-use Rattle.clap.proofs.WalkLemmas.{both}
+use Rattle.std.proofs.Common.{◌∙◌, ap, sym, subst, map, string_bytes}
+use Rattle.clap.specs.Words.{is_simple_and_free}
+use Rattle.life_args.specs.inside.Lines.{TakesWords}
+use Rattle.life_args.proofs.Answering.{line_read, odd_refused}
+use Rattle.life_args.proofs.Asking.{simple}
 use Rattle.life_args.proofs.line.read_line.Goals as goal
+
+pub returns-then-has_odd : goal.returns-then-has_odd
+returns-then-has_odd c = odd_refused c.args.verb (map string_bytes c.args.words.now) (sym c.has_odd.ensures ∙ c.if-has_odd.true)
+
+pub take_words-requires : goal.take_words-requires
+take_words-requires c = ap is_simple_and_free c.in-Ok.ensures ∙ simple c.args.verb
 
 pub returns-in-Ok : goal.returns-in-Ok
 returns-in-Ok c =
-    let app = app_of c.args.command in
-    let simple = both (is_simple app) (is_free_app (built app)) c.requires in
-    (c.in-Ok.ensures.kinds c.requires, (c.in-Ok.ensures.matches simple.0).0)
+    let words = map string_bytes c.args.words.now in
+    line_read c.args.verb words c.take_words.result (sym c.has_odd.ensures ∙ c.if-has_odd.false) (subst (λ app. TakesWords app words c.take_words.result) c.in-Ok.ensures c.take_words.ensures)

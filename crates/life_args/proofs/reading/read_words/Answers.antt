@@ -1,37 +1,18 @@
-use Rattle.std.proofs.Common.{◌≡◌, ◌∙◌, ap, sym, bytes_eq, codes, string_bytes, true}
-use Rattle.life_args.proofs.Answering.{answered, hyphens_ask_nothing}
+use Rattle.std.proofs.Common.{◌∙◌, map, refl, string_bytes, sym}
+use Rattle.life_args.proofs.Answering.{answered, behind, line_refused, mode_given, split_words, unnamed}
 use Rattle.life_args.proofs.reading.read_words.Goals as goal
 
-pub returns-then-has_hyphens-clause-fault : goal.returns-then-has_hyphens-clause-fault
-returns-then-has_hyphens-clause-fault c =
-    hyphens_ask_nothing c.args.words.now c.first-item.result c.in-len1-up.len_at_least c.first-item.is (c.has_hyphens.ensures.0 c.if-has_hyphens.true)
+pub returns-in_default-verb_named-clause-fault : goal.returns-in_default-verb_named-clause-fault
+returns-in_default-verb_named-clause-fault c =
+    unnamed c.args.words.now c.first-item.result c.in-len1-up.len_at_least c.first-item.is (λ verb is. c.in_default-verb_named.ensures.none verb (c.as_str.ensures.value ∙ is))
 
-pub returns-then-eq : goal.returns-then-eq
-returns-then-eq c =
-    let same : bytes_eq (string_bytes c.first-item.result) (codes "run") ≡ true = ap (λ t. bytes_eq t (codes "run")) (sym c.as_str.ensures.value) ∙ sym c.eq.ensures ∙ c.if-eq.true in
-    let all = answered c.args.words.now c.first-item.result (codes "run") c.read_run.result c.in-len1-up.len_at_least c.first-item.is same c.read_run.ensures in
-    record { mode = all.0; fault = all.1 }
+pub returns-in_err-line-clause-fault : goal.returns-in_err-line-clause-fault
+returns-in_err-line-clause-fault c =
+    let there = split_words c.args.words.now c.first-item.result _ c.in-len1-up.len_at_least c.first-item.is (sym c.as_str.ensures.value ∙ c.in-Some.ensures.some) in
+    (answered c.args.words.now _ c.from_residual.result there (line_refused c.in-Some.verb (map string_bytes (behind c.args.words.now)) c.from_residual.result c.in_err-line.field-0.0 c.from_residual.ensures.1 c.in_err-line.ensures)).1
 
-pub returns-then-eq-2 : goal.returns-then-eq-2
-returns-then-eq-2 c =
-    let same : bytes_eq (string_bytes c.first-item.result) (codes "value") ≡ true = ap (λ t. bytes_eq t (codes "value")) (sym c.as_str-2.ensures.value) ∙ sym c.eq-2.ensures ∙ c.if-eq-2.true in
-    let all = answered c.args.words.now c.first-item.result (codes "value") c.read_value.result c.in-len1-up.len_at_least c.first-item.is same c.read_value.ensures in
-    record { mode = all.0; fault = all.1 }
-
-pub returns-then-eq-3 : goal.returns-then-eq-3
-returns-then-eq-3 c =
-    let same : bytes_eq (string_bytes c.first-item.result) (codes "state") ≡ true = ap (λ t. bytes_eq t (codes "state")) (sym c.as_str-3.ensures.value) ∙ sym c.eq-3.ensures ∙ c.if-eq-3.true in
-    let all = answered c.args.words.now c.first-item.result (codes "state") c.read_state.result c.in-len1-up.len_at_least c.first-item.is same c.read_state.ensures in
-    record { mode = all.0; fault = all.1 }
-
-pub returns-then-eq-4 : goal.returns-then-eq-4
-returns-then-eq-4 c =
-    let same : bytes_eq (string_bytes c.first-item.result) (codes "generate") ≡ true = ap (λ t. bytes_eq t (codes "generate")) (sym c.as_str-4.ensures.value) ∙ sym c.eq-4.ensures ∙ c.if-eq-4.true in
-    let all = answered c.args.words.now c.first-item.result (codes "generate") c.read_generate.result c.in-len1-up.len_at_least c.first-item.is same c.read_generate.ensures in
-    record { mode = all.0; fault = all.1 }
-
-pub returns-then-eq-5 : goal.returns-then-eq-5
-returns-then-eq-5 c =
-    let same : bytes_eq (string_bytes c.first-item.result) (codes "load") ≡ true = ap (λ t. bytes_eq t (codes "load")) (sym c.as_str-5.ensures.value) ∙ sym c.eq-5.ensures ∙ c.if-eq-5.true in
-    let all = answered c.args.words.now c.first-item.result (codes "load") c.read_load.result c.in-len1-up.len_at_least c.first-item.is same c.read_load.ensures in
+pub returns : goal.returns
+returns c =
+    let there = split_words c.args.words.now c.first-item.result _ c.in-len1-up.len_at_least c.first-item.is (sym c.as_str.ensures.value ∙ c.in-Some.ensures.some) in
+    let all = answered c.args.words.now _ c.mode_of.result there (mode_given c.in-Some.verb (map string_bytes (behind c.args.words.now)) c.in_ok-line.line c.mode_of.result c.in_ok-line.ensures c.mode_of.ensures) in
     record { mode = all.0; fault = all.1 }

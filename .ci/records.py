@@ -1,0 +1,155 @@
+"""Judges records of strace: what passed through the program's devices, by the disk model and the files beside it.
+
+    records.py RECORD..     beside each RECORD: RECORD.before (the journal before the run, if there was one),
+                            RECORD.after, RECORD.out; the folder has the script and the files of the basis
+"""
+from __future__ import annotations
+
+import re
+import sys
+from dataclasses import dataclass
+from pathlib import Path
+
+LINE = re.compile(r"\d+ +(\w+)\((.*)\) += (-?\d+)")
+TEXT = re.compile(r'"((?:\\x[0-9a-f]{2})*)"(\.\.\.)?')
+
+
+class Wrong(Exception):
+    """A record that no honest device gives."""
+
+
+@dataclass(frozen=True)
+class Call:
+    """A call of the program: its word, which file it was made on, the bytes that passed, the place and the answer."""
+
+    word: str
+    file: str
+    data: bytes
+    place: int
+    asked: int
+    answer: int
+
+
+def bytes_of(text: str) -> bytes:
+    return bytes.fromhex(text.replace("\\x", ""))
+
+
+def calls_of(record: Path) -> list[Call]:
+    """The calls of a record on files that it opened and on the standard streams, in order."""
+    files = {0: "input", 1: "output", 2: "error"}
+    calls = []
+    for line in record.read_text().splitlines():
+        found = LINE.match(line)
+        if not found:
+            continue
+        word, words, answer = found[1], found[2], int(found[3])
+        text = TEXT.search(words)
+        if text and text[2]:
+            raise Wrong(f"a call that strace cut short: {line[:80]}")
+        data = bytes_of(text[1]) if text else b""
+        if word == "openat":
+            if answer >= 0:
+                files[answer] = data.decode()
+            continue
+        number = int(words.split(",")[0])
+        file = files.get(number, "other")
+        if word == "close":
+            files.pop(number, None)
+            continue
+        rest = [int(n) for n in re.findall(r", (\d+)", words[text.end():])] if text else []
+        asked, place = (rest + [0, 0])[:2]
+        calls.append(Call(word, file, data, place, asked, answer))
+    return calls
+
+
+def replay(calls: list[Call], content: bytes) -> bytes:
+    """What the journal's file holds after the calls; each answer has to be one that the disk model allows."""
+    failed_sync = False
+    for call in calls:
+        if call.word == "pread64":
+            due = content[call.place:call.place + call.asked]
+            if call.answer != call.asked or call.data != due:
+                raise Wrong(f"a read of {call.asked} bytes at {call.place} gave {call.answer} others")
+        elif call.word == "pwrite64":
+            if call.answer != len(call.data) or call.place > len(content):
+                raise Wrong(f"a write at {call.place} took {call.answer} of {len(call.data)} bytes")
+            content = content[:call.place] + call.data + content[call.place + call.answer:]
+        elif call.word in ("fsync", "fdatasync"):
+            if failed_sync and call.answer == 0:
+                raise Wrong("a sync succeeded after one that failed")
+            failed_sync = failed_sync or call.answer != 0
+        else:
+            raise Wrong(f"{call.word} on the journal")
+    return content
+
+
+def given(calls: list[Call], name: str) -> bytes:
+    """The bytes that a file or stream gave, up to its end, which was seen."""
+    reads = [call for call in calls if call.word == "read"]
+    if not reads or reads[-1].answer != 0:
+        raise Wrong(f"the end of {name} wasn't seen")
+    return b"".join(call.data for call in reads)
+
+
+def judge(calls: list[Call], before: bytes, after: bytes, printed: bytes, reads_script: bool) -> None:
+    of = lambda file: [call for call in calls if call.file == file]
+    if replay(of("journal.life"), before) != after:
+        raise Wrong("the journal doesn't hold what was written")
+    taken = b"".join(call.data[:call.answer] for call in of("output") if call.word == "write")
+    if taken != printed:
+        raise Wrong("the output took other bytes than were printed")
+    if reads_script and given(of("input"), "the input") != Path("script").read_bytes():
+        raise Wrong("the input gave other bytes than the script's")
+    for name in sorted({call.file for call in calls if call.file.endswith((".csv", ".xml"))}):
+        if given(of(name), name) != Path(name).read_bytes():
+            raise Wrong(f"the folder gave other bytes than those of {name}")
+
+
+def is_written_again(calls: list[Call], at: int) -> bool:
+    """Whether the first byte of a write is written over later, so that the file doesn't show it in the end."""
+    place = calls[at].place
+    return any(c.word == "pwrite64" and c.place <= place < c.place + len(c.data) for c in calls[at + 1:])
+
+
+def changed(calls: list[Call]) -> list[list[Call]]:
+    """The same calls, each time with one answer that an honest device doesn't give."""
+    other = []
+    for at, call in enumerate(calls):
+        wrong = None
+        if call.data and call.answer > 0:
+            wrong = Call(call.word, call.file, bytes([call.data[0] ^ 1]) + call.data[1:], call.place, call.asked, call.answer)
+        if call.word == "pwrite64" and is_written_again(calls, at):
+            wrong = None
+        if wrong and (call.file in ("journal.life", "input", "output") or call.file.endswith((".csv", ".xml"))):
+            other.append(calls[:at] + [wrong] + calls[at + 1:])
+        if call.word == "fsync" and call.file == "journal.life":
+            failed = Call(call.word, call.file, b"", 0, 0, -1)
+            other.append(calls[:at] + [failed] + calls[at:])
+    return other
+
+
+def main(records: list[str]) -> int:
+    refused = 0
+    for name in records:
+        before = Path(f"{name}.before")
+        ends = (before.read_bytes() if before.exists() else b"", Path(f"{name}.after").read_bytes(), Path(f"{name}.out").read_bytes())
+        reads_script = name in ("created", "again")
+        calls = calls_of(Path(name))
+        try:
+            judge(calls, *ends, reads_script)
+        except Wrong as wrong:
+            print(f"records: {name}: {wrong}", file=sys.stderr)
+            return 1
+        for lie in changed(calls):
+            try:
+                judge(lie, *ends, reads_script)
+            except Wrong:
+                refused += 1
+                continue
+            print(f"records: {name}: a changed record passes", file=sys.stderr)
+            return 1
+    return 0 if refused > 20 else 1
+
+
+if __name__ == "__main__":
+    sys.exit(main(sys.argv[1:]))

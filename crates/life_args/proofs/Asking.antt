@@ -1,0 +1,225 @@
+-- The words of a mode, as pieces whose values say the mode
+use Rattle.std.proofs.Common.{◌≡◌, ◌≤◌, ◌<◌, ◌^◌, ◌⊎◌, ℕ, Bool, true, false, cond, List, [], ◌∷◌, Option, Some, None, refl, sym, ap, ◌∙◌, subst, arith, inl, inr, bytes_eq, codes, decimal, length}
+use Rattle.std.specs.Prelude.{⊤}
+use Rattle.clap.specs.Lexer.{has_byte}
+use Rattle.clap.specs.Walk.{Text}
+use Rattle.clap.specs.Faults.{is_simple_and_free}
+use Rattle.policy_types.specs.declared.entry.At.{At}
+use Rattle.policy_types.specs.declared.entry.At.TheVariants.{Now, Position}
+use Rattle.life_args.specs.declared.mode.Mode.{Mode}
+use Rattle.life_args.specs.declared.mode.Mode.TheVariants as mode
+use Rattle.life_args.specs.declared.verb.Verb.{Verb}
+use Rattle.life_args.specs.declared.verb.Verb.TheVariants.{Run, Value, State, Generate, Load}
+use Rattle.life_args.specs.Pieces.{WordPiece, bare, apart, joined, spelled, bare_values, option_values, value_under, IsAmong, HasOnly, AtMostOne}
+use Rattle.life_args.specs.Values.{IsPositionOr, AreWorkersOr, IsBasisOr, IsPolicyOr}
+use Rattle.life_args.specs.Words.{AreWords}
+use Rattle.life_args.specs.inside.Lines.{ArePlain, IsPlainText, Spelling, alone_id, line_app, values_of}
+use Rattle.life_args.specs.inside.Verbs.{SaysMode, options_of, verb_of, verb_word}
+use Rattle.life_args.proofs.Rules.{IsGood, own}
+use Rattle.life_args.proofs.Lines.{differ}
+use Rattle.life_args.proofs.Texts.{plain_day, plain_decimal, plain_name}
+
+-- ---- the verbs
+
+-- each has a word of its own
+pub same_verb : (a b : Verb) → verb_word a ≡ verb_word b → a ≡ b
+same_verb Run Run e = refl
+same_verb Value Value e = refl
+same_verb State State e = refl
+same_verb Generate Generate e = refl
+same_verb Load Load e = refl
+same_verb a b e = absurd (differ (verb_word a) (verb_word b) refl e)
+
+pub simple : (verb : Verb) → is_simple_and_free (line_app (options_of verb)) ≡ true
+simple Run = refl
+simple Value = refl
+simple State = refl
+simple Generate = refl
+simple Load = refl
+
+-- what holds of each name
+abbrev AllOf : (Text → Type 0) → List Text → Type 0
+AllOf P [] = ⊤
+AllOf P (name ∷ names) = P name × AllOf P names
+
+each : (P : Text → Type 0) (names : List Text) → AllOf P names → (name : Text) → IsAmong names name → P name
+each P [] all name among = absurd among
+each P (one ∷ names) all name (inl is) = subst P (sym is) all.0
+each P (one ∷ names) all name (inr more) = each P names all.1 name more
+
+a_good : (name : Text) → 0 < length name → has_byte 61 name ≡ false → bytes_eq alone_id name ≡ false → IsGood name
+a_good name some lacks other = record { named = record { some = some; lacks = lacks }; other = other }
+
+all_good : (verb : Verb) → AllOf IsGood (options_of verb)
+all_good Run = (a_good (codes "basis") (omega arith) refl refl, tt)
+all_good Value = (a_good (codes "at") (omega arith) refl refl, (a_good (codes "workers") (omega arith) refl refl, (a_good (codes "basis") (omega arith) refl refl, tt)))
+all_good State = tt
+all_good Generate = tt
+all_good Load = tt
+
+pub good : (verb : Verb) (name : Text) → IsAmong (options_of verb) name → IsGood name
+good verb = each IsGood (options_of verb) (all_good verb)
+
+-- ---- values are plain
+
+abbrev EachPlain : List Text → Type 0
+EachPlain [] = ⊤
+EachPlain (value ∷ values) = IsPlainText value × EachPlain values
+
+plain_lone : (values : List Text) (P : Option Text → Type 0) → AtMostOne values P → ((value : Text) → P (Some value) → IsPlainText value) → EachPlain values
+plain_lone [] P asked plain = tt
+plain_lone (value ∷ []) P asked plain = (plain value asked, tt)
+plain_lone (value ∷ other ∷ values) P asked plain = absurd asked
+
+plain_position : (position : At) (value : Text) → IsPositionOr (Some value) position → IsPlainText value
+plain_position Now value asked = absurd asked
+plain_position (Position n) value asked = plain_decimal value n (omega (arith, asked.0)) asked.1
+
+plain_workers : (workers : ℕ) (value : Text) → AreWorkersOr (Some value) workers → IsPlainText value
+plain_workers workers value asked = plain_decimal value workers (omega (arith, asked.1)) asked.2
+
+plain_basis : (basis : Text) (value : Text) → IsBasisOr (Some value) basis → IsPlainText value
+plain_basis basis value asked = plain_name value asked.0
+
+plain_policy : (id : Option ℕ) (value : Text) → IsPolicyOr (Some value) id → IsPlainText value
+plain_policy None value asked = absurd asked
+plain_policy (Some id) value asked = plain_decimal value id (omega (arith, asked.0)) asked.1
+
+plain_number : (most n : ℕ) → most < 2 ^ 64 → n ≤ most → IsPlainText (decimal n)
+plain_number most n small high = plain_decimal (decimal n) n (omega arith) refl
+
+rest_plain : (name one value : Text) (values : List Text) → EachPlain (value_under name one value values) → EachPlain values
+rest_plain name one value values plain = go (bytes_eq one name) plain
+  where
+    go : (t : Bool) → EachPlain (cond t (value ∷ values) values) → EachPlain values
+    go true h = h.1
+    go false h = h
+
+own_plain : (name value : Text) (values : List Text) → EachPlain (value_under name name value values) → IsPlainText value
+own_plain name value values plain = (subst (λ (t : Bool). EachPlain (cond t (value ∷ values) values)) (own name) plain).0
+
+are_plain : (names : List Text) (pieces : List WordPiece) → HasOnly names pieces → EachPlain (bare_values pieces) → ((name : Text) → IsAmong names name → EachPlain (option_values name pieces)) → ArePlain pieces
+are_plain names [] only alone options = tt
+are_plain names (bare value ∷ pieces) only alone options = (alone.0, are_plain names pieces only alone.1 options)
+are_plain names (apart one value ∷ pieces) only alone options = (
+  own_plain one value (option_values one pieces) (options one only.0),
+  are_plain names pieces only.1 alone (λ name among. rest_plain name one value (option_values name pieces) (options name among)),
+)
+are_plain names (joined one value ∷ pieces) only alone options =
+    are_plain names pieces only.1 alone (λ name among. rest_plain name one value (option_values name pieces) (options name among))
+
+spelling_of : (names words : List Text) (pieces : List WordPiece) → words ≡ spelled pieces → HasOnly names pieces → EachPlain (bare_values pieces) → AllOf (λ name. EachPlain (option_values name pieces)) names
+    → Spelling names words pieces
+spelling_of names words pieces spells only alone options =
+    record { spells = spells; only = only; plain = are_plain names pieces only alone (each (λ name. EachPlain (option_values name pieces)) names options) }
+
+-- ---- the words of a mode
+
+pub record Asked (mode : Mode) (words : List Text) : Type 0 where
+  pub pieces : List WordPiece
+  pub spelling : Spelling (options_of (verb_of mode)) words pieces
+  pub says : SaysMode (values_of pieces) mode
+
+pub asked : (word : Text) (words : List Text) (one : Mode) → AreWords (word ∷ words) one → (word ≡ verb_word (verb_of one)) × Asked one words
+asked word words (mode.Run basis) are =
+    let is = are.1 in (
+      are.0,
+      record {
+        pieces = is.pieces;
+        spelling = spelling_of (options_of Run) words is.pieces is.spells is.only (subst EachPlain (sym is.alone) tt) (plain_lone _ (λ given. IsBasisOr given basis) is.basis_is (plain_basis basis), tt);
+        says = (is.alone, is.basis_is);
+      },
+    )
+asked word words (mode.Value on position workers basis) are =
+    let is = are.1 in (
+      are.0,
+      record {
+        pieces = is.pieces;
+        spelling = spelling_of (options_of Value) words is.pieces is.spells is.only (subst EachPlain (sym is.alone) (plain_day is.day on is.day_is.1, tt)) (
+          plain_lone _ (λ given. IsPositionOr given position) is.position_is (plain_position position),
+          (plain_lone _ (λ given. AreWorkersOr given workers) is.workers_are (plain_workers workers), (plain_lone _ (λ given. IsBasisOr given basis) is.basis_is (plain_basis basis), tt)),
+        );
+        says = ((is.day, is.alone, is.day_is), is.position_is, is.workers_are, is.basis_is);
+      },
+    )
+asked word words (mode.State id) are =
+    let is = are.1 in (
+      are.0,
+      record {
+        pieces = is.pieces;
+        spelling = spelling_of [] words is.pieces is.spells is.only (plain_lone _ (λ given. IsPolicyOr given id) is.id_is (plain_policy id)) tt;
+        says = is.id_is;
+      },
+    )
+asked word words (mode.Generate seed count lanes) are =
+    let is = are.1 in (
+      are.0,
+      record {
+        pieces = bare (decimal seed) ∷ bare (decimal count) ∷ bare (decimal lanes) ∷ [];
+        spelling = record { spells = is.spells; only = tt; plain = (plain_number 2147483647 seed (omega arith) is.seed_in, (plain_number 100000 count (omega arith) is.count_in.1, (plain_number 8 lanes (omega arith) is.lanes_in.1, tt))) };
+        says = (refl, (is.seed_in, is.count_in, is.lanes_in));
+      },
+    )
+asked word words (mode.Load seed count lanes workers) are =
+    let is = are.1 in (
+      are.0,
+      record {
+        pieces = bare (decimal seed) ∷ bare (decimal count) ∷ bare (decimal lanes) ∷ bare (decimal workers) ∷ [];
+        spelling = record {
+          spells = is.spells;
+          only = tt;
+          plain = (
+            plain_number 2147483647 seed (omega arith) is.seed_in,
+            (
+              plain_number 100000 count (omega arith) is.count_in.1,
+              (plain_number 8 lanes (omega arith) is.lanes_in.1, (plain_number 64 workers (omega arith) is.workers_in.1, tt)),
+            ),
+          );
+        };
+        says = (refl, (is.seed_in, is.count_in, is.lanes_in), is.workers_in);
+      },
+    )
+
+-- without options each piece is a word
+all_bare : (pieces : List WordPiece) → HasOnly [] pieces → spelled pieces ≡ bare_values pieces
+all_bare [] only = refl
+all_bare (bare value ∷ pieces) only = ap (λ (ws : List Text). value ∷ ws) (all_bare pieces only)
+all_bare (apart name value ∷ pieces) only = absurd only.0
+all_bare (joined name value ∷ pieces) only = absurd only.0
+
+pub asking : (words : List Text) (one : Mode) → Asked one words → AreWords (verb_word (verb_of one) ∷ words) one
+asking words (mode.Run basis) is = (refl, record { pieces = is.pieces; spells = is.spelling.spells; only = is.spelling.only; alone = is.says.0; basis_is = is.says.1 })
+asking words (mode.Value on position workers basis) is = (
+  refl,
+  record {
+    pieces = is.pieces;
+    spells = is.spelling.spells;
+    only = is.spelling.only;
+    day = is.says.0.0;
+    alone = is.says.0.1;
+    day_is = is.says.0.2;
+    position_is = is.says.1;
+    workers_are = is.says.2;
+    basis_is = is.says.3;
+  },
+)
+asking words (mode.State id) is = (refl, record { pieces = is.pieces; spells = is.spelling.spells; only = is.spelling.only; id_is = is.says })
+asking words (mode.Generate seed count lanes) is = (
+  refl,
+  record {
+    spells = is.spelling.spells ∙ all_bare is.pieces is.spelling.only ∙ is.says.0;
+    seed_in = is.says.1.0;
+    count_in = is.says.1.1;
+    lanes_in = is.says.1.2;
+  },
+)
+asking words (mode.Load seed count lanes workers) is = (
+  refl,
+  record {
+    spells = is.spelling.spells ∙ all_bare is.pieces is.spelling.only ∙ is.says.0;
+    seed_in = is.says.1.0;
+    count_in = is.says.1.1;
+    lanes_in = is.says.1.2;
+    workers_in = is.says.2;
+  },
+)

@@ -1,0 +1,11 @@
+use Rattle.std.proofs.Common.{option_map}
+use Rattle.life_args.specs.Values.{IsPositionOr}
+use Rattle.life_args.specs.inside.Verbs.{texts_of}
+use Rattle.life_args.proofs.Answering.{lone_gives, lone_refused}
+use Rattle.life_args.proofs.values.position_of.Goals as goal
+
+pub returns-in_err-lone : goal.returns-in_err-lone
+returns-in_err-lone c = lone_refused (texts_of c.args.values) IsPositionOr c.from_residual.result c.in_err-lone.field-0.0 c.from_residual.ensures.1 c.in_err-lone.ensures
+
+pub returns : goal.returns
+returns c = lone_gives (texts_of c.args.values) (option_map (λ value. value.now) c.in_ok-lone.field-0) IsPositionOr c.position_or.result c.in_ok-lone.ensures c.position_or.ensures

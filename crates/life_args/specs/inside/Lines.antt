@@ -1,0 +1,95 @@
+-- How `clap` reads the words behind a verb, and what private calls answer
+use Rattle.std.specs.Prelude.{◌≡◌, ◌≢◌, ◌==◌, ◌&&◌, ⊤, Bool, true, false, not, List, [], ◌∷◌, map, bytes_eq, codes, cond, Some, Result, Ok, Err, option_map, unwrap_or}
+use Rattle.std.specs.List.{list_any}
+use Rattle.clap.specs.Words.{App, Rule, Text, fault_of, found_of, matched_of, matches_of, new_app, new_rule, raw_values, rows_of}
+use Rattle.clap.specs.declared.builder.action.ArgAction.TheVariants.{Append}
+use Rattle.clap.specs.declared.parser.matches.ArgMatches.{ArgMatches}
+use Rattle.clap.specs.declared.parser.matches.Found.{Found}
+use Rattle.life_args.specs.declared.fault.WordsFault.{WordsFault}
+use Rattle.life_args.specs.declared.fault.WordsFault.TheVariants.{Usage, NoMemory}
+use Rattle.life_args.specs.Pieces.{WordPiece, bare, apart, joined, spelled, bare_values, option_values, HasOnly}
+
+-- ---- the words
+
+-- behind a hyphen, which is 45, stand another one and something more
+abbrev pub begins_option : Text → Bool
+begins_option [] = false
+begins_option (byte ∷ []) = false
+begins_option (byte ∷ more ∷ bytes) = byte == 45
+
+-- the word begins with a hyphen, and is no option: `-`, `--` and `-x`
+abbrev pub is_odd : Text → Bool
+is_odd [] = false
+is_odd (byte ∷ bytes) = (byte == 45) && not (begins_option bytes)
+
+abbrev pub has_odd : List Text → Bool
+has_odd words = list_any is_odd words
+
+-- a value in a word of its own doesn't begin with a hyphen
+abbrev pub IsPlainText : Text → Type 0
+IsPlainText [] = ⊤
+IsPlainText (byte ∷ bytes) = (byte == 45) ≡ false
+
+abbrev pub ArePlain : List WordPiece → Type 0
+ArePlain [] = ⊤
+ArePlain (bare value ∷ pieces) = IsPlainText value × ArePlain pieces
+ArePlain (apart name value ∷ pieces) = IsPlainText value × ArePlain pieces
+ArePlain (joined name value ∷ pieces) = ArePlain pieces
+
+-- the pieces spell the words, and each option has one of these names
+pub record Spelling (names words : List Text) (pieces : List WordPiece) : Type 0 where
+  pub spells : words ≡ spelled pieces
+  pub only : HasOnly names pieces
+  pub plain : ArePlain pieces
+
+-- ---- the command
+
+-- an option, which may have a value each time that it is used
+abbrev pub option_rule : Text → Rule
+option_rule name = record (new_rule name) { long = Some name; action = Some Append }
+
+-- the id of the values that stand alone
+abbrev pub alone_id : Text
+alone_id = codes "values"
+
+abbrev pub alone_rule : Rule
+alone_rule = record (new_rule alone_id) { action = Some Append }
+
+-- a command with neither a name before its words nor a help flag, that takes values alone and these options
+abbrev pub line_app : List Text → App
+line_app names = let app = new_app (codes "life") in record app {
+  top = record app.top { rules = alone_rule ∷ map option_rule names; no_binary_name = true; disable_help_flag = true };
+}
+
+-- the command takes the words and these are its matches, or it doesn't take them
+abbrev pub TakesWords : App → List Text → Result ArgMatches WordsFault → Type 0
+TakesWords app words (Ok line) = (fault_of app words ≡ []) × (rows_of (found_of line) ≡ matches_of app words)
+TakesWords app words (Err Usage) = fault_of app words ≢ []
+TakesWords app words (Err NoMemory) = ⊤
+
+-- ---- what was read
+
+-- all values of an id
+abbrev pub values_named : Found → Text → List Text
+values_named found id = unwrap_or (option_map raw_values (matched_of found id)) []
+
+-- the values of an id among pieces
+abbrev pub values_of : List WordPiece → Text → List Text
+values_of pieces id = cond (bytes_eq alone_id id) (bare_values pieces) (option_values id pieces)
+
+-- the words are spelled by pieces; and whatever pieces spell them, what was found is theirs
+pub record IsLine (names words : List Text) (line : ArgMatches) : Type 0 where
+  pub pieces : List WordPiece
+  pub spelling : Spelling names words pieces
+  pub every : (others : List WordPiece) → Spelling names words others → (id : Text) → values_named (found_of line) id ≡ values_of others id
+
+abbrev pub ReadsLine : List Text → List Text → Result ArgMatches WordsFault → Type 0
+ReadsLine names words (Ok line) = IsLine names words line
+ReadsLine names words (Err Usage) = (pieces : List WordPiece) → Spelling names words pieces → ⊥
+ReadsLine names words (Err NoMemory) = ⊤
+
+-- what is asked holds of the answer, or of nothing, or memory was refused
+abbrev pub GivesAsked : {T : Type 0} → (T → Type 0) → Result T WordsFault → Type 0
+GivesAsked IsAsked (Ok answer) = IsAsked answer
+GivesAsked {T} IsAsked (Err Usage) = (answer : T) → IsAsked answer → ⊥
+GivesAsked IsAsked (Err NoMemory) = ⊤

@@ -1,0 +1,87 @@
+-- The modes by their first words: the options of each, and what its values have to say
+use Rattle.std.specs.Prelude.{◌≡◌, ◌≤◌, ℕ, List, [], ◌∷◌, codes, decimal, map, option_map, unwrap_or, Option, Some, None, Result, Ok, Err}
+use Rattle.std.specs.Borrow.{Bor}
+use Rattle.clap.specs.declared.parser.matches.Found.{Found}
+use Rattle.life_args.specs.declared.fault.WordsFault.{WordsFault}
+use Rattle.life_args.specs.declared.mode.Mode.{Mode}
+use Rattle.life_args.specs.declared.mode.Mode.TheVariants as mode
+use Rattle.life_args.specs.declared.verb.Verb.{Verb}
+use Rattle.life_args.specs.declared.verb.Verb.TheVariants.{Run, Value, State, Generate, Load}
+use Rattle.life_args.specs.Pieces.{AtMostOne}
+use Rattle.life_args.specs.Values.{IsDayValue, IsPositionOr, AreWorkersOr, IsBasisOr, IsPolicyOr, IsSeed, IsPolicyCount, IsLaneCount, IsWorkerCount}
+use Rattle.life_args.specs.inside.Lines.{GivesAsked, alone_id, values_named}
+
+abbrev pub verb_word : Verb → List ℕ
+verb_word Run = codes "run"
+verb_word Value = codes "value"
+verb_word State = codes "state"
+verb_word Generate = codes "generate"
+verb_word Load = codes "load"
+
+abbrev pub verb_of : Mode → Verb
+verb_of (mode.Run basis) = Run
+verb_of (mode.Value on position workers basis) = Value
+verb_of (mode.State id) = State
+verb_of (mode.Generate seed count lanes) = Generate
+verb_of (mode.Load seed count lanes workers) = Load
+
+-- the names of a verb's options
+abbrev pub options_of : Verb → List (List ℕ)
+options_of Run = codes "basis" ∷ []
+options_of Value = codes "at" ∷ codes "workers" ∷ codes "basis" ∷ []
+options_of State = []
+options_of Generate = []
+options_of Load = []
+
+-- there is just one value, of which this holds
+abbrev pub JustOne : List (List ℕ) → (List ℕ → Type 0) → Type 0
+JustOne values IsAsked = (value : List ℕ) × (values ≡ value ∷ []) × IsAsked value
+
+-- the values of an id as they are got, where there may be none
+abbrev pub texts_of : Option (Bor (List (Bor (List ℕ)))) → List (List ℕ)
+texts_of values = unwrap_or (option_map (λ list. map (λ value. value.now) list.now) values) []
+
+-- the value, where there is one at most
+abbrev pub IsLone : List (List ℕ) → Option (List ℕ) → Type 0
+IsLone values None = values ≡ []
+IsLone values (Some value) = values ≡ value ∷ []
+
+abbrev pub GivesLone : List (List ℕ) → Result (Option (Bor (List ℕ))) WordsFault → Type 0
+GivesLone values (Ok given) = IsLone values (option_map (λ value. value.now) given)
+GivesLone values (Err fault) = GivesAsked (IsLone values) (Err fault)
+
+-- the value is the number, which lies within these
+pub record IsNumberValue (least most : ℕ) (value : List ℕ) (number : ℕ) : Type 0 where
+  pub low : least ≤ number
+  pub high : number ≤ most
+  pub is : value ≡ decimal number
+
+pub record AreDrawn (seed count lanes : List ℕ) (drawn : ℕ × ℕ × ℕ) : Type 0 where
+  pub seed_is : IsNumberValue 0 2147483647 seed drawn.0
+  pub count_is : IsNumberValue 1 100000 count drawn.1
+  pub lanes_is : IsNumberValue 1 8 lanes drawn.2
+
+-- the seed, the policies and the lanes of a script
+abbrev pub AreDraws : (seed count lanes : ℕ) → Type 0
+AreDraws seed count lanes = IsSeed seed × IsPolicyCount count × IsLaneCount lanes
+
+-- the values of each id say the mode
+abbrev pub SaysMode : (List ℕ → List (List ℕ)) → Mode → Type 0
+SaysMode values (mode.Run basis) =
+    (values alone_id ≡ []) × AtMostOne (values (codes "basis")) (λ given. IsBasisOr given basis)
+SaysMode values (mode.Value on position workers basis) =
+    JustOne (values alone_id) (λ value. IsDayValue value on)
+    × AtMostOne (values (codes "at")) (λ given. IsPositionOr given position)
+    × AtMostOne (values (codes "workers")) (λ given. AreWorkersOr given workers)
+    × AtMostOne (values (codes "basis")) (λ given. IsBasisOr given basis)
+SaysMode values (mode.State id) = AtMostOne (values alone_id) (λ given. IsPolicyOr given id)
+SaysMode values (mode.Generate seed count lanes) =
+    (values alone_id ≡ decimal seed ∷ decimal count ∷ decimal lanes ∷ []) × AreDraws seed count lanes
+SaysMode values (mode.Load seed count lanes workers) =
+    (values alone_id ≡ decimal seed ∷ decimal count ∷ decimal lanes ∷ decimal workers ∷ [])
+    × AreDraws seed count lanes × IsWorkerCount workers
+
+-- what was found behind a verb asks for the mode
+pub record AsksFor (verb : Verb) (found : Found) (mode : Mode) : Type 0 where
+  pub is : verb_of mode ≡ verb
+  pub says : SaysMode (values_named found) mode

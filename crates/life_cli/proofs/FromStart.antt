@@ -1,0 +1,118 @@
+-- What the top call promises of devices between two moments, said of devices from their start.
+use Rattle.std.proofs.Common.{◌≡◌, inl, inr, ℕ, List, [], ◌∷◌, ◌++◌, map, refl, Option, Some, None, String, arith}
+use Rattle.std.specs.Global.{Global}
+use Rattle.outside_io.specs.Shelves.{Files, Answer, Agrees}
+use Rattle.outside_io.specs.declared.disks.Disk.{Ghosts}
+use Rattle.watcher_set.specs.Noted.{Auditor}
+use Rattle.life_args.specs.declared.mode.Mode.{Mode}
+use Rattle.life_args.specs.declared.mode.Mode.TheVariants.{Run, Value, State, Generate, Load}
+use Rattle.program_endings.specs.Writing.{Input, Shelving, Stream}
+use Rattle.program_endings.specs.declared.ending.Ending.{Ending}
+use Rattle.script_run.specs.Running.{EndsLanes, EndsRun}
+use Rattle.policy_types.specs.declared.script.Lane.{Lane}
+use Rattle.life_app.specs.Obeys.{Does, EndsMode, Obeys}
+use Rattle.outside_io.specs.Faults.{Rose}
+use Rattle.life_cli.specs.Completing.{EndsDuly}
+use Rattle.life_cli.specs.Shipped.{input_from_start, output_from_start, shelf_from_start}
+
+-- Less may be said of an input and a shelf that stay.
+module _ {D : Type 0} (g : Ghosts D) (old new : D) (words : List (String Global)) (auditors : List Auditor) (input : Input) (output : Stream) (shelf : Shelving)
+    (A B A' B' : Type 0) (f : A → A') (h : B → B') where
+  lanes_still : (lanes : List Lane) (name : List ℕ) (ending : Ending) → EndsLanes g old new lanes name auditors shelf output B ending
+      → EndsLanes g old new lanes name auditors shelf output B' ending
+  lanes_still lanes name ending (inl plain) = inl (plain.0, h (plain.1), plain.2)
+  lanes_still lanes name ending (inr valued) = inr valued
+
+  run_still : (name : List ℕ) (ending : Ending) → EndsRun g old new name auditors input output shelf B ending
+      → EndsRun g old new name auditors input output shelf B' ending
+  run_still name ending (inl read) = inl (record {
+    bytes = read.bytes;
+    gave = read.gave;
+    lanes = read.lanes;
+    read = read.read;
+    ends = lanes_still read.lanes name ending read.ends;
+  })
+  run_still name ending (inr unread) = inr (unread.0, h (unread.1), unread.2)
+
+  mode_still : (mode : Mode) (ending : Ending) → EndsMode g old new mode auditors input output shelf A B ending
+      → EndsMode g old new mode auditors input output shelf A' B' ending
+  mode_still (Run basis) ending ends = run_still basis ending ends
+  mode_still (Value on at workers basis) ending ends = (f (ends.0), ends.1)
+  mode_still (State None) ending ends = (f (ends.0), h (ends.1), ends.2)
+  mode_still (State (Some id)) ending ends = (f (ends.0), h (ends.1), ends.2)
+  mode_still (Generate seed count lanes) ending ends = (f (ends.0), h (ends.1), ends.2, ends.3)
+  mode_still (Load seed count lanes workers) ending ends = (f (ends.0), ends.1)
+
+  does_still : (ending : Ending) → Does g old new words auditors input output shelf A B ending → Does g old new words auditors input output shelf A' B' ending
+  does_still ending (inl obeyed) = inl (obeyed.0, obeyed.1, mode_still obeyed.0 ending (obeyed.2))
+  does_still ending (inr unasked) = inr (record { disk = unasked.disk; input = f unasked.input; shelf = h unasked.shelf; says = unasked.says })
+
+  pub obeys_still : (status : ℕ) → Obeys g old new words auditors input output shelf A B status → Obeys g old new words auditors input output shelf A' B' status
+  obeys_still status obeys = record { ending = obeys.ending; exits = obeys.exits; does = does_still obeys.ending obeys.does }
+
+-- A shelf that answered nothing agrees with all files.
+pub agrees_with_all : (answers : List Answer) → answers ≡ [] → (files : Files) → Agrees answers files
+agrees_with_all answers none files = rw none tt
+
+-- What is seen of two values that were put into an empty list.
+pub seen_of_two : {X Y : Type 0} → (see : X → Y) (none ready one two : List X) (first second : X) (a b : Y) → two ≡ one ++ second ∷ [] → one ≡ ready ++ first ∷ []
+    → ready ≡ none → none ≡ [] → see first ≡ a → see second ≡ b → map see two ≡ a ∷ b ∷ []
+seen_of_two see none ready one two first second a b e₁ e₂ e₃ e₄ is_a is_b = rw (e₁, e₂, e₃, e₄, is_a, is_b) refl
+
+-- The auditors that were handed over are these.
+module _ {D : Type 0} (g : Ghosts D) (old new : D) (words : List (String Global)) (input : Input) (output : Stream) (shelf : Shelving) (A B : Type 0) (status : ℕ) where
+  pub obeys_with : (auditors others : List Auditor) → auditors ≡ others → Obeys g old new words auditors input output shelf A B status
+      → Obeys g old new words others input output shelf A B status
+  obeys_with auditors others same obeys = rw same at obeys
+
+-- Devices that had no fault at the start, and through which nothing had passed.
+module _ {D : Type 0} (g : Ghosts D) (old new : D) (words : List (String Global)) (auditors : List Auditor) (A B : Type 0) (status : ℕ) where
+  pub obeys_from_start : (input_faults input_then output_faults output_then shelf_faults shelf_then : ℕ) (given given_then : List ℕ) (Ended : Type 0)
+      (written written_then : Option (List ℕ)) (Agrees : Files → Type 0)
+      → input_faults ≡ 0 → given ≡ [] → output_faults ≡ 0 → written ≡ Some [] → shelf_faults ≡ 0
+      → Obeys g old new words auditors
+      (record { faults_before = input_faults; faults_after = input_then; left_before = None; left_after = None; given_before = given; given_after = given_then; Ended = Ended })
+      (record { faults_before = output_faults; faults_after = output_then; before = written; after = written_then })
+      (record { faults_before = shelf_faults; faults_after = shelf_then; Agrees = Agrees }) A B status
+      → Obeys g old new words auditors (input_from_start input_then given_then Ended) (output_from_start output_then written_then) (shelf_from_start shelf_then Agrees) A B status
+  obeys_from_start input_faults input_then output_faults output_then shelf_faults shelf_then given given_then Ended written written_then Agrees
+      e₁ e₂ e₃ e₄ e₅ obeys = rw (e₁, e₂, e₃, e₄, e₅) at obeys
+
+module _ (words : List (String Global)) (status : ℕ) where
+  pub ends_from_start : (input_faults input_then output_faults output_then shelf_faults shelf_then disk_faults disk_then : ℕ) (given given_then : List ℕ) (Ended : Type 0)
+      (written written_then : Option (List ℕ)) (Agrees : Files → Type 0) (Honest : Type 0) (file found left : List ℕ)
+      → input_faults ≡ 0 → given ≡ [] → output_faults ≡ 0 → written ≡ Some [] → shelf_faults ≡ 0 → disk_faults ≡ 0 → file ≡ found
+      → EndsDuly words
+      (record { faults_before = input_faults; faults_after = input_then; left_before = None; left_after = None; given_before = given; given_after = given_then; Ended = Ended })
+      (record { faults_before = output_faults; faults_after = output_then; before = written; after = written_then })
+      (record { faults_before = shelf_faults; faults_after = shelf_then; Agrees = Agrees }) Honest file left (Rose disk_faults disk_then) status
+      → EndsDuly words (input_from_start input_then given_then Ended) (output_from_start output_then written_then) (shelf_from_start shelf_then Agrees) Honest found left
+      (Rose 0 disk_then) status
+  ends_from_start input_faults input_then output_faults output_then shelf_faults shelf_then disk_faults disk_then given given_then Ended written written_then Agrees Honest file
+      found left e₁ e₂ e₃ e₄ e₅ e₆ e₇ ends = rw (e₁, e₂, e₃, e₄, e₅, e₆, e₇) at ends
+
+-- Where there was no memory to begin, 9 is right in every case.
+module _ (words : List (String Global)) (input : Input) (output : Stream) (shelf : Shelving) (Honest : Type 0) (file left : List ℕ) (DiskFailed : Type 0) (status : ℕ) where
+  pub ends_with_9 : status ≡ 9 → left ≡ file → EndsDuly words input output shelf Honest file left DiskFailed status
+  ends_with_9 nine same = record {
+    usage = λ two. absurd (omega arith);
+    unasked = λ asked. inr nine;
+    unreadable = λ bytes name asked whole bad fault. inr nine;
+    too_long = λ name asked more fault. inr nine;
+    bad_file = λ four. absurd (omega arith);
+    unfit = λ on at name bad files asked agrees first fault. inr nine;
+    unfit_run = λ bytes name lanes bad files asked whole short reads asks agrees first fault shelf_fault. inr nine;
+    unfit_load = λ bad files asked agrees first fault. inr nine;
+    unopened = λ honest none. same;
+    complete = λ bytes name lanes commands asked whole short reads has shelf_fault honest opens fault output_fault disk_fault. inr nine;
+    refused = λ bytes name lanes asked whole short reads has shelf_fault honest none fault disk_fault. inr nine;
+    stated = λ commands asked honest opens output_fault disk_fault. inr nine;
+    unstated = λ asked honest none disk_fault. inr nine;
+    valued = λ on at name files basis commands asked agrees is honest opens within shelf_fault output_fault disk_fault. inr nine;
+    past_the_end = λ ten. absurd (omega arith);
+    ahead = λ on p name files basis commands asked agrees is honest opens beyond shelf_fault disk_fault. inr nine;
+    unvalued = λ on at name files basis asked agrees is honest none shelf_fault disk_fault. inr nine;
+    generated = λ asked output_fault. inr nine;
+    loaded = λ files basis commands asked agrees is honest opens shelf_fault output_fault disk_fault. inr nine;
+    unloaded = λ files basis asked agrees is honest none shelf_fault disk_fault. inr nine;
+  }

@@ -1,0 +1,63 @@
+use Rattle.std.proofs.Common.{ℕ, inl, inr, refl, ap, ◌∙◌}
+use denote.Param.Object.{read_made}
+use Rattle.watcher_set.specs.Noted.{Auditor}
+use Rattle.program_endings.specs.Status.{status_of}
+use Rattle.program_endings.specs.declared.ending.Ending.{Ending}
+use Rattle.program_endings.specs.declared.ending.Ending.TheVariants.{NoMemory}
+use Rattle.watcher_set.specs.declared.counting.CountWatcher.{CountWatcher}
+use Rattle.life_cli.specs.Shipped.{shipped_auditors, count_auditor}
+use Rattle.life_cli.proofs.FromStart.{obeys_with, seen_of_two, ends_with_9}
+use Rattle.life_cli.proofs.shipped.obey.OwnLists.{own-1}
+use Rattle.life_cli.proofs.shipped.obey.Goals as goal
+
+pub returns-in_default-clause-obeys : goal.returns-in_default-clause-obeys
+returns-in_default-clause-obeys g c = record {
+  ending = NoMemory;
+  exits = c.status-status.ensures ∙ ap (λ (e : Ending). status_of e) c.lack_memory.ensures.so;
+  does = inr (record { disk = refl; input = refl; shelf = refl; says = c.lack_memory.ensures.wrote });
+}
+
+pub returns-in_default-clause-ends : goal.returns-in_default-clause-ends
+returns-in_default-clause-ends g c = ends_with_9 _ _ _ _ _ _ _ _ _ (c.status-status.ensures ∙ ap (λ (e : Ending). status_of e) c.lack_memory.ensures.so) refl
+
+pub returns-clause-ends : goal.returns-clause-ends
+returns-clause-ends g c = record {
+  usage = c.life.ensures.usage;
+  unasked = c.life.ensures.unasked;
+  unreadable = c.life.ensures.unreadable;
+  too_long = c.life.ensures.too_long;
+  bad_file = c.life.ensures.bad_file;
+  unfit = c.life.ensures.unfit;
+  unfit_run = c.life.ensures.unfit_run;
+  unfit_load = c.life.ensures.unfit_load;
+  unopened = c.life.ensures.unopened;
+  complete = c.life.ensures.complete;
+  refused = c.life.ensures.refused;
+  stated = c.life.ensures.stated;
+  unstated = c.life.ensures.unstated;
+  valued = c.life.ensures.valued;
+  past_the_end = c.life.ensures.past_the_end;
+  ahead = c.life.ensures.ahead;
+  unvalued = c.life.ensures.unvalued;
+  generated = c.life.ensures.generated;
+  loaded = c.life.ensures.loaded;
+  unloaded = c.life.ensures.unloaded;
+}
+
+pub returns-clause-obeys : goal.returns-clause-obeys
+returns-clause-obeys g c = obeys_with _ _ _ _ _ _ _ _ _ _ _ shipped_auditors
+    (
+    seen_of_two _ _ _ _ _ _ _ _ _ c.push_reserved-2.ensures.items c.push_reserved.ensures.items c.reserve-room.ensures.items c.new-auditors.ensures.items
+    (
+    read_made own-1 (own-1.entry (inl tt)) (inl tt) refl Auditor (λ j v. record { stops = j.1.stops v; number = j.1.number v })
+    c.into_dyn_box.result.vtable c.into_dyn_box.result.value _ c.into_dyn_box.ensures.1
+    ∙ ap (λ (limit : ℕ). count_auditor limit)
+    (let same = rw (c.in-Ok-Ok-Ok.is-0) at c.new-counting.ensures.ok in ap (λ (auditor : CountWatcher). auditor.limit) same ∙ c.new.ensures.limit)
+    )
+    (
+    read_made own-1 (own-1.entry (inr (inl tt))) (inr (inl tt)) refl Auditor (λ j v. record { stops = j.1.stops v; number = j.1.number v })
+    c.into_dyn_box-2.result.vtable c.into_dyn_box-2.result.value _ c.into_dyn_box-2.ensures.1
+    ∙ refl
+    )
+    )
+    c.life.ensures.obeys

@@ -1,0 +1,50 @@
+use Rattle.std.proofs.Common.{◌≡◌, List, [], length, Some, ap}
+use Rattle.outside_io.specs.FileCalls.{FileCall, file_reads, AreAllowed}
+use Rattle.outside_io.specs.Shelves.{Files, Agrees}
+use Rattle.outside_io.specs.Streams.{StreamPiece, passed_bytes, HasEnd}
+use Rattle.life_cli.proofs.FromStart.{obeys_still, obeys_from_start, ends_from_start, agrees_with_all}
+use Rattle.life_cli.proofs.shipped.run_shipped.Goals as goal
+
+pub returns-clause-obeys : goal.returns-clause-obeys
+returns-clause-obeys g c =
+    let input = c.new-input.result in
+    let output = c.new-output.result in
+    let shelf = c.new-shelf.result in
+    let input' = c.obey-status.new.input in
+    let output' = c.obey-status.new.output in
+    let shelf' = c.obey-status.new.shelf in
+    let gave = ap (λ (pieces : List StreamPiece). passed_bytes pieces) c.new-input.ensures.given in
+    record {
+      old = c.at-disk.result;
+      faultless = c.at-disk.ensures.faults;
+      first = ap (λ (calls : List FileCall). length calls) c.at-disk.ensures.calls;
+      reads = ap (λ (calls : List FileCall). file_reads g.F.FoundFile.bytes g.F.FoundFile.torn calls) c.at-disk.ensures.calls;
+      obeys = obeys_from_start _ _ _ _ _ _ _ _ input.faults input'.faults output.faults output'.faults shelf.faults shelf'.faults
+          (passed_bytes input.given) (passed_bytes input'.given) (HasEnd input'.given) (Some (passed_bytes output.taken)) (Some (passed_bytes output'.taken))
+          (λ files. Agrees shelf'.answers files)
+          c.new-input.ensures.faults gave c.new-output.ensures.faults
+          (ap (λ (pieces : List StreamPiece). Some (passed_bytes pieces)) c.new-output.ensures.taken) c.new-shelf.ensures.faults
+          (
+          obeys_still _ _ _ _ _ _ _ _ (input' ≡ input) (shelf' ≡ shelf) (passed_bytes input'.given ≡ []) ((files : Files) → Agrees shelf'.answers files)
+          (λ stays. cc (gave)) (λ stays. agrees_with_all shelf'.answers (cc (c.new-shelf.ensures.answers))) _ c.obey-status.ensures.obeys
+          );
+    }
+
+pub returns-clause-ends : goal.returns-clause-ends
+returns-clause-ends g c =
+    let input = c.new-input.result in
+    let output = c.new-output.result in
+    let shelf = c.new-shelf.result in
+    let disk = c.at-disk.result in
+    let input' = c.obey-status.new.input in
+    let output' = c.obey-status.new.output in
+    let shelf' = c.obey-status.new.shelf in
+    let disk' = c.obey-status.result.disk in
+    let found = g.F.FoundFile.bytes in
+    let torn = g.F.FoundFile.torn in
+    ends_from_start _ _ input.faults input'.faults output.faults output'.faults shelf.faults shelf'.faults disk.file.faults disk'.file.faults
+    (passed_bytes input.given) (passed_bytes input'.given) (HasEnd input'.given) (Some (passed_bytes output.taken)) (Some (passed_bytes output'.taken))
+    (λ files. Agrees shelf'.answers files) (AreAllowed found torn disk'.file.calls) (file_reads found torn disk.file.calls) found (file_reads found torn disk'.file.calls)
+    c.new-input.ensures.faults (ap (λ (pieces : List StreamPiece). passed_bytes pieces) c.new-input.ensures.given) c.new-output.ensures.faults
+    (ap (λ (pieces : List StreamPiece). Some (passed_bytes pieces)) c.new-output.ensures.taken) c.new-shelf.ensures.faults c.at-disk.ensures.faults
+    (ap (λ (calls : List FileCall). file_reads found torn calls) c.at-disk.ensures.calls) c.obey-status.ensures.ends

@@ -1,0 +1,50 @@
+-- What the program does on the devices that it is shipped with, from its start to its end
+use Rattle.std.specs.Prelude.{◌≡◌, ◌==◌, ℕ, false, List, [], ◌∷◌, length, Option, None, Some, String}
+use Rattle.std.specs.Global.{Global}
+use Rattle.outside_io.specs.Shelves.{Files}
+use Rattle.outside_io.specs.declared.disks.Disk.{Ghosts}
+use Rattle.watcher_set.specs.Noted.{Auditor}
+use Rattle.watcher_set.specs.Premiums.{premiums_of}
+use Rattle.program_endings.specs.Writing.{Input, Shelving, Stream}
+use Rattle.life_app.specs.Obeys.{Obeys}
+
+-- it counts commands, and is done at so many
+abbrev pub count_auditor : ℕ → Auditor
+count_auditor limit = record { stops = λ commands. length commands == limit; number = λ commands. length commands }
+
+-- it adds up premiums, and is never done
+abbrev pub premium_auditor : Auditor
+premium_auditor = record { stops = λ commands. false; number = λ commands. premiums_of commands }
+
+abbrev pub shipped_auditors : List Auditor
+shipped_auditors = count_auditor 4000000 ∷ premium_auditor ∷ []
+
+-- an input that gave nothing and had no fault at the start, and tells nothing of what is left
+abbrev pub input_from_start : ℕ → List ℕ → Type 0 → Input
+input_from_start faults given Ended = record {
+  faults_before = 0;
+  faults_after = faults;
+  left_before = None;
+  left_after = None;
+  given_before = [];
+  given_after = given;
+  Ended = Ended;
+}
+
+-- an output that took nothing and had no fault at the start
+abbrev pub output_from_start : ℕ → Option (List ℕ) → Stream
+output_from_start faults written =
+    record { faults_before = 0; faults_after = faults; before = Some []; after = written }
+
+-- a shelf that had no fault at the start
+abbrev pub shelf_from_start : ℕ → (Files → Type 0) → Shelving
+shelf_from_start faults Agrees = record { faults_before = 0; faults_after = faults; Agrees = Agrees }
+
+-- The words were obeyed, over a disk on which no call had been made, and which then read as these bytes.
+pub record ObeysFromStart {D : Type 0} (g : Ghosts D) (bytes : List ℕ) (new : D) (words : List (String Global))
+    (input : Input) (output : Stream) (shelf : Shelving) (InputStays ShelfStays : Type 0) (status : ℕ) : Type 0 where
+  pub old : D
+  pub faultless : g.faults old ≡ 0
+  pub first : g.clock old ≡ 0
+  pub reads : g.reads old ≡ bytes
+  pub obeys : Obeys g old new words shipped_auditors input output shelf InputStays ShelfStays status

@@ -1,0 +1,126 @@
+// All of the program but what the system hands it, on the devices that it is shipped with.
+ghost use Rattle.std.specs.Prelude.{◌≡◌, List, []};
+ghost use Rattle.outside_io.specs.Shelves.{Files};
+ghost use Rattle.program_endings.specs.Writing.{between, input_between, shelf_between};
+ghost use Rattle.life_app.specs.Obeys.{Obeys};
+ghost use Rattle.outside_io.specs.Faults.{Rose};
+ghost use Rattle.life_cli.specs.Completing.{EndsDuly};
+ghost use Rattle.life_cli.specs.Shipped.{ObeysFromStart, shipped_auditors, input_from_start, output_from_start, shelf_from_start};
+
+use life_app::{Ended, life};
+use outside_io::{
+    Disk, FileDisk, FolderShelf, FoundFile, OpenGate, Shelf, Sink, Source, StdSink, StdSource,
+};
+use policy_types::Watcher;
+use program_endings::lack_memory;
+use std::alloc::Global;
+use std::io::{Stdin, Stdout};
+use std::sync::Wait;
+use std::thread::Threads;
+use watcher_set::{CountWatcher, PremiumWatcher};
+
+/// The file in which the policies are kept, in the folder in which the program runs.
+const JOURNAL: &str = "journal.life";
+
+/// The count of commands at which the first auditor is done.
+const MOST_COUNTED: u32 = 4_000_000;
+
+/// Standard input.
+pub type Input = StdSource<Stdin>;
+
+/// Standard output.
+pub type Output = StdSink<Stdout>;
+
+/// The folder in which the program runs.
+pub type Folder = FolderShelf<HostRuntime>;
+
+/// What the program leaves: its exit status, and its devices with what they noted.
+pub struct Left<F: FoundFile> {
+    pub status: u8,
+    pub input: Input,
+    pub output: Output,
+    pub shelf: Folder,
+    pub disk: FileDisk<HostRuntime, F>,
+}
+
+/// Does what the words ask for, over standard input and output, the folder and its `journal.life`.
+///
+/// What it promises is said of what these devices noted, and holds whatever the file was before (`F`). The one premise on
+/// them is that each answer of the file is one that the disk model allows, and it is asked only of what is said of the file.
+pub fn run_shipped<R: Threads + Wait + Sync, F: FoundFile>(
+    rt: &R,
+    system: HostRuntime,
+    words: &[String],
+    found: F,
+) -> Left<F>
+    ensures obeys { ObeysFromStart ⟦<FileDisk<HostRuntime, F> as Disk>⟧ F.bytes result.disk words.now
+        (input_from_start (⟦<Input as Source>⟧.faults result.input) (⟦<Input as Source>⟧.given result.input)
+        (⟦<Input as Source>⟧.ended result.input))
+        (output_from_start (⟦<Output as Sink>⟧.faults result.output) (⟦<Output as Sink>⟧.written result.output))
+        (shelf_from_start (⟦<Folder as Shelf>⟧.faults result.shelf) (⟦<Folder as Shelf>⟧.agrees result.shelf))
+        (⟦<Input as Source>⟧.given result.input ≡ [])
+        ((files : Files) → ⟦<Folder as Shelf>⟧.agrees result.shelf files) result.status }
+    ensures ends { EndsDuly words.now
+        (input_from_start (⟦<Input as Source>⟧.faults result.input) (⟦<Input as Source>⟧.given result.input)
+        (⟦<Input as Source>⟧.ended result.input))
+        (output_from_start (⟦<Output as Sink>⟧.faults result.output) (⟦<Output as Sink>⟧.written result.output))
+        (shelf_from_start (⟦<Folder as Shelf>⟧.faults result.shelf) (⟦<Folder as Shelf>⟧.agrees result.shelf))
+        (⟦<FileDisk<HostRuntime, F> as Disk>⟧.honest result.disk) F.bytes
+        (⟦<FileDisk<HostRuntime, F> as Disk>⟧.reads result.disk)
+        (Rose 0 (⟦<FileDisk<HostRuntime, F> as Disk>⟧.faults result.disk)) result.status }
+{
+    let alloc = system.alloc();
+    let mut input = StdSource::new(system.stdin());
+    let mut output = StdSink::new(system.stdout());
+    let mut shelf = FolderShelf::new(system);
+    let disk = FileDisk::at(system, JOURNAL, found);
+    let Ended { status, disk } = obey(rt, alloc, words, &mut input, &mut output, &mut shelf, disk);
+    Left {
+        status,
+        input,
+        output,
+        shelf,
+        disk,
+    }
+}
+
+// The same over devices as they are: the top call with the two auditors, or 9 where these find no memory.
+fn obey<R: Threads + Wait + Sync, F: FoundFile>(
+    rt: &R,
+    alloc: Global,
+    words: &[String],
+    input: &mut Input,
+    output: &mut Output,
+    shelf: &mut Folder,
+    disk: FileDisk<HostRuntime, F>,
+) -> Ended<FileDisk<HostRuntime, F>>
+    ensures obeys { Obeys ⟦<FileDisk<HostRuntime, F> as Disk>⟧ disk result.disk words.now shipped_auditors
+        (input_between (⟦<Input as Source>⟧.faults) (⟦<Input as Source>⟧.left) (⟦<Input as Source>⟧.given)
+        (⟦<Input as Source>⟧.ended) input.old input.new)
+        (between (⟦<Output as Sink>⟧.faults) (⟦<Output as Sink>⟧.written) output.old output.new)
+        (shelf_between (⟦<Folder as Shelf>⟧.faults) (⟦<Folder as Shelf>⟧.agrees) shelf.old shelf.new)
+        (input.new ≡ input.old) (shelf.new ≡ shelf.old) result.status }
+    ensures ends { EndsDuly words.now
+        (input_between (⟦<Input as Source>⟧.faults) (⟦<Input as Source>⟧.left) (⟦<Input as Source>⟧.given)
+        (⟦<Input as Source>⟧.ended) input.old input.new)
+        (between (⟦<Output as Sink>⟧.faults) (⟦<Output as Sink>⟧.written) output.old output.new)
+        (shelf_between (⟦<Folder as Shelf>⟧.faults) (⟦<Folder as Shelf>⟧.agrees) shelf.old shelf.new)
+        (⟦<FileDisk<HostRuntime, F> as Disk>⟧.honest result.disk) (⟦<FileDisk<HostRuntime, F> as Disk>⟧.reads disk)
+        (⟦<FileDisk<HostRuntime, F> as Disk>⟧.reads result.disk)
+        (Rose (⟦<FileDisk<HostRuntime, F> as Disk>⟧.faults disk) (⟦<FileDisk<HostRuntime, F> as Disk>⟧.faults result.disk))
+        result.status }
+{
+    let counting = Box::new(alloc, CountWatcher::new(alloc, MOST_COUNTED));
+    let adding = Box::new(alloc, PremiumWatcher::new(alloc));
+    let mut auditors: Vec<Box<dyn Watcher + Send>> = Vec::new(alloc);
+    let room = auditors.reserve(2);
+    let (Ok(counting), Ok(adding), Ok(())) = (counting, adding, room) else {
+        let status = lack_memory(output).status();
+        return Ended { status, disk };
+    };
+    auditors.push_reserved(counting);
+    auditors.push_reserved(adding);
+    life(
+        rt, alloc, words, input, output, shelf, disk, auditors, &OpenGate,
+    )
+}

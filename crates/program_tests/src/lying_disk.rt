@@ -1,0 +1,81 @@
+// A disk that gives one wrong byte. From then on it isn't honest, so nothing is promised of it; what the program does
+// then is a test's to say.
+ghost use Rattle.std.specs.Prelude.{◌≡◌, ℕ, ◌+◌, ◌≤◌, false, List, length, take, drop, IfOk, OnOk};
+ghost use Rattle.outside_io.specs.Disks.{Elapses, HasDiskCause, Looks, Syncs, Writes};
+
+use outside_io::{Disk, Failed};
+
+/// Gives a wrong byte at its read of that number, counted from 1, and does nothing any more then.
+#[derive(Drop)]
+pub(crate) struct LyingDisk<D: Disk + Drop> {
+    pub disk: D,
+    pub lied: bool,
+    pub reads: u64,
+    pub lie: u64,
+}
+
+impl<D: Disk + Drop> Disk for LyingDisk<D> {
+    ghost faults = { λ liar. D.faults liar.disk };
+
+    ghost honest = { λ liar. (liar.lied ≡ false) × D.honest liar.disk };
+
+    ghost reads = { λ liar. D.reads liar.disk };
+
+    ghost may_leave = { λ liar image. D.may_leave liar.disk image };
+
+    ghost clock = { λ liar. D.clock liar.disk };
+
+    ghost left_since = { λ liar moment image. D.left_since liar.disk moment image };
+
+    ghost reads_as_image = { λ liar known. D.reads_as_image liar.disk known.1 };
+
+    ghost counts_now = { λ liar moment image known passed left. D.counts_now liar.disk moment image known.1 passed left };
+
+    ghost only_now = { λ liar image known left. D.only_now liar.disk image known.1 left };
+
+    fn faults(&self) -> u64 {
+        self.disk.faults()
+    }
+
+    fn len(&mut self) -> Result<u64, Failed> {
+        if self.lied {
+            return Ok(0);
+        }
+        self.disk.len()
+    }
+
+    fn read(&mut self, at: u64, buf: &mut [u8]) -> Result<(), Failed> {
+        if self.lied {
+            return Ok(());
+        }
+        self.reads = self.reads.saturating_add(1);
+        let answer = self.disk.read(at, buf);
+        if self.reads == self.lie {
+            self.lied = true;
+            lie_in(buf);
+        }
+        answer
+    }
+
+    fn write_at(&mut self, at: u64, bytes: &[u8]) -> Result<(), Failed> {
+        if self.lied {
+            return Ok(());
+        }
+        self.disk.write_at(at, bytes)
+    }
+
+    fn sync(&mut self) -> Result<(), Failed> {
+        if self.lied {
+            return Ok(());
+        }
+        self.disk.sync()
+    }
+}
+
+fn lie_in(bytes: &mut [u8])
+    ensures { length bytes.new ≡ length bytes.old }
+{
+    if let Some(first) = bytes.first_mut() {
+        *first ^= 1;
+    }
+}
