@@ -25,7 +25,7 @@ from tables import read_basis
 AT_ONCE = 2
 KIB = 1024
 AMPLE, LOADED_FROM = 256 * 1024, 4 * 1024
-DRAWN, FINE, PAGE = 30, 40, 4
+DRAWN, FINE, PAGE = 20, 25, 4
 # the stacks of the first thread lie from here on, and nothing else does
 STACKS_FROM = 0x7ffb_0000_0000
 # a thread's stack with its guard, and what the program takes besides, in KiB
@@ -120,21 +120,33 @@ class Trial:
 def limits(draw):
     """Limits that fall by a fifth each time, drawn ones between, and some that leave little beside the stacks of threads."""
     falling, limit = [], AMPLE
-    while limit > 64:
+    while limit > 512:
         falling.append(limit)
         limit = limit * 4 // 5
     drawn = [int(LOADED_FROM * (AMPLE / LOADED_FROM) ** draw.random()) for _ in range(DRAWN)]
     return falling + drawn + [BESIDE + THREAD * (n % 8) + draw.randrange(50) * PAGE for n in range(DRAWN)]
 
 
+def least_loaded(trial, words):
+    """Between which limits, about, the program begins to be loaded."""
+    below = max(kib for kib, word in words.items() if word == "not loaded")
+    above = min(kib for kib, word in words.items() if word == "right")
+    while above - below > 2 * PAGE:
+        middle = (below + above) // 2
+        if trial.try_limit(middle) == "not loaded":
+            below = middle
+        else:
+            above = middle
+    return below
+
+
 def try_mode(trial, draw):
-    """All limits, and then each page of those between the greatest that doesn't load the program and the right answers."""
+    """All limits, and then some between the greatest that doesn't load the program and the least right answer."""
     with ThreadPoolExecutor(AT_ONCE) as pool:
         tried = limits(draw)
         words = dict(zip(tried, pool.map(trial.try_limit, tried)))
-        below = max(kib for kib, word in words.items() if word == "not loaded")
         at_least = min(kib for kib, word in words.items() if word == "right")
-        between = range(below, at_least, PAGE)
+        between = range(least_loaded(trial, words), at_least, PAGE)
         list(pool.map(trial.try_limit, draw.sample(between, min(FINE, len(between)))))
 
 
