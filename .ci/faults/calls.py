@@ -3,8 +3,9 @@
 usage: python3 calls.py PROGRAM FOLDER
 
 An undisturbed run is recorded first: how many calls of each kind each thread makes of each file, and which of them the
-first thread makes to open the journal, before there is a second thread or a record is written. strace counts the calls of each thread by itself, so the
-k-th call may fail in two threads; what is recorded of the disturbed run says how many failed.
+first thread makes to open the journal, before there is a second thread or a record is written. strace counts the calls
+of each thread by itself, so the k-th call may fail in two threads; what is recorded of the disturbed run says how many
+failed.
 """
 import collections
 import concurrent.futures
@@ -61,8 +62,9 @@ def is_record(call):
 
 
 def record(desk, words):
-    """The calls of an undisturbed run: of each kind and file how many each thread makes, and how many to open the journal."""
-    desk.run(words, ["strace", "-f", "-y", "-qq", "-o", desk.path("record"), "-e", "trace=" + ",".join([*KINDS, "clone3", "clone"])])
+    """The calls of an undisturbed run: how many of each kind and file each thread makes, and how many open the journal."""
+    kinds = ",".join([*KINDS, "clone3", "clone"])
+    desk.run(words, ["strace", "-f", "-y", "-qq", "-o", desk.path("record"), "-e", f"trace={kinds}"])
     found, opening, first = collections.defaultdict(collections.Counter), collections.Counter(), ""
     with open(desk.path("record"), errors="replace") as lines:
         for line in lines:
@@ -130,8 +132,8 @@ class Trial:
 
     def judge(self, target, error, hits, ended):
         self.seen[error] += 1
-        # a call that is made again and again as long as it is interrupted would never end, so none is tried that way
-        if (error == "EINTR" and target.kind in MADE_AGAIN) or (target.file == "folder" and target.k <= HELD and target.kind == "openat"):
+        is_held = target.kind == "openat" and target.file == "folder" and target.k <= HELD
+        if is_held or (error == "EINTR" and target.kind in MADE_AGAIN):
             self.judge_undisturbed(ended)
         elif target.file == "out":
             self.judge_cut(ended)
@@ -145,7 +147,8 @@ class Trial:
             faults = judge_transcript(self.scene.script, ended, self.before, self.basis, self.known)
             demand(faults == 0, f"{faults} lines are answered fault")
         else:
-            demand((ended.status, ended.text) == (0, self.undisturbed.text), f"status {ended.status}, printed {ended.text[:200]!r}")
+            is_same = (ended.status, ended.text) == (0, self.undisturbed.text)
+            demand(is_same, f"status {ended.status}, printed {ended.text[:200]!r}")
 
     def judge_cut(self, ended):
         """The output failed: status 7, a front of the text, and what was posted is kept."""
@@ -166,6 +169,7 @@ class Trial:
 
 
 def errors_of(target):
+    # a call that is made again as long as it is interrupted would never end, so not all from the k-th on are interrupted
     return [error for error in ERRORS.get(target.kind, READ) if not (target.on and error in ("EINTR", "EDQUOT"))]
 
 
@@ -182,7 +186,8 @@ def main():
                 trials += 1
         seen += trial.seen
     errors = ", ".join(f"{seen[error]} with {error}" for error in WRITTEN)
-    print(f"faults: {trials} runs in which a call fails, {errors}: {seen['lines']} lines are answered fault, nothing accepted is lost")
+    print(f"faults: {trials} runs in which a call fails, {errors}: {seen['lines']} lines are answered fault, "
+          "nothing accepted is lost")
 
 
 if __name__ == "__main__":

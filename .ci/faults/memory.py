@@ -3,9 +3,10 @@
 usage: python3 memory.py PROGRAM FOLDER SEED
 
 The answer has to be the right text, or that memory was wanting: `nomemory` before the first posting, lines answered so, or
-no text where the lanes had ended; with status 9 each time, and with a file that holds what was accepted. In two cases the system ends the program, which then
-can say nothing, as docs/CLERK.md tells: below some limit it can't be loaded; and where memory ends just where the stack of
-the first thread has to grow, the system has no other answer than a signal. strace records where such a signal points.
+no text where the lanes had ended; with status 9 each time, and with a file that holds what was accepted. In two cases
+the system ends the program, which then can say nothing, as docs/CLERK.md tells: below some limit it can't be loaded; and
+where memory ends just where the stack of the first thread has to grow, the system has no other answer than a signal.
+strace records where such a signal points.
 """
 import collections
 import os
@@ -72,7 +73,8 @@ class Trial:
         try:
             word = self.judge(kib, ended, int(at[1], 16) if at else 0)
         except Exception as wrong:
-            raise Wrong(f"{self.mode.name} under {kib} KiB: status {ended.status}: {reason(wrong)}; the files are in {desk.folder}")
+            raise Wrong(f"{self.mode.name} under {kib} KiB: status {ended.status}: {reason(wrong)}; "
+                        f"the files are in {desk.folder}")
         self.seen[word] += 1
         return word
 
@@ -160,9 +162,9 @@ def main():
         trial = Trial(program, os.path.join(folder, mode.name), mode)
         try_mode(trial, random.Random(f"{seed} {mode.name}"))
         seen += trial.seen
-    print(f"faults: {sum(seen.values())} limits of memory: {seen['right']} right texts, {seen['nomemory']} ended with nomemory, "
-          f"{seen['in part']} with a part; {seen['not loaded']} were too small to load the program, and {seen['stack']} ended where "
-          "its stack had to grow")
+    print(f"faults: {sum(seen.values())} limits of memory: {seen['right']} right texts, {seen['nomemory']} ended with "
+          f"nomemory, {seen['in part']} with a part; {seen['not loaded']} were too small to load the program, and "
+          f"{seen['stack']} ended where its stack had to grow")
 
 
 if __name__ == "__main__":

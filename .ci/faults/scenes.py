@@ -1,4 +1,4 @@
-"""What is run while calls fail: the words, the script, whether there is a journal before, and the calls that it must make."""
+"""What is run while something fails: the words, the script, whether there is a journal, and the calls that must be made."""
 from dataclasses import dataclass
 
 from runs import JOURNAL  # noqa: F401: it also puts tools/ on the path
@@ -26,7 +26,7 @@ ONE_CLERK = b"""\
 """
 BASIS_FILES = ("basis.csv", "g.xml", "q.xml")
 READS_BASIS = [(kind, file) for kind in ("openat", "read") for file in BASIS_FILES]
-OPENS = [("openat", JOURNAL), ("flock", JOURNAL), ("openat", "folder"), ("fsync", "folder"), ("fsync", JOURNAL), ("statx", JOURNAL)]
+OPENS = [(kind, JOURNAL) for kind in ("openat", "flock", "fsync", "statx")] + [("openat", "folder"), ("fsync", "folder")]
 POSTS = [("pwrite64", JOURNAL), ("fsync", JOURNAL), ("read", "script.csv")]
 READS = [("pread64", JOURNAL)]
 
@@ -47,7 +47,8 @@ class Scene:
 def book_before():
     """Three policies of before; the first was valued in no run, and the last is claimed."""
     day = day_in("2020-01-01")
-    issues = [Command("issue", number, day, plan="endowment", age=0, years=3, amount=100000, premium=40000) for number in (7, 8, 9)]
+    issues = [Command("issue", number, day, plan="endowment", age=0, years=3, amount=100000, premium=40000)
+              for number in (7, 8, 9)]
     return Book([*issues, Command("premium", 7, day, amount=40000), Command("claim", 9, day_in("2020-01-20"))])
 
 
@@ -69,7 +70,7 @@ def many_policies(count):
 
 
 def eight_clerks(each, taken):
-    """A script of eight clerks with so many policies each, numbered behind those taken, a premium for each, and two valuations."""
+    """A script of eight clerks, each with so many new policies and a premium for each, and two valuations."""
     rows = []
     for n in range(each * 8):
         lane, number = 1 + n % 8, taken + 1 + n

@@ -85,8 +85,8 @@ class Openings:
 def read_a_line(desk, words):
     """Runs the program into a pipe of which one line is read, as `head -n 1` does; its status, and that line."""
     with open(desk.path("script.csv"), "rb") as script:
-        run = subprocess.Popen([desk.program, *words], cwd=desk.folder, stdin=script, stdout=subprocess.PIPE, stderr=subprocess.PIPE,
-                               preexec_fn=default_signals)
+        run = subprocess.Popen([desk.program, *words], cwd=desk.folder, stdin=script, stdout=subprocess.PIPE,
+                               stderr=subprocess.PIPE, preexec_fn=default_signals)
     line = run.stdout.readline()
     run.stdout.close()
     complaints = run.stderr.read()
