@@ -1,0 +1,86 @@
+"""Journals of 4,000,000 records, put together from blocks, since spelling them one after the other takes too long.
+
+usage: python3 big_journals.py policies|alterations|premiums|settlements COUNT FILE
+
+COUNT issues of the ids from 1 on; or one issue and what else COUNT records there are of its policy: alterations by one
+cent each; premiums, which the rules refuse after 131; or a claim, and settlements of one cent.
+"""
+import datetime
+import os
+import sys
+from array import array
+
+sys.path.insert(0, os.path.join(os.path.dirname(os.path.abspath(__file__)), "..", "..", "tools"))
+
+from commands import LAST_AGE, Command
+from formats import MOST_CENTS
+from journals import EMPTY, FIRST_GATE, RECORD_SIZE, file_of
+
+DAY = datetime.date(2020, 1, 1)
+BLOCK = 65_536
+# where a number's last byte stands in a record
+ID_END, AMOUNT_END = 1 + 7, 1 + 19
+
+
+def record_of(command):
+    return file_of([command])[FIRST_GATE:FIRST_GATE + RECORD_SIZE]
+
+
+def issue(number, plan="endowment", age=0, years=3, amount=100_000, premium=40_000):
+    return Command("issue", number, DAY, plan, age, years, amount, premium)
+
+
+def write_numbered(file, record, number_end, size, numbers):
+    """Records like this one, in which a number of so many bytes takes these values."""
+    for made in range(0, len(numbers), BLOCK):
+        some = numbers[made:made + BLOCK]
+        block = bytearray(record * len(some))
+        spelled = array("Q", some)
+        if sys.byteorder == "little":
+            spelled.byteswap()
+        columns = spelled.tobytes()
+        for place in range(size):
+            block[number_end - place::RECORD_SIZE] = columns[7 - place::8]
+        file.write(block)
+
+
+def write_repeated(file, record, count):
+    for made in range(0, count, BLOCK):
+        file.write(record * min(BLOCK, count - made))
+
+
+def write_policies(file, count):
+    write_numbered(file, record_of(issue(1)), ID_END, 4, range(1, count + 1))
+
+
+def write_alterations(file, count):
+    file.write(record_of(issue(1, amount=MOST_CENTS)))
+    alteration = record_of(Command("alter", 1, DAY, amount=1, premium=1))
+    write_numbered(file, alteration, AMOUNT_END, 8, range(MOST_CENTS - 1, MOST_CENTS - count, -1))
+
+
+def write_premiums(file, count):
+    file.write(record_of(issue(1, "whole", years=0)))
+    for year in range(LAST_AGE):
+        file.write(record_of(Command("premium", 1, DAY.replace(year=DAY.year + year), amount=40_000)))
+    write_repeated(file, record_of(Command("premium", 1, DAY.replace(year=DAY.year + LAST_AGE), amount=40_000)), count - 1 - LAST_AGE)
+
+
+def write_settlements(file, count):
+    file.write(record_of(issue(1, amount=MOST_CENTS)) + record_of(Command("claim", 1, DAY)))
+    write_repeated(file, record_of(Command("settle", 1, DAY, amount=1)), count - 2)
+
+
+WRITERS = {"policies": write_policies, "alterations": write_alterations, "premiums": write_premiums,
+           "settlements": write_settlements}
+
+
+def write(kind, count, path):
+    with open(path, "wb") as file:
+        file.write(EMPTY[:FIRST_GATE])
+        WRITERS[kind](file, count)
+        file.write(bytes(1))
+
+
+if __name__ == "__main__":
+    write(sys.argv[1], int(sys.argv[2]), sys.argv[3])

@@ -1,0 +1,102 @@
+"""Right files in which one byte is changed: set to 0, 1, 2, 127 or 255, or with one bit turned. Each is a case, and the
+program has to answer it as docs/FORMATS.md says.
+
+usage: python3 changed_bytes.py PROGRAM FOLDER SECONDS PART PARTS [SEED]
+
+The files are a journal of forty records of all kinds, its script, a basis file and a table. The cases are taken in an
+order drawn by the seed, one part of so many, until the time is over and there were two hundred; where SECONDS is `all`,
+until there are none left.
+"""
+import collections
+import os
+import random
+import sys
+import time
+
+from trial import Trial, demand, file_of, judge_basis, judge_journal, judge_posting, judge_script, judge_table, read_script, Book
+from formats import KINDS, Wrong
+
+VALUES = (0, 1, 2, 127, 255)
+HERE = os.path.dirname(os.path.abspath(__file__))
+# every further case of a journal is a run that posts
+POSTINGS = 4
+LEAST = 200
+TABLE = (b'\xef\xbb\xbf <?xml version="1.0"?>\n<!-- Q --><XTbML><Table><MetaData><ScalingFactor> 1.0 </ScalingFactor></MetaData>'
+         b"<Values><Axis id='a'>\n<Y t=\"0\">0.1</Y><Y t='01' >2E-1</Y><Y t=\"2\">.25<!-- -->"
+         b'</Y></Axis></Values></Table><Table/></XTbML>\n').replace(b"<!-- --></Y>", b"</Y><!-- -->")
+# policies in force that the tables fit, so that a valuation rests on their rates
+VALUED = b"""1,issue,1,2004-02-29,whole,0,0,1000.00,400.00
+1,issue,2,2004-03-01,endowment,0,2,1000.00,400.00
+1,issue,3,2012-03-01,endowment,20,3,1000.00,330.00
+1,issue,4,2016-02-29,limited,100,5,100000000.00,100000000.00
+1,issue,5,2019-06-01,term,0,3,2000.00,1.00
+"""
+BASIS = b'2000-01-01,q.xml,0\r\n\n"2010-01-01",m.xml,300\n2015-02-28,g.xml,2000'
+
+
+def script_of_forty():
+    with open(os.path.join(HERE, "forty.csv"), "rb") as file:
+        return file.read()
+
+
+def book_of_forty():
+    book = Book(line.command for line in read_script(script_of_forty()))
+    demand(len(book.commands) == 40 and {it.kind for it in book.commands} == set(KINDS.values()), "they aren't forty of all kinds")
+    return book
+
+
+def book_of_values():
+    return Book(line.command for line in read_script(VALUED))
+
+
+def files(book):
+    """Each file by its kind."""
+    return {"journal": file_of(book.commands), "script": script_of_forty() + b"2,trim\n3,value,2021-01-01,7,64\n", "basis": BASIS,
+            "table": TABLE}
+
+
+def changes(byte):
+    """What a byte is changed to."""
+    return sorted({*VALUES, *(byte ^ 1 << bit for bit in range(8))} - {byte})
+
+
+def cases(book):
+    """All cases, as kind, place and new byte."""
+    return [(kind, place, new) for kind, data in files(book).items() for place in range(len(data)) for new in changes(data[place])]
+
+
+def judge(trials, book, case):
+    """What the program makes of a case, in a word."""
+    kind, place, new = case
+    data = bytearray(files(book)[kind])
+    data[place] = new
+    if kind == "journal":
+        judged = judge_posting if (place + new) % POSTINGS == 0 else judge_journal
+        return judged(trials[kind], bytes(data))
+    if kind == "script":
+        return judge_script(trials[kind], bytes(data))
+    return (judge_basis if kind == "basis" else judge_table)(trials[kind], bytes(data), book_of_values())
+
+
+def main():
+    program, folder, seconds, part, parts = sys.argv[1:6]
+    book = book_of_forty()
+    every = cases(book)
+    random.Random((sys.argv[6:] or ["1"])[0]).shuffle(every)
+    mine = every[int(part)::int(parts)]
+    trials = {kind: Trial(program, os.path.join(folder, f"{kind}-{part}")) for kind in files(book)}
+    end = time.monotonic() + (float("inf") if seconds == "all" else float(seconds))
+    seen = collections.Counter()
+    for case in mine:
+        if time.monotonic() > end and sum(seen.values()) >= LEAST:
+            break
+        try:
+            seen[f"{case[0]} {judge(trials, book, case)}"] += 1
+        except Wrong as wrong:
+            sys.exit(f"hostile: byte {case[1]} of the {case[0]} set to {case[2]} (files in {trials[case[0]].folder}): {wrong}")
+    tried = sum(seen.values())
+    print(f"hostile: {tried} of {len(mine)} changed bytes: " + ", ".join(f"{what} {seen[what]}" for what in sorted(seen)))
+
+
+if __name__ == "__main__":
+    main()

@@ -1,0 +1,140 @@
+"""Drawn scripts, words, journals, basis files and tables, most of them spoilt: the program has to answer each as
+docs/FORMATS.md says, without a signal, a word on standard error, or a hang.
+
+usage: python3 fuzz.py PROGRAM FOLDER SECONDS SEED [CASE]
+
+The cases of a seed are numbered from 0 on, and taken until the time is over and there were two hundred; with CASE just this
+one is tried.
+"""
+import collections
+import itertools
+import os
+import random
+import sys
+import time
+
+from changed_bytes import BASIS, TABLE, book_of_forty, book_of_values, script_of_forty
+from formats import Wrong
+from rules import Book
+from scripts import MIDDLE, make_script
+from trial import Trial, file_of, judge_basis, judge_journal, judge_posting, judge_script, judge_table, judge_words
+
+LEAST = 200
+KINDS = ("script", "words", "journal", "basis", "table")
+TOKENS = {
+    "script": [b",", b",,", b'"', b'""', b"\n", b"\r", b"\r\n", b"\xef\xbb\xbf", b"\0", b" ", b"1,trim\n", b"8,value,2021-01-01,now,1\n",
+               b"1,value,2020-02-30,0,64\n", b"2100-02-29", b"2000-02-29", b"1899-12-31", b"2199-12-31", b"2200-01-01", b"4294967296",
+               b"4294967295", b"100000000.00", b"100000000.01", b"400000000.01", b"0.00", b"00.01", b"whole", b"129", b"130", b"131",
+               b"18446744073709551616.00", b"9" * 400, b"\xff", b"-1", b"+1", b"1e1"],
+    "basis": [b",", b'"', b"\n", b"\r", b"q.xml", b"m.xml", b"Q.XML", b"../q.xml", b"/etc/passwd", b"a" * 64, b"a" * 65, b"2001", b"2000",
+              b"02", b"\xef\xbb\xbf", b"1900-01-01", b"2199-12-31", b"2199-12-30,q.xml,1\n", b"\0", b"basis.csv", b".", b"journal.life"],
+    "table": [b"<", b">", b"/>", b"</", b"<!--", b"-->", b"<!-->", b"--", b'"', b"'", b"&", b"&amp;", b"&#0;", b"<?xml version='1.0'?>", b"<?xml ?>",
+              b"<!DOCTYPE x [<!ENTITY a 'b'>]>", b"<![CDATA[x]]>", b"<Axis>", b"</Axis>", b"<Y t='3'>1</Y>", b"<Y t='131'>0</Y>", b"<Y/>",
+              b"<Table>", b"</Table>", b"\xef\xbb\xbf", b"1E-999", b"1e999", b"0." + b"0" * 500 + b"1", b"9" * 300, b"<x>" * 30, b"</x>" * 30,
+              b" ", b"\t", b"\0", b"\xff", b"t='0'", b"=", b":", b"?>", b"<ScalingFactor>2</ScalingFactor>"],
+    "journal": [bytes(65), b"\1" * 65, b"\1", b"\0", b"\xff" * 8, b"LIFEJRNL", b"\2"],
+}
+WORDS = [b"run", b"value", b"state", b"generate", b"load", b"help", b"--help", b"-h", b"--", b"-", b"", b"--at", b"--workers", b"--basis",
+         b"--at=5", b"--at=40", b"--at=41", b"--at=", b"--at=05", b"--workers=64", b"--workers=65", b"--workers=0", b"--basis=basis.csv",
+         b"--basis=none.csv", b"--basis=../basis.csv", b"--basis=", b"0", b"1", b"2", b"7", b"8", b"9", b"40", b"41", b"64", b"65", b"07",
+         b"4294967295", b"4294967296", b"2147483647", b"2147483648", b"2021-01-01", b"1900-01-01", b"2199-12-31", b"2200-01-01",
+         b"2021-02-29", b"2021-1-1", b"\xff\xfe", b"\xc3\xa9", b"18446744073709551617", b"9" * 500, b"1 ", b" 1", b"+1", b"1.0", b"\n",
+         b"basis.csv", b"none.csv", b"100", b"101", b"x" * 100_000]
+# words that fit, so that not all are refused
+RIGHT = [[b"run"], [b"run", b"--basis", b"none.csv"], [b"state"], [b"state", b"1"], [b"state", b"9"], [b"value", b"2021-01-01"],
+         [b"value", b"2021-01-01", b"--at", b"12"], [b"value", b"--workers=64", b"2199-12-31", b"--at=41"], [b"generate", b"3", b"7", b"2"],
+         [b"generate", b"2147483647", b"1000", b"8"], [b"load", b"1", b"5", b"2", b"3"], [b"load", b"0", b"101", b"8", b"64"]]
+SCRIPT = b"1,issue,77,2020-01-01,endowment,0,3,1000.00,400.00\n8,lapse,77,2020-01-01\n"
+
+
+def spoilt(draw, data, tokens, most):
+    """The data with up to so many changes."""
+    data = bytearray(data)
+    for _ in range(draw.randrange(most + 1)):
+        place, what = draw.randrange(len(data) + 1), draw.randrange(8)
+        length = draw.choice([1, 1, 2, 7, 64, 65])
+        if what == 0:
+            del data[place:place + length]
+        elif what == 1:
+            data[place:place] = data[draw.randrange(len(data) + 1):][:length]
+        elif what == 2 and place < len(data):
+            data[place] = draw.randrange(256)
+        elif what == 3 and place < len(data):
+            data[place] ^= 1 << draw.randrange(8)
+        elif what == 4 and draw.random() < 0.3:
+            del data[place:]
+        elif what == 5:
+            token = draw.choice(tokens)
+            data[place:place + len(token)] = token
+        else:
+            data[place:place] = draw.choice(tokens)
+    return bytes(data)
+
+
+def drawn_script(draw):
+    rows = make_script(draw, Book()).encode() if draw.random() < 0.2 else script_of_forty() + b"2,trim\n3,value,2021-01-01,7,64\n"
+    rows = rows.splitlines(keepends=True)
+    return spoilt(draw, b"".join(rows[:draw.randrange(len(rows) + 1)]), TOKENS["script"], 3)
+
+
+def drawn_journal(draw, book):
+    """A journal of which records may be left out, put in again or changed, and bytes spoilt."""
+    commands = list(book.commands[:draw.randrange(41)])
+    for _ in range(draw.randrange(3)):
+        if commands:
+            place = draw.randrange(len(commands))
+            commands[place:place + 1] = draw.choice([[], [commands[place]] * 2, [draw.choice(commands)], [draw.choice(book.commands)]])
+    data = file_of(commands) + draw.choice([b"", b"", bytes(300), bytes(draw.randrange(256) for _ in range(100))])
+    return spoilt(draw, data, TOKENS["journal"], draw.choice([0, 1, 2, 3]))
+
+
+def drawn_words(draw):
+    if draw.random() < 0.2:
+        return [draw.choice(WORDS) for _ in range(draw.randrange(6))]
+    words = list(draw.choice(RIGHT))
+    for _ in range(draw.randrange(3)):
+        place = draw.randrange(len(words) + 1)
+        words[place:place + draw.randrange(2)] = draw.choice([[], [draw.choice(WORDS)], [draw.choice(WORDS)], [draw.choice(WORDS)] * 2])
+    return words
+
+
+def tables(root):
+    with open(os.path.join(root, "g.xml"), "rb") as file:
+        return [TABLE, TABLE, MIDDLE.encode(), file.read()]
+
+
+def judge(trials, book, draw, kind):
+    """What the program makes of a drawn case, in a word."""
+    trial = trials[kind]
+    if kind == "script":
+        return judge_script(trial, drawn_script(draw))
+    if kind == "words":
+        return judge_words(trial, drawn_words(draw), SCRIPT, book)
+    if kind == "journal":
+        return draw.choice([judge_journal, judge_posting])(trial, drawn_journal(draw, book))
+    if kind == "basis":
+        return judge_basis(trial, spoilt(draw, BASIS, TOKENS["basis"], 3), book_of_values())
+    return judge_table(trial, spoilt(draw, draw.choice(tables(trial.folder)), TOKENS["table"], 4), book_of_values())
+
+
+def main():
+    program, folder, seconds, seed = sys.argv[1:5]
+    book = book_of_forty()
+    trials = {kind: Trial(program, os.path.join(folder, f"fuzz-{kind}-{seed}")) for kind in KINDS}
+    end = time.monotonic() + float(seconds)
+    seen = collections.Counter()
+    only = [int(it) for it in sys.argv[5:]]
+    for case in only or itertools.count():
+        if time.monotonic() > end and sum(seen.values()) >= LEAST:
+            break
+        kind = KINDS[case % len(KINDS)]
+        try:
+            seen[f"{kind} {judge(trials, book, random.Random(f'{seed} {case}'), kind)}"] += 1
+        except Wrong as wrong:
+            sys.exit(f"hostile: case {case} of seed {seed} (files in {trials[kind].folder}): {wrong}")
+    tried = sum(seen.values())
+    print(f"hostile: {tried} drawn cases of seed {seed}: " + ", ".join(f"{what} {seen[what]}" for what in sorted(seen)))
+
+
+if __name__ == "__main__":
+    main()

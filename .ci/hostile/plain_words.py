@@ -1,0 +1,121 @@
+"""A plain reading of the words of a command line (docs/FORMATS.md, "The words"), and the shape of the answer to each."""
+import re
+from dataclasses import dataclass
+from typing import Callable
+
+from formats import MOST_COMMANDS, MOST_LANES, MOST_NUMBER, MOST_WORKERS, day_of, number_of, printed_rows
+from script_lines import Fault, read_script
+from tables import NAME
+
+OPTIONS = {"run": ("--basis",), "value": ("--at", "--workers", "--basis"), "state": (), "generate": (), "load": ()}
+PLACES = {"run": [], "value": ["day"], "state": ["id"], "generate": ["seed", "count", "lanes"],
+          "load": ["seed", "count", "lanes", "workers"]}
+LIMITS = {"id": (1, MOST_NUMBER), "seed": (0, 2**31 - 1), "count": (1, 100_000), "lanes": (1, MOST_LANES),
+          "workers": (1, MOST_WORKERS), "--at": (0, MOST_COMMANDS), "--workers": (1, MOST_WORKERS)}
+AMOUNT = r"(0|[1-9][0-9]*)\.[0-9]{2}"
+
+
+@dataclass
+class Meaning:
+    """What is asked, `usage` where nothing is; whether an answer, status and text, is of its shape; the policy's number."""
+
+    mode: str
+    fits: Callable[[tuple], bool]
+    number: int = 0
+
+
+def usage():
+    return Meaning("usage", lambda found: found == (2, "usage\n"))
+
+
+def value_of(name, text):
+    """What a word says at its place or for its option, or none."""
+    if name == "day":
+        return day_of(text)
+    if name == "--basis":
+        return text if NAME.fullmatch(text) else None
+    return number_of(text, *LIMITS[name])
+
+
+def split(words, mode):
+    """The words that are no options, and the options with their words; or none where they don't fit."""
+    plain, options, left = [], {}, list(words)
+    while left:
+        word = left.pop(0)
+        if not word.startswith("-"):
+            plain.append(word)
+            continue
+        name, equals, value = word.partition("=")
+        if name not in OPTIONS[mode] or name in options or not (equals or left):
+            return None
+        options[name] = value if equals else left.pop(0)
+    return plain, options
+
+
+def meaning_of(words, count):
+    """What the words ask where so many commands are accepted."""
+    try:
+        words = [word.decode("utf-8") for word in words]
+    except UnicodeDecodeError:
+        return usage()
+    mode = words[0] if words else ""
+    found = split(words[1:], mode) if mode in PLACES else None
+    if found is None:
+        return usage()
+    plain, options = found
+    places = PLACES[mode]
+    if len(plain) != len(places) and not (mode == "state" and not plain):
+        return usage()
+    values = [value_of(place, word) for place, word in zip(places, plain)]
+    asked = {name: value_of(name, word) for name, word in options.items()}
+    if None in values or None in asked.values():
+        return usage()
+    return SHAPES[mode](values, asked, count)
+
+
+def is_run(_, __, ___):
+    return Meaning("run", lambda found: found[0] == 0)
+
+
+def is_state(values, _, count):
+    def fits(found):
+        rows = printed_rows(found[1])
+        if not values:
+            return found[0] == 0 and rows[-1] == ["count", str(count)]
+        entries = [row for row in rows if row[0] == "entry"]
+        return found == (0, f"unknown,{values[0]}\n") or (found[0] == 0 and entries == rows[:-1] and rows[-1][:2] == ["policy", str(values[0])])
+    return Meaning("state", fits, values[0] if values else 0)
+
+
+def is_value(values, asked, count):
+    position, name = asked.get("--at", count), asked.get("--basis", "basis.csv")
+
+    def fits(found):
+        if name != "basis.csv":
+            return found[0] == 4 and found[1] == f"badbasis,{name},0,absent\n" or name in ("q.xml", "g.xml", "m.xml")
+        if position > count:
+            return found == (10, f"refused,ahead,{count}\n")
+        rows = printed_rows(found[1])
+        return found[0] == 0 and rows[0][:4] == ["0", "value", str(values[0]), str(position)] and rows[-1][0] == "total"
+    return Meaning("value", fits)
+
+
+def is_generate(values, _, __):
+    _, count, lanes = values
+
+    def fits(found):
+        lines = read_script("\n".join(found[1].split("\n", 400)[:400]).encode())
+        if found[0] != 0 or found[1].count("\n") != 2 * count or isinstance(lines, Fault):
+            return False
+        return all(line.lane == 1 + at // 2 % lanes and line.command.number == at // 2 + 1 for at, line in enumerate(lines))
+    return Meaning("generate", fits)
+
+
+def is_load(values, _, __):
+    def fits(found):
+        line = re.fullmatch(rf"load,([0-9]+),([0-9]+),[0-9]+,{AMOUNT},{AMOUNT},[0-9]+\n", found[1])
+        return found[0] == 0 and line is not None and int(line[1]) + int(line[2]) == 2 * values[1]
+    return Meaning("load", fits)
+
+
+SHAPES = {"run": is_run, "state": is_state, "value": is_value, "generate": is_generate, "load": is_load}

@@ -1,0 +1,210 @@
+"""The program on one case after the other, in a folder of its own, and what it must answer by docs/FORMATS.md.
+
+The judges use the readers in tools/, and for tables and words the plain readings beside this file. Each raises `Wrong`
+where the program does anything else: another line, another status, a signal, a word on standard error, a file that was
+changed, or no answer within a time that no such case needs.
+"""
+import os
+import subprocess
+import sys
+
+ROOT = os.path.abspath(os.path.join(os.path.dirname(os.path.abspath(__file__)), "..", ".."))
+sys.path[:0] = [os.path.join(ROOT, "tools"), os.path.join(ROOT, ".ci", "stress")]
+
+from check_transcript import asks_for_values, check
+from check_values import check_block
+from formats import MOST_BASIS_BYTES, Wrong, day_in, demand, money, printed_rows
+from journals import EMPTY, Journal, file_of, gate_of, read_journal
+from plain_tables import read_plain_table
+from plain_words import meaning_of
+from rules import Book, balances_of
+from script_lines import Fault, read_script
+from scripts import folder_for
+from tables import NotXml, BasisRow, Table, read_basis, read_table
+
+SECONDS = 30
+ON = "2021-01-01"
+FRESH = 4294967295
+
+
+class Trial:
+    """A program, and a folder with the basis of the random scripts in which it runs."""
+
+    def __init__(self, program, folder):
+        self.program, self.folder = os.path.abspath(program), folder
+        folder_for(folder, ROOT)
+        self.known = {}  # Exact values that were worked out, by what they rest on.
+
+    def path(self, name):
+        return os.path.join(self.folder, name)
+
+    def write(self, name, data):
+        with open(self.path(name), "wb") as file:
+            file.write(data)
+
+    def read(self, name):
+        """What a file has, and nothing where there is none."""
+        if not os.path.exists(self.path(name)):
+            return b""
+        with open(self.path(name), "rb") as file:
+            return file.read()
+
+    def remove(self, name):
+        if os.path.exists(self.path(name)):
+            os.remove(self.path(name))
+
+    def run(self, *words, script=b"", seconds=SECONDS):
+        """The status, and what was printed."""
+        try:
+            ran = subprocess.run([self.program, *words], cwd=self.folder, input=script, capture_output=True, timeout=seconds)
+        except subprocess.TimeoutExpired:
+            raise Wrong(f"{words}: no answer within {seconds} s") from None
+        except BrokenPipeError:
+            raise Wrong(f"{words}: the program ended before it had read its script") from None
+        demand(ran.returncode >= 0, f"{words}: ended by signal {-ran.returncode}")
+        demand(not ran.stderr, f"{words}: on standard error stands {ran.stderr[:300]!r}")
+        return ran.returncode, ran.stdout.decode("utf-8", "surrogateescape")
+
+    def basis(self):
+        return read_basis(self.path("basis.csv"))
+
+
+def demand_answer(found, status, text, words):
+    demand(found == (status, text), f"{words}: the answer is {found[0]}, {found[1][-300:]!r}, and must be {status}, {text[-300:]!r}")
+
+
+# --- journals ---
+
+def state_of(book):
+    """What `state` prints of a book."""
+    lines = []
+    for it in book.policies.values():
+        lines.append(f"policy,{it.number},{it.status},{it.plan},{it.age},{it.years},{money(it.amount)},{money(it.premium)},"
+                     f"{it.issued},{it.paid},{money(it.outstanding)}")
+    lines += [f"balance,{account},{money(cents)}" for account, cents in balances_of(book.commands).items()]
+    return "\n".join([*lines, f"count,{len(book.commands)}"]) + "\n"
+
+
+def judge_journal(trial, data):
+    """Any bytes as journal.life: the book that they hold or the cause of their refusal, and what stands there afterwards."""
+    trial.write("journal.life", data)
+    journal = read_journal(data)
+    found = trial.run("state")
+    if journal.refused:
+        demand_answer(found, 5, journal.refused + "\n", "state")
+    else:
+        demand_answer(found, 0, state_of(journal.book), "state")
+    demand(trial.read("journal.life") == (EMPTY if journal.is_unfinished else data), "state changed the file")
+    return journal.refused.rsplit(",", 1)[0] or "opened"
+
+
+def judge_posting(trial, data):
+    """Any bytes as journal.life, and a script of one issue."""
+    trial.write("journal.life", data)
+    journal = read_journal(data)
+    script = f"1,issue,{FRESH},2020-01-01,endowment,0,3,1000.00,400.00\n".encode()
+    found = trial.run("run", script=script)
+    after = trial.read("journal.life")
+    if journal.refused:
+        demand_answer(found, 5, journal.refused + "\n", "run")
+        demand(after == data, "a file that is refused was changed")
+        return journal.refused.rsplit(",", 1)[0]
+    demand(found[0] == 0, f"run: the answer is {found}")
+    before = EMPTY if journal.is_unfinished else data
+    check(script, found[1], before, after, [])
+    count = len(journal.commands)
+    command = read_script(script)[0].command
+    if command.number not in journal.book.policies:
+        record = file_of([command])[17:]
+        wanted = before[:gate_of(count)] + record + before[gate_of(count) + len(record):]
+        demand(after == wanted, "beside the new record the file was changed")
+    return "posted"
+
+
+# --- scripts ---
+
+def judge_script(trial, data):
+    """Any bytes as a script, on no journal: the place of the first fault, or a history of its lines."""
+    trial.remove("journal.life")
+    status, text = trial.run("run", script=data)
+    lines = read_script(data)
+    if isinstance(lines, Fault):
+        demand_answer((status, text), 3, lines.answer + "\n", "run")
+        demand(not os.path.exists(trial.path("journal.life")), "a journal was made for a script that is wrong")
+        return "badscript"
+    demand(status == 0, f"run: the answer is {status}, {text[-300:]!r}, and the script is right")
+    check(data, text, b"", trial.read("journal.life"), trial.basis() if asks_for_values(data) else [], trial.known)
+    return "taken"
+
+
+# --- bases and tables ---
+
+def judge_values(trial, basis, book, wanted):
+    """The valuation of the book by a basis, or the line of the bad file where there is none."""
+    status, text = trial.run("value", ON)
+    if wanted:
+        demand_answer((status, text), 4, wanted + "\n", "value")
+        return
+    rows = printed_rows(text)
+    demand(status == 0 and rows[0][:4] == ["0", "value", ON, str(len(book.commands))], f"value: the answer is {status}, {text[:300]!r}")
+    check_block(rows, list(book.policies.values()), basis, {})
+
+
+def judge_basis(trial, data, book):
+    """Any bytes as basis.csv, beside right tables and the journal of the book."""
+    trial.write("basis.csv", data)
+    trial.write("journal.life", file_of(book.commands))
+    basis, wanted = [], ""
+    try:
+        basis = trial.basis()
+    except Wrong as wrong:
+        wanted = str(wrong)
+    judge_values(trial, basis, book, wanted)
+    return wanted.rsplit(",", 1)[-1] or "taken"
+
+
+def judge_table(trial, data, book):
+    """Any bytes as the table t.xml of a basis of one row, beside the journal of the book. Where an XML parser takes the
+    file, what tools/tables.py makes of it has to be the same."""
+    trial.write("basis.csv", b"1900-01-01,t.xml,250\n")
+    trial.write("t.xml", data)
+    trial.write("journal.life", file_of(book.commands))
+    table = Table(0, ())
+    wanted = "badbasis,t.xml,1,toolong" if len(data) > MOST_BASIS_BYTES else ""
+    try:
+        table = table if wanted else read_plain_table(data, "t.xml")
+    except Wrong as wrong:
+        wanted = str(wrong)
+    demand_parsers_agree(data, table, wanted)
+    judge_values(trial, [BasisRow(day_in("1900-01-01"), "t.xml", table, 250)], book, wanted)
+    return wanted.rsplit(",", 1)[-1] or "taken"
+
+
+def demand_parsers_agree(data, table, wanted):
+    try:
+        found = read_table(data, "t.xml"), ""
+    except NotXml:
+        return
+    except Wrong as wrong:
+        found = table, str(wrong)
+    demand(found == (table, wanted) or wanted.endswith(",toolong"), f"the two readers of tables differ: {found} and {table, wanted}")
+
+
+# --- words ---
+
+def judge_words(trial, words, script, book):
+    """Any words, each as bytes, beside the journal of the book; the script is right, and has no valuation."""
+    trial.write("journal.life", file_of(book.commands))
+    found = trial.run(*words, script=script)
+    meaning = meaning_of(words, len(book.commands))
+    after = trial.read("journal.life")
+    if meaning.mode in ("run", "load"):
+        demand(meaning.fits(found), f"{words}: the answer is {found[0]}, {found[1][-300:]!r}")
+        if meaning.mode == "run":
+            check(script, found[1], file_of(book.commands), after, [])
+        return meaning.mode
+    if meaning.mode == "state" and not meaning.number:
+        demand_answer(found, 0, state_of(book), words)
+    demand(meaning.fits(found), f"{words}: the answer is {found[0]}, {found[1][-300:]!r}, and the words are {meaning.mode}")
+    demand(after == file_of(book.commands), f"{words}: journal.life was changed")
+    return meaning.mode
