@@ -1,0 +1,197 @@
+"""The program where one call of the system fails: strace makes the k-th call of each kind fail, for every k of a run.
+
+usage: python3 calls.py PROGRAM FOLDER
+
+An undisturbed run is recorded first: how many calls of each kind each thread makes of each file, and which of them the
+first thread makes to open the journal, before there is a second thread or a record is written. strace counts the calls
+of each thread by itself, so the k-th call may fail in two threads; what is recorded of the disturbed run says how many
+failed.
+"""
+import collections
+import concurrent.futures
+import os
+import re
+import sys
+from dataclasses import dataclass
+
+from judge import Wrong, demand, demand_file, commands_in, judge_early_end, judge_transcript, judge_unanswered, reason
+from journals import file_of
+from runs import JOURNAL, Desk
+from scenes import SCENES, book_before
+from tables import read_basis
+
+AT_ONCE = 2
+KINDS = ["openat", "flock", "statx", "newfstatat", "pread64", "read", "pwrite64", "write", "fsync", "fdatasync"]
+READ, WRITTEN = ["EIO", "EINTR"], ["EIO", "ENOSPC", "EDQUOT", "EINTR"]
+ERRORS = {"openat": WRITTEN, "pwrite64": WRITTEN, "write": WRITTEN, "fsync": WRITTEN, "fdatasync": WRITTEN}
+# Calls that are made again where a signal interrupted them. The program has no handler of a signal, so none of its calls
+# is ever interrupted but by such a trial; a read or a write of a stream, and the length of a file, fail there.
+MADE_AGAIN = ["openat", "flock", "pread64", "pwrite64", "fsync", "fdatasync"]
+# the program holds the folder three times, so that no file takes the place of a closed stream; it does without
+HELD = 3
+
+
+@dataclass(frozen=True)
+class Target:
+    """The k-th call of a kind on a file, in each thread, or all from there on."""
+
+    kind: str
+    file: str
+    k: int
+    on: bool = False
+
+    def __str__(self):
+        return f"{self.kind} of {self.file}, call {self.k}{' and all behind' if self.on else ''}"
+
+
+def names_in(desk):
+    """The files that are watched, each by the names under which strace may see it."""
+    names = {name: [name, desk.path(name)] for name in ("basis.csv", "q.xml", "g.xml", JOURNAL, "script.csv", "out")}
+    return {**names, "folder": [".", desk.folder]}
+
+
+def file_of_call(desk, args):
+    """The watched file that a call is on, by the name or the path in its arguments."""
+    path = re.match(r'AT_FDCWD<[^>]*>, "([^"]*)"', args) or re.match(r"\d+<([^>]*)>", args)
+    return next((file for file, names in names_in(desk).items() if path and path[1] in names), None)
+
+
+def is_record(call):
+    """Whether the call writes a body and the gate behind it."""
+    return call[2] == "pwrite64" and re.search(r", 65, \d+", call[3])
+
+
+def record(desk, words):
+    """The calls of an undisturbed run: how many of each kind and file each thread makes, and how many open the journal."""
+    kinds = ",".join([*KINDS, "clone3", "clone"])
+    desk.run(words, ["strace", "-f", "-y", "-qq", "-o", desk.path("record"), "-e", f"trace={kinds}"])
+    found, opening, first = collections.defaultdict(collections.Counter), collections.Counter(), ""
+    with open(desk.path("record"), errors="replace") as lines:
+        for line in lines:
+            call = re.match(r"(\d+) +(\w+)\((.*)", line)
+            if not call:
+                continue
+            first = first or call[1]
+            if not opening and (call[2].startswith("clone") or is_record(call)):
+                opening.update({key: counts[first] for key, counts in found.items()})
+            file = file_of_call(desk, call[3])
+            if file:
+                found[call[2], file][call[1]] += 1
+    return found, opening
+
+
+def targets_of(found):
+    """Every k of each kind and file; of what is written and synced also all from the k-th on."""
+    for (kind, file), counts in found.items():
+        for k in range(1, max(counts.values()) + 1):
+            yield Target(kind, file, k)
+            if kind in ("pwrite64", "fsync"):
+                yield Target(kind, file, k, True)
+
+
+class Trial:
+    """A scene in which every call fails once: what was recorded of it, and what is counted."""
+
+    def __init__(self, program, folder, scene):
+        self.program, self.folder, self.scene = program, folder, scene
+        self.before = file_of(book_before().commands) if scene.has_journal else b""
+        desk = self.desk("recorded")
+        self.basis, self.known = read_basis(desk.path("basis.csv")), {}
+        self.undisturbed = desk.run(scene.words)
+        self.lay(desk)
+        self.found, self.opening = record(desk, scene.words)
+        self.seen = collections.Counter()
+
+    def desk(self, name):
+        desk = Desk(self.program, os.path.join(self.folder, name))
+        self.lay(desk)
+        return desk
+
+    def lay(self, desk):
+        desk.lay(self.before, self.scene.script)
+
+    def is_posting(self, target):
+        """Whether the call may be a posting's: one behind those that open the journal."""
+        return self.scene.posts and target.file == JOURNAL and target.k > self.opening[target.kind, JOURNAL]
+
+    def try_one(self, number, target, error):
+        desk = self.desk(f"{number}")
+        when = f"{target.k}+" if target.on else f"{target.k}"
+        paths = [word for name in names_in(desk)[target.file] for word in ("-P", name)]
+        inject = ["-e", f"trace={target.kind}", "-e", f"inject={target.kind}:error={error}:when={when}"]
+        ended = desk.run(self.scene.words, ["strace", "-f", "-qq", "-o", desk.path("log"), *paths, *inject])
+        with open(desk.path("log"), errors="replace") as log:
+            hits = log.read().count("(INJECTED)")
+        try:
+            demand(hits > 0, "no call was made to fail")
+            demand(not ended.complaints, f"on standard error: {ended.complaints[:300]}")
+            self.judge(target, error, hits, ended)
+            desk.judge_reopening()
+        except Exception as wrong:
+            raise Wrong(f"{self.scene.name}: {target} fails with {error}: {reason(wrong)}; the files are in {desk.folder}")
+
+    def judge(self, target, error, hits, ended):
+        self.seen[error] += 1
+        is_held = target.kind == "openat" and target.file == "folder" and target.k <= HELD
+        if is_held or (error == "EINTR" and target.kind in MADE_AGAIN):
+            self.judge_undisturbed(ended)
+        elif target.file == "out":
+            self.judge_cut(ended)
+        elif target.file in (JOURNAL, "folder"):
+            self.judge_disk(target, hits, ended)
+        else:
+            judge_early_end(ended, 6, self.before)
+
+    def judge_undisturbed(self, ended):
+        if self.scene.posts:
+            faults = judge_transcript(self.scene.script, ended, self.before, self.basis, self.known)
+            demand(faults == 0, f"{faults} lines are answered fault")
+        else:
+            is_same = (ended.status, ended.text) == (0, self.undisturbed.text)
+            demand(is_same, f"status {ended.status}, printed {ended.text[:200]!r}")
+
+    def judge_cut(self, ended):
+        """The output failed: status 7, a front of the text, and what was posted is kept."""
+        demand(ended.status == 7, f"status {ended.status}, wanted 7")
+        demand(ended.text == "", f"printed {ended.text[:200]!r}, though the one write failed")
+        if self.scene.posts:
+            judge_unanswered(self.scene.script, self.before, ended.after, True)
+        else:
+            demand_file(ended.after, commands_in(self.before, "the file before"))
+
+    def judge_disk(self, target, hits, ended):
+        if not self.is_posting(target):
+            judge_early_end(ended, 8, self.before)
+            return
+        faults = judge_transcript(self.scene.script, ended, self.before, self.basis, self.known)
+        demand(faults == hits, f"{faults} lines are answered fault, and {hits} calls failed")
+        self.seen["lines"] += faults
+
+
+def errors_of(target):
+    # a call that is made again as long as it is interrupted would never end, so not all from the k-th on are interrupted
+    return [error for error in ERRORS.get(target.kind, READ) if not (target.on and error in ("EINTR", "EDQUOT"))]
+
+
+def main():
+    program, folder = sys.argv[1:3]
+    seen, trials = collections.Counter(), 0
+    for scene in SCENES:
+        trial = Trial(program, os.path.join(folder, scene.name.replace(" ", "-")), scene)
+        missing = [it for it in scene.makes if it not in trial.found]
+        demand(not missing, f"{scene.name}: the undisturbed run makes no {missing}")
+        tried = [(target, error) for target in targets_of(trial.found) for error in errors_of(target)]
+        with concurrent.futures.ThreadPoolExecutor(AT_ONCE) as pool:
+            for _ in pool.map(lambda it: trial.try_one(it[0], *it[1]), enumerate(tried)):
+                trials += 1
+        seen += trial.seen
+    errors = ", ".join(f"{seen[error]} with {error}" for error in WRITTEN)
+    print(f"faults: {trials} runs in which a call fails, {errors}: {seen['lines']} lines are answered fault, "
+          "nothing accepted is lost")
+
+
+if __name__ == "__main__":
+    try:
+        main()
+    except Wrong as wrong:
+        sys.exit(f"faults: {wrong}")

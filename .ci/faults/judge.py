@@ -1,0 +1,129 @@
+"""Judges a run that met a fault, a limit or a signal, by docs/FORMATS.md: its status, what it printed, the file it left.
+
+Nothing that was accepted may be lost, just the lines whose calls failed may be answered `fault`, and the status has to be
+the one that is due. Beyond what was accepted the file may hold one command more, of a line that was answered `fault` and
+behind which nothing was accepted.
+"""
+import os
+import sys
+
+sys.path.insert(0, os.path.join(os.path.dirname(os.path.abspath(__file__)), "..", "..", "tools"))
+from check_transcript import Run, answers_in
+from commands import words_of
+from formats import Wrong, demand
+from journals import read_journal
+from rules import Book, Refusal
+from script_lines import lanes_of, read_script
+
+# the last line of a run that ends before its lanes begin
+LAST_LINES = {6: "readfault\n", 8: "diskfault\n", 9: "nomemory\n"}
+
+
+def commands_in(data, what):
+    """The commands of a file, which has to be a journal or an unfinished creation of one."""
+    journal = read_journal(data)
+    demand(not journal.refused, f"{what}: {journal.refused}: {journal.why}")
+    return journal.commands
+
+
+class FaultyRun(Run):
+    """A run in which postings may be answered `fault` or `nomemory`, and valuations `nomemory`."""
+
+    def __init__(self, lines, book, basis, known):
+        super().__init__(lines, book, basis, known)
+        self.faults = self.unserved = 0
+        # the commands that the file may hold beyond the accepted ones
+        self.in_doubt = []
+
+    def post(self, head, line, command):
+        if head == [*line.words[:3], "nomemory"]:
+            self.unserved += 1
+        elif head == [*line.words[:3], "fault"]:
+            demand(not isinstance(self.book.decide(command), Refusal), f"{head}: the rules refuse it, which needs no disk")
+            self.faults += 1
+            self.in_doubt.append(command)
+        else:
+            before = self.accepted
+            super().post(head, line, command)
+            if self.accepted > before:
+                self.in_doubt = []
+
+    def value(self, answer, line):
+        if answer[0] == [*line.words[:3], "nomemory"]:
+            self.unserved += 1
+        else:
+            super().value(answer, line)
+
+
+def follow(script, text, before, basis, known):
+    """The run that a whole transcript tells; every line of the script has to be answered, and the auditors' lines right."""
+    run = FaultyRun(read_script(script), read_journal(before).book, basis, known)
+    answers, watchers = answers_in(text)
+    for answer in answers:
+        run.follow(answer)
+    left = [line.row.text for lines in run.left.values() for line in lines]
+    demand(not left, f"rows without an answer: {left}")
+    demand(watchers == [["watcher", "1", str(run.accepted), str(run.accepted)],
+                        ["watcher", "2", str(run.accepted), str(run.premiums)]], f"the watchers' lines: {watchers}")
+    return run
+
+
+def demand_file(after, accepted, in_doubt=()):
+    """Demands that the file holds what was accepted, in order, and at most one command more, which is in doubt."""
+    found = commands_in(after, "the file afterwards")
+    for position, command in enumerate(accepted):
+        demand(position < len(found), f"record {position} is lost: {','.join(words_of(command))}")
+        demand(found[position] == command, f"record {position} is another: {','.join(words_of(found[position]))}")
+    more = found[len(accepted):]
+    demand(len(more) <= 1 and all(it in in_doubt for it in more), f"more was posted than was answered: {more}")
+
+
+def judge_transcript(script, ended, before, basis, known):
+    """A run that printed its transcript: its lines, its file and its status; tells how many lines met a fault."""
+    run = follow(script, ended.text, before, basis, known)
+    demand_file(ended.after, run.book.commands, run.in_doubt)
+    due = 8 if run.faults else 9 if run.unserved else 0
+    demand(ended.status == due, f"status {ended.status}, with {run.faults} faults and {run.unserved} lines without memory")
+    return run.faults
+
+
+def judge_early_end(ended, status, before):
+    """A run that ends before it posts: the last line is its only one, and the file has the commands of before."""
+    demand(ended.status == status, f"status {ended.status}, wanted {status}; printed {ended.text[:200]!r}")
+    demand(ended.text == LAST_LINES[status], f"printed {ended.text[:200]!r}, wanted {LAST_LINES[status]!r}")
+    if status == 6:
+        demand(ended.after == before, "the file was touched")
+    demand_file(ended.after, commands_in(before, "the file before"))
+
+
+# --- clerks whose policies are their own ---
+
+def due_of(lines, kept):
+    """What is accepted of a clerk's lines behind these commands, where no other clerk has its policies."""
+    book = Book(kept)
+    for line in lines:
+        after = book.decide(line.command) if line.command else None
+        if after and not isinstance(after, Refusal):
+            book.take(line.command, after)
+    return book.commands[len(kept):]
+
+
+def judge_unanswered(script, before, after, is_whole):
+    """The file of a run that printed no transcript: of each clerk the first of what is accepted, or all of it."""
+    kept, found = commands_in(before, "the file before"), commands_in(after, "the file afterwards")
+    demand(found[:len(kept)] == kept, "a record from before is lost or another")
+    lanes = lanes_of(read_script(script))
+    clerk_of = {line.command.number: lane for lane, lines in lanes.items() for line in lines if line.command}
+    of_clerk = {lane: [] for lane in lanes}
+    for command in found[len(kept):]:
+        demand(command.number in clerk_of, f"a record was never asked for: {','.join(words_of(command))}")
+        of_clerk[clerk_of[command.number]].append(command)
+    for lane, own in of_clerk.items():
+        due = due_of(lanes[lane], kept)
+        demand(own == due[:len(own)], f"clerk {lane}'s records aren't the first of its postings, in order")
+        demand(not is_whole or own == due, f"clerk {lane} has {len(own)} records of {len(due)}")
+    return len(found) - len(kept)
+
+
+def reason(wrong):
+    return str(wrong) if isinstance(wrong, Wrong) else repr(wrong)

@@ -1,0 +1,174 @@
+"""The program under falling limits of its address space, from ample to none.
+
+usage: python3 memory.py PROGRAM FOLDER SEED
+
+The answer has to be the right text, or that memory was wanting: `nomemory` before the first posting, lines answered so, or
+no text where the lanes had ended; with status 9 each time, and with a file that holds what was accepted. In two cases
+the system ends the program, which then can say nothing, as docs/CLERK.md tells: below some limit it can't be loaded; and
+where memory ends just where the stack of the first thread has to grow, the system has no other answer than a signal.
+strace records where such a signal points.
+"""
+import collections
+import os
+import random
+import re
+import signal
+import sys
+from concurrent.futures import ThreadPoolExecutor
+from dataclasses import dataclass
+
+from judge import Wrong, commands_in, demand, demand_file, follow, judge_early_end, judge_unanswered, reason
+from journals import file_of
+from runs import Desk, read_bytes
+from scenes import eight_clerks, many_policies
+from tables import read_basis
+
+AT_ONCE = 2
+KIB = 1024
+AMPLE, LOADED_FROM = 256 * 1024, 4 * 1024
+DRAWN, FINE, PAGE = 20, 25, 4
+# the stacks of the first thread lie from here on, and nothing else does
+STACKS_FROM = 0x7ffb_0000_0000
+# a thread's stack with its guard, and what the program takes besides, in KiB
+THREAD, BESIDE = 8256, 3100
+BEFORE = 150
+
+
+@dataclass
+class Mode:
+    name: str
+    words: list
+    script: bytes
+    before: bytes
+
+
+def modes(program, folder):
+    # what `load` runs is what `generate` writes
+    generated = Desk(program, folder).run(["generate", "1", "300", "8"]).text.encode()
+    before = file_of(many_policies(BEFORE).commands)
+    return [Mode("run", ["run"], eight_clerks(25, BEFORE), before), Mode("value", ["value", "2021-01-01"], b"", before),
+            Mode("state", ["state"], b"", before), Mode("load", ["load", "1", "300", "8", "1"], generated, b"")]
+
+
+class Trial:
+    def __init__(self, program, folder, mode):
+        self.program, self.folder, self.mode = program, folder, mode
+        desk = self.desk("ample")
+        self.basis, self.known = read_basis(desk.path("basis.csv")), {}
+        self.right = desk.run(mode.words)
+        demand(self.right.status == 0, f"{mode.name}: with ample memory it ends with {self.right.status}")
+        self.seen = collections.Counter()
+
+    def desk(self, name):
+        desk = Desk(self.program, os.path.join(self.folder, name))
+        desk.lay(self.mode.before, self.mode.script)
+        return desk
+
+    def try_limit(self, kib):
+        """What became of a run under this limit: a word."""
+        desk = self.desk(f"{kib}")
+        strace = ["strace", "-f", "-qq", "-o", desk.path("log"), "-e", "trace=none", "-e", "signal=SIGSEGV"]
+        ended = desk.run(self.mode.words, [*strace, "prlimit", f"--as={kib * KIB}"])
+        at = re.search(rb"SIGSEGV \{.*si_addr=0x([0-9a-f]+)", read_bytes(desk.path("log")))
+        try:
+            word = self.judge(kib, ended, int(at[1], 16) if at else 0)
+        except Exception as wrong:
+            raise Wrong(f"{self.mode.name} under {kib} KiB: status {ended.status}: {reason(wrong)}; "
+                        f"the files are in {desk.folder}")
+        self.seen[word] += 1
+        return word
+
+    def judge(self, kib, ended, pointed):
+        if ended.status == -signal.SIGSEGV and pointed >= STACKS_FROM:
+            demand(not ended.text, f"printed {ended.text[:200]!r}")
+            judge_unanswered(self.mode.script, self.mode.before, ended.after, False)
+            return "stack"
+        if ended.status == 127 or ended.status < 0 or "error while loading" in ended.complaints:
+            demand(kib < LOADED_FROM, f"it isn't loaded, or a signal ended it: {ended.complaints[:200]}")
+            demand(ended.text == "" and ended.after == self.mode.before, "it had begun")
+            return "not loaded"
+        demand(ended.status in (0, 9) and not ended.complaints, f"printed {ended.text[:200]!r} {ended.complaints[:200]!r}")
+        if ended.status == 0:
+            self.judge_right(ended)
+            return "right"
+        if ended.text == "nomemory\n":
+            judge_early_end(ended, 9, self.mode.before)
+            return "nomemory"
+        self.judge_part(ended)
+        return "in part"
+
+    def judge_right(self, ended):
+        if self.mode.name != "run":
+            demand(ended.text == self.right.text, f"another text: {ended.text[:200]!r}")
+            return
+        run = follow(self.mode.script, ended.text, self.mode.before, self.basis, self.known)
+        demand(not run.faults and not run.unserved, "a line met a fault or no memory, at status 0")
+        demand_file(ended.after, run.book.commands)
+
+    def judge_part(self, ended):
+        """Status 9 behind the first turn: some lines were answered so, or there was no memory for the text."""
+        demand(self.mode.name in ("run", "load"), f"printed {ended.text[:200]!r}")
+        if self.mode.name == "load" and ended.text:
+            posted = len(commands_in(ended.after, "the file afterwards"))
+            demand(ended.text.startswith(f"load,{posted},"), f"{posted} records, and printed {ended.text!r}")
+        elif ended.text:
+            run = follow(self.mode.script, ended.text, self.mode.before, self.basis, self.known)
+            demand(run.unserved and not run.faults, "no line wanted memory, at status 9")
+            demand_file(ended.after, run.book.commands)
+        else:
+            judge_unanswered(self.mode.script, self.mode.before, ended.after, False)
+
+
+def limits(draw):
+    """Limits that fall by a fifth each time, drawn ones between, and some that leave little beside the stacks of threads."""
+    falling, limit = [], AMPLE
+    while limit > 512:
+        falling.append(limit)
+        limit = limit * 4 // 5
+    drawn = [int(LOADED_FROM * (AMPLE / LOADED_FROM) ** draw.random()) for _ in range(DRAWN)]
+    return falling + drawn + [BESIDE + THREAD * (n % 8) + draw.randrange(50) * PAGE for n in range(DRAWN)]
+
+
+def least_loaded(trial, words):
+    """Between which limits, about, the program begins to be loaded."""
+    below = max(kib for kib, word in words.items() if word == "not loaded")
+    above = min(kib for kib, word in words.items() if word == "right")
+    while above - below > 2 * PAGE:
+        middle = (below + above) // 2
+        if trial.try_limit(middle) == "not loaded":
+            below = middle
+        else:
+            above = middle
+    return below
+
+
+def try_mode(trial, draw):
+    """All limits, and then some between the greatest that doesn't load the program and the least right answer."""
+    with ThreadPoolExecutor(AT_ONCE) as pool:
+        tried = limits(draw)
+        words = dict(zip(tried, pool.map(trial.try_limit, tried)))
+        at_least = min(kib for kib, word in words.items() if word == "right")
+        between = range(least_loaded(trial, words), at_least, PAGE)
+        list(pool.map(trial.try_limit, draw.sample(between, min(FINE, len(between)))))
+
+
+def main():
+    program, folder, seed = sys.argv[1:4]
+    if b"__asan_init" in read_bytes(program):
+        print("faults: a preview asks for more memory than any limit gives, so memory isn't tried; the proved program is")
+        return
+    seen = collections.Counter()
+    for mode in modes(program, os.path.join(folder, "generated")):
+        trial = Trial(program, os.path.join(folder, mode.name), mode)
+        try_mode(trial, random.Random(f"{seed} {mode.name}"))
+        seen += trial.seen
+    print(f"faults: {sum(seen.values())} limits of memory: {seen['right']} right texts, {seen['nomemory']} ended with "
+          f"nomemory, {seen['in part']} with a part; {seen['not loaded']} were too small to load the program, and "
+          f"{seen['stack']} ended where its stack had to grow")
+
+
+if __name__ == "__main__":
+    try:
+        main()
+    except Wrong as wrong:
+        sys.exit(f"faults: {wrong}")

@@ -1,0 +1,103 @@
+"""The judge has to refuse: runs in which a call failed, with one thing changed in what they answered or left.
+
+usage: python3 self_test.py PROGRAM FOLDER
+"""
+import os
+import sys
+from dataclasses import replace
+
+from judge import Wrong, demand, judge_early_end, judge_transcript, judge_unanswered
+from journals import RECORD_SIZE, file_of, read_journal
+from runs import JOURNAL, Desk
+from scenes import ONE_CLERK, TWO_CLERKS, book_before
+from tables import read_basis
+
+
+def disturbed(program, folder, script, kind, when, file):
+    """A run over the journal of before in which a call fails."""
+    desk = Desk(program, folder)
+    before = file_of(book_before().commands)
+    desk.lay(before, script)
+    ended = desk.run(["run"], ["strace", "-f", "-qq", "-o", desk.path("log"), "-P", desk.path(file), "-e", f"trace={kind}",
+                               "-e", f"inject={kind}:error=EIO:when={when}"])
+    return desk, before, ended
+
+
+def refused(judge):
+    try:
+        judge()
+    except Wrong:
+        return True
+    return False
+
+
+def replaced(ended, old, new):
+    """The run with the first line that ends so ended otherwise."""
+    lines = ended.text.splitlines(keepends=True)
+    place = next(i for i, line in enumerate(lines) if old in line)
+    return replace(ended, text="".join(lines[:place] + [lines[place].split(old)[0] + new + "\n"] + lines[place + 1:]))
+
+
+def cut(ended, records):
+    """The run with so many records cut off the end of its file."""
+    commands = read_journal(ended.after).commands
+    return replace(ended, after=file_of(commands[:len(commands) - records]))
+
+
+def try_transcripts(program, folder):
+    """A run of two clerks in which a sync failed, and what may not be made of it."""
+    desk, before, ended = disturbed(program, folder, TWO_CLERKS, "fsync", 7, JOURNAL)
+    basis = read_basis(desk.path("basis.csv"))
+    judge = lambda run: judge_transcript(TWO_CLERKS, run, before, basis, {})
+    demand(judge(ended) > 0, "no line is answered fault")
+    more = read_journal(ended.after).commands
+    changed = {
+        "a record cut off": cut(ended, 1),
+        "all records cut off": cut(ended, len(more)),
+        "a byte of a record changed": replace(ended, after=ended.after[:30] + b"\1" + ended.after[31:]),
+        "an earlier record left out": replace(ended, after=ended.after[:17] + ended.after[17 + RECORD_SIZE:]),
+        "two records more": replace(ended, after=file_of([*more, more[-1], more[-1]])),
+        "an accepted line answered fault": replaced(ended, ",accepted,", ",fault"),
+        "a fault answered accepted": replaced(ended, ",fault", ",accepted,6"),
+        "a fault left out": replace(ended, text=ended.text.replace(",fault", ",nomemory")),
+        "status 0": replace(ended, status=0),
+        "status 9": replace(ended, status=9),
+        "a line left out": replace(ended, text=ended.text.split("\n", 1)[1]),
+    }
+    for what, run in changed.items():
+        demand(refused(lambda: judge(run)), f"the judge takes {what}")
+    return len(changed)
+
+
+def try_ends(program, folder):
+    """Runs that end early or whose output fails, and what may not be made of them."""
+    _, before, early = disturbed(program, os.path.join(folder, "early"), ONE_CLERK, "fsync", 1, JOURNAL)
+    judge_early_end(early, 8, before)
+    _, _, unread = disturbed(program, os.path.join(folder, "unread"), ONE_CLERK, "read", 1, "script.csv")
+    judge_early_end(unread, 6, before)
+    _, _, silent = disturbed(program, os.path.join(folder, "silent"), ONE_CLERK, "write", 1, "out")
+    judge_unanswered(ONE_CLERK, before, silent.after, True)
+    changed = {
+        "another status": lambda: judge_early_end(replace(early, status=0), 8, before),
+        "no last line": lambda: judge_early_end(replace(early, text=""), 8, before),
+        "a record lost in the opening": lambda: judge_early_end(cut(early, 1), 8, before),
+        "a file that was touched": lambda: judge_early_end(replace(unread, after=unread.after + b"\0"), 6, before),
+        "a posting lost": lambda: judge_unanswered(ONE_CLERK, before, cut(silent, 1).after, True),
+        "a posting of before lost": lambda: judge_unanswered(ONE_CLERK, before, file_of(book_before().commands[:4]), False),
+    }
+    for what, judge in changed.items():
+        demand(refused(judge), f"the judge takes {what}")
+    return len(changed)
+
+
+def main():
+    program, folder = sys.argv[1:3]
+    tried = try_transcripts(program, os.path.join(folder, "transcripts")) + try_ends(program, folder)
+    print(f"faults: the judge refuses {tried} changed runs")
+
+
+if __name__ == "__main__":
+    try:
+        main()
+    except Wrong as wrong:
+        sys.exit(f"faults: {wrong}")

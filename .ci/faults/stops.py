@@ -1,0 +1,165 @@
+"""Stops: signals at random moments of runs and of openings, and an output that is closed before the text ends.
+
+usage: python3 stops.py PROGRAM FOLDER QUICK SEED
+
+In half of the runs the journal lies in FOLDER, on a real disk, where most of the time is a sync's; in the others in QUICK,
+a disk in memory. `.ci/checks/kills.sh` kills runs that have no valuations; here two are under way.
+"""
+import os
+import random
+import signal
+import subprocess
+import sys
+import time
+
+from judge import Wrong, demand, judge_transcript, judge_unanswered, reason
+from journals import file_of
+from runs import Desk, Ended, default_signals
+from scenes import eight_clerks, many_policies
+from tables import read_basis
+
+SIGNALS = [signal.SIGTERM, signal.SIGINT, signal.SIGKILL]
+RUNS, OPENINGS = 24, 12
+BEFORE, EACH, LARGE = 150, 12, 20000
+
+
+def span_of(desk, words):
+    """How long an undisturbed run takes, and how it ended."""
+    start = time.perf_counter()
+    ended = desk.run(words)
+    return time.perf_counter() - start, ended
+
+
+def stop(desk, words, delay, number):
+    run = desk.start(words)
+    time.sleep(delay)
+    run.send_signal(number)
+    return desk.ended(run)
+
+
+class Runs:
+    """Runs of eight clerks with two valuations that are stopped."""
+
+    def __init__(self, program, folder):
+        self.desk = Desk(program, folder)
+        self.before, self.script = file_of(many_policies(BEFORE).commands), eight_clerks(EACH, BEFORE)
+        self.basis, self.known = read_basis(self.desk.path("basis.csv")), {}
+        self.desk.lay(self.before, self.script)
+        self.span, ended = span_of(self.desk, ["run"])
+        judge_transcript(self.script, ended, self.before, self.basis, self.known)
+        self.amid = 0
+
+    def try_one(self, draw):
+        number = draw.choice(SIGNALS)
+        self.desk.lay(self.before, self.script)
+        ended = stop(self.desk, ["run"], draw.uniform(0, self.span), number)
+        if ended.status == 0:
+            judge_transcript(self.script, ended, self.before, self.basis, self.known)
+        else:
+            demand(ended.status == -number, f"status {ended.status} after signal {number}: {ended.complaints[:200]}")
+            # where the text was written, all was posted
+            posted = judge_unanswered(self.script, self.before, ended.after, bool(ended.text))
+            self.amid += 0 < posted < 16 * EACH
+        self.desk.judge_reopening()
+
+
+class Openings:
+    """Openings of a large journal that are stopped: not a byte of it may change."""
+
+    def __init__(self, program, folder):
+        self.desk = Desk(program, folder)
+        self.before = file_of(many_policies(LARGE).commands)
+        self.desk.lay(self.before)
+        self.span, self.right = span_of(self.desk, ["state"])
+        demand(self.right.status == 0 and self.right.text.endswith(f"count,{LARGE}\n"), "the large journal doesn't open")
+        self.amid = 0
+
+    def try_one(self, draw):
+        number, words = draw.choice(SIGNALS), draw.choice([["state"], ["state", "7"], ["value", "2021-01-01"], ["run"]])
+        ended = stop(self.desk, words, draw.uniform(0, self.span), number)
+        demand(ended.status in (0, -number), f"status {ended.status} after signal {number}")
+        demand(ended.after == self.before, f"{' '.join(words)} changed the file")
+        self.amid += ended.status != 0
+
+
+def read_a_line(desk, words):
+    """Runs the program into a pipe of which one line is read, as `head -n 1` does; its status, and that line."""
+    with open(desk.path("script.csv"), "rb") as script:
+        run = subprocess.Popen([desk.program, *words], cwd=desk.folder, stdin=script, stdout=subprocess.PIPE,
+                               stderr=subprocess.PIPE, preexec_fn=default_signals)
+    line = run.stdout.readline()
+    run.stdout.close()
+    complaints = run.stderr.read()
+    demand(not complaints, f"on standard error: {complaints[:200]}")
+    return run.wait(60), line.decode("ascii", "replace")
+
+
+def try_closed_pipes(desk):
+    """The reader leaves after a line of a text that no pipe holds whole: 7, and the postings are kept."""
+    before, script = file_of(many_policies(4000).commands), eight_clerks(EACH, 4000)
+    desk.lay(before, script)
+    status, line = read_a_line(desk, ["run"])
+    demand(status == 7, f"status {status}, wanted 7, into a closed pipe")
+    demand(line.split(",")[1:2] in (["issue"], ["value"]), f"the first line is {line!r}")
+    judge_unanswered(script, before, desk.journal(), True)
+    desk.judge_reopening()
+    desk.lay(before)
+    for words, first in ((["value", "2021-01-01"], "0,value,2021-01-01,4000,4000\n"), (["state"], "policy,1,")):
+        status, line = read_a_line(desk, words)
+        demand(status == 7 and line.startswith(first), f"{' '.join(words)}: status {status}, and the first line is {line!r}")
+        demand(desk.journal() == before, f"{' '.join(words)} changed the file")
+
+
+def pause(run):
+    """Stops the program for a moment, once it has had time to wait for something."""
+    for number in (signal.SIGSTOP, signal.SIGCONT):
+        time.sleep(0.1)
+        run.send_signal(number)
+
+
+def try_pauses(desk):
+    """A run that is stopped, and goes on, while it waits for the rest of its input and for room in its output."""
+    before, script = file_of(many_policies(4000).commands), eight_clerks(EACH, 4000)
+    desk.lay(before)
+    run = subprocess.Popen([desk.program, "run"], cwd=desk.folder, stdin=subprocess.PIPE, stdout=subprocess.PIPE, bufsize=0,
+                           preexec_fn=default_signals)
+    run.stdin.write(script[:1000])
+    pause(run)
+    run.stdin.write(script[1000:])
+    run.stdin.close()
+    text = run.stdout.read(1)
+    pause(run)
+    text += run.stdout.read()
+    ended = Ended(run.wait(60), text.decode("ascii", "replace"), "", desk.journal())
+    judge_transcript(script, ended, before, read_basis(desk.path("basis.csv")), {})
+
+
+def try_all(trials, tries, draw):
+    for number in range(tries):
+        trial = trials[number % len(trials)]
+        try:
+            trial.try_one(draw)
+        except Exception as wrong:
+            raise Wrong(f"stop {number}: {reason(wrong)}; the files are in {trial.desk.folder}")
+
+
+def main():
+    program, folder, quick, seed = sys.argv[1:5]
+    draw = random.Random(f"stops {seed}")
+    runs = [Runs(program, os.path.join(place, "stopped")) for place in (folder, quick)]
+    openings = [Openings(program, os.path.join(place, "opened")) for place in (folder, quick)]
+    try_all(runs, RUNS, draw)
+    try_all(openings, OPENINGS, draw)
+    try_closed_pipes(Desk(program, os.path.join(quick, "pipes")))
+    try_pauses(Desk(program, os.path.join(quick, "paused")))
+    print(f"faults: {RUNS} runs of eight clerks with two valuations stopped by SIGTERM, SIGINT or SIGKILL, "
+          f"{sum(it.amid for it in runs)} amid their postings, and {OPENINGS} openings of {LARGE} records, "
+          f"{sum(it.amid for it in openings)} before their end: nothing is lost; a closed pipe gives 7, and keeps the postings; "
+          "a pause changes nothing")
+
+
+if __name__ == "__main__":
+    try:
+        main()
+    except Wrong as wrong:
+        sys.exit(f"faults: {wrong}")
