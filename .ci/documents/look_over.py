@@ -11,7 +11,7 @@ import sys
 # crates that print nothing of the program `life`
 OTHER_CRATES = re.compile("measure|.*_tests$")
 # texts in the code that are no words of the program's output: what a command line's parts are called inside
-NOT_PRINTED = {"seed", "lanes", "workers", "on", "id", "at", "count", "t"}
+NOT_PRINTED = {"values", "seed", "lanes", "workers", "on", "id", "at", "count", "t"}
 
 
 class Page:
