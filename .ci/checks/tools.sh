@@ -143,6 +143,8 @@ holder=$!
 until grep -q held held 2>/dev/null; do sleep 0.05; done
 refuses "held by another run" dry_run next.csv --life "$life"
 kill "$holder"
+# it holds the journal until it has ended
+wait "$holder" 2>/dev/null
 
 go_on "drawings"
 for day in 2022-12-31 2023-12-31 2024-12-31; do "$life" value "$day" </dev/null; done >valuations

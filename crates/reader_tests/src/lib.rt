@@ -16,6 +16,4 @@ mod life_args_tests;
 #[cfg(test)]
 mod rate_table_tests;
 #[cfg(test)]
-mod select_rates_tests;
-#[cfg(test)]
 mod xtbml_subset_tests;

@@ -1,0 +1,7 @@
+//! Tests of what the program doesn't use yet: tables by age and duration, and the versions of a book.
+#![tactic(auto)]
+
+#[cfg(test)]
+mod select_rates_tests;
+#[cfg(test)]
+mod versioned_book_tests;
