@@ -111,6 +111,8 @@ class Reader:
             self.open[-1].text += text
 
     def start(self, name: str, attributes: dict[str, str]) -> None:
+        if any(word.startswith(":") for word in (name, *attributes)):
+            raise NotXml("a name begins with a colon, which XML takes and the program doesn't")
         element = Element(name, self.parser.CurrentByteIndex + self.shift, attributes)
         self.mark_open()
         if self.open:
