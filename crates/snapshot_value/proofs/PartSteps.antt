@@ -1,5 +1,5 @@
 -- The parts of a pin's policies, put together
-use Rattle.std.proofs.Common.{◌≡◌, ℕ, suc, zero, ◌+◌, ◌*◌, ◌≤◌, ◌<◌, ℤ, List, [], ◌∷◌, ◌++◌, length, take, drop, refl, sym, ap, ◌∙◌, subst, arith}
+use Rattle.std.proofs.Common.{◌≡◌, Result, Ok, Err, IsErr, false, true, ℕ, suc, zero, ◌+◌, ◌*◌, ◌≤◌, ◌<◌, ℤ, List, [], ◌∷◌, ◌++◌, length, take, drop, refl, sym, ap, ◌∙◌, subst, arith}
 use Rattle.std.specs.List.{AllByRecursion, range_with_len}
 use Rattle.std.proofs.lemmas.List.{length-map, length-take, map-append, take_all, take_more, take-append-drop}
 use Rattle.std.proofs.lemmas.List.Elements.{All-from_recursion}
@@ -9,6 +9,7 @@ use Rattle.parallel_value.proofs.PieceSteps.{all_back, all_front}
 use Rattle.policy_types.specs.declared.policy.Policy.{Policy}
 use Rattle.policy_types.specs.declared.entry.Call.{Call}
 use Rattle.policy_types.specs.declared.entry.Call.TheVariants.{Read}
+use Rattle.policy_types.specs.declared.watcher.NoMemory.{NoMemory as Lack}
 use Rattle.policy_machine.specs.History.{policies_per_read}
 use Rattle.policy_machine.specs.Merge.{Placed, reads_of}
 use Rattle.policy_machine.specs.Rules.{IsSound}
@@ -17,9 +18,10 @@ use Rattle.policy_value.specs.declared.worth.Row.{Row}
 use Rattle.office_state.specs.declared.held.Held.{Held}
 use Rattle.turn_lock.specs.Passes.{Holding}
 use Rattle.shared_office.specs.Offices.{OfficeOpening}
+use Rattle.snapshot_value.specs.Growing.{Grows}
 use Rattle.snapshot_value.specs.Valuing.{most_amount}
 use Rattle.snapshot_value.specs.declared.worksheet.Worksheet.{Worksheet}
-use Rattle.snapshot_value.specs.inside.Parts.{HasReadAll, HasReadPart, HasReadParts, HasReadSome, calls_of, policies_at, reads_needed}
+use Rattle.snapshot_value.specs.inside.Parts.{HasReadAll, HasReadPart, HasReadParts, HasReadRows, HasReadSome, calls_of, policies_at, reads_needed}
 use Rattle.snapshot_value.specs.inside.Sheets.{AreRows, HasMade}
 use Rattle.snapshot_value.proofs.Growth.{grows_more, grows_none}
 use Rattle.snapshot_value.proofs.PinSteps.{IsKnown}
@@ -64,6 +66,12 @@ module _ {D W : Type 0} where
   -- some reads, or none
   pub some_none : (pin : Held) (pass : Holding (OfficeOpening D W)) → HasReadSome pin pass pass
   some_none pin pass = record { reads = []; grows = grows_none pass; many = 0; calls = refl }
+
+  -- they are what there is where memory was wanting
+  pub rows_lacking : (basis : List Dated) (on : ℤ) (pin : Held) (old new : Holding (OfficeOpening D W)) (result : Result (List Row) Lack)
+      → HasReadSome pin old new → IsErr result → HasReadRows basis on pin old new result
+  rows_lacking basis on pin old new (Ok rows) some failed = let no : false ≡ true = failed in absurd (cc)
+  rows_lacking basis on pin old new (Err lack) some failed = some
 
 module _ {D W : Type 0} (basis : List Dated) (on : ℤ) (pin : Held) where
   pub parts_none : (pass : Holding (OfficeOpening D W)) (sheet : Worksheet) → HasMade basis on [] sheet → HasReadParts basis on pin 0 sheet pass pass

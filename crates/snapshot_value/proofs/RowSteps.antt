@@ -1,5 +1,5 @@
 -- The rows of policies, put together
-use Rattle.std.proofs.Common.{◌≡◌, ℕ, ◌+◌, ◌≤◌, ℤ, List, [], ◌∷◌, ◌++◌, length, sym, arith}
+use Rattle.std.proofs.Common.{◌≡◌, ℕ, ◌+◌, ◌≤◌, ℤ, List, [], ◌∷◌, ◌++◌, length, arith}
 use Rattle.std.specs.List.{AllByRecursion, AllZip}
 use Rattle.std.proofs.lemmas.Slice.Zip.{AllZip-long}
 use Rattle.basis_book.specs.Dated.{Dated}
@@ -37,7 +37,7 @@ module _ (basis : List Dated) (on : ℤ) where
 
   -- one for each
   pub rows_length : (policies : List Policy) (rows : List Row) → AreRows basis on policies rows → length rows ≡ length policies
-  rows_length policies rows are = sym (AllZip-long (IsValuedRow basis on) policies rows are.each)
+  rows_length policies rows are = AllZip-long (IsValuedRow basis on) policies rows are.each
 
   -- each of them small
   pub rows_each : (policies : List Policy) (rows : List Row) → AllZip (IsSmallRow basis on) policies rows → AreRows basis on policies rows

@@ -1,6 +1,6 @@
 -- A valuation, put together
 use Rattle.std.proofs.Common.{◌≡◌, ◌≢◌, ℕ, ◌≤◌, ℤ, List, [], ◌∷◌, ◌++◌, length, take, refl, sym, ap, ◌∙◌, subst, Result, Ok, Err, append-nil, append_assoc, length-append, lit<, arith}
-use Rattle.std.proofs.lemmas.List.{length-map, map-append, take_all, take-append-le}
+use Rattle.std.proofs.lemmas.List.{length-map, length-take, map-append, take_all, take-append-le}
 use Rattle.std.proofs.lemmas.Option.{slice_get_within}
 use Rattle.basis_book.specs.Dated.{Dated}
 use Rattle.policy_types.specs.declared.entry.At.{At}

@@ -21,8 +21,9 @@ use watcher_set::Watching;
 
 /// Values the policies at a position on a day, in days since 1970-01-01, and gives the turn of the pin.
 ///
-/// The position is pinned, and the memory taken; then batches of 256 policies are read and valued, and the gate is
-/// called with the lane's number and `k` after the `k`-th of them. Whatever is answered, the pin is given up.
+/// The position is pinned, and the memory taken; then batches of 256 policies are read, and the gate is called with the
+/// lane's number and `k` after the `k`-th of them. What was read is valued by the workers at the same time, when there
+/// are 8192 policies for each of them or none is left to read. Whatever is answered, the pin is given up.
 pub fn value<D: Disk, W: Watching, G: Gate, R: Threads + Wait + Sync>(
     rt: &R,
     alloc: Global,

@@ -1,11 +1,12 @@
 // What a valuation has at hand: its workers, the policies that were read last, and the rows of those before them.
-ghost use Rattle.std.specs.Prelude.{◌≡◌, ◌≤◌, ℤ, List, [], ◌++◌, IfOk, OnOk, length, vec_len};
+ghost use Rattle.std.specs.Prelude.{◌≡◌, ◌≤◌, ℤ, List, [], ◌++◌, ◌*◌, IfOk, OnOk, length, min};
 ghost use Rattle.std.specs.List.{AllByRecursion};
 ghost use Rattle.basis_book.specs.Dated.{Dated};
+ghost use Rattle.parallel_value.specs.Pieces.{AreAsBefore};
 ghost use Rattle.policy_machine.specs.Rules.{IsSound};
 ghost use Rattle.policy_types.specs.declared.policy.Policy.{Policy as APolicy};
 ghost use Rattle.snapshot_value.specs.inside.Sheets.{AreRows, CanValue, HasMade};
-ghost use Rattle.snapshot_value.specs.inside.Workers.{IsReady, ValuesBy};
+ghost use Rattle.snapshot_value.specs.inside.Workers.{Gives, IsReady, Takes, ValuesBy};
 
 use crate::worker::Worker;
 use basis_book::Basis;
@@ -18,9 +19,17 @@ use std::thread::Threads;
 /// The policies that are worth a worker's thread.
 const POLICIES_TO_A_WORKER: usize = 8_192;
 
-/// The shapes of policies whose present values are kept.
-const SHAPES_KEPT: u8 = 64;
+/// The most policies that are read before they are valued.
+const POLICIES_TOGETHER: usize = 131_072;
 
+/// The columns of present values that all workers together keep, of some 2 kB each.
+const COLUMNS_KEPT: u32 = 8_192;
+
+/// The policies' keys whose premiums all workers together keep.
+const PREMIUMS_KEPT: u32 = 65_536;
+
+/// The workers, each with a cache of its own for the whole valuation; policies that were read and aren't valued yet; and
+/// the rows of those before them.
 #[derive(Drop)]
 pub struct Worksheet<'a> {
     workers: Vec<Worker<'a>>,
@@ -29,7 +38,8 @@ pub struct Worksheet<'a> {
 }
 
 impl<'a> Worksheet<'a> {
-    /// Takes the memory that so many policies need.
+    /// Takes the memory for the rows of so many policies. There are as many workers as are asked for, or fewer where each
+    /// would have too few policies.
     pub fn new(
         alloc: Global,
         basis: &'a Basis,
@@ -42,8 +52,7 @@ impl<'a> Worksheet<'a> {
     {
         let many = (policies / POLICIES_TO_A_WORKER).clamp(1, usize::from(workers));
         let workers = workers_for(alloc, basis, on, many)?;
-        let together = POLICIES_TO_A_WORKER * many;
-        let read = Vec::with_capacity(alloc, together.min(policies)).map_err(|_| NoMemory)?;
+        let read = Vec::with_capacity(alloc, together(many).min(policies)).map_err(|_| NoMemory)?;
         let rows = Vec::with_capacity(alloc, policies).map_err(|_| NoMemory)?;
         Ok(Worksheet { workers, read, rows })
     }
@@ -60,7 +69,7 @@ impl<'a> Worksheet<'a> {
         ensures made { (basis : List Dated) (on : ℤ) (policies : List APolicy) → HasMade basis on policies self.old
             → OnOk result (HasMade basis on (policies ++ part.now) self.new) }
     {
-        if POLICIES_TO_A_WORKER * self.workers.len() <= self.read.len() {
+        if together(self.workers.len()) <= self.read.len() {
             self.value_read(rt, alloc)?;
         }
         self.put(part)
@@ -76,7 +85,10 @@ impl<'a> Worksheet<'a> {
     {
         let mut values = value_all(rt, alloc, self.workers.as_mut_slice(), self.read.as_slice())?;
         self.read.clear();
-        self.rows.append(&mut values).map_err(|_| NoMemory)
+        if self.rows.append(&mut values).is_err() {
+            return Err(NoMemory);
+        }
+        Ok(())
     }
 
     // Puts policies behind those that were read.
@@ -90,49 +102,59 @@ impl<'a> Worksheet<'a> {
 
     /// The rows of the policies that were valued.
     pub fn into_rows(self) -> Vec<Row>
-        ensures { result.items ≡ self.rows.items }
+        ensures { result.items ≡ self.entry.rows.items }
     {
         let Worksheet { rows, .. } = self;
         rows
     }
 }
 
-// The workers, each with a cache of its own.
+// How many policies so many workers value together.
+fn together(workers: usize) -> usize
+    requires { workers ≤ 64 }
+    ensures { result ≡ min (8192 * workers) 131072 }
+{
+    (POLICIES_TO_A_WORKER * workers).min(POLICIES_TOGETHER)
+}
+
+// The workers, which share what is kept.
 fn workers_for<'a>(
     alloc: Global,
     basis: &'a Basis,
     on: i32,
     many: usize,
 ) -> Result<Vec<Worker<'a>>, NoMemory>
-    ensures many { IfOk result (λ workers. vec_len workers ≡ many) }
+    requires { (1 ≤ many) × (many ≤ 64) }
+    ensures many { IfOk result (λ workers. length workers.items ≡ many) }
     ensures ready { IfOk result (λ workers. AllByRecursion IsReady workers.items) }
     ensures by { IfOk result (λ workers. AllByRecursion (ValuesBy basis.now on) workers.items) }
 {
+    let share = many as u32;
     let mut workers = Vec::with_capacity(alloc, many).map_err(|_| NoMemory)?;
     for _ in 0..many {
-        let cache = ColumnCache::new(alloc, SHAPES_KEPT)?;
+        let cache = ColumnCache::with_room(alloc, COLUMNS_KEPT / share, PREMIUMS_KEPT / share)?;
         workers.push_reserved(Worker { basis, on, cache });
     }
     Ok(workers)
 }
 
-// The rows of policies, by as many of the workers as there is work for.
+// The rows of policies, by all workers.
 fn value_all<R: Threads + Sync>(
     rt: &R,
     alloc: Global,
     workers: &mut [Worker<'_>],
     policies: &[Policy],
 ) -> Result<Vec<Row>, NoMemory>
-    requires some { (1 ≤ length workers.old) × (length workers.old ≤ 64) }
+    requires some { 1 ≤ length workers.old }
+    requires few { length workers.old ≤ 64 }
     requires ready { AllByRecursion IsReady workers.old }
     requires sound { AllByRecursion IsSound policies.now }
     ensures rows { (basis : List Dated) (on : ℤ) → AllByRecursion (ValuesBy basis on) workers.old
         → IfOk result (λ rows. AreRows basis on policies.now rows.items) }
-    ensures ready { AllByRecursion IsReady workers.new }
-    ensures by { (basis : List Dated) (on : ℤ) → AllByRecursion (ValuesBy basis on) workers.old
-        → AllByRecursion (ValuesBy basis on) workers.new }
+    ensures workers { AreAsBefore Takes Gives workers.old workers.new }
 {
-    let many = (policies.len() / POLICIES_TO_A_WORKER).clamp(1, workers.len());
-    let (busy, _) = workers.split_at_mut(many);
-    map_in(rt, alloc, busy, policies).map_err(|_| NoMemory)
+    match map_in(rt, alloc, workers, policies) {
+        Ok(rows) => Ok(rows),
+        Err(_) => Err(NoMemory),
+    }
 }

@@ -3,6 +3,7 @@ use Rattle.std.specs.Prelude.{ℤ, List}
 use Rattle.basis_book.specs.Dated.{Dated}
 use Rattle.policy_types.specs.declared.policy.Policy.{Policy}
 use Rattle.policy_machine.specs.Rules.{IsSound}
+use Rattle.policy_value.specs.Caches.{IsRightFor}
 use Rattle.policy_value.specs.Rows.{IsWithinAmount}
 use Rattle.policy_value.specs.declared.worth.Row.{Row}
 use Rattle.snapshot_value.specs.Valuing.{IsValuedRow, most_amount}
@@ -12,9 +13,9 @@ use Rattle.snapshot_value.specs.declared.worker.Worker.{Worker}
 abbrev pub IsSmallRow : List Dated → ℤ → Policy → Row → Type 0
 IsSmallRow basis on policy row = IsValuedRow basis on policy row × IsWithinAmount most_amount row.worth
 
--- what it takes
+-- what it takes, where its cache is right for its basis
 abbrev pub Takes : Worker → Policy → Type 0
-Takes worker policy = IsSound policy
+Takes worker policy = IsRightFor worker.basis.now worker.cache × IsSound policy
 
 -- and what it gives of it
 abbrev pub Gives : Worker → Policy → Row → Type 0
