@@ -1,5 +1,5 @@
 -- The keys that were set by a position, and their values there
-use Rattle.std.proofs.Common.{◌≡◌, ℕ, zero, suc, ◌+◌, ◌<◌, ◌≤◌, Bool, true, false, cond, ◌||◌, nat_eq, nat_le, List, [], ◌∷◌, ◌++◌, length, filter, take, slice_get, get_or, Some, None, Option, is_some, Ok, Err, Result, refl, sym, ap, ◌∙◌, subst, if◌then◌else◌, ◌⊎◌, inl, inr, append-nil, filter_map, arith}
+use Rattle.std.proofs.Common.{◌≡◌, ℕ, zero, suc, ◌<◌, ◌≤◌, Bool, true, false, ◌||◌, nat_eq, List, [], ◌∷◌, ◌++◌, length, take, slice_get, get_or, Some, None, Option, is_some, Ok, refl, sym, ap, ◌∙◌, subst, if◌then◌else◌, ◌⊎◌, inl, inr, append-nil, filter_map, arith}
 use Rattle.std.specs.List.{cons_option, list_any}
 use Rattle.std.proofs.lemmas.Bool.{cases_lt, eq-eqb, eqb-true}
 use Rattle.std.proofs.lemmas.List.{length_push, take-append-le, take_all}
@@ -8,15 +8,14 @@ use Rattle.std.proofs.lemmas.Option.{slice_get-get_or}
 use Rattle.policy_types.specs.declared.command.Command.{Command}
 use Rattle.policy_types.specs.declared.command.Command.TheVariants.{Issue, Premium, Alter, Lapse, Reinstate, Claim, Settle, Mature}
 use Rattle.policy_types.specs.declared.policy.Policy.{Policy}
-use Rattle.policy_types.specs.declared.refusal.Refusal.{Refusal}
 use Rattle.policy_types.specs.Valid.{id_of}
 use Rattle.policy_machine.specs.Rules.{next}
-use Rattle.policy_machine.specs.Book.{book, issue_id, policy_of, IsAccepted}
+use Rattle.policy_machine.specs.Book.{issue_id, policy_of, IsAccepted}
 use Rattle.versioned_book.specs.Versions.{newest_of, or_else, value_at}
 use Rattle.versioned_book.specs.Settings.{Setting, keys_after, keys_of, own, until, with_key}
 use Rattle.versioned_book.proofs.SettingSteps.{keys_of-new, keys_of-old, until_all, until_past}
 use Rattle.policy_versions.specs.Commands.{sets_of}
-use Rattle.policy_versions.specs.Places.{BookAtLaw, IndexLaw, IsPlacedAt, KeyCountLaw, KeysLaw, UntilLaw}
+use Rattle.policy_versions.specs.Places.{BookAtLaw, IndexLaw, KeyCountLaw, KeysLaw, UntilLaw}
 use Rattle.policy_versions.proofs.SetSteps.{by_accepted, by_each, setting_to, sets_of-accepted, sets_of-refused, sets_of-rise}
 use Rattle.policy_versions.proofs.PolicyValues.{newest_of-sets_of, value_at-sets_of}
 use Rattle.policy_versions.proofs.Fronts.{accepted-take, book_get, issued_front, length-book}
@@ -24,21 +23,21 @@ use Rattle.policy_versions.proofs.Fronts.{accepted-take, book_get, issued_front,
 pub until-sets_of : UntilLaw
 until-sets_of = by_each (λ commands. (p : ℕ) → until p (sets_of commands) ≡ sets_of (take p commands)) none
     (λ commands command policy e here p.
-      at_each commands command p
-      (ap (until p) (sets_of-accepted commands command policy e))
-      (λ within. until_past p (sets_of commands) (setting_to commands command policy) (omega (arith, within)))
-      (here p))
+    at_each (sets_of commands ++ setting_to commands command policy ∷ []) commands command p
+    (ap (until p) (sets_of-accepted commands command policy e))
+    (λ within. until_past p (sets_of commands) (setting_to commands command policy) (omega (arith, within)))
+    (here p))
     (λ commands command refusal e here p.
-      at_each commands command p (ap (until p) (sets_of-refused commands command refusal e)) (λ within. refl) (here p))
+    at_each (sets_of commands) commands command p (ap (until p) (sets_of-refused commands command refusal e)) (λ within. refl) (here p))
   where
     none : (p : ℕ) → until p (sets_of []) ≡ sets_of (take p [])
     none zero = refl
     none (suc p) = refl
 
-    at_each : {more : List (Setting Policy)} (commands : List Command) (command : Command) (p : ℕ) → until p (sets_of (commands ++ command ∷ [])) ≡ until p more
+    at_each : (more : List (Setting Policy)) (commands : List Command) (command : Command) (p : ℕ) → until p (sets_of (commands ++ command ∷ [])) ≡ until p more
         → (p ≤ length commands → until p more ≡ until p (sets_of commands)) → until p (sets_of commands) ≡ sets_of (take p commands)
         → until p (sets_of (commands ++ command ∷ [])) ≡ sets_of (take p (commands ++ command ∷ []))
-    at_each {more} commands command p is before here = by (cases_lt (length commands) p)
+    at_each more commands command p is before here = by (cases_lt (length commands) p)
       where
         by : (length commands < p) ⊎ (p ≤ length commands) → until p (sets_of (commands ++ command ∷ [])) ≡ sets_of (take p (commands ++ command ∷ []))
         by (inl past) =
@@ -67,8 +66,8 @@ any-with key k ks = by (list_any (nat_eq k) ks) refl
     among there true same = by_any (list_any (nat_eq key) ks) (subst (λ n. list_any (nat_eq n) ks ≡ true) (sym (eqb-true key k same)) there)
       where
         by_any : (a : Bool) → a ≡ true → a ≡ (a || true)
-        by_any true yes = refl
-        by_any false no = grind arith
+        by_any true is = refl
+        by_any false isnt = grind arith
     among there false other = by_any (list_any (nat_eq key) ks)
       where
         by_any : (a : Bool) → a ≡ (a || false)
@@ -130,9 +129,9 @@ issued_by (Some p) (Mature id day) policy e = refl
 pub keys_of-sets_of : (commands : List Command) → IsAccepted commands → keys_of (sets_of commands) ≡ filter_map issue_id commands
 keys_of-sets_of = by_accepted (λ commands. keys_of (sets_of commands) ≡ filter_map issue_id commands) refl
     (λ commands command policy accepted e here.
-      ap keys_of (sets_of-accepted commands command policy e)
-      ∙ more commands command policy e here (is_some (policy_of commands (id_of command))) refl
-      ∙ sym (filter_map-append issue_id commands (command ∷ []) ∙ ap (λ o. filter_map issue_id commands ++ cons_option o []) (issued_by (policy_of commands (id_of command)) command policy e)))
+    ap keys_of (sets_of-accepted commands command policy e)
+    ∙ more commands command policy e here (is_some (policy_of commands (id_of command))) refl
+    ∙ sym (filter_map-append issue_id commands (command ∷ []) ∙ ap (λ o. filter_map issue_id commands ++ cons_option o []) (issued_by (policy_of commands (id_of command)) command policy e)))
   where
     more : (commands : List Command) (command : Command) (policy : Policy) → next (policy_of commands (id_of command)) command ≡ Ok policy
         → keys_of (sets_of commands) ≡ filter_map issue_id commands → (b : Bool) → is_some (policy_of commands (id_of command)) ≡ b

@@ -1,7 +1,7 @@
 -- The first of accepted commands, and the policies that they issue
-use Rattle.std.proofs.Common.{◌≡◌, ℕ, zero, suc, ◌+◌, ◌<◌, ◌≤◌, List, [], ◌∷◌, ◌++◌, length, map, take, drop, refl, sym, ap, ◌∙◌, subst, Some, None, Option, IsOk, append_assoc, append-nil, filter_map, slice_get, arith}
+use Rattle.std.proofs.Common.{◌≡◌, ℕ, zero, suc, ◌<◌, List, [], ◌∷◌, ◌++◌, length, take, drop, refl, sym, ap, ◌∙◌, Some, None, Option, filter_map, slice_get, arith}
 use Rattle.std.specs.List.{AllByRecursion, cons_option}
-use Rattle.std.proofs.lemmas.List.{take-append-drop, length-append, length-map}
+use Rattle.std.proofs.lemmas.List.{take-append-drop, length-map}
 use Rattle.std.proofs.lemmas.List.Elements.{filter_map-append}
 use Rattle.policy_types.specs.declared.command.Command.{Command}
 use Rattle.policy_types.specs.declared.policy.Policy.{Policy}
@@ -54,11 +54,11 @@ get_there policy (first ∷ ids) zero id there at = by (policy first) refl there
     by : (found : Option Policy) → policy first ≡ found → IsThere first found → slice_get (cons_option found (filter_map policy ids)) zero ≡ policy id
     by None e none = absurd none
     by (Some p) e some = sym e ∙ ap policy same
-get_there policy (first ∷ ids) (suc i) id there at = by (policy first) there.0
+get_there policy (first ∷ ids) (suc i) id there at = by (policy first) there.0 (get_there policy ids i id there.1 at)
   where
-    by : (found : Option Policy) → IsThere first found → slice_get (cons_option found (filter_map policy ids)) (suc i) ≡ policy id
-    by None none = absurd none
-    by (Some p) some = get_there policy ids i id there.1 at
+    by : (found : Option Policy) → IsThere first found → slice_get (filter_map policy ids) i ≡ policy id → slice_get (cons_option found (filter_map policy ids)) (suc i) ≡ policy id
+    by None none rest = absurd none
+    by (Some p) some rest = rest
 
 -- and the policy at an index of the book is that of the number issued there
 pub book_get : (commands : List Command) (i id : ℕ) → slice_get (filter_map issue_id commands) i ≡ Some id

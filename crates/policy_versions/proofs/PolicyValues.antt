@@ -1,5 +1,5 @@
 -- What a policy's versions have to do with the policy
-use Rattle.std.proofs.Common.{◌≡◌, ℕ, zero, suc, ◌+◌, ◌<◌, ◌≤◌, Bool, true, false, nat_eq, List, [], ◌∷◌, ◌++◌, length, take, slice_get, Some, None, Option, Ok, Err, Result, refl, sym, ap, ◌∙◌, subst, ◌⊎◌, inl, inr, arith}
+use Rattle.std.proofs.Common.{◌≡◌, ℕ, zero, suc, ◌+◌, ◌<◌, ◌≤◌, Bool, true, false, nat_eq, List, [], ◌∷◌, ◌++◌, length, take, slice_get, Some, Ok, Err, refl, sym, ap, ◌∙◌, subst, ◌⊎◌, inl, inr, arith}
 use Rattle.std.proofs.lemmas.Bool.{cases_lt, eq-eqb, eqb-true}
 use Rattle.std.proofs.lemmas.List.{length_push, take-append-le, take_all}
 use Rattle.std.proofs.lemmas.Option.{slice_get_within}
@@ -65,21 +65,21 @@ at_each commands command id p before after here = by (cases_lt (length commands)
 
 pub value_at-sets_of : PolicyAtLaw
 value_at-sets_of = by_each (λ commands. (id p : ℕ) → value_at p (own id (sets_of commands)) ≡ policy_of (take p commands) id)
-    (λ id p. none p)
+    none
     (λ commands command policy e here id p.
-      at_each commands command id p
-      (λ within. ap (λ sets. value_at p (own id sets)) (sets_of-accepted commands command policy e) ∙ value_past p id (sets_of commands) (setting_to commands command policy) (omega (arith, within)))
-      (λ past so_far. accepted commands command policy e id p past so_far (nat_eq (id_of command) id) refl)
-      (here id p))
+    at_each commands command id p
+    (λ within. ap (λ sets. value_at p (own id sets)) (sets_of-accepted commands command policy e) ∙ value_past p id (sets_of commands) (setting_to commands command policy) (omega (arith, within)))
+    (λ past so_far. accepted commands command policy e id p past so_far (nat_eq (id_of command) id) refl)
+    (here id p))
     (λ commands command refusal e here id p.
-      at_each commands command id p
-      (λ within. ap (λ sets. value_at p (own id sets)) (sets_of-refused commands command refusal e))
-      (λ past so_far. ap (λ sets. value_at p (own id sets)) (sets_of-refused commands command refusal e) ∙ so_far ∙ sym (policy_refused commands command refusal id e))
-      (here id p))
+    at_each commands command id p
+    (λ within. ap (λ sets. value_at p (own id sets)) (sets_of-refused commands command refusal e))
+    (λ past so_far. ap (λ sets. value_at p (own id sets)) (sets_of-refused commands command refusal e) ∙ so_far ∙ sym (policy_refused commands command refusal id e))
+    (here id p))
   where
-    none : (p : ℕ) → {id : ℕ} → value_at p (own id (sets_of [])) ≡ policy_of (take p []) id
-    none zero = refl
-    none (suc p) = refl
+    none : (id p : ℕ) → value_at p (own id (sets_of [])) ≡ policy_of (take p []) id
+    none id zero = refl
+    none id (suc p) = refl
 
     accepted : (commands : List Command) (command : Command) (policy : Policy) → next (policy_of commands (id_of command)) command ≡ Ok policy → (id p : ℕ)
         → length commands < p → value_at p (own id (sets_of commands)) ≡ policy_of commands id → (b : Bool) → nat_eq (id_of command) id ≡ b
@@ -125,12 +125,9 @@ get_still [] y z i h = grind arith
 get_still (x ∷ xs) y z zero h = h
 get_still (x ∷ xs) y z (suc i) h = get_still xs y z i h
 
-get_at_end : {X : Type 0} (xs : List X) (y : X) (i : ℕ) → i ≡ length xs → slice_get (xs ++ y ∷ []) i ≡ Some y
-get_at_end xs y i e = ap (slice_get (xs ++ y ∷ [])) e ∙ at xs
-  where
-    at : (xs : List X) → slice_get (xs ++ y ∷ []) (length xs) ≡ Some y
-    at [] = refl
-    at (x ∷ xs) = at xs
+get_end : {X : Type 0} (xs : List X) (y : X) → slice_get (xs ++ y ∷ []) (length xs) ≡ Some y
+get_end [] y = refl
+get_end (x ∷ xs) y = get_end xs y
 
 pub each_set : EachSetLaw
 each_set commands place command accepted at =
@@ -156,6 +153,7 @@ each_set commands place command accepted at =
           after = ap (λ c. policy_of c (id_of last)) (take_all (place + 1) (before ++ last ∷ []) (omega (arith, new.0, length_push before last))) ∙ policy_now before last policy e;
           set =
               ap (λ sets. slice_get sets place) (sets_of-accepted before last policy e)
-              ∙ get_at_end (sets_of before) (setting_to before last policy) place (omega (arith, new.0, length-sets_of before ok))
+              ∙ (ap (slice_get (sets_of before ++ setting_to before last policy ∷ [])) (new.0 ∙ sym (length-sets_of before ok))
+              ∙ get_end (sets_of before) (setting_to before last policy))
               ∙ ap (λ n. Some (record { key = id_of last; position = n + 1; value = policy })) (sym new.0);
         })

@@ -1,7 +1,7 @@
 -- One more command, and the settings
 use Rattle.std.proofs.Common.{◌≡◌, ℕ, ◌+◌, ◌-◌, ◌<◌, ◌≤◌, Bool, true, false, cond, nat_lt, List, [], ◌∷◌, ◌++◌, length, Some, None, Option, Ok, Err, Result, IsOk, refl, sym, ap, ◌∙◌, subst, append_assoc, append-nil, arith}
 use Rattle.std.specs.List.{cons_option}
-use Rattle.std.proofs.lemmas.List.{length_push, length-append}
+use Rattle.std.proofs.lemmas.List.{length_push}
 use Rattle.std.proofs.lemmas.List.Elements.{filter-append}
 use Rattle.policy_types.specs.declared.command.Command.{Command}
 use Rattle.policy_types.specs.declared.policy.Policy.{Policy}
@@ -75,7 +75,7 @@ accepted_behind before (first ∷ rest) command accepted =
 
 not_both : (decision : Result Policy Refusal) (refusal : Refusal) → IsOk decision → decision ≡ Err refusal → ⊥
 not_both (Ok policy) refusal ok e = grind arith
-not_both (Err other) refusal ok e = ok
+not_both (Err other) refusal ok e = grind arith
 
 -- the same over accepted lists, where each command is accepted
 pub by_accepted : (P : List Command → Type 0) → P []
@@ -88,18 +88,18 @@ by_accepted P none more = by_each (λ commands. IsAccepted commands → P comman
 pub sets_of-rise : RisingLaw
 sets_of-rise = by_each (λ commands. IsRisingTo 0 (positions (sets_of commands)) (length commands)) (omega arith)
     (λ commands command policy e here.
-      subst (λ n. IsRisingTo 0 (positions (sets_of (commands ++ command ∷ []))) n) (sym (length_push commands command))
-      (subst (λ sets. IsRisingTo 0 (positions sets) (length commands + 1)) (sym (sets_of-accepted commands command policy e))
-      (positions_rise (sets_of commands) (setting_to commands command policy) (length commands) here (omega arith))))
+    subst (λ n. IsRisingTo 0 (positions (sets_of (commands ++ command ∷ []))) n) (sym (length_push commands command))
+    (subst (λ sets. IsRisingTo 0 (positions sets) (length commands + 1)) (sym (sets_of-accepted commands command policy e))
+    (positions_rise (sets_of commands) (setting_to commands command policy) (length commands) here (omega arith))))
     (λ commands command refusal e here.
-      subst (λ sets. IsRisingTo 0 (positions sets) (length (commands ++ command ∷ []))) (sym (sets_of-refused commands command refusal e))
-      (rising-longer 0 (positions (sets_of commands)) (length commands) (length (commands ++ command ∷ [])) here (omega (arith, length_push commands command))))
+    subst (λ sets. IsRisingTo 0 (positions sets) (length (commands ++ command ∷ []))) (sym (sets_of-refused commands command refusal e))
+    (rising-longer 0 (positions (sets_of commands)) (length commands) (length (commands ++ command ∷ [])) here (omega (arith, length_push commands command))))
 
 pub length-sets_of : SetCountLaw
 length-sets_of = by_accepted (λ commands. length (sets_of commands) ≡ length commands) refl
     (λ commands command policy accepted e here.
-      ap length (sets_of-accepted commands command policy e) ∙ length_push (sets_of commands) (setting_to commands command policy)
-      ∙ ap (λ n. n + 1) here ∙ sym (length_push commands command))
+    ap length (sets_of-accepted commands command policy e) ∙ length_push (sets_of commands) (setting_to commands command policy)
+    ∙ ap (λ n. n + 1) here ∙ sym (length_push commands command))
 
 after_push : (floor : ℕ) (sets : List (Setting Policy)) (s : Setting Policy) → length (settings_after floor (sets ++ s ∷ [])) ≤ length (settings_after floor sets) + 1
 after_push floor sets s = by (nat_lt floor s.position) refl
