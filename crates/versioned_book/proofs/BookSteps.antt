@@ -5,7 +5,7 @@ use Rattle.std.proofs.lemmas.List.{length_push}
 use Rattle.std.proofs.lemmas.Option.{slice_get_within}
 use Rattle.std.specs.List.{list_any}
 use Rattle.indexmap.specs.IndexMap.{get, keys, set_value_at, Updates}
-use Rattle.versioned_book.specs.Versions.{IsRisingTo, first_of, versions_from, versions}
+use Rattle.versioned_book.specs.Versions.{IsRisingTo, first_position, versions_from, versions}
 use Rattle.versioned_book.specs.Settings.{Setting, keys_of, own, positions, until}
 use Rattle.versioned_book.specs.Books.{IsBookOf, kept_of, kept_versions, many, many_in, versions_in}
 use Rattle.versioned_book.specs.declared.chain.Chain.{Chain}
@@ -36,9 +36,9 @@ module _ {V : Type 0} where
   key_at_place (e ∷ es) zero k c h = ap (λ x. Some x.0) (some_same e (k, c) h)
   key_at_place (e ∷ es) (suc i) k c h = key_at_place es i k c h
 
-  first_of-push : (vs : List (ℕ × V)) (v : ℕ × V) (first : ℕ) → first_of vs ≡ Some first → first_of (vs ++ v ∷ []) ≡ Some first
-  first_of-push [] v first h = cc
-  first_of-push (w ∷ vs) v first h = h
+  first_position-push : (vs : List (ℕ × V)) (v : ℕ × V) (first : ℕ) → first_position vs ≡ Some first → first_position (vs ++ v ∷ []) ≡ Some first
+  first_position-push [] v first h = cc
+  first_position-push (w ∷ vs) v first h = h
 
   -- as many first positions as keys
   pub as_many : (book : VersionedBook V) (sets : List (Setting V)) → IsBookOf book sets → length (keys_of sets) ≡ length book.firsts.items
@@ -80,16 +80,16 @@ module _ {V : Type 0} where
         by false isnt = own-other sets s key isnt ∙ h.absent key (sym (updates.2 key isnt) ∙ e)
 
     begun_more : (i key first : ℕ) → slice_get new.firsts.items i ≡ Some first → slice_get (keys_of (sets ++ s ∷ [])) i ≡ Some key
-        → first_of (own key (sets ++ s ∷ [])) ≡ Some first
+        → first_position (own key (sets ++ s ∷ [])) ≡ Some first
     begun_more i key first at is =
         by (nat_eq s.key key) refl (h.begun i key first (sym (ap (λ l. slice_get l i) firsts) ∙ at) (sym (ap (λ l. slice_get l i) old_keys) ∙ is))
       where
-        by : (t : Bool) → nat_eq s.key key ≡ t → first_of (own key sets) ≡ Some first → first_of (own key (sets ++ s ∷ [])) ≡ Some first
+        by : (t : Bool) → nat_eq s.key key ≡ t → first_position (own key sets) ≡ Some first → first_position (own key (sets ++ s ∷ [])) ≡ Some first
         by true this e =
             let pushed : own key (sets ++ s ∷ []) ≡ own key sets ++ (s.position, s.value) ∷ [] =
             subst (λ k. own k (sets ++ s ∷ []) ≡ own k sets ++ (s.position, s.value) ∷ []) (eqb-true s.key key this) (own-push sets s) in
-            ap first_of pushed ∙ first_of-push (own key sets) (s.position, s.value) first e
-        by false isnt e = ap first_of (own-other sets s key isnt) ∙ e
+            ap first_position pushed ∙ first_position-push (own key sets) (s.position, s.value) first e
+        by false isnt e = ap first_position (own-other sets s key isnt) ∙ e
 
     counts_more : (p : ℕ) → length (keys_of (until p (sets ++ s ∷ []))) ≡ length (filter (λ first. nat_le first p) new.firsts.items)
     counts_more p = by (cases_lt p s.position) ∙ sym (ap (λ l. length (filter (λ first. nat_le first p) l)) firsts)

@@ -7,7 +7,7 @@ use Rattle.std.proofs.lemmas.Option.{slice_get_within}
 use Rattle.std.specs.List.{list_any}
 use Rattle.std.specs.Map.{keys_of as entry_keys}
 use Rattle.indexmap.specs.IndexMap.{get, Updates}
-use Rattle.versioned_book.specs.Versions.{IsRisingTo, first_of, versions_from, versions}
+use Rattle.versioned_book.specs.Versions.{IsRisingTo, first_position, versions_from, versions}
 use Rattle.versioned_book.specs.Settings.{Setting, keys_of, own, positions, until}
 use Rattle.versioned_book.specs.Books.{IsBookOf, kept_of, many, many_in}
 use Rattle.versioned_book.specs.declared.chain.Chain.{Chain}
@@ -53,26 +53,26 @@ module _ {V : Type 0} (book new : VersionedBook V) (sets : List (Setting V)) (s 
           let none : Some chain ≡ None = sym updates.1 ∙ ap (get nat_eq new.chains) (eqb-true s.key key is) ∙ e in cc
       by false isnt = own-other sets s key isnt ∙ h.absent key (sym (updates.2 key isnt) ∙ e)
 
-  begun_old : (key first : ℕ) → first_of (own key sets) ≡ Some first → first_of (own key (sets ++ s ∷ [])) ≡ Some first
+  begun_old : (key first : ℕ) → first_position (own key sets) ≡ Some first → first_position (own key (sets ++ s ∷ [])) ≡ Some first
   begun_old key first b = by (nat_eq s.key key) refl
     where
-      by : (t : Bool) → nat_eq s.key key ≡ t → first_of (own key (sets ++ s ∷ [])) ≡ Some first
+      by : (t : Bool) → nat_eq s.key key ≡ t → first_position (own key (sets ++ s ∷ [])) ≡ Some first
       by true this =
           let none : own key sets ≡ [] = subst (λ k. own k sets ≡ []) (eqb-true s.key key this) (h.absent s.key absent) in
-          let clash : None ≡ Some first = sym (ap first_of none) ∙ b in cc
-      by false isnt = ap first_of (own-other sets s key isnt) ∙ b
+          let clash : None ≡ Some first = sym (ap first_position none) ∙ b in cc
+      by false isnt = ap first_position (own-other sets s key isnt) ∙ b
 
   begun_first : (i key first : ℕ) → slice_get new.firsts.items i ≡ Some first → slice_get (keys_of (sets ++ s ∷ [])) i ≡ Some key
-      → first_of (own key (sets ++ s ∷ [])) ≡ Some first
+      → first_position (own key (sets ++ s ∷ [])) ≡ Some first
   begun_first i key first at is =
       by (get_push book.firsts.items s.position first i (sym (ap (λ l. slice_get l i) firsts) ∙ at)) (get_push (keys_of sets) s.key key i (sym (ap (λ l. slice_get l i) new_keys) ∙ is))
     where
       by : (slice_get book.firsts.items i ≡ Some first) ⊎ ((i ≡ length book.firsts.items) × (first ≡ s.position)) → (slice_get (keys_of sets) i ≡ Some key) ⊎ ((i ≡ length (keys_of sets)) × (key ≡ s.key))
-          → first_of (own key (sets ++ s ∷ [])) ≡ Some first
+          → first_position (own key (sets ++ s ∷ [])) ≡ Some first
       by (inl a) (inl b) = begun_old key first (h.begun i key first a b)
       by (inl a) (inr b) = absurd (omega (arith, slice_get_within book.firsts.items i first a, b.0, as_many book sets h))
       by (inr a) (inl b) = absurd (omega (arith, slice_get_within (keys_of sets) i key b, a.0, as_many book sets h))
-      by (inr a) (inr b) = ap (λ k. first_of (own k (sets ++ s ∷ []))) b.1 ∙ ap first_of own_one ∙ ap Some (sym a.1)
+      by (inr a) (inr b) = ap (λ k. first_position (own k (sets ++ s ∷ []))) b.1 ∙ ap first_position own_one ∙ ap Some (sym a.1)
 
   counts_first : (p : ℕ) → length (keys_of (until p (sets ++ s ∷ []))) ≡ length (filter (λ first. nat_le first p) new.firsts.items)
   counts_first p = by (cases_lt p s.position) ∙ sym (ap (λ l. length (filter (λ first. nat_le first p) l)) firsts)

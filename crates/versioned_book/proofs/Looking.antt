@@ -4,7 +4,7 @@ use Rattle.std.proofs.lemmas.Bool.{le-leb, leb-true, leb-false, lt-leb}
 use Rattle.std.proofs.lemmas.List.{length-map}
 use Rattle.std.proofs.lemmas.Option.{slice_get_within}
 use Rattle.indexmap.specs.IndexMap.{get}
-use Rattle.versioned_book.specs.Versions.{IsRising, IsRisingTo, first_of, or_else, versions_from, value_at, versions}
+use Rattle.versioned_book.specs.Versions.{IsRising, IsRisingTo, first_position, or_else, versions_from, value_at, versions}
 use Rattle.versioned_book.specs.Settings.{Setting, keys_of, own, until}
 use Rattle.versioned_book.specs.Books.{IsBookOf}
 use Rattle.versioned_book.specs.declared.chain.Chain.{Chain}
@@ -84,7 +84,7 @@ module _ {V : Type 0} where
         value = λ p from. ap (value_at p) kept ∙ value_at-trimmed book.floor p (own key sets) from;
       }
 
-  begun_value : (p first : ℕ) (vs : List (ℕ × V)) → first_of vs ≡ Some first → first ≤ p → IsSome (value_at p vs)
+  begun_value : (p first : ℕ) (vs : List (ℕ × V)) → first_position vs ≡ Some first → first ≤ p → IsSome (value_at p vs)
   begun_value p first [] e within = cc
   begun_value p first (v ∷ vs) e within =
       let here : nat_le v.0 p ≡ true = le-leb v.0 p (omega (arith, some_same v.0 first e, within)) in

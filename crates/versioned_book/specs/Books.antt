@@ -4,7 +4,7 @@ use Rattle.std.specs.Coded.{×_prop}
 use Rattle.std.specs.List.{list_any}
 use Rattle.std.proofs.Props.{props}
 use Rattle.indexmap.specs.IndexMap.{get, keys, spare}
-use Rattle.versioned_book.specs.Versions.{IsRisingTo, first_of, versions_from, versions}
+use Rattle.versioned_book.specs.Versions.{IsRisingTo, first_position, versions_from, versions}
 use Rattle.versioned_book.specs.Settings.{Setting, keys_of, own, positions, until}
 use Rattle.versioned_book.specs.declared.chain.Chain.{Chain}
 use Rattle.versioned_book.specs.declared.book.VersionedBook.{VersionedBook}
@@ -44,7 +44,7 @@ module _ {V : Type 0} where
     pub rising : IsRisingTo 0 (positions sets) book.last
     pub floor : book.floor ≤ book.last
     pub firsts : IsRisingTo 0 book.firsts.items book.last
-    pub begun : (i key first : ℕ) → slice_get book.firsts.items i ≡ Some first → slice_get (keys_of sets) i ≡ Some key → first_of (own key sets) ≡ Some first
+    pub begun : (i key first : ℕ) → slice_get book.firsts.items i ≡ Some first → slice_get (keys_of sets) i ≡ Some key → first_position (own key sets) ≡ Some first
     pub counts : (p : ℕ) → length (keys_of (until p sets)) ≡ length (filter (λ first. nat_le first p) book.firsts.items)
     pub count : book.kept ≡ kept_of book
     pub bound : book.kept ≤ book.last

@@ -24,9 +24,9 @@ module _ {V : Type 0} where
   value_at p (v ∷ vs) = or_else (value_at p vs) (if nat_le v.0 p then Some v.1 else None)
 
   -- the position of the first version
-  abbrev pub first_of : List (ℕ × V) → Option ℕ
-  first_of [] = None
-  first_of (v ∷ vs) = Some v.0
+  abbrev pub first_position : List (ℕ × V) → Option ℕ
+  first_position [] = None
+  first_position (v ∷ vs) = Some v.0
 
   -- the value of the last version
   abbrev pub newest_of : List (ℕ × V) → Option V
