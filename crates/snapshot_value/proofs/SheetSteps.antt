@@ -1,5 +1,5 @@
 -- What a valuation has at hand, before and after it reads and values
-use Rattle.std.proofs.Common.{◌≡◌, ◌≤◌, ℤ, List, [], ◌∷◌, ◌++◌, length, arith, ap, sym, ◌∙◌, subst, append-nil, append_assoc, Vec, Global}
+use Rattle.std.proofs.Common.{◌≡◌, ◌≤◌, ℤ, List, [], ◌++◌, length, arith, ap, sym, ◌∙◌, subst, append-nil, append_assoc, Vec, Global}
 use Rattle.std.specs.Vec.{with_items}
 use Rattle.std.specs.List.{AllByRecursion}
 use Rattle.std.proofs.lemmas.List.{with_items_is}

@@ -155,12 +155,11 @@ module _ {D W : Type 0} (basis : List Dated) (on : ℤ) (at : At) (workers turn 
               ∙ ap (λ (reads : List Call). reads ++ Unpin turn ∷ []) (sym all),
           λ _. all,
         )
-    follow calls (Err NoMemory) follows =
-        (
-          follows.0,
-          follows.1 ∙ ap (λ n. take follows.0 (reads_of n pin.policies) ++ Unpin n ∷ []) number,
-          λ wet. absurd (wet (0, lit< tt, refl)),
-        )
+    follow calls (Err NoMemory) follows = (
+      follows.0,
+      follows.1 ∙ ap (λ n. take follows.0 (reads_of n pin.policies) ++ Unpin n ∷ []) number,
+      λ wet. absurd (wet (0, lit< tt, refl)),
+    )
     follow calls (Err (Pin refusal)) follows = absurd follows
 
     module _ (grows : (later : List Placed) × Grows mid new later) (is : IsKnown mid pin) where

@@ -1,6 +1,6 @@
 -- Workers, before and after their work
-use Rattle.std.proofs.Common.{◌≡◌, List, [], ◌∷◌, ◌++◌, ℤ, inl, inr, IfOk, Result, Ok, Err, Vec, Global, sym, subst}
-use Rattle.std.specs.List.{AllByRecursion, AllZip}
+use Rattle.std.proofs.Common.{List, [], ◌∷◌, ℤ, inl, inr}
+use Rattle.std.specs.List.{AllByRecursion}
 use Rattle.basis_book.specs.Dated.{Dated}
 use Rattle.parallel_value.specs.Pieces.{AreAsBefore, AreValues, MayGive, TakeAll}
 use Rattle.parallel_value.proofs.PieceSteps.{all_more, zip_more}

@@ -47,9 +47,7 @@ pub fn value<D: Disk, W: Watching, G: Gate, R: Threads + Wait + Sync>(
     match answer {
         Ok(pin) => Turned {
             turn,
-            answer: value_pin(
-                rt, alloc, office, pass, pin, basis, on, workers, lane, gate,
-            ),
+            answer: value_pin(rt, alloc, office, pass, pin, basis, on, workers, lane, gate),
         },
         Err(refusal) => Turned {
             turn,

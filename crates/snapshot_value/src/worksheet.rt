@@ -54,7 +54,11 @@ impl<'a> Worksheet<'a> {
         let workers = workers_for(alloc, basis, on, many)?;
         let read = Vec::with_capacity(alloc, together(many).min(policies)).map_err(|_| NoMemory)?;
         let rows = Vec::with_capacity(alloc, policies).map_err(|_| NoMemory)?;
-        Ok(Worksheet { workers, read, rows })
+        Ok(Worksheet {
+            workers,
+            read,
+            rows,
+        })
     }
 
     /// Adds policies to those that were read, which are valued first where they are enough.

@@ -1,8 +1,7 @@
-use Rattle.std.proofs.Common.{◌≡◌, IsErr, rules, refl, w32, to_z, of_z, arith}
+use Rattle.std.proofs.Common.{rules, w32, to_z, of_z, arith}
 use Rattle.std.proofs.lemmas.Int.{to_z-of_z}
-use Rattle.snapshot_value.specs.inside.Sheets.{HasMade}
 use Rattle.snapshot_value.proofs.PinSteps.{known}
-use Rattle.snapshot_value.proofs.PartSteps.{part_sound, parts_all, parts_more, parts_none, rows_lacking, some_all, some_more, some_none, turns_left}
+use Rattle.snapshot_value.proofs.PartSteps.{part_sound, parts_all, parts_more, parts_none, rows_lacking, some_more, some_none, turns_left}
 use Rattle.snapshot_value.proofs.reading.rows_of.Goals as goal
 
 pub returns-in_err-batch-clause-read : goal.returns-in_err-batch-clause-read

@@ -1,4 +1,4 @@
-use Rattle.std.proofs.Common.{◌≡◌, FitsSigned, rules, w32, to_z, of_z}
+use Rattle.std.proofs.Common.{FitsSigned, rules, w32}
 use Rattle.std.proofs.lemmas.Int.{to_z-of_z}
 use Rattle.snapshot_value.proofs.RowSteps.{within_most}
 use Rattle.snapshot_value.proofs.worker.WorkerPiecePolicyRow.one.Goals as goal
