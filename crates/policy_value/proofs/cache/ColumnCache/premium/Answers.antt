@@ -1,0 +1,15 @@
+use Rattle.policy_value.specs.contracts.key.CacheKeyPartialEq.TheImpl.{eq-value}
+use Rattle.policy_value.specs.Caches.{IsRightPremium}
+use Rattle.policy_value.proofs.Keeping.{All-after_put, same_key, premium_by_row}
+use Rattle.policy_value.proofs.cache.ColumnCache.premium.Goals as goal
+
+pub returns-clause-right : goal.returns-clause-right
+returns-clause-right c =
+    let basis = c.args.basis.now in
+    record {
+      premiums = All-after_put (IsRightPremium basis) eq-value.it c.find.new.self.premiums c.put.new.self c.args.key c.premium-premium.result c.put.result c.put.ensures.entries c.put.ensures.err
+          (same_key c.args.key)
+          (premium_by_row basis c.args.table.now c.args.bp c.args.key c.args.shape.now c.premium-premium.result c.requires.row c.requires.shape c.premium-premium.ensures.premium)
+          (c.find.ensures.right basis c.requires.right.premiums);
+      columns = c.premium-premium.ensures.right;
+    }
