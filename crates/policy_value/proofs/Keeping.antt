@@ -1,7 +1,6 @@
 -- What a cache keeps is right, and stays so.
-use Rattle.std.proofs.Common.{rules, ◌≡◌, ℕ, ◌+◌, ◌-◌, ◌<◌, ◌≤◌, Bool, true, false, List, [], ◌∷◌, ◌++◌, length, slice_set, slice_get, get_or, take, All, Contains, Result, Ok, Err, OnOk, OnErr, Option, Some, None, IfSome, refl, sym, ap, subst, ◌∙◌, inl, inr, arith}
-use Rattle.std.proofs.lemmas.List.{length-set, get_or-set_same, get_or_default}
-use Rattle.std.proofs.lemmas.List.Elements.{All-weaker, All-contains, All-contains_itself, All-push, All-set}
+use Rattle.std.proofs.Common.{rules, ◌≡◌, ℕ, Bool, true, List, get_or, All, Contains, Result, Ok, Err, OnOk, OnErr, Option, Some, None, IfSome, sym, ap, subst, ◌∙◌, inl, inr}
+use Rattle.std.proofs.lemmas.List.Elements.{All-weaker, All-contains, All-contains_itself}
 use Rattle.std.specs.Map.{lookup}
 use Rattle.rate_table.specs.Rates.{Rates}
 use Rattle.present_value.specs.Ends.{IsColumn}

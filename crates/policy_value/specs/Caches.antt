@@ -46,5 +46,5 @@ pub record IsRightFor (basis : List Dated) (cache : ColumnCache) : Type 0 where
   pub columns : IsRightStore basis cache.columns
 
 -- the keys of the policies, the last used first
-unfoldable pub keys_of : ColumnCache → List CacheKey
-keys_of cache = map (λ (entry : CacheKey × Premium). entry.0) cache.premiums.entries
+unfoldable pub kept_keys : ColumnCache → List CacheKey
+kept_keys cache = map (λ (entry : CacheKey × Premium). entry.0) cache.premiums.entries

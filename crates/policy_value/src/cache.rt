@@ -5,7 +5,7 @@ ghost use Rattle.present_value.specs.Sums.{cover_of};
 ghost use Rattle.present_value.specs.Premium.{cap_of, cap_shape};
 ghost use Rattle.crvm_reserve.specs.Made.{CanReserve, IsMadeFor, premium_of};
 ghost use Rattle.basis_book.specs.Dated.{Dated};
-ghost use Rattle.policy_value.specs.Caches.{IsRightFor, IsRightPremium, IsRightStore, IsRowOf, keys_of};
+ghost use Rattle.policy_value.specs.Caches.{IsRightFor, IsRightPremium, IsRightStore, IsRowOf, kept_keys};
 
 use crate::columns::ColumnStore;
 use crate::key::CacheKey;
@@ -31,7 +31,7 @@ impl ColumnCache {
     pub fn new(alloc: Global, capacity: u8) -> Result<ColumnCache, NoMemory>
         requires { 1 ≤ capacity }
         ensures right { IfOk result (λ cache. (basis : List Dated) → IsRightFor basis cache) }
-        ensures empty { IfOk result (λ cache. keys_of cache ≡ []) }
+        ensures empty { IfOk result (λ cache. kept_keys cache ≡ []) }
     {
         ColumnCache::with_room(alloc, 4 * capacity as u32, capacity as u32)
     }
@@ -41,7 +41,7 @@ impl ColumnCache {
         requires columns { (1 ≤ columns) × (columns ≤ 65535) }
         requires premiums { 1 ≤ premiums }
         ensures right { IfOk result (λ cache. (basis : List Dated) → IsRightFor basis cache) }
-        ensures empty { IfOk result (λ cache. keys_of cache ≡ []) }
+        ensures empty { IfOk result (λ cache. kept_keys cache ≡ []) }
     {
         let columns = ColumnStore::new(alloc, columns)?;
         let most = NonZeroUsize::new(premiums as usize).unwrap();
@@ -53,7 +53,7 @@ impl ColumnCache {
 
     /// How many keys of policies it holds, or 255 where they are more.
     pub fn len(&self) -> u8
-        ensures { result ≡ min (length (keys_of self.now)) 255 }
+        ensures { result ≡ min (length (kept_keys self.now)) 255 }
     {
         self.premiums.len().min(255) as u8
     }
@@ -79,7 +79,9 @@ impl ColumnCache {
     {
         let cap = shape_of_cap(table, shape.age);
         let premium = self.premium(basis, key, table, bp, shape, &cap);
-        let values = self.columns.values(basis, key.basis_row, table, bp, shape, t);
+        let values = self
+            .columns
+            .values(basis, key.basis_row, table, bp, shape, t);
         (values, premium)
     }
 
@@ -105,7 +107,9 @@ impl ColumnCache {
         if let Some(premium) = self.find(key) {
             return premium;
         }
-        let premium = self.columns.premium(basis, key.basis_row, table, bp, shape, cap);
+        let premium = self
+            .columns
+            .premium(basis, key.basis_row, table, bp, shape, cap);
         let _ = self.premiums.put(key, premium);
         premium
     }

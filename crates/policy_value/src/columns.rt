@@ -159,14 +159,7 @@ impl ColumnStore {
     }
 
     /// The value at an age in the column of a key.
-    fn value(
-        &mut self,
-        basis: &Basis,
-        table: &RateTable,
-        bp: u16,
-        key: ColumnKey,
-        age: u8,
-    ) -> Pair
+    fn value(&mut self, basis: &Basis, table: &RateTable, bp: u16, key: ColumnKey, age: u8) -> Pair
         requires right { IsRightStore basis.now self.old }
         requires row { IsRowOf basis.now key.basis_row table.now bp }
         requires can { CanEnd table.now bp key.end age }

@@ -1,4 +1,4 @@
-use Rattle.std.proofs.Common.{◌≡◌, Ok, sym, ◌∙◌}
+use Rattle.std.proofs.Common.{◌≡◌, sym, ◌∙◌}
 use Rattle.present_value.specs.Sums.{cover_of}
 use Rattle.present_value.specs.Premium.{cap_of}
 use Rattle.present_value.proofs.Steps.{ordered}

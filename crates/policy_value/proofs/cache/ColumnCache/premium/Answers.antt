@@ -13,3 +13,13 @@ returns-clause-right c =
           (c.find.ensures.right basis c.requires.right.premiums);
       columns = c.premium-premium.ensures.right;
     }
+
+pub returns-in-Some-clause-premium : goal.returns-in-Some-clause-premium
+returns-in-Some-clause-premium c =
+    c.in-Some.ensures.found c.args.basis.now c.requires.right.premiums c.args.table.now c.args.bp c.args.shape.now c.requires.row c.requires.shape
+
+pub returns-in-Some-clause-right : goal.returns-in-Some-clause-right
+returns-in-Some-clause-right c = record {
+  premiums = c.find.ensures.right c.args.basis.now c.requires.right.premiums;
+  columns = rw c.find.ensures.columns c.requires.right.columns;
+}

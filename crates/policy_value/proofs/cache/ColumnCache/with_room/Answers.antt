@@ -1,6 +1,6 @@
 use Rattle.std.proofs.Common.{refl}
 use Rattle.std.proofs.lemmas.List.Elements.{All-nil}
-use Rattle.policy_value.specs.Caches.{IsRightPremium, keys_of}
+use Rattle.policy_value.specs.Caches.{IsRightPremium, kept_keys}
 use Rattle.policy_value.proofs.cache.ColumnCache.with_room.Goals as goal
 
 pub returns-in-Ok-clause-right : goal.returns-in-Ok-clause-right
@@ -10,5 +10,5 @@ returns-in-Ok-clause-right c = λ basis. record {
 }
 
 pub returns-in-Ok-clause-empty : goal.returns-in-Ok-clause-empty
-unfolding keys_of
+unfolding kept_keys
 returns-in-Ok-clause-empty c = rw c.in-Ok.ensures refl

@@ -17,7 +17,7 @@ returns-clause-right c =
     let store = c.place_of-place.ensures.store in
     let all = c.place_of-place.ensures.right basis c.requires.right.columns in
     let row_is : c.index_mut.result.now.basis_row ≡ c.args.key.basis_row =
-        ap (λ (kept : KeptColumn). kept.basis_row) c.index_mut.ensures.value ∙ (c.place_of-place.ensures.kept.here _).0 in
+    ap (λ (kept : KeptColumn). kept.basis_row) c.index_mut.ensures.value ∙ (c.place_of-place.ensures.kept.here _).0 in
     record {
       store = record { slots = store.slots; most = store.most; few = rw (length-set c.place_of-place.new.self.kept.items c.place_of-place.result _) store.few; room = store.room; oldest = store.oldest };
       columns = All-set (IsRightColumn basis) _ _ _
