@@ -1,2 +1,4 @@
 pub mod CrashLaws
+pub mod HeadlineLaws
+pub mod RunLaws
 pub mod ProgramSteps

@@ -6,6 +6,7 @@ ghost use Rattle.policy_machine.specs.History.{Opening};
 ghost use Rattle.posting_journal.specs.Runs.{IsSafe};
 ghost use Rattle.command_csv.specs.Reads.{IsFirstScriptFault};
 ghost use Rattle.life_app.specs.Crashes.{AreAllHeld, AreHeld, HasRun};
+ghost use Rattle.life_app.specs.Runs.{AreLeft, AreRuns, OneRun};
 ghost use Rattle.office_state.specs.Images.{HoldsOnce, IsLeftAlone};
 ghost use Rattle.office_state.specs.Journals.{Opens};
 ghost use Rattle.script_run.specs.Script.{IsReadable, IsUnreadable};
@@ -46,4 +47,13 @@ pub fn crashes_of_an_opening<D: Disk>()
     ensures unopened { (next last : D) (opening : Opening) (history : List Entry) (image : List ℕ)
         → HoldsOnce opening history (D.reads next) → D.honest last → IsSafe D.Disk next → IsLeftAlone D.Disk next last
         → D.left_since last (D.clock next) image → HoldsOnce opening history image }
+{}
+
+/// The runs of a list, each ended by its return or by a crash at any moment, leave in their order what each had answered to
+/// be accepted, and of each at most one more, that was answered `fault`. The first begins on a disk of which a crash leaves
+/// just what is read.
+pub fn runs_in_a_row<D: Disk>()
+    ensures { (first last : D) (commands : List Command) (runs : List (OneRun D)) (image : List ℕ) → IsSafe D.Disk first
+        → Opens (D.reads first) commands → AreRuns D.Disk first runs last → D.may_leave last image
+        → (held : List Command) × Opens image held × AreLeft commands runs held }
 {}
