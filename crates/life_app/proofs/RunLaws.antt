@@ -21,7 +21,7 @@ pub record Starts {D : Type 0} (g : Ghosts D) (P : List Command → Type 0) (dis
       × ((commands ≡ base) ⊎ ((command : Command) × (commands ≡ base ++ command ∷ [])))
 
 -- what has P, and behind it what a run adds
-Grown : {D : Type 0} → (List Command → Type 0) → OneRun D → List Command → Type 0
+abbrev Grown : {D : Type 0} → (List Command → Type 0) → OneRun D → List Command → Type 0
 Grown P run commands =
     (before held more : List Command) × P before × Adds run held more × (commands ≡ before ++ held ++ more)
 
@@ -88,18 +88,14 @@ front_of_none (entry ∷ front) rest none = cc
 
 module _ {D : Type 0} (g : Ghosts D) (facts : Facts g) (P : List Command → Type 0) (old : D) (run : OneRun D) (honest : g.honest run.new)
     (starts : Starts g P old) where
-  -- how an image opens that opens as the file does
-  as_file : g.honest old → (image : List ℕ) (commands : List Command) → Opens (g.reads old) commands → Opens image commands
-      → Held P starts.base image
-  as_file before image commands opens alike =
+  -- the commands to which the file opens
+  near : g.honest old → (commands : List Command) → Opens (g.reads old) commands
+      → P commands × ((commands ≡ starts.base) ⊎ ((command : Command) × (commands ≡ starts.base ++ command ∷ [])))
+  near before commands opens =
       let held = starts.images (g.reads old) (facts.reads_as_image old before) in
       let same : held.0 ≡ commands = opens_to_one (g.reads old) held.0 commands held.1 opens in
-      (
-        commands,
-        alike,
-        subst P same held.2,
-        subst (λ (cs : List Command). (cs ≡ starts.base) ⊎ ((command : Command) × (cs ≡ starts.base ++ command ∷ []))) same held.3,
-      )
+      subst (λ (cs : List Command). P cs × ((cs ≡ starts.base) ⊎ ((command : Command) × (cs ≡ starts.base ++ command ∷ [])))) same
+      (held.2, held.3)
 
   -- no office was opened
   module _ (none : run.history ≡ []) (later : g.clock old ≤ g.clock run.new)
@@ -134,7 +130,7 @@ module _ {D : Type 0} (g : Ghosts D) (facts : Facts g) (P : List Command → Typ
   alone_image : IsLeftAlone g old run.new → (image : List ℕ) → g.left_since run.new (g.clock old) image → Held P starts.base image
   alone_image alone image left = elim (alone.since honest image left) [
     | inl before ↦ starts.images image before
-    | inr alike ↦ as_file (alone.honesty honest) image alike.0 alike.1 alike.2
+    | inr alike ↦ (let is = near (alone.honesty honest) alike.0 alike.1 in (alike.0, alike.2, is.0, is.1))
   ]
 
   same_image : run.new ≡ old → (image : List ℕ) → g.left_since run.new (g.clock old) image → Held P starts.base image
@@ -144,8 +140,9 @@ module _ {D : Type 0} (g : Ghosts D) (facts : Facts g) (P : List Command → Typ
 
   -- an office was opened
   module _ (left : IsLeftBy g old run.new run.opening run.history) where
-    opened_held : Held P starts.base (g.reads old)
-    opened_held = as_file (left.honesty honest) (g.reads old) run.opening.commands (left.opened honest) (left.opened honest)
+    opened_near : P run.opening.commands
+        × ((run.opening.commands ≡ starts.base) ⊎ ((command : Command) × (run.opening.commands ≡ starts.base ++ command ∷ [])))
+    opened_near = near (left.honesty honest) run.opening.commands (left.opened honest)
 
     adds_all : HasReturned run → (more : List Command) → IsOneMore run.history (accepted_of run.history) more
         → Adds run (accepted_of run.history) more
@@ -162,7 +159,7 @@ module _ {D : Type 0} (g : Ghosts D) (facts : Facts g) (P : List Command → Typ
         run.opening.commands,
         accepted_of run.history,
         [],
-        opened_held.2,
+        opened_near.0,
         adds_all returned [] tt,
         sym (append-nil (commands_after run.opening run.history)),
       );
@@ -174,7 +171,7 @@ module _ {D : Type 0} (g : Ghosts D) (facts : Facts g) (P : List Command → Typ
             run.opening.commands,
             accepted_of run.history,
             [],
-            opened_held.2,
+            opened_near.0,
             adds_all returned [] tt,
             sym (append-nil (commands_after run.opening run.history)),
           ),
@@ -189,7 +186,7 @@ module _ {D : Type 0} (g : Ghosts D) (facts : Facts g) (P : List Command → Typ
                 run.opening.commands,
                 accepted_of run.history,
                 more.0 ∷ [],
-                opened_held.2,
+                opened_near.0,
                 adds_all returned (more.0 ∷ [])
                 (was.after, (record { before = was.before; caller = was.caller; count = was.count; turns = was.turns }, was.then)),
                 refl,
@@ -226,7 +223,7 @@ module _ {D : Type 0} (g : Ghosts D) (facts : Facts g) (P : List Command → Typ
             let least = some.kept.since (g.reads run.next) some.late in
             let same : held.0 ≡ commands_after run.opening some.front ++ least.0 = opens_to_one (g.reads run.next) _ _ held.1 least.1 in
             let short = held_length starts.base held.0 held.3 in
-            let long = held_length starts.base opened_held.0 opened_held.3 in
+            let long = held_length starts.base run.opening.commands opened_near.1 in
             let lengths : length held.0 ≡ length run.opening.commands + length (accepted_of some.front) + length least.0 =
             ap length same ∙ length-append (commands_after run.opening some.front) least.0
             ∙ ap (λ n. n + length least.0) (length-append run.opening.commands (accepted_of some.front)) in
@@ -238,7 +235,7 @@ module _ {D : Type 0} (g : Ghosts D) (facts : Facts g) (P : List Command → Typ
                 run.opening.commands,
                 accepted_of some.front,
                 [],
-                opened_held.2,
+                opened_near.0,
                 record {
                   front = (
                     accepted_of some.rest,
@@ -262,7 +259,7 @@ module _ {D : Type 0} (g : Ghosts D) (facts : Facts g) (P : List Command → Typ
         run.opening.commands,
         once.held,
         once.more,
-        opened_held.2,
+        opened_near.0,
         record { front = (once.rest, once.front); one = once.one; answered = answered_in cut once.held once.more once.opens },
         refl,
       ),
@@ -271,7 +268,7 @@ module _ {D : Type 0} (g : Ghosts D) (facts : Facts g) (P : List Command → Typ
     opened : HasReturned run ⊎ WasCut g old run → Starts g (Grown P run) run.next
     opened (inl returned) = subst (λ (disk : D). Starts g (Grown P run) disk) (sym returned.handed) (after returned)
     opened (inr cut) =
-        let held = elim (left.since honest (g.reads run.next) cut.left) [
+        let held : (commands : List Command) × Opens (g.reads run.next) commands × Grown P run commands = elim (left.since honest (g.reads run.next) cut.left) [
           | inl before ↦ cut_early cut (starts.images (g.reads run.next) before)
           | inr once ↦ cut_late cut once
         ] in
@@ -282,7 +279,7 @@ module _ {D : Type 0} (g : Ghosts D) (facts : Facts g) (P : List Command → Typ
   one_more_run (inr (inl alone)) ended = unopened alone.0 (alone_later alone.1) (alone_image alone.1) ended
   one_more_run (inr (inr same)) ended = unopened same.0 (rw same.1 (omega arith)) (same_image same.1) ended
 
-GrownBy : {D : Type 0} → (List Command → Type 0) → List (OneRun D) → List Command → Type 0
+abbrev GrownBy : {D : Type 0} → (List Command → Type 0) → List (OneRun D) → List Command → Type 0
 GrownBy P [] commands = P commands
 GrownBy P (run ∷ runs) commands = GrownBy (Grown P run) runs commands
 
