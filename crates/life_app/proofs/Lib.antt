@@ -3,3 +3,4 @@ pub mod HeadlineLaws
 pub mod RunLaws
 pub mod LeftLaws
 pub mod ProgramSteps
+pub mod ReasonSteps

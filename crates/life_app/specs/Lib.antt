@@ -1,5 +1,7 @@
 pub mod Words
 pub mod Needs
+pub mod Reasons
+pub mod Due
 pub mod Obeys
 pub mod Crashes
 pub mod Headline
