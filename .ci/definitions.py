@@ -18,7 +18,7 @@ import sys
 TOP = pathlib.Path(__file__).resolve().parent.parent
 NAME = r"[^\s:{}()\[\],.;⦃⦄]+"
 USE = re.compile(r"use\s+Rattle\.([\w.]+)\.\{([^}]*)\}")
-WORD = re.compile(r"[^\s:{}()\[\],.;⦃⦄×⊎λ→≡]+")
+WORD = re.compile(r"(?<![.\w])[^\s:{}()\[\],.;⦃⦄×⊎λ→≡]+")
 
 
 class Definition:
@@ -116,7 +116,8 @@ def reach(roots: set[str], definitions: dict[str, Definition], imports: dict[str
     while open_names:
         name = open_names.pop()
         if ".specs.declared." in name:
-            types.add(name.split(".TheVariants")[0] if ".TheVariants" in name else name)
+            parts = name.split(".TheVariants")[0].split(".")
+            types.add(".".join(parts[:-1] if parts[-1] == parts[-2] else parts))
             continue
         if name in seen or name in given or name not in definitions:
             continue
