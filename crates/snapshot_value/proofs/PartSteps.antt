@@ -22,7 +22,7 @@ use Rattle.snapshot_value.specs.Growing.{Grows}
 use Rattle.snapshot_value.specs.Valuing.{most_amount}
 use Rattle.snapshot_value.specs.declared.worksheet.Worksheet.{Worksheet}
 use Rattle.snapshot_value.specs.inside.Parts.{HasReadAll, HasReadPart, HasReadParts, HasReadRows, HasReadSome, calls_of, policies_at, reads_needed}
-use Rattle.snapshot_value.specs.inside.Sheets.{AreRows, HasMade}
+use Rattle.snapshot_value.specs.inside.Sheets.{AreSmallRows, HasMade}
 use Rattle.snapshot_value.proofs.Growth.{grows_more, grows_none}
 use Rattle.snapshot_value.proofs.PinSteps.{IsKnown}
 use Rattle.snapshot_value.proofs.RowSteps.{rows_length}
@@ -153,8 +153,8 @@ module _ {D W : Type 0} (basis : List Dated) (on : ℤ) (pin : Held) where
           policies : List Policy
           policies = policies_at old pin.position
 
-          rows : AreRows basis on policies last.rows.items
+          rows : AreSmallRows basis on policies last.rows.items
           rows =
-              subst (λ ps. AreRows basis on ps last.rows.items)
+              subst (λ ps. AreSmallRows basis on ps last.rows.items)
               (take_all (policies_per_read * k) policies (omega (arith, enough, is.counted)))
               (made_all basis on _ last made unread)

@@ -10,7 +10,7 @@ use Rattle.policy_value.specs.declared.worth.Row.{Row}
 use Rattle.policy_value.specs.declared.worth.Worth.{Worth}
 use Rattle.policy_value.specs.declared.worth.Worth.TheVariants.{Bounds, Word}
 use Rattle.snapshot_value.specs.Valuing.{IsValuedRow, most_amount}
-use Rattle.snapshot_value.specs.inside.Sheets.{AreRows}
+use Rattle.snapshot_value.specs.inside.Sheets.{AreSmallRows}
 use Rattle.snapshot_value.specs.inside.Workers.{IsSmallRow}
 
 pub all_append : {A : Type 0} (P : A → Type 0) (xs more : List A) → AllByRecursion P xs → AllByRecursion P more → AllByRecursion P (xs ++ more)
@@ -24,23 +24,23 @@ within_most amount (Word word) most within = tt
 
 module _ (basis : List Dated) (on : ℤ) where
   -- none
-  pub rows_none : AreRows basis on [] []
+  pub rows_none : AreSmallRows basis on [] []
   rows_none = record { each = tt; within = tt }
 
   -- some, and then some
-  pub rows_more : (first then : List Policy) (rows more : List Row) → AreRows basis on first rows → AreRows basis on then more
-      → AreRows basis on (first ++ then) (rows ++ more)
+  pub rows_more : (first then : List Policy) (rows more : List Row) → AreSmallRows basis on first rows → AreSmallRows basis on then more
+      → AreSmallRows basis on (first ++ then) (rows ++ more)
   rows_more first then rows more are adds = record {
     each = zip_append (IsValuedRow basis on) first rows then more are.each adds.each;
     within = all_append (λ (row : Row). IsWithinAmount most_amount row.worth) rows more are.within adds.within;
   }
 
   -- one for each
-  pub rows_length : (policies : List Policy) (rows : List Row) → AreRows basis on policies rows → length rows ≡ length policies
+  pub rows_length : (policies : List Policy) (rows : List Row) → AreSmallRows basis on policies rows → length rows ≡ length policies
   rows_length policies rows are = AllZip-long (IsValuedRow basis on) policies rows are.each
 
   -- each of them small
-  pub rows_each : (policies : List Policy) (rows : List Row) → AllZip (IsSmallRow basis on) policies rows → AreRows basis on policies rows
+  pub rows_each : (policies : List Policy) (rows : List Row) → AllZip (IsSmallRow basis on) policies rows → AreSmallRows basis on policies rows
   rows_each [] [] all = rows_none
   rows_each [] (row ∷ rows) all = absurd all
   rows_each (policy ∷ policies) [] all = absurd all

@@ -8,19 +8,19 @@ use Rattle.policy_types.specs.declared.policy.Policy.{Policy}
 use Rattle.policy_machine.specs.Rules.{IsSound}
 use Rattle.policy_value.specs.declared.worth.Row.{Row}
 use Rattle.snapshot_value.specs.declared.worker.Worker.{Worker}
-use Rattle.snapshot_value.specs.inside.Sheets.{AreRows}
-use Rattle.snapshot_value.specs.inside.Workers.{Gives, IsReady, IsSmallRow, Takes, ValuesBy}
+use Rattle.snapshot_value.specs.inside.Sheets.{AreSmallRows}
+use Rattle.snapshot_value.specs.inside.Workers.{GivesRow, IsReadyWorker, IsSmallRow, TakesPolicy, ValuesBy}
 use Rattle.snapshot_value.proofs.RowSteps.{rows_each}
 
 -- workers that are ready take sound policies
-pub ready_take : (workers : List Worker) (policies : List Policy) → AllByRecursion IsReady workers → AllByRecursion IsSound policies
-    → TakeAll Takes workers policies
+pub ready_take : (workers : List Worker) (policies : List Policy) → AllByRecursion IsReadyWorker workers → AllByRecursion IsSound policies
+    → TakeAll TakesPolicy workers policies
 ready_take workers policies ready sound =
-    all_more IsReady (λ (worker : Worker). AllByRecursion (Takes worker) policies) workers
-    (λ worker takes. all_more IsSound (Takes worker) policies takes sound) ready
+    all_more IsReadyWorker (λ (worker : Worker). AllByRecursion (TakesPolicy worker) policies) workers
+    (λ worker takes. all_more IsSound (TakesPolicy worker) policies takes sound) ready
 
 -- and still do afterwards
-pub ready_still : (old new : List Worker) → AreAsBefore Takes Gives old new → AllByRecursion IsReady old → AllByRecursion IsReady new
+pub ready_still : (old new : List Worker) → AreAsBefore TakesPolicy GivesRow old new → AllByRecursion IsReadyWorker old → AllByRecursion IsReadyWorker new
 ready_still [] [] all ready = tt
 ready_still [] (w ∷ new) all ready = absurd all
 ready_still (v ∷ old) [] all ready = absurd all
@@ -28,7 +28,7 @@ ready_still (v ∷ old) (w ∷ new) all ready =
     (λ policy sound. all.0.takes_still policy (ready.0 policy sound), ready_still old new all.1 ready.1)
 
 module _ (basis : List Dated) (on : ℤ) where
-  pub by_still : (old new : List Worker) → AreAsBefore Takes Gives old new → AllByRecursion (ValuesBy basis on) old
+  pub by_still : (old new : List Worker) → AreAsBefore TakesPolicy GivesRow old new → AllByRecursion (ValuesBy basis on) old
       → AllByRecursion (ValuesBy basis on) new
   by_still [] [] all by = tt
   by_still [] (w ∷ new) all by = absurd all
@@ -38,12 +38,12 @@ module _ (basis : List Dated) (on : ℤ) where
 
   -- what one of them gives is the policy's row
   may_value : (workers : List Worker) → AllByRecursion (ValuesBy basis on) workers → (policy : Policy) (row : Row)
-      → MayGive Gives workers policy row → IsSmallRow basis on policy row
+      → MayGive GivesRow workers policy row → IsSmallRow basis on policy row
   may_value [] by policy row may = absurd may
   may_value (w ∷ workers) by policy row (inl given) = by.0 policy row given
   may_value (w ∷ workers) by policy row (inr may) = may_value workers by.1 policy row may
 
   pub given_rows : (workers : List Worker) (policies : List Policy) (rows : List Row) → AllByRecursion (ValuesBy basis on) workers
-      → AreValues Gives workers policies rows → AreRows basis on policies rows
+      → AreValues GivesRow workers policies rows → AreSmallRows basis on policies rows
   given_rows workers policies rows by given =
-      rows_each basis on policies rows (zip_more (MayGive Gives workers) (IsSmallRow basis on) policies rows (may_value workers by) given)
+      rows_each basis on policies rows (zip_more (MayGive GivesRow workers) (IsSmallRow basis on) policies rows (may_value workers by) given)

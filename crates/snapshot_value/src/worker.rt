@@ -1,6 +1,6 @@
 // One worker of a valuation.
 ghost use Rattle.std.specs.Prelude.{◌≡◌, IfOk};
-ghost use Rattle.snapshot_value.specs.inside.Workers.{Takes, Gives};
+ghost use Rattle.snapshot_value.specs.inside.Workers.{TakesPolicy, GivesRow};
 
 use basis_book::Basis;
 use parallel_value::Piece;
@@ -16,9 +16,9 @@ pub struct Worker<'a> {
 }
 
 impl Piece<Policy, Row> for Worker<'_> {
-    ghost takes = { λ worker policy. Takes worker policy };
+    ghost takes = { λ worker policy. TakesPolicy worker policy };
 
-    ghost gives = { λ worker policy row. Gives worker policy row };
+    ghost gives = { λ worker policy row. GivesRow worker policy row };
 
     fn one(&mut self, policy: &Policy) -> Row {
         row(policy, self.basis, self.on, &mut self.cache)

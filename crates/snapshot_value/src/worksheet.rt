@@ -5,8 +5,8 @@ ghost use Rattle.basis_book.specs.Dated.{Dated};
 ghost use Rattle.parallel_value.specs.Pieces.{AreAsBefore};
 ghost use Rattle.policy_machine.specs.Rules.{IsSound};
 ghost use Rattle.policy_types.specs.declared.policy.Policy.{Policy as APolicy};
-ghost use Rattle.snapshot_value.specs.inside.Sheets.{AreRows, CanValue, HasMade};
-ghost use Rattle.snapshot_value.specs.inside.Workers.{Gives, IsReady, Takes, ValuesBy};
+ghost use Rattle.snapshot_value.specs.inside.Sheets.{AreSmallRows, IsSheetReady, HasMade};
+ghost use Rattle.snapshot_value.specs.inside.Workers.{GivesRow, IsReadyWorker, TakesPolicy, ValuesBy};
 
 use crate::worker::Worker;
 use basis_book::Basis;
@@ -38,7 +38,7 @@ pub struct Worksheet<'a> {
 }
 
 impl<'a> Worksheet<'a> {
-    /// Takes the memory for the rows of so many policies. There are as many workers as are asked for, or fewer where each
+    /// TakesPolicy the memory for the rows of so many policies. There are as many workers as are asked for, or fewer where each
     /// would have too few policies.
     pub fn new(
         alloc: Global,
@@ -68,7 +68,7 @@ impl<'a> Worksheet<'a> {
         alloc: Global,
         part: &[Policy],
     ) -> Result<(), NoMemory>
-        requires can { CanValue self.old }
+        requires can { IsSheetReady self.old }
         requires sound { AllByRecursion IsSound part.now }
         ensures made { (basis : List Dated) (on : ℤ) (policies : List APolicy) → HasMade basis on policies self.old
             → OnOk result (HasMade basis on (policies ++ part.now) self.new) }
@@ -81,8 +81,8 @@ impl<'a> Worksheet<'a> {
 
     /// Values the policies that were read.
     pub fn value_read<R: Threads + Sync>(&mut self, rt: &R, alloc: Global) -> Result<(), NoMemory>
-        requires can { CanValue self.old }
-        ensures can { OnOk result (CanValue self.new) }
+        requires can { IsSheetReady self.old }
+        ensures can { OnOk result (IsSheetReady self.new) }
         ensures none { OnOk result (self.new.read.items ≡ []) }
         ensures made { (basis : List Dated) (on : ℤ) (policies : List APolicy) → HasMade basis on policies self.old
             → OnOk result (HasMade basis on policies self.new) }
@@ -130,7 +130,7 @@ fn workers_for<'a>(
 ) -> Result<Vec<Worker<'a>>, NoMemory>
     requires { (1 ≤ many) × (many ≤ 64) }
     ensures many { IfOk result (λ workers. length workers.items ≡ many) }
-    ensures ready { IfOk result (λ workers. AllByRecursion IsReady workers.items) }
+    ensures ready { IfOk result (λ workers. AllByRecursion IsReadyWorker workers.items) }
     ensures by { IfOk result (λ workers. AllByRecursion (ValuesBy basis.now on) workers.items) }
 {
     let share = many as u32;
@@ -151,11 +151,11 @@ fn value_all<R: Threads + Sync>(
 ) -> Result<Vec<Row>, NoMemory>
     requires some { 1 ≤ length workers.old }
     requires few { length workers.old ≤ 64 }
-    requires ready { AllByRecursion IsReady workers.old }
+    requires ready { AllByRecursion IsReadyWorker workers.old }
     requires sound { AllByRecursion IsSound policies.now }
     ensures rows { (basis : List Dated) (on : ℤ) → AllByRecursion (ValuesBy basis on) workers.old
-        → IfOk result (λ rows. AreRows basis on policies.now rows.items) }
-    ensures workers { AreAsBefore Takes Gives workers.old workers.new }
+        → IfOk result (λ rows. AreSmallRows basis on policies.now rows.items) }
+    ensures workers { AreAsBefore TakesPolicy GivesRow workers.old workers.new }
 {
     match map_in(rt, alloc, workers, policies) {
         Ok(rows) => Ok(rows),

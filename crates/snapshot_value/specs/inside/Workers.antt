@@ -14,17 +14,17 @@ abbrev pub IsSmallRow : List Dated → ℤ → Policy → Row → Type 0
 IsSmallRow basis on policy row = IsValuedRow basis on policy row × IsWithinAmount most_amount row.worth
 
 -- what it takes, where its cache is right for its basis
-abbrev pub Takes : Worker → Policy → Type 0
-Takes worker policy = IsRightFor worker.basis.now worker.cache × IsSound policy
+abbrev pub TakesPolicy : Worker → Policy → Type 0
+TakesPolicy worker policy = IsRightFor worker.basis.now worker.cache × IsSound policy
 
 -- and what it gives of it
-abbrev pub Gives : Worker → Policy → Row → Type 0
-Gives worker policy row = IsSmallRow worker.basis.now worker.on policy row
+abbrev pub GivesRow : Worker → Policy → Row → Type 0
+GivesRow worker policy row = IsSmallRow worker.basis.now worker.on policy row
 
 -- it takes each sound policy
-abbrev pub IsReady : Worker → Type 0
-IsReady worker = (policy : Policy) → IsSound policy → Takes worker policy
+abbrev pub IsReadyWorker : Worker → Type 0
+IsReadyWorker worker = (policy : Policy) → IsSound policy → TakesPolicy worker policy
 
 -- what it gives is the row by this basis on this day
 abbrev pub ValuesBy : List Dated → ℤ → Worker → Type 0
-ValuesBy basis on worker = (policy : Policy) (row : Row) → Gives worker policy row → IsSmallRow basis on policy row
+ValuesBy basis on worker = (policy : Policy) (row : Row) → GivesRow worker policy row → IsSmallRow basis on policy row
