@@ -1,11 +1,11 @@
 -- What a call does to what a book stands for.
-use Rattle.std.proofs.Common.{◌≡◌, ℕ, zero, suc, ◌+◌, ◌<◌, ◌≤◌, Bool, true, false, nat_eq, nat_le, List, [], ◌∷◌, ◌++◌, length, filter, map, slice_get, None, Some, refl, sym, ap, ◌∙◌, subst, ◌⊎◌, inl, inr, arith}
+use Rattle.std.proofs.Common.{◌≡◌, ℕ, zero, suc, ◌+◌, ◌<◌, ◌≤◌, Bool, true, false, nat_eq, nat_le, List, [], ◌∷◌, ◌++◌, length, filter, map, slice_get, None, Some, Option, refl, sym, ap, ◌∙◌, subst, ◌⊎◌, inl, inr, arith}
 use Rattle.std.proofs.lemmas.Bool.{eqb-true, cases_lt}
 use Rattle.std.specs.List.{list_any}
 use Rattle.indexmap.specs.IndexMap.{get, keys, set_value_at, Updates}
 use Rattle.versioned_book.specs.Versions.{IsRisingTo, versions_from, versions}
 use Rattle.versioned_book.specs.Settings.{Setting, keys_of, own, positions, until}
-use Rattle.versioned_book.specs.Books.{IsBookOf, kept_of, many, many_in}
+use Rattle.versioned_book.specs.Books.{IsBookOf, kept_of, many, many_in, versions_in, versions_under}
 use Rattle.versioned_book.specs.declared.chain.Chain.{Chain}
 use Rattle.versioned_book.specs.declared.book.VersionedBook.{VersionedBook}
 use Rattle.versioned_book.proofs.VersionSteps.{some_same, trimmed-push}
@@ -145,3 +145,11 @@ module _ {V : Type 0} where
       count = kept ∙ h.count ∙ sym many_same;
       bound = omega (arith, kept, last, h.bound);
     }
+
+pub versions_in-book : {V : Type 0} (book : VersionedBook V) (sets : List (Setting V)) (key : ℕ) → IsBookOf book sets
+    → versions_in book key ≡ versions_from book.floor (own key sets)
+versions_in-book {V} book sets key is = by (get nat_eq book.chains key) refl
+  where
+    by : (o : Option (Chain V)) → get nat_eq book.chains key ≡ o → versions_in book key ≡ versions_from book.floor (own key sets)
+    by None none = ap versions_under none ∙ sym (ap (versions_from book.floor) (is.absent key none))
+    by (Some chain) found = ap versions_under found ∙ is.kept key chain found

@@ -1,5 +1,5 @@
 -- A book and the settings that it stands for.
-use Rattle.std.specs.Prelude.{◌≡◌, ℕ, ◌+◌, ◌<◌, ◌≤◌, List, [], ◌∷◌, length, filter, nat_eq, nat_le, slice_get, None, Some, vec_len, vec_capacity}
+use Rattle.std.specs.Prelude.{◌≡◌, ℕ, ◌+◌, ◌<◌, ◌≤◌, List, [], ◌∷◌, length, filter, nat_eq, nat_le, slice_get, None, Some, Option, vec_len, vec_capacity}
 use Rattle.indexmap.specs.IndexMap.{get, keys, spare}
 use Rattle.versioned_book.specs.Versions.{IsRisingTo, versions_from, versions}
 use Rattle.versioned_book.specs.Settings.{Setting, keys_of, own, positions, until}
@@ -19,6 +19,14 @@ module _ {V : Type 0} where
   -- how many versions a book keeps
   abbrev pub kept_of : VersionedBook V → ℕ
   kept_of book = many_in book.chains.entries
+
+  -- what is kept of a key, and nothing where it isn't there
+  abbrev pub versions_under : Option (Chain V) → List (ℕ × V)
+  versions_under None = []
+  versions_under (Some chain) = versions chain
+
+  abbrev pub versions_in : VersionedBook V → ℕ → List (ℕ × V)
+  versions_in book key = versions_under (get nat_eq book.chains key)
 
   -- the book stands for these settings, of which it keeps what its floor and the positions above it need
   pub record IsBookOf (book : VersionedBook V) (sets : List (Setting V)) : Type 0 where
@@ -41,3 +49,5 @@ module _ {V : Type 0} where
   pub record CanSet (book : VersionedBook V) (key : ℕ) : Type 0 where
     pub fresh : get nat_eq book.chains key ≡ None → (0 < spare book.chains) × (vec_len book.firsts < vec_capacity book.firsts)
     pub more : (chain : Chain V) → get nat_eq book.chains key ≡ Some chain → vec_len chain.older < vec_capacity chain.older
+
+axiom pub IsBookOf-prop : {V : Type 0} → IsSet V → (book : VersionedBook V) (sets : List (Setting V)) → IsProp (IsBookOf book sets)

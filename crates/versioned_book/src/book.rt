@@ -109,6 +109,13 @@ impl<V: Copy> VersionedBook<V> {
         chain.at(p, steps).unwrap()
     }
 
+    /// The position from which on all is kept.
+    pub fn floor(&self) -> u32
+        ensures { result ≡ self.now.floor }
+    {
+        self.floor
+    }
+
     /// How many versions are kept.
     pub fn kept(&self) -> u32
         ensures kept { (sets : List (Setting V)) → IsBookOf self.now sets → result ≡ kept_of self.now }
