@@ -189,7 +189,7 @@ module _ {D W : Type 0} {g : Ghosts D} {w : WatcherGhosts W} (old : OfficeState 
       (fewer ∙ ap (filter (λ (held : Held). not (pin == held.number))) stands.pins ∙ sym (pins_held-fewer turns entry refl))
 
   -- the least position of a live pin, or the count, isn't below the floor
-  abbrev least : ℕ
+  abbrev pub least : ℕ
   least = fold min (length (commands_of old)) (map (λ (held : Held). held.position) old.pins.items)
 
   in_order : PinsHold opening turns
