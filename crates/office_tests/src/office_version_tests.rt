@@ -10,6 +10,7 @@ use watcher_set::NoWatchers;
 
 // 2021-01-01 and 2022-01-01, when the second and the third premium are due.
 const SECOND_YEAR: i32 = 18_628;
+
 const THIRD_YEAR: i32 = 18_993;
 
 /// How many commands the script has.
@@ -50,7 +51,11 @@ fn needed(floor: usize, count: usize) -> usize {
     let mut kept = 0;
     for place in 0..count.min(COMMANDS) {
         let id = script[place].id();
-        let later = script.iter().take(floor).skip(place + 1).any(|other| other.id() == id);
+        let later = script
+            .iter()
+            .take(floor)
+            .skip(place + 1)
+            .any(|other| other.id() == id);
         if floor <= place || !later {
             kept += 1;
         }
@@ -121,7 +126,11 @@ fn a_pin_at_each_position(rt: HostRuntime) -> Result<(), AllocError> {
         assert!(rt; pins_so(&mut desk, Pinning::Unpin(12 + oldest as u64)));
         let floor = (oldest + 1).min(COMMANDS);
         assert!(rt; pins_so(&mut desk, Pinning::Trim(floor as u32)));
-        assert_eq!(rt; desk.office.kept() as usize, needed(floor, COMMANDS), "from {floor}");
+        assert_eq!(rt;
+            desk.office.kept() as usize,
+            needed(floor, COMMANDS),
+            "from {floor}"
+        );
         let below = Pinning::At(0, Err(PinRefusal::Trimmed(floor as u32)));
         assert!(rt; pins_so(&mut desk, below));
     }

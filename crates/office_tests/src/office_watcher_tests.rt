@@ -102,7 +102,10 @@ fn postings_that_leave_no_trace(rt: HostRuntime) -> Result<(), AllocError> {
     assert!(rt; desk.office.kept() == 1 && shows(&desk, 1, &[first]));
     assert!(rt; answers(&mut desk, &[refused(premium(NEW_YEAR), Refusal::Unknown)]));
     assert!(rt; desk.office.kept() == 1 && shows(&desk, 1, &[first]));
-    let rest = [accepted(issue(2, NEW_YEAR), 2), accepted(issue(3, NEW_YEAR), 3)];
+    let rest = [
+        accepted(issue(2, NEW_YEAR), 2),
+        accepted(issue(3, NEW_YEAR), 3),
+    ];
     assert!(rt; answers(&mut desk, &rest));
     assert!(rt; desk.office.kept() == 3 && shows(&desk, 1, &[first]));
     assert!(rt; shows(&desk, 2, &[first, second]) && shows(&desk, 3, &[first, second, third]));
