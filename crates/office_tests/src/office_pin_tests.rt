@@ -8,14 +8,14 @@ use watcher_set::NoWatchers;
 
 // A call of one caller that concerns pins, and its answer.
 #[derive(Clone, Copy)]
-enum Pinning {
+pub(crate) enum Pinning {
     Now(Result<PinInfo, PinRefusal>),
     At(u32, Result<PinInfo, PinRefusal>),
     Trim(u32),
     Unpin(u64),
 }
 
-fn pinned(number: u64, position: u32, policies: u32) -> Result<PinInfo, PinRefusal> {
+pub(crate) fn pinned(number: u64, position: u32, policies: u32) -> Result<PinInfo, PinRefusal> {
     Ok(PinInfo {
         number,
         position,
@@ -24,7 +24,7 @@ fn pinned(number: u64, position: u32, policies: u32) -> Result<PinInfo, PinRefus
 }
 
 // Whether the office answers so.
-fn pins_so(desk: &mut Desk<NoWatchers>, pinning: Pinning) -> bool {
+pub(crate) fn pins_so(desk: &mut Desk<NoWatchers>, pinning: Pinning) -> bool {
     if MOST_TURNS <= desk.office.turns() {
         return false;
     }
@@ -48,7 +48,7 @@ fn gives_up(desk: &mut Desk<NoWatchers>, pin: u64) -> bool {
 }
 
 // Reads a batch of a pin, if the caller holds it.
-fn reads(desk: &mut Desk<NoWatchers>, pin: u64, first: u32, batch: &mut Batch) -> bool {
+pub(crate) fn reads(desk: &mut Desk<NoWatchers>, pin: u64, first: u32, batch: &mut Batch) -> bool {
     let Some(held) = desk.office.held(pin) else {
         return false;
     };
