@@ -44,7 +44,7 @@ module _ {D : Type 0} (g : Ghosts D) (start : Journal D g) where
         (stopped_at mid (disk_of new) books n replayed within stays honesty stuck.2),
   )
   stopped mid new books n replayed within stays honesty NotAJournal stuck = absurd stuck
-  stopped mid new books n replayed within stays honesty NoMemory stuck = absurd stuck
+  stopped mid new books n replayed within stays honesty NoMemory stuck = stuck ∙ replayed.quiet
 
   -- with every record replayed, the bodies are those of the commands
   pub all_replayed : (new : Journal D g) (books : Books)

@@ -1,8 +1,8 @@
 // The records of a journal are decided anew.
-ghost use Rattle.std.specs.Prelude.{◌≡◌, ◌+◌, ◌<◌, ◌≤◌, [], length, MatchResult};
+ghost use Rattle.std.specs.Prelude.{◌≡◌, ◌<◌, [], length, MatchResult};
 ghost use Rattle.policy_types.specs.Limits.{most_commands};
 ghost use Rattle.posting_journal.specs.States.{count_of, disk_of};
-ghost use Rattle.office_state.specs.inside.Books.{commands_in, room_in};
+ghost use Rattle.office_state.specs.inside.Books.{commands_in, floor_in};
 ghost use Rattle.office_state.specs.inside.Replays.{StaysAs, IsReplayed, IsStuck, AreReplayed, HasStopped};
 
 use crate::books::Books;
@@ -13,8 +13,8 @@ use record_codec::decode;
 
 /// Decides each record's command, in order, and keeps it.
 pub(crate) fn replay<D: Disk>(journal: &mut Journal<D>, books: &mut Books) -> Result<(), StartCause>
-    requires room { count_of journal.old ≤ room_in books.old }
     requires empty { commands_in books.old ≡ [] }
+    ensures floor { floor_in books.new ≡ floor_in books.old }
     ensures stays { StaysAs journal.old journal.new }
     ensures replayed { MatchResult result
         (λ u. AreReplayed journal.old journal.new books.new (count_of journal.old))
@@ -34,8 +34,7 @@ fn replay_record<D: Disk>(
 ) -> Result<(), StartCause>
     requires within { n < count_of journal.old }
     requires few { length (commands_in books.old) < most_commands }
-    requires room { 0 < room_in books.old }
-    ensures room { room_in books.old ≤ room_in books.new + 1 }
+    ensures floor { floor_in books.new ≡ floor_in books.old }
     ensures stays { StaysAs journal.old journal.new }
     ensures replayed { MatchResult result
         (λ u. IsReplayed journal.old journal.new books.old books.new n)
@@ -51,6 +50,9 @@ fn replay_record<D: Disk>(
     let Ok(policy) = books.decision(&command) else {
         return Err(StartCause::BadRecord(n));
     };
+    if books.reserve(command.id()).is_err() {
+        return Err(StartCause::NoMemory);
+    }
     books.keep(&command, policy);
     Ok(())
 }
