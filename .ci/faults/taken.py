@@ -13,7 +13,7 @@ import sys
 import time
 
 from judge import Wrong, commands_in, demand, demand_file, follow, reason
-from journals import RECORD_SIZE, file_of
+from journals import RECORD_SIZE, file_of, read_journal
 from runs import JOURNAL, Desk, read_bytes, write_bytes
 from scenes import ONE_CLERK, book_before
 from tables import read_basis
@@ -78,7 +78,8 @@ def judge(ended, before, kept, was_cut, basis):
     demand(run.faults > 0, f"no line is answered fault: {ended.text[:200]!r}")
     demand(",accepted," not in ended.text[ended.text.index(",fault"):], f"accepted behind a fault: {ended.text[:200]!r}")
     if was_cut:
-        found = commands_in(kept, "the cut file")
+        # a file that is cut behind an open gate is refused from there on
+        found = read_journal(kept).commands
         demand(found == run.book.commands[:len(found)], "a record of the cut file is another")
     else:
         demand_file(kept, run.book.commands, run.in_doubt)
