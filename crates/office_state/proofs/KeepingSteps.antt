@@ -153,3 +153,10 @@ pub promised : (books : Books) (commands : List Command) (floor : ℕ) → comma
     → Promised books commands floor
 promised books commands floor kept floored =
     subst (λ cs. Promised books cs floor) kept (subst (λ f. Promised books (commands_in books) f) floored (own_promises books))
+
+-- the floor is no later than the last command
+pub floor_within : (books : Books) → floor_in books ≤ books.count
+floor_within books =
+    let kept = books.kept in
+    let set = kept.set in
+    omega (arith, set.floor, kept.last, kept.counted)

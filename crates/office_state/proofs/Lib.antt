@@ -1,3 +1,4 @@
+pub mod BookSteps
 pub mod JournalLaws
 pub mod Walks
 pub mod KeepingSteps

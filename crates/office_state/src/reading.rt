@@ -39,6 +39,13 @@ impl<D: Disk, W: Watching> OfficeState<D, W> {
         self.books.ledger()
     }
 
+    /// The position from which on policies are kept.
+    pub fn floor(&self) -> u32
+        ensures { result ≡ floor_kept self.now }
+    {
+        self.books.floor()
+    }
+
     /// How many policies there are after the first `p` accepted commands.
     pub fn policies(&self, p: u32) -> u32
         requires position { p ≤ count_of self.now }
