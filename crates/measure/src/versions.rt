@@ -21,12 +21,12 @@ struct Load {
     policies: u32,
     versions: u32,
     reads: u32,
-    trims: bool,
+    trims: u32,
 }
 
-/// Sets so many policies so many times each, in turn; reads 256 policies so many times, each at another position; gives up
-/// all but the newest versions where the last word isn't 0; and prints how many policies and versions there are then, and
-/// the sum of the premiums paid of those that were read.
+/// Sets so many policies so many times each, in turn; reads 256 policies so many times, each time at another position; gives
+/// up all but the newest versions, so many times over; and prints how many policies and versions there are then, and the sum
+/// of the premiums paid of those that were read.
 pub fn measure_versions<R: Print + AllocGlobal>(rt: &R, words: &mut Args) -> io::Result<Outcome> {
     let (Some(policies), Some(versions), Some(reads), Some(trims)) = (
         number_in(words),
@@ -40,7 +40,7 @@ pub fn measure_versions<R: Print + AllocGlobal>(rt: &R, words: &mut Args) -> io:
         policies,
         versions,
         reads,
-        trims: trims != 0,
+        trims,
     };
     let Ok((kept, paid)) = run::<Brand>(rt.alloc(), Blank::new(1), load) else {
         return Ok(Outcome::NoMemory);
@@ -67,7 +67,7 @@ fn run<L: Ledger>(alloc: Global, blank: Blank, load: Load) -> Result<(u32, u64),
         let first = n.wrapping_mul(2_246_822_519) % load.policies.max(1);
         paid = paid.saturating_add(read_batch(&book, first, p, &mut steps));
     }
-    if load.trims {
+    for _ in 0..load.trims {
         book.trim(last);
     }
     Ok((book.kept(), paid))

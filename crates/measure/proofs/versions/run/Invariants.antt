@@ -7,3 +7,6 @@ invariant-loop-round g l = IsSomeBook l.book × (l.book.last ≤ l.last) × (l.b
 
 abbrev pub invariant-loop-n : goal.invariant-loop-n
 invariant-loop-n g l = IsSomeBook l.book × (l.book.last ≤ l.last) × (l.book.floor ≡ 0)
+
+abbrev pub invariant-loop : goal.invariant-loop
+invariant-loop g l = IsSomeBook l.book × (l.book.floor ≤ l.last)
