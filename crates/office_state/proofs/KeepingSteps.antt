@@ -1,5 +1,5 @@
 -- What the books keep of the accepted commands, and what one more of them does to it
-use Rattle.std.proofs.Common.{◌≡◌, ℕ, ◌+◌, ◌*◌, ◌-◌, ◌^◌, ◌≤◌, ◌<◌, List, [], ◌∷◌, ◌++◌, drop, length, refl, ap, sym, ◌∙◌, subst, filter_map, Ok, length-append, arith}
+use Rattle.std.proofs.Common.{◌≡◌, ℕ, ◌+◌, ◌*◌, ◌-◌, ◌^◌, ◌≤◌, ◌<◌, List, [], ◌∷◌, ◌++◌, length, refl, ap, sym, ◌∙◌, subst, filter_map, Ok, length-append, arith}
 use Rattle.std.specs.Prelude.{is_ok}
 use Rattle.std.proofs.lemmas.List.{length-drop}
 use Rattle.std.proofs.Math.Seq.{take-length}
@@ -14,7 +14,7 @@ use Rattle.money_ledgers.specs.Balances.{HasRoom, balances}
 use Rattle.money_ledgers.specs.declared.ledger.Ledger.{Ledger}
 use Rattle.policy_machine.specs.Accounts.{ledger_of}
 use Rattle.policy_machine.specs.Rules.{next}
-use Rattle.policy_machine.specs.Book.{book, policy_of, issue_id}
+use Rattle.policy_machine.specs.Book.{book, policy_of}
 use Rattle.policy_machine.proofs.BookLemmas.{IsAccepted-push}
 use Rattle.policy_machine.proofs.LedgerLemmas.{AreWithin-ledger, AreWithin-wider, ledger_of-push}
 use Rattle.policy_versions.specs.Commands.{sets_of}
@@ -22,7 +22,7 @@ use Rattle.policy_versions.proofs.BookValues.{key_count, keys_of-sets_of}
 use Rattle.policy_versions.proofs.PolicyValues.{newest_of-sets_of}
 use Rattle.policy_versions.proofs.SetSteps.{few_after, sets_of-accepted, sets_of-rise}
 use Rattle.versioned_book.specs.Books.{IsBookOf, IsSomeBook, kept_of, versions_in}
-use Rattle.versioned_book.specs.Settings.{Setting, keys_of, own, positions, settings_after, until}
+use Rattle.versioned_book.specs.Settings.{Setting, keys_of, own, until}
 use Rattle.versioned_book.specs.Versions.{newest_of, versions_from}
 use Rattle.versioned_book.specs.declared.book.VersionedBook.{VersionedBook}
 use Rattle.versioned_book.proofs.BookSteps.{versions_in-book}

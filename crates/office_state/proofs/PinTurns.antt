@@ -13,7 +13,7 @@ use Rattle.policy_types.specs.declared.entry.PinRefusal.{PinRefusal}
 use Rattle.policy_types.specs.declared.entry.PinRefusal.TheVariants.{Ahead, Trimmed, PinsFull}
 use Rattle.policy_types.specs.declared.entry.Entry.{Entry}
 use Rattle.policy_machine.specs.Book.{book}
-use Rattle.policy_machine.specs.History.{Opening, IsDue, IsOwnPin, accepted_of, commands_after, floor_of, floor_set, gives_up, least_or, live_pin, live_positions, most_pins, pin_of}
+use Rattle.policy_machine.specs.History.{Opening, IsDue, IsOwnPin, accepted_of, commands_after, floor_set, gives_up, least_or, live_pin, live_positions, most_pins, pin_of}
 use Rattle.policy_machine.proofs.HistoryGrowth.{PinsHold, PinsHold-legal, floor_of-kept, floor_of-set, least-count}
 use Rattle.posting_journal.specs.States.{count_of as records_in}
 use Rattle.office_state.specs.declared.books.Books.{Books}

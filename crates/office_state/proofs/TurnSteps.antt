@@ -7,14 +7,12 @@ use Rattle.outside_io.specs.declared.disks.Disk.{Ghosts}
 use Rattle.outside_io.specs.Faults.{Rose}
 use Rattle.policy_types.specs.declared.command.Command.{Command}
 use Rattle.policy_types.specs.declared.policy.Policy.{Policy}
-use Rattle.policy_types.specs.declared.entry.Reply.{Reply}
 use Rattle.policy_types.specs.declared.entry.Reply.TheVariants.{Accepted, Faulted}
 use Rattle.policy_types.specs.declared.entry.Entry.{Entry}
 use Rattle.policy_types.specs.Valid.{IsValid, id_of}
-use Rattle.policy_machine.specs.Accounts.{ledger_of}
-use Rattle.policy_machine.specs.Book.{book, policy_of, IsAccepted}
+use Rattle.policy_machine.specs.Book.{policy_of, IsAccepted}
 use Rattle.policy_machine.specs.Rules.{next}
-use Rattle.policy_machine.specs.History.{Opening, IsDue, IsLegal, accepted_of, commands_after, floor_of, floor_set, pin_of, refusal_due}
+use Rattle.policy_machine.specs.History.{Opening, IsDue, IsLegal, accepted_of, commands_after, floor_of, refusal_due}
 use Rattle.policy_machine.proofs.BookLemmas.{IsAccepted-push}
 use Rattle.policy_machine.proofs.HistoryLemmas.{IsLegalAfter-push, accepted_of-push}
 use Rattle.record_codec.specs.Spelling.{spelling_of}

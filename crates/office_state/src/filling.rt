@@ -87,7 +87,9 @@ impl Books {
         ensures looks { steps.new ≤ steps.old + 256 * looks_at_most }
     {
         window.clear();
-        let end = self.policies(p).min(first.saturating_add(POLICIES_PER_READ));
+        let end = self
+            .policies(p)
+            .min(first.saturating_add(POLICIES_PER_READ));
         for index in first..end {
             let policy = self.policy_counted(index, p, steps);
             window.push_reserved(policy);

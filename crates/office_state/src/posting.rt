@@ -98,11 +98,7 @@ impl<D: Disk, W: Watching> OfficeState<D, W> {
 }
 
 // Takes the memory that a posting of this policy's number may need: that of the books, and that of the watchers.
-fn take_memory<W: Watching>(
-    books: &mut Books,
-    id: u32,
-    watchers: &mut W,
-) -> Result<(), NoMemory>
+fn take_memory<W: Watching>(books: &mut Books, id: u32, watchers: &mut W) -> Result<(), NoMemory>
     ensures commands { commands_in books.new ≡ commands_in books.old }
     ensures floor { floor_in books.new ≡ floor_in books.old }
     ensures handed { W.handed watchers.new ≡ W.handed watchers.old }

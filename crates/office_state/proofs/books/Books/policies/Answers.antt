@@ -2,7 +2,6 @@
 use Rattle.std.proofs.Common.{◌∙◌}
 use Rattle.policy_versions.specs.Commands.{sets_of}
 use Rattle.policy_versions.proofs.BookValues.{key_count}
-use Rattle.office_state.proofs.KeepingSteps.{some_book}
 use Rattle.office_state.proofs.books.Books.policies.Goals as goal
 
 pub returns : goal.returns

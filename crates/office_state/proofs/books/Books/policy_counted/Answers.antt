@@ -1,5 +1,5 @@
 -- The value at a position is the policy there, found in few looks.
-use Rattle.std.proofs.Common.{◌≡◌, ◌<◌, length, take, sym, ◌∙◌, arith}
+use Rattle.std.proofs.Common.{◌≡◌, length, take, ◌∙◌, arith}
 use Rattle.policy_machine.specs.Book.{book}
 use Rattle.policy_versions.specs.Commands.{sets_of}
 use Rattle.versioned_book.specs.Settings.{keys_of, until}
