@@ -54,7 +54,7 @@ use Rattle.life_args.specs.declared.mode.Mode.{Mode}
 use Rattle.life_args.specs.declared.mode.Mode.TheVariants.{Run}
 use Rattle.life_app.specs.Obeys.{Does, EndsMode, Obeys, SaysUnasked}
 use Rattle.life_app.specs.Words.{AskForRun}
-use Rattle.life_app.specs.Headline.{IsEnclosingRow, IsGivenBasis, IsPromised, IsThere, IsTold, IsToldText, IsUnrun, IsWorthBy, WasFaulted}
+use Rattle.life_app.specs.Headline.{IsEnclosingRow, IsGivenBasis, IsPromised, IsThere, IsToldLine, IsToldText, IsUnrun, IsWorthBy, WasFaulted}
 
 -- the rounded bounds of a row are bounds of the exact reserve
 worth_by : (policy : Policy) (entry : Dated) (on : ℤ) (shape : Result Shape NotValued) (t : ℕ) (worth : Worth)
@@ -103,7 +103,7 @@ told_text _ _ _ _ _ _ _ is = absurd is
 -- the text of a run line by line
 told_lines : (opening : Opening) (history : List Entry) (basis : List Dated) (dry : List ℕ) (lines : List AnsweredLine) (text : List ℕ)
     → IsTranscript opening history basis dry lines text
-    → (texts : List (List ℕ)) × AllZip (IsTold opening.commands history basis dry) lines texts
+    → (texts : List (List ℕ)) × AllZip (IsToldLine opening.commands history basis dry) lines texts
     × (text ≡ flat_map (λ (one : List ℕ). one) texts)
 told_lines opening history basis dry [] text is = ([], tt, is)
 told_lines opening history basis dry (line ∷ lines) text is =

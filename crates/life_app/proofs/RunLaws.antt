@@ -10,7 +10,7 @@ use Rattle.posting_journal.specs.Runs.{IsSafe}
 use Rattle.office_state.specs.Images.{HoldsNow, HoldsOnce, IsLeftAlone, IsLeftBy, IsOneMore, OpensAlike}
 use Rattle.office_state.specs.Journals.{Opens}
 use Rattle.office_state.proofs.JournalLaws.{opens_to_one}
-use Rattle.life_app.specs.Runs.{Adds, AreLeft, AreRuns, HasAnswered, HasReturned, IsLeftSo, IsRunOn, OneRun, WasCut}
+use Rattle.life_app.specs.Runs.{AddsCommands, AreLeft, AreRuns, HasAnsweredSome, HasReturned, IsLeftSo, IsRunOn, OneRun, WasCut}
 use Rattle.life_app.proofs.HeadlineLaws.{faulted_last}
 
 -- Each image that a disk may leave opens to commands with P: these, or these and one more.
@@ -23,14 +23,14 @@ pub record Starts {D : Type 0} (g : Ghosts D) (P : List Command → Type 0) (dis
 -- what has P, and behind it what a run adds
 abbrev Grown : {D : Type 0} → (List Command → Type 0) → OneRun D → List Command → Type 0
 Grown P run commands =
-    (before held more : List Command) × P before × Adds run held more × (commands ≡ before ++ held ++ more)
+    (before held more : List Command) × P before × AddsCommands run held more × (commands ≡ before ++ held ++ more)
 
 same_front : (front xs ys : List Command) → front ++ xs ≡ front ++ ys → xs ≡ ys
 same_front [] xs ys same = same
 same_front (command ∷ front) xs ys same = same_front front xs ys (cc)
 
 -- a run that had answered nothing may add nothing
-adds_nothing : {D : Type 0} (run : OneRun D) → run.answered ≡ [] → Adds run [] []
+adds_nothing : {D : Type 0} (run : OneRun D) → run.answered ≡ [] → AddsCommands run [] []
 adds_nothing run none = record { front = (accepted_of run.history, refl); one = tt; answered = ([], sym (append-nil run.answered ∙ none)) }
 
 grown_same : {D : Type 0} (P : List Command → Type 0) (run : OneRun D) (commands : List Command) → run.answered ≡ [] → P commands
@@ -145,7 +145,7 @@ module _ {D : Type 0} (g : Ghosts D) (facts : Facts g) (P : List Command → Typ
     opened_near = near (left.honesty honest) run.opening.commands (left.opened honest)
 
     adds_all : HasReturned run → (more : List Command) → IsOneMore run.history (accepted_of run.history) more
-        → Adds run (accepted_of run.history) more
+        → AddsCommands run (accepted_of run.history) more
     adds_all returned more one = record {
       front = ([], sym (append-nil (accepted_of run.history)));
       one = one;
