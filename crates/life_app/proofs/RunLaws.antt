@@ -178,8 +178,7 @@ module _ {D : Type 0} (g : Ghosts D) (facts : Facts g) (P : List Command → Typ
           inl refl,
         )
         | inr more ↦
-            let was = faulted_last run.history more.0 more.1 in
-            (
+            let was = faulted_last run.history more.0 more.1 in (
               commands_after run.opening run.history ++ more.0 ∷ [],
               inl more.2,
               (
@@ -188,7 +187,7 @@ module _ {D : Type 0} (g : Ghosts D) (facts : Facts g) (P : List Command → Typ
                 more.0 ∷ [],
                 opened_near.0,
                 adds_all returned (more.0 ∷ [])
-                (was.after, (record { before = was.before; caller = was.caller; count = was.count; turns = was.turns }, was.then)),
+                    (was.after, (record { before = was.before; caller = was.caller; count = was.count; turns = was.turns }, was.then)),
                 refl,
               ),
               inr (more.0, refl),
@@ -203,12 +202,11 @@ module _ {D : Type 0} (g : Ghosts D) (facts : Facts g) (P : List Command → Typ
       | inl nothing ↦ (held ++ more, ap (λ (cs : List Command). cs ++ (held ++ more)) (sym nothing))
       | inr some ↦
           let least = some.kept.since (g.reads run.next) some.late in
-          let same = opens_to_one (g.reads run.next) _ _ opens least.1 in
-          (
+          let same = opens_to_one (g.reads run.next) _ _ opens least.1 in (
             least.0,
             same_front run.opening.commands (held ++ more) (accepted_of some.front ++ least.0)
-            (sym (append_assoc run.opening.commands held more) ∙ same ∙ append_assoc run.opening.commands (accepted_of some.front) least.0)
-            ∙ ap (λ (cs : List Command). cs ++ least.0) (sym some.answered),
+                (sym (append_assoc run.opening.commands held more) ∙ same ∙ append_assoc run.opening.commands (accepted_of some.front) least.0)
+                ∙ ap (λ (cs : List Command). cs ++ least.0) (sym some.answered),
           )
     ]
 
@@ -227,8 +225,7 @@ module _ {D : Type 0} (g : Ghosts D) (facts : Facts g) (P : List Command → Typ
             let lengths : length held.0 ≡ length run.opening.commands + length (accepted_of some.front) + length least.0 =
             ap length same ∙ length-append (commands_after run.opening some.front) least.0
             ∙ ap (λ n. n + length least.0) (length-append run.opening.commands (accepted_of some.front)) in
-            let none : least.0 ≡ [] = no_items least.0 (let s = short.1 in let l = long.0 in omega (arith, s, l, lengths, one)) in
-            (
+            let none : least.0 ≡ [] = no_items least.0 (let s = short.1 in let l = long.0 in omega (arith, s, l, lengths, one)) in (
               held.0,
               held.1,
               (
@@ -295,8 +292,7 @@ one_by_one : {D : Type 0} (P : List Command → Type 0) (runs : List (OneRun D))
     → (before : List Command) × P before × AreLeft before runs commands
 one_by_one P [] commands is = (commands, is, refl)
 one_by_one P (run ∷ runs) commands grown =
-    let rest = one_by_one (Grown P run) runs commands grown in
-    (
+    let rest = one_by_one (Grown P run) runs commands grown in (
       rest.1.0,
       rest.1.3,
       (rest.1.1, rest.1.2, rest.1.4, subst (λ (before : List Command). AreLeft before runs commands) rest.1.5 rest.2),

@@ -52,7 +52,7 @@ both (inr not) q = inr (λ pair. not pair.0)
 one_of : {P Q : Type 0} → Either P → Either Q → Either (P ⊎ Q)
 one_of (inl p) q = inl (inl p)
 one_of (inr not) (inl q) = inl (inr q)
-one_of (inr not) (inr none) = inr (λ one. elim one [ | inl p ↦ not p | inr q ↦ none q ])
+one_of (inr not) (inr none) = inr (λ one. elim one [ inl p ↦ not p | inr q ↦ none q ])
 
 at_most : (n m : ℕ) → Either (n ≤ m)
 at_most n m = elim (cases_lt m n) [
@@ -295,7 +295,7 @@ module _ (verb : Verb) (words : List Text) where
             inl (
               made.0,
               subst (λ v. AreWords (verb_word v ∷ words) made.0) made.1
-              (asking words made.0 (record { pieces = pieces; spelling = of_its; says = made.2 })),
+                  (asking words made.0 (record { pieces = pieces; spelling = of_its; says = made.2 })),
             )
         | inr none ↦ inr (λ one are.
             let asks = asked_of verb words one are in

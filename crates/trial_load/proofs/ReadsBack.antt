@@ -42,8 +42,12 @@ Plain field = list_any (needs_byte default_writer) field ≡ false
 -- nor does one from `-` on, which is behind the comma
 plain_byte : (b : ℕ) → 45 ≤ b → needs_byte default_writer b ≡ false
 plain_byte b high =
-    rw (ne_eqb b 44 (λ e. omega (arith, high, e)), ne_eqb b 34 (λ e. omega (arith, high, e)), ne_eqb b 13 (λ e. omega (arith, high, e)),
-    ne_eqb b 10 (λ e. omega (arith, high, e))) refl
+    rw (
+      ne_eqb b 44 (λ e. omega (arith, high, e)),
+      ne_eqb b 34 (λ e. omega (arith, high, e)),
+      ne_eqb b 13 (λ e. omega (arith, high, e)),
+      ne_eqb b 10 (λ e. omega (arith, high, e)),
+    ) refl
 
 plain_more : (b : ℕ) (field : List ℕ) → 45 ≤ b → Plain field → Plain (b ∷ field)
 plain_more b field high plain = rw (plain_byte b high, plain) refl
@@ -120,8 +124,7 @@ plain_terms : (command : Command) → IsValid command → AllByRecursion Plain (
 plain_terms (Issue id day plan age years amount premium) valid =
     let old = valid.age_in in
     let most = valid.amount_in.1 in
-    let more = valid.premium_in.1 in
-    (
+    let more = valid.premium_in.1 in (
       plain_plan plan,
       (
         plain_number age (omega (arith, old)),
@@ -201,8 +204,11 @@ rows_back lanes (row ∷ rows) zero enough few right = absurd (omega (arith, eno
 rows_back lanes (row ∷ rows) (suc more) enough few right =
     let last = right.0.last in
     let text = row_is_written row (omega (arith, last, few)) right.0.valid in
-    rw (text, read-write-many (decimal row.lane) (kind_word row.command) (decimal (id_of row.command) ∷ day_text (day_of row.command) ∷ term_fields row.command)
-    (flat_map script_row_text rows))
+    rw (
+      text,
+      read-write-many (decimal row.lane) (kind_word row.command) (decimal (id_of row.command) ∷ day_text (day_of row.command) ∷ term_fields row.command)
+          (flat_map script_row_text rows),
+    )
     (ap (λ (later : List (List (List ℕ))). (decimal row.lane ∷ fields_in row) ∷ later) (rows_back lanes rows more (omega (arith, enough)) few right.1))
 
 -- each row's text is at least a byte long
@@ -242,8 +248,7 @@ line_rows : (lanes : ℕ) (rows : List ScriptRow) → lanes ≤ 8 → AllByRecur
     → AllZip IsLineRow (map (λ (row : ScriptRow). decimal row.lane ∷ fields_in row) rows) (map entry_in rows)
 line_rows lanes [] few right = tt
 line_rows lanes (row ∷ rows) few right =
-    let last = right.0.last in
-    (
+    let last = right.0.last in (
       record {
         allowed = record { clerk_in = (right.0.first, omega (arith, last, few)); right = right.0.valid };
         spelled = sym (same_fields row.lane row.command);
