@@ -9,10 +9,13 @@ mod judging;
 mod laws;
 mod layout;
 mod opening;
+mod pieces;
 mod putting;
+mod reading;
 mod scanning;
 mod starting;
 
 pub use faults::{DiskFault, JournalCause, JournalFault};
 pub use journal::Journal;
 pub use laws::{one_list_of_bodies, refused_files_open_to_none};
+pub use pieces::Piece;
