@@ -34,10 +34,13 @@ module _ {K V : Type 0} (test : K → Bool) where
   none_found [] h = (refl, λ k at. absurd (Contains-nil k at))
   none_found (e ∷ es) h = (elim (test e.0) as (λ y. test e.0 ≡ y → (lookup_entry test (e ∷ es) ≡ None) × ((k : K) → Contains (keys_of (e ∷ es)) k → test k ≡ false)) [
     | true ↦ λ t. let h' = rw t at h in absurd (some_none h')
-    | false ↦ λ t. let on = none_found es (rw t at h) in (rw t on.0, λ k at. elim (Contains-cons e.0 (keys_of es) k at) [
-      | inl same ↦ ap test (sym same) ∙ t
-      | inr later ↦ on.1 k later
-    ])
+    | false ↦ λ t. let on = none_found es (rw t at h) in (
+      rw t on.0,
+      λ k at. elim (Contains-cons e.0 (keys_of es) k at) [
+        | inl same ↦ ap test (sym same) ∙ t
+        | inr later ↦ on.1 k later
+      ],
+    )
   ]) refl
     where
       some_none : {v : V} → (let o : Option V = Some v in o) ≡ None → ⊥
