@@ -4,3 +4,4 @@ pub mod Opened
 pub mod Staging
 pub mod Unique
 pub mod Written
+pub mod WorkedFiles

@@ -6,4 +6,5 @@ pub mod Runs
 pub mod States
 pub mod Opening
 pub mod Starting
+pub mod Worked
 pub mod inside

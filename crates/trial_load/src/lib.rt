@@ -3,6 +3,8 @@
 
 mod generating;
 mod loading;
+mod worked;
 
 pub use generating::generate;
 pub use loading::load;
+pub use worked::loads_by_hand;
