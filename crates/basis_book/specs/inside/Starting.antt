@@ -1,5 +1,6 @@
 -- A reader that has read nothing yet, and takes no row for a header row.
-use Rattle.std.specs.Prelude.{◌≡◌, Bor, ℕ, List, Some}
+use Rattle.std.specs.Borrow.{Bor}
+use Rattle.std.specs.Prelude.{◌≡◌, ℕ, List, Some}
 use Rattle.csv.specs.Reading.{Ready, default_config, reader_config, reader_state, reader_trim, source_of, strip_bom}
 use Rattle.csv.specs.declared.parser.State.TheVariants as st
 use Rattle.csv.specs.declared.reader.Reader.{Reader}

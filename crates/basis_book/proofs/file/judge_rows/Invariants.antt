@@ -5,8 +5,8 @@ use Rattle.csv.specs.declared.reader.Trim.TheVariants as trim
 use Rattle.basis_book.specs.inside.Judged.{Judged}
 use Rattle.basis_book.proofs.file.judge_rows.Given as goal
 
-abbrev pub invariant-loop-_ : goal.invariant-loop-_
-invariant-loop-_ l = (reader_trim l.reader ≡ trim.None) × Ready l.reader × (reader_config l.reader ≡ default_config)
+abbrev pub invariant-loop : goal.invariant-loop
+invariant-loop l = (reader_trim l.reader ≡ trim.None) × Ready l.reader × (reader_config l.reader ≡ default_config)
     × (y : List ℕ) × (source_of (λ s. Some s.now) l.reader ≡ Some y)
     × (rows : List (List (List ℕ))) × Reached default_config st.StartRecord (strip_bom l.fn.bytes) rows (reader_state l.reader) y
     × Judged rows l.reading
