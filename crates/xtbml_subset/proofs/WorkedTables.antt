@@ -4,23 +4,32 @@ use Rattle.std.specs.Prelude.{⊤}
 use Rattle.decimal_text.specs.Rate.{IsRate}
 use Rattle.rate_table.specs.Rates.{Rates}
 use Rattle.xtbml_subset.specs.declared.fault.TableFault.{TableFault}
-use Rattle.xtbml_subset.specs.Answers.{IsTableAnswer}
+use Rattle.xtbml_subset.specs.Answers.{IsJudged}
 use Rattle.xtbml_subset.specs.Checks.{parts_of, within, path, rates_of, factor_of, age_of, IsTable}
 use Rattle.xtbml_subset.specs.Texts.{trimmed}
-use Rattle.xtbml_subset.specs.inside.Elements.{Found, elements_at, elements_from}
+use Rattle.xtbml_subset.specs.inside.Elements.{Found, elements_at, elements_from, text_at}
 use Rattle.xtbml_subset.specs.inside.Reading.{piece_at, marked_at, tag_at, name_at, attributes_from, attribute_at, spaces_at, quoted_at, closed_at, end_tag_at, comment_at, declaration_at}
 use Rattle.xtbml_subset.specs.inside.Rows.{found_asks}
 use Rattle.xtbml_subset.specs.inside.Walk.{fault_at, walk_from}
 use Rattle.xtbml_subset.proofs.Final.{judged_by}
 
 unfoldable pub tables_on_literals : ⊤
-unfolding fault_at walk_from piece_at marked_at tag_at name_at attributes_from attribute_at spaces_at quoted_at closed_at end_tag_at comment_at declaration_at elements_from within path rates_of factor_of age_of trimmed
+unfolding text_at fault_at walk_from piece_at marked_at tag_at name_at attributes_from attribute_at spaces_at quoted_at closed_at end_tag_at comment_at declaration_at elements_from within path rates_of factor_of age_of trimmed
 tables_on_literals = tt
 
+-- what the first element of a document, its root, is judged to be
+abbrev pub RootIs : ℕ → Result Rates TableFault → List Found → Type 0
+RootIs total answer [] = ⊥
+RootIs total answer (f ∷ others) = IsTable (parts_of (found_asks total) f) answer
+
 -- a document is judged by its elements
-pub judged : (bytes : List ℕ) (f : Found) (others : List Found) (answer : Result Rates TableFault) → None ≡ fault_at bytes → elements_at 0 None bytes ≡ f ∷ others
-    → IsTable (parts_of (found_asks (length bytes)) f) answer → IsTableAnswer bytes answer
-judged bytes f others answer e first is = inl (judged_by bytes f others answer e first is)
+pub judged : (bytes : List ℕ) (answer : Result Rates TableFault) → None ≡ fault_at bytes → RootIs (length bytes) answer (elements_at 0 None bytes)
+    → IsJudged bytes answer
+judged bytes answer e is = by (elements_at 0 None bytes) refl is
+  where
+    by : (found : List Found) → elements_at 0 None bytes ≡ found → RootIs (length bytes) answer found → IsJudged bytes answer
+    by (f ∷ others) same is = judged_by bytes f others answer e same is
+    by [] same is = absurd is
 
 -- rates, by their digits
 pub a_tenth : IsRate (codes "0.1") 100000000

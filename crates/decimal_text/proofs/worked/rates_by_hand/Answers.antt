@@ -1,10 +1,12 @@
-use Rattle.std.proofs.Common.{◌≡◌, ℕ, List, [], ◌∷◌, ◌++◌, ◌+◌, ◌<◌, length, refl, inl, inr, codes, lit≤, arith, absurd}
+use Rattle.std.proofs.Common.{◌≡◌, ℕ, List, [], ◌∷◌, ◌++◌, ◌+◌, ◌<◌, length, refl, inl, inr, codes, lit≤, arith}
 use Rattle.decimal_text.specs.Decimal.{Decimal, IsPlain, Spells}
 use Rattle.decimal_text.proofs.worked.rates_by_hand.Goals as goal
 
 -- a text that is empty has no digit, and so it is with a point alone
 no_digit : (text plain exponent whole fraction : List ℕ) → text ≡ plain ++ exponent → IsPlain plain whole fraction → 0 < length whole + length fraction → text ≡ [] → ⊥
-no_digit text [] exponent whole fraction joined (inl is) some e = omega (arith)
+no_digit text [] exponent [] [] joined (inl is) some e = omega (arith, some)
+no_digit text [] exponent (w ∷ whole) fraction joined (inl is) some e = let no = is.0 in cc
+no_digit text [] exponent [] (f ∷ fraction) joined (inl is) some e = let no = is.1 in cc
 no_digit text [] exponent [] fraction joined (inr is) some e = cc
 no_digit text [] exponent (w ∷ whole) fraction joined (inr is) some e = cc
 no_digit text (p ∷ plain) exponent whole fraction joined is some e = cc

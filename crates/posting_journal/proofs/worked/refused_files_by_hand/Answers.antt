@@ -23,7 +23,7 @@ second_gates (suc (suc k)) h = absurd (omega arith)
 
 first_stands : (k : ℕ) → k < 1 → CannotStand second_cut k → ⊥
 first_stands zero h (inl short) = let no : 146 ≤ 82 = short in omega arith
-first_stands zero h (inr many) = let no : 0 ≡ 4000000 = many in cc
+first_stands zero h (inr many) = omega arith
 first_stands (suc k) h other = omega arith
 
 pub returns-clause-foreign : goal.returns-clause-foreign

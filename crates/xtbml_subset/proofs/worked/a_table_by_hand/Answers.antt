@@ -1,13 +1,20 @@
-use Rattle.std.proofs.Common.{refl, Some, Ok}
-use Rattle.xtbml_subset.proofs.Final.{judged_by}
-use Rattle.xtbml_subset.proofs.WorkedTables.{tables_on_literals, a_tenth, a_half, one}
+use Rattle.std.proofs.Common.{refl, Some, Ok, [], ◌∷◌}
+use Rattle.xtbml_subset.proofs.WorkedTables.{tables_on_literals, judged, a_tenth, a_half, one}
 use Rattle.xtbml_subset.proofs.worked.a_table_by_hand.Goals as goal
 
 pub returns : goal.returns
 unfolding tables_on_literals
-returns c = judged_by _ _ _ _ refl refl
+returns c = judged _ _ refl
     (Ok tt, refl, (
-      _,
-      (_, (Some _, a_tenth, refl), (_, (_, (Some _, a_half, refl), (_, (_, (Some _, one, refl), (_, refl, refl)), refl)), refl)),
+      Ok (100000000 ∷ 500000000 ∷ 1000000000 ∷ []),
+      (Ok (0, 100000000), (Some 100000000, a_tenth, refl), (
+        Ok (500000000 ∷ 1000000000 ∷ []),
+        (Ok (1, 500000000), (Some 500000000, a_half, refl), (
+          Ok (1000000000 ∷ []),
+          (Ok (2, 1000000000), (Some 1000000000, one, refl), (Ok [], refl, refl)),
+          refl,
+        )),
+        refl,
+      )),
       refl,
     ))
