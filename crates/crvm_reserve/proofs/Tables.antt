@@ -1,33 +1,28 @@
 -- What a table and the columns made from it say of the covers.
-use Rattle.std.proofs.Common.{◌≡◌, ℕ, ◌+◌, ◌-◌, ◌*◌, ◌<◌, ◌≤◌, refl, ap, ◌∙◌, arith, min, length, true, add-zero}
-use Rattle.std.proofs.Math.Nat.{le_trans, min_comm, mul-le-mul_left, mul-le-mul_right}
+use Rattle.std.proofs.Common.{◌≡◌, ℕ, ◌+◌, ◌-◌, ◌*◌, ◌<◌, ◌≤◌, refl, arith, min, length, add-zero}
+use Rattle.std.proofs.Math.Nat.{le_trans, mul-le-mul_left, mul-le-mul_right}
 use Rattle.std.proofs.lemmas.Nat.{mul-le}
-use Rattle.rate_table.specs.Rates.{Rates, ONE, AreRates, rate_at, last_age_of}
+use Rattle.rate_table.specs.Rates.{Rates, ONE, AreRates}
 use Rattle.rate_table.specs.declared.shape.Shape.{Shape}
 use Rattle.present_value.specs.Rounding.{UNIT, down, up}
 use Rattle.present_value.specs.Sums.{Cover, cover_of}
 use Rattle.present_value.specs.Premium.{cap_of, cap_shape}
-use Rattle.present_value.specs.Values.{CanValue, AreColumns, pair_at}
+use Rattle.present_value.specs.Ends.{AreValuesAt}
 use Rattle.present_value.specs.declared.pair.Columns.{Columns}
+use Rattle.present_value.specs.declared.pair.Values.{Values}
 use Rattle.present_value.proofs.Quotients.{up-le}
 use Rattle.present_value.proofs.Steps.{ben_hi-most, ben_lo-most, ann_lo-least, ann_lo-most, ann_hi-most}
 use Rattle.crvm_reserve.specs.Rounded.{term_lo, term_hi, level_lo, level_hi, excess_lo, excess_hi, beta_lo, beta_hi, reserve_lo, reserve_hi, amount_lo, amount_hi}
-use Rattle.crvm_reserve.specs.Made.{CanReserve, IsReserved, AreMadeFor}
+use Rattle.crvm_reserve.specs.Made.{CanReserve, IsReserved, ArePartsOf, IsMadeFor, AreMadeFor}
 use Rattle.crvm_reserve.specs.declared.premium.Premium.{Premium}
-use Rattle.crvm_reserve.proofs.Enclosed.{IsCover, ann-order, beta_lo-most, beta_hi-most}
+use Rattle.crvm_reserve.specs.declared.premium.PremiumParts.{PremiumParts}
+use Rattle.crvm_reserve.proofs.Enclosed.{IsCover, own, cap_cover, ann-order, beta_lo-most, beta_hi-most}
 
 -- the rates of a cover of the table are at most 1
 rates_most : (table : Rates) (shape : Shape) (bp k : ℕ) → AreRates table
     → table.first_age ≤ shape.age → shape.age + shape.n ≤ table.first_age + length table.rates → k < shape.n
     → (cover_of table shape bp).rates k ≤ ONE
 rates_most table shape bp k are first last below = are.bound (shape.age + k - table.first_age) (omega arith)
-
-pub value_cover : (table : Rates) (shape : Shape) (bp : ℕ) → AreRates table → CanValue table shape bp → IsCover (cover_of table shape bp)
-value_cover table shape bp are can = record {
-  covered = can.covered;
-  years = omega (arith, are.ages, can.last);
-  rates = λ k below. rates_most table shape bp k are can.first can.last below;
-}
 
 pub reserved : (table : Rates) (shape : Shape) (bp : ℕ) → AreRates table → CanReserve table shape bp
     → IsReserved (cover_of table shape bp) (cap_of table shape.age bp)
@@ -50,65 +45,52 @@ reserved table shape bp are can =
       cap_rates = λ k below. rates_most table (cap_shape table shape.age) bp k are (omega arith) (omega arith) below;
     }
 
--- the term premium is at the rate of the age at issue
-pub term_is : (table : Rates) (shape : Shape) (bp : ℕ)
-    → (term_lo (cover_of table shape bp) ≡ down (10000 * rate_at table shape.age * UNIT) (ONE * (10000 + bp)))
-    × (term_hi (cover_of table shape bp) ≡ up (10000 * rate_at table shape.age * UNIT) (ONE * (10000 + bp)))
+-- the term premium is at the rate of the first year
+pub term_is : (c cap : Cover) (parts : PremiumParts) → ArePartsOf c cap parts
+    → (down (10000 * parts.rate * UNIT) (ONE * (10000 + parts.bp)) ≡ term_lo c)
+    × (up (10000 * parts.rate * UNIT) (ONE * (10000 + parts.bp)) ≡ term_hi c)
 unfolding term_lo term_hi
-term_is table shape bp =
-    let place = ap (λ age. down (10000 * rate_at table age * UNIT) (ONE * (10000 + bp))) (add-zero shape.age) in
-    let place' = ap (λ age. up (10000 * rate_at table age * UNIT) (ONE * (10000 + bp))) (add-zero shape.age) in
-    (place, place')
+term_is c cap parts are = rw (are.rate, are.interest) (refl, refl)
 
--- the columns of the cap
-pub cap_columns : (table : Rates) (age bp years payments : ℕ) (columns : Columns) → years ≡ last_age_of table - age → payments ≡ min years 19
-    → AreColumns (cover_of table (record { age = age + 1; n = years; h = payments; matures = true }) bp) columns
-    → AreColumns (cap_of table age bp) columns
-cap_columns table age bp years payments columns n h are =
-    let h' : payments ≡ min 19 years = h ∙ min_comm years 19 in
-    rw (← n, ← h') are
+-- what a quotient of a year's values asks, where a premium is due
+pub record AreDue (values : Values) : Type 0 where
+  pub lo : UNIT ≤ values.ann.lo
+  pub hi : UNIT ≤ values.ann.hi
+  pub ben_lo : values.ben.lo ≤ UNIT
+  pub ben_hi : values.ben.hi ≤ UNIT
 
--- what a quotient of a year's pairs asks, where a premium is due
-pub record AreDue (c : Cover) (columns : Columns) (t : ℕ) : Type 0 where
-  pub lo : UNIT ≤ (pair_at columns.ann t).lo
-  pub hi : UNIT ≤ (pair_at columns.ann t).hi
-  pub ben_lo : (pair_at columns.ben t).lo ≤ UNIT
-  pub ben_hi : (pair_at columns.ben t).hi ≤ UNIT
-
-pub due_at : (c : Cover) (columns : Columns) (t : ℕ) → IsCover c → AreColumns c columns → t < c.h → AreDue c columns t
-due_at c columns t is are paid =
+pub due_at : (c : Cover) (values : Values) (t : ℕ) → IsCover c → AreValuesAt c t values → t < c.h → AreDue values
+due_at c values t is are paid =
     let below : t < c.n = omega (arith, is.covered) in
     let within : t ≤ c.n = omega arith in
     let least = ann_lo-least c t below paid in
     record {
-      lo = rw (are.premiums.within t within) least;
-      hi = rw (are.premiums.within t within) (le_trans least (ann-order c t is within));
-      ben_lo = rw (are.benefits.within t within) (ben_lo-most c t within is.rates);
-      ben_hi = rw (are.benefits.within t within) (ben_hi-most c t is.rates);
+      lo = rw are.premiums least;
+      hi = rw are.premiums (le_trans least (ann-order c t is within));
+      ben_lo = rw are.benefits (ben_lo-most c t within is.rates);
+      ben_hi = rw are.benefits (ben_hi-most c t is.rates);
     }
 
-pub cap_is_cover : (table : Rates) (age bp : ℕ) → AreRates table → table.first_age ≤ age + 1 → age + 2 ≤ table.first_age + length table.rates
-    → IsCover (cap_of table age bp) × (0 < (cap_of table age bp).h)
-cap_is_cover table age bp are first last =
-    let ages = are.ages in (
-      record {
-        covered = omega arith;
-        years = omega arith;
-        rates = λ k below. rates_most table (cap_shape table age) bp k are (omega arith) (omega arith) below;
-      },
-      omega arith,
-    )
-
--- a quotient of a year's pairs is the rounded level premium
-pub level_lo_is : (c : Cover) (columns : Columns) (t : ℕ) → t ≤ c.n → AreColumns c columns
-    → down ((pair_at columns.ben t).lo * UNIT) (pair_at columns.ann t).hi ≡ level_lo c t
+-- a quotient of a year's values is the rounded level premium
+pub level_lo_is : (c : Cover) (values : Values) (t : ℕ) → AreValuesAt c t values
+    → down (values.ben.lo * UNIT) values.ann.hi ≡ level_lo c t
 unfolding level_lo
-level_lo_is c columns t within are = rw (are.benefits.within t within, are.premiums.within t within) refl
+level_lo_is c values t are = rw (are.benefits, are.premiums) refl
 
-pub level_hi_is : (c : Cover) (columns : Columns) (t : ℕ) → t ≤ c.n → AreColumns c columns
-    → up ((pair_at columns.ben t).hi * UNIT) (pair_at columns.ann t).lo ≡ level_hi c t
+pub level_hi_is : (c : Cover) (values : Values) (t : ℕ) → AreValuesAt c t values
+    → up (values.ben.hi * UNIT) values.ann.lo ≡ level_hi c t
 unfolding level_hi
-level_hi_is c columns t within are = rw (are.benefits.within t within, are.premiums.within t within) refl
+level_hi_is c values t are = rw (are.benefits, are.premiums) refl
+
+-- what the parts of a premium ask, at issue, a year later and of the cap
+pub issue_due : (c cap : Cover) (parts : PremiumParts) → ArePartsOf c cap parts → AreDue parts.issue
+issue_due c cap parts are = due_at c parts.issue 0 (own c cap are.reserved) are.issue (omega (arith, are.reserved.renewed))
+
+pub renewal_due : (c cap : Cover) (parts : PremiumParts) → ArePartsOf c cap parts → AreDue parts.renewal
+renewal_due c cap parts are = due_at c parts.renewal 1 (own c cap are.reserved) are.renewal (omega (arith, are.reserved.renewed))
+
+pub limit_due : (c cap : Cover) (parts : PremiumParts) → ArePartsOf c cap parts → AreDue parts.limit
+limit_due c cap parts are = due_at cap parts.limit 0 (cap_cover c cap are.reserved) are.limit (omega (arith, are.reserved.cap_paid))
 
 -- the parts of the rounded premium
 pub excess_lo_is : (c cap : Cover) (renewal limit term : ℕ) → renewal ≡ level_lo c 1 → limit ≡ level_lo cap 0 → term ≡ term_hi c
@@ -121,33 +103,30 @@ pub excess_hi_is : (c cap : Cover) (renewal limit term : ℕ) → renewal ≡ le
 unfolding excess_hi
 excess_hi_is c cap renewal limit term p q r = rw (p, q, r) refl
 
-pub beta_lo_is : (c cap : Cover) (columns : Columns) (more : ℕ) → AreColumns c columns → more ≡ excess_lo c cap
-    → down (((pair_at columns.ben 0).lo + more) * UNIT) (pair_at columns.ann 0).hi ≡ beta_lo c cap
+pub beta_lo_is : (c cap : Cover) (values : Values) (more : ℕ) → AreValuesAt c 0 values → more ≡ excess_lo c cap
+    → down ((values.ben.lo + more) * UNIT) values.ann.hi ≡ beta_lo c cap
 unfolding beta_lo
-beta_lo_is c cap columns more are p = rw (are.benefits.within 0 (omega arith), are.premiums.within 0 (omega arith), p) refl
+beta_lo_is c cap values more are p = rw (are.benefits, are.premiums, p) refl
 
-pub beta_hi_is : (c cap : Cover) (columns : Columns) (more : ℕ) → AreColumns c columns → more ≡ excess_hi c cap
-    → up (((pair_at columns.ben 0).hi + more) * UNIT) (pair_at columns.ann 0).lo ≡ beta_hi c cap
+pub beta_hi_is : (c cap : Cover) (values : Values) (more : ℕ) → AreValuesAt c 0 values → more ≡ excess_hi c cap
+    → up ((values.ben.hi + more) * UNIT) values.ann.lo ≡ beta_hi c cap
 unfolding beta_hi
-beta_hi_is c cap columns more are p = rw (are.benefits.within 0 (omega arith), are.premiums.within 0 (omega arith), p) refl
+beta_hi_is c cap values more are p = rw (are.benefits, are.premiums, p) refl
 
 pub pair_is : (a b x y : ℕ) → a ≡ x → b ≡ y → (let p : Premium = record { lo = a; hi = b } in p) ≡ record { lo = x; hi = y }
 pair_is a b x y p q = cc
 
 -- how large the parts of a reserve are
-pub record AreSmall (columns : Columns) (premium : Premium) (t : ℕ) : Type 0 where
-  pub lo : premium.lo * (pair_at columns.ann t).lo ≤ 2 * UNIT * (131 * UNIT)
-  pub hi : premium.hi * (pair_at columns.ann t).hi ≤ 2 * UNIT * (131 * UNIT)
+pub record AreSmall (values : Values) (premium : Premium) : Type 0 where
+  pub lo : premium.lo * values.ann.lo ≤ 2 * UNIT * (131 * UNIT)
+  pub hi : premium.hi * values.ann.hi ≤ 2 * UNIT * (131 * UNIT)
 
-pub small : (c cap : Cover) (columns : Columns) (premium : Premium) (t : ℕ) → AreMadeFor c cap columns premium → t ≤ columns.n
-    → AreSmall columns premium t
-small c cap columns premium t made within' =
+pub small : (c cap : Cover) (t : ℕ) (values : Values) (premium : Premium) → IsMadeFor c cap t values premium → AreSmall values premium
+small c cap t values premium made =
     let is = made.reserved in
-    let within : t ≤ c.n = omega (arith, made.columns_are.years) in
     let few = mul-le-mul_right UNIT (years_left c t is.years) in
-    let pair = made.columns_are.premiums.within t within in
-    let lo : (pair_at columns.ann t).lo ≤ 131 * UNIT = rw pair (le_trans (ann_lo-most c t is.covered within) few) in
-    let hi : (pair_at columns.ann t).hi ≤ 131 * UNIT = rw pair (le_trans (ann_hi-most c t) few) in
+    let lo : values.ann.lo ≤ 131 * UNIT = rw made.values_are.premiums (le_trans (ann_lo-most c t is.covered made.within) few) in
+    let hi : values.ann.hi ≤ 131 * UNIT = rw made.values_are.premiums (le_trans (ann_hi-most c t) few) in
     let premium_lo : premium.lo ≤ 2 * UNIT = rw made.premium_is (beta_lo-most c cap is) in
     let premium_hi : premium.hi ≤ 2 * UNIT = rw made.premium_is (beta_hi-most c cap is) in
     record { lo = mul-le _ _ _ _ premium_lo lo; hi = mul-le _ _ _ _ premium_hi hi }
@@ -155,20 +134,26 @@ small c cap columns premium t made within' =
     years_left : (c : Cover) (t : ℕ) → c.n ≤ 131 → c.n - t ≤ 131
     years_left c t years = omega arith
 
--- the rounded reserve from the columns and the premium
-pub reserve_lo_is : (c cap : Cover) (columns : Columns) (premium : Premium) (t : ℕ) → AreMadeFor c cap columns premium → t ≤ columns.n
-    → (pair_at columns.ben t).lo - up (premium.hi * (pair_at columns.ann t).hi) UNIT ≡ reserve_lo c cap t
+-- the rounded reserve from the values and the premium
+pub reserve_lo_is : (c cap : Cover) (t : ℕ) (values : Values) (premium : Premium) → IsMadeFor c cap t values premium
+    → values.ben.lo - up (premium.hi * values.ann.hi) UNIT ≡ reserve_lo c cap t
 unfolding reserve_lo
-reserve_lo_is c cap columns premium t made within' =
-    let within : t ≤ c.n = omega (arith, made.columns_are.years) in
-    rw (made.columns_are.benefits.within t within, made.columns_are.premiums.within t within, made.premium_is) refl
+reserve_lo_is c cap t values premium made = rw (made.values_are.benefits, made.values_are.premiums, made.premium_is) refl
 
-pub reserve_hi_is : (c cap : Cover) (columns : Columns) (premium : Premium) (t : ℕ) → AreMadeFor c cap columns premium → t ≤ columns.n
-    → (pair_at columns.ben t).hi - down (premium.lo * (pair_at columns.ann t).lo) UNIT ≡ reserve_hi c cap t
+pub reserve_hi_is : (c cap : Cover) (t : ℕ) (values : Values) (premium : Premium) → IsMadeFor c cap t values premium
+    → values.ben.hi - down (premium.lo * values.ann.lo) UNIT ≡ reserve_hi c cap t
 unfolding reserve_hi
-reserve_hi_is c cap columns premium t made within' =
-    let within : t ≤ c.n = omega (arith, made.columns_are.years) in
-    rw (made.columns_are.benefits.within t within, made.columns_are.premiums.within t within, made.premium_is) refl
+reserve_hi_is c cap t values premium made = rw (made.values_are.benefits, made.values_are.premiums, made.premium_is) refl
+
+-- what was made by columns was made by their values at a year
+pub made_at : (c cap : Cover) (columns : Columns) (premium : Premium) (t : ℕ) (values : Values) → AreMadeFor c cap columns premium → t ≤ columns.n
+    → AreValuesAt c t values → IsMadeFor c cap t values premium
+made_at c cap columns premium t values made within are = record {
+  reserved = made.reserved;
+  within = omega (arith, made.columns_are.years);
+  values_are = are;
+  premium_is = made.premium_is;
+}
 
 -- the reserve per unit is at most 1
 pub reserve_hi-most : (c cap : Cover) (t : ℕ) → IsReserved c cap → reserve_hi c cap t ≤ UNIT

@@ -5,9 +5,12 @@ use Rattle.present_value.specs.Fractions.{Fraction, Between}
 use Rattle.present_value.specs.Sums.{Cover}
 use Rattle.present_value.specs.Rounding.{UNIT}
 use Rattle.present_value.specs.Values.{CanValue, AreColumns}
+use Rattle.present_value.specs.Ends.{AreValuesAt}
 use Rattle.present_value.specs.declared.pair.Columns.{Columns}
+use Rattle.present_value.specs.declared.pair.Values.{Values}
 use Rattle.crvm_reserve.specs.Rounded.{beta_lo, beta_hi}
 use Rattle.crvm_reserve.specs.declared.premium.Premium.{Premium}
+use Rattle.crvm_reserve.specs.declared.premium.PremiumParts.{PremiumParts}
 
 -- a shape has a modified net premium: it can be valued, has a premium after the first, and the rate of death
 -- in the first year is at most one half
@@ -31,6 +34,34 @@ pub record IsReserved (c cap : Cover) : Type 0 where
 -- the premium is that of a cover and its cap, rounded
 abbrev pub premium_of : Cover → Cover → Premium
 premium_of c cap = record { lo = beta_lo c cap; hi = beta_hi c cap }
+
+-- the parts are those of a cover and its cap: the values at issue and a year later, and at issue of the cap
+pub record ArePartsOf (c cap : Cover) (parts : PremiumParts) : Type 0 where
+  pub reserved : IsReserved c cap
+  pub rate : parts.rate ≡ c.rates 0
+  pub interest : parts.bp ≡ c.interest
+  pub low : c.interest ≤ 2000
+  pub issue : AreValuesAt c 0 parts.issue
+  pub renewal : AreValuesAt c 1 parts.renewal
+  pub limit : AreValuesAt cap 0 parts.limit
+
+pub record AreParts (parts : PremiumParts) : Type 0 where
+  pub cover : Cover
+  pub cap : Cover
+  pub are : ArePartsOf cover cap parts
+
+-- values and premium are those of one cover at year t, and its cap
+pub record IsMadeFor (c cap : Cover) (t : ℕ) (values : Values) (premium : Premium) : Type 0 where
+  pub reserved : IsReserved c cap
+  pub within : t ≤ c.n
+  pub values_are : AreValuesAt c t values
+  pub premium_is : premium ≡ premium_of c cap
+
+pub record IsMadeAt (values : Values) (premium : Premium) : Type 0 where
+  pub cover : Cover
+  pub cap : Cover
+  pub year : ℕ
+  pub made : IsMadeFor cover cap year values premium
 
 -- columns and premium were made for one cover and its cap
 pub record AreMadeFor (c cap : Cover) (columns : Columns) (premium : Premium) : Type 0 where

@@ -1,11 +1,11 @@
-ghost use Rattle.std.specs.Prelude.{◌≡◌, ◌+◌, ◌*◌, ◌-◌, ◌<◌, ◌≤◌};
+ghost use Rattle.std.specs.Prelude.{◌≡◌, ◌+◌, ◌*◌, ◌-◌, ◌<◌, ◌≤◌, ℕ};
 ghost use Rattle.present_value.specs.Reserve.{reserve, Encloses};
 ghost use Rattle.present_value.specs.Sums.{Cover};
 ghost use Rattle.crvm_reserve.specs.Rounded.{reserve_lo, reserve_hi, rounded};
-ghost use Rattle.crvm_reserve.specs.Made.{AreMade, AreMadeFor, AreClose};
+ghost use Rattle.crvm_reserve.specs.Made.{AreMade, AreMadeFor, AreClose, IsMadeAt, IsMadeFor};
 
 use crate::premium::Premium;
-use present_value::{Columns, Pair, UNITS_IN_ONE, quotient_down, quotient_up};
+use present_value::{Columns, Pair, UNITS_IN_ONE, Values, quotient_down, quotient_up};
 
 /// A lower and an upper bound of the reserve of an amount at year `t`, in the amount's cents.
 pub fn reserve_bounds(columns: &Columns, premium: &Premium, amount: u64, t: u8) -> (u64, u64)
@@ -20,32 +20,45 @@ pub fn reserve_bounds(columns: &Columns, premium: &Premium, amount: u64, t: u8) 
     ensures close { (c cap : Cover) → AreMadeFor c cap columns.now premium.now
         → AreClose (reserve_lo c cap t) (reserve_hi c cap t) (reserve c cap t) }
 {
-    let reserve = unit_reserve(columns, premium, t);
+    bounds_by(&columns.at(t), premium, amount)
+}
+
+/// A lower and an upper bound of the reserve of an amount, in the amount's cents, by the values of a cover at a year
+/// and its modified net premium.
+pub fn bounds_by(values: &Values, premium: &Premium, amount: u64) -> (u64, u64)
+    requires made { IsMadeAt values.now premium.now }
+    requires amount { amount ≤ 10000000000 }
+    ensures rounded { (c cap : Cover) → (t : ℕ) → IsMadeFor c cap t values.now premium.now
+        → result ≡ rounded c cap amount t }
+    ensures exact { (c cap : Cover) → (t : ℕ) → IsMadeFor c cap t values.now premium.now
+        → Encloses result.0 result.1 amount (reserve c cap t) }
+    ensures most { result.1 ≤ amount }
+    ensures close { (c cap : Cover) → (t : ℕ) → IsMadeFor c cap t values.now premium.now
+        → AreClose (reserve_lo c cap t) (reserve_hi c cap t) (reserve c cap t) }
+{
+    let reserve = unit_reserve(values, premium);
     (
         quotient_down(amount as u128 * reserve.lo as u128, UNITS_IN_ONE as u128),
         quotient_up(amount as u128 * reserve.hi as u128, UNITS_IN_ONE as u128),
     )
 }
 
-/// The reserve at year `t` per unit of amount, in units of 10^-16.
-fn unit_reserve(columns: &Columns, premium: &Premium, t: u8) -> Pair
-    requires made { AreMade columns.now premium.now }
-    requires year { t ≤ columns.now.n }
-    ensures lo { (c cap : Cover) → AreMadeFor c cap columns.now premium.now → result.lo ≡ reserve_lo c cap t }
-    ensures hi { (c cap : Cover) → AreMadeFor c cap columns.now premium.now → result.hi ≡ reserve_hi c cap t }
+/// The reserve per unit of amount, in units of 10^-16.
+fn unit_reserve(values: &Values, premium: &Premium) -> Pair
+    requires made { IsMadeAt values.now premium.now }
+    ensures lo { (c cap : Cover) → (t : ℕ) → IsMadeFor c cap t values.now premium.now → result.lo ≡ reserve_lo c cap t }
+    ensures hi { (c cap : Cover) → (t : ℕ) → IsMadeFor c cap t values.now premium.now → result.hi ≡ reserve_hi c cap t }
 {
-    let benefits = columns.ben[t as usize];
-    let annuity = columns.ann[t as usize];
     let most = quotient_up(
-        premium.hi as u128 * annuity.hi as u128,
+        premium.hi as u128 * values.ann.hi as u128,
         UNITS_IN_ONE as u128,
     );
     let least = quotient_down(
-        premium.lo as u128 * annuity.lo as u128,
+        premium.lo as u128 * values.ann.lo as u128,
         UNITS_IN_ONE as u128,
     );
     Pair {
-        lo: benefits.lo.saturating_sub(most),
-        hi: benefits.hi.saturating_sub(least),
+        lo: values.ben.lo.saturating_sub(most),
+        hi: values.ben.hi.saturating_sub(least),
     }
 }

@@ -7,5 +7,5 @@ mod bounds;
 mod premium;
 
 pub use basis::basis_premium;
-pub use bounds::reserve_bounds;
-pub use premium::Premium;
+pub use bounds::{bounds_by, reserve_bounds};
+pub use premium::{Premium, PremiumParts, premium_by};

@@ -2,6 +2,8 @@
 #![tactic(auto)]
 
 #[cfg(test)]
+mod book_trials;
+#[cfg(test)]
 mod select_rates_tests;
 #[cfg(test)]
 mod versioned_book_tests;

@@ -11,7 +11,7 @@ use std::test::Fail;
 use versioned_book::VersionedBook;
 
 // One setting, for which room is made first.
-fn put(book: &mut VersionedBook<u64>, key: u32, position: u32, value: u64) -> Result<(), AllocError>
+pub(crate) fn put(book: &mut VersionedBook<u64>, key: u32, position: u32, value: u64) -> Result<(), AllocError>
     requires rising { book.old.last < position }
     requires stands { IsSomeBook book.old }
     ensures stands { IsSomeBook book.new }
@@ -24,7 +24,7 @@ fn put(book: &mut VersionedBook<u64>, key: u32, position: u32, value: u64) -> Re
 }
 
 // The value of the index-th key at a position, where it was set by then.
-fn value<L: Ledger>(
+pub(crate) fn value<L: Ledger>(
     book: &VersionedBook<u64>,
     index: u32,
     p: u32,

@@ -1,7 +1,9 @@
-ghost use Rattle.std.specs.Prelude.{◌≡◌, ◌≤◌, IfOk};
+ghost use Rattle.std.specs.Prelude.{◌≡◌, ◌≤◌, [], List, IfOk, length, min};
 ghost use Rattle.present_value.specs.Sums.{cover_of};
 ghost use Rattle.present_value.specs.Premium.{cap_of};
 ghost use Rattle.crvm_reserve.specs.Made.{CanReserve, AreMadeFor};
+ghost use Rattle.basis_book.specs.Dated.{Dated};
+ghost use Rattle.policy_value.specs.Caches.{IsRightFor, keys_of};
 
 use crvm_reserve::{Premium, basis_premium};
 use policy_types::NoMemory;
@@ -9,20 +11,38 @@ use present_value::{Columns, columns};
 use rate_table::{RateTable, Shape};
 use std::alloc::Global;
 
-/// Where the present values of so many shapes may be kept from one row to the next. It keeps none yet.
+/// Where what was computed for policies may be kept from one row to the next. It keeps nothing yet.
 #[derive(Drop)]
 pub struct ColumnCache {
-    capacity: u8,
-    ghost some: { 1 ≤ capacity },
+    columns: u32,
+    premiums: u32,
 }
 
 impl ColumnCache {
-    /// A cache for the present values of `capacity` shapes.
-    pub fn new(_alloc: Global, capacity: u8) -> Result<ColumnCache, NoMemory>
+    /// A cache for `capacity` keys of policies.
+    pub fn new(alloc: Global, capacity: u8) -> Result<ColumnCache, NoMemory>
         requires { 1 ≤ capacity }
-        ensures { IfOk result (λ cache. cache.capacity ≡ capacity) }
+        ensures right { IfOk result (λ cache. (basis : List Dated) → IsRightFor basis cache) }
+        ensures empty { IfOk result (λ cache. keys_of cache ≡ []) }
     {
-        Ok(ColumnCache { capacity })
+        ColumnCache::with_room(alloc, 4 * capacity as u32, capacity as u32)
+    }
+
+    /// A cache for so many columns, of some 2 kB each, and the premiums of so many keys of policies.
+    pub fn with_room(_alloc: Global, columns: u32, premiums: u32) -> Result<ColumnCache, NoMemory>
+        requires columns { (1 ≤ columns) × (columns ≤ 65535) }
+        requires premiums { 1 ≤ premiums }
+        ensures right { IfOk result (λ cache. (basis : List Dated) → IsRightFor basis cache) }
+        ensures empty { IfOk result (λ cache. keys_of cache ≡ []) }
+    {
+        Ok(ColumnCache { columns, premiums })
+    }
+
+    /// How many keys of policies it holds, or 255 where they are more.
+    pub fn len(&self) -> u8
+        ensures { result ≡ min (length (keys_of self.now)) 255 }
+    {
+        0
     }
 }
 
@@ -36,6 +56,7 @@ pub fn priced(
     requires { CanReserve table.now shape.now bp }
     ensures made { AreMadeFor (cover_of table.now shape.now bp) (cap_of table.now shape.now.age bp)
         result.0 result.1 }
+    ensures kept { _cache.new ≡ _cache.old }
 {
     let columns = columns(table, shape, bp);
     let premium = basis_premium(table, shape, bp, &columns);

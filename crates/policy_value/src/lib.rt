@@ -2,10 +2,12 @@
 #![tactic(auto)]
 
 mod cache;
+mod key;
 mod valuing;
 mod worth;
 
 pub use cache::ColumnCache;
+pub use key::CacheKey;
 pub use plan_benefits::NotValued;
 pub use valuing::row;
 pub use worth::{Row, Rows, Worth};

@@ -3,6 +3,7 @@ ghost use Rattle.basis_book.specs.Dated.{Dated, IsPicked};
 ghost use Rattle.policy_types.specs.Valid.{IsIssue};
 ghost use Rattle.plan_benefits.specs.Shapes.{shape_of};
 ghost use Rattle.rate_table.specs.declared.shape.Shape.{Shape as AShape};
+ghost use Rattle.policy_value.specs.Caches.{IsRightFor};
 ghost use Rattle.policy_value.specs.Rows.{IsInsured, IsValueOf, IsReserveOf, IsWithinAmount, RowOf, IsExact};
 
 use crate::cache::{ColumnCache, priced};
@@ -20,11 +21,13 @@ use rate_table::RateTable;
 pub fn row(policy: &Policy, basis: &Basis, on: i32, cache: &mut ColumnCache) -> Row
     requires sound { IsIssue policy.now.id policy.now.issued policy.now.plan policy.now.age policy.now.years
         policy.now.amount policy.now.premium }
+    requires right { IsRightFor basis.now cache.old }
     ensures row { RowOf policy.now basis.now on result }
     ensures exact { IsInsured policy.now on → (index : ℕ) → (entry : Dated)
         → IsPicked basis.now policy.now.issued index entry
         → IsExact policy.now entry.table entry.bp result.t result.worth }
     ensures most { IsWithinAmount policy.now.amount result.worth }
+    ensures right { IsRightFor basis.now cache.new }
 {
     let (t, worth) = if is_insured(policy, on) {
         value_by_basis(policy, basis, on, cache)
@@ -51,10 +54,12 @@ fn value_by_basis(policy: &Policy, basis: &Basis, on: i32, cache: &mut ColumnCac
     requires sound { IsIssue policy.now.id policy.now.issued policy.now.plan policy.now.age policy.now.years
         policy.now.amount policy.now.premium }
     requires issued { policy.now.issued ≤ℤ on }
+    requires right { IsRightFor basis.now cache.old }
     ensures value { IsValueOf policy.now basis.now on result.0 result.1 }
     ensures exact { (index : ℕ) → (entry : Dated) → IsPicked basis.now policy.now.issued index entry
         → IsExact policy.now entry.table entry.bp result.0 result.1 }
     ensures most { IsWithinAmount policy.now.amount result.1 }
+    ensures right { IsRightFor basis.now cache.new }
 {
     match basis.pick(policy.issued) {
         Some((_, table, bp)) => value_by_table(policy, table, bp, on, cache),
@@ -78,6 +83,7 @@ fn value_by_table(
         (shape_of policy.now.plan policy.now.age policy.now.years table.now) result.0 result.1 }
     ensures exact { IsExact policy.now table.now bp result.0 result.1 }
     ensures most { IsWithinAmount policy.now.amount result.1 }
+    ensures kept { cache.new ≡ cache.old }
 {
     match shape(policy.plan, policy.age, policy.years, table) {
         Ok(shape) => {

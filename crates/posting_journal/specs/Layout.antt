@@ -10,6 +10,10 @@ header = 76 ∷ 73 ∷ 70 ∷ 69 ∷ 74 ∷ 82 ∷ 78 ∷ 76 ∷ 0 ∷ 1 ∷ 0 �
 abbrev pub most_records : ℕ
 most_records = 4000000
 
+-- the records that are read at once, at most
+abbrev pub most_in_piece : ℕ
+most_in_piece = 1008
+
 -- a journal without records: byte 0 says that it is made, and its first gate is closed
 abbrev pub empty_journal : List ℕ
 empty_journal = 1 ∷ header ++ 0 ∷ []

@@ -4,6 +4,7 @@ pub mod Files
 pub mod Creation
 pub mod Runs
 pub mod States
+pub mod Pieces
 pub mod Opening
 pub mod Starting
 pub mod Worked

@@ -28,28 +28,6 @@ impl<D: Disk> Journal<D> {
         self.clean
     }
 
-    /// The body of record `n`, as the disk reads it.
-    pub fn body(&mut self, n: u32) -> Result<[u8; 64], DiskFault>
-        requires { n < count_of self.old }
-        ensures count { count_of self.new ≡ count_of self.old }
-        ensures clean { is_clean self.new ≡ is_clean self.old }
-        ensures disk { TellsFaults D.Disk (disk_of self.old) (disk_of self.new) result }
-        ensures unwritten { D.honest (disk_of self.new) → LooksOn D.Disk (disk_of self.old) (disk_of self.new) }
-        ensures read { D.honest (disk_of self.new)
-            → IfOk result (λ body. body ≡ take 64 (drop (body_place n) (D.reads (disk_of self.old)))) }
-        ensures nth { (bodies : List (List ℕ)) (faulted : List ℕ) → D.honest (disk_of self.new)
-            → StandsFor self.old bodies faulted
-            → IfOk result (λ body. body ≡ slice_index_or bodies n []) }
-        ensures stands { (bodies : List (List ℕ)) (faulted : List ℕ) → D.honest (disk_of self.new)
-            → StandsFor self.old bodies faulted
-            → StandsFor self.new bodies faulted }
-    {
-        let mut body = [0; 64];
-        let filled = self.disk.read(body_place(n), &mut body);
-        self.told(filled)?;
-        Ok(body)
-    }
-
     /// Adds a record. At `Ok` it is acknowledged: each crash leaves it from then on. At a fault the count stays, and
     /// where the journal isn't clean any more the record may be there or not after a crash, until it is repaired.
     pub fn append(&mut self, body: &[u8; 64]) -> Result<(), DiskFault>
@@ -163,7 +141,7 @@ impl<D: Disk> Journal<D> {
     }
 
     // A fault of the disk, with the count of its faults.
-    fn told(&self, done: Result<(), Failed>) -> Result<(), DiskFault>
+    pub(crate) fn told(&self, done: Result<(), Failed>) -> Result<(), DiskFault>
         ensures { MatchResult done (λ u. result ≡ Ok u)
             (λ f. result ≡ Err (record { count = D.faults (disk_of self.now) })) }
     {

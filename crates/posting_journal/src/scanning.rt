@@ -1,13 +1,16 @@
-// The records of a file that was made, gate by gate.
-ghost use Rattle.std.specs.Prelude.{◌≡◌, ◌↔◌, ◌+◌, ◌<◌, ◌≤◌, length, IsTrue, IfOk, IfErr, slice_index};
+// The records of a file that was made, gate by gate. The gates are read by pieces.
+ghost use Rattle.std.specs.Prelude.{◌≡◌, ◌↔◌, ◌+◌, ◌<◌, ◌≤◌, length, IsTrue, IfOk, IfErr, OnOk, slice_index};
+ghost use Rattle.outside_io.specs.Disks.{HasDiskCause};
 ghost use Rattle.posting_journal.specs.Layout.{gate_place, most_records};
+ghost use Rattle.posting_journal.specs.Pieces.{HasGate, IsPartOf};
 ghost use Rattle.posting_journal.specs.Runs.{LooksOn};
 ghost use Rattle.posting_journal.specs.inside.Unopened.{HasUnopenedCause, CantStand, IsBadFrom, EndsAt};
 
 use crate::appending::gate_place;
 use crate::faults::Unopened;
 use crate::layout::{MAX_RECORDS, OPEN};
-use outside_io::Disk;
+use crate::pieces::{Piece, RECORDS};
+use outside_io::{Disk, Failed};
 
 // How many records stand before the first closed gate.
 pub(crate) fn count_records<D: Disk>(disk: &mut D, size: u64) -> Result<u32, Unopened>
@@ -20,18 +23,20 @@ pub(crate) fn count_records<D: Disk>(disk: &mut D, size: u64) -> Result<u32, Uno
     ensures bad { D.honest disk.new → IfErr result (λ cause. IsBadFrom (D.reads disk.old) cause) }
     ensures unwritten { D.honest disk.new → LooksOn D.Disk disk.old disk.new }
 {
+    let mut piece = Piece::new();
     let mut n = 0;
-    while has_record(disk, size, n)? {
+    while has_record(disk, size, n, &mut piece)? {
         n += 1;
     }
     Ok(n)
 }
 
 // Whether the gate of record n is open; then the record has to stand.
-fn has_record<D: Disk>(disk: &mut D, size: u64, n: u32) -> Result<bool, Unopened>
+fn has_record<D: Disk>(disk: &mut D, size: u64, n: u32, piece: &mut Piece) -> Result<bool, Unopened>
     requires few { n ≤ most_records }
     requires within { gate_place n < size }
     requires told { D.honest disk.old → size ≡ length (D.reads disk.old) }
+    requires part { D.honest disk.old → IsPartOf piece.old (D.reads disk.old) }
     ensures cause { HasUnopenedCause (D.faults disk.old) (D.faults disk.new) result }
     ensures honesty { D.honest disk.new → D.honest disk.old }
     ensures stands { IfOk result (λ stands. IsTrue stands → (n < most_records) × (gate_place (n + 1) < size)) }
@@ -39,14 +44,33 @@ fn has_record<D: Disk>(disk: &mut D, size: u64, n: u32) -> Result<bool, Unopened
         → IfOk result (λ stands. IsTrue stands ↔ (slice_index (D.reads disk.old) (gate_place n) ≡ 1)) }
     ensures bad { D.honest disk.new → IfErr result (λ cause. CantStand (D.reads disk.old) n cause) }
     ensures unwritten { D.honest disk.new → LooksOn D.Disk disk.old disk.new }
+    ensures part { D.honest disk.new → IsPartOf piece.new (D.reads disk.new) }
 {
-    let mut gate = [0];
-    disk.read(gate_place(n), &mut gate)?;
-    if gate[0] != OPEN {
+    turn_to(disk, size, n, piece)?;
+    if piece.gate(n) != OPEN {
         return Ok(false);
     }
     if n >= MAX_RECORDS || size <= gate_place(n) + 65 {
         return Err(Unopened::BadRecord(n));
     }
     Ok(true)
+}
+
+// Reads the piece from the gate of record n on, where it hasn't that gate.
+fn turn_to<D: Disk>(disk: &mut D, size: u64, n: u32, piece: &mut Piece) -> Result<(), Failed>
+    requires within { gate_place n < size }
+    requires told { D.honest disk.old → size ≡ length (D.reads disk.old) }
+    requires part { D.honest disk.old → IsPartOf piece.old (D.reads disk.old) }
+    ensures cause { HasDiskCause (D.faults disk.old) (D.faults disk.new) result }
+    ensures honesty { D.honest disk.new → D.honest disk.old }
+    ensures unwritten { D.honest disk.new → LooksOn D.Disk disk.old disk.new }
+    ensures has { OnOk result (HasGate piece.new n) }
+    ensures part { D.honest disk.new → IsPartOf piece.new (D.reads disk.new) }
+{
+    if piece.has_gate(n) {
+        return Ok(());
+    }
+    let room = 65 * u64::from(RECORDS);
+    let many = (size - gate_place(n)).min(room) as usize;
+    piece.fill(disk, n, many)
 }

@@ -5,3 +5,5 @@ pub mod Enclosing
 pub mod Steps
 pub mod Places
 pub mod Reciprocals
+pub mod Ends
+pub mod Ageing

@@ -11,7 +11,7 @@ use Rattle.present_value.specs.Values.{pair_of, IsPairOf}
 use Rattle.present_value.proofs.Years.{ben_is, ann_is}
 use Rattle.present_value.proofs.Enclosing.{ben_between, ann_between, ben_narrow, ann_narrow, ben_most, ann_most, ann_least}
 
-rounded_ben-before : (q : ℕ → ℕ → ℕ) (c : Cover) (t : ℕ) → t < c.n
+pub rounded_ben-before : (q : ℕ → ℕ → ℕ) (c : Cover) (t : ℕ) → t < c.n
     → rounded_ben q c (c.n - t) ≡ q (benefit_dividend (c.rates t) (rounded_ben q c (c.n - (t + 1)))) (year c)
 unfolding rounded_ben
 rounded_ben-before q c t below =
@@ -29,7 +29,7 @@ pub ben_hi-before : (c : Cover) (t : ℕ) → t < c.n
 unfolding ben_hi
 ben_hi-before c t below = rounded_ben-before up c t below
 
-rounded_ann-before : (q : ℕ → ℕ → ℕ) (c : Cover) (t : ℕ) → t < c.n → t < c.h
+pub rounded_ann-before : (q : ℕ → ℕ → ℕ) (c : Cover) (t : ℕ) → t < c.n → t < c.h
     → rounded_ann q c (c.n - t) ≡ UNIT + q (annuity_dividend (c.rates t) (rounded_ann q c (c.n - (t + 1)))) (year c)
 unfolding rounded_ann
 rounded_ann-before q c t below due =
@@ -51,7 +51,7 @@ unfolding ann_hi
 ann_hi-before c t below due = rounded_ann-before up c t below due
 
 -- after the last premium nothing is due
-rounded_ann-after : (q : ℕ → ℕ → ℕ) (c : Cover) (left : ℕ) → c.h ≤ c.n - left → rounded_ann q c left ≡ 0
+pub rounded_ann-after : (q : ℕ → ℕ → ℕ) (c : Cover) (left : ℕ) → c.h ≤ c.n - left → rounded_ann q c left ≡ 0
 unfolding rounded_ann
 rounded_ann-after q c zero after = refl
 rounded_ann-after q c (suc left) after = elim (leb_tells (suc (c.n - suc left)) c.h) [

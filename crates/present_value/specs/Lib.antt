@@ -5,3 +5,5 @@ pub mod Reserve
 pub mod Rounding
 pub mod Recursion
 pub mod Values
+pub mod Ends
+pub mod inside

@@ -1,3 +1,8 @@
+ghost use Rattle.std.specs.Prelude.{◌≤◌};
+ghost use Rattle.present_value.specs.Sums.{Cover};
+ghost use Rattle.present_value.specs.Values.{AreColumns};
+ghost use Rattle.present_value.specs.Ends.{AreValuesAt};
+
 /// The units of 10^-16 that make 1.
 pub const UNITS_IN_ONE: u64 = 10_000_000_000_000_000;
 
@@ -6,6 +11,15 @@ pub const UNITS_IN_ONE: u64 = 10_000_000_000_000_000;
 pub struct Pair {
     pub lo: u64,
     pub hi: u64,
+}
+
+/// The present values at one policy year, per unit of amount, in units of 10^-16.
+#[derive(Clone, Copy, PartialEq, Eq, Debug)]
+pub struct Values {
+    /// The benefits from this year on.
+    pub ben: Pair,
+    /// 1 at the start of each year from this one on in which a premium is due.
+    pub ann: Pair,
 }
 
 /// The present values at each policy year, per unit of amount, in units of 10^-16.
@@ -22,4 +36,17 @@ pub struct Columns {
     pub ben: [Pair; 132],
     /// 1 at the start of each year from `t` on in which a premium is due.
     pub ann: [Pair; 132],
+}
+
+impl Columns {
+    /// The values at year `t`.
+    pub fn at(&self, t: u8) -> Values
+        requires { t ≤ 131 }
+        ensures { (c : Cover) → AreColumns c self.now → t ≤ c.n → AreValuesAt c t result }
+    {
+        Values {
+            ben: self.ben[t as usize],
+            ann: self.ann[t as usize],
+        }
+    }
 }

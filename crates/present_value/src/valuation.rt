@@ -5,8 +5,7 @@ ghost use Rattle.present_value.specs.Sums.{cover_of};
 ghost use Rattle.present_value.specs.Values.{CanValue, AreColumns, AreBenefits, ArePremiums, Enclose, HoldsOnly, pair_of};
 
 use crate::pair::{Columns, Pair, UNITS_IN_ONE};
-use crate::reciprocal::Reciprocal;
-use crate::year::{benefits_before, premiums_before};
+use crate::year::{benefits_before, premiums_before, year_reciprocal};
 use rate_table::{RateTable, Shape};
 
 /// The present values of a shape by a table, at an interest in basis points.
@@ -58,14 +57,6 @@ fn premium_column(table: &RateTable, shape: &Shape, bp: u16) -> [Pair; 132]
     column
 }
 
-/// 10^5 times what 10,000 has grown to after a year.
-fn year_reciprocal(bp: u16) -> Reciprocal
-    requires { bp ≤ 2000 }
-    ensures { result.divisor ≡ 100000 * (10000 + bp) }
-{
-    Reciprocal::of(100_000 * (10_000 + bp as u64))
-}
-
 /// What a survivor is paid at the end of the cover.
 fn end_value(matures: bool) -> u64
     ensures { result ≡ (if matures then UNIT else 0) }
@@ -74,7 +65,7 @@ fn end_value(matures: bool) -> u64
 }
 
 /// A column that holds a value at one year, and zeros elsewhere.
-fn column_with(t: u8, value: u64) -> [Pair; 132]
+pub fn column_with(t: u8, value: u64) -> [Pair; 132]
     requires { t ≤ 131 }
     ensures { HoldsOnly result t (pair_of value value) }
 {

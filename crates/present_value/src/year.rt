@@ -5,6 +5,14 @@ ghost use Rattle.present_value.specs.Rounding.{UNIT, down, up, benefit_dividend,
 use crate::pair::{Pair, UNITS_IN_ONE};
 use crate::reciprocal::Reciprocal;
 
+/// 10^5 times what 10,000 has grown to after a year.
+pub fn year_reciprocal(bp: u16) -> Reciprocal
+    requires { bp ≤ 2000 }
+    ensures { result.divisor ≡ 100000 * (10000 + bp) }
+{
+    Reciprocal::of(100_000 * (10_000 + bp as u64))
+}
+
 /// The benefits a year earlier: what a death in that year pays, and the value of a survivor's.
 ///
 /// The rate is in units of 10^-9, and the year is 10^5 times what 10,000 has grown to after a year.

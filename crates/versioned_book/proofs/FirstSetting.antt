@@ -1,5 +1,5 @@
 -- The first setting of a key.
-use Rattle.std.proofs.Common.{◌≡◌, ℕ, zero, suc, ◌+◌, ◌<◌, ◌≤◌, Bool, true, false, nat_eq, nat_le, List, [], ◌∷◌, ◌++◌, length, filter, slice_get, None, Some, refl, sym, ap, ◌∙◌, subst, cond, ◌⊎◌, inl, inr, append-nil, arith}
+use Rattle.std.proofs.Common.{◌≡◌, ℕ, zero, suc, ◌+◌, ◌<◌, ◌≤◌, Bool, true, false, nat_eq, nat_le, nat_lt, List, [], ◌∷◌, ◌++◌, length, filter, slice_get, None, Some, refl, sym, ap, ◌∙◌, subst, cond, ◌⊎◌, inl, inr, append-nil, arith}
 use Rattle.std.proofs.lemmas.Bool.{lt-leb, eqb-true, cases_lt}
 use Rattle.std.proofs.lemmas.List.{length_push, map-append}
 use Rattle.std.proofs.lemmas.List.Elements.{filter-append}
@@ -7,7 +7,7 @@ use Rattle.std.proofs.lemmas.Option.{slice_get_within}
 use Rattle.std.specs.List.{list_any}
 use Rattle.std.specs.Map.{keys_of as entry_keys}
 use Rattle.indexmap.specs.IndexMap.{get, Updates}
-use Rattle.versioned_book.specs.Versions.{IsRisingTo, versions_from, versions}
+use Rattle.versioned_book.specs.Versions.{IsRisingTo, first_position, versions_from, versions}
 use Rattle.versioned_book.specs.Settings.{Setting, keys_of, own, positions, until}
 use Rattle.versioned_book.specs.Books.{IsBookOf, kept_of, many, many_in}
 use Rattle.versioned_book.specs.declared.chain.Chain.{Chain}
@@ -27,7 +27,7 @@ module _ {V : Type 0} (book new : VersionedBook V) (sets : List (Setting V)) (s 
     (absent : get nat_eq book.chains s.key ≡ None) (updates : Updates nat_eq book.chains new.chains s.key (Some chain))
     (entries : new.chains.entries ≡ book.chains.entries ++ (s.key, chain) ∷ []) (one : versions chain ≡ (s.position, s.value) ∷ [])
     (firsts : new.firsts.items ≡ book.firsts.items ++ s.position ∷ []) (floor : new.floor ≡ book.floor) (last : new.last ≡ s.position) (kept : new.kept ≡ book.kept + 1)
-    (rises : book.last < s.position) (h : IsBookOf book sets) where
+    (rises : book.last < s.position) (several : new.several.items ≡ book.several.items) (h : IsBookOf book sets) where
   new_keys : keys_of (sets ++ s ∷ []) ≡ keys_of sets ++ s.key ∷ []
   new_keys = keys_of-new sets s (subst (λ ks. list_any (nat_eq s.key) ks ≡ false) h.order (any_absent s.key book.chains.entries absent))
 
@@ -53,27 +53,26 @@ module _ {V : Type 0} (book new : VersionedBook V) (sets : List (Setting V)) (s 
           let none : Some chain ≡ None = sym updates.1 ∙ ap (get nat_eq new.chains) (eqb-true s.key key is) ∙ e in cc
       by false isnt = own-other sets s key isnt ∙ h.absent key (sym (updates.2 key isnt) ∙ e)
 
-  begun_old : (key first : ℕ) → (v : V) × (rest : List (ℕ × V)) × (own key sets ≡ (first, v) ∷ rest)
-      → (v : V) × (rest : List (ℕ × V)) × (own key (sets ++ s ∷ []) ≡ (first, v) ∷ rest)
+  begun_old : (key first : ℕ) → first_position (own key sets) ≡ Some first → first_position (own key (sets ++ s ∷ [])) ≡ Some first
   begun_old key first b = by (nat_eq s.key key) refl
     where
-      by : (t : Bool) → nat_eq s.key key ≡ t → (v : V) × (rest : List (ℕ × V)) × (own key (sets ++ s ∷ []) ≡ (first, v) ∷ rest)
+      by : (t : Bool) → nat_eq s.key key ≡ t → first_position (own key (sets ++ s ∷ [])) ≡ Some first
       by true this =
           let none : own key sets ≡ [] = subst (λ k. own k sets ≡ []) (eqb-true s.key key this) (h.absent s.key absent) in
-          let clash : [] ≡ (first, b.0) ∷ b.1 = sym none ∙ b.2 in cc
-      by false isnt = (b.0, b.1, own-other sets s key isnt ∙ b.2)
+          let clash : None ≡ Some first = sym (ap first_position none) ∙ b in cc
+      by false isnt = ap first_position (own-other sets s key isnt) ∙ b
 
   begun_first : (i key first : ℕ) → slice_get new.firsts.items i ≡ Some first → slice_get (keys_of (sets ++ s ∷ [])) i ≡ Some key
-      → (v : V) × (rest : List (ℕ × V)) × (own key (sets ++ s ∷ []) ≡ (first, v) ∷ rest)
+      → first_position (own key (sets ++ s ∷ [])) ≡ Some first
   begun_first i key first at is =
       by (get_push book.firsts.items s.position first i (sym (ap (λ l. slice_get l i) firsts) ∙ at)) (get_push (keys_of sets) s.key key i (sym (ap (λ l. slice_get l i) new_keys) ∙ is))
     where
       by : (slice_get book.firsts.items i ≡ Some first) ⊎ ((i ≡ length book.firsts.items) × (first ≡ s.position)) → (slice_get (keys_of sets) i ≡ Some key) ⊎ ((i ≡ length (keys_of sets)) × (key ≡ s.key))
-          → (v : V) × (rest : List (ℕ × V)) × (own key (sets ++ s ∷ []) ≡ (first, v) ∷ rest)
+          → first_position (own key (sets ++ s ∷ [])) ≡ Some first
       by (inl a) (inl b) = begun_old key first (h.begun i key first a b)
       by (inl a) (inr b) = absurd (omega (arith, slice_get_within book.firsts.items i first a, b.0, as_many book sets h))
       by (inr a) (inl b) = absurd (omega (arith, slice_get_within (keys_of sets) i key b, a.0, as_many book sets h))
-      by (inr a) (inr b) = (s.value, [], ap (λ k. own k (sets ++ s ∷ [])) b.1 ∙ own_one ∙ ap (λ q. (q, s.value) ∷ []) (sym a.1))
+      by (inr a) (inr b) = ap (λ k. first_position (own k (sets ++ s ∷ []))) b.1 ∙ ap first_position own_one ∙ ap Some (sym a.1)
 
   counts_first : (p : ℕ) → length (keys_of (until p (sets ++ s ∷ []))) ≡ length (filter (λ first. nat_le first p) new.firsts.items)
   counts_first p = by (cases_lt p s.position) ∙ sym (ap (λ l. length (filter (λ first. nat_le first p) l)) firsts)
@@ -88,6 +87,33 @@ module _ {V : Type 0} (book new : VersionedBook V) (sets : List (Setting V)) (s 
           ap (λ l. length (keys_of l)) (until_all p 0 (sets ++ s ∷ []) s.position (positions_rise sets s book.last h.rising rises) within)
           ∙ ap length new_keys ∙ length_push (keys_of sets) s.key ∙ ap (λ n. n + 1) (as_many book sets h) ∙ sym (length_push book.firsts.items s.position)
           ∙ sym (ap length (all_until p 0 (book.firsts.items ++ s.position ∷ []) s.position (rising-push 0 book.firsts.items book.last s.position h.firsts rises) within))
+
+  several_first : (j key : ℕ) → slice_get (keys_of (sets ++ s ∷ [])) j ≡ Some key
+      → list_any (nat_eq j) new.several.items ≡ nat_lt 1 (length (versions_from new.floor (own key (sets ++ s ∷ []))))
+  several_first j key is = ap (list_any (nat_eq j)) several ∙ by (nat_eq s.key key) refl (get_push (keys_of sets) s.key key j (sym (ap (λ l. slice_get l j) new_keys) ∙ is))
+    where
+      alone : nat_lt 1 (length (versions_from new.floor (own s.key (sets ++ s ∷ [])))) ≡ false
+      alone = ap (λ l. nat_lt 1 (length (versions_from new.floor l))) own_one
+
+      past : j ≡ length (keys_of sets) → (b : Bool) → list_any (nat_eq j) book.several.items ≡ b → b ≡ false
+      past e true f = absurd (omega (arith, h.listed j f, e))
+      past e false f = refl
+
+      by : (same : Bool) → nat_eq s.key key ≡ same → (slice_get (keys_of sets) j ≡ Some key) ⊎ ((j ≡ length (keys_of sets)) × (key ≡ s.key))
+          → list_any (nat_eq j) book.several.items ≡ nat_lt 1 (length (versions_from new.floor (own key (sets ++ s ∷ []))))
+      by true e (inl a) =
+          let none : own key sets ≡ [] = subst (λ k. own k sets ≡ []) (eqb-true s.key key e) (h.absent s.key absent) in
+          h.several j key a ∙ ap (λ l. nat_lt 1 (length (versions_from book.floor l))) none
+          ∙ sym (subst (λ k. nat_lt 1 (length (versions_from new.floor (own k (sets ++ s ∷ [])))) ≡ false) (eqb-true s.key key e) alone)
+      by false e (inl a) =
+          h.several j key a ∙ ap (λ f. nat_lt 1 (length (versions_from f (own key sets)))) (sym floor)
+          ∙ ap (λ l. nat_lt 1 (length (versions_from new.floor l))) (sym (own-other sets s key e))
+      by same e (inr b) =
+          past b.0 (list_any (nat_eq j) book.several.items) refl
+          ∙ sym (subst (λ k. nat_lt 1 (length (versions_from new.floor (own k (sets ++ s ∷ [])))) ≡ false) (sym b.1) alone)
+
+  listed_first : (j : ℕ) → list_any (nat_eq j) new.several.items ≡ true → j < length (keys_of (sets ++ s ∷ []))
+  listed_first j e = omega (arith, h.listed j (sym (ap (list_any (nat_eq j)) several) ∙ e), ap length new_keys, length_push (keys_of sets) s.key)
 
   pub set_first : IsBookOf new (sets ++ s ∷ [])
   set_first = record {
@@ -104,4 +130,6 @@ module _ {V : Type 0} (book new : VersionedBook V) (sets : List (Setting V)) (s 
         let l : many chain ≡ 1 = ap length one in
         omega (arith, kept, h.count, m, l);
     bound = omega (arith, kept, last, h.bound, rises);
+    several = several_first;
+    listed = listed_first;
   }

@@ -4,12 +4,12 @@ use Rattle.std.proofs.lemmas.Bool.{le-leb, leb-true, leb-false, lt-leb}
 use Rattle.std.proofs.lemmas.List.{length-map}
 use Rattle.std.proofs.lemmas.Option.{slice_get_within}
 use Rattle.indexmap.specs.IndexMap.{get}
-use Rattle.versioned_book.specs.Versions.{IsRising, IsRisingTo, or_else, versions_from, value_at, versions}
+use Rattle.versioned_book.specs.Versions.{IsRising, IsRisingTo, first_position, or_else, versions_from, value_at, versions}
 use Rattle.versioned_book.specs.Settings.{Setting, keys_of, own, until}
 use Rattle.versioned_book.specs.Books.{IsBookOf}
 use Rattle.versioned_book.specs.declared.chain.Chain.{Chain}
 use Rattle.versioned_book.specs.declared.book.VersionedBook.{VersionedBook}
-use Rattle.versioned_book.proofs.VersionSteps.{rising-trimmed, value_at-trimmed}
+use Rattle.versioned_book.proofs.VersionSteps.{rising-trimmed, some_same, value_at-trimmed}
 use Rattle.versioned_book.proofs.SettingSteps.{first_until, none_until, own_rising}
 use Rattle.versioned_book.proofs.BookSteps.{as_many, key_at_place}
 
@@ -84,12 +84,15 @@ module _ {V : Type 0} where
         value = λ p from. ap (value_at p) kept ∙ value_at-trimmed book.floor p (own key sets) from;
       }
 
+  begun_value : (p first : ℕ) (vs : List (ℕ × V)) → first_position vs ≡ Some first → first ≤ p → IsSome (value_at p vs)
+  begun_value p first [] e within = cc
+  begun_value p first (v ∷ vs) e within =
+      let here : nat_le v.0 p ≡ true = le-leb v.0 p (omega (arith, some_same v.0 first e, within)) in
+      subst IsSome (sym (ap (λ t. or_else (value_at p vs) (if t then Some v.1 else None)) here)) (some_else (value_at p vs) v.1)
+
   -- it has a value where the key was there
   pub has_value : (book : VersionedBook V) (sets : List (Setting V)) (p index key : ℕ) → IsBookOf book sets → slice_get (keys_of sets) index ≡ Some key
       → index < length (keys_of (until p sets)) → IsSome (value_at p (own key sets))
   has_value book sets p index key h place within =
       let first = first_until p 0 book.firsts.items book.last index h.firsts (subst (λ n. index < n) (h.counts p) within) in
-      let b = h.begun index key first.0 first.1 place in
-      let one : value_at p (own key sets) ≡ or_else (value_at p b.1) (Some b.0) =
-      ap (value_at p) b.2 ∙ ap (λ t. or_else (value_at p b.1) (if t then Some b.0 else None)) (le-leb first.0 p first.2) in
-      subst IsSome (sym one) (some_else (value_at p b.1) b.0)
+      begun_value p first.0 (own key sets) (h.begun index key first.0 first.1 place) first.2

@@ -1,5 +1,5 @@
 -- The entry of a key in a map of chains, before and after a write to its chain.
-use Rattle.std.proofs.Common.{◌≡◌, ℕ, ◌+◌, true, nat_eq, slice_get, get_or, position, Some, Result, Ok, Err, OnOk, sym, ◌∙◌, subst}
+use Rattle.std.proofs.Common.{◌≡◌, ℕ, ◌+◌, true, nat_eq, slice_get, get_or, position, Some, Result, Ok, Err, OnOk, sym, ap, ◌∙◌, subst}
 use Rattle.std.proofs.lemmas.Bool.{eqb-true}
 use Rattle.std.proofs.lemmas.List.Quantifiers.{position-Some}
 use Rattle.std.proofs.lemmas.Option.{get_or_from_slice_get}
@@ -17,6 +17,7 @@ on_ok (Err e) f h = tt
 module _ {V S : Type 0} where
   -- the chain at the key is written at its place
   pub record Placed (m : IndexMap ℕ (Chain V) S) (key i : ℕ) (chain w : Chain V) : Type 0 where
+    pub place : slice_get (keys m) i ≡ Some key
     pub found : get nat_eq m key ≡ Some chain
     pub updates : Updates nat_eq m (with_value_at m i w) key (Some w)
     pub same : keys (with_value_at m i w) ≡ keys m
@@ -29,6 +30,7 @@ module _ {V S : Type 0} where
       let test : nat_eq key (get_or (keys m) i k) ≡ true = (position-Some (nat_eq key) (keys m) i k (sym index)).1 in
       let is : k ≡ key = sym here ∙ sym (eqb-true key (get_or (keys m) i k) test) in
       record {
+        place = key_at_place m.entries i k chain entry ∙ ap Some is;
         found = sym value ∙ value_at_place m.entries i k chain entry;
         updates = subst (λ x. Updates nat_eq m (with_value_at m i w) x (Some w)) is (updates-with_value_at m i w nat_eq_equiv unique k chain entry);
         same = keys-with_value_at m i w;

@@ -23,6 +23,11 @@ module _ {V : Type 0} where
   value_at p [] = None
   value_at p (v ∷ vs) = or_else (value_at p vs) (if nat_le v.0 p then Some v.1 else None)
 
+  -- the position of the first version
+  abbrev pub first_position : List (ℕ × V) → Option ℕ
+  first_position [] = None
+  first_position (v ∷ vs) = Some v.0
+
   -- the value of the last version
   abbrev pub newest_of : List (ℕ × V) → Option V
   newest_of [] = None

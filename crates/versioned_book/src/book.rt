@@ -1,7 +1,7 @@
 // The book: a chain of versions for each key, in the order in which the keys were first set.
 ghost use Rattle.std.specs.Prelude.{◌≡◌, ℕ, ◌+◌, ◌<◌, ◌≤◌, [], ◌∷◌, ◌++◌, List, filter, length, min, nat_eq, nat_le, slice_get, Some, IfOk, OnOk, vec_len};
 ghost use Rattle.indexmap.specs.IndexMap.{keys, index_map_len};
-ghost use Rattle.versioned_book.specs.Books.{CanSet, IsBookOf, IsSomeBook, kept_of};
+ghost use Rattle.versioned_book.specs.Books.{CanSet, IsBookOf, IsSomeBook, has_several, kept_of};
 ghost use Rattle.versioned_book.specs.Settings.{Setting, settings_after, keys_of, own, until};
 ghost use Rattle.versioned_book.specs.Versions.{AreFewSteps, IsRisingTo, newest_of, versions_from, value_at};
 
@@ -15,7 +15,10 @@ use std::sync::ledger::Ledger;
 #[derive(Drop)]
 pub struct VersionedBook<V: Copy> {
     chains: IndexMap<u32, Chain<V>>,
+    // The position at which each key was first set.
     firsts: Vec<u32>,
+    // The places of the keys that have several versions.
+    several: Vec<u32>,
     floor: u32,
     last: u32,
     kept: u32,
@@ -31,6 +34,7 @@ impl<V: Copy> VersionedBook<V> {
         VersionedBook {
             chains: IndexMap::new(alloc),
             firsts: Vec::new(alloc),
+            several: Vec::new(alloc),
             floor: 0,
             last: 0,
             kept: 0,
@@ -46,6 +50,7 @@ impl<V: Copy> VersionedBook<V> {
     {
         match self.chains.get_index_of(&key) {
             Some(index) => {
+                self.several.reserve(1)?;
                 let (_key, chain) = self.chains.pair_mut(index);
                 chain.reserve()
             }
@@ -70,6 +75,9 @@ impl<V: Copy> VersionedBook<V> {
             Some(index) => {
                 let (_key, chain) = self.chains.pair_mut(index);
                 chain.push(position, value);
+                if chain.len() == 2 {
+                    self.several.push_reserved(index as u32);
+                }
             }
             None => {
                 let chain = Chain::of(self.alloc, position, value);
@@ -109,6 +117,13 @@ impl<V: Copy> VersionedBook<V> {
         chain.at(p, steps).unwrap()
     }
 
+    /// The position from which on each value is kept.
+    pub fn floor(&self) -> u32
+        ensures { result ≡ self.now.floor }
+    {
+        self.floor
+    }
+
     /// How many versions are kept.
     pub fn kept(&self) -> u32
         ensures kept { (sets : List (Setting V)) → IsBookOf self.now sets → result ≡ kept_of self.now }
@@ -128,12 +143,31 @@ impl<V: Copy> VersionedBook<V> {
         if new_floor == self.floor {
             return;
         }
-        for index in 0..self.chains.len() {
+        for place in 0..self.several.len() {
+            let index = self.several[place] as usize;
             let (_key, chain) = self.chains.pair_mut(index);
             let dropped = chain.cut(new_floor);
             self.kept -= dropped as u32;
         }
         self.floor = new_floor;
+        keep_several(&self.chains, &mut self.several);
+    }
+}
+
+// Keeps those of the places whose entries have several versions.
+fn keep_several<V: Copy>(chains: &IndexMap<u32, Chain<V>>, several: &mut Vec<u32>)
+    ensures { several.new.items ≡ filter (λ i. has_several (slice_get chains.now.entries i)) several.old.items }
+{
+    several.retain(|index| has_more(chains, *index));
+}
+
+// Whether the entry at a place has several versions.
+fn has_more<V: Copy>(chains: &IndexMap<u32, Chain<V>>, index: u32) -> bool
+    ensures { result ≡ has_several (slice_get chains.now.entries index) }
+{
+    match chains.get_index(index as usize) {
+        Some((_key, chain)) => chain.len() > 1,
+        None => false,
     }
 }
 

@@ -1,6 +1,7 @@
 -- The records up to this one stand, and nothing was written.
 use Rattle.std.proofs.Common.{◌≡◌, ◌-◌, ◌<◌, ◌≤◌, length}
 use Rattle.posting_journal.specs.Layout.{gate_place}
+use Rattle.posting_journal.specs.Pieces.{IsPartOf}
 use Rattle.posting_journal.specs.Runs.{LooksOn}
 use Rattle.posting_journal.specs.inside.Unopened.{AreOpen}
 use Rattle.posting_journal.proofs.scanning.count_records.Given as goal
@@ -13,6 +14,7 @@ invariant-loop-n g l = record {
   honesty : g.D.Disk.honest l.disk → g.D.Disk.honest l.fn.disk;
   told : g.D.Disk.honest l.fn.disk → l.size ≡ length (g.D.Disk.reads l.fn.disk);
   looks : g.D.Disk.honest l.disk → LooksOn g.D.Disk l.fn.disk l.disk;
+  part : g.D.Disk.honest l.disk → IsPartOf l.piece (g.D.Disk.reads l.disk);
   open_so_far : g.D.Disk.honest l.disk → AreOpen (g.D.Disk.reads l.fn.disk) l.n;
 }
 

@@ -1,0 +1,4 @@
+pub mod SetSteps
+pub mod PolicyValues
+pub mod Fronts
+pub mod BookValues

@@ -1,0 +1,4 @@
+pub mod Commands
+pub mod Policies
+pub mod Places
+pub mod Steps
