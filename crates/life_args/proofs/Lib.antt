@@ -8,3 +8,4 @@ pub mod Asking
 pub mod Once
 pub mod Answering
 pub mod Saying
+pub mod WorkedWords

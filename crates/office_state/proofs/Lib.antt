@@ -11,3 +11,4 @@ pub mod KeptSteps
 pub mod TurnSteps
 pub mod PinTurns
 pub mod WindowSteps
+pub mod WorkedOffices

@@ -1,7 +1,7 @@
 // What hostile scripts, tables and auditors are answered, each at its limit and one past it. Texts are written by hand from
 // the formats.
 use crate::clerk_tests::lines_of;
-use crate::devices::{run_gated, run_on, run_script_with, run_watched, run_watched_over, run_with};
+use crate::devices::{run_gated, run_on, run_watched, run_watched_over, run_with};
 use crate::value_cases::{ENDOWMENT, FLAT, add, ends};
 use memory_disk::MemoryDisk;
 use outside_io::{Gate, MapShelf};
@@ -19,9 +19,8 @@ const ISSUES: [&str; 3] = [
     "1,issue,3,2020-01-01,endowment,0,3,1000.00,400.00\n",
 ];
 
-const VALUE: &str = "1,value,2021-01-01,now,1\n";
-
-const NOBODY: &str = "1,value,2021-01-01,0,0\ntotal,0.00,0.00,0\n";
+// What lane 2 is answered that values the policies of the position 0.
+const NOBODY: &str = "2,value,2021-01-01,0,0\ntotal,0.00,0.00,0\n";
 
 fn empty(alloc: Global) -> MemoryDisk {
     MemoryDisk::new(alloc, Vec::new(alloc), Vec::new(alloc))
@@ -54,21 +53,6 @@ fn the_longest_script(rt: HostRuntime) -> Result<(), AllocError> {
     let more = [m, m, m, m, m, m, m, m, m, m, m, m, m, m, m, m, "\n"];
     let ran = run_on(&rt, alloc, &more, empty(alloc))?;
     assert!(rt; ends(&ran, 3, "badscript,toolong\n") && ran.disk.calls().is_empty());
-    Ok(())
-}
-
-// A script asks for sixteen valuations at the most.
-#[test]
-fn the_most_valuations(rt: HostRuntime) -> Result<(), AllocError> {
-    let alloc = rt.alloc();
-    let sixteen = repeated(alloc, VALUE, 16)?;
-    let shelf = shelf_beside(alloc, "<A/>")?;
-    let script = [sixteen.as_str(), VALUE];
-    let ran = run_script_with(&rt, alloc, &["run"], &script, shelf, empty(alloc))?;
-    assert!(rt; ends(&ran, 3, "badscript,17,2\n") && ran.disk.calls().is_empty());
-    let shelf = shelf_beside(alloc, TWO_ROWS)?;
-    let ran = run_script_with(&rt, alloc, &["run"], &script[..1], shelf, empty(alloc))?;
-    assert!(rt; ends(&ran, 0, &repeated(alloc, NOBODY, 16)?));
     Ok(())
 }
 
