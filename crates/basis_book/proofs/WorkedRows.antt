@@ -9,6 +9,10 @@ use Rattle.basis_book.specs.declared.row.BasisRow.{BasisRow}
 use Rattle.basis_book.specs.Name.{IsName, IsNameByte}
 use Rattle.basis_book.specs.Points.{IsPoints}
 use Rattle.basis_book.specs.Row.{IsRow}
+use Rattle.basis_book.specs.File.{IsBasisFile, IsFileFault}
+use Rattle.basis_book.specs.declared.fault.BasisFault.TheVariants.{BadBasisRow}
+use Rattle.csv.proofs.OnLiterals.{csv_on_literals}
+use Rattle.csv.specs.Reading.{Reached}
 
 -- three days
 pub first_text : IsDayText (codes "2000-01-01") (pos 10957)
@@ -95,9 +99,36 @@ too_many_points bp h =
 -- a name begins with no point
 pub no_name : IsName (codes ".xml") → ⊥
 no_name h = elim h.first [
-    | inl other ↦ elim other [
-      | inl low ↦ let no : 48 ≤ 46 = low.0 in omega arith
-      | inr low ↦ let no : 65 ≤ 46 = low.0 in omega arith
-    ]
-    | inr low ↦ let no : 97 ≤ 46 = low.0 in omega arith
+  | inl other ↦ elim other [
+    | inl low ↦ let no : 48 ≤ 46 = low.0 in omega arith
+    | inr low ↦ let no : 65 ≤ 46 = low.0 in omega arith
   ]
+  | inr low ↦ let no : 97 ≤ 46 = low.0 in omega arith
+]
+
+-- a file of one row
+pub one_right_row : IsBasisFile (codes "2000-01-01,q.xml,400\n") ((record { from_day = pos 10957; table = codes "q.xml"; bp = 400 }) ∷ [])
+unfolding csv_on_literals Reached
+one_right_row = (
+  (codes "2000-01-01" ∷ codes "q.xml" ∷ codes "400" ∷ []) ∷ [],
+  (_, _, (_, refl, refl, (refl, refl)), refl),
+  lit≤ tt,
+  record { each = ((first_text, first_in, q_name, refl, four_percent), tt); rise = tt },
+)
+
+-- a file of one row, which lacks a field
+pub one_bad_row : IsFileFault (codes "2000-01-01,q.xml\n") (BadBasisRow 1)
+unfolding csv_on_literals Reached
+one_bad_row = (
+  (codes "2000-01-01" ∷ codes "q.xml" ∷ []) ∷ [],
+  (_, _, (_, refl, refl, (refl, refl)), refl),
+  (
+    lit≤ tt,
+    record {
+      before = [];
+      fields = codes "2000-01-01" ∷ codes "q.xml" ∷ [];
+      stops = record { good = []; rest = []; split = refl; number = refl; right = record { each = tt; rise = tt } };
+      bad = λ row h. h;
+    },
+  ),
+)

@@ -29,13 +29,21 @@ b2_name = record {
   some = lit≤ tt;
   short = lit≤ tt;
   first = inr (lit≤ tt, lit≤ tt);
-  each = name_bytes (codes "b2.csv") (inl (inr (lit≤ tt, lit≤ tt)), (inl (inl (inl (lit≤ tt, lit≤ tt))), (inr (inl refl),
-    (inl (inr (lit≤ tt, lit≤ tt)), (inl (inr (lit≤ tt, lit≤ tt)), (inl (inr (lit≤ tt, lit≤ tt)), tt))))));
+  each = name_bytes (codes "b2.csv") (
+    inl (inr (lit≤ tt, lit≤ tt)),
+    (
+      inl (inl (inl (lit≤ tt, lit≤ tt))),
+      (
+        inr (inl refl),
+        (inl (inr (lit≤ tt, lit≤ tt)), (inl (inr (lit≤ tt, lit≤ tt)), (inl (inr (lit≤ tt, lit≤ tt)), tt))),
+      ),
+    ),
+  );
 }
 
 -- two words differ, by a byte
 differ : (a b : List ℕ) → (slice_index a 0 ≡ slice_index b 0 → ⊥) → a ≡ b → ⊥
-differ a b no same = no (ap (λ (w : List ℕ). slice_index w 0) same)
+differ a b other same = other (ap (λ (w : List ℕ). slice_index w 0) same)
 
 pub none_of_none : (mode : Mode) → AreWords [] mode → ⊥
 none_of_none mode are = are
@@ -48,7 +56,7 @@ none_of_help (State id) are = differ _ _ (λ e. let no : 104 ≡ 115 = e in omeg
 none_of_help (Generate seed count lanes) are = differ _ _ (λ e. let no : 104 ≡ 103 = e in omega arith) are.0
 none_of_help (Load seed count lanes workers) are = differ _ _ (λ e. let no : 104 ≡ 108 = e in omega arith) are.0
 
-head_of : List (List ℕ) → List ℕ
+abbrev head_of : List (List ℕ) → List ℕ
 head_of [] = []
 head_of (w ∷ ws) = w
 

@@ -166,18 +166,7 @@ pub(crate) fn run_gated<R: Threads + Wait + Sync, G: Gate + Sync>(
     let words = words_of(alloc, &["run"])?;
     let disk = MemoryDisk::new(alloc, Vec::new(alloc), Vec::new(alloc));
     let none = Vec::new(alloc);
-    run_beside(
-        rt,
-        alloc,
-        &words,
-        script,
-        &[],
-        &[],
-        shelf,
-        disk,
-        none,
-        gate,
-    )
+    run_beside(rt, alloc, &words, script, &[], &[], shelf, disk, none, gate)
 }
 
 // Does what the words ask for on an empty disk, with these watchers.

@@ -8,8 +8,8 @@ use outside_io::{Gate, MapShelf};
 use policy_types::{Attention, Command, NoMemory, Report, Watcher};
 use std::alloc::{AllocError, Global};
 use std::collections::BTreeMap;
-use std::sync::{Arc, Wait};
 use std::sync::atomic::{AtomicU32, Ordering};
+use std::sync::{Arc, Wait};
 use std::thread::yield_now;
 use watcher_set::{CountWatcher, TightWatcher};
 
@@ -63,7 +63,9 @@ const TWO_ROWS: &str =
 fn nested(alloc: Global, further: u32) -> Result<String, AllocError> {
     let open = repeated(alloc, "<a>", further)?;
     let close = repeated(alloc, "</a>", further)?;
-    format!(in alloc; "<XTbML><Table><Values><Axis><Y t=\"0\">1</Y>{open}{close}</Axis></Values></Table></XTbML>")
+    format!(in alloc;
+        "<XTbML><Table><Values><Axis><Y t=\"0\">1</Y>{open}{close}</Axis></Values></Table></XTbML>"
+    )
 }
 
 // The first tag that lies too deep stands behind 28 bytes of the path, 14 of the row, and 60 tags of three bytes.
@@ -72,7 +74,11 @@ fn the_deepest_table(rt: HostRuntime) -> Result<(), AllocError> {
     let alloc = rt.alloc();
     let issued = run_on(&rt, alloc, &[ENDOWMENT], empty(alloc))?;
     for (further, status, written) in [
-        (60, 0, "0,value,2021-01-01,1,1\nrow,7001,inforce,0,pasttable\ntotal,0.00,0.00,1\n"),
+        (
+            60,
+            0,
+            "0,value,2021-01-01,1,1\nrow,7001,inforce,0,pasttable\ntotal,0.00,0.00,1\n",
+        ),
         (61, 4, "badbasis,q.xml,222,notdocument\n"),
     ] {
         let file = Vec::from_slice(alloc, issued.disk.bytes())?;
@@ -127,15 +133,13 @@ fn an_auditor_without_memory(rt: HostRuntime) -> Result<(), AllocError> {
     let mut tight: Vec<Box<dyn Watcher + Send>> = Vec::new(alloc);
     tight.push(Box::new(alloc, TightWatcher::new(alloc, 2))?)?;
     let ran = run_watched(&rt, alloc, &["run"], &ISSUES, tight)?;
-    let written =
-        "1,issue,1,accepted,1\n1,issue,2,nomemory\n1,issue,3,accepted,2\nwatcher,1,2,2\n";
+    let written = "1,issue,1,accepted,1\n1,issue,2,nomemory\n1,issue,3,accepted,2\nwatcher,1,2,2\n";
     assert!(rt; ends(&ran, 9, written));
     let mut both: Vec<Box<dyn Watcher + Send>> = Vec::new(alloc);
     both.push(Box::new(alloc, CountWatcher::new(alloc, 1))?)?;
     both.push(Box::new(alloc, TightWatcher::new(alloc, 9))?)?;
     let ran = run_watched(&rt, alloc, &["run"], &ISSUES[..2], both)?;
-    let written =
-        "1,issue,1,accepted,1\n1,issue,2,accepted,2\nwatcher,1,1,1\nwatcher,2,2,2\n";
+    let written = "1,issue,1,accepted,1\n1,issue,2,accepted,2\nwatcher,1,1,1\nwatcher,2,2,2\n";
     assert!(rt; ends(&ran, 0, written));
     Ok(())
 }
@@ -151,7 +155,12 @@ struct Guest {
 
 impl Drop for Guest {
     fn drop(self) {
-        let Self { count: _count, drops, other: _other, heard: _heard } = self;
+        let Self {
+            count: _count,
+            drops,
+            other: _other,
+            heard: _heard,
+        } = self;
         drops.fetch_add(1, Ordering::SeqCst);
     }
 }

@@ -10,8 +10,8 @@ pub returns-clause-three : goal.returns-clause-three
 unfolding csv_on_literals Reached
 returns-clause-three c = (
   (codes "2000-01-01" ∷ codes "q.xml" ∷ codes "0" ∷ [])
-    ∷ (codes "2010-01-01" ∷ codes "G-1_.x" ∷ codes "400" ∷ [])
-    ∷ (codes "2018-12-31" ∷ codes "q.xml" ∷ codes "2000" ∷ []) ∷ [],
+      ∷ (codes "2010-01-01" ∷ codes "G-1_.x" ∷ codes "400" ∷ [])
+      ∷ (codes "2018-12-31" ∷ codes "q.xml" ∷ codes "2000" ∷ []) ∷ [],
   (_, _, (_, refl, refl, (_, refl, refl, (_, refl, refl, (refl, refl)))), refl),
   lit≤ tt,
   record {

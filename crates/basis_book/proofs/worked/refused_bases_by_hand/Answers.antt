@@ -74,8 +74,7 @@ unfolding csv_on_literals Reached
 returns-clause-falling c =
     let first = codes "2000-01-01" ∷ codes "q.xml" ∷ codes "0" ∷ [] in
     let second = codes "2010-01-01" ∷ codes "q.xml" ∷ codes "1" ∷ [] in
-    let third = codes "2010-01-01" ∷ codes "q.xml" ∷ codes "2" ∷ [] in
-    (
+    let third = codes "2010-01-01" ∷ codes "q.xml" ∷ codes "2" ∷ [] in (
       first ∷ second ∷ third ∷ [],
       (_, _, (_, refl, refl, (_, refl, refl, (_, refl, refl, (refl, refl)))), refl),
       (

@@ -2,8 +2,6 @@ use Rattle.std.proofs.Common.{◌≡◌, ◌+◌, ℕ, All, List, [], ◌∷◌,
 use Rattle.std.specs.Fmt.{digits}
 use Rattle.std.proofs.lemmas.Int.{ints}
 use Rattle.std.proofs.lemmas.List.Elements.{All-nil}
-use Rattle.csv.proofs.OnLiterals.{csv_on_literals}
-use Rattle.csv.specs.Reading.{Reached}
 use Rattle.rate_table.specs.Rates.{Rates}
 use Rattle.xtbml_subset.specs.Answers.{IsTableAnswer, SpellsTable}
 use Rattle.xtbml_subset.specs.declared.fault.TableKind.TheVariants.{NotDocument}
@@ -11,9 +9,7 @@ use Rattle.xtbml_subset.specs.declared.fault.TableFault.TheVariants.{Bad}
 use Rattle.xtbml_subset.proofs.Final.{fault_due}
 use Rattle.xtbml_subset.proofs.WorkedTables.{tables_on_literals, judged, one}
 use Rattle.basis_book.specs.declared.row.BasisRow.{BasisRow}
-use Rattle.basis_book.specs.declared.fault.BasisFault.TheVariants.{BadBasisRow}
-use Rattle.basis_book.specs.File.{IsBasisFile, IsFileFault}
-use Rattle.basis_book.proofs.WorkedRows.{first_text, first_in, q_name, four_percent}
+use Rattle.basis_book.proofs.WorkedRows.{one_right_row, one_bad_row}
 use Rattle.basis_shelf.specs.Bases.{HasTable}
 use Rattle.basis_shelf.specs.Lines.{bad_basis_text}
 use Rattle.basis_shelf.specs.Worked.{shelf_with, one_row, certain_death}
@@ -21,31 +17,6 @@ use Rattle.basis_shelf.proofs.worked.shelves_by_hand.Goals as goal
 
 abbrev the_row : BasisRow
 the_row = record { from_day = pos 10957; table = codes "q.xml"; bp = 400 }
-
-is_basis : IsBasisFile one_row (the_row ∷ [])
-unfolding csv_on_literals Reached
-is_basis = (
-  (codes "2000-01-01" ∷ codes "q.xml" ∷ codes "400" ∷ []) ∷ [],
-  (_, _, (_, refl, refl, (refl, refl)), refl),
-  lit≤ tt,
-  record { each = ((first_text, first_in, q_name, refl, four_percent), tt); rise = tt },
-)
-
-is_bad : IsFileFault (codes "2000-01-01,q.xml\n") (BadBasisRow 1)
-unfolding csv_on_literals Reached
-is_bad = (
-  (codes "2000-01-01" ∷ codes "q.xml" ∷ []) ∷ [],
-  (_, _, (_, refl, refl, (refl, refl)), refl),
-  (
-    lit≤ tt,
-    record {
-      before = [];
-      fields = codes "2000-01-01" ∷ codes "q.xml" ∷ [];
-      stops = record { good = []; rest = []; split = refl; number = refl; right = record { each = tt; rise = tt } };
-      bad = λ row h. h;
-    },
-  ),
-)
 
 is_table : SpellsTable certain_death (record { first_age = 60; rates = 1000000000 ∷ [] })
 unfolding tables_on_literals
@@ -61,32 +32,40 @@ no_tables table = All-nil (λ (other : BasisRow). HasTable (shelf_with one_row t
 pub returns-clause-basis : goal.returns-clause-basis
 returns-clause-basis c = record {
   rows = the_row ∷ [];
-  file = (one_row, (refl, lit≤ tt), is_basis);
+  file = (one_row, (refl, lit≤ tt), one_right_row);
   each = (record { from_day = refl; table = (certain_death, (refl, lit≤ tt), is_table); bp = refl }, tt);
 }
 
 pub returns-clause-bad : goal.returns-clause-bad
 returns-clause-bad c = (
   inl (refl, (refl, refl)),
-  inl (refl, (codes "2000-01-01,q.xml\n", (refl, lit≤ tt), is_bad)),
-  inr (the_row ∷ [], (one_row, (refl, lit≤ tt), is_basis), record {
-    before = [];
-    row = the_row;
-    after = [];
-    split = refl;
-    tables = no_tables None;
-    name = refl;
-    wrong = (refl, refl);
-  }),
-  inr (the_row ∷ [], (one_row, (refl, lit≤ tt), is_basis), record {
-    before = [];
-    row = the_row;
-    after = [];
-    split = refl;
-    tables = no_tables (Some (codes "<XTbML></Table>"));
-    name = refl;
-    wrong = (codes "<XTbML></Table>", (refl, lit≤ tt), not_a_document);
-  }),
+  inl (refl, (codes "2000-01-01,q.xml\n", (refl, lit≤ tt), one_bad_row)),
+  inr (
+    the_row ∷ [],
+    (one_row, (refl, lit≤ tt), one_right_row),
+    record {
+      before = [];
+      row = the_row;
+      after = [];
+      split = refl;
+      tables = no_tables None;
+      name = refl;
+      wrong = (refl, refl);
+    },
+  ),
+  inr (
+    the_row ∷ [],
+    (one_row, (refl, lit≤ tt), one_right_row),
+    record {
+      before = [];
+      row = the_row;
+      after = [];
+      split = refl;
+      tables = no_tables (Some (codes "<XTbML></Table>"));
+      name = refl;
+      wrong = (codes "<XTbML></Table>", (refl, lit≤ tt), not_a_document);
+    },
+  ),
 )
 
 pub returns-clause-none : goal.returns-clause-none

@@ -15,8 +15,8 @@ returns-clause-answered c = (
   (λ h. h.0.0),
   ((pinned_turn, refl, tt), tt),
   (λ h.
-    let same : lapse_turn (Accepted 6) ≡ h.0.0 = same_some (lapse_turn (Accepted 6)) h.0.0 h.0.1 in
-    subst (λ (it : Entry). IsPinned it.reply) (sym same) h.0.2),
+      let same : lapse_turn (Accepted 6) ≡ h.0.0 = same_some (lapse_turn (Accepted 6)) h.0.0 h.0.1 in
+      subst (λ (it : Entry). IsPinned it.reply) (sym same) h.0.2),
 )
 
 pub returns-clause-wants : goal.returns-clause-wants

@@ -4,17 +4,28 @@ use Rattle.xtbml_subset.proofs.worked.a_table_by_hand.Goals as goal
 
 pub returns : goal.returns
 unfolding tables_on_literals
-returns c = judged _ _ refl
-    (Ok tt, refl, (
-      Ok (100000000 ∷ 500000000 ∷ 1000000000 ∷ []),
-      (Ok (0, 100000000), (Some 100000000, a_tenth, refl), (
+returns c = judged _ _ refl (
+  Ok tt,
+  refl,
+  (
+    Ok (100000000 ∷ 500000000 ∷ 1000000000 ∷ []),
+    (
+      Ok (0, 100000000),
+      (Some 100000000, a_tenth, refl),
+      (
         Ok (500000000 ∷ 1000000000 ∷ []),
-        (Ok (1, 500000000), (Some 500000000, a_half, refl), (
-          Ok (1000000000 ∷ []),
-          (Ok (2, 1000000000), (Some 1000000000, one, refl), (Ok [], refl, refl)),
-          refl,
-        )),
+        (
+          Ok (1, 500000000),
+          (Some 500000000, a_half, refl),
+          (
+            Ok (1000000000 ∷ []),
+            (Ok (2, 1000000000), (Some 1000000000, one, refl), (Ok [], refl, refl)),
+            refl,
+          ),
+        ),
         refl,
-      )),
-      refl,
-    ))
+      ),
+    ),
+    refl,
+  ),
+)

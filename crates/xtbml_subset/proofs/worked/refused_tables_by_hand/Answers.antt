@@ -22,10 +22,14 @@ unfolding tables_on_literals
 returns-clause-rates c = (
   inl (judged _ _ refl (Ok tt, refl, (Err (Bad 28 BadAge), (Err (Bad 28 BadAge), refl, refl), refl))),
   inl (judged _ _ refl (Ok tt, refl, (Err (Bad 28 BadAge), (Err (Bad 28 BadAge), refl, refl), refl))),
-  inl (judged _ _ refl (Ok tt, refl, (
-    Err (Bad 44 AgeGap),
-    (Ok (0, 100000000), (Some 100000000, a_tenth, refl), (Err (Bad 44 AgeGap), (Err (Bad 44 AgeGap), refl, refl), refl)),
+  inl (judged _ _ refl (
+    Ok tt,
     refl,
-  ))),
+    (
+      Err (Bad 44 AgeGap),
+      (Ok (0, 100000000), (Some 100000000, a_tenth, refl), (Err (Bad 44 AgeGap), (Err (Bad 44 AgeGap), refl, refl), refl)),
+      refl,
+    ),
+  )),
   inl (judged _ _ refl (Ok tt, refl, (Err (Bad 28 BadRate), (Err (Bad 28 BadRate), (None, refl, refl), refl), refl))),
 )
