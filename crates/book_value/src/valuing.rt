@@ -21,6 +21,7 @@ use shared_office::{Office, OfficeCalls, OfficePass, close};
 use snapshot_value::{Valuation, ValueFault};
 use std::alloc::Global;
 use std::sync::Wait;
+use std::thread::Threads;
 use watcher_set::{NoWatchers, Watching};
 
 /// A valuation that no lane of a script asks for.
@@ -28,7 +29,7 @@ const NO_LANE: u8 = 0;
 
 /// Writes what each policy is worth on a day, in days since 1970-01-01, after as many commands as are asked for. The
 /// basis is fetched before the disk is touched.
-pub fn value<R: Wait, K: Sink, H: Shelf, D: Disk, G: Gate>(
+pub fn value<R: Threads + Wait + Sync, K: Sink, H: Shelf, D: Disk, G: Gate>(
     rt: &R,
     alloc: Global,
     on: i32,
@@ -57,7 +58,7 @@ pub fn value<R: Wait, K: Sink, H: Shelf, D: Disk, G: Gate>(
 }
 
 // Writes the values by a basis.
-fn value_by<R: Wait, K: Sink, D: Disk, G: Gate>(
+fn value_by<R: Threads + Wait + Sync, K: Sink, D: Disk, G: Gate>(
     rt: &R,
     alloc: Global,
     on: i32,
@@ -87,7 +88,7 @@ fn value_by<R: Wait, K: Sink, D: Disk, G: Gate>(
 }
 
 // Values an office's policies, closes it, and writes the values.
-fn value_office<R: Wait, K: Sink, D: Disk, W: Watching, G: Gate>(
+fn value_office<R: Threads + Wait + Sync, K: Sink, D: Disk, W: Watching, G: Gate>(
     rt: &R,
     alloc: Global,
     on: i32,

@@ -13,7 +13,7 @@ use Rattle.present_value.specs.declared.pair.Values.{Values}
 use Rattle.present_value.proofs.Quotients.{up-le}
 use Rattle.present_value.proofs.Steps.{ben_hi-most, ben_lo-most, ann_lo-least, ann_lo-most, ann_hi-most}
 use Rattle.crvm_reserve.specs.Rounded.{term_lo, term_hi, level_lo, level_hi, excess_lo, excess_hi, beta_lo, beta_hi, reserve_lo, reserve_hi, amount_lo, amount_hi}
-use Rattle.crvm_reserve.specs.Made.{CanReserve, IsReserved, ArePartsOf, IsMadeFor, AreMadeFor}
+use Rattle.crvm_reserve.specs.Made.{CanReserve, IsReserved, ArePremiumPartsOf, IsMadeFor, AreMadeFor}
 use Rattle.crvm_reserve.specs.declared.premium.Premium.{Premium}
 use Rattle.crvm_reserve.specs.declared.premium.PremiumParts.{PremiumParts}
 use Rattle.crvm_reserve.proofs.Enclosed.{IsCover, own, cap_cover, ann-order, beta_lo-most, beta_hi-most}
@@ -46,7 +46,7 @@ reserved table shape bp are can =
     }
 
 -- the term premium is at the rate of the first year
-pub term_is : (c cap : Cover) (parts : PremiumParts) → ArePartsOf c cap parts
+pub term_is : (c cap : Cover) (parts : PremiumParts) → ArePremiumPartsOf c cap parts
     → (down (10000 * parts.rate * UNIT) (ONE * (10000 + parts.bp)) ≡ term_lo c)
     × (up (10000 * parts.rate * UNIT) (ONE * (10000 + parts.bp)) ≡ term_hi c)
 unfolding term_lo term_hi
@@ -83,13 +83,13 @@ unfolding level_hi
 level_hi_is c values t are = rw (are.benefits, are.premiums) refl
 
 -- what the parts of a premium ask, at issue, a year later and of the cap
-pub issue_due : (c cap : Cover) (parts : PremiumParts) → ArePartsOf c cap parts → AreDue parts.issue
+pub issue_due : (c cap : Cover) (parts : PremiumParts) → ArePremiumPartsOf c cap parts → AreDue parts.issue
 issue_due c cap parts are = due_at c parts.issue 0 (own c cap are.reserved) are.issue (omega (arith, are.reserved.renewed))
 
-pub renewal_due : (c cap : Cover) (parts : PremiumParts) → ArePartsOf c cap parts → AreDue parts.renewal
+pub renewal_due : (c cap : Cover) (parts : PremiumParts) → ArePremiumPartsOf c cap parts → AreDue parts.renewal
 renewal_due c cap parts are = due_at c parts.renewal 1 (own c cap are.reserved) are.renewal (omega (arith, are.reserved.renewed))
 
-pub limit_due : (c cap : Cover) (parts : PremiumParts) → ArePartsOf c cap parts → AreDue parts.limit
+pub limit_due : (c cap : Cover) (parts : PremiumParts) → ArePremiumPartsOf c cap parts → AreDue parts.limit
 limit_due c cap parts are = due_at cap parts.limit 0 (cap_cover c cap are.reserved) are.limit (omega (arith, are.reserved.cap_paid))
 
 -- the parts of the rounded premium

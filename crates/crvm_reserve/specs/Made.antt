@@ -36,7 +36,7 @@ abbrev pub premium_of : Cover → Cover → Premium
 premium_of c cap = record { lo = beta_lo c cap; hi = beta_hi c cap }
 
 -- the parts are those of a cover and its cap: the values at issue and a year later, and at issue of the cap
-pub record ArePartsOf (c cap : Cover) (parts : PremiumParts) : Type 0 where
+pub record ArePremiumPartsOf (c cap : Cover) (parts : PremiumParts) : Type 0 where
   pub reserved : IsReserved c cap
   pub rate : parts.rate ≡ c.rates 0
   pub interest : parts.bp ≡ c.interest
@@ -45,10 +45,10 @@ pub record ArePartsOf (c cap : Cover) (parts : PremiumParts) : Type 0 where
   pub renewal : AreValuesAt c 1 parts.renewal
   pub limit : AreValuesAt cap 0 parts.limit
 
-pub record AreParts (parts : PremiumParts) : Type 0 where
+pub record ArePremiumParts (parts : PremiumParts) : Type 0 where
   pub cover : Cover
   pub cap : Cover
-  pub are : ArePartsOf cover cap parts
+  pub are : ArePremiumPartsOf cover cap parts
 
 -- values and premium are those of one cover at year t, and its cap
 pub record IsMadeFor (c cap : Cover) (t : ℕ) (values : Values) (premium : Premium) : Type 0 where

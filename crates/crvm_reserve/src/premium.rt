@@ -5,7 +5,7 @@ ghost use Rattle.present_value.specs.Rounding.{UNIT, down, up};
 ghost use Rattle.present_value.specs.Sums.{Cover};
 ghost use Rattle.present_value.specs.Premium.{beta};
 ghost use Rattle.crvm_reserve.specs.Rounded.{excess_lo, excess_hi};
-ghost use Rattle.crvm_reserve.specs.Made.{AreParts, ArePartsOf, premium_of};
+ghost use Rattle.crvm_reserve.specs.Made.{ArePremiumParts, ArePremiumPartsOf, premium_of};
 
 use present_value::{Pair, UNITS_IN_ONE, Values, quotient_down, quotient_up};
 
@@ -33,9 +33,9 @@ pub struct PremiumParts {
 
 /// The modified net premium of a cover by its values and those of its cap, which may be by another table.
 pub fn premium_by(parts: PremiumParts) -> Premium
-    requires { AreParts parts }
-    ensures rounded { (c cap : Cover) → ArePartsOf c cap parts → result ≡ premium_of c cap }
-    ensures exact { (c cap : Cover) → ArePartsOf c cap parts → Between result.lo result.hi UNIT (beta c cap) }
+    requires { ArePremiumParts parts }
+    ensures rounded { (c cap : Cover) → ArePremiumPartsOf c cap parts → result ≡ premium_of c cap }
+    ensures exact { (c cap : Cover) → ArePremiumPartsOf c cap parts → Between result.lo result.hi UNIT (beta c cap) }
     ensures narrow { result.hi ≤ result.lo + 100000 }
 {
     let excess = excess_premium(parts);
@@ -53,9 +53,9 @@ pub fn premium_by(parts: PremiumParts) -> Premium
 
 /// The level premium after the first year, at most that of the cap, less the first year's term premium.
 fn excess_premium(parts: PremiumParts) -> Pair
-    requires { AreParts parts }
-    ensures lo { (c cap : Cover) → ArePartsOf c cap parts → result.lo ≡ excess_lo c cap }
-    ensures hi { (c cap : Cover) → ArePartsOf c cap parts → result.hi ≡ excess_hi c cap }
+    requires { ArePremiumParts parts }
+    ensures lo { (c cap : Cover) → ArePremiumPartsOf c cap parts → result.lo ≡ excess_lo c cap }
+    ensures hi { (c cap : Cover) → ArePremiumPartsOf c cap parts → result.hi ≡ excess_hi c cap }
 {
     let first = first_year_premium(parts.rate, parts.bp);
     let cap = level_premium(parts.limit.ben, parts.limit.ann);

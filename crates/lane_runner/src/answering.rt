@@ -17,11 +17,12 @@ use shared_office::{Office, OfficeCalls, OfficePass};
 use snapshot_value::{Valuation, ValueFault, value};
 use std::alloc::Global;
 use std::sync::Wait;
+use std::thread::Threads;
 use turn_lock::Turned;
 use watcher_set::Watching;
 
 /// Answers the lines of a lane, for which there is room.
-pub fn answer_lane<D: Disk, W: Watching, G: Gate, R: Wait>(
+pub fn answer_lane<D: Disk, W: Watching, G: Gate, R: Threads + Wait + Sync>(
     rt: &R,
     alloc: Global,
     office: &Office<D, W>,
@@ -53,7 +54,7 @@ pub fn answer_lane<D: Disk, W: Watching, G: Gate, R: Wait>(
     );
 }
 
-fn answer_lines<D: Disk, W: Watching, G: Gate, R: Wait>(
+fn answer_lines<D: Disk, W: Watching, G: Gate, R: Threads + Wait + Sync>(
     rt: &R,
     alloc: Global,
     office: &Office<D, W>,
@@ -81,7 +82,7 @@ fn answer_lines<D: Disk, W: Watching, G: Gate, R: Wait>(
 }
 
 // Answers a line.
-fn answer_line<D: Disk, W: Watching, G: Gate, R: Wait>(
+fn answer_line<D: Disk, W: Watching, G: Gate, R: Threads + Wait + Sync>(
     rt: &R,
     alloc: Global,
     office: &Office<D, W>,
@@ -149,7 +150,7 @@ fn answer_trim<D: Disk, W: Watching, R: Wait>(
     }
 }
 
-fn answer_value<D: Disk, W: Watching, G: Gate, R: Wait>(
+fn answer_value<D: Disk, W: Watching, G: Gate, R: Threads + Wait + Sync>(
     rt: &R,
     alloc: Global,
     office: &Office<D, W>,

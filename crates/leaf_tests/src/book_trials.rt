@@ -64,11 +64,17 @@ fn is_needed(sets: &[Set], place: usize, floor: u32) -> bool {
     let Some(set) = sets.get(place) else {
         return false;
     };
-    set.1 > floor || sets.iter().skip(place + 1).all(|later| later.0 != set.0 || later.1 > floor)
+    set.1 > floor
+        || sets
+            .iter()
+            .skip(place + 1)
+            .all(|later| later.0 != set.0 || later.1 > floor)
 }
 
 fn needed(sets: &[Set], floor: u32) -> usize {
-    (0..sets.len()).filter(|place| is_needed(sets, *place, floor)).count()
+    (0..sets.len())
+        .filter(|place| is_needed(sets, *place, floor))
+        .count()
 }
 
 // Compares what the book and the list tell of a position from the floor on.
@@ -88,13 +94,26 @@ fn compares<R: Abort, L: Ledger>(
             Some(key) => last_set(sets, key, p),
             None => None,
         };
-        assert_eq!(rt; value(book, index, p, steps), expected, "index {index} at {p}");
+        assert_eq!(rt;
+            value(book, index, p, steps),
+            expected,
+            "index {index} at {p}"
+        );
         assert_eq!(rt; index < book.count_at(p), key.is_some(), "count at {p}");
     }
     for key in 0..KEYS {
-        assert_eq!(rt; book.get(key), last_set(sets, key, u32::MAX), "newest of {key}");
+        assert_eq!(rt;
+            book.get(key),
+            last_set(sets, key, u32::MAX),
+            "newest of {key}"
+        );
     }
-    assert_eq!(rt; book.kept() as usize, needed(sets, book.floor()), "kept from {}", book.floor());
+    assert_eq!(rt;
+        book.kept() as usize,
+        needed(sets, book.floor()),
+        "kept from {}",
+        book.floor()
+    );
     Ok(())
 }
 

@@ -11,7 +11,12 @@ use std::test::Fail;
 use versioned_book::VersionedBook;
 
 // One setting, for which room is made first.
-pub(crate) fn put(book: &mut VersionedBook<u64>, key: u32, position: u32, value: u64) -> Result<(), AllocError>
+pub(crate) fn put(
+    book: &mut VersionedBook<u64>,
+    key: u32,
+    position: u32,
+    value: u64,
+) -> Result<(), AllocError>
     requires rising { book.old.last < position }
     requires stands { IsSomeBook book.old }
     ensures stands { IsSomeBook book.new }

@@ -1,2 +1,6 @@
 pub mod CrashLaws
+pub mod HeadlineLaws
+pub mod RunLaws
+pub mod LeftLaws
 pub mod ProgramSteps
+pub mod ReasonSteps

@@ -1,5 +1,5 @@
 -- What the exit status tells of the words, the script, the basis and the file
-use Rattle.std.proofs.Common.{◌≡◌, ℕ, ◌≤◌, ◌<◌, ◌⊎◌, ℤ, List, length, map, string_bytes, refl, ap, subst, inl, inr, None, Some, String, Global, codes, arith}
+use Rattle.std.proofs.Common.{◌≡◌, ℕ, ◌≤◌, ◌<◌, ◌⊎◌, ℤ, List, length, map, string_bytes, ⊎_elim, refl, ap, subst, inl, inr, None, Some, String, Global, codes, arith}
 use Rattle.std.specs.Prelude.{true}
 use Rattle.outside_io.specs.declared.disks.Disk.{Ghosts}
 use Rattle.outside_io.specs.Faults.{Rose}
@@ -21,7 +21,7 @@ use Rattle.life_args.specs.declared.mode.Mode.{Mode}
 use Rattle.life_args.specs.declared.mode.Mode.TheVariants.{Run, Value, State, Generate, Load}
 use Rattle.office_state.specs.Journals.{Opens, OpensToNone}
 use Rattle.program_endings.specs.declared.ending.Ending.{Ending}
-use Rattle.program_endings.specs.declared.ending.Ending.TheVariants.{Usage, BadBasis, NoMemory, Ahead}
+use Rattle.program_endings.specs.declared.ending.Ending.TheVariants.{Done, Usage, BadScript, BadBasis, BadJournal, NoMemory, Ahead}
 use Rattle.program_endings.specs.Status.{status_of}
 use Rattle.program_endings.specs.WithoutBasis.{SaysBadFile}
 use Rattle.program_endings.specs.Writing.{Input, IsWholeInput, Shelving, Stream}
@@ -34,9 +34,22 @@ use Rattle.book_state.proofs.StateStatus.{state_as_before, state_refused, state_
 use Rattle.book_value.specs.Valuing.{EndsValue, IsAhead, position_of}
 use Rattle.book_value.proofs.ValueStatus.{value_ahead, value_as_before, value_bad_file, value_beyond, value_refused, value_to_end, value_unfit, value_usage}
 use Rattle.trial_load.proofs.LoadStatus.{generate_to_end, load_ahead, load_as_before, load_bad_file, load_refused, load_to_end, load_unfit, load_usage}
-use Rattle.life_app.specs.Needs.{HasBadFile, IsPastTheEnd}
+use Rattle.life_app.specs.Needs.{filing_between}
+use Rattle.life_app.specs.Due.{HasBasis, HasItsJournal, HasItsNeeds, HasNoScript, IsDueEnding, IsHeld, LacksItsBasis, LacksItsJournal}
 use Rattle.life_app.specs.Obeys.{Does, EndsMode, SaysUnasked}
 use Rattle.life_app.specs.Words.{AskForGenerate, AskForLoad, AskForRun, AskForState, AskForValue}
+
+-- a bad file gives 4, and its line besides
+said : {status : ℕ} (output : Stream) (bad : ABadBasis) → SaysBadFile bad output status ⊎ (status ≡ 9) → (status ≡ 4) ⊎ (status ≡ 9)
+said output bad says = ⊎_elim (λ four. inl four.0) (λ nine. inr nine) says
+
+-- a shelf that has the basis of lanes that ask for values
+module _ {shelf : Shelving} (lanes : List Lane) (name : List ℕ) (has : asks_for_values lanes ≡ true → HasBasis shelf name) where
+  basis_for : HasItsBasis lanes name shelf
+  basis_for asks = (let basis = has asks in (basis.files, (basis.basis, basis.agree, basis.is)))
+
+  held_for : asks_for_values lanes ≡ true → Rose shelf.faults_before shelf.faults_after → ⊥
+  held_for asks = (has asks).held
 
 module _ {D : Type 0} (g : Ghosts D) (old new : D) (auditors : List Auditor) where
   module _ (words : List (String Global)) (input : Input) (output : Stream) (shelf : Shelving) (InputStays ShelfStays : Type 0) where
@@ -70,65 +83,6 @@ module _ {D : Type 0} (g : Ghosts D) (old new : D) (auditors : List Auditor) whe
         said NoMemory says = inr refl
         said _ says = absurd says
 
-    -- no mode ends as words of no command do
-    mode_usage : (mode : Mode) → EndsMode g old new mode auditors input output shelf InputStays ShelfStays Usage → ⊥
-    mode_usage (Run name) ends = run_usage g old new auditors name input output shelf ShelfStays ends
-    mode_usage (Value on at workers name) ends = value_usage g old new on at output name shelf ends.1
-    mode_usage (State None) ends = ends.2
-    mode_usage (State (Some id)) ends = ends.2
-    mode_usage (Generate seed count lanes) ends = ends.3
-    mode_usage (Load seed count lanes workers) ends = load_usage g old new seed count lanes workers shelf output ends.1
-
-    usage_only : Does g old new words auditors input output shelf InputStays ShelfStays Usage → AskForNothing words
-    usage_only does = elim does [
-      | inl (mode, asked, ends) ↦ absurd (mode_usage mode ends)
-      | inr none ↦ none.says.0
-    ]
-
-    -- 4 comes of a bad file of the basis
-    mode_bad_file : (mode : Mode) → AskFor words mode → EndsMode g old new mode auditors input output shelf InputStays ShelfStays BadBasis
-        → HasBadFile words input shelf output
-    mode_bad_file (Run name) asked ends =
-        let bad = run_bad_file g old new auditors name input output shelf ShelfStays ends in
-        (name, (bad.1.0, inr (inl (asked, bad.0)), bad.1.1, bad.1.2))
-    mode_bad_file (Value on at workers name) asked ends =
-        let bad = value_bad_file g old new on at output name shelf ends.1 in
-        (name, (bad.0, inl (on, (at, (workers, asked))), bad.1, bad.2))
-    mode_bad_file (State None) asked ends = absurd ends.2
-    mode_bad_file (State (Some id)) asked ends = absurd ends.2
-    mode_bad_file (Generate seed count lanes) asked ends = absurd ends.3
-    mode_bad_file (Load seed count lanes workers) asked ends =
-        let bad = load_bad_file g old new seed count lanes workers shelf output ends.1 in
-        (codes "basis.csv", (bad.0, inr (inr ((seed, (count, (lanes, (workers, asked)))), refl)), bad.1, bad.2))
-
-    bad_file_only : Does g old new words auditors input output shelf InputStays ShelfStays BadBasis → HasBadFile words input shelf output
-    bad_file_only does = elim does [
-      | inl (mode, asked, ends) ↦ mode_bad_file mode asked ends
-      | inr none ↦ absurd none.says
-    ]
-
-    -- 10 comes of a position above the count
-    ahead_only : (on : ℤ) (at : At) (name : List ℕ) → AskForValue words on at name → IsAhead g old new at output
-        → IsPastTheEnd g old new words
-    ahead_only on Now name asked ahead = absurd (omega (arith, ahead.beyond.ahead))
-    ahead_only on (Position p) name asked ahead =
-        (on, (p, (name, asked, λ honest. (ahead.commands, ahead.opened honest, ahead.beyond.ahead))))
-
-    mode_ahead : (mode : Mode) → AskFor words mode → EndsMode g old new mode auditors input output shelf InputStays ShelfStays Ahead
-        → IsPastTheEnd g old new words
-    mode_ahead (Run name) asked ends = absurd (run_ahead g old new auditors name input output shelf ShelfStays ends)
-    mode_ahead (Value on at workers name) asked ends = ahead_only on at name (workers, asked) (value_ahead g old new on at output name shelf ends.1)
-    mode_ahead (State None) asked ends = absurd ends.2
-    mode_ahead (State (Some id)) asked ends = absurd ends.2
-    mode_ahead (Generate seed count lanes) asked ends = absurd ends.3
-    mode_ahead (Load seed count lanes workers) asked ends = absurd (load_ahead g old new seed count lanes workers shelf output ends.1)
-
-    past_the_end_only : Does g old new words auditors input output shelf InputStays ShelfStays Ahead → IsPastTheEnd g old new words
-    past_the_end_only does = elim does [
-      | inl (mode, asked, ends) ↦ mode_ahead mode asked ends
-      | inr none ↦ absurd none.says
-    ]
-
     -- how a mode leaves a file that opens to none
     mode_as_before : (mode : Mode) (ending : Ending) → EndsMode g old new mode auditors input output shelf InputStays ShelfStays ending
         → g.honest new → OpensToNone (g.reads old) → g.reads new ≡ g.reads old
@@ -146,25 +100,6 @@ module _ {D : Type 0} (g : Ghosts D) (old new : D) (auditors : List Auditor) whe
     module _ (ending : Ending) (does : Does g old new words auditors input output shelf InputStays ShelfStays ending) where
       ran : (name : List ℕ) → AskForRun words name → EndsRun g old new name auditors input output shelf ShelfStays ending ⊎ (status_of ending ≡ 9)
       ran name asked = as_asked ending does (Run name) asked
-
-      -- so each of these statuses comes of its ending alone
-      by_usage : ending ≡ Usage → AskForNothing words
-      by_usage is = usage_only (subst (Does g old new words auditors input output shelf InputStays ShelfStays) is does)
-
-      by_bad_file : ending ≡ BadBasis → HasBadFile words input shelf output
-      by_bad_file is = bad_file_only (subst (Does g old new words auditors input output shelf InputStays ShelfStays) is does)
-
-      by_ahead : ending ≡ Ahead → IsPastTheEnd g old new words
-      by_ahead is = past_the_end_only (subst (Does g old new words auditors input output shelf InputStays ShelfStays) is does)
-
-      pub usage : status_of ending ≡ 2 → AskForNothing words
-      usage status = by_usage (ending_at 2 Usage ending refl status)
-
-      pub bad_file : status_of ending ≡ 4 → HasBadFile words input shelf output
-      bad_file status = by_bad_file (ending_at 4 BadBasis ending refl status)
-
-      pub past_the_end : status_of ending ≡ 10 → IsPastTheEnd g old new words
-      past_the_end status = by_ahead (ending_at 10 Ahead ending refl status)
 
       pub unopened : g.honest new → OpensToNone (g.reads old) → g.reads new ≡ g.reads old
       unopened honest none = elim does [
@@ -333,3 +268,61 @@ module _ {D : Type 0} (g : Ghosts D) (old new : D) (auditors : List Auditor) whe
             | inl ends ↦ run_too_long g old new auditors name input output shelf ShelfStays ending ends more held
             | inr none ↦ inr none
           ]
+
+      -- the ending that is due
+      unscript : (name : List ℕ) → AskForRun words name → HasNoScript input → (status_of ending ≡ 3) ⊎ (status_of ending ≡ 9)
+      unscript name asked none = elim none.unreadable [
+        | inl more ↦ script_too_long name asked more none.held
+        | inr bytes ↦ script_refused bytes.0 name asked bytes.1 bytes.2 none.held
+      ]
+
+      bad_basis : (mode : Mode) → AskFor words mode → LacksItsBasis mode input shelf → (status_of ending ≡ 4) ⊎ (status_of ending ≡ 9)
+      bad_basis (Run name) asked lacks =
+          let script = lacks.1 in
+          let none = lacks.3 in
+          said output none.bad
+          (unfit_run script.bytes name lacks.0 none.bad none.files asked script.whole script.read.0 script.read.1 lacks.2 none.agree none.first script.held none.held)
+      bad_basis (Value on at workers name) asked none = said output none.bad (unfit on at name none.bad none.files (workers, asked) none.agree none.first none.held)
+      bad_basis (Load seed count lanes workers) asked none =
+          said output none.bad (unfit_load none.bad none.files (seed, (count, (lanes, (workers, asked)))) none.agree none.first none.held)
+      bad_basis _ asked lacks = absurd lacks
+
+      bad_journal : (mode : Mode) → AskFor words mode → HasItsNeeds mode input shelf → LacksItsJournal mode (filing_between g old new)
+          → (status_of ending ≡ 5) ⊎ (status_of ending ≡ 9)
+      bad_journal (Run name) asked has none =
+          let script = has.1 in
+          refused_exactly script.bytes name has.0 asked script.whole script.read.0 script.read.1 (basis_for has.0 name has.2) (held_for has.0 name has.2)
+          none.honest none.none script.held none.held
+      bad_journal (Value on at workers name) asked has none =
+          unvalued on at name has.files has.basis (workers, asked) has.agree has.is none.honest none.none has.held none.held
+      bad_journal (State id) asked has none = unstated (id, asked) none.honest none.none none.held
+      bad_journal (Load seed count lanes workers) asked has none =
+          unloaded has.files has.basis (seed, (count, (lanes, (workers, asked)))) has.agree has.is none.honest none.none has.held none.held
+      bad_journal (Generate seed count lanes) asked has none = absurd none
+
+      done : (mode : Mode) → AskFor words mode → HasItsNeeds mode input shelf → HasItsJournal mode (filing_between g old new)
+          → IsHeld output.faults_before output.faults_after → (status_of ending ≡ 0) ⊎ (status_of ending ≡ 9)
+      done (Run name) asked has journal output_held =
+          let script = has.1 in
+          let file = journal.1 in
+          complete script.bytes name has.0 journal.0 asked script.whole script.read.0 script.read.1 (basis_for has.0 name has.2)
+          (held_for has.0 name has.2) file.honest file.opens script.held output_held file.held
+      done (Value on at workers name) asked has journal output_held =
+          let file = journal.1 in
+          valued on at name has.files has.basis journal.0 (workers, asked) has.agree has.is file.honest file.opens journal.2 has.held output_held file.held
+      done (State id) asked has journal output_held = (let file = journal.1 in stated journal.0 (id, asked) file.honest file.opens output_held file.held)
+      done (Generate seed count lanes) asked has journal output_held = generated (seed, (count, (lanes, asked))) output_held
+      done (Load seed count lanes workers) asked has journal output_held =
+          let file = journal.1 in
+          loaded has.files has.basis journal.0 (seed, (count, (lanes, (workers, asked)))) has.agree has.is file.honest file.opens has.held output_held file.held
+
+      pub due : (wanted : Ending) → IsDueEnding words input output shelf (filing_between g old new) wanted
+          → (status_of ending ≡ status_of wanted) ⊎ (status_of ending ≡ 9)
+      due Usage is = as_nothing ending does is
+      due BadScript is = unscript is.0 is.1 is.2
+      due BadBasis is = bad_basis is.0 is.1 is.2
+      due BadJournal is = bad_journal is.0 is.1 is.2 is.3
+      due Done is = done is.0 is.1 is.2 is.3 is.4
+      due Ahead (on, (p, (workers, (name, asked, has, (commands, file, past))))) =
+          ahead on p name has.files has.basis commands (workers, asked) has.agree has.is file.honest file.opens past has.held file.held
+      due _ is = absurd is

@@ -1,6 +1,10 @@
 pub mod Words
 pub mod Needs
+pub mod Reasons
+pub mod Due
 pub mod Obeys
 pub mod Crashes
+pub mod Headline
+pub mod Runs
 pub mod Worked
 pub mod inside

@@ -1,6 +1,7 @@
 -- What the words need of the basis and the disk
 use Rattle.std.specs.Prelude.{◌≡◌, ℕ, ◌<◌, ◌⊎◌, ℤ, List, length, codes, String}
 use Rattle.std.specs.Global.{Global}
+use Rattle.outside_io.specs.Faults.{Rose}
 use Rattle.outside_io.specs.Shelves.{Files}
 use Rattle.outside_io.specs.declared.disks.Disk.{Ghosts}
 use Rattle.policy_types.specs.declared.command.Command.{Command}
@@ -28,8 +29,24 @@ HasBadFile words input shelf output =
     (name : List ℕ) × ((bad : BadBasis) × NeedBasis words input name
     × ((files : Files) → shelf.Agrees files → IsFirstBadFile files name bad) × WroteOrFailed output (bad_basis_text bad))
 
+-- The file of a disk between two moments: what it read as and what it reads as, whether the disk comes back honest, and
+-- whether its count of faults rose.
+pub record Filing : Type 1 where
+  pub before : List ℕ
+  pub after : List ℕ
+  pub Honest : Type 0
+  pub Failed : Type 0
+
+abbrev pub filing_between : {D : Type 0} → Ghosts D → D → D → Filing
+filing_between g old new = record {
+  before = g.reads old;
+  after = g.reads new;
+  Honest = g.honest new;
+  Failed = Rose (g.faults old) (g.faults new);
+}
+
 -- the words ask for values after more commands than the disk's file opens to
-abbrev pub IsPastTheEnd : {D : Type 0} → Ghosts D → D → D → List (String Global) → Type 0
-IsPastTheEnd g old new words =
+abbrev pub IsPastTheEnd : List (String Global) → Filing → Type 0
+IsPastTheEnd words disk =
     (on : ℤ) × ((p : ℕ) × ((name : List ℕ) × AskForValue words on (Position p) name
-    × (g.honest new → (commands : List Command) × Opens (g.reads old) commands × (length commands < p))))
+    × (disk.Honest → (commands : List Command) × Opens disk.before commands × (length commands < p))))

@@ -1,16 +1,21 @@
 // What the definitions have to mean, as functions that do nothing.
-ghost use Rattle.std.specs.Prelude.{◌≡◌, ◌⊎◌, ℕ, List, []};
+ghost use Rattle.std.specs.Prelude.{◌≡◌, ◌⊎◌, ℕ, List, [], String};
+ghost use Rattle.std.specs.Global.{Global};
 ghost use Rattle.policy_types.specs.declared.command.Command.{Command};
 ghost use Rattle.policy_types.specs.declared.entry.Entry.{Entry};
 ghost use Rattle.policy_machine.specs.History.{Opening};
 ghost use Rattle.posting_journal.specs.Runs.{IsSafe};
 ghost use Rattle.command_csv.specs.Reads.{IsFirstScriptFault};
 ghost use Rattle.life_app.specs.Crashes.{AreAllHeld, AreHeld, HasRun};
+ghost use Rattle.life_app.specs.Runs.{AreLeft, AreRuns, IsLeftSo, OneRun};
+ghost use Rattle.life_app.specs.Obeys.{Obeys};
+ghost use Rattle.program_endings.specs.Writing.{between, input_between, shelf_between};
+ghost use Rattle.watcher_set.specs.Noted.{Auditor};
 ghost use Rattle.office_state.specs.Images.{HoldsOnce, IsLeftAlone};
 ghost use Rattle.office_state.specs.Journals.{Opens};
 ghost use Rattle.script_run.specs.Script.{IsReadable, IsUnreadable};
 
-use outside_io::Disk;
+use outside_io::{Disk, Shelf, Sink, Source};
 
 /// Every script is read or refused, and none is both; one that isn't too long has one first fault.
 pub fn scripts_are_read_or_refused()
@@ -46,4 +51,19 @@ pub fn crashes_of_an_opening<D: Disk>()
     ensures unopened { (next last : D) (opening : Opening) (history : List Entry) (image : List ℕ)
         → HoldsOnce opening history (D.reads next) → D.honest last → IsSafe D.Disk next → IsLeftAlone D.Disk next last
         → D.left_since last (D.clock next) image → HoldsOnce opening history image }
+{}
+
+/// The runs of a list, each ended by its return or by a crash at any moment, leave in their order what each had answered to
+/// be accepted, and of each at most one more, that was answered `fault`. The first begins on a disk of which a crash leaves
+/// just what is read. Each call of the program leaves the disk as such a run does.
+pub fn runs_in_a_row<S: Source, K: Sink, H: Shelf, D: Disk>()
+    ensures left { (first last : D) (commands : List Command) (runs : List (OneRun D)) (image : List ℕ) → IsSafe D.Disk first
+        → Opens (D.reads first) commands → AreRuns D.Disk first runs last → D.may_leave last image
+        → (held : List Command) × Opens image held × AreLeft commands runs held }
+    ensures so { (old new : D) (input read : S) (output written : K) (shelf asked : H) (words : List (String Global))
+        (auditors : List Auditor) (status : ℕ)
+        → Obeys D.Disk old new words auditors (input_between S.faults S.left S.given S.ended input read)
+        (between K.faults K.written output written) (shelf_between H.faults H.agrees shelf asked)
+        (read ≡ input) (asked ≡ shelf) status
+        → (opening : Opening) × ((history : List Entry) × IsLeftSo D.Disk old new opening history) }
 {}

@@ -3,9 +3,12 @@
 
 mod laws;
 mod program;
+mod promise;
 pub mod worked;
 
 pub use laws::{
-    crashes_of_a_run, crashes_of_an_opening, runs_after_a_crash, scripts_are_read_or_refused,
+    crashes_of_a_run, crashes_of_an_opening, runs_after_a_crash, runs_in_a_row,
+    scripts_are_read_or_refused,
 };
 pub use program::{Ended, life};
+pub use promise::headline;

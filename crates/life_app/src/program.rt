@@ -1,29 +1,15 @@
 // The top call: all that the program does, over any devices.
-ghost use Rattle.std.specs.Prelude.{◌≡◌, ◌≤◌, ◌<◌, ◌⊎◌, ℕ, ℤ, true, List, [], map, length, codes};
+ghost use Rattle.std.specs.Prelude.{◌≡◌, ◌≤◌, ◌⊎◌, ℕ, [], map, length};
 ghost use Rattle.std.specs.List.{AllByRecursion};
-ghost use Rattle.outside_io.specs.Faults.{Rose};
-ghost use Rattle.outside_io.specs.Shelves.{Files};
-ghost use Rattle.outside_io.specs.Streams.{GivesMore};
-ghost use Rattle.policy_types.specs.declared.command.Command.{Command as ACommand};
-ghost use Rattle.policy_types.specs.declared.entry.At.{At as AnAt};
-ghost use Rattle.policy_types.specs.declared.entry.At.TheVariants.{Position};
-ghost use Rattle.policy_types.specs.declared.script.Lane.{Lane as ALane};
-ghost use Rattle.basis_book.specs.Dated.{Dated as AnEntry};
-ghost use Rattle.basis_shelf.specs.declared.fault.BadBasis.{BadBasis as ABadBasis};
-ghost use Rattle.basis_shelf.specs.Bases.{IsBasis};
-ghost use Rattle.basis_shelf.specs.FirstBad.{IsFirstBadFile};
-ghost use Rattle.command_csv.specs.Reads.{Reads};
-ghost use Rattle.life_args.specs.Words.{AskForNothing};
-ghost use Rattle.office_state.specs.Journals.{Opens, OpensToNone};
+ghost use Rattle.office_state.specs.Journals.{OpensToNone};
 ghost use Rattle.watcher_set.specs.Limits.{most_watchers};
+ghost use Rattle.program_endings.specs.Status.{status_of};
+ghost use Rattle.program_endings.specs.Writing.{between, input_between, shelf_between};
+ghost use Rattle.program_endings.specs.declared.ending.Ending.{Ending as AnEnding};
+ghost use Rattle.life_app.specs.Due.{IsDueEnding};
+ghost use Rattle.life_app.specs.Needs.{filing_between};
 ghost use Rattle.life_app.specs.Obeys.{Does, Obeys};
-ghost use Rattle.script_run.specs.Script.{IsUnreadable, asks_for_values};
-ghost use Rattle.life_app.specs.Needs.{HasBadFile, IsPastTheEnd};
-ghost use Rattle.script_run.specs.Running.{HasItsBasis};
-ghost use Rattle.program_endings.specs.WithoutBasis.{SaysBadFile};
-ghost use Rattle.book_value.specs.Valuing.{position_of};
-ghost use Rattle.life_app.specs.Words.{AskForGenerate, AskForLoad, AskForRun, AskForState, AskForValue};
-ghost use Rattle.program_endings.specs.Writing.{IsWholeInput, between, input_between, shelf_between};
+ghost use Rattle.life_app.specs.Reasons.{IsReasoned};
 ghost use Rattle.life_app.specs.inside.Unasked.{SaysNoMode};
 
 use book_state::{account, state};
@@ -70,117 +56,19 @@ pub fn life<R: Threads + Wait + Sync, S: Source, K: Sink, H: Shelf, D: Disk + Se
         (input.new ≡ input.old) (shelf.new ≡ shelf.old) result.status }
     ensures shelf { H.files shelf.new ≡ H.files shelf.old }
 
-    // 2 exactly where the words aren't of a command, but for want of memory.
-    ensures usage { result.status ≡ 2 → AskForNothing words.now }
-    ensures unasked { AskForNothing words.now → (result.status ≡ 2) ⊎ (result.status ≡ 9) }
+    // Each status has its reason: what the words, the script, a basis file or the journal are, or the device that failed.
+    ensures reason { IsReasoned words.now (input_between S.faults S.left S.given S.ended input.old input.new)
+        (between K.faults K.written output.old output.new)
+        (shelf_between H.faults H.agrees shelf.old shelf.new) (filing_between D.Disk disk result.disk) result.status }
 
-    // A script that is too long, or has a row that is no line, is refused with 3, but for want of memory.
-    ensures unreadable { (bytes name : List ℕ) → AskForRun words.now name
-        → IsWholeInput (input_between S.faults S.left S.given S.ended input.old input.new) bytes → IsUnreadable bytes
-        → (Rose (S.faults input.old) (S.faults input.new) → ⊥) → (result.status ≡ 3) ⊎ (result.status ≡ 9) }
-    ensures too_long { (name : List ℕ) → AskForRun words.now name → GivesMore 16777216 (S.given input.old) (S.given input.new)
-        → (Rose (S.faults input.old) (S.faults input.new) → ⊥) → (result.status ≡ 3) ⊎ (result.status ≡ 9) }
-
-    // 4 exactly where a basis is needed and a file of it is bad, the first of which is named, but for want of memory.
-    ensures bad_file { result.status ≡ 4 → HasBadFile words.now
-        (input_between S.faults S.left S.given S.ended input.old input.new) (shelf_between H.faults H.agrees shelf.old shelf.new)
-        (between K.faults K.written output.old output.new) }
-    ensures unfit { (on : ℤ) (at : AnAt) (name : List ℕ) (bad : ABadBasis) (files : Files)
-        → AskForValue words.now on at name → H.agrees shelf.new files → IsFirstBadFile files name bad
-        → (Rose (H.faults shelf.old) (H.faults shelf.new) → ⊥)
-        → SaysBadFile bad (between K.faults K.written output.old output.new) result.status ⊎ (result.status ≡ 9) }
-    ensures unfit_run { (bytes name : List ℕ) (lanes : List ALane) (bad : ABadBasis) (files : Files)
-        → AskForRun words.now name → IsWholeInput (input_between S.faults S.left S.given S.ended input.old input.new) bytes
-        → length bytes ≤ 16777216 → Reads bytes lanes
-        → asks_for_values lanes ≡ true → H.agrees shelf.new files → IsFirstBadFile files name bad
-        → (Rose (S.faults input.old) (S.faults input.new) → ⊥)
-        → (Rose (H.faults shelf.old) (H.faults shelf.new) → ⊥)
-        → SaysBadFile bad (between K.faults K.written output.old output.new) result.status ⊎ (result.status ≡ 9) }
+    // An ending that is due, where the devices don't fail on which it rests, comes about, but for want of memory.
+    ensures due { (ending : AnEnding) → IsDueEnding words.now (input_between S.faults S.left S.given S.ended input.old input.new)
+        (between K.faults K.written output.old output.new)
+        (shelf_between H.faults H.agrees shelf.old shelf.new) (filing_between D.Disk disk result.disk) ending
+        → (result.status ≡ status_of ending) ⊎ (result.status ≡ 9) }
 
     // A file that opens to no commands reads as before, however the run ends.
     ensures unopened { D.honest result.disk → OpensToNone (D.reads disk) → D.reads result.disk ≡ D.reads disk }
-
-    // A script that can be read, on devices that don't fail, is run to its end where the disk's file opens to some
-    // commands, and is refused with 5 where it opens to none, but for want of memory. Where a line asks for values the shelf
-    // has to have the basis; else it needn't even work.
-    ensures complete { (bytes name : List ℕ) (lanes : List ALane) (commands : List ACommand) → AskForRun words.now name
-        → IsWholeInput (input_between S.faults S.left S.given S.ended input.old input.new) bytes
-        → length bytes ≤ 16777216 → Reads bytes lanes
-        → HasItsBasis lanes name (shelf_between H.faults H.agrees shelf.old shelf.new)
-        → (asks_for_values lanes ≡ true → Rose (H.faults shelf.old) (H.faults shelf.new) → ⊥)
-        → D.honest result.disk → Opens (D.reads disk) commands
-        → (Rose (S.faults input.old) (S.faults input.new) → ⊥)
-        → (Rose (K.faults output.old) (K.faults output.new) → ⊥)
-        → (Rose (D.faults disk) (D.faults result.disk) → ⊥)
-        → (result.status ≡ 0) ⊎ (result.status ≡ 9) }
-    ensures refused { (bytes name : List ℕ) (lanes : List ALane) → AskForRun words.now name
-        → IsWholeInput (input_between S.faults S.left S.given S.ended input.old input.new) bytes
-        → length bytes ≤ 16777216 → Reads bytes lanes
-        → HasItsBasis lanes name (shelf_between H.faults H.agrees shelf.old shelf.new)
-        → (asks_for_values lanes ≡ true → Rose (H.faults shelf.old) (H.faults shelf.new) → ⊥)
-        → D.honest result.disk → OpensToNone (D.reads disk)
-        → (Rose (S.faults input.old) (S.faults input.new) → ⊥)
-        → (Rose (D.faults disk) (D.faults result.disk) → ⊥)
-        → (result.status ≡ 5) ⊎ (result.status ≡ 9) }
-
-    // The books of a file that opens to some commands are written, on devices that don't fail, but for want of memory.
-    ensures stated { (commands : List ACommand) → AskForState words.now
-        → D.honest result.disk → Opens (D.reads disk) commands
-        → (Rose (K.faults output.old) (K.faults output.new) → ⊥)
-        → (Rose (D.faults disk) (D.faults result.disk) → ⊥)
-        → (result.status ≡ 0) ⊎ (result.status ≡ 9) }
-    ensures unstated { AskForState words.now → D.honest result.disk → OpensToNone (D.reads disk)
-        → (Rose (D.faults disk) (D.faults result.disk) → ⊥)
-        → (result.status ≡ 5) ⊎ (result.status ≡ 9) }
-
-    // Where the shelf has a basis, the policies of a file that opens to some commands are valued, on devices that don't
-    // fail, but for want of memory; 10 comes exactly where more commands are asked for than there are.
-    ensures valued { (on : ℤ) (at : AnAt) (name : List ℕ) (files : Files) (basis : List AnEntry)
-        (commands : List ACommand) → AskForValue words.now on at name
-        → H.agrees shelf.new files → IsBasis files name basis
-        → D.honest result.disk → Opens (D.reads disk) commands → position_of at (length commands) ≤ length commands
-        → (Rose (H.faults shelf.old) (H.faults shelf.new) → ⊥)
-        → (Rose (K.faults output.old) (K.faults output.new) → ⊥)
-        → (Rose (D.faults disk) (D.faults result.disk) → ⊥)
-        → (result.status ≡ 0) ⊎ (result.status ≡ 9) }
-    ensures past_the_end { result.status ≡ 10 → IsPastTheEnd D.Disk disk result.disk words.now }
-    ensures ahead { (on : ℤ) (p : ℕ) (name : List ℕ) (files : Files) (basis : List AnEntry)
-        (commands : List ACommand) → AskForValue words.now on (Position p) name
-        → H.agrees shelf.new files → IsBasis files name basis
-        → D.honest result.disk → Opens (D.reads disk) commands → length commands < p
-        → (Rose (H.faults shelf.old) (H.faults shelf.new) → ⊥)
-        → (Rose (D.faults disk) (D.faults result.disk) → ⊥)
-        → (result.status ≡ 10) ⊎ (result.status ≡ 9) }
-    ensures unvalued { (on : ℤ) (at : AnAt) (name : List ℕ) (files : Files) (basis : List AnEntry)
-        → AskForValue words.now on at name → H.agrees shelf.new files → IsBasis files name basis
-        → D.honest result.disk → OpensToNone (D.reads disk)
-        → (Rose (H.faults shelf.old) (H.faults shelf.new) → ⊥)
-        → (Rose (D.faults disk) (D.faults result.disk) → ⊥)
-        → (result.status ≡ 5) ⊎ (result.status ≡ 9) }
-
-    // A generated script is written to an output that doesn't fail, but for want of memory.
-    ensures generated { AskForGenerate words.now
-        → (Rose (K.faults output.old) (K.faults output.new) → ⊥) → (result.status ≡ 0) ⊎ (result.status ≡ 9) }
-
-    // A generated script is run and valued where the shelf has the basis and the disk's file opens to some commands, on
-    // devices that don't fail, and is refused with 5 where the file opens to none, but for want of memory.
-    ensures loaded { (files : Files) (basis : List AnEntry) (commands : List ACommand) → AskForLoad words.now
-        → H.agrees shelf.new files → IsBasis files (codes "basis.csv") basis
-        → D.honest result.disk → Opens (D.reads disk) commands
-        → (Rose (H.faults shelf.old) (H.faults shelf.new) → ⊥)
-        → (Rose (K.faults output.old) (K.faults output.new) → ⊥)
-        → (Rose (D.faults disk) (D.faults result.disk) → ⊥)
-        → (result.status ≡ 0) ⊎ (result.status ≡ 9) }
-    ensures unloaded { (files : Files) (basis : List AnEntry) → AskForLoad words.now
-        → H.agrees shelf.new files → IsBasis files (codes "basis.csv") basis
-        → D.honest result.disk → OpensToNone (D.reads disk)
-        → (Rose (H.faults shelf.old) (H.faults shelf.new) → ⊥)
-        → (Rose (D.faults disk) (D.faults result.disk) → ⊥)
-        → (result.status ≡ 5) ⊎ (result.status ≡ 9) }
-    ensures unfit_load { (bad : ABadBasis) (files : Files) → AskForLoad words.now
-        → H.agrees shelf.new files → IsFirstBadFile files (codes "basis.csv") bad
-        → (Rose (H.faults shelf.old) (H.faults shelf.new) → ⊥)
-        → SaysBadFile bad (between K.faults K.written output.old output.new) result.status ⊎ (result.status ≡ 9) }
 {
     let watchers = Watchers::new(watchers);
     let finished = obey(rt, alloc, words, input, output, shelf, disk, watchers, gate);

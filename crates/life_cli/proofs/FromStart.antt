@@ -8,12 +8,14 @@ use Rattle.life_args.specs.declared.mode.Mode.{Mode}
 use Rattle.life_args.specs.declared.mode.Mode.TheVariants.{Run, Value, State, Generate, Load}
 use Rattle.program_endings.specs.Writing.{Input, Shelving, Stream}
 use Rattle.program_endings.specs.declared.ending.Ending.{Ending}
+use Rattle.program_endings.specs.declared.ending.Ending.TheVariants.{NoMemory}
 use Rattle.script_run.specs.Running.{EndsLanes, EndsRun}
 use Rattle.policy_types.specs.declared.script.Lane.{Lane}
+use Rattle.life_app.specs.Needs.{Filing}
 use Rattle.life_app.specs.Obeys.{Does, EndsMode, Obeys}
 use Rattle.outside_io.specs.Faults.{Rose}
 use Rattle.life_cli.specs.Completing.{EndsDuly}
-use Rattle.life_cli.specs.Shipped.{input_from_start, output_from_start, shelf_from_start}
+use Rattle.life_cli.specs.Shipped.{filing_from_start, input_from_start, output_from_start, shelf_from_start}
 
 -- Less may be said of an input and a shelf that stay.
 module _ {D : Type 0} (g : Ghosts D) (old new : D) (words : List (String Global)) (auditors : List Auditor) (input : Input) (output : Stream) (shelf : Shelving)
@@ -85,34 +87,18 @@ module _ (words : List (String Global)) (status : ℕ) where
       → EndsDuly words
       (record { faults_before = input_faults; faults_after = input_then; left_before = None; left_after = None; given_before = given; given_after = given_then; Ended = Ended })
       (record { faults_before = output_faults; faults_after = output_then; before = written; after = written_then })
-      (record { faults_before = shelf_faults; faults_after = shelf_then; Agrees = Agrees }) Honest file left (Rose disk_faults disk_then) status
-      → EndsDuly words (input_from_start input_then given_then Ended) (output_from_start output_then written_then) (shelf_from_start shelf_then Agrees) Honest found left
-      (Rose 0 disk_then) status
+      (record { faults_before = shelf_faults; faults_after = shelf_then; Agrees = Agrees })
+      (record { before = file; after = left; Honest = Honest; Failed = Rose disk_faults disk_then }) status
+      → EndsDuly words (input_from_start input_then given_then Ended) (output_from_start output_then written_then) (shelf_from_start shelf_then Agrees)
+      (filing_from_start found left Honest disk_then) status
   ends_from_start input_faults input_then output_faults output_then shelf_faults shelf_then disk_faults disk_then given given_then Ended written written_then Agrees Honest file
       found left e₁ e₂ e₃ e₄ e₅ e₆ e₇ ends = rw (e₁, e₂, e₃, e₄, e₅, e₆, e₇) at ends
 
 -- Where there was no memory to begin, 9 is right in every case.
-module _ (words : List (String Global)) (input : Input) (output : Stream) (shelf : Shelving) (Honest : Type 0) (file left : List ℕ) (DiskFailed : Type 0) (status : ℕ) where
-  pub ends_with_9 : status ≡ 9 → left ≡ file → EndsDuly words input output shelf Honest file left DiskFailed status
+module _ (words : List (String Global)) (input : Input) (output : Stream) (shelf : Shelving) (disk : Filing) (status : ℕ) where
+  pub ends_with_9 : status ≡ 9 → disk.after ≡ disk.before → EndsDuly words input output shelf disk status
   ends_with_9 nine same = record {
-    usage = λ two. absurd (omega arith);
-    unasked = λ asked. inr nine;
-    unreadable = λ bytes name asked whole bad fault. inr nine;
-    too_long = λ name asked more fault. inr nine;
-    bad_file = λ four. absurd (omega arith);
-    unfit = λ on at name bad files asked agrees first fault. inr nine;
-    unfit_run = λ bytes name lanes bad files asked whole short reads asks agrees first fault shelf_fault. inr nine;
-    unfit_load = λ bad files asked agrees first fault. inr nine;
+    reason = (NoMemory, nine, tt);
+    due = λ ending is. inr nine;
     unopened = λ honest none. same;
-    complete = λ bytes name lanes commands asked whole short reads has shelf_fault honest opens fault output_fault disk_fault. inr nine;
-    refused = λ bytes name lanes asked whole short reads has shelf_fault honest none fault disk_fault. inr nine;
-    stated = λ commands asked honest opens output_fault disk_fault. inr nine;
-    unstated = λ asked honest none disk_fault. inr nine;
-    valued = λ on at name files basis commands asked agrees is honest opens within shelf_fault output_fault disk_fault. inr nine;
-    past_the_end = λ ten. absurd (omega arith);
-    ahead = λ on p name files basis commands asked agrees is honest opens beyond shelf_fault disk_fault. inr nine;
-    unvalued = λ on at name files basis asked agrees is honest none shelf_fault disk_fault. inr nine;
-    generated = λ asked output_fault. inr nine;
-    loaded = λ files basis commands asked agrees is honest opens shelf_fault output_fault disk_fault. inr nine;
-    unloaded = λ files basis asked agrees is honest none shelf_fault disk_fault. inr nine;
   }

@@ -3,9 +3,9 @@ ghost use Rattle.std.specs.Prelude.{◌≡◌, List, []};
 ghost use Rattle.outside_io.specs.Shelves.{Files};
 ghost use Rattle.program_endings.specs.Writing.{between, input_between, shelf_between};
 ghost use Rattle.life_app.specs.Obeys.{Obeys};
-ghost use Rattle.outside_io.specs.Faults.{Rose};
+ghost use Rattle.life_app.specs.Needs.{filing_between};
 ghost use Rattle.life_cli.specs.Completing.{EndsDuly};
-ghost use Rattle.life_cli.specs.Shipped.{ObeysFromStart, shipped_auditors, input_from_start, output_from_start, shelf_from_start};
+ghost use Rattle.life_cli.specs.Shipped.{ObeysFromStart, filing_from_start, shipped_auditors, input_from_start, output_from_start, shelf_from_start};
 
 use life_app::{Ended, life};
 use outside_io::{
@@ -65,9 +65,9 @@ pub fn run_shipped<R: Threads + Wait + Sync, F: FoundFile>(
         (⟦<Input as Source>⟧.ended result.input))
         (output_from_start (⟦<Output as Sink>⟧.faults result.output) (⟦<Output as Sink>⟧.written result.output))
         (shelf_from_start (⟦<Folder as Shelf>⟧.faults result.shelf) (⟦<Folder as Shelf>⟧.agrees result.shelf))
-        (⟦<FileDisk<HostRuntime, F> as Disk>⟧.honest result.disk) F.bytes
-        (⟦<FileDisk<HostRuntime, F> as Disk>⟧.reads result.disk)
-        (Rose 0 (⟦<FileDisk<HostRuntime, F> as Disk>⟧.faults result.disk)) result.status }
+        (filing_from_start F.bytes (⟦<FileDisk<HostRuntime, F> as Disk>⟧.reads result.disk)
+        (⟦<FileDisk<HostRuntime, F> as Disk>⟧.honest result.disk)
+        (⟦<FileDisk<HostRuntime, F> as Disk>⟧.faults result.disk)) result.status }
 {
     let alloc = system.alloc();
     let mut input = StdSource::new(system.stdin());
@@ -105,10 +105,7 @@ fn obey<R: Threads + Wait + Sync, F: FoundFile>(
         (⟦<Input as Source>⟧.ended) input.old input.new)
         (between (⟦<Output as Sink>⟧.faults) (⟦<Output as Sink>⟧.written) output.old output.new)
         (shelf_between (⟦<Folder as Shelf>⟧.faults) (⟦<Folder as Shelf>⟧.agrees) shelf.old shelf.new)
-        (⟦<FileDisk<HostRuntime, F> as Disk>⟧.honest result.disk) (⟦<FileDisk<HostRuntime, F> as Disk>⟧.reads disk)
-        (⟦<FileDisk<HostRuntime, F> as Disk>⟧.reads result.disk)
-        (Rose (⟦<FileDisk<HostRuntime, F> as Disk>⟧.faults disk) (⟦<FileDisk<HostRuntime, F> as Disk>⟧.faults result.disk))
-        result.status }
+        (filing_between ⟦<FileDisk<HostRuntime, F> as Disk>⟧ disk result.disk) result.status }
 {
     let counting = Box::new(alloc, CountWatcher::new(alloc, MOST_COUNTED));
     let adding = Box::new(alloc, PremiumWatcher::new(alloc));

@@ -1,1 +1,1 @@
-mod PieceSteps
+pub mod PieceSteps

@@ -1,13 +1,50 @@
--- What a cache holds, and when that is right
-use Rattle.std.specs.Prelude.{◌≡◌, List, []}
+-- What a cache holds, and when that is right.
+use Rattle.std.specs.Prelude.{◌≡◌, ℕ, ◌<◌, ◌≤◌, List, length, map, slice_get, All, Some, Ok, vec_capacity}
+use Rattle.rate_table.specs.Rates.{Rates}
+use Rattle.rate_table.specs.declared.shape.Shape.{Shape}
+use Rattle.plan_benefits.specs.Shapes.{shape_of}
+use Rattle.present_value.specs.Sums.{cover_of}
+use Rattle.present_value.specs.Premium.{cap_of}
+use Rattle.present_value.specs.Ends.{IsColumn}
+use Rattle.crvm_reserve.specs.Made.{premium_of}
+use Rattle.crvm_reserve.specs.declared.premium.Premium.{Premium}
 use Rattle.basis_book.specs.Dated.{Dated}
 use Rattle.policy_value.specs.declared.cache.ColumnCache.{ColumnCache}
+use Rattle.policy_value.specs.declared.columns.ColumnStore.{ColumnStore}
+use Rattle.policy_value.specs.declared.columns.KeptColumn.{KeptColumn}
 use Rattle.policy_value.specs.declared.key.CacheKey.{CacheKey}
 
--- the keys of the policies, the last used first
-unfoldable pub keys_of : ColumnCache → List CacheKey
-keys_of cache = []
+-- the table and the interest of the row of a basis at a place, counted from 0
+abbrev pub IsRowOf : List Dated → ℕ → Rates → ℕ → Type 0
+IsRowOf basis place table bp = (entry : Dated) × (slice_get basis place ≡ Some entry) × (table ≡ entry.table) × (bp ≡ entry.bp)
+
+-- a column holds what its row of this basis says
+abbrev pub IsRightColumn : List Dated → KeptColumn → Type 0
+IsRightColumn basis kept = (table : Rates) → (bp : ℕ) → IsRowOf basis kept.basis_row table bp → IsColumn table bp kept.column
+
+-- a premium is what its key says by this basis
+abbrev pub IsRightPremium : List Dated → CacheKey × Premium → Type 0
+IsRightPremium basis entry = (table : Rates) → (bp : ℕ) → (shape : Shape) → IsRowOf basis entry.0.basis_row table bp
+    → shape_of entry.0.plan entry.0.age entry.0.years table ≡ Ok shape
+    → entry.1 ≡ premium_of (cover_of table shape bp) (cap_of table shape.age bp)
+
+-- a store has room for as many columns as it may hold
+pub record IsStore (store : ColumnStore) : Type 0 where
+  pub slots : length store.places.items ≡ 8192
+  pub most : store.most ≤ 65535
+  pub few : length store.kept.items ≤ store.most
+  pub room : store.most ≤ vec_capacity store.kept
+  pub oldest : store.oldest < store.most
+
+pub record IsRightStore (basis : List Dated) (given : ColumnStore) : Type 0 where
+  pub store : IsStore given
+  pub columns : All (IsRightColumn basis) given.kept.items
 
 -- each entry of a cache is what its key says by this basis
-unfoldable pub IsRightFor : List Dated → ColumnCache → Type 0
-IsRightFor basis cache = keys_of cache ≡ []
+pub record IsRightFor (basis : List Dated) (cache : ColumnCache) : Type 0 where
+  pub premiums : All (IsRightPremium basis) cache.premiums.entries
+  pub columns : IsRightStore basis cache.columns
+
+-- the keys of the policies, the last used first
+unfoldable pub kept_keys : ColumnCache → List CacheKey
+kept_keys cache = map (λ (entry : CacheKey × Premium). entry.0) cache.premiums.entries

@@ -1,64 +1,146 @@
-ghost use Rattle.std.specs.Prelude.{◌≡◌, ◌≤◌, [], List, IfOk, length, min};
+ghost use Rattle.std.specs.Prelude.{◌≡◌, ◌≤◌, ◌+◌, [], List, All, IfSome, IfOk, Ok, length, min};
+ghost use Rattle.rate_table.specs.Rates.{AreRates};
+ghost use Rattle.plan_benefits.specs.Shapes.{shape_of};
 ghost use Rattle.present_value.specs.Sums.{cover_of};
-ghost use Rattle.present_value.specs.Premium.{cap_of};
-ghost use Rattle.crvm_reserve.specs.Made.{CanReserve, AreMadeFor};
+ghost use Rattle.present_value.specs.Premium.{cap_of, cap_shape};
+ghost use Rattle.crvm_reserve.specs.Made.{CanReserve, IsMadeFor, premium_of};
 ghost use Rattle.basis_book.specs.Dated.{Dated};
-ghost use Rattle.policy_value.specs.Caches.{IsRightFor, keys_of};
+ghost use Rattle.policy_value.specs.Caches.{IsRightFor, IsRightPremium, IsRightStore, IsRowOf, kept_keys};
 
-use crvm_reserve::{Premium, basis_premium};
+use crate::columns::ColumnStore;
+use crate::key::CacheKey;
+use basis_book::Basis;
+use crvm_reserve::Premium;
+use lru::LruCache;
 use policy_types::NoMemory;
-use present_value::{Columns, columns};
+use present_value::Values;
 use rate_table::{RateTable, Shape};
 use std::alloc::Global;
+use std::num::NonZeroUsize;
 
-/// Where what was computed for policies may be kept from one row to the next. It keeps nothing yet.
+/// What was computed for policies and serves others: columns of present values by the age at which they end, and
+/// premiums by the key of the policy. The premiums last used and the columns last made are kept.
 #[derive(Drop)]
 pub struct ColumnCache {
-    columns: u32,
-    premiums: u32,
+    premiums: LruCache<CacheKey, Premium>,
+    columns: ColumnStore,
 }
 
 impl ColumnCache {
-    /// A cache for `capacity` keys of policies.
+    /// A cache for the premiums of `capacity` keys of policies, and four times as many columns.
     pub fn new(alloc: Global, capacity: u8) -> Result<ColumnCache, NoMemory>
         requires { 1 ≤ capacity }
         ensures right { IfOk result (λ cache. (basis : List Dated) → IsRightFor basis cache) }
-        ensures empty { IfOk result (λ cache. keys_of cache ≡ []) }
+        ensures empty { IfOk result (λ cache. kept_keys cache ≡ []) }
     {
         ColumnCache::with_room(alloc, 4 * capacity as u32, capacity as u32)
     }
 
     /// A cache for so many columns, of some 2 kB each, and the premiums of so many keys of policies.
-    pub fn with_room(_alloc: Global, columns: u32, premiums: u32) -> Result<ColumnCache, NoMemory>
+    pub fn with_room(alloc: Global, columns: u32, premiums: u32) -> Result<ColumnCache, NoMemory>
         requires columns { (1 ≤ columns) × (columns ≤ 65535) }
         requires premiums { 1 ≤ premiums }
         ensures right { IfOk result (λ cache. (basis : List Dated) → IsRightFor basis cache) }
-        ensures empty { IfOk result (λ cache. keys_of cache ≡ []) }
+        ensures empty { IfOk result (λ cache. kept_keys cache ≡ []) }
     {
-        Ok(ColumnCache { columns, premiums })
+        let columns = ColumnStore::new(alloc, columns)?;
+        let most = NonZeroUsize::new(premiums as usize).unwrap();
+        match LruCache::sparse(alloc, most) {
+            Ok(premiums) => Ok(ColumnCache { premiums, columns }),
+            Err(_) => Err(NoMemory),
+        }
     }
 
     /// How many keys of policies it holds, or 255 where they are more.
     pub fn len(&self) -> u8
-        ensures { result ≡ min (length (keys_of self.now)) 255 }
+        ensures { result ≡ min (length (kept_keys self.now)) 255 }
     {
-        0
+        self.premiums.len().min(255) as u8
+    }
+
+    /// The values of a shape at year `t` and its modified net premium, by a row of the basis.
+    pub fn priced(
+        &mut self,
+        basis: &Basis,
+        key: CacheKey,
+        table: &RateTable,
+        bp: u16,
+        shape: &Shape,
+        t: u8,
+    ) -> (Values, Premium)
+        requires right { IsRightFor basis.now self.old }
+        requires row { IsRowOf basis.now key.basis_row table.now bp }
+        requires shape { shape_of key.plan key.age key.years table.now ≡ Ok shape.now }
+        requires can { CanReserve table.now shape.now bp }
+        requires year { t ≤ shape.now.n }
+        ensures made { IsMadeFor (cover_of table.now shape.now bp) (cap_of table.now shape.now.age bp) t
+            result.0 result.1 }
+        ensures right { IsRightFor basis.now self.new }
+    {
+        let cap = shape_of_cap(table, shape.age);
+        let premium = self.premium(basis, key, table, bp, shape, &cap);
+        let values = self
+            .columns
+            .values(basis, key.basis_row, table, bp, shape, t);
+        (values, premium)
+    }
+
+    /// The premium of a key, which is the last used from now on.
+    fn premium(
+        &mut self,
+        basis: &Basis,
+        key: CacheKey,
+        table: &RateTable,
+        bp: u16,
+        shape: &Shape,
+        cap: &Shape,
+    ) -> Premium
+        requires right { IsRightFor basis.now self.old }
+        requires row { IsRowOf basis.now key.basis_row table.now bp }
+        requires shape { shape_of key.plan key.age key.years table.now ≡ Ok shape.now }
+        requires can { CanReserve table.now shape.now bp }
+        requires cap { cap.now ≡ cap_shape table.now shape.now.age }
+        requires ages { AreRates table.now }
+        ensures premium { result ≡ premium_of (cover_of table.now shape.now bp) (cap_of table.now shape.now.age bp) }
+        ensures right { IsRightFor basis.now self.new }
+    {
+        if let Some(premium) = self.find(key) {
+            return premium;
+        }
+        let premium = self
+            .columns
+            .premium(basis, key.basis_row, table, bp, shape, cap);
+        let _ = self.premiums.put(key, premium);
+        premium
+    }
+
+    /// The premium of a key that is kept, which is now the last used.
+    fn find(&mut self, key: CacheKey) -> Option<Premium>
+        ensures columns { self.new.columns ≡ self.old.columns }
+        ensures right { (basis : List Dated) → All (IsRightPremium basis) self.old.premiums.entries
+            → All (IsRightPremium basis) self.new.premiums.entries }
+        ensures found { (basis : List Dated) → All (IsRightPremium basis) self.old.premiums.entries
+            → IfSome result (λ premium. IsRightPremium basis (key, premium)) }
+    {
+        if self.premiums.promote(&key) {
+            self.premiums.peek(&key).copied()
+        } else {
+            None
+        }
     }
 }
 
-/// The present values and the modified net premium of a shape by a table, at an interest in basis points.
-pub fn priced(
-    table: &RateTable,
-    shape: &Shape,
-    bp: u16,
-    _cache: &mut ColumnCache,
-) -> (Columns, Premium)
-    requires { CanReserve table.now shape.now bp }
-    ensures made { AreMadeFor (cover_of table.now shape.now bp) (cap_of table.now shape.now.age bp)
-        result.0 result.1 }
-    ensures kept { _cache.new ≡ _cache.old }
+/// Whole life at the next age, with nineteen premiums, or as many as there are years to the table's end.
+fn shape_of_cap(table: &RateTable, age: u8) -> Shape
+    requires { age + 2 ≤ table.now.first_age + length table.now.rates }
+    ensures shape { result ≡ cap_shape table.now age }
+    ensures ages { AreRates table.now }
 {
-    let columns = columns(table, shape, bp);
-    let premium = basis_premium(table, shape, bp, &columns);
-    (columns, premium)
+    let years = table.last_age() - age;
+    Shape {
+        age: age + 1,
+        n: years,
+        h: years.min(19),
+        matures: true,
+    }
 }

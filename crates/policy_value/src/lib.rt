@@ -2,6 +2,7 @@
 #![tactic(auto)]
 
 mod cache;
+mod columns;
 mod key;
 mod valuing;
 mod worth;

@@ -3,13 +3,14 @@ ghost use Rattle.basis_book.specs.Dated.{Dated, IsPicked};
 ghost use Rattle.policy_types.specs.Valid.{IsIssue};
 ghost use Rattle.plan_benefits.specs.Shapes.{shape_of};
 ghost use Rattle.rate_table.specs.declared.shape.Shape.{Shape as AShape};
-ghost use Rattle.policy_value.specs.Caches.{IsRightFor};
+ghost use Rattle.policy_value.specs.Caches.{IsRightFor, IsRowOf};
 ghost use Rattle.policy_value.specs.Rows.{IsInsured, IsValueOf, IsReserveOf, IsWithinAmount, RowOf, IsExact};
 
-use crate::cache::{ColumnCache, priced};
+use crate::cache::ColumnCache;
+use crate::key::CacheKey;
 use crate::worth::{Row, Worth};
 use basis_book::Basis;
-use crvm_reserve::reserve_bounds;
+use crvm_reserve::bounds_by;
 use life_dates::completed;
 use plan_benefits::{NotValued, shape};
 use policy_types::{Policy, Status};
@@ -62,7 +63,7 @@ fn value_by_basis(policy: &Policy, basis: &Basis, on: i32, cache: &mut ColumnCac
     ensures right { IsRightFor basis.now cache.new }
 {
     match basis.pick(policy.issued) {
-        Some((_, table, bp)) => value_by_table(policy, table, bp, on, cache),
+        Some((place, table, bp)) => value_by_table(policy, basis, place, table, bp, on, cache),
         None => (0, Worth::Word(NotValued::NoBasis)),
     }
 }
@@ -70,6 +71,8 @@ fn value_by_basis(policy: &Policy, basis: &Basis, on: i32, cache: &mut ColumnCac
 /// The year and the worth of an insured policy by a table, at an interest in basis points.
 fn value_by_table(
     policy: &Policy,
+    basis: &Basis,
+    basis_row: u16,
     table: &RateTable,
     bp: u16,
     on: i32,
@@ -78,18 +81,26 @@ fn value_by_table(
     requires sound { IsIssue policy.now.id policy.now.issued policy.now.plan policy.now.age policy.now.years
         policy.now.amount policy.now.premium }
     requires issued { policy.now.issued ≤ℤ on }
+    requires row { IsRowOf basis.now basis_row table.now bp }
     requires interest { bp ≤ 2000 }
+    requires right { IsRightFor basis.now cache.old }
     ensures value { IsReserveOf policy.now table.now bp on
         (shape_of policy.now.plan policy.now.age policy.now.years table.now) result.0 result.1 }
     ensures exact { IsExact policy.now table.now bp result.0 result.1 }
     ensures most { IsWithinAmount policy.now.amount result.1 }
-    ensures kept { cache.new ≡ cache.old }
+    ensures right { IsRightFor basis.now cache.new }
 {
     match shape(policy.plan, policy.age, policy.years, table) {
         Ok(shape) => {
             let t = completed(policy.issued, on).min(shape.n);
-            let (columns, premium) = priced(table, &shape, bp, cache);
-            let (lo, hi) = reserve_bounds(&columns, &premium, policy.amount, t);
+            let key = CacheKey {
+                basis_row,
+                plan: policy.plan,
+                age: policy.age,
+                years: policy.years,
+            };
+            let (values, premium) = cache.priced(basis, key, table, bp, &shape, t);
+            let (lo, hi) = bounds_by(&values, &premium, policy.amount);
             (t, Worth::Bounds { lo, hi })
         }
         Err(word) => (0, Worth::Word(word)),

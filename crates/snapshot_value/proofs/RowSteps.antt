@@ -1,25 +1,19 @@
 -- The rows of policies, put together
-use Rattle.std.proofs.Common.{◌≡◌, ℕ, ◌+◌, ◌≤◌, ◌<◌, ℤ, List, [], ◌∷◌, ◌++◌, length, take, get_or, ap, sym, ◌∙◌, subst, append-nil, append_assoc, length-append, arith}
+use Rattle.std.proofs.Common.{◌≡◌, ℕ, ◌≤◌, ℤ, List, [], ◌∷◌, ◌++◌, length, arith}
 use Rattle.std.specs.List.{AllByRecursion, AllZip}
-use Rattle.std.proofs.lemmas.List.{take_more}
 use Rattle.std.proofs.lemmas.Slice.Zip.{AllZip-long}
 use Rattle.basis_book.specs.Dated.{Dated}
+use Rattle.parallel_value.proofs.PieceSteps.{zip_append}
 use Rattle.policy_types.specs.declared.policy.Policy.{Policy}
 use Rattle.policy_value.specs.Rows.{IsWithinAmount}
 use Rattle.policy_value.specs.declared.worth.Row.{Row}
 use Rattle.policy_value.specs.declared.worth.Worth.{Worth}
 use Rattle.policy_value.specs.declared.worth.Worth.TheVariants.{Bounds, Word}
 use Rattle.snapshot_value.specs.Valuing.{IsValuedRow, most_amount}
-use Rattle.snapshot_value.specs.inside.Parts.{AddsRows}
+use Rattle.snapshot_value.specs.inside.Sheets.{AreRows}
+use Rattle.snapshot_value.specs.inside.Workers.{IsSmallRow}
 
-zip_append : {A B : Type 0} (R : A → B → Type 0) (xs more : List A) (ys again : List B) → AllZip R xs ys → AllZip R more again
-    → AllZip R (xs ++ more) (ys ++ again)
-zip_append R [] more [] again all then = then
-zip_append R [] more (y ∷ ys) again all then = absurd all
-zip_append R (x ∷ xs) more [] again all then = absurd all
-zip_append R (x ∷ xs) more (y ∷ ys) again all then = (all.0, zip_append R xs more ys again all.1 then)
-
-all_append : {A : Type 0} (P : A → Type 0) (xs more : List A) → AllByRecursion P xs → AllByRecursion P more → AllByRecursion P (xs ++ more)
+pub all_append : {A : Type 0} (P : A → Type 0) (xs more : List A) → AllByRecursion P xs → AllByRecursion P more → AllByRecursion P (xs ++ more)
 all_append P [] more all then = then
 all_append P (x ∷ xs) more all then = (all.0, all_append P xs more all.1 then)
 
@@ -30,31 +24,25 @@ within_most amount (Word word) most within = tt
 
 module _ (basis : List Dated) (on : ℤ) where
   -- none
-  pub adds_none : (rows : List Row) → AddsRows basis on [] rows rows
-  adds_none rows = record { added = []; longer = sym (append-nil rows); each = tt; within = tt }
+  pub rows_none : AreRows basis on [] []
+  rows_none = record { each = tt; within = tt }
 
   -- some, and then some
-  pub adds_more : (first then : List Policy) (old mid new : List Row) → AddsRows basis on first old mid → AddsRows basis on then mid new
-      → AddsRows basis on (first ++ then) old new
-  adds_more first then old mid new added adds = record {
-    added = added.added ++ adds.added;
-    longer = adds.longer ∙ ap (λ (rows : List Row). rows ++ adds.added) added.longer ∙ append_assoc old added.added adds.added;
-    each = zip_append (IsValuedRow basis on) first then added.added adds.added added.each adds.each;
-    within = all_append (λ (row : Row). IsWithinAmount most_amount row.worth) added.added adds.added added.within adds.within;
+  pub rows_more : (first then : List Policy) (rows more : List Row) → AreRows basis on first rows → AreRows basis on then more
+      → AreRows basis on (first ++ then) (rows ++ more)
+  rows_more first then rows more are adds = record {
+    each = zip_append (IsValuedRow basis on) first rows then more are.each adds.each;
+    within = all_append (λ (row : Row). IsWithinAmount most_amount row.worth) rows more are.within adds.within;
   }
 
   -- one for each
-  pub added_length : (policies : List Policy) (old new : List Row) → AddsRows basis on policies old new
-      → length new ≡ length old + length policies
-  added_length policies old new adds =
-      let all = AllZip-long (IsValuedRow basis on) policies adds.added adds.each in
-      omega (arith, ap length adds.longer, length-append old adds.added, all)
+  pub rows_length : (policies : List Policy) (rows : List Row) → AreRows basis on policies rows → length rows ≡ length policies
+  rows_length policies rows are = AllZip-long (IsValuedRow basis on) policies rows are.each
 
-  -- one more
-  pub adds_next : (policies : List Policy) (index : ℕ) (d : Policy) (old mid new : List Row) (row : Row) → index < length policies
-      → AddsRows basis on (take index policies) old mid → new ≡ mid ++ row ∷ [] → IsValuedRow basis on (get_or policies index d) row
-      → IsWithinAmount most_amount row.worth → AddsRows basis on (take (index + 1) policies) old new
-  adds_next policies index d old mid new row low added longer is within =
-      subst (λ ps. AddsRows basis on ps old new) (sym (take_more policies index d low))
-      (adds_more (take index policies) (get_or policies index d ∷ []) old mid new added
-      (record { added = row ∷ []; longer = longer; each = (is, tt); within = (within, tt) }))
+  -- each of them small
+  pub rows_each : (policies : List Policy) (rows : List Row) → AllZip (IsSmallRow basis on) policies rows → AreRows basis on policies rows
+  rows_each [] [] all = rows_none
+  rows_each [] (row ∷ rows) all = absurd all
+  rows_each (policy ∷ policies) [] all = absurd all
+  rows_each (policy ∷ policies) (row ∷ rows) all =
+      let more = rows_each policies rows all.1 in record { each = (all.0.0, more.each); within = (all.0.1, more.within) }

@@ -1,6 +1,6 @@
 -- A valuation, put together
 use Rattle.std.proofs.Common.{◌≡◌, ◌≢◌, ℕ, ◌≤◌, ℤ, List, [], ◌∷◌, ◌++◌, length, take, refl, sym, ap, ◌∙◌, subst, Result, Ok, Err, append-nil, append_assoc, length-append, lit<, arith}
-use Rattle.std.proofs.lemmas.List.{length-map, map-append, take_all, take-append-le}
+use Rattle.std.proofs.lemmas.List.{length-map, length-take, map-append, take_all, take-append-le}
 use Rattle.std.proofs.lemmas.Option.{slice_get_within}
 use Rattle.basis_book.specs.Dated.{Dated}
 use Rattle.policy_types.specs.declared.entry.At.{At}
@@ -26,7 +26,7 @@ use Rattle.snapshot_value.specs.Valuing.{AreValuedRows, HasValued, AnswersPin, d
 use Rattle.snapshot_value.specs.declared.valuation.Valuation.{Valuation}
 use Rattle.snapshot_value.specs.declared.valuation.ValueFault.{ValueFault}
 use Rattle.snapshot_value.specs.declared.valuation.ValueFault.TheVariants.{Pin, NoMemory}
-use Rattle.snapshot_value.specs.inside.Parts.{FollowsPinned, HasReadRows, HasReadAll, HasValuedPin, calls_of, policies_at, reads_needed}
+use Rattle.snapshot_value.specs.inside.Parts.{FollowsPinned, HasReadAll, HasReadRows, HasReadSome, HasValuedPin, calls_of, policies_at, reads_needed}
 use Rattle.snapshot_value.proofs.Growth.{grows_more, grows_one}
 use Rattle.snapshot_value.proofs.PartSteps.{length-reads_of}
 use Rattle.snapshot_value.proofs.PinSteps.{IsKnown, known, policies_by}
@@ -45,11 +45,27 @@ module _ {D W : Type 0} (basis : List Dated) (on : ℤ) (pin : Held) where
       → 15999 ≤ old.left → 1 ≤ mid.left
   left_after old mid rows is read left = omega (arith, few_reads old mid rows is read, read.grows.left, left)
 
+  -- where just some were made, too
+  few_some : (old mid : Holding (OfficeOpening D W)) → IsKnown old pin → (read : HasReadSome pin old mid) → length read.reads ≤ 15625
+  few_some old mid is read =
+      let calls : length (calls_of read.reads) ≡ length read.reads = length-map read.reads (λ (turn : Placed). turn.1.call) in
+      let same : length (calls_of read.reads) ≡ length (take read.many (reads_of pin.number pin.policies)) = ap length read.calls in
+      omega (
+        arith,
+        calls,
+        same,
+        length-take read.many (reads_of pin.number pin.policies),
+        length-reads_of pin.number pin.policies,
+        is.few,
+      )
+
+  left_after_some : (old mid : Holding (OfficeOpening D W)) → IsKnown old pin → HasReadSome pin old mid → 15999 ≤ old.left → 1 ≤ mid.left
+  left_after_some old mid is read left = omega (arith, few_some old mid is read, read.grows.left, left)
+
   pub turn_left : (old mid : Holding (OfficeOpening D W)) (read : Result (List Row) Lack) → PassFacts IsOfficeHistory old → HoldsPin old pin
       → HasReadRows basis on pin old mid read → 15999 ≤ old.left → 1 ≤ mid.left
   turn_left old mid (Ok rows) facts holds read left = left_after old mid rows (known old pin facts holds) read left
-  turn_left old mid (Err lack) facts holds read left =
-      let same : mid.left ≡ old.left = ap (λ (p : Holding (OfficeOpening D W)). p.left) read in omega (arith, same, left)
+  turn_left old mid (Err lack) facts holds read left = left_after_some old mid (known old pin facts holds) read left
 
   -- it is given up after all reads
   pub given_up : (turn : ℕ) (old mid new : Holding (OfficeOpening D W)) (rows : List Row) (valuation : Valuation)
@@ -74,16 +90,26 @@ module _ {D W : Type 0} (basis : List Dated) (on : ℤ) (pin : Held) where
       last : Placed
       last = (turn, unpin_turn mid.caller pin.number)
 
-  -- or at once
-  pub given_up_at_once : (turn : ℕ) (old mid new : Holding (OfficeOpening D W)) → 15999 ≤ old.left → mid ≡ old
-      → TakesTurn turn (unpin_turn mid.caller pin.number) mid new → HasValuedPin basis on pin old new (Err NoMemory)
-  given_up_at_once turn old mid new left same takes = record {
-    later = (turn, unpin_turn old.caller pin.number) ∷ [];
-    grows = grows_one turn (unpin_turn old.caller pin.number) old new (omega (arith, left))
-        (subst (λ (p : Holding (OfficeOpening D W)). TakesTurn turn (unpin_turn p.caller pin.number) p new) same takes);
-    few = omega arith;
-    follows = refl;
+  -- or after some
+  pub given_up_before : (turn : ℕ) (old mid new : Holding (OfficeOpening D W)) → PassFacts IsOfficeHistory old → HoldsPin old pin
+      → 15999 ≤ old.left → HasReadSome pin old mid → TakesTurn turn (unpin_turn mid.caller pin.number) mid new
+      → HasValuedPin basis on pin old new (Err NoMemory)
+  given_up_before turn old mid new facts holds left read takes = record {
+    later = read.reads ++ last ∷ [];
+    grows = grows_more old mid new read.reads (last ∷ []) read.grows (grows_one turn last.1 mid new (left_after_some old mid is read left) takes);
+    few = omega (arith, few_some old mid is read, length-append read.reads (last ∷ []));
+    follows = (
+      read.many,
+      map-append (λ (placed : Placed). placed.1.call) read.reads (last ∷ [])
+          ∙ ap (λ (calls : List Call). calls ++ Unpin pin.number ∷ []) read.calls,
+    );
   }
+    where
+      is : IsKnown old pin
+      is = known old pin facts holds
+
+      last : Placed
+      last = (turn, unpin_turn mid.caller pin.number)
 
 -- a pin posts nothing
 nothing_posted : (caller : ℕ) (at : At) (answer : Result Held PinRefusal)
@@ -129,8 +155,11 @@ module _ {D W : Type 0} (basis : List Dated) (on : ℤ) (at : At) (workers turn 
               ∙ ap (λ (reads : List Call). reads ++ Unpin turn ∷ []) (sym all),
           λ _. all,
         )
-    follow calls (Err NoMemory) follows =
-        (0, follows ∙ ap (λ n. Unpin n ∷ []) number, λ wet. absurd (wet (0, lit< tt, refl)))
+    follow calls (Err NoMemory) follows = (
+      follows.0,
+      follows.1 ∙ ap (λ n. take follows.0 (reads_of n pin.policies) ++ Unpin n ∷ []) number,
+      λ wet. absurd (wet (0, lit< tt, refl)),
+    )
     follow calls (Err (Pin refusal)) follows = absurd follows
 
     module _ (grows : (later : List Placed) × Grows mid new later) (is : IsKnown mid pin) where

@@ -4,6 +4,8 @@
 mod reading;
 mod valuation;
 mod valuing;
+mod worker;
+mod worksheet;
 
 pub use valuation::{Valuation, ValueFault};
 pub use valuing::value;

@@ -15,15 +15,16 @@ use policy_types::{At, PinRefusal};
 use shared_office::{Office, OfficeCalls, OfficePass, Pin};
 use std::alloc::Global;
 use std::sync::Wait;
+use std::thread::Threads;
 use turn_lock::Turned;
 use watcher_set::Watching;
 
 /// Values the policies at a position on a day, in days since 1970-01-01, and gives the turn of the pin.
 ///
-/// The position is pinned, and the memory taken; then batches of 256 policies are read and valued, and the gate is
-/// called with the lane's number and `k` after the `k`-th of them. Whatever is answered, the pin is given up. The
-/// policies are valued one after the other, whatever number of workers is asked for.
-pub fn value<D: Disk, W: Watching, G: Gate, R: Wait>(
+/// The position is pinned, and the memory taken; then batches of 256 policies are read, and the gate is called with the
+/// lane's number and `k` after the `k`-th of them. What was read is valued by the workers at the same time, when there
+/// are 8192 policies for each of them or none is left to read. Whatever is answered, the pin is given up.
+pub fn value<D: Disk, W: Watching, G: Gate, R: Threads + Wait + Sync>(
     rt: &R,
     alloc: Global,
     office: &Office<D, W>,
@@ -42,12 +43,11 @@ pub fn value<D: Disk, W: Watching, G: Gate, R: Wait>(
     ensures facts { PassFacts IsOfficeHistory pass.new }
     ensures pins { KeepsPins pass.old pass.new }
 {
-    let _workers = workers;
     let Turned { turn, answer } = pin_as_asked(rt, office, pass, at);
     match answer {
         Ok(pin) => Turned {
             turn,
-            answer: value_pin(rt, alloc, office, pass, pin, basis, on, lane, gate),
+            answer: value_pin(rt, alloc, office, pass, pin, basis, on, workers, lane, gate),
         },
         Err(refusal) => Turned {
             turn,
@@ -77,7 +77,7 @@ fn pin_as_asked<D: Disk, W: Watching, R: Wait>(
 }
 
 // Values the policies of a pin, and gives it up.
-fn value_pin<D: Disk, W: Watching, G: Gate, R: Wait>(
+fn value_pin<D: Disk, W: Watching, G: Gate, R: Threads + Wait + Sync>(
     rt: &R,
     alloc: Global,
     office: &Office<D, W>,
@@ -85,10 +85,12 @@ fn value_pin<D: Disk, W: Watching, G: Gate, R: Wait>(
     pin: Pin,
     basis: &Basis,
     on: i32,
+    workers: u8,
     lane: u8,
     gate: &G,
 ) -> Result<Valuation, ValueFault>
     requires ours { pass.old.turnstile ≡ office.now }
+    requires workers { (1 ≤ workers) × (workers ≤ 64) }
     requires left { most_turns ≤ pass.old.left + 1 }
     requires facts { PassFacts IsOfficeHistory pass.old }
     requires held { HoldsPin pass.old pin }
@@ -97,7 +99,9 @@ fn value_pin<D: Disk, W: Watching, G: Gate, R: Wait>(
     ensures pins { KeepsOtherPins pin.number pass.old pass.new }
 {
     let position = pin.position();
-    let read = rows_of(rt, alloc, office, pass, &pin, basis, on, lane, gate);
+    let read = rows_of(
+        rt, alloc, office, pass, &pin, basis, on, workers, lane, gate,
+    );
     office.unpin(rt, pass, pin);
     match read {
         Ok(rows) => Ok(Valuation { position, on, rows }),

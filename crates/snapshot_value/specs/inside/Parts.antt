@@ -1,6 +1,5 @@
 -- What the parts of a valuation do
 use Rattle.std.specs.Prelude.{◌≡◌, ℕ, ◌+◌, ◌*◌, ◌/◌, ◌<◌, ℤ, List, [], ◌∷◌, ◌++◌, length, map, take, drop, Option, None, Some, Result, Ok, Err}
-use Rattle.std.specs.List.{AllByRecursion, AllZip}
 use Rattle.basis_book.specs.Dated.{Dated}
 use Rattle.policy_types.specs.declared.policy.Policy.{Policy}
 use Rattle.policy_types.specs.declared.entry.Call.{Call}
@@ -8,17 +7,18 @@ use Rattle.policy_types.specs.declared.entry.Call.TheVariants.{Read, Unpin}
 use Rattle.policy_types.specs.declared.watcher.NoMemory.{NoMemory as Lack}
 use Rattle.policy_machine.specs.History.{policies_per_read}
 use Rattle.policy_machine.specs.Merge.{Placed, reads_of}
-use Rattle.policy_value.specs.Rows.{IsWithinAmount}
 use Rattle.policy_value.specs.declared.worth.Row.{Row}
 use Rattle.schedule_laws.specs.PinnedReads.{book_at}
 use Rattle.office_state.specs.declared.held.Held.{Held}
 use Rattle.turn_lock.specs.Passes.{Holding}
 use Rattle.shared_office.specs.Offices.{OfficeOpening}
 use Rattle.snapshot_value.specs.Growing.{Grows}
-use Rattle.snapshot_value.specs.Valuing.{AreValuedRows, IsValuedRow, most_amount, most_turns}
+use Rattle.snapshot_value.specs.Valuing.{AreValuedRows, most_turns}
+use Rattle.snapshot_value.specs.declared.worksheet.Worksheet.{Worksheet}
 use Rattle.snapshot_value.specs.declared.valuation.Valuation.{Valuation}
 use Rattle.snapshot_value.specs.declared.valuation.ValueFault.{ValueFault}
 use Rattle.snapshot_value.specs.declared.valuation.ValueFault.TheVariants.{Pin, NoMemory}
+use Rattle.snapshot_value.specs.inside.Sheets.{HasMade}
 
 -- the calls of some turns
 abbrev pub calls_of : List Placed → List Call
@@ -27,13 +27,6 @@ calls_of placed = map (λ (turn : Placed). turn.1.call) placed
 -- the reads that so many policies need
 abbrev pub reads_needed : ℕ → ℕ
 reads_needed policies = (policies + 255) / policies_per_read
-
--- rows of these policies were added
-pub record AddsRows (basis : List Dated) (on : ℤ) (policies : List Policy) (old new : List Row) : Type 0 where
-  pub added : List Row
-  pub longer : new ≡ old ++ added
-  pub each : AllZip (IsValuedRow basis on) policies added
-  pub within : AllByRecursion (λ (row : Row). IsWithinAmount most_amount row.worth) added
 
 module _ {D W : Type 0} where
   -- the policies at a position, by what the pass has seen
@@ -52,14 +45,21 @@ module _ {D W : Type 0} where
     pub stays : policies_at new pin.position ≡ policies_at old pin.position
     pub filled : part ≡ take policies_per_read (drop (policies_per_read * k) (policies_at old pin.position))
 
-  -- the first k reads of a pin, and the rows of the policies that they gave
-  pub record HasReadParts (basis : List Dated) (on : ℤ) (pin : Held) (k : ℕ) (rows : List Row)
+  -- the first k reads of a pin, and what was made of the policies that they gave
+  pub record HasReadParts (basis : List Dated) (on : ℤ) (pin : Held) (k : ℕ) (sheet : Worksheet)
       (old new : Holding (OfficeOpening D W)) : Type 0 where
     pub reads : List Placed
     pub grows : Grows old new reads
     pub calls : calls_of reads ≡ take k (reads_of pin.number pin.policies)
     pub stays : policies_at new pin.position ≡ policies_at old pin.position
-    pub adds : AddsRows basis on (take (policies_per_read * k) (policies_at old pin.position)) [] rows
+    pub made : HasMade basis on (take (policies_per_read * k) (policies_at old pin.position)) sheet
+
+  -- the first reads of a pin, or none
+  pub record HasReadSome (pin : Held) (old new : Holding (OfficeOpening D W)) : Type 0 where
+    pub reads : List Placed
+    pub grows : Grows old new reads
+    pub many : ℕ
+    pub calls : calls_of reads ≡ take many (reads_of pin.number pin.policies)
 
   -- all reads of a pin, and the rows of its policies
   pub record HasReadAll (basis : List Dated) (on : ℤ) (pin : Held) (rows : List Row)
@@ -69,11 +69,11 @@ module _ {D W : Type 0} where
     pub calls : calls_of reads ≡ reads_of pin.number pin.policies
     pub all : AreValuedRows basis on (policies_at old pin.position) rows
 
-  -- so it is, or nothing was read for want of memory
+  -- so it is, or for want of memory just some were read
   abbrev pub HasReadRows : List Dated → ℤ → Held → Holding (OfficeOpening D W) → Holding (OfficeOpening D W)
       → Result (List Row) Lack → Type 0
   HasReadRows basis on pin old new (Ok rows) = HasReadAll basis on pin rows old new
-  HasReadRows basis on pin old new (Err lack) = new ≡ old
+  HasReadRows basis on pin old new (Err lack) = HasReadSome pin old new
 
   -- what follows a pin, and what is answered
   abbrev pub FollowsPinned : List Dated → ℤ → Held → Holding (OfficeOpening D W) → List Call
@@ -82,7 +82,8 @@ module _ {D W : Type 0} where
       (calls ≡ reads_of pin.number pin.policies ++ Unpin pin.number ∷ [])
       × (valuation.position ≡ pin.position) × (valuation.on ≡ on)
       × AreValuedRows basis on (policies_at old pin.position) valuation.rows
-  FollowsPinned basis on pin old calls (Err NoMemory) = calls ≡ Unpin pin.number ∷ []
+  FollowsPinned basis on pin old calls (Err NoMemory) =
+      (many : ℕ) × (calls ≡ take many (reads_of pin.number pin.policies) ++ Unpin pin.number ∷ [])
   FollowsPinned basis on pin old calls (Err (Pin refusal)) = ⊥
 
   -- a pin's policies were valued or memory was wanting, and the pin was given up

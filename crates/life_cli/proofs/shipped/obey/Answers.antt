@@ -18,31 +18,10 @@ returns-in_default-clause-obeys g c = record {
 }
 
 pub returns-in_default-clause-ends : goal.returns-in_default-clause-ends
-returns-in_default-clause-ends g c = ends_with_9 _ _ _ _ _ _ _ _ _ (c.status-status.ensures ∙ ap (λ (e : Ending). status_of e) c.lack_memory.ensures.so) refl
+returns-in_default-clause-ends g c = ends_with_9 _ _ _ _ _ _ (c.status-status.ensures ∙ ap (λ (e : Ending). status_of e) c.lack_memory.ensures.so) refl
 
 pub returns-clause-ends : goal.returns-clause-ends
-returns-clause-ends g c = record {
-  usage = c.life.ensures.usage;
-  unasked = c.life.ensures.unasked;
-  unreadable = c.life.ensures.unreadable;
-  too_long = c.life.ensures.too_long;
-  bad_file = c.life.ensures.bad_file;
-  unfit = c.life.ensures.unfit;
-  unfit_run = c.life.ensures.unfit_run;
-  unfit_load = c.life.ensures.unfit_load;
-  unopened = c.life.ensures.unopened;
-  complete = c.life.ensures.complete;
-  refused = c.life.ensures.refused;
-  stated = c.life.ensures.stated;
-  unstated = c.life.ensures.unstated;
-  valued = c.life.ensures.valued;
-  past_the_end = c.life.ensures.past_the_end;
-  ahead = c.life.ensures.ahead;
-  unvalued = c.life.ensures.unvalued;
-  generated = c.life.ensures.generated;
-  loaded = c.life.ensures.loaded;
-  unloaded = c.life.ensures.unloaded;
-}
+returns-clause-ends g c = record { reason = c.life.ensures.reason; due = c.life.ensures.due; unopened = c.life.ensures.unopened }
 
 pub returns-clause-obeys : goal.returns-clause-obeys
 returns-clause-obeys g c = obeys_with _ _ _ _ _ _ _ _ _ _ _ shipped_auditors

@@ -9,11 +9,11 @@ returns-in-Some-clause-value c =
     let issued : to_z w32 (of_z w32 c.args.policy.now.issued) ≡ c.args.policy.now.issued = omega (arith, ints, c.requires.sound.day_in.0, c.requires.sound.day_in.1) in
     let on : to_z w32 (of_z w32 c.args.on) ≡ c.args.on = to_z-of_z w32 c.args.on c.ranges.on in
     let found = c.in-Some.ensures.picked in
-    let first = subst (λ (day : ℤ). IsPicked c.args.basis.now day c.in-Some.field-0-0 found.0) issued found.1 in
+    let first = subst (λ (day : ℤ). IsPicked c.args.basis.now day c.in-Some.place found.0) issued found.1 in
     record {
-      unnamed = λ none. absurd (none_picked c.args.basis.now c.args.policy.now.issued c.in-Some.field-0-0 found.0 none first);
+      unnamed = λ none. absurd (none_picked c.args.basis.now c.args.policy.now.issued c.in-Some.place found.0 none first);
       named = λ index entry picked.
-          let same = one_picked c.args.basis.now c.args.policy.now.issued c.in-Some.field-0-0 index found.0 entry first picked in
+          let same = one_picked c.args.basis.now c.args.policy.now.issued c.in-Some.place index found.0 entry first picked in
           let table : entry.table ≡ c.in-Some.table.now = ap (λ (e : Dated). e.table) (sym same.1) ∙ sym found.2 in
           let bp : entry.bp ≡ c.in-Some.bp = ap (λ (e : Dated). e.bp) (sym same.1) ∙ sym found.3 in
           rw (table, bp) (rw on at c.value_by_table.ensures.value);
@@ -23,8 +23,8 @@ pub returns-in-Some-clause-exact : goal.returns-in-Some-clause-exact
 returns-in-Some-clause-exact c = λ index entry picked.
     let issued : to_z w32 (of_z w32 c.args.policy.now.issued) ≡ c.args.policy.now.issued = omega (arith, ints, c.requires.sound.day_in.0, c.requires.sound.day_in.1) in
     let found = c.in-Some.ensures.picked in
-    let first = subst (λ (day : ℤ). IsPicked c.args.basis.now day c.in-Some.field-0-0 found.0) issued found.1 in
-    let same = one_picked c.args.basis.now c.args.policy.now.issued c.in-Some.field-0-0 index found.0 entry first picked in
+    let first = subst (λ (day : ℤ). IsPicked c.args.basis.now day c.in-Some.place found.0) issued found.1 in
+    let same = one_picked c.args.basis.now c.args.policy.now.issued c.in-Some.place index found.0 entry first picked in
     let table : entry.table ≡ c.in-Some.table.now = ap (λ (e : Dated). e.table) (sym same.1) ∙ sym found.2 in
     let bp : entry.bp ≡ c.in-Some.bp = ap (λ (e : Dated). e.bp) (sym same.1) ∙ sym found.3 in
     rw (table, bp) c.value_by_table.ensures.exact

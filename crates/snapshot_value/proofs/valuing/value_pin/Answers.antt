@@ -1,6 +1,6 @@
 use Rattle.std.proofs.Common.{refl, w32, to_z, of_z, arith}
 use Rattle.std.proofs.lemmas.Int.{to_z-of_z}
-use Rattle.snapshot_value.proofs.ValueSteps.{given_up, given_up_at_once, turn_left}
+use Rattle.snapshot_value.proofs.ValueSteps.{given_up, given_up_before, turn_left}
 use Rattle.snapshot_value.proofs.valuing.value_pin.Goals as goal
 
 pub unpin-requires-clause-left : goal.unpin-requires-clause-left
@@ -16,5 +16,5 @@ returns-in-Ok-clause-valued g c =
 
 pub returns-in-Err-clause-valued : goal.returns-in-Err-clause-valued
 returns-in-Err-clause-valued g c =
-    given_up_at_once c.args.basis.now c.args.on c.args.pin c.unpin.result c.args.pass.now c.rows_of-read.new.pass c.unpin.new.pass
-    (omega (arith, c.requires.left)) c.in-Err.ensures.read c.unpin.ensures.turn
+    given_up_before c.args.basis.now c.args.on c.args.pin c.unpin.result c.args.pass.now c.rows_of-read.new.pass c.unpin.new.pass
+    c.requires.facts c.requires.held (omega (arith, c.requires.left)) c.in-Err.ensures.read c.unpin.ensures.turn

@@ -1,11 +1,14 @@
 use Rattle.std.proofs.Common.{refl}
-use Rattle.policy_value.specs.Caches.{IsRightFor, keys_of}
+use Rattle.std.proofs.lemmas.List.Elements.{All-nil}
+use Rattle.policy_value.specs.Caches.{IsRightPremium, kept_keys}
 use Rattle.policy_value.proofs.cache.ColumnCache.with_room.Goals as goal
 
-pub returns-clause-right : goal.returns-clause-right
-unfolding IsRightFor keys_of
-returns-clause-right c = λ basis. refl
+pub returns-in-Ok-clause-right : goal.returns-in-Ok-clause-right
+returns-in-Ok-clause-right c = λ basis. record {
+  premiums = rw c.in-Ok.ensures (All-nil (IsRightPremium basis));
+  columns = c.in_ok-columns.ensures basis;
+}
 
-pub returns-clause-empty : goal.returns-clause-empty
-unfolding keys_of
-returns-clause-empty c = refl
+pub returns-in-Ok-clause-empty : goal.returns-in-Ok-clause-empty
+unfolding kept_keys
+returns-in-Ok-clause-empty c = rw c.in-Ok.ensures refl

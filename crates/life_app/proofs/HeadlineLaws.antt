@@ -1,0 +1,317 @@
+-- What is promised of a script's run follows from what the program does
+use Rattle.std.proofs.Common.{◌≡◌, ℕ, ℤ, ◌⊎◌, List, [], ◌∷◌, ◌++◌, length, map, string_bytes, refl, ap, sym, ◌∙◌, subst, inl, inr, append-nil, le_refl, Result, Ok, Err, String, Global}
+use Rattle.std.specs.Prelude.{◌≢◌, take, codes, true, false}
+use Rattle.std.specs.Io.KnownBytes.{Appends}
+use Rattle.std.specs.List.{AllZip, flat_map}
+use Rattle.std.proofs.lemmas.Bool.{false≢true}
+use Rattle.std.proofs.lemmas.List.{take_all}
+use Rattle.std.proofs.lemmas.List.Elements.{filter_map-append}
+use Rattle.basis_book.specs.Dated.{Dated}
+use Rattle.basis_shelf.specs.Bases.{IsBasis}
+use Rattle.basis_shelf.proofs.OneBasis.{one_basis}
+use Rattle.outside_io.specs.Shelves.{Files}
+use Rattle.outside_io.specs.declared.disks.Disk.{Ghosts}
+use Rattle.command_csv.specs.Reads.{Reads}
+use Rattle.command_csv.proofs.OneReading.{one_reading}
+use Rattle.plan_benefits.specs.Shapes.{shape_of}
+use Rattle.plan_benefits.specs.declared.fault.NotValued.{NotValued}
+use Rattle.policy_types.specs.declared.command.Command.{Command}
+use Rattle.policy_types.specs.declared.policy.Policy.{Policy}
+use Rattle.policy_types.specs.declared.entry.Reply.{Reply}
+use Rattle.policy_types.specs.declared.entry.Reply.TheVariants.{Faulted, Floor, Pinned, PinRefused}
+use Rattle.policy_types.specs.declared.entry.Entry.{Entry}
+use Rattle.policy_types.specs.declared.script.Line.{Line}
+use Rattle.policy_types.specs.declared.script.Line.TheVariants.{Post, Value, Trim}
+use Rattle.policy_types.specs.declared.script.Lane.{Lane}
+use Rattle.policy_machine.specs.Book.{book}
+use Rattle.policy_machine.specs.History.{Opening, accepted_by, accepted_of, commands_after, opened_on}
+use Rattle.policy_value.specs.Rows.{IsExact, IsReserveOf}
+use Rattle.policy_value.specs.declared.worth.Row.{Row}
+use Rattle.policy_value.specs.declared.worth.Worth.{Worth}
+use Rattle.policy_value.specs.declared.worth.Worth.TheVariants.{Bounds, Word}
+use Rattle.rate_table.specs.declared.shape.Shape.{Shape}
+use Rattle.lane_runner.specs.AnsweredLines.{AnsweredLine}
+use Rattle.snapshot_value.specs.Valuing.{IsValuedRow}
+use Rattle.office_state.specs.Images.{HoldsNow, IsLeftAlone, IsOneMore, IsPending}
+use Rattle.office_state.specs.Journals.{Opens}
+use Rattle.office_state.proofs.HistorySteps.{posting}
+use Rattle.transcript_text.specs.Transcript.{IsReplyText, IsTranscript, reports_text}
+use Rattle.watcher_set.specs.Noted.{Auditor, reports_of}
+use Rattle.program_endings.specs.declared.ending.Ending.{Ending}
+use Rattle.program_endings.specs.declared.ending.Ending.TheVariants.{Done, Usage, BadScript, BadBasis, BadJournal, ReadFault, WriteFault, DiskFault, NoMemory}
+use Rattle.program_endings.specs.Status.{status_of}
+use Rattle.program_endings.specs.Refusals.{SaysWhy}
+use Rattle.program_endings.specs.WithoutBasis.{EndsNoBasis}
+use Rattle.program_endings.specs.Writing.{Input, IsWholeInput, Shelving, Stream, WroteOrFailed}
+use Rattle.office_state.specs.declared.faults.StartCause.{StartCause}
+use Rattle.office_state.specs.declared.faults.StartCause.TheVariants.{NotAJournal, BadRecord}
+use Rattle.script_run.specs.Outcome.{EndsScript, IsRunOf}
+use Rattle.script_run.specs.Running.{EndsLanes, EndsRun}
+use Rattle.script_run.specs.Script.{EndsUnread, IsReadAs, asks_for_values}
+use Rattle.script_run.proofs.ScriptStatus.{one_whole}
+use Rattle.life_args.proofs.Answering.{ask_once}
+use Rattle.life_args.specs.declared.mode.Mode.{Mode}
+use Rattle.life_args.specs.declared.mode.Mode.TheVariants.{Run}
+use Rattle.life_app.specs.Obeys.{Does, EndsMode, Obeys, SaysUnasked}
+use Rattle.life_app.specs.Words.{AskForRun}
+use Rattle.life_app.specs.Headline.{IsEnclosingRow, IsGivenBasis, IsPromised, IsThere, IsTold, IsToldText, IsUnrun, IsWorthBy, WasFaulted}
+
+-- the rounded bounds of a row are bounds of the exact reserve
+worth_by : (policy : Policy) (entry : Dated) (on : ℤ) (shape : Result Shape NotValued) (t : ℕ) (worth : Worth)
+    → shape_of policy.plan policy.age policy.years entry.table ≡ shape → IsReserveOf policy entry.table entry.bp on shape t worth
+    → IsExact policy entry.table entry.bp t worth → IsWorthBy policy entry on shape t worth
+worth_by policy entry on (Ok shape) t (Bounds lo hi) is value exact = (value.0, exact shape is)
+worth_by policy entry on (Ok shape) t (Word why) is value exact = let never = value.1 in cc
+worth_by policy entry on (Err word) t (Bounds lo hi) is value exact = let never = value.1 in cc
+worth_by policy entry on (Err word) t (Word why) is value exact = let same = value.1 in cc
+
+enclosing : (basis : List Dated) (on : ℤ) (policy : Policy) (row : Row) → IsValuedRow basis on policy row → IsEnclosingRow basis on policy row
+enclosing basis on policy row is = record {
+  id = is.valued.id;
+  status = is.valued.status;
+  insured = λ insured index entry picked. worth_by policy entry on (shape_of policy.plan policy.age policy.years entry.table) row.t row.worth refl
+      ((is.valued.insured insured).named index entry picked) (is.exact insured index entry picked);
+  unnamed = λ insured none. ((is.valued.insured insured).unnamed none).1;
+  uninsured = λ never. (is.valued.uninsured never).1;
+}
+
+each_pair : {A B : Type 0} (P Q : A → B → Type 0) → ((a : A) (b : B) → P a b → Q a b) → (xs : List A) (ys : List B)
+    → AllZip P xs ys → AllZip Q xs ys
+each_pair P Q step [] [] all = tt
+each_pair P Q step [] (y ∷ ys) all = absurd all
+each_pair P Q step (x ∷ xs) [] all = absurd all
+each_pair P Q step (x ∷ xs) (y ∷ ys) all = (step x y all.0, each_pair P Q step xs ys all.1)
+
+told_text : (clerk : ℕ) (line : Line) (reply : Reply) (commands : List Command) (basis : List Dated) (IsDry : Type 0) (text : List ℕ)
+    → IsReplyText clerk line reply commands basis IsDry text → IsToldText clerk line reply commands basis IsDry text
+told_text clerk (Post command) reply commands basis IsDry text is = is
+told_text clerk Trim (Floor floor) commands basis IsDry text is = is
+told_text clerk (Value on at workers) (PinRefused refusal) commands basis IsDry text is = is
+told_text clerk (Value on at workers) (Pinned position policies) commands basis IsDry text is = elim is [
+  | inl dry ↦ inl dry
+  | inr rows ↦ inr (
+    rows.0,
+    (
+      rows.1.0,
+      each_pair (IsValuedRow basis on) (IsEnclosingRow basis on) (enclosing basis on) (book (take position commands)) rows.1.0 rows.1.1,
+      rows.1.2,
+    ),
+  )
+]
+told_text _ _ _ _ _ _ _ is = absurd is
+
+-- the text of a run line by line
+told_lines : (opening : Opening) (history : List Entry) (basis : List Dated) (dry : List ℕ) (lines : List AnsweredLine) (text : List ℕ)
+    → IsTranscript opening history basis dry lines text
+    → (texts : List (List ℕ)) × AllZip (IsTold opening.commands history basis dry) lines texts
+    × (text ≡ flat_map (λ (one : List ℕ). one) texts)
+told_lines opening history basis dry [] text is = ([], tt, is)
+told_lines opening history basis dry (line ∷ lines) text is =
+    let rest = told_lines opening history basis dry lines is.1.0 is.1.3 in
+    (
+      is.0 ∷ rest.0,
+      (
+        told_text line.clerk line.line line.first.1.reply (commands_after opening (take line.first.0 history)) basis _ is.0 is.1.2,
+        rest.1,
+      ),
+      is.1.1 ∙ ap (λ (t : List ℕ). is.0 ++ t) rest.2,
+    )
+
+-- a posting that is pending was answered `fault` when all that is accepted was
+pub faulted_last : (history : List Entry) (command : Command) → IsPending history command → WasFaulted history (accepted_of history) command
+faulted_last history command pending =
+    let f = pending.faulted in
+    let entry = posting f.caller command (Faulted f.count) in
+    let all : accepted_of history ≡ accepted_of f.before ++ accepted_of (entry ∷ pending.after) =
+    ap accepted_of f.turns ∙ filter_map-append (λ (e : Entry). accepted_by e.call e.reply) f.before (entry ∷ pending.after) in
+    record {
+      before = f.before;
+      caller = f.caller;
+      count = f.count;
+      after = pending.after;
+      turns = f.turns;
+      then = sym (all ∙ ap (λ cs. accepted_of f.before ++ cs) pending.none ∙ append-nil (accepted_of f.before));
+    }
+
+-- an image of the history, by what is accepted and what faulted
+there_now : (opening : Opening) (history : List Entry) (image : List ℕ) → HoldsNow opening history image
+    → IsThere Opens opening.commands history (accepted_of history) image
+there_now opening history image holds = elim holds [
+  | inl all ↦ inl (inl all)
+  | inr more ↦ inr (
+    more.0,
+    faulted_last history more.0 more.1,
+    inl more.2,
+  )
+]
+
+there_once : (opening : Opening) (history : List Entry) (held more : List Command) (image : List ℕ) → IsOneMore history held more
+    → Opens image (opening.commands ++ held ++ more) → IsThere Opens opening.commands history held image
+there_once opening history held [] image one opens =
+    inl (subst (Opens image) (append-nil (opening.commands ++ held)) opens)
+there_once opening history held (command ∷ []) image one opens = inr (
+  command,
+  record { before = one.1.0.before; caller = one.1.0.caller; count = one.1.0.count; after = one.0; turns = one.1.0.turns; then = one.1.1 },
+  opens,
+)
+there_once opening history held (command ∷ other ∷ more) image one opens = absurd one
+
+module _ {D : Type 0} (g : Ghosts D) (old new : D) (output : Stream) where
+  -- a run that was written so
+  promised : (lanes : List Lane) (basis : List Dated) (auditors : List Auditor) (Wrote : List ℕ → Type 0)
+      (Replies : List Entry → List ℕ → Type 0) (status : ℕ) → IsRunOf g old new lanes basis auditors Wrote Replies
+      → ((text : List ℕ) → Wrote text → (n : ℕ) × Appends output.before output.after (take n text))
+      → ((text : List ℕ) → Wrote text → (status ≡ 0) ⊎ (status ≡ 8) → Appends output.before output.after text)
+      → IsPromised g Opens old new lanes basis output status
+  promised lanes basis auditors Wrote Replies status ran front whole =
+      let opening = opened_on ran.commands (g.faults old) in
+      let told = told_lines opening ran.history basis ran.dry ran.answered ran.text ran.tells in
+      let behind = reports_text (reports_of auditors (accepted_of ran.history)) in
+      let wrote : Wrote (flat_map (λ (one : List ℕ). one) told.0 ++ behind) = subst (λ (t : List ℕ). Wrote (t ++ behind)) told.2 ran.wrote in
+      record {
+        commands = ran.commands;
+        history = ran.history;
+        opened = ran.opened;
+        legal = ran.legal;
+        callers = ran.callers;
+        dry = ran.dry;
+        lines = ran.answered;
+        distinct = ran.merge.distinct;
+        theirs = ran.merge.theirs;
+        answered = ran.lines;
+        texts = told.0;
+        behind = behind;
+        told = told.1;
+        wrote = front _ wrote;
+        whole = λ status. whole _ wrote status;
+        now = λ honest image left. there_now opening ran.history image (ran.disk.now honest image left);
+        since = λ honest image left. elim (ran.disk.since honest image left) [
+          | inl before ↦ inl before
+          | inr once ↦ inr (once.held, once.rest, once.front, there_once opening ran.history once.held once.more image once.one once.opens)
+        ];
+        kept = λ honest some rest split.
+            let kept = ran.disk.kept honest some rest split in
+            (
+              g.clock kept.stood,
+              kept.later,
+              kept.passed,
+              λ image left. kept.since image left,
+            );
+      }
+
+  -- a run that answered no line, and left the disk alone, or didn't touch it
+  unrun_alone : (status : ℕ) → (status ≡ 0 → ⊥) → (why : List ℕ) → WroteOrFailed output why → IsLeftAlone g old new
+      → IsUnrun g Opens old new output status
+  unrun_alone status failed why line alone = record { failed = failed; line = (why, line); since = alone.since }
+
+  unrun_untouched : (status : ℕ) → (status ≡ 0 → ⊥) → (why : List ℕ) → WroteOrFailed output why → new ≡ old
+      → ((disk : D) (image : List ℕ) → g.honest disk → g.left_since disk (g.clock disk) image → g.may_leave disk image)
+      → IsUnrun g Opens old new output status
+  unrun_untouched status failed why line same only_now = record {
+    failed = failed;
+    line = (why, line);
+    since = λ honest image left. inl (only_now old image (subst (λ (d : D). g.honest d) same honest)
+        (subst (λ (d : D). g.left_since d (g.clock old) image) same left));
+  }
+
+  -- what is promised, of a run or of none
+  abbrev pub Told : List Lane → List Dated → ℕ → Type 0
+  Told lanes basis status = IsPromised g Opens old new lanes basis output status ⊎ IsUnrun g Opens old new output status
+
+  all_of : (text : List ℕ) → Appends output.before output.after text → (n : ℕ) × Appends output.before output.after (take n text)
+  all_of text all = (length text, subst (λ (t : List ℕ). Appends output.before output.after t) (sym (take_all (length text) text (le_refl (length text)))) all)
+
+  refused : (cause : StartCause) → SaysWhy cause output → IsLeftAlone g old new → IsUnrun g Opens old new output 5
+  refused NotAJournal line alone = unrun_alone 5 (λ never. cc) _ line alone
+  refused (BadRecord n) line alone = unrun_alone 5 (λ never. cc) _ line alone
+  refused _ line alone = absurd line
+
+  -- how a script's run ends, by what was written
+  by_ending : (lanes : List Lane) (basis : List Dated) (auditors : List Auditor) (ending : Ending)
+      → EndsScript g old new lanes basis auditors output ending → Told lanes basis (status_of ending)
+  by_ending lanes basis auditors Done ends = inl (promised lanes basis auditors _ _ 0 ends all_of (λ text all status. all))
+  by_ending lanes basis auditors BadJournal ends = inr (refused ends.cause ends.line ends.alone)
+  by_ending lanes basis auditors WriteFault ends =
+      inl (promised lanes basis auditors _ _ 7 ends.1 (λ text part. (part.taken, part.written))
+      (λ text part status. elim status [ | inl zero ↦ cc | inr eight ↦ cc ]))
+  by_ending lanes basis auditors DiskFault ends = elim ends.1 [
+    | inl said ↦ inr (unrun_alone 8 (λ never. cc) _ said.0 said.1)
+    | inr ran ↦ inl (promised lanes basis auditors _ _ 8 ran all_of (λ text all status. all))
+  ]
+  by_ending lanes basis auditors NoMemory ends = elim ends [
+    | inl said ↦ inr (unrun_alone 9 (λ never. cc) _ said.0 said.1)
+    | inr (inl ran) ↦
+        inl (promised lanes basis auditors _ _ 9 ran (λ text none. (0, none)) (λ text none status. elim status [ | inl zero ↦ cc | inr eight ↦ cc ]))
+    | inr (inr ran) ↦ inl (promised lanes basis auditors _ _ 9 ran all_of (λ text all status. all))
+  ]
+  by_ending lanes basis auditors _ ends = absurd ends
+
+  module _ (only_now : (disk : D) (image : List ℕ) → g.honest disk → g.left_since disk (g.clock disk) image → g.may_leave disk image) where
+    -- without a basis the disk isn't touched
+    without_basis : (lanes : List Lane) (basis : List Dated) (name : List ℕ) (shelf : Shelving) (ending : Ending) → new ≡ old
+        → EndsNoBasis name shelf output ending → Told lanes basis (status_of ending)
+    without_basis lanes basis name shelf BadBasis same ends = inr (unrun_untouched 4 (λ never. cc) _ ends.2 same only_now)
+    without_basis lanes basis name shelf ReadFault same ends = inr (unrun_untouched 6 (λ never. cc) _ ends.1 same only_now)
+    without_basis lanes basis name shelf NoMemory same ends = inr (unrun_untouched 9 (λ never. cc) _ ends same only_now)
+    without_basis lanes basis name shelf _ same ends = absurd ends
+
+    -- nor without a script
+    without_script : (lanes : List Lane) (basis : List Dated) (input : Input) (ending : Ending) → new ≡ old
+        → EndsUnread input output ending → Told lanes basis (status_of ending)
+    without_script lanes basis input BadScript same (inl long) = inr (unrun_untouched 3 (λ never. cc) _ long.1 same only_now)
+    without_script lanes basis input BadScript same (inr fault) = inr (unrun_untouched 3 (λ never. cc) _ fault.1.2 same only_now)
+    without_script lanes basis input ReadFault same ends = inr (unrun_untouched 6 (λ never. cc) _ ends.1 same only_now)
+    without_script lanes basis input NoMemory same ends = inr (unrun_untouched 9 (λ never. cc) _ ends same only_now)
+    without_script lanes basis input _ same ends = absurd ends
+
+    -- the lanes by the basis that is given
+    by_lanes : (lanes : List Lane) (basis : List Dated) (auditors : List Auditor) (name : List ℕ) (shelf : Shelving)
+        (ShelfStays : Type 0) (ending : Ending) → IsGivenBasis lanes name shelf basis
+        → EndsLanes g old new lanes name auditors shelf output ShelfStays ending → Told lanes basis (status_of ending)
+    by_lanes lanes basis auditors name shelf ShelfStays ending (inl none) (inl ends) =
+        subst (λ (b : List Dated). Told lanes b (status_of ending)) (sym none.1) (by_ending lanes [] auditors ending ends.2)
+    by_lanes lanes basis auditors name shelf ShelfStays ending (inl none) (inr ends) = absurd (false≢true (sym none.0 ∙ ends.0))
+    by_lanes lanes basis auditors name shelf ShelfStays ending (inr given) (inl ends) = absurd (false≢true (sym ends.0 ∙ given.0))
+    by_lanes lanes basis auditors name shelf ShelfStays ending (inr given) (inr (asks, inl by)) =
+        subst (λ (b : List Dated). Told lanes b (status_of ending))
+        (one_basis given.1.0 name by.basis basis (by.is given.1.0 given.1.1) given.1.2) (by_ending lanes by.basis auditors ending by.ends)
+    by_lanes lanes basis auditors name shelf ShelfStays ending (inr given) (inr (asks, inr none)) =
+        without_basis lanes basis name shelf ending none.0 none.1
+
+    -- the script that is given
+    pub by_script : (lanes : List Lane) (basis : List Dated) (auditors : List Auditor) (name bytes : List ℕ) (input : Input) (shelf : Shelving)
+        (ShelfStays : Type 0) (ending : Ending) → IsWholeInput input bytes → Reads bytes lanes → IsGivenBasis lanes name shelf basis
+        → EndsRun g old new name auditors input output shelf ShelfStays ending → Told lanes basis (status_of ending)
+    by_script lanes basis auditors name bytes input shelf ShelfStays ending whole reads given (inl read) =
+        let same : read.lanes ≡ lanes =
+        one_reading bytes read.lanes lanes
+        (subst (λ (bs : List ℕ). IsReadAs bs read.lanes) (one_whole input read.bytes bytes read.gave whole) read.read).1 reads in
+        by_lanes lanes basis auditors name shelf ShelfStays ending given
+        (subst (λ (ls : List Lane). EndsLanes g old new ls name auditors shelf output ShelfStays ending) same read.ends)
+    by_script lanes basis auditors name bytes input shelf ShelfStays ending whole reads given (inr unread) =
+        without_script lanes basis input ending unread.0 unread.2
+
+    -- what the words ask for, and how it ended
+    by_words : (lanes : List Lane) (basis : List Dated) (auditors : List Auditor) (name bytes : List ℕ) (words : List (String Global))
+        (input : Input) (shelf : Shelving) (InputStays ShelfStays : Type 0) (ending : Ending) → AskForRun words name
+        → IsWholeInput input bytes → Reads bytes lanes → IsGivenBasis lanes name shelf basis
+        → Does g old new words auditors input output shelf InputStays ShelfStays ending → Told lanes basis (status_of ending)
+    by_words lanes basis auditors name bytes words input shelf InputStays ShelfStays ending asked whole reads given (inl (mode, for, ends)) =
+        by_script lanes basis auditors name bytes input shelf ShelfStays ending whole reads given
+        (subst (λ (m : Mode). EndsMode g old new m auditors input output shelf InputStays ShelfStays ending)
+        (ask_once (map string_bytes words) mode (Run name) for asked) ends)
+    by_words lanes basis auditors name bytes words input shelf InputStays ShelfStays ending asked whole reads given (inr unasked) =
+        inr (said ending unasked.says)
+      where
+        said : (ending : Ending) → SaysUnasked words output ending → IsUnrun g Opens old new output (status_of ending)
+        said Usage says = unrun_untouched 2 (λ never. cc) _ says.1 unasked.disk only_now
+        said NoMemory says = unrun_untouched 9 (λ never. cc) _ says unasked.disk only_now
+        said _ says = absurd says
+
+    pub headline : (lanes : List Lane) (basis : List Dated) (auditors : List Auditor) (name bytes : List ℕ) (words : List (String Global))
+        (input : Input) (shelf : Shelving) (InputStays ShelfStays : Type 0) (status : ℕ)
+        → Obeys g old new words auditors input output shelf InputStays ShelfStays status → AskForRun words name
+        → IsWholeInput input bytes → Reads bytes lanes → IsGivenBasis lanes name shelf basis → Told lanes basis status
+    headline lanes basis auditors name bytes words input shelf InputStays ShelfStays status obeys asked whole reads given =
+        subst (λ (s : ℕ). Told lanes basis s) (sym obeys.exits)
+        (by_words lanes basis auditors name bytes words input shelf InputStays ShelfStays obeys.ending asked whole reads given obeys.does)

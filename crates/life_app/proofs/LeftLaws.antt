@@ -1,0 +1,142 @@
+-- How each mode leaves the disk: by the turns of an office, alone, or untouched
+use Rattle.std.proofs.Common.{◌≡◌, ℕ, ℤ, ◌⊎◌, List, [], refl, inl, inr, None, Some, String, Global}
+use Rattle.outside_io.specs.declared.disks.Disk.{Ghosts}
+use Rattle.policy_types.specs.declared.command.Command.{Command}
+use Rattle.policy_types.specs.declared.entry.At.{At}
+use Rattle.policy_types.specs.declared.entry.Entry.{Entry}
+use Rattle.policy_types.specs.declared.script.Lane.{Lane}
+use Rattle.policy_machine.specs.History.{Opening, opened_on}
+use Rattle.watcher_set.specs.Noted.{Auditor}
+use Rattle.basis_book.specs.Dated.{Dated}
+use Rattle.life_args.specs.declared.mode.Mode.{Mode}
+use Rattle.life_args.specs.declared.mode.Mode.TheVariants.{Run, Value, State, Generate, Load}
+use Rattle.office_state.specs.Images.{IsLeftAlone, IsLeftBy}
+use Rattle.program_endings.specs.declared.ending.Ending.{Ending}
+use Rattle.program_endings.specs.declared.ending.Ending.TheVariants.{Done, BadJournal, WriteFault, DiskFault, NoMemory}
+use Rattle.program_endings.specs.Texts.{EndsReadOnly}
+use Rattle.program_endings.specs.Writing.{Input, Shelving, Stream}
+use Rattle.script_run.specs.Outcome.{EndsScript, IsRunOf}
+use Rattle.script_run.specs.Running.{EndsLanes, EndsRun}
+use Rattle.book_state.specs.Books.{books_text, policy_account}
+use Rattle.book_state.specs.Stating.{IsStated}
+use Rattle.book_value.specs.Valuing.{EndsValue, IsValued}
+use Rattle.trial_load.specs.Loading.{EndsLoad, EndsLoading, IsLoadOf}
+use Rattle.life_app.specs.Obeys.{Does, EndsMode}
+use Rattle.life_app.specs.Runs.{IsLeftSo}
+
+module _ {D : Type 0} (g : Ghosts D) (old new : D) where
+  abbrev Left : Type 0
+  Left = (opening : Opening) × ((history : List Entry) × IsLeftSo g old new opening history)
+
+  by_turns : (opening : Opening) (history : List Entry) → IsLeftBy g old new opening history → Left
+  by_turns opening history left = (opening, (history, inl left))
+
+  all_alone : IsLeftAlone g old new → Left
+  all_alone alone = (opened_on [] (g.faults old), ([], inr (inl (refl, alone))))
+
+  untouched : new ≡ old → Left
+  untouched same = (opened_on [] (g.faults old), ([], inr (inr (refl, same))))
+
+  ran : (lanes : List Lane) (basis : List Dated) (auditors : List Auditor) (Wrote : List ℕ → Type 0) (Replies : List Entry → List ℕ → Type 0)
+      → IsRunOf g old new lanes basis auditors Wrote Replies → Left
+  ran lanes basis auditors Wrote Replies run = by_turns (opened_on run.commands (g.faults old)) run.history run.disk
+
+  script : (lanes : List Lane) (basis : List Dated) (auditors : List Auditor) (output : Stream) (ending : Ending)
+      → EndsScript g old new lanes basis auditors output ending → Left
+  script lanes basis auditors output Done ends = ran _ _ _ _ _ ends
+  script lanes basis auditors output BadJournal ends = all_alone ends.alone
+  script lanes basis auditors output WriteFault ends = ran _ _ _ _ _ ends.1
+  script lanes basis auditors output DiskFault ends = elim ends.1 [
+    | inl said ↦ all_alone said.1
+    | inr run ↦ ran _ _ _ _ _ run
+  ]
+  script lanes basis auditors output NoMemory ends = elim ends [
+    | inl said ↦ all_alone said.1
+    | inr (inl run) ↦ ran _ _ _ _ _ run
+    | inr (inr run) ↦ ran _ _ _ _ _ run
+  ]
+  script lanes basis auditors output _ ends = absurd ends
+
+  lanes_left : (lanes : List Lane) (name : List ℕ) (auditors : List Auditor) (shelf : Shelving) (output : Stream) (ShelfStays : Type 0) (ending : Ending)
+      → EndsLanes g old new lanes name auditors shelf output ShelfStays ending → Left
+  lanes_left lanes name auditors shelf output ShelfStays ending ends = elim ends [
+    | inl without ↦ script lanes [] auditors output ending without.2
+    | inr (asks, inl by) ↦ script lanes by.basis auditors output ending by.ends
+    | inr (asks, inr none) ↦ untouched none.0
+  ]
+
+  run_left : (name : List ℕ) (auditors : List Auditor) (input : Input) (output : Stream) (shelf : Shelving) (ShelfStays : Type 0) (ending : Ending)
+      → EndsRun g old new name auditors input output shelf ShelfStays ending → Left
+  run_left name auditors input output shelf ShelfStays ending ends = elim ends [
+    | inl read ↦ lanes_left read.lanes name auditors shelf output ShelfStays ending read.ends
+    | inr unread ↦ untouched unread.0
+  ]
+
+  -- a mode that only reads
+  read_only : (Tells : (List ℕ → Type 0) → Type 0) (output : Stream) (ending : Ending)
+      → ((Wrote : List ℕ → Type 0) → Tells Wrote → Left) → EndsReadOnly g old new Tells output ending → Left
+  read_only Tells output Done told ends = told _ ends
+  read_only Tells output BadJournal told ends = all_alone ends.alone
+  read_only Tells output WriteFault told ends = told _ ends.1
+  read_only Tells output DiskFault told ends = all_alone ends.2
+  read_only Tells output NoMemory told ends = all_alone ends.1
+  read_only Tells output _ told ends = absurd ends
+
+  value_left : (on : ℤ) (at : At) (name : List ℕ) (shelf : Shelving) (output : Stream) (ending : Ending)
+      → EndsValue g old new on at name shelf output ending → Left
+  value_left on at name shelf output ending ends = elim ends [
+    | inl by ↦ elim by.ends [
+      | inl valued ↦
+          read_only (IsValued g old new on at by.basis) output ending (λ Wrote is. by_turns (opened_on is.commands (g.faults old)) [] is.disk) valued
+      | inr (same, ahead) ↦ by_turns (opened_on ahead.commands (g.faults old)) [] ahead.disk
+    ]
+    | inr none ↦ untouched none.0
+  ]
+
+  load_of : (lanes : List Lane) (workers : ℕ) (Tells : Opening → List Entry → List ℕ → Type 0) → IsLoadOf g old new lanes workers Tells → Left
+  load_of lanes workers Tells load = by_turns (opened_on load.commands (g.faults old)) _ load.disk
+
+  loading : (lanes : List Lane) (workers : ℕ) (basis : List Dated) (output : Stream) (ending : Ending)
+      → EndsLoading g old new lanes workers basis output ending → Left
+  loading lanes workers basis output Done ends = load_of _ _ _ ends
+  loading lanes workers basis output BadJournal ends = all_alone ends.alone
+  loading lanes workers basis output WriteFault ends = load_of _ _ _ ends.1
+  loading lanes workers basis output DiskFault ends = elim ends.1 [
+    | inl said ↦ all_alone said.1
+    | inr load ↦ load_of _ _ _ load
+  ]
+  loading lanes workers basis output NoMemory ends = elim ends [
+    | inl said ↦ all_alone said.1
+    | inr (inl load) ↦ load_of _ _ _ load
+    | inr (inr load) ↦ load_of _ _ _ load
+  ]
+  loading lanes workers basis output _ ends = absurd ends
+
+  load_left : (seed count lanes workers : ℕ) (shelf : Shelving) (output : Stream) (ending : Ending)
+      → EndsLoad g old new seed count lanes workers shelf output ending → Left
+  load_left seed count lanes workers shelf output ending ends = elim ends [
+    | inl by ↦ elim by.ends [
+      | inl load ↦ loading _ _ by.basis output ending load
+      | inr none ↦ untouched none.0
+    ]
+    | inr none ↦ untouched none.0
+  ]
+
+  module _ (auditors : List Auditor) (input : Input) (output : Stream) (shelf : Shelving) (InputStays ShelfStays : Type 0) where
+    mode_left : (mode : Mode) (ending : Ending) → EndsMode g old new mode auditors input output shelf InputStays ShelfStays ending → Left
+    mode_left (Run name) ending ends = run_left name auditors input output shelf ShelfStays ending ends
+    mode_left (Value on at workers name) ending ends = value_left on at name shelf output ending ends.1
+    mode_left (State None) ending ends =
+        read_only (IsStated g old new books_text) output ending (λ Wrote is. by_turns (opened_on is.commands (g.faults old)) [] is.disk) ends.2
+    mode_left (State (Some id)) ending ends =
+        read_only (IsStated g old new (policy_account id)) output ending (λ Wrote is. by_turns (opened_on is.commands (g.faults old)) [] is.disk) ends.2
+    mode_left (Generate seed count lanes) ending ends = untouched ends.2
+    mode_left (Load seed count lanes workers) ending ends = load_left seed count lanes workers shelf output ending ends.1
+
+    -- the program leaves the disk so
+    pub left_so : (words : List (String Global)) (ending : Ending) → Does g old new words auditors input output shelf InputStays ShelfStays ending
+        → (opening : Opening) × ((history : List Entry) × IsLeftSo g old new opening history)
+    left_so words ending does = elim does [
+      | inl (mode, asked, ends) ↦ mode_left mode ending ends
+      | inr unasked ↦ untouched unasked.disk
+    ]

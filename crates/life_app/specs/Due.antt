@@ -1,0 +1,116 @@
+-- Which ending is due, where the devices don't fail on which it rests
+use Rattle.std.specs.Prelude.{◌≡◌, ◌≤◌, ◌<◌, ◌⊎◌, ℕ, ℤ, true, List, codes, length, String}
+use Rattle.std.specs.Global.{Global}
+use Rattle.outside_io.specs.Faults.{Rose}
+use Rattle.outside_io.specs.Shelves.{Files}
+use Rattle.outside_io.specs.Streams.{GivesMore}
+use Rattle.policy_types.specs.declared.command.Command.{Command}
+use Rattle.policy_types.specs.declared.entry.At.TheVariants.{Position}
+use Rattle.policy_types.specs.declared.script.Lane.{Lane}
+use Rattle.basis_book.specs.Dated.{Dated}
+use Rattle.basis_shelf.specs.Bases.{IsBasis}
+use Rattle.basis_shelf.specs.FirstBad.{IsFirstBadFile}
+use Rattle.basis_shelf.specs.declared.fault.BadBasis.{BadBasis as ABadBasis}
+use Rattle.life_args.specs.Words.{AskFor, AskForNothing}
+use Rattle.life_args.specs.declared.mode.Mode.{Mode}
+use Rattle.life_args.specs.declared.mode.Mode.TheVariants.{Run, Value, State, Generate, Load}
+use Rattle.office_state.specs.Journals.{Opens, OpensToNone}
+use Rattle.program_endings.specs.Writing.{Input, IsWholeInput, Shelving, Stream}
+use Rattle.program_endings.specs.declared.ending.Ending.{Ending}
+use Rattle.program_endings.specs.declared.ending.Ending.TheVariants.{Done, Usage, BadScript, BadBasis, BadJournal, Ahead}
+use Rattle.script_run.specs.Script.{IsReadAs, IsUnreadable, asks_for_values, most_script_bytes}
+use Rattle.book_value.specs.Valuing.{position_of}
+use Rattle.life_app.specs.Needs.{Filing}
+use Rattle.life_app.specs.Words.{AskForRun}
+
+-- the count of faults didn't rise
+abbrev pub IsHeld : ℕ → ℕ → Type 0
+IsHeld before after = Rose before after → ⊥
+
+-- the whole input is a script of these lanes, and didn't fail
+pub record HasScript (input : Input) (lanes : List Lane) : Type 0 where
+  pub bytes : List ℕ
+  pub whole : IsWholeInput input bytes
+  pub read : IsReadAs bytes lanes
+  pub held : IsHeld input.faults_before input.faults_after
+
+-- the input gave more than a script may have, or the whole of it is none, and it didn't fail
+pub record HasNoScript (input : Input) : Type 0 where
+  pub unreadable : GivesMore most_script_bytes input.given_before input.given_after
+      ⊎ ((bytes : List ℕ) × IsWholeInput input bytes × IsUnreadable bytes)
+  pub held : IsHeld input.faults_before input.faults_after
+
+-- files that agree with what the shelf answered make a basis under the name, and it didn't fail
+pub record HasBasis (shelf : Shelving) (name : List ℕ) : Type 0 where
+  pub files : Files
+  pub agree : shelf.Agrees files
+  pub basis : List Dated
+  pub is : IsBasis files name basis
+  pub held : IsHeld shelf.faults_before shelf.faults_after
+
+-- in such files one of the basis is bad, and it didn't fail
+pub record HasNoBasis (shelf : Shelving) (name : List ℕ) : Type 0 where
+  pub files : Files
+  pub agree : shelf.Agrees files
+  pub bad : ABadBasis
+  pub first : IsFirstBadFile files name bad
+  pub held : IsHeld shelf.faults_before shelf.faults_after
+
+-- the disk's file opens to these commands, and the disk didn't fail
+pub record HasJournal (disk : Filing) (commands : List Command) : Type 0 where
+  pub honest : disk.Honest
+  pub opens : Opens disk.before commands
+  pub held : disk.Failed → ⊥
+
+-- it opens to none, and the disk didn't fail
+pub record HasNoJournal (disk : Filing) : Type 0 where
+  pub honest : disk.Honest
+  pub none : OpensToNone disk.before
+  pub held : disk.Failed → ⊥
+
+-- the mode has the script and the basis that it needs
+abbrev pub HasItsNeeds : Mode → Input → Shelving → Type 0
+HasItsNeeds (Run name) input shelf =
+    (lanes : List Lane) × HasScript input lanes × (asks_for_values lanes ≡ true → HasBasis shelf name)
+HasItsNeeds (Value on at workers name) input shelf = HasBasis shelf name
+HasItsNeeds (State id) input shelf = Unit {0}
+HasItsNeeds (Generate seed count lanes) input shelf = Unit {0}
+HasItsNeeds (Load seed count lanes workers) input shelf = HasBasis shelf (codes "basis.csv")
+
+-- it needs a basis, of which a file is bad
+abbrev pub LacksItsBasis : Mode → Input → Shelving → Type 0
+LacksItsBasis (Run name) input shelf =
+    (lanes : List Lane) × HasScript input lanes × (asks_for_values lanes ≡ true) × HasNoBasis shelf name
+LacksItsBasis (Value on at workers name) input shelf = HasNoBasis shelf name
+LacksItsBasis (Load seed count lanes workers) input shelf = HasNoBasis shelf (codes "basis.csv")
+LacksItsBasis _ _ _ = ⊥
+
+-- it has the journal that it needs, with as many commands as are asked for; `generate` needs none
+abbrev pub HasItsJournal : Mode → Filing → Type 0
+HasItsJournal (Run name) disk = (commands : List Command) × HasJournal disk commands
+HasItsJournal (Value on at workers name) disk =
+    (commands : List Command) × HasJournal disk commands × (position_of at (length commands) ≤ length commands)
+HasItsJournal (State id) disk = (commands : List Command) × HasJournal disk commands
+HasItsJournal (Generate seed count lanes) disk = Unit {0}
+HasItsJournal (Load seed count lanes workers) disk = (commands : List Command) × HasJournal disk commands
+
+-- it needs a journal, and has none
+abbrev pub LacksItsJournal : Mode → Filing → Type 0
+LacksItsJournal (Generate seed count lanes) disk = ⊥
+LacksItsJournal _ disk = HasNoJournal disk
+
+-- The ending that is due: by the words; by the script; by the basis; by the journal, and how many commands it has; and where
+-- nothing is lacking, and the output doesn't fail, the work is done.
+abbrev pub IsDueEnding : List (String Global) → Input → Stream → Shelving → Filing → Ending → Type 0
+IsDueEnding words input output shelf disk Usage = AskForNothing words
+IsDueEnding words input output shelf disk BadScript = (name : List ℕ) × AskForRun words name × HasNoScript input
+IsDueEnding words input output shelf disk BadBasis = (mode : Mode) × AskFor words mode × LacksItsBasis mode input shelf
+IsDueEnding words input output shelf disk BadJournal =
+    (mode : Mode) × AskFor words mode × HasItsNeeds mode input shelf × LacksItsJournal mode disk
+IsDueEnding words input output shelf disk Ahead =
+    (on : ℤ) × ((p : ℕ) × ((workers : ℕ) × ((name : List ℕ) × AskFor words (Value on (Position p) workers name)
+    × HasBasis shelf name × ((commands : List Command) × HasJournal disk commands × (length commands < p)))))
+IsDueEnding words input output shelf disk Done =
+    (mode : Mode) × AskFor words mode × HasItsNeeds mode input shelf × HasItsJournal mode disk
+    × IsHeld output.faults_before output.faults_after
+IsDueEnding _ _ _ _ _ _ = ⊥

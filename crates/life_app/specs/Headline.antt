@@ -1,0 +1,141 @@
+-- What is promised of a script's run, in few words: its transcript is one legal history, in which each lane's lines stand
+-- once, in order; its valuations enclose the exact reserves; and what a crash leaves. Which file opens to which commands is
+-- a parameter: all that is asked of it is that a file opens to one list of commands at most, and an empty file to none.
+use Rattle.std.specs.Prelude.{◌≡◌, ◌≢◌, ◌⊎◌, ℕ, ℤ, ◌≤◌, ◌<ℤ◌, All, List, [], ◌∷◌, ◌++◌, nat_eq, true, false, take, Result, Ok, Err}
+use Rattle.std.specs.Io.KnownBytes.{Appends}
+use Rattle.std.specs.List.{AllByRecursion, AllZip, Contains, IsDistinct, flat_map}
+use Rattle.basis_book.specs.Dated.{Dated, IsPicked}
+use Rattle.basis_shelf.specs.Bases.{IsBasis}
+use Rattle.outside_io.specs.Shelves.{Files}
+use Rattle.outside_io.specs.declared.disks.Disk.{Ghosts}
+use Rattle.plan_benefits.specs.Shapes.{shape_of}
+use Rattle.plan_benefits.specs.declared.fault.NotValued.{NotValued}
+use Rattle.plan_benefits.specs.declared.fault.NotValued.TheVariants.{NoBasis}
+use Rattle.policy_types.specs.declared.command.Command.{Command}
+use Rattle.policy_types.specs.declared.policy.Policy.{Policy}
+use Rattle.policy_types.specs.declared.entry.Call.TheVariants.{Post as PostCall}
+use Rattle.policy_types.specs.declared.entry.Reply.{Reply}
+use Rattle.policy_types.specs.declared.entry.Reply.TheVariants.{Faulted, Floor, Pinned, PinRefused}
+use Rattle.policy_types.specs.declared.entry.Entry.{Entry}
+use Rattle.policy_types.specs.declared.script.Line.{Line}
+use Rattle.policy_types.specs.declared.script.Line.TheVariants.{Post, Value, Trim}
+use Rattle.policy_types.specs.declared.script.Lane.{Lane}
+use Rattle.policy_machine.specs.Book.{book}
+use Rattle.policy_machine.specs.History.{IsLegal, accepted_of, opened_on}
+use Rattle.policy_value.specs.Rows.{IsInsured, IsYear}
+use Rattle.policy_value.specs.declared.worth.Row.{Row}
+use Rattle.policy_value.specs.declared.worth.Worth.{Worth}
+use Rattle.policy_value.specs.declared.worth.Worth.TheVariants.{Bounds, Word}
+use Rattle.present_value.specs.Premium.{cap_of}
+use Rattle.present_value.specs.Reserve.{Encloses, reserve}
+use Rattle.present_value.specs.Sums.{cover_of}
+use Rattle.rate_table.specs.declared.shape.Shape.{Shape}
+use Rattle.lane_runner.specs.AnsweredLines.{AnsweredLine, AreLinesOf}
+use Rattle.report_text.specs.Block.{block_text}
+use Rattle.transcript_text.specs.Transcript.{posting_text, trim_text, unpinned_text, unvalued_text}
+use Rattle.program_endings.specs.Writing.{Shelving, Stream, WroteOrFailed}
+use Rattle.script_run.specs.Script.{asks_for_values}
+
+-- by an entry of the basis: the bounds enclose the exact reserve of the amount at the policy's year, to at most two
+-- cents, or the word says why the table has none
+abbrev pub IsWorthBy : Policy → Dated → ℤ → Result Shape NotValued → ℕ → Worth → Type 0
+IsWorthBy policy entry on (Ok shape) t (Bounds lo hi) =
+    IsYear policy.issued on shape.n t
+    × Encloses lo hi policy.amount (reserve (cover_of entry.table shape entry.bp) (cap_of entry.table shape.age entry.bp) t)
+IsWorthBy policy entry on (Err word) t (Word why) = why ≡ word
+IsWorthBy _ _ _ _ _ _ = ⊥
+
+-- The row of a policy on a day. One that is in force, and issued by then, is worth what the last entry says that had begun
+-- on its day of issue; any other is worth nothing.
+pub record IsEnclosingRow (basis : List Dated) (on : ℤ) (policy : Policy) (row : Row) : Type 0 where
+  pub id : row.id ≡ policy.id
+  pub status : row.status ≡ policy.status
+  pub insured : IsInsured policy on → (index : ℕ) → (entry : Dated) → IsPicked basis policy.issued index entry
+      → IsWorthBy policy entry on (shape_of policy.plan policy.age policy.years entry.table) row.t row.worth
+  pub unnamed : IsInsured policy on → All (λ (entry : Dated). policy.issued <ℤ entry.from_day) basis → row.worth ≡ Word NoBasis
+  pub uninsured : (IsInsured policy on → ⊥) → row.worth ≡ Bounds 0 0
+
+-- the text of a valuation at a position: a row for each of the policies that the first so many commands leave
+abbrev pub IsEnclosingText : ℕ → ℤ → List Command → List Dated → ℕ → List ℕ → Type 0
+IsEnclosingText clerk on commands basis position text =
+    (rows : List Row) × AllZip (IsEnclosingRow basis on) (book (take position commands)) rows
+    × (text ≡ block_text clerk on position rows)
+
+-- the text of a clerk's line, by the reply to its first turn, before which these commands were accepted
+abbrev pub IsToldText : ℕ → Line → Reply → List Command → List Dated → (IsDry : Type 0) → List ℕ → Type 0
+IsToldText clerk (Post command) reply commands basis IsDry text = text ≡ posting_text clerk command reply
+IsToldText clerk Trim (Floor floor) commands basis IsDry text = text ≡ trim_text clerk floor
+IsToldText clerk (Value on at workers) (PinRefused refusal) commands basis IsDry text = text ≡ unpinned_text clerk on refusal
+IsToldText clerk (Value on at workers) (Pinned position policies) commands basis IsDry text =
+    (IsDry × (text ≡ unvalued_text clerk on))
+    ⊎ ((IsDry → ⊥) × IsEnclosingText clerk on commands basis position text)
+IsToldText _ _ _ _ _ _ _ = ⊥
+
+-- the text of an answered line of a history that began after these commands
+abbrev pub IsTold : List Command → List Entry → List Dated → List ℕ → AnsweredLine → List ℕ → Type 0
+IsTold commands history basis dry answered text =
+    IsToldText answered.clerk answered.line answered.first.1.reply
+    (commands ++ accepted_of (take answered.first.0 history)) basis (Contains dry answered.first.0) text
+
+-- a posting of the command was answered `fault` when just these were accepted
+pub record WasFaulted (history : List Entry) (held : List Command) (command : Command) : Type 0 where
+  pub before : List Entry
+  pub caller : ℕ
+  pub count : ℕ
+  pub after : List Entry
+  pub turns : history ≡ before ++ (record { caller = caller; call = PostCall command; reply = Faulted count }) ∷ after
+  pub then : accepted_of before ≡ held
+
+-- the image opens to the commands from before and these, and to at most one more, whose posting was answered `fault` then
+abbrev pub IsThere : (List ℕ → List Command → Type 0) → List Command → List Entry → List Command → List ℕ → Type 0
+IsThere Opens commands history held image =
+    Opens image (commands ++ held)
+    ⊎ ((command : Command) × WasFaulted history held command × Opens image (commands ++ held ++ command ∷ []))
+
+-- The run of these lanes, by a basis, with a disk before and after it.
+pub record IsPromised {D : Type 0} (g : Ghosts D) (Opens : List ℕ → List Command → Type 0) (old new : D) (lanes : List Lane)
+    (basis : List Dated) (output : Stream) (status : ℕ) : Type 0 where
+  -- one history, legal from the commands of the file on
+  pub commands : List Command
+  pub history : List Entry
+  pub opened : g.honest new → Opens (g.reads old) commands
+  pub legal : IsLegal (opened_on commands (g.faults old)) history
+  -- in which each lane's lines stand once, in order, by a caller of its own
+  pub callers : List ℕ
+  pub dry : List ℕ
+  pub lines : List AnsweredLine
+  pub distinct : IsDistinct nat_eq callers
+  pub theirs : AllByRecursion (λ entry. Contains callers entry.caller) history
+  pub answered : AreLinesOf lines history lanes callers dry
+  -- a front of the transcript was written, and all of it at the statuses 0 and 8; the auditors' lines stand behind
+  pub texts : List (List ℕ)
+  pub behind : List ℕ
+  pub told : AllZip (IsTold commands history basis dry) lines texts
+  pub wrote : (n : ℕ) × Appends output.before output.after (take n (flat_map (λ (text : List ℕ). text) texts ++ behind))
+  pub whole : (status ≡ 0) ⊎ (status ≡ 8)
+      → Appends output.before output.after (flat_map (λ (text : List ℕ). text) texts ++ behind)
+  -- a crash after the run leaves all that was accepted; one within it what a crash before it left, or a front of these;
+  -- and from a moment on, which is one of the run, it leaves at least what was accepted in any beginning of the history
+  pub now : g.honest new → (image : List ℕ) → g.may_leave new image
+      → IsThere Opens commands history (accepted_of history) image
+  pub since : g.honest new → (image : List ℕ) → g.left_since new (g.clock old) image → g.may_leave old image
+      ⊎ ((held rest : List Command) × (accepted_of history ≡ held ++ rest) × IsThere Opens commands history held image)
+  pub kept : g.honest new → (front rest : List Entry) → history ≡ front ++ rest → (moment : ℕ)
+      × (g.clock old ≤ moment) × (moment ≤ g.clock new) × ((image : List ℕ) → g.left_since new moment image
+      → (more : List Command) × Opens image (commands ++ accepted_of front ++ more))
+
+-- A run in which no line was answered: one line says why, and a crash leaves what it might have left before, or what opens
+-- to what the file did.
+pub record IsUnrun {D : Type 0} (g : Ghosts D) (Opens : List ℕ → List Command → Type 0) (old new : D) (output : Stream)
+    (status : ℕ) : Type 0 where
+  pub failed : status ≢ 0
+  pub line : (why : List ℕ) × WroteOrFailed output why
+  pub since : g.honest new → (image : List ℕ) → g.left_since new (g.clock old) image → g.may_leave old image
+      ⊎ ((commands : List Command) × Opens (g.reads old) commands × Opens image commands)
+
+-- the basis that a run of these lanes is given: where a line asks for values, files that the shelf's answers agree with make
+-- it under this name, and else it is none
+abbrev pub IsGivenBasis : List Lane → List ℕ → Shelving → List Dated → Type 0
+IsGivenBasis lanes name shelf basis =
+    ((asks_for_values lanes ≡ false) × (basis ≡ []))
+    ⊎ ((asks_for_values lanes ≡ true) × ((files : Files) × shelf.Agrees files × IsBasis files name basis))

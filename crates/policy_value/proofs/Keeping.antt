@@ -1,0 +1,95 @@
+-- What a cache keeps is right, and stays so.
+use Rattle.std.proofs.Common.{rules, ◌≡◌, ℕ, Bool, true, List, get_or, All, Contains, Result, Ok, Err, OnOk, OnErr, Option, Some, None, IfSome, sym, ap, subst, ◌∙◌, inl, inr}
+use Rattle.std.proofs.lemmas.List.Elements.{All-weaker, All-contains, All-contains_itself}
+use Rattle.std.specs.Map.{lookup}
+use Rattle.rate_table.specs.Rates.{Rates}
+use Rattle.present_value.specs.Ends.{IsColumn}
+use Rattle.basis_book.specs.Dated.{Dated}
+use Rattle.policy_value.specs.Caches.{IsRowOf, IsRightColumn, IsRightPremium}
+use Rattle.policy_value.specs.declared.key.CacheKey.{CacheKey}
+use Rattle.policy_value.specs.contracts.key.CacheKeyPartialEq.TheImpl.{eq-value}
+use Rattle.std.specs.Cmp.Rules.{comparing, hashing}
+use Rattle.rate_table.specs.declared.shape.Shape.{Shape}
+use Rattle.plan_benefits.specs.Shapes.{shape_of}
+use Rattle.present_value.specs.Sums.{cover_of}
+use Rattle.present_value.specs.Premium.{cap_of}
+use Rattle.crvm_reserve.specs.Made.{premium_of}
+use Rattle.crvm_reserve.specs.declared.premium.Premium.{Premium}
+use Rattle.policy_value.specs.inside.Kept.{IsKeptAt}
+use Rattle.policy_value.specs.declared.columns.ColumnKey.{ColumnKey}
+use Rattle.policy_value.specs.declared.columns.KeptColumn.{KeptColumn}
+use Rattle.lru.specs.LruCache.{LruCache, lru_cache, promoted, put_entries}
+use Rattle.lru.proofs.CallerLemmas.{Contains-promoted, Contains-lookup, Contains-put_entries}
+
+module _ {X : Type 0} (P : X → Type 0) where
+  All-from_contains : (xs : List X) → ((x : X) → Contains xs x → P x) → All P xs
+  All-from_contains xs f = All-weaker (Contains xs) P f xs (All-contains_itself xs)
+
+module _ {K V : Type 0} (P : K × V → Type 0) where
+  -- no entry comes in when one is moved to the front
+  pub All-promoted : (test : K → Bool) (es : List (K × V)) → All P es → All P (promoted test es)
+  All-promoted test es all = All-from_contains P (promoted test es) (λ e at. All-contains P es e all (Contains-promoted test es e at))
+
+  -- what is found is what its key says
+  pub found_right : (test : K → Bool) (key : K) (es : List (K × V)) (o : Option V) → o ≡ lookup test es → ((k : K) → test k ≡ true → key ≡ k) → All P es
+      → IfSome o (λ v. P (key, v))
+  found_right test key es None is same all = tt
+  found_right test key es (Some v) is same all =
+      let found = Contains-lookup test es v (sym is) in
+      subst (λ (k : K). P (k, v)) (sym (same found.0 found.2)) (All-contains P es (found.0, v) all found.1)
+
+  -- a pair that is put in is right if the pair is
+  pub All-put : (eq : K → K → Bool) (c : LruCache K V) (key : K) (v : V) → ((k : K) → eq key k ≡ true → key ≡ k) → P (key, v) → All P c.entries → All P (put_entries eq c key v)
+  All-put eq c key v same new all = All-from_contains P (put_entries eq c key v) (λ e at. elim (Contains-put_entries eq c key v e at) [
+    | inl was ↦ All-contains P c.entries e all was
+    | inr put ↦ elim put.1 [
+      | inl k ↦ subst P (pair_is e (sym k) (sym put.0)) new
+      | inr w ↦ subst P (pair_is e (same e.0 w.2) (sym put.0)) new
+    ]
+  ])
+    where
+      pair_is : (e : K × V) → key ≡ e.0 → v ≡ e.1 → (key, v) ≡ e
+      pair_is e k w = ap (λ (j : K). (j, v)) k ∙ ap (λ (x : V). (e.0, x)) w
+
+  -- put or not for want of memory
+  pub All-after_put : {X E : Type 0} (eq : K → K → Bool) (c new : LruCache K V) (key : K) (v : V) (r : Result X E)
+      → OnOk r (new ≡ lru_cache (put_entries eq c key v) c.cap) → OnErr r (new ≡ c) → ((k : K) → eq key k ≡ true → key ≡ k) → P (key, v) → All P c.entries → All P new.entries
+  All-after_put eq c new key v (Ok x) put stays same right all = rw put (All-put eq c key v same right all)
+  All-after_put eq c new key v (Err e) put stays same right all = rw stays all
+
+-- keys that are equal are one
+pub same_key : (key other : CacheKey) → eq-value.it key other ≡ true → key ≡ other
+same_key key other is = search (comparing, hashing, rules)
+
+-- a place of a basis has one row
+pub one_row : (basis : List Dated) (place : ℕ) (table other : Rates) (bp more : ℕ) → IsRowOf basis place table bp → IsRowOf basis place other more
+    → (table ≡ other) × (bp ≡ more)
+one_row basis place table other bp more row again =
+    let found = row.1 in
+    let found' = again.1 in
+    let same : row.0 ≡ again.0 = cc in
+    (row.2 ∙ ap (λ (e : Dated). e.table) same ∙ sym again.2, row.3 ∙ ap (λ (e : Dated). e.bp) same ∙ sym again.3)
+
+-- the column that lies where that of a key is kept
+pub kept_right : (basis : List Dated) (columns : List KeptColumn) (place : ℕ) (key : ColumnKey) (table : Rates) (bp : ℕ) (none : KeptColumn)
+    → All (IsRightColumn basis) columns → IsKeptAt columns place key → IsRowOf basis key.basis_row table bp
+    → IsColumn table bp (get_or columns place none).column
+kept_right basis columns place key table bp none all at row =
+    all place none at.within table bp (subst (λ (p : ℕ). IsRowOf basis p table bp) (sym (at.here none).0) row)
+
+-- a column by a row of the basis is right by it
+pub by_row : (basis : List Dated) (table : Rates) (bp : ℕ) (kept : KeptColumn) → IsRowOf basis kept.basis_row table bp → IsColumn table bp kept.column
+    → IsRightColumn basis kept
+by_row basis table bp kept row is other more again =
+    let same = one_row basis kept.basis_row table other bp more row again in
+    rw (← same.0, ← same.1) is
+
+-- a premium by a row of the basis is right by it
+pub premium_by_row : (basis : List Dated) (table : Rates) (bp : ℕ) (key : CacheKey) (shape : Shape) (premium : Premium) → IsRowOf basis key.basis_row table bp
+    → shape_of key.plan key.age key.years table ≡ Ok shape → premium ≡ premium_of (cover_of table shape bp) (cap_of table shape.age bp)
+    → IsRightPremium basis (key, premium)
+premium_by_row basis table bp key shape premium row has is other more again row' has' =
+    let same = one_row basis key.basis_row table other bp more row row' in
+    let has'' = rw (← same.0) at has' in
+    let one : shape ≡ again = cc in
+    rw (← same.0, ← same.1, ← one) is

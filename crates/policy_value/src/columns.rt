@@ -1,0 +1,225 @@
+// The columns that are kept for policies to come.
+ghost use Rattle.std.specs.Prelude.{◌≡◌, ◌+◌, ◌≤◌, ◌<◌, ◌↔◌, IsTrue, [], List, All, IfOk, length, vec_capacity};
+ghost use Rattle.rate_table.specs.Rates.{AreRates};
+ghost use Rattle.basis_book.specs.Dated.{Dated};
+ghost use Rattle.present_value.specs.Sums.{cover_of};
+ghost use Rattle.present_value.specs.Premium.{cap_of, cap_shape};
+ghost use Rattle.crvm_reserve.specs.Made.{CanReserve, premium_of};
+ghost use Rattle.present_value.specs.Ends.{AreValuesAt, CanEnd, IsColumn, value_to};
+ghost use Rattle.present_value.specs.Values.{CanValue};
+ghost use Rattle.policy_value.specs.Caches.{IsRowOf, IsRightColumn, IsRightStore, IsStore};
+ghost use Rattle.policy_value.specs.inside.Kept.{IsKeptOf, IsKeptAt, IsNew};
+
+use basis_book::Basis;
+use crvm_reserve::{Premium, PremiumParts, premium_by};
+use policy_types::NoMemory;
+use present_value::{Column, Pair, Stream, Values};
+use rate_table::{RateTable, Shape};
+use std::alloc::Global;
+
+/// So many columns can be found at a time.
+const SLOTS: usize = 8192;
+
+/// What a column depends on: the row of the basis, counted from 0, what is paid, and the age at which that ends.
+#[derive(Clone, Copy, PartialEq, Eq, Debug)]
+pub struct ColumnKey {
+    pub basis_row: u16,
+    pub stream: Stream,
+    pub end: u8,
+}
+
+/// A column, and the row of the basis by which it is computed.
+#[derive(Clone, Copy)]
+pub struct KeptColumn {
+    basis_row: u16,
+    column: Column,
+}
+
+/// The columns that are kept. Where there are as many as there may be, the oldest makes room for a new one.
+#[derive(Drop)]
+pub struct ColumnStore {
+    /// There is room for as many as there may be.
+    kept: Vec<KeptColumn>,
+    /// Where among them a column may lie.
+    places: Vec<u16>,
+    most: usize,
+    oldest: usize,
+}
+
+impl KeptColumn {
+    fn new(key: ColumnKey) -> KeptColumn
+        requires { key.end ≤ 131 }
+        ensures { IsNew key result }
+    {
+        KeptColumn {
+            basis_row: key.basis_row,
+            column: Column::new(key.stream, key.end),
+        }
+    }
+
+    /// Becomes the column of another key.
+    fn restart(&mut self, key: ColumnKey)
+        requires { key.end ≤ 131 }
+        ensures { IsNew key self.new }
+    {
+        self.basis_row = key.basis_row;
+        self.column.restart(key.stream, key.end);
+    }
+
+    fn is_of(&self, key: ColumnKey) -> bool
+        ensures { IsTrue result ↔ IsKeptOf self.now key }
+    {
+        self.basis_row == key.basis_row && self.column.is_of(key.stream, key.end)
+    }
+}
+
+impl ColumnStore {
+    /// A store of at most so many columns.
+    pub fn new(alloc: Global, most: u32) -> Result<ColumnStore, NoMemory>
+        requires { (1 ≤ most) × (most ≤ 65535) }
+        ensures { IfOk result (λ store. (basis : List Dated) → IsRightStore basis store) }
+    {
+        let most = most as usize;
+        let Ok(kept) = Vec::with_capacity(alloc, most) else {
+            return Err(NoMemory);
+        };
+        let Ok(places) = Vec::from_elem(alloc, 0, SLOTS) else {
+            return Err(NoMemory);
+        };
+        Ok(ColumnStore {
+            kept,
+            places,
+            most,
+            oldest: 0,
+        })
+    }
+
+    /// The modified net premium of a shape by a row of the basis, with the shape of its cap.
+    pub fn premium(
+        &mut self,
+        basis: &Basis,
+        basis_row: u16,
+        table: &RateTable,
+        bp: u16,
+        shape: &Shape,
+        cap: &Shape,
+    ) -> Premium
+        requires right { IsRightStore basis.now self.old }
+        requires row { IsRowOf basis.now basis_row table.now bp }
+        requires can { CanReserve table.now shape.now bp }
+        requires cap { cap.now ≡ cap_shape table.now shape.now.age }
+        requires ages { AreRates table.now }
+        ensures premium { result ≡ premium_of (cover_of table.now shape.now bp) (cap_of table.now shape.now.age bp) }
+        ensures right { IsRightStore basis.now self.new }
+    {
+        premium_by(PremiumParts {
+            rate: table.rate(shape.age).unwrap(),
+            bp,
+            issue: self.values(basis, basis_row, table, bp, shape, 0),
+            renewal: self.values(basis, basis_row, table, bp, shape, 1),
+            limit: self.values(basis, basis_row, table, bp, cap, 0),
+        })
+    }
+
+    /// The values of a shape at year `t`, by a row of the basis.
+    pub fn values(
+        &mut self,
+        basis: &Basis,
+        basis_row: u16,
+        table: &RateTable,
+        bp: u16,
+        shape: &Shape,
+        t: u8,
+    ) -> Values
+        requires right { IsRightStore basis.now self.old }
+        requires row { IsRowOf basis.now basis_row table.now bp }
+        requires can { CanValue table.now shape.now bp }
+        requires year { t ≤ shape.now.n }
+        requires ages { AreRates table.now }
+        ensures values { AreValuesAt (cover_of table.now shape.now bp) t result }
+        ensures right { IsRightStore basis.now self.new }
+    {
+        let benefits = ColumnKey {
+            basis_row,
+            stream: Stream::of_benefits(shape.matures),
+            end: shape.age + shape.n,
+        };
+        let ben = self.value(basis, table, bp, benefits, shape.age + t);
+        if t >= shape.h {
+            let ann = Pair { lo: 0, hi: 0 };
+            return Values { ben, ann };
+        }
+        let premiums = ColumnKey {
+            basis_row,
+            stream: Stream::Annuity,
+            end: shape.age + shape.h,
+        };
+        let ann = self.value(basis, table, bp, premiums, shape.age + t);
+        Values { ben, ann }
+    }
+
+    /// The value at an age in the column of a key.
+    fn value(&mut self, basis: &Basis, table: &RateTable, bp: u16, key: ColumnKey, age: u8) -> Pair
+        requires right { IsRightStore basis.now self.old }
+        requires row { IsRowOf basis.now key.basis_row table.now bp }
+        requires can { CanEnd table.now bp key.end age }
+        requires end { key.end ≤ 131 }
+        ensures value { result ≡ value_to table.now bp key.stream key.end age }
+        ensures right { IsRightStore basis.now self.new }
+    {
+        let place = self.place_of(key);
+        self.kept[place].column.at(table, bp, age)
+    }
+
+    /// Where the column of a key lies, which is kept from now on.
+    fn place_of(&mut self, key: ColumnKey) -> usize
+        requires store { IsStore self.old }
+        requires end { key.end ≤ 131 }
+        ensures store { IsStore self.new }
+        ensures right { (basis : List Dated) → All (IsRightColumn basis) self.old.kept.items
+            → All (IsRightColumn basis) self.new.kept.items }
+        ensures kept { IsKeptAt self.new.kept.items result key }
+    {
+        let slot = slot_of(key);
+        let place = self.places[slot] as usize;
+        if place < self.kept.len() && self.kept[place].is_of(key) {
+            return place;
+        }
+        let place = self.keep(key);
+        self.places[slot] = place as u16;
+        place
+    }
+
+    /// Keeps a new column, and tells where it lies.
+    fn keep(&mut self, key: ColumnKey) -> usize
+        requires store { IsStore self.old }
+        requires end { key.end ≤ 131 }
+        ensures store { IsStore self.new }
+        ensures right { (basis : List Dated) → All (IsRightColumn basis) self.old.kept.items
+            → All (IsRightColumn basis) self.new.kept.items }
+        ensures kept { IsKeptAt self.new.kept.items result key }
+        ensures few { result < 65535 }
+    {
+        let count = self.kept.len();
+        if count < self.most {
+            self.kept.push_reserved(KeptColumn::new(key));
+            return count;
+        }
+        let place = self.oldest;
+        self.oldest = if place + 1 < self.most { place + 1 } else { 0 };
+        self.kept[place].restart(key);
+        place
+    }
+}
+
+/// Where it is written where a column lies.
+fn slot_of(key: ColumnKey) -> usize
+    ensures { result < 8192 }
+{
+    let stream = match key.stream {
+        Stream::Insurance => 0,
+        Stream::Endowment => 1,
+        Stream::Annuity => 2,
+    };
+    ((key.basis_row as usize * 3 + stream) * 132 + key.end as usize) % SLOTS
+}

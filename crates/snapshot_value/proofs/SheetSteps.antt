@@ -1,0 +1,90 @@
+-- What a valuation has at hand, before and after it reads and values
+use Rattle.std.proofs.Common.{◌≡◌, ◌≤◌, ℤ, List, [], ◌++◌, length, arith, ap, sym, ◌∙◌, subst, append-nil, append_assoc, Vec, Global}
+use Rattle.std.specs.Vec.{with_items}
+use Rattle.std.specs.List.{AllByRecursion}
+use Rattle.std.proofs.lemmas.List.{with_items_is}
+use Rattle.std.proofs.lemmas.Slice.Zip.{AllZip-long}
+use Rattle.basis_book.specs.Dated.{Dated}
+use Rattle.parallel_value.specs.Pieces.{AreAsBefore, IsAsBefore}
+use Rattle.policy_types.specs.declared.policy.Policy.{Policy}
+use Rattle.policy_machine.specs.Rules.{IsSound}
+use Rattle.policy_value.specs.declared.worth.Row.{Row}
+use Rattle.snapshot_value.specs.declared.worker.Worker.{Worker}
+use Rattle.snapshot_value.specs.declared.worksheet.Worksheet.{Worksheet}
+use Rattle.snapshot_value.specs.inside.Sheets.{AreRows, CanValue, HasMade}
+use Rattle.snapshot_value.specs.inside.Workers.{Gives, IsReady, Takes, ValuesBy}
+use Rattle.snapshot_value.proofs.RowSteps.{all_append, rows_more, rows_none}
+use Rattle.snapshot_value.proofs.WorkerSteps.{by_still, ready_still}
+
+all_none : {X : Type 0} (P : X → Type 0) (xs : List X) → xs ≡ [] → AllByRecursion P xs
+all_none P xs none = subst (AllByRecursion P) (sym none) tt
+
+-- the workers, written back into the memory where they stand
+pub still_with : (workers : Vec Worker Global) (new : List Worker) → AreAsBefore Takes Gives workers.items new
+    → AreAsBefore Takes Gives workers.items (with_items workers new).items
+still_with workers new still =
+    rw (with_items_is workers new (AllZip-long (IsAsBefore Takes Gives) workers.items new still ∙ sym workers.ok.0)) still
+
+-- after they were valued, policies can be read and valued again
+pub can_valued : (old new : Worksheet) → CanValue old → AreAsBefore Takes Gives old.workers.items new.workers.items → new.read.items ≡ []
+    → CanValue new
+can_valued old new can still unread =
+    let many = AllZip-long (IsAsBefore Takes Gives) old.workers.items new.workers.items still in record {
+      some = omega (arith, many, can.some);
+      few = omega (arith, many, can.few);
+      ready = ready_still old.workers.items new.workers.items still can.ready;
+      sound = all_none IsSound new.read.items unread;
+    }
+
+module _ (basis : List Dated) (on : ℤ) where
+  -- nothing yet
+  pub made_none : (sheet : Worksheet) → 1 ≤ length sheet.workers.items → length sheet.workers.items ≤ 64
+      → AllByRecursion IsReady sheet.workers.items → AllByRecursion (ValuesBy basis on) sheet.workers.items
+      → sheet.read.items ≡ [] → sheet.rows.items ≡ [] → HasMade basis on [] sheet
+  made_none sheet some few ready by unread unmade = record {
+    can = record { some = some; few = few; ready = ready; sound = all_none IsSound sheet.read.items unread };
+    by = by;
+    valued = [];
+    all = sym unread;
+    rows = subst (AreRows basis on []) (sym unmade) (rows_none basis on);
+  }
+
+  module _ (policies : List Policy) (old new : Worksheet) (made : HasMade basis on policies old) where
+    -- more was read
+    pub made_put : (part : List Policy) → AllByRecursion IsSound part → new.workers.items ≡ old.workers.items → new.rows.items ≡ old.rows.items
+        → new.read.items ≡ old.read.items ++ part → HasMade basis on (policies ++ part) new
+    made_put part sound same rows longer = record {
+      can = record {
+        some = subst (λ (ws : List Worker). 1 ≤ length ws) (sym same) made.can.some;
+        few = subst (λ (ws : List Worker). length ws ≤ 64) (sym same) made.can.few;
+        ready = subst (AllByRecursion IsReady) (sym same) made.can.ready;
+        sound = subst (AllByRecursion IsSound) (sym longer) (all_append IsSound old.read.items part made.can.sound sound);
+      };
+      by = subst (AllByRecursion (ValuesBy basis on)) (sym same) made.by;
+      valued = made.valued;
+      all =
+          ap (λ (ps : List Policy). ps ++ part) made.all ∙ append_assoc made.valued old.read.items part
+          ∙ ap (λ read. made.valued ++ read) (sym longer);
+      rows = subst (AreRows basis on made.valued) (sym rows) made.rows;
+    }
+
+    -- what was read is valued
+    pub made_valued : (values : List Row) → AreAsBefore Takes Gives old.workers.items new.workers.items → AreRows basis on old.read.items values
+        → new.read.items ≡ [] → new.rows.items ≡ old.rows.items ++ values → HasMade basis on policies new
+    made_valued values still are unread longer = record {
+      can = can_valued old new made.can still unread;
+      by = by_still basis on old.workers.items new.workers.items still made.by;
+      valued = policies;
+      all = sym (ap (λ read. policies ++ read) unread ∙ append-nil policies);
+      rows =
+          subst (AreRows basis on policies) (sym longer)
+          (subst (λ ps. AreRows basis on ps (old.rows.items ++ values)) (sym made.all)
+          (rows_more basis on made.valued old.read.items old.rows.items values made.rows are));
+    }
+
+  -- all that was read has its row
+  pub made_all : (policies : List Policy) (sheet : Worksheet) → HasMade basis on policies sheet → sheet.read.items ≡ []
+      → AreRows basis on policies sheet.rows.items
+  made_all policies sheet made unread =
+      subst (λ ps. AreRows basis on ps sheet.rows.items)
+      (sym (made.all ∙ ap (λ read. made.valued ++ read) unread ∙ append-nil made.valued)) made.rows

@@ -1,0 +1,49 @@
+-- Workers, before and after their work
+use Rattle.std.proofs.Common.{List, [], ◌∷◌, ℤ, inl, inr}
+use Rattle.std.specs.List.{AllByRecursion}
+use Rattle.basis_book.specs.Dated.{Dated}
+use Rattle.parallel_value.specs.Pieces.{AreAsBefore, AreValues, MayGive, TakeAll}
+use Rattle.parallel_value.proofs.PieceSteps.{all_more, zip_more}
+use Rattle.policy_types.specs.declared.policy.Policy.{Policy}
+use Rattle.policy_machine.specs.Rules.{IsSound}
+use Rattle.policy_value.specs.declared.worth.Row.{Row}
+use Rattle.snapshot_value.specs.declared.worker.Worker.{Worker}
+use Rattle.snapshot_value.specs.inside.Sheets.{AreRows}
+use Rattle.snapshot_value.specs.inside.Workers.{Gives, IsReady, IsSmallRow, Takes, ValuesBy}
+use Rattle.snapshot_value.proofs.RowSteps.{rows_each}
+
+-- workers that are ready take sound policies
+pub ready_take : (workers : List Worker) (policies : List Policy) → AllByRecursion IsReady workers → AllByRecursion IsSound policies
+    → TakeAll Takes workers policies
+ready_take workers policies ready sound =
+    all_more IsReady (λ (worker : Worker). AllByRecursion (Takes worker) policies) workers
+    (λ worker takes. all_more IsSound (Takes worker) policies takes sound) ready
+
+-- and still do afterwards
+pub ready_still : (old new : List Worker) → AreAsBefore Takes Gives old new → AllByRecursion IsReady old → AllByRecursion IsReady new
+ready_still [] [] all ready = tt
+ready_still [] (w ∷ new) all ready = absurd all
+ready_still (v ∷ old) [] all ready = absurd all
+ready_still (v ∷ old) (w ∷ new) all ready =
+    (λ policy sound. all.0.takes_still policy (ready.0 policy sound), ready_still old new all.1 ready.1)
+
+module _ (basis : List Dated) (on : ℤ) where
+  pub by_still : (old new : List Worker) → AreAsBefore Takes Gives old new → AllByRecursion (ValuesBy basis on) old
+      → AllByRecursion (ValuesBy basis on) new
+  by_still [] [] all by = tt
+  by_still [] (w ∷ new) all by = absurd all
+  by_still (v ∷ old) [] all by = absurd all
+  by_still (v ∷ old) (w ∷ new) all by =
+      (λ policy row given. by.0 policy row (all.0.gives_only policy row given), by_still old new all.1 by.1)
+
+  -- what one of them gives is the policy's row
+  may_value : (workers : List Worker) → AllByRecursion (ValuesBy basis on) workers → (policy : Policy) (row : Row)
+      → MayGive Gives workers policy row → IsSmallRow basis on policy row
+  may_value [] by policy row may = absurd may
+  may_value (w ∷ workers) by policy row (inl given) = by.0 policy row given
+  may_value (w ∷ workers) by policy row (inr may) = may_value workers by.1 policy row may
+
+  pub given_rows : (workers : List Worker) (policies : List Policy) (rows : List Row) → AllByRecursion (ValuesBy basis on) workers
+      → AreValues Gives workers policies rows → AreRows basis on policies rows
+  given_rows workers policies rows by given =
+      rows_each basis on policies rows (zip_more (MayGive Gives workers) (IsSmallRow basis on) policies rows (may_value workers by) given)

@@ -1,0 +1,12 @@
+use Rattle.std.proofs.Common.{◌≡◌, ◌≤◌, length, vec_capacity}
+use Rattle.std.specs.List.{AllByRecursion}
+use Rattle.snapshot_value.specs.inside.Workers.{IsReady, ValuesBy}
+use Rattle.snapshot_value.proofs.worksheet.workers_for.Given as goal
+
+abbrev pub invariant-loop : goal.invariant-loop
+invariant-loop l = record {
+  room : l.fn.many ≤ vec_capacity l.workers;
+  many : length l.workers.items ≡ l.counter;
+  ready : AllByRecursion IsReady l.workers.items;
+  by : AllByRecursion (ValuesBy l.basis l.on) l.workers.items;
+}

@@ -1,0 +1,31 @@
+-- What a valuation has at hand between two reads
+use Rattle.std.specs.Prelude.{◌≡◌, ◌≤◌, ℤ, List, ◌++◌, length}
+use Rattle.std.specs.List.{AllByRecursion, AllZip}
+use Rattle.basis_book.specs.Dated.{Dated}
+use Rattle.policy_types.specs.declared.policy.Policy.{Policy}
+use Rattle.policy_machine.specs.Rules.{IsSound}
+use Rattle.policy_value.specs.Rows.{IsWithinAmount}
+use Rattle.policy_value.specs.declared.worth.Row.{Row}
+use Rattle.snapshot_value.specs.Valuing.{IsValuedRow, most_amount}
+use Rattle.snapshot_value.specs.declared.worksheet.Worksheet.{Worksheet}
+use Rattle.snapshot_value.specs.inside.Workers.{IsReady, ValuesBy}
+
+-- the rows of the policies, one for each and in their order, each within what a policy may insure
+pub record AreRows (basis : List Dated) (on : ℤ) (policies : List Policy) (rows : List Row) : Type 0 where
+  pub each : AllZip (IsValuedRow basis on) policies rows
+  pub within : AllByRecursion (λ (row : Row). IsWithinAmount most_amount row.worth) rows
+
+-- the policies that were read can be valued
+pub record CanValue (sheet : Worksheet) : Type 0 where
+  pub some : 1 ≤ length sheet.workers.items
+  pub few : length sheet.workers.items ≤ 64
+  pub ready : AllByRecursion IsReady sheet.workers.items
+  pub sound : AllByRecursion IsSound sheet.read.items
+
+-- Of the policies, in order, the first have their rows by this basis on this day, and the others were read and are at hand.
+pub record HasMade (basis : List Dated) (on : ℤ) (policies : List Policy) (sheet : Worksheet) : Type 0 where
+  pub can : CanValue sheet
+  pub by : AllByRecursion (ValuesBy basis on) sheet.workers.items
+  pub valued : List Policy
+  pub all : policies ≡ valued ++ sheet.read.items
+  pub rows : AreRows basis on valued sheet.rows.items
