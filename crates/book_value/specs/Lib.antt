@@ -1,3 +1,2 @@
 pub mod Valuing
-pub mod Worked
 pub mod inside

@@ -2,7 +2,5 @@
 #![tactic(auto)]
 
 mod valuing;
-mod worked;
 
 pub use valuing::value;
-pub use worked::valuations_by_hand;

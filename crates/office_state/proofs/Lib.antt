@@ -11,4 +11,3 @@ pub mod KeptSteps
 pub mod TurnSteps
 pub mod PinTurns
 pub mod WindowSteps
-pub mod WorkedOffices

@@ -17,7 +17,6 @@ mod replaying;
 mod state;
 mod trimming;
 mod windows;
-mod worked;
 
 pub use answer::Answer;
 pub use batches::Batch;
@@ -25,4 +24,3 @@ pub use faults::{StartCause, StartFault};
 pub use held::{Held, PinInfo};
 pub use laws::{one_cause_of_refusal, one_list_of_commands, refused_files_open_to_none};
 pub use state::OfficeState;
-pub use worked::{faults_by_hand, offices_by_hand, shown_by_hand};

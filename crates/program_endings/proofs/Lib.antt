@@ -6,4 +6,3 @@ pub mod ReadOnlySteps
 pub mod BasisSteps
 pub mod BlockSteps
 pub mod StatusSteps
-pub mod WorkedEndings

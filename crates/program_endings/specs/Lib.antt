@@ -5,4 +5,3 @@ pub mod Refusals
 pub mod WithoutBasis
 pub mod Texts
 pub mod Blocks
-pub mod Worked

@@ -8,8 +8,6 @@ mod devices;
 #[cfg(test)]
 mod disk_tests;
 #[cfg(test)]
-mod hostile_tests;
-#[cfg(test)]
 mod load_tests;
 #[cfg(test)]
 mod lying_disk;

@@ -1,5 +1,4 @@
 pub mod Script
 pub mod Outcome
 pub mod Running
-pub mod Worked
 pub mod inside

@@ -1,4 +1,3 @@
 pub mod Generating
 pub mod Loading
-pub mod Worked
 pub mod inside

@@ -3,8 +3,6 @@
 
 mod generating;
 mod loading;
-mod worked;
 
 pub use generating::generate;
 pub use loading::load;
-pub use worked::loads_by_hand;
