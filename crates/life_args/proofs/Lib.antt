@@ -9,3 +9,4 @@ pub mod Once
 pub mod Answering
 pub mod Saying
 pub mod Either
+pub mod WorkedWords
