@@ -104,7 +104,7 @@ fn a_file_that_was_cut_fails(rt: HostRuntime) -> Result<(), Fail> {
 }
 
 // A file that was removed, replaced or cut isn't written on as if it were there: the next sync or write past the end is
-// a fault. One whose name is a symbolic link is that to which the link leads.
+// a fault, and each one after it, were the file put back. One whose name is a symbolic link is that to which the link leads.
 #[test]
 fn a_file_that_was_taken_away_fails(rt: HostRuntime) -> Result<(), Fail> {
     let name = "outside_io_taken.test";
@@ -126,7 +126,7 @@ fn a_file_that_was_taken_away_fails(rt: HostRuntime) -> Result<(), Fail> {
     fs::rename(&rt, other, name)?;
     let put_back = (disk.sync(), disk.faults());
     assert!(rt; (cut, renamed) == ((Err(Failed), 1), (Err(Failed), 1)));
-    assert!(rt; (replaced, put_back) == ((Err(Failed), 2), (Ok(()), 2)));
+    assert!(rt; (replaced, put_back) == ((Err(Failed), 2), (Err(Failed), 3)));
     drop(disk);
     fs::rename(&rt, name, other)?;
     symlink(&rt, other, name)?;

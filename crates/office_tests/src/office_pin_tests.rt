@@ -126,12 +126,7 @@ fn positions_that_are_pinned(rt: HostRuntime) -> Result<(), AllocError> {
     Ok(())
 }
 
-// What may go from one thread to another.
-fn sent<T: Send>(value: T) -> T {
-    value
-}
-
-// Sixteen pins are taken, and the next only once one of them was given up. The office may go to another thread between.
+// Sixteen pins are taken, and the next only once one of them was given up.
 #[test]
 fn seventeen_pins(rt: HostRuntime) -> Result<(), AllocError> {
     let alloc = rt.alloc();
@@ -141,7 +136,6 @@ fn seventeen_pins(rt: HostRuntime) -> Result<(), AllocError> {
     for number in 0..16 {
         assert!(rt; pins_so(&mut desk, Pinning::Now(pinned(number, 0, 0))));
     }
-    let mut desk = sent(desk);
     let rows = [
         Pinning::Now(Err(PinRefusal::PinsFull)),
         Pinning::At(1, Err(PinRefusal::Ahead(0))),

@@ -48,7 +48,7 @@ fn posts(desk: &mut Desk<NoWatchers>, from: usize, to: usize) -> bool {
 // How many versions a floor leaves of so many commands: those after it, and one of each policy that one of the others names.
 fn needed(floor: usize, count: usize) -> usize {
     let script = script();
-    let mut kept = 0;
+    let mut kept: usize = 0;
     for place in 0..count.min(COMMANDS) {
         let id = script[place].id();
         let later = script
@@ -57,7 +57,7 @@ fn needed(floor: usize, count: usize) -> usize {
             .skip(place + 1)
             .any(|other| other.id() == id);
         if floor <= place || !later {
-            kept += 1;
+            kept = kept.saturating_add(1);
         }
     }
     kept
@@ -145,7 +145,8 @@ fn a_trim_after_each_command(rt: HostRuntime) -> Result<(), AllocError> {
         panic!(rt; "no office");
     };
     let policies = [1, 1, 2, 2, 2, 3, 3, 3, 3, 3, 3, 3];
-    for (place, many) in (0..12u32).zip(policies) {
+    for place in 0..12u32 {
+        let many = policies[place as usize];
         assert!(rt; posts(&mut desk, place as usize, place as usize + 1));
         assert!(rt; pins_so(&mut desk, Pinning::Trim(place + 1)));
         assert_eq!(rt; desk.office.kept(), many);

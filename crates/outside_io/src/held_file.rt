@@ -5,13 +5,15 @@ use std::os::unix::fs::{FileExt, MetadataExt};
 use std::rt::Files;
 use std::{fs, io};
 
-// A file that was opened under a name: which file it is, and how long it has been so far.
+// A file that was opened under a name: which file it is, how long it has been so far, and whether it was found to be cut,
+// or no longer there. From then on it is not written to.
 #[derive(Drop)]
 pub(crate) struct HeldFile {
     file: File,
     device: u64,
     inode: u64,
     length: u64,
+    lost: bool,
 }
 
 impl HeldFile {
@@ -35,6 +37,7 @@ impl HeldFile {
             device: told.dev(),
             inode: told.ino(),
             length: told.len(),
+            lost: false,
         })
     }
 
@@ -42,7 +45,8 @@ impl HeldFile {
     pub(crate) fn length<R: Files<File = File>>(&mut self, files: &R) -> io::Result<u64> {
         let told = ask(files, Asked::Open(&self.file))?.len();
         if told < self.length {
-            return Err(io::Error::from(ErrorKind::UnexpectedEof));
+            self.lost = true;
+            return Err(lost());
         }
         self.length = told;
         Ok(told)
@@ -61,7 +65,7 @@ impl HeldFile {
         bytes: &[u8],
     ) -> io::Result<()> {
         let end = at.saturating_add(bytes.len() as u64);
-        if end > self.length {
+        if end > self.length || self.lost {
             self.look_for(files, name)?;
         }
         self.file.write_all_at(bytes, at)?;
@@ -70,20 +74,38 @@ impl HeldFile {
     }
 
     // Nothing is safe in a file that is no longer under its name, so after a sync it is looked for.
-    pub(crate) fn make_safe<R: Files<File = File>>(&self, files: &R, name: &str) -> io::Result<()> {
+    pub(crate) fn make_safe<R: Files<File = File>>(
+        &mut self,
+        files: &R,
+        name: &str,
+    ) -> io::Result<()> {
         self.file.sync_all()?;
         self.look_for(files, name)
     }
 
-    // Fails where the name stands for no file or for another, or the file was cut.
-    fn look_for<R: Files<File = File>>(&self, files: &R, name: &str) -> io::Result<()> {
-        let found = ask(files, Asked::Named(name))?;
+    // Fails where the name stands for no file or for another, or the file was cut; and ever after.
+    fn look_for<R: Files<File = File>>(&mut self, files: &R, name: &str) -> io::Result<()> {
+        if self.lost {
+            return Err(lost());
+        }
+        let found = match ask(files, Asked::Named(name)) {
+            Ok(found) => found,
+            Err(e) => {
+                self.lost = e.kind() == ErrorKind::NotFound;
+                return Err(e);
+            }
+        };
         let is_same = found.dev() == self.device && found.ino() == self.inode;
-        if !is_same || found.nlink() == 0 || found.len() < self.length {
-            return Err(io::Error::from(ErrorKind::NotFound));
+        self.lost = !is_same || found.nlink() == 0 || found.len() < self.length;
+        if self.lost {
+            return Err(lost());
         }
         Ok(())
     }
+}
+
+fn lost() -> io::Error {
+    io::Error::from(ErrorKind::NotFound)
 }
 
 // The file is safe only once its folder is: where the name is a symbolic link, that in which the file itself lies. A run

@@ -77,7 +77,7 @@ fn long_files_are_refused(rt: HostRuntime) -> Result<(), AllocError> {
     Ok(())
 }
 
-// The shelf is called twice, for the basis and for the table; the disk six times.
+// The shelf is called twice, for the basis and for the table; the disk five times.
 #[test]
 fn failing_devices_are_answered(rt: HostRuntime) -> Result<(), AllocError> {
     let alloc = rt.alloc();
@@ -93,9 +93,9 @@ fn failing_devices_are_answered(rt: HostRuntime) -> Result<(), AllocError> {
             assert!(rt; read.disk.calls() == 0);
         }
     }
-    for call in 1..=7 {
+    for call in 1..=6 {
         let read = value_over(&rt, alloc, &case, &[], &[], &[call])?;
-        if call == 7 {
+        if call == 6 {
             assert!(rt; ends(&read, 0, written));
         } else {
             assert!(rt; ends(&read, 8, "diskfault\n"));
