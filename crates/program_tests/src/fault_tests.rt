@@ -112,7 +112,7 @@ fn holds<R: Threads + Wait + Sync>(
     if ran.status != 8 || again.status != 0 {
         return Ok(false);
     }
-    if ran.output.bytes() == b"diskfault\n" {
+    if ran.output.bytes() == b"diskfault\n".as_slice() {
         return Ok(ids_in(alloc, again.disk.bytes())?.is_empty());
     }
     let faults = faulted(ran.output.bytes());
@@ -128,7 +128,10 @@ fn each_failing_call_is_answered(rt: HostRuntime) -> Result<(), AllocError> {
     let alloc = rt.alloc();
     for call in 1..=u64::from(ALL_CALLS) {
         assert!(rt; holds(&rt, alloc, &[call])?, "call {call}");
-        assert!(rt; holds(&rt, alloc, &[call, call + 1])?, "calls from {call} on");
+        assert!(rt;
+            holds(&rt, alloc, &[call, call + 1])?,
+            "calls from {call} on"
+        );
     }
     Ok(())
 }
@@ -143,12 +146,24 @@ fn each_crash_leaves_what_was_acknowledged(rt: HostRuntime) -> Result<(), Fail> 
     for moment in 0..=ALL_CALLS {
         let acknowledged = (moment.saturating_sub(CREATION_CALLS) / POSTING_CALLS) as usize;
         for keep in [0, 1, 2] {
-            let image = ran.disk.image(alloc, moment, keep).map_err(|_| "no memory")?;
-            assert!(rt; opens_to(&rt, alloc, &image, acknowledged)?, "call {moment}, {keep} writes");
+            let image = ran
+                .disk
+                .image(alloc, moment, keep)
+                .map_err(|_| "no memory")?;
+            assert!(rt;
+                opens_to(&rt, alloc, &image, acknowledged)?,
+                "call {moment}, {keep} writes"
+            );
         }
         for reached in [1, 16, 17, 32, 64] {
-            let image = ran.disk.torn_image(alloc, moment, reached).map_err(|_| "no memory")?;
-            assert!(rt; opens_to(&rt, alloc, &image, acknowledged)?, "call {moment}, {reached} bytes");
+            let image = ran
+                .disk
+                .torn_image(alloc, moment, reached)
+                .map_err(|_| "no memory")?;
+            assert!(rt;
+                opens_to(&rt, alloc, &image, acknowledged)?,
+                "call {moment}, {reached} bytes"
+            );
         }
     }
     Ok(())
