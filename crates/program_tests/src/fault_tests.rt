@@ -112,7 +112,7 @@ fn holds<R: Threads + Wait + Sync>(
     if ran.status != 8 || again.status != 0 {
         return Ok(false);
     }
-    if ran.output.bytes() == b"diskfault\n" {
+    if ran.output.bytes() == b"diskfault\n".as_slice() {
         return Ok(ids_in(alloc, again.disk.bytes())?.is_empty());
     }
     let faults = faulted(ran.output.bytes());
