@@ -12,6 +12,7 @@ use snapshot_value::{Valuation, value};
 use std::alloc::Global;
 use std::sync::Wait;
 use std::test::Fail;
+use std::thread::Threads;
 use watcher_set::{NoWatchers, Watching};
 
 // 2022-01-01, two years after the policies are issued.
@@ -34,7 +35,7 @@ fn post_first<D: Disk, W: Watching, R: Wait>(
 }
 
 // The valuation at a position, where there are turns for it and it has memory.
-fn valued<D: Disk, W: Watching, R: Wait>(
+fn valued<D: Disk, W: Watching, R: Threads + Wait + Sync>(
     rt: &R,
     alloc: Global,
     office: &Office<D, W>,
@@ -55,7 +56,12 @@ fn valued<D: Disk, W: Watching, R: Wait>(
 }
 
 // What an office of so many of the commands values, as it stands.
-fn valued_then<R: Wait>(rt: &R, alloc: Global, basis: &Basis, many: usize) -> Option<Valuation> {
+fn valued_then<R: Threads + Wait + Sync>(
+    rt: &R,
+    alloc: Global,
+    basis: &Basis,
+    many: usize,
+) -> Option<Valuation> {
     let empty = MemoryDisk::new(alloc, Vec::new(alloc), Vec::new(alloc));
     let Ok((office, mut pass)) = Office::start(alloc, empty, NoWatchers) else {
         return None;
@@ -75,7 +81,7 @@ fn are_same(one: &Option<Valuation>, other: &Option<Valuation>) -> bool {
 }
 
 // The first position from one on at which the office, given all commands, values otherwise than one given so many.
-fn first_otherwise<D: Disk, W: Watching, R: Wait>(
+fn first_otherwise<D: Disk, W: Watching, R: Threads + Wait + Sync>(
     rt: &R,
     alloc: Global,
     office: &Office<D, W>,
