@@ -25,6 +25,6 @@ pub record AsksByBasis (policy : Policy) (basis : List Dated) (old new : ColumnC
   pub named : (index : ℕ) → (entry : Dated) → IsPicked basis policy.issued index entry
       → AsksByShape policy index (shape_of policy.plan policy.age policy.years entry.table) old new
 
-pub record Asks (policy : Policy) (basis : List Dated) (on : ℤ) (old new : ColumnCache) : Type 0 where
+pub record UsesCache (policy : Policy) (basis : List Dated) (on : ℤ) (old new : ColumnCache) : Type 0 where
   pub insured : IsInsured policy on → AsksByBasis policy basis old new
   pub uninsured : (IsInsured policy on → ⊥) → new ≡ old

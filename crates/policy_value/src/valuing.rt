@@ -4,7 +4,7 @@ ghost use Rattle.policy_types.specs.Valid.{IsIssue};
 ghost use Rattle.plan_benefits.specs.Shapes.{shape_of};
 ghost use Rattle.rate_table.specs.declared.shape.Shape.{Shape as AShape};
 ghost use Rattle.policy_value.specs.Caches.{IsRightFor, IsRowOf};
-ghost use Rattle.policy_value.specs.Used.{Asks, AsksByBasis, AsksByShape};
+ghost use Rattle.policy_value.specs.Used.{UsesCache, AsksByBasis, AsksByShape};
 ghost use Rattle.policy_value.specs.Rows.{IsInsured, IsValueOf, IsReserveOf, IsWithinAmount, RowOf, IsExact};
 
 use crate::cache::ColumnCache;
@@ -30,7 +30,7 @@ pub fn row(policy: &Policy, basis: &Basis, on: i32, cache: &mut ColumnCache) -> 
         → IsExact policy.now entry.table entry.bp result.t result.worth }
     ensures most { IsWithinAmount policy.now.amount result.worth }
     ensures right { IsRightFor basis.now cache.new }
-    ensures keys { Asks policy.now basis.now on cache.old cache.new }
+    ensures keys { UsesCache policy.now basis.now on cache.old cache.new }
 {
     let (t, worth) = if is_insured(policy, on) {
         value_by_basis(policy, basis, on, cache)
