@@ -24,9 +24,9 @@ AT_ONCE = 2
 KINDS = ["openat", "flock", "statx", "newfstatat", "pread64", "read", "pwrite64", "write", "fsync", "fdatasync"]
 READ, WRITTEN = ["EIO", "EINTR"], ["EIO", "ENOSPC", "EDQUOT", "EINTR"]
 ERRORS = {"openat": WRITTEN, "pwrite64": WRITTEN, "write": WRITTEN, "fsync": WRITTEN, "fdatasync": WRITTEN}
-# Calls that are made again where a signal interrupted them. The program has no handler of a signal, so none of its calls
-# is ever interrupted but by such a trial; a read or a write of a stream, and the length of a file, fail there.
-MADE_AGAIN = ["openat", "flock", "pread64", "pwrite64", "fsync", "fdatasync"]
+# Each of these calls is made again where a signal interrupted it. The program has no handler of a signal, so none of its
+# calls is ever interrupted but by such a trial.
+MADE_AGAIN = KINDS
 # the program holds the folder three times, so that no file takes the place of a closed stream; it does without
 HELD = 3
 
@@ -74,6 +74,8 @@ def record(desk, words):
             first = first or call[1]
             if not opening and (call[2].startswith("clone") or is_record(call)):
                 opening.update({key: counts[first] for key, counts in found.items()})
+                # before a record is written behind the end, the file is looked for
+                opening["statx", JOURNAL] -= bool(is_record(call))
             file = file_of_call(desk, call[3])
             if file:
                 found[call[2], file][call[1]] += 1

@@ -25,20 +25,30 @@ fn images_of_each_moment(rt: HostRuntime) -> Result<(), Fail> {
         disk.bytes() == b"ABCdEFxHIJ".as_slice(),
         "half of what failed is read"
     );
-    assert!(rt; disk.calls().len() == 6);
-    let cases: [(usize, usize, &[u8]); 7] = [
-        (0, 9, b"abcdef"),
-        (1, 0, b"abcdef"),
-        (1, 3, b"abcdEFG"),
-        (2, 0, b"abcdEFGH"),
-        (4, 1, b"AbcdEFGHI"),
-        (5, 0, b"abcdEFGH"),
-        (6, 2, b"ABcdEFxyIJ"),
+    assert!(rt; (disk.calls(), disk.made().len()) == (6, 6));
+    // of the writes not yet synced the first so many are done whole; of each the first so many bytes are
+    let cases: [(u32, u32, &[u8], &[u8]); 12] = [
+        (0, 9, b"abcdef", b"abcdef"),
+        (1, 0, b"abcdef", b"abcdef"),
+        (1, 1, b"abcdEFGH", b"abcdEf"),
+        (1, 3, b"abcdEFGH", b"abcdEFG"),
+        (2, 0, b"abcdEFGH", b"abcdEFGH"),
+        (3, 0, b"abcdEFGH", b"abcdEFGH"),
+        (3, 1, b"ABCdEFGH", b"AbcdEFGH"),
+        (4, 1, b"ABCdEFGH", b"AbcdEFGHI"),
+        (4, 2, b"ABCdEFGHIJ", b"ABcdEFGHIJ"),
+        (5, 0, b"abcdEFGH", b"abcdEFGH"),
+        (6, 2, b"ABCdEFGHIJ", b"ABcdEFxyIJ"),
+        (6, 3, b"ABCdEFxyIJ", b"ABCdEFxyIJ"),
     ];
-    for (moment, keep, want) in cases {
-        assert!(rt; moment <= disk.calls().len());
-        let image = disk.image(alloc, moment, keep)?;
-        assert!(rt; image.as_slice() == want, "after {moment} calls");
+    for (moment, keep, whole, torn) in cases {
+        assert!(rt; moment <= disk.calls());
+        let image = disk.image(alloc, moment, keep).map_err(|_| "no memory")?;
+        assert!(rt; image.as_slice() == whole, "after {moment} calls");
+        let image = disk
+            .torn_image(alloc, moment, keep as usize)
+            .map_err(|_| "no memory")?;
+        assert!(rt; image.as_slice() == torn, "torn, after {moment} calls");
     }
     assert!(rt; ask_length(&mut disk) == Ok(10));
     Ok(())

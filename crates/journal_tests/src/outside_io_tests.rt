@@ -7,6 +7,7 @@ use std::collections::BTreeMap;
 use std::fs;
 use std::fs::{File, OpenOptions};
 use std::io::pipe;
+use std::os::unix::fs::symlink;
 use std::process::Abort;
 use std::test::Fail;
 
@@ -99,6 +100,41 @@ fn a_file_that_was_cut_fails(rt: HostRuntime) -> Result<(), Fail> {
     let cut = disk.read(5, &mut [0; 7]);
     assert!(rt; (cut, disk.faults()) == (Err(Failed), 1));
     fs::remove_file(&rt, name)?;
+    Ok(())
+}
+
+// A file that was removed, replaced or cut isn't written on as if it were there: the next sync or write past the end is
+// a fault, and each one after it, were the file put back. One whose name is a symbolic link is that to which the link leads.
+#[test]
+fn a_file_that_was_taken_away_fails(rt: HostRuntime) -> Result<(), Fail> {
+    let name = "outside_io_taken.test";
+    let other = "outside_io_other.test";
+    let _ = fs::remove_file(&rt, name);
+    let _ = fs::remove_file(&rt, other);
+    let mut disk = FileDisk::at(rt.clone()?, name, AnyFile);
+    assert!(rt; write_and_sync(&mut disk, 0, b"twelve bytes") == Ok(()));
+    OpenOptions::new().write(true).open(&rt, name)?.set_len(8)?;
+    let cut = (disk.sync(), disk.faults());
+    drop(disk);
+    let mut disk = FileDisk::at(rt.clone()?, name, AnyFile);
+    assert!(rt; write_and_sync(&mut disk, 8, b"more") == Ok(()));
+    fs::rename(&rt, name, other)?;
+    let renamed = (disk.sync(), disk.faults());
+    let _ = File::create(&rt, name)?;
+    let replaced = (disk.sync(), disk.faults());
+    fs::remove_file(&rt, name)?;
+    fs::rename(&rt, other, name)?;
+    let put_back = (disk.sync(), disk.faults());
+    assert!(rt; (cut, renamed) == ((Err(Failed), 1), (Err(Failed), 1)));
+    assert!(rt; (replaced, put_back) == ((Err(Failed), 2), (Err(Failed), 3)));
+    drop(disk);
+    fs::rename(&rt, name, other)?;
+    symlink(&rt, other, name)?;
+    let mut linked = FileDisk::at(rt.clone()?, name, AnyFile);
+    assert!(rt; (write_and_sync(&mut linked, 12, b"end"), linked.len()) == (Ok(()), Ok(15)));
+    fs::remove_file(&rt, name)?;
+    assert!(rt; (linked.sync(), linked.faults()) == (Err(Failed), 1));
+    fs::remove_file(&rt, other)?;
     Ok(())
 }
 

@@ -185,8 +185,8 @@ fn records_outlive_reopening(rt: HostRuntime) -> Result<(), Fail> {
         (b'w', 82, 1),
         (b's', 0, 0),
     ];
-    assert!(rt; disk.calls().len() == calls.len());
-    for (call, want) in disk.calls().iter().zip(calls) {
+    assert!(rt; disk.made().len() == calls.len());
+    for (call, want) in disk.made().iter().zip(calls) {
         assert!(rt; told(call) == want);
     }
     assert!(rt; both_stand(disk));
@@ -223,6 +223,98 @@ fn faults_leave_the_journal_clean_or_to_repair(rt: HostRuntime) -> Result<(), Fa
         assert!(rt; gone_on, "call {failing}");
         let want = file_of(alloc, &[&[1], &HEAD, &[1], &[9; 64], &[0]])?;
         assert!(rt; disk.bytes() == want.as_slice(), "call {failing}");
+    }
+    Ok(())
+}
+
+// A journal of so many records, each with its number in its body.
+fn long_file(alloc: Global, records: u32) -> Result<Vec<u8>, AllocError> {
+    let mut bytes = file_of(alloc, &[&[1], &HEAD])?;
+    for n in 0..records {
+        bytes.push(1)?;
+        bytes.extend_from_slice(&n.to_be_bytes())?;
+        bytes.extend_from_slice(&[0; 60])?;
+    }
+    bytes.push(0)?;
+    Ok(bytes)
+}
+
+// The number in the body of a record, as a fresh piece has it from there on, and as it is read alone.
+fn numbers_at(journal: &mut Journal<MemoryDisk>, n: u32) -> Option<(u32, u32)> {
+    if n >= journal.count() {
+        return None;
+    }
+    let mut piece = Piece::new();
+    let Ok(body) = journal.body_from(n, &mut piece) else {
+        return None;
+    };
+    let Ok(alone) = journal.body(n) else {
+        return None;
+    };
+    Some((number_in(&body), number_in(&alone)))
+}
+
+fn number_in(body: &[u8; 64]) -> u32 {
+    u32::from_be_bytes([body[0], body[1], body[2], body[3]])
+}
+
+// The number in the last body of a piece that is read from a record on, if the piece holds just so many.
+fn last_in_piece(journal: &mut Journal<MemoryDisk>, first: u32, many: u32) -> Option<u32> {
+    let mut piece = Piece::new();
+    if first > journal.count() || journal.bodies(first, &mut piece).is_err() {
+        return None;
+    }
+    let last = first.saturating_add(many) - 1;
+    if last == u32::MAX || piece.has_body(last + 1) || !piece.has_body(last) {
+        return None;
+    }
+    Some(number_in(&piece.body(last)))
+}
+
+#[test]
+fn records_are_read_by_pieces(rt: HostRuntime) -> Result<(), Fail> {
+    let alloc = rt.alloc();
+    let bytes = long_file(alloc, 2100)?;
+    let Ok(mut journal) = Journal::start(MemoryDisk::new(alloc, bytes, Vec::new(alloc))) else {
+        return Err(Fail::new("not opened"));
+    };
+    assert!(rt; journal.count() == 2100);
+    for n in [0, 1, 1007, 1008, 2015, 2016, 2099] {
+        assert!(rt; numbers_at(&mut journal, n) == Some((n, n)), "record {n}");
+    }
+    for (first, many, last) in [(0, 1008, 1007), (1008, 1008, 2015), (2016, 84, 2099)] {
+        assert!(rt;
+            last_in_piece(&mut journal, first, many) == Some(last),
+            "from {first}"
+        );
+    }
+    let disk = journal.release();
+    // sync, length, front, three pieces of gates; two reads for each record, one for each piece
+    assert!(rt; disk.calls() == 6 + 2 * 7 + 3);
+    Ok(())
+}
+
+// The last gate, the last body or a gate amid is wrong, far behind the first piece.
+#[test]
+fn long_files_are_opened_or_refused(rt: HostRuntime) -> Result<(), Fail> {
+    let alloc = rt.alloc();
+    for (cut, at, gate, answer) in [
+        (0, 2100, 0, Ok(2100)),
+        (0, 2100, 1, Err(JournalCause::BadRecord(2100))),
+        (1, 2099, 1, Err(JournalCause::BadRecord(2099))),
+        (0, 1008, 2, Ok(1008)),
+        (30, 1500, 0, Ok(1500)),
+    ] {
+        let mut bytes = long_file(alloc, 2100)?;
+        let place = 17 + 65 * at;
+        if place >= bytes.len() {
+            return Err(Fail::new("no such gate"));
+        }
+        bytes[place] = gate;
+        let left = bytes.len().saturating_sub(cut);
+        bytes.truncate(left);
+        let (opened, _) = opened(MemoryDisk::new(alloc, bytes, Vec::new(alloc)));
+        assert!(rt; opened == answer, "gate {at} is {gate}");
     }
     Ok(())
 }

@@ -43,7 +43,7 @@ fn wait_for<R: Wait>(rt: &R, flag: &AtomicBool) {
 }
 
 // Whether the newest position is valued as that of three hundred issues.
-fn value_issues<D: Disk, W: Watching, R: Wait>(
+fn value_issues<D: Disk, W: Watching, R: Threads + Wait + Sync>(
     rt: &R,
     alloc: Global,
     office: &Office<D, W>,
@@ -137,7 +137,7 @@ fn both<D: Disk + Send, W: Watching + Send, R: Threads + Wait + Sync>(
 }
 
 // How many policies there are at last, and the status of the one that lapsed.
-fn at_last<D: Disk, W: Watching, R: Wait>(
+fn at_last<D: Disk, W: Watching, R: Threads + Wait + Sync>(
     rt: &R,
     alloc: Global,
     office: &Office<D, W>,

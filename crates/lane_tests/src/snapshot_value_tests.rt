@@ -14,6 +14,7 @@ use std::alloc::Global;
 use std::cell::Cell;
 use std::sync::Wait;
 use std::test::Fail;
+use std::thread::Threads;
 use turn_lock::Turned;
 use watcher_set::{NoWatchers, Watching};
 
@@ -72,7 +73,7 @@ pub(crate) fn is_of(
 type Case = (At, i32, u32, u32, Row, u64);
 
 // Values at each of the positions, and gives the number of the case that came out otherwise.
-fn first_wrong<D: Disk, W: Watching, R: Wait>(
+fn first_wrong<D: Disk, W: Watching, R: Threads + Wait + Sync>(
     rt: &R,
     alloc: Global,
     office: &Office<D, W>,
@@ -104,7 +105,7 @@ fn first_wrong<D: Disk, W: Watching, R: Wait>(
 }
 
 // The statuses of the first policies now, and the answer at a position of more commands than there are.
-fn now_and_ahead<D: Disk, W: Watching, R: Wait>(
+fn now_and_ahead<D: Disk, W: Watching, R: Threads + Wait + Sync>(
     rt: &R,
     alloc: Global,
     office: &Office<D, W>,

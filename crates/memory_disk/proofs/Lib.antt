@@ -1,3 +1,4 @@
 pub mod Pushed
 pub mod Kept
 pub mod KeptImage
+pub mod TornImage

@@ -1,7 +1,7 @@
 -- What a list of calls makes of a disk that had these bytes at first, all of them safe: what is
 -- read, and the images that a crash may leave.
 use Rattle.std.specs.declared.alloc.Global.{Global}
-use Rattle.std.specs.Prelude.{⊤, Vec, ◌≡◌, ℕ, ◌+◌, ◌/◌, ◌≤◌, Bool, true, false, List, [], ◌∷◌, ◌++◌, length, take, drop, nat_le, if◌then◌else◌, ◌&&◌}
+use Rattle.std.specs.Prelude.{⊤, Vec, ◌≡◌, ℕ, ◌+◌, ◌-◌, ◌/◌, ◌≤◌, Bool, true, false, List, [], ◌∷◌, ◌++◌, length, take, nat_le, if◌then◌else◌, ◌&&◌}
 use Rattle.outside_io.specs.Disks.{put, torn_images}
 use Rattle.memory_disk.specs.declared.disk_call.DiskCall.{DiskCall}
 use Rattle.memory_disk.specs.declared.disk_call.DiskCall.TheVariants.{Write, Sync}
@@ -55,16 +55,30 @@ pub record IsWriteOf (at : ℕ) (bytes : List ℕ) (failed : Bool) (before now :
   pub same : kept.items ≡ bytes
   pub pushed : now ≡ before ++ Write at kept failed ∷ []
 
+-- The image in which of the writes since the last sync the first so many were done whole, and the others not at all.
+-- Here `left` of them are yet to be done.
+abbrev pub kept_after : List ℕ → List ℕ → ℕ → ℕ → List DiskCall → List ℕ
+kept_after bytes image keep left [] = image
+kept_after bytes image keep left (Write at written failed ∷ calls) =
+    kept_after (put bytes at (reaching failed written.items))
+    (if nat_le 1 left then put image at written.items else image) keep (left - 1) calls
+kept_after bytes image keep left (Sync false ∷ calls) = kept_after bytes bytes keep keep calls
+kept_after bytes image keep left (call ∷ calls) = kept_after bytes image keep left calls
+
+-- of a disk that had these bytes at first
+abbrev pub image_of_writes : List ℕ → ℕ → List DiskCall → List ℕ
+image_of_writes first keep calls = kept_after first first keep keep calls
+
 -- a part of a write put on a disk that is long enough for it to begin
 abbrev pub put_within : List ℕ → ℕ → List ℕ → List ℕ
 put_within old at bytes = if nat_le at (length old) then put old at bytes else old
 
 -- The image of these calls in which, of each write since the last sync, the first so many bytes
 -- reached the disk. A write that begins past the image's end is lost.
-abbrev pub kept_after : List ℕ → List ℕ → ℕ → List DiskCall → List ℕ
-kept_after bytes image keep [] = image
-kept_after bytes image keep (Write at written failed ∷ calls) =
-    kept_after (put bytes at (reaching failed written.items))
+abbrev pub torn_after : List ℕ → List ℕ → ℕ → List DiskCall → List ℕ
+torn_after bytes image keep [] = image
+torn_after bytes image keep (Write at written failed ∷ calls) =
+    torn_after (put bytes at (reaching failed written.items))
     (put_within image at (take keep written.items)) keep calls
-kept_after bytes image keep (Sync false ∷ calls) = kept_after bytes bytes keep calls
-kept_after bytes image keep (call ∷ calls) = kept_after bytes image keep calls
+torn_after bytes image keep (Sync false ∷ calls) = torn_after bytes bytes keep calls
+torn_after bytes image keep (call ∷ calls) = torn_after bytes image keep calls

@@ -1,8 +1,8 @@
 -- Laws of the images: what is read is one of them, and time only goes on.
-use Rattle.std.specs.Prelude.{◌≡◌, ℕ, ◌+◌, ◌-◌, ◌/◌, ◌≤◌, max, Bool, true, false, List, [], ◌∷◌, ◌++◌, length, take, drop, nat_le, ◌&&◌, refl}
-use Rattle.std.proofs.Common.{arith, ap, ◌∙◌, append_assoc, length-append}
-use Rattle.std.proofs.Math.Seq.{drop-append-add, take-length}
-use Rattle.std.proofs.lemmas.List.{take_at, drop-drop, length-take, length-take-le, length-drop}
+use Rattle.std.specs.Prelude.{◌≡◌, ℕ, ◌+◌, ◌/◌, ◌≤◌, Bool, true, false, List, [], ◌∷◌, length, nat_le, ◌&&◌, refl}
+use Rattle.std.proofs.Common.{arith}
+use Rattle.std.proofs.Math.Seq.{take-length}
+use Rattle.std.proofs.lemmas.List.{length-take}
 use Rattle.std.proofs.lemmas.Bool.{leb-true}
 use Rattle.outside_io.specs.Disks.{Torn, put}
 use Rattle.outside_io.specs.DiskLaws.{torn_put}

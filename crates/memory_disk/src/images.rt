@@ -1,6 +1,6 @@
 // One image of a moment, made by going through the calls up to then.
-ghost use Rattle.std.specs.Prelude.{◌≡◌, ◌∷◌, ℕ, List, take, IfOk, OnOk};
-ghost use Rattle.memory_disk.specs.History.{put_within, reaching, kept_after};
+ghost use Rattle.std.specs.Prelude.{◌≡◌, ◌-◌, ◌∷◌, ℕ, List, IfOk, OnOk, nat_le, if◌then◌else◌};
+ghost use Rattle.memory_disk.specs.History.{image_of_writes, kept_after};
 ghost use Rattle.outside_io.specs.Disks.{put};
 ghost use Rattle.memory_disk.specs.declared.disk_call.DiskCall.{DiskCall as Call};
 
@@ -8,64 +8,74 @@ use crate::DiskCall;
 use crate::history::{put_over, reaching_part};
 use std::alloc::{AllocError, Global};
 
-// The image in which, of each write since the last sync, the first `keep` bytes reached the disk.
+// What is read, and the image so far, of which so many writes are yet to be done.
+#[derive(Drop)]
+struct Replay {
+    bytes: Vec<u8>,
+    image: Vec<u8>,
+    left: u32,
+}
+
+// The image in which of the writes since the last sync the first `keep` were done whole, and the others not at all.
 pub(crate) fn image_of(
     alloc: Global,
     first: &[u8],
     calls: &[DiskCall],
-    keep: usize,
+    keep: u32,
 ) -> Result<Vec<u8>, AllocError>
-    ensures { IfOk result (λ image. image.items ≡ kept_after first.now first.now keep calls.now) }
+    ensures { IfOk result (λ image. image.items ≡ image_of_writes first.now keep calls.now) }
 {
-    let mut bytes = Vec::from_slice(alloc, first)?;
-    let mut image = Vec::from_slice(alloc, first)?;
+    let mut replay = Replay {
+        bytes: Vec::from_slice(alloc, first)?,
+        image: Vec::from_slice(alloc, first)?,
+        left: keep,
+    };
     for call in calls {
-        go_on(&mut bytes, &mut image, call, keep)?;
+        replay.go_on(call, keep)?;
     }
-    Ok(image)
+    Ok(replay.image)
 }
 
-// One call more.
-fn go_on(
-    bytes: &mut Vec<u8>,
-    image: &mut Vec<u8>,
-    call: &DiskCall,
-    keep: usize,
-) -> Result<(), AllocError>
-    ensures { OnOk result ((rest : List Call) → kept_after bytes.new.items image.new.items keep rest
-        ≡ kept_after bytes.old.items image.old.items keep (call.now ∷ rest)) }
-{
-    match call {
-        DiskCall::Write {
-            at,
-            bytes: written,
-            failed,
-        } => {
-            put_more(bytes, *at as usize, reaching_part(written, *failed))?;
-            put_front(image, *at as usize, written, keep)
+impl Replay {
+    // One call more.
+    fn go_on(&mut self, call: &DiskCall, keep: u32) -> Result<(), AllocError>
+        ensures { OnOk result ((rest : List Call)
+            → kept_after self.new.bytes.items self.new.image.items keep self.new.left rest
+            ≡ kept_after self.old.bytes.items self.old.image.items keep self.old.left (call.now ∷ rest)) }
+    {
+        match call {
+            DiskCall::Write { at, bytes, failed } => {
+                put_more(&mut self.bytes, *at as usize, reaching_part(bytes, *failed))?;
+                self.do_write(*at as usize, bytes)
+            }
+            DiskCall::Sync { failed: false } => {
+                self.left = keep;
+                self.image.clear();
+                self.image.extend_from_slice(&self.bytes)
+            }
+            DiskCall::Sync { failed: true } => Ok(()),
+            DiskCall::Len { .. } => Ok(()),
+            DiskCall::Read { .. } => Ok(()),
         }
-        DiskCall::Sync { failed: false } => {
-            image.clear();
-            image.extend_from_slice(bytes)
-        }
-        DiskCall::Sync { failed: true } => Ok(()),
-        DiskCall::Len { .. } => Ok(()),
-        DiskCall::Read { .. } => Ok(()),
     }
-}
 
-// Puts as many bytes as are kept on a disk that is long enough for them to begin.
-fn put_front(image: &mut Vec<u8>, at: usize, bytes: &[u8], keep: usize) -> Result<(), AllocError>
-    ensures { OnOk result (image.new.items ≡ put_within image.old.items at (take keep bytes.now)) }
-{
-    if at <= image.len() {
-        put_more(image, at, &bytes[..keep.min(bytes.len())])?;
+    // The write is done whole, where one is yet to be done.
+    fn do_write(&mut self, at: usize, bytes: &[u8]) -> Result<(), AllocError>
+        ensures bytes { self.new.bytes ≡ self.old.bytes }
+        ensures left { OnOk result (self.new.left ≡ self.old.left - 1) }
+        ensures image { OnOk result (self.new.image.items
+            ≡ (if nat_le 1 self.old.left then put self.old.image.items at bytes.now else self.old.image.items)) }
+    {
+        if self.left > 0 {
+            self.left -= 1;
+            put_more(&mut self.image, at, bytes)?;
+        }
+        Ok(())
     }
-    Ok(())
 }
 
 // Takes memory, and puts bytes over those that stand from a place on, and past the end.
-fn put_more(target: &mut Vec<u8>, at: usize, bytes: &[u8]) -> Result<(), AllocError>
+pub(crate) fn put_more(target: &mut Vec<u8>, at: usize, bytes: &[u8]) -> Result<(), AllocError>
     ensures { OnOk result (target.new.items ≡ put target.old.items at bytes.now) }
 {
     target.reserve(bytes.len())?;

@@ -1,16 +1,18 @@
 // The disk: a history, and the calls that are to fail.
-ghost use Rattle.std.specs.Prelude.{◌≡◌, ℕ, List, [], ◌∷◌, ◌++◌, ◌+◌, ◌≤◌, false, true, length, take, drop, IfOk, OnOk, OnErr, ⊤, ◌⊎◌};
+ghost use Rattle.std.specs.Prelude.{◌≡◌, ℕ, List, [], ◌∷◌, ◌++◌, ◌+◌, ◌≤◌, false, true, ◌-◌, ◌^◌, length, min, take, drop, IfOk, OnOk, OnErr, ⊤, ◌⊎◌};
 ghost use Rattle.outside_io.specs.Disks.{HasDiskCause, Looks, Writes, Syncs, Elapses};
 ghost use Rattle.outside_io.specs.Plans.{plan_faults, plan_failing, plan_calls};
 ghost use Rattle.memory_disk.specs.Disk.{disk_first, disk_bytes, disk_calls, disk_plan, FollowsPlan, KeepsOrAdds};
-ghost use Rattle.memory_disk.specs.History.{IsImage, WasImage, IsWriteOf, kept_after};
+ghost use Rattle.memory_disk.specs.History.{IsImage, WasImage, IsWriteOf, image_of_writes, torn_after};
 ghost use Rattle.memory_disk.specs.HistoryLaws.{replayed_image, now_counts, only_now_left};
 ghost use Rattle.memory_disk.specs.declared.disk_call.DiskCall.TheVariants.{Len, Read, Sync};
 
 use crate::DiskCall;
 use crate::history::History;
 use crate::images::image_of;
+use crate::torn_images::torn_image_of;
 use outside_io::{Disk, Failed, FaultPlan};
+use policy_types::NoMemory;
 use std::alloc::{AllocError, Global};
 
 /// A disk in memory that follows the disk model. It keeps each call, and fails at the calls whose
@@ -48,26 +50,53 @@ impl MemoryDisk {
         &self.history.bytes
     }
 
-    /// An image that a crash after so many of the calls might have left: that in which, of each
-    /// write since the last sync, the first `keep` bytes reached the disk. A write that begins past
-    /// the image's end is lost.
-    pub fn image(&self, alloc: Global, moment: usize, keep: usize) -> Result<Vec<u8>, AllocError>
+    /// How many calls it had, but for those for whose record there was no memory. The count stands still at its type's
+    /// end.
+    pub fn calls(&self) -> u32
+        ensures { result ≡ min (length (disk_calls self.now)) (2 ^ 32 - 1) }
+    {
+        u32::try_from(self.history.calls.len()).unwrap_or(u32::MAX)
+    }
+
+    /// The bytes after the first `moment` calls, if of the writes not yet synced the first `keep` were done whole and the
+    /// others not at all: an image that a crash then might have left.
+    pub fn image(&self, alloc: Global, moment: u32, keep: u32) -> Result<Vec<u8>, NoMemory>
         requires { moment ≤ length (disk_calls self.now) }
-        ensures kept { IfOk result (λ image. image.items ≡ kept_after (disk_first self.now)
-            (disk_first self.now) keep (take moment (disk_calls self.now))) }
+        ensures kept { IfOk result (λ image. image.items
+            ≡ image_of_writes (disk_first self.now) keep (take moment (disk_calls self.now))) }
         ensures possible { IfOk result (λ image. IsImage (disk_first self.now)
             (take moment (disk_calls self.now)) image.items) }
     {
-        image_of(
-            alloc,
-            self.history.first(),
-            &self.history.calls[..moment],
-            keep,
-        )
+        let calls = &self.history.calls[..moment as usize];
+        match image_of(alloc, self.history.first(), calls, keep) {
+            Ok(image) => Ok(image),
+            Err(AllocError) => Err(NoMemory),
+        }
+    }
+
+    /// An image that a crash after so many of the calls might have left: that in which, of each write since the last sync,
+    /// the first `reached` bytes reached the disk. A write that begins past the image's end is lost.
+    pub fn torn_image(
+        &self,
+        alloc: Global,
+        moment: u32,
+        reached: usize,
+    ) -> Result<Vec<u8>, NoMemory>
+        requires { moment ≤ length (disk_calls self.now) }
+        ensures torn { IfOk result (λ image. image.items ≡ torn_after (disk_first self.now)
+            (disk_first self.now) reached (take moment (disk_calls self.now))) }
+        ensures possible { IfOk result (λ image. IsImage (disk_first self.now)
+            (take moment (disk_calls self.now)) image.items) }
+    {
+        let calls = &self.history.calls[..moment as usize];
+        match torn_image_of(alloc, self.history.first(), calls, reached) {
+            Ok(image) => Ok(image),
+            Err(AllocError) => Err(NoMemory),
+        }
     }
 
     /// All calls, in order.
-    pub fn calls(&self) -> &[DiskCall]
+    pub fn made(&self) -> &[DiskCall]
         ensures { result.now ≡ disk_calls self.now }
     {
         &self.history.calls

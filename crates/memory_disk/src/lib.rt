@@ -6,6 +6,7 @@ mod disk_call;
 mod history;
 mod images;
 mod in_memory;
+mod torn_images;
 
 pub use disk_call::DiskCall;
 pub use in_memory::MemoryDisk;

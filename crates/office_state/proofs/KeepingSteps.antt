@@ -1,17 +1,10 @@
--- What one more accepted command does to what the books keep
-use Rattle.std.proofs.Common.{◌≡◌, ℕ, ◌*◌, ◌-◌, ◌^◌, ◌≤◌, suc, Bool, true, false, cond, ◌==◌, nat_eq, ◌<◌, List, [], ◌∷◌, ◌++◌, map, length, refl, ap, sym, ◌∙◌, subst, Some, None, Option, Ok, append-nil, length-append, arith}
-use Rattle.std.specs.Prelude.{is_ok, is_some, take, slice_get, IsSome}
-use Rattle.std.specs.Option.{option_map}
+-- What the books keep of the accepted commands, and what one more of them does to it
+use Rattle.std.proofs.Common.{◌≡◌, ℕ, ◌+◌, ◌*◌, ◌-◌, ◌^◌, ◌≤◌, ◌<◌, List, [], ◌∷◌, ◌++◌, length, refl, ap, sym, ◌∙◌, subst, filter_map, Ok, length-append, arith}
+use Rattle.std.specs.Prelude.{is_ok}
+use Rattle.std.proofs.lemmas.List.{length-drop}
 use Rattle.std.proofs.Math.Seq.{take-length}
-use Rattle.std.specs.Cmp.{nat_eq_equiv}
-use Rattle.std.proofs.lemmas.Map.Entries.{hash_map_get_place}
-use Rattle.std.proofs.lemmas.Option.{slice_get-map}
-use Rattle.std.specs.List.{AllByRecursion, filter_map, cons_option}
-use Rattle.std.specs.Map.{keys_of}
-use Rattle.std.proofs.lemmas.Bool.{eqb-true}
-use Rattle.std.proofs.lemmas.List.Elements.{filter_map-append}
-use Rattle.indexmap.specs.IndexMap.{IndexMap, IsUnique, values, get, index_map_len, keys, insert_entry, Updates}
-use Rattle.indexmap.proofs.CallerLemmas.{insert_entry-new, keys-insert_entry-present}
+use Rattle.std.specs.List.{AllByRecursion}
+use Rattle.indexmap.specs.IndexMap.{keys}
 use Rattle.policy_types.specs.declared.command.Command.{Command}
 use Rattle.policy_types.specs.declared.policy.Policy.{Policy}
 use Rattle.policy_types.specs.Limits.{most_commands}
@@ -21,135 +14,149 @@ use Rattle.money_ledgers.specs.Balances.{HasRoom, balances}
 use Rattle.money_ledgers.specs.declared.ledger.Ledger.{Ledger}
 use Rattle.policy_machine.specs.Accounts.{ledger_of}
 use Rattle.policy_machine.specs.Rules.{next}
-use Rattle.policy_machine.specs.Book.{book, policy_of, issue_id, kept}
-use Rattle.policy_machine.proofs.BookLemmas.{IsAccepted-push, policy_of-push_own, policy_of-push_other}
+use Rattle.policy_machine.specs.Book.{book, policy_of}
+use Rattle.policy_machine.proofs.BookLemmas.{IsAccepted-push}
 use Rattle.policy_machine.proofs.LedgerLemmas.{AreWithin-ledger, AreWithin-wider, ledger_of-push}
+use Rattle.policy_versions.specs.Commands.{sets_of}
+use Rattle.policy_versions.proofs.BookValues.{key_count, keys_of-sets_of}
+use Rattle.policy_versions.proofs.PolicyValues.{newest_of-sets_of}
+use Rattle.policy_versions.proofs.SetSteps.{few_after, sets_of-accepted, sets_of-rise}
+use Rattle.versioned_book.specs.Books.{IsBookOf, IsSomeBook, kept_of, versions_in}
+use Rattle.versioned_book.specs.Settings.{Setting, keys_of, own, until}
+use Rattle.versioned_book.specs.Versions.{newest_of, versions_from}
+use Rattle.versioned_book.specs.declared.book.VersionedBook.{VersionedBook}
+use Rattle.versioned_book.proofs.BookSteps.{versions_in-book}
+use Rattle.versioned_book.proofs.KeptFew.{kept_few}
+use Rattle.versioned_book.proofs.SettingSteps.{until_all}
+use Rattle.versioned_book.proofs.VersionSteps.{newest_of-trimmed}
+use Rattle.office_state.specs.declared.books.Books.{Books}
+use Rattle.office_state.specs.Standing.{KeepsFew}
+use Rattle.office_state.specs.inside.Books.{commands_in, floor_in, kept_in, policies_in}
 use Rattle.office_state.specs.inside.Keeping.{Keeps}
-use Rattle.office_state.proofs.BookSteps.{accepted-take, book_at, index_front, issued_at, issues-new, number_front}
 
 -- one more that has P
 pub all-more : {X : Type 0} (P : X → Type 0) (xs : List X) (x : X) → AllByRecursion P xs → P x → AllByRecursion P (xs ++ x ∷ [])
 all-more P [] x all here = (here, tt)
 all-more P (first ∷ xs) x all here = (all.0, all-more P xs x all.1 here)
 
-found_after : (commands : List Command) (command : Command) (policy : Policy) (before after : Option Policy) (id : ℕ) (here : Bool)
-    → (id_of command == id) ≡ here → before ≡ policy_of commands id → after ≡ cond here (Some policy) before
-    → next (policy_of commands (id_of command)) command ≡ Ok policy
-    → after ≡ policy_of (commands ++ command ∷ []) id
-found_after commands command policy before after id true here found now decided =
-    let same : id_of command ≡ id = eqb-true (id_of command) id here in
-    let decided' : next (policy_of commands id) command ≡ Ok policy =
-    ap (λ i. next (policy_of commands i) command) (sym same) ∙ decided in
-    now ∙ sym (policy_of-push_own commands command id here ∙ ap (kept (policy_of commands id)) decided')
-found_after commands command policy before after id false other found now decided =
-    now ∙ found ∙ sym (policy_of-push_other commands command id other)
+-- the books of no command
+pub keeps_nothing : (versions : VersionedBook Policy) (ledger : Ledger) → IsBookOf versions [] → versions.last ≡ 0
+    → balances ledger ≡ ledger_of [] → Keeps versions 0 ledger []
+keeps_nothing versions ledger set last booked = record {
+  valid = tt;
+  accepted = tt;
+  few = omega arith;
+  counted = refl;
+  set = set;
+  last = last;
+  booked = booked;
+}
 
-module _ {S : Type 0} (old new : IndexMap ℕ Policy S) where
-  -- the keys after an insert, by whether the key was there
-  keys_after : (id : ℕ) (policy : Policy) (found : Option Policy) → get nat_eq old id ≡ found
-      → keys_of (insert_entry nat_eq old.entries id policy) ≡ keys old ++ cond (is_some found) [] (id ∷ [])
-  keys_after id policy None none =
-      ap keys_of (insert_entry-new nat_eq old id policy none) ∙ keys_push old.entries id policy
-    where
-      keys_push : (entries : List (ℕ × Policy)) (id : ℕ) (policy : Policy) → keys_of (entries ++ (id, policy) ∷ []) ≡ keys_of entries ++ id ∷ []
-      keys_push [] id policy = refl
-      keys_push (entry ∷ entries) id policy = ap (λ ids. entry.0 ∷ ids) (keys_push entries id policy)
-  keys_after id policy (Some p) there =
-      keys-insert_entry-present nat_eq old id policy (ap is_some there) ∙ sym (append-nil (keys old))
-
-  issued_last : (command : Command) (policy : Policy) (found : Option Policy) → next found command ≡ Ok policy
-      → filter_map issue_id (command ∷ []) ≡ cond (is_some found) [] (id_of command ∷ [])
-  issued_last command policy None accepted = ap (λ o. cons_option o []) (issues-new None command policy accepted)
-  issued_last command policy (Some p) accepted = ap (λ o. cons_option o []) (issues-new (Some p) command policy accepted)
+module _ (old new : VersionedBook Policy) (count : ℕ) (before after : Ledger) (commands : List Command) (command : Command) (policy : Policy) where
+  abbrev setting : ℕ → Setting Policy
+  setting n = record { key = id_of command; position = n + 1; value = policy }
 
   -- the books keep one command more
-  pub keeps_more : (commands : List Command) (command : Command) (policy : Policy)
-      (before after : Ledger) → IsValid command → length commands < most_commands → Keeps old before commands
-      → next (policy_of commands (id_of command)) command ≡ Ok policy → policy.id ≡ id_of command
-      → IsUnique nat_eq new → Updates nat_eq old new policy.id (Some policy)
-      → new.entries ≡ insert_entry nat_eq old.entries policy.id policy
-      → balances after ≡ added (balances before) (booking_of command policy) → Keeps new after (commands ++ command ∷ [])
-  keeps_more commands command policy before after valid fewer keeps decided named unique updates entries posted =
-      let id = id_of command in
-      let order : keys new ≡ keys old ++ cond (is_some (policy_of commands id)) [] (id ∷ []) =
-      ap keys_of entries ∙ ap (λ i. keys_of (insert_entry nat_eq old.entries i policy)) named
-      ∙ keys_after id policy (policy_of commands id) (keeps.found id) in
+  pub keeps_more : IsValid command → length commands < most_commands → Keeps old count before commands
+      → next (policy_of commands (id_of command)) command ≡ Ok policy
+      → ((sets : List (Setting Policy)) → IsBookOf old sets → IsBookOf new (sets ++ setting count ∷ []))
+      → new.last ≡ count + 1 → balances after ≡ added (balances before) (booking_of command policy)
+      → Keeps new (count + 1) after (commands ++ command ∷ [])
+  keeps_more valid fewer keeps decided more last posted =
+      let many : count + 1 ≡ length (commands ++ command ∷ []) =
+      ap (λ n. n + 1) keeps.counted ∙ sym (length-append commands (command ∷ [])) in
+      let sets : sets_of commands ++ setting count ∷ [] ≡ sets_of (commands ++ command ∷ []) =
+      ap (λ n. sets_of commands ++ setting n ∷ []) keeps.counted ∙ sym (sets_of-accepted commands command policy decided) in
       record {
         valid = all-more IsValid commands command keeps.valid valid;
         accepted = IsAccepted-push commands command keeps.accepted (ap is_ok decided);
         few = omega (arith, fewer, length-append commands (command ∷ []));
-        unique = unique;
-        in_order = order ∙ ap (λ ids. ids ++ cond (is_some (policy_of commands id)) [] (id ∷ [])) keeps.in_order
-            ∙ ap (λ ids. filter_map issue_id commands ++ ids) (sym (issued_last command policy (policy_of commands id) decided))
-            ∙ sym (filter_map-append issue_id commands (command ∷ []));
-        found = λ (i : ℕ). found_after commands command policy (get nat_eq old i) (get nat_eq new i) i (id == i) refl
-            (keeps.found i) (updates.0 i ∙ ap (λ n. cond (nat_eq n i) (Some policy) (get nat_eq old i)) named) decided;
+        counted = many;
+        set = subst (IsBookOf new) sets (more (sets_of commands) keeps.set);
+        last = last ∙ many;
         booked = posted ∙ ap (λ balance. added balance (booking_of command policy)) keeps.booked
             ∙ sym (ledger_of-push commands command policy decided);
       }
 
-length-keys_of : (entries : List (ℕ × Policy)) → length entries ≡ length (keys_of entries)
-length-keys_of [] = refl
-length-keys_of (entry ∷ entries) = ap suc (length-keys_of entries)
+-- other versions and another ledger of the same commands
+pub keeps_still : (old new : VersionedBook Policy) (count : ℕ) (ledger : Ledger) (commands : List Command) → Keeps old count ledger commands
+    → ((sets : List (Setting Policy)) → IsBookOf old sets → IsBookOf new sets) → new.last ≡ old.last → Keeps new count ledger commands
+keeps_still old new count ledger commands keeps same last = record {
+  valid = keeps.valid;
+  accepted = keeps.accepted;
+  few = keeps.few;
+  counted = keeps.counted;
+  set = same (sets_of commands) keeps.set;
+  last = last ∙ keeps.last;
+  booked = keeps.booked;
+}
 
--- there are as many policies as issues
-pub length-keys : {S : Type 0} (policies : IndexMap ℕ Policy S) (ledger : Ledger) (commands : List Command) → Keeps policies ledger commands
-    → index_map_len policies ≡ length (filter_map issue_id commands)
-length-keys policies ledger commands keeps = length-keys_of policies.entries ∙ ap length keeps.in_order
+module _ (versions : VersionedBook Policy) (count : ℕ) (ledger : Ledger) (commands : List Command) (keeps : Keeps versions count ledger commands) where
+  -- some settings make them
+  pub some_book : IsSomeBook versions
+  some_book = (sets_of commands, keeps.set)
 
-module _ {S : Type 0} (policies : IndexMap ℕ Policy S) (ledger : Ledger) (commands : List Command)
-    (keeps : Keeps policies ledger commands) (i : ℕ) where
-  -- a policy at an index of an earlier book is there
-  pub index_within : (p : ℕ) → i < length (book (take p commands)) → i < index_map_len policies
-  index_within p within =
-      let front : i < length (filter_map issue_id commands) = index_front p i commands keeps.accepted within in
-      omega (arith, front, length-keys policies ledger commands keeps)
+  -- the newest version of a number is its policy
+  pub newest_is : (id : ℕ) → newest_of (own id (sets_of commands)) ≡ policy_of commands id
+  newest_is id = newest_of-sets_of commands id
 
-  module _ (id : ℕ) (policy : Policy) (at : slice_get policies.entries i ≡ Some (id, policy)) where
-    number_at : slice_get (filter_map issue_id commands) i ≡ Some id
-    number_at = ap (λ ids. slice_get ids i) (sym keeps.in_order) ∙ slice_get-map (λ (entry : ℕ × Policy). entry.0) policies.entries i
-        ∙ ap (option_map (λ (entry : ℕ × Policy). entry.0)) at
+  newest_in : (id : ℕ) → newest_of (versions_in versions id) ≡ policy_of commands id
+  newest_in id =
+      ap newest_of (versions_in-book versions (sets_of commands) id keeps.set)
+      ∙ newest_of-trimmed versions.floor (own id (sets_of commands)) ∙ newest_of-sets_of commands id
 
-    -- it is that of the newest book
-    pub policy_now : (p : ℕ) → p ≡ length commands → get nat_eq policies id ≡ Some policy → slice_get (book (take p commands)) i ≡ Some policy
-    policy_now p all found =
-        subst (λ cs. slice_get (book cs) i ≡ Some policy) (sym (take-length commands) ∙ ap (λ n. take n commands) (sym all))
-        (book_at commands i id policy keeps.accepted number_at (sym (keeps.found id) ∙ found))
+  -- the newest versions are the book, in order of issue
+  pub newest_book : filter_map (λ (id : ℕ). newest_of (versions_in versions id)) (keys versions.chains) ≡ book commands
+  newest_book =
+      (λ i. filter_map (λ (id : ℕ). newest_in id i) (keys versions.chains))
+      ∙ ap (filter_map (policy_of commands)) (keeps.set.order ∙ keys_of-sets_of commands keeps.accepted)
 
-    -- in an earlier one its number has a policy
-    pub known_then : (p : ℕ) → i < length (book (take p commands)) → IsSome (policy_of (take p commands) id)
-    known_then p within =
-        issued_at (take p commands) i id (accepted-take p commands keeps.accepted) (number_front p i id commands keeps.accepted within number_at)
+  -- the versions of a number are those that its commands made and some position from the floor on needs
+  pub versions_are : (id : ℕ) → versions_in versions id ≡ versions_from versions.floor (own id (sets_of commands))
+  versions_are id = versions_in-book versions (sets_of commands) id keeps.set
 
-    pub policy_then : (p : ℕ) (then : Policy) → i < length (book (take p commands)) → policy_of (take p commands) id ≡ Some then
-        → slice_get (book (take p commands)) i ≡ Some then
-    policy_then p then within found =
-        book_at (take p commands) i id then (accepted-take p commands keeps.accepted)
-        (number_front p i id commands keeps.accepted within number_at) found
+  -- there are few of them
+  pub few_kept : KeepsFew (kept_of versions) versions.floor commands
+  few_kept =
+      let at_most = kept_few versions (sets_of commands) keeps.set in
+      let all : length (keys_of (until (length commands) (sets_of commands))) ≡ length (book commands) =
+      key_count commands (length commands) keeps.accepted ∙ ap (λ cs. length (book cs)) (take-length commands) in
+      let whole : until (length commands) (sets_of commands) ≡ sets_of commands =
+      until_all (length commands) 0 (sets_of commands) (length commands) (sets_of-rise commands) (omega arith) in
+      omega (arith, at_most, all, ap (λ sets. length (keys_of sets)) whole, few_after commands versions.floor, length-drop versions.floor commands)
 
--- the ledger has room for one booking more
-pub has_room : {S : Type 0} (policies : IndexMap ℕ Policy S) (ledger : Ledger) (commands : List Command) → Keeps policies ledger commands → HasRoom ledger
-has_room policies ledger commands keeps =
-    let few : 40000000000 * length commands ≤ 2 ^ 63 - 1 - 40000000000 = omega (arith, keeps.few) in
-    subst (AreWithin (2 ^ 63 - 1 - 40000000000)) (sym keeps.booked)
-    (AreWithin-wider (40000000000 * length commands) (2 ^ 63 - 1 - 40000000000) (ledger_of commands) few (AreWithin-ledger commands keeps.valid))
+  -- the ledger has room for one booking more
+  pub has_room : HasRoom ledger
+  has_room =
+      let few : 40000000000 * length commands ≤ 2 ^ 63 - 1 - 40000000000 = omega (arith, keeps.few) in
+      subst (AreWithin (2 ^ 63 - 1 - 40000000000)) (sym keeps.booked)
+      (AreWithin-wider (40000000000 * length commands) (2 ^ 63 - 1 - 40000000000) (ledger_of commands) few (AreWithin-ledger commands keeps.valid))
 
-values_known : (find : ℕ → Option Policy) (entries : List (ℕ × Policy)) → AllByRecursion (λ (entry : ℕ × Policy). find entry.0 ≡ Some entry.1) entries
-    → map (λ (entry : ℕ × Policy). entry.1) entries ≡ filter_map find (keys_of entries)
-values_known find [] all = refl
-values_known find (entry ∷ entries) all =
-    ap (λ policies. entry.1 ∷ policies) (values_known find entries all.1)
-    ∙ ap (λ found. cons_option found (filter_map find (keys_of entries))) (sym all.0)
+-- what is promised of books that stand for the commands, from this floor on
+pub record Promised (books : Books) (commands : List Command) (floor : ℕ) : Type 0 where
+  pub count : books.count ≡ length commands
+  pub versions : (id : ℕ) → versions_in books.versions id ≡ versions_from floor (own id (sets_of commands))
+  pub few : KeepsFew (kept_in books) floor commands
+  pub policies : policies_in books ≡ book commands
+  pub ledger : balances books.ledger ≡ ledger_of commands
 
-each_at : {X : Type 0} (P : X → Type 0) (xs : List X) → ((i : ℕ) (x : X) → slice_get xs i ≡ Some x → P x) → AllByRecursion P xs
-each_at P [] at = tt
-each_at P (x ∷ xs) at = (at 0 x refl, each_at P xs (λ i y found. at (suc i) y found))
+own_promises : (books : Books) → Promised books (commands_in books) (floor_in books)
+own_promises books = record {
+  count = books.kept.counted;
+  versions = versions_are books.versions books.count books.ledger (commands_in books) books.kept;
+  few = few_kept books.versions books.count books.ledger (commands_in books) books.kept;
+  policies = newest_book books.versions books.count books.ledger (commands_in books) books.kept;
+  ledger = books.kept.booked;
+}
 
--- the policies are the book, in order of issue
-pub values-book : {S : Type 0} (policies : IndexMap ℕ Policy S) (ledger : Ledger) (commands : List Command) → Keeps policies ledger commands
-    → values policies ≡ book commands
-values-book policies ledger commands keeps =
-    values_known (policy_of commands) policies.entries
-    (each_at (λ (entry : ℕ × Policy). policy_of commands entry.0 ≡ Some entry.1) policies.entries
-    (λ i entry found. sym (keeps.found entry.0) ∙ hash_map_get_place nat_eq_equiv policies i entry.0 entry.1 keeps.unique found))
-    ∙ ap (filter_map (policy_of commands)) keeps.in_order
+pub promised : (books : Books) (commands : List Command) (floor : ℕ) → commands_in books ≡ commands → floor_in books ≡ floor
+    → Promised books commands floor
+promised books commands floor kept floored =
+    subst (λ cs. Promised books cs floor) kept (subst (λ f. Promised books (commands_in books) f) floored (own_promises books))
+
+-- the floor is no later than the last command
+pub floor_within : (books : Books) → floor_in books ≤ books.count
+floor_within books =
+    let kept = books.kept in
+    let set = kept.set in
+    omega (arith, set.floor, kept.last, kept.counted)

@@ -1,6 +1,8 @@
-pub mod JournalLaws
 pub mod BookSteps
+pub mod JournalLaws
+pub mod Walks
 pub mod KeepingSteps
+pub mod FillingSteps
 pub mod ReplaySteps
 pub mod OpeningSteps
 pub mod OpenedSteps
@@ -8,6 +10,7 @@ pub mod PinSteps
 pub mod HistorySteps
 pub mod ImageSteps
 pub mod KeptSteps
+pub mod PostedPins
 pub mod TurnSteps
+pub mod LeavingSteps
 pub mod PinTurns
-pub mod WindowSteps

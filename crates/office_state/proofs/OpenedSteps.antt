@@ -1,9 +1,7 @@
 -- The office of a journal that was started on a disk, and what is known where there is none
-use Rattle.std.proofs.Common.{◌≡◌, inl, inr, ℕ, ◌<◌, ◌≤◌, true, false, List, [], ◌++◌, length, ◌∙◌, ap, sym, subst, refl, append-nil, arith}
+use Rattle.std.proofs.Common.{◌≡◌, inl, inr, ℕ, ◌<◌, ◌≤◌, true, false, List, [], ◌++◌, length, ◌∙◌, sym, subst, refl, append-nil, arith}
 use Rattle.outside_io.specs.declared.disks.Disk.{Ghosts}
 use Rattle.outside_io.specs.Faults.{Rose}
-use Rattle.policy_machine.specs.Accounts.{ledger_of}
-use Rattle.policy_machine.specs.Book.{book}
 use Rattle.policy_machine.specs.History.{Opening, opened_on}
 use Rattle.posting_journal.specs.Creation.{OpensToBodies}
 use Rattle.posting_journal.specs.Starting.{HasStarted}
@@ -22,7 +20,7 @@ use Rattle.office_state.specs.inside.Holding.{JournalHolds}
 use Rattle.office_state.specs.inside.Replays.{HasStopped, IsStoppedAt, IsOfficeOf, HasNoOffice}
 use Rattle.office_state.proofs.ReplaySteps.{all_replayed, stopped_shown}
 use Rattle.office_state.proofs.OpeningSteps.{CountsNow, IsStarted, OnlyNow, ReadsImage, opening_keeps, looked_on, holds_once, looked_alone, looked_ever, synced_images, opens_commands, started_later}
-use Rattle.office_state.proofs.KeepingSteps.{values-book}
+use Rattle.office_state.proofs.KeepingSteps.{promised}
 use Rattle.office_state.proofs.ImageSteps.{holds_now}
 use Rattle.office_state.proofs.KeptSteps.{keeps_first, kept_now}
 
@@ -131,14 +129,17 @@ module _ {D : Type 0} (g : Ghosts D) (old : D) (journal : Journal D g) (started 
           let keeps = state.books.kept in
           let quiet : g.faults (disk_of state) ≡ g.faults old = made.replayed.quiet ∙ started.quiet in
           let all : commands_of state ≡ commands_of state ++ [] = sym (append-nil (commands_of state)) in
+          let held = promised state.books (commands_of state ++ []) 0 all made.floor in
           record {
             history = record {
               legal = record { opens = record { accepted = keeps.accepted; valid = keeps.valid; few = keeps.few }; due = tt };
-              counted = simp append-nil refl;
+              counted = held.count;
             };
-            kept = all;
-            policies = values-book state.books.policies state.books.ledger (commands_of state) keeps ∙ ap book all;
-            ledger = keeps.booked ∙ ap ledger_of all;
+            versions = held.versions;
+            kept = held.few;
+            policies = held.policies;
+            ledger = held.ledger;
+            listed = all;
             turned = made.turns;
             pins = made.pins;
             floor = made.floor;

@@ -1,9 +1,11 @@
 -- A record after those that were decided anew, and what is known once all were or one couldn't be
 use Rattle.std.proofs.Common.{◌≡◌, ℕ, ◌+◌, ◌<◌, List, [], ◌∷◌, ◌++◌, length, take, drop, get_or, slice_index_or, ap, sym, ◌∙◌, subst, add-one, arith}
 use Rattle.std.proofs.Math.Seq.{take-length, drop-cons}
-use Rattle.std.proofs.lemmas.List.{take-append-drop}
+use Rattle.std.proofs.lemmas.List.{take-append-drop, take_more, length_push, map-append}
 use Rattle.outside_io.specs.declared.disks.Disk.{Ghosts}
 use Rattle.outside_io.specs.Faults.{Rose}
+use Rattle.policy_types.specs.declared.command.Command.{Command}
+use Rattle.record_codec.specs.Spelling.{spelling_of}
 use Rattle.posting_journal.specs.Files.{IsJournal}
 use Rattle.posting_journal.specs.States.{count_of, disk_of}
 use Rattle.posting_journal.specs.declared.journal.Journal.{Journal}
@@ -12,7 +14,7 @@ use Rattle.office_state.specs.declared.faults.StartCause.TheVariants.{DiskFault,
 use Rattle.office_state.specs.declared.books.Books.{Books}
 use Rattle.office_state.specs.Journals.{bodies_of, IsUnfollowed, IsUnspelled}
 use Rattle.office_state.specs.inside.Books.{commands_in}
-use Rattle.office_state.specs.inside.Replays.{StaysAs, BodiesHave, IsStuck, AreReplayed, IsStoppedAt, HasStopped}
+use Rattle.office_state.specs.inside.Replays.{StaysAs, BodiesHave, IsReplayed, IsStuck, AreReplayed, IsStoppedAt, HasStopped}
 
 module _ {D : Type 0} (g : Ghosts D) (start : Journal D g) where
   stopped_at : (mid : Journal D g) (now : D) (books : Books) (n : ℕ)
@@ -44,7 +46,23 @@ module _ {D : Type 0} (g : Ghosts D) (start : Journal D g) where
         (stopped_at mid (disk_of new) books n replayed within stays honesty stuck.2),
   )
   stopped mid new books n replayed within stays honesty NotAJournal stuck = absurd stuck
-  stopped mid new books n replayed within stays honesty NoMemory stuck = absurd stuck
+  stopped mid new books n replayed within stays honesty NoMemory stuck = stuck ∙ replayed.quiet
+
+  -- one record more is replayed
+  pub one_more : (mid new : Journal D g) (before after : Books) (n : ℕ) → n < count_of start → StaysAs start mid
+      → (g.honest (disk_of new) → g.honest (disk_of mid)) → AreReplayed start mid before n → IsReplayed mid new before after n
+      → AreReplayed start new after (n + 1)
+  one_more mid new before after n within stays honesty replayed next = record {
+    each = omega (arith, ap (λ (l : List Command). length l) next.kept, length_push (commands_in before) next.command, replayed.each);
+    quiet = next.quiet ∙ replayed.quiet;
+    front = λ bodies last honest stands.
+        let inside : n < length bodies = omega (arith, within, stands.count) in
+        let mids = stays.stands bodies last (honesty honest) stands in
+        take_more bodies n [] inside
+        ∙ ap (λ front. front ++ get_or bodies n [] ∷ []) (replayed.front bodies last (honesty honest) stands)
+        ∙ ap (λ body. bodies_of (commands_in before) ++ body ∷ []) (next.spelled bodies last honest mids)
+        ∙ sym (ap bodies_of next.kept ∙ map-append spelling_of (commands_in before) (next.command ∷ []));
+  }
 
   -- with every record replayed, the bodies are those of the commands
   pub all_replayed : (new : Journal D g) (books : Books)

@@ -7,16 +7,13 @@ use Rattle.outside_io.specs.declared.disks.Disk.{Ghosts}
 use Rattle.outside_io.specs.Faults.{Rose}
 use Rattle.policy_types.specs.declared.command.Command.{Command}
 use Rattle.policy_types.specs.declared.policy.Policy.{Policy}
-use Rattle.policy_types.specs.declared.entry.Reply.{Reply}
 use Rattle.policy_types.specs.declared.entry.Reply.TheVariants.{Accepted, Faulted}
 use Rattle.policy_types.specs.declared.entry.Entry.{Entry}
 use Rattle.policy_types.specs.Valid.{IsValid, id_of}
-use Rattle.policy_machine.specs.Accounts.{ledger_of}
-use Rattle.policy_machine.specs.Book.{book, policy_of, IsAccepted}
+use Rattle.policy_machine.specs.Book.{policy_of, IsAccepted}
 use Rattle.policy_machine.specs.Rules.{next}
-use Rattle.policy_machine.specs.History.{Opening, IsDue, IsLegal, accepted_of, commands_after, floor_of, floor_set, pin_of, refusal_due}
+use Rattle.policy_machine.specs.History.{Opening, IsDue, IsLegal, accepted_of, commands_after, floor_of, refusal_due}
 use Rattle.policy_machine.proofs.BookLemmas.{IsAccepted-push}
-use Rattle.policy_machine.proofs.HistoryGrowth.{floor_of-kept}
 use Rattle.policy_machine.proofs.HistoryLemmas.{IsLegalAfter-push, accepted_of-push}
 use Rattle.record_codec.specs.Spelling.{spelling_of}
 use Rattle.posting_journal.specs.Files.{IsJournal}
@@ -29,21 +26,21 @@ use Rattle.office_state.specs.declared.books.Books.{Books}
 use Rattle.office_state.specs.declared.held.Held.{Held}
 use Rattle.office_state.specs.declared.state.OfficeState.{OfficeState}
 use Rattle.office_state.specs.declared.answer.Answer.TheVariants.{Accepted as AcceptedAt, DiskFault}
-use Rattle.office_state.specs.Images.{HasKept, HoldsAtLeast, HoldsNow, HoldsOnce, IsLeftBy, IsQuietReply, KeepsAccepted}
+use Rattle.office_state.specs.Images.{HasKept, HoldsAtLeast, HoldsNow, HoldsOnce, IsQuietReply, KeepsAccepted}
 use Rattle.office_state.specs.Journals.{JournalBytes, bodies_of}
 use Rattle.office_state.specs.Pins.{pins_held}
 use Rattle.office_state.specs.Posting.{CrashesIn}
 use Rattle.office_state.specs.Standing.{LeavesSince, StandsFor}
 use Rattle.office_state.specs.States.{begun_of, commands_of, disk_of, opening_of}
-use Rattle.office_state.specs.inside.Books.{commands_in}
+use Rattle.office_state.specs.inside.Books.{commands_in, floor_in}
 use Rattle.office_state.specs.inside.Holding.{IsLeftBehind, JournalHolds}
 use Rattle.office_state.specs.inside.Records.{Records}
 use Rattle.office_state.proofs.HistorySteps.{accepted-same, all_before, all_in, all_up_to, commands-more, commands-same, faults-same, faults_after-more, faults_after-same, faults_met, faults-more, holds_all, holds_more, is_due, is_fresh, pending-now, posting}
 use Rattle.office_state.proofs.KeptSteps.{keeps_more, keeps_still, keeps_unaccepted, kept_now, least_now}
 use Rattle.office_state.proofs.ImageSteps.{holds_now, journal_of, journal_of_more, left_still, now_later, since_on, since_still}
-use Rattle.office_state.proofs.KeepingSteps.{all-more, values-book}
+use Rattle.office_state.proofs.KeepingSteps.{all-more, promised}
 use Rattle.office_state.proofs.OpeningSteps.{OnlyNow}
-use Rattle.office_state.proofs.PinSteps.{pins_held-same}
+use Rattle.office_state.proofs.PostedPins.{posted_floor, posted_pins}
 
 legal-push : (opening : Opening) (turns : List Entry) (entry : Entry) → IsLegal opening turns
     → IsDue opening turns entry.caller entry.call entry.reply → IsLegal opening (turns ++ entry ∷ [])
@@ -53,15 +50,6 @@ legal-push opening turns entry legal due =
 -- a turn more is counted
 turned_more : (count : ℕ) (turns : List Entry) (entry : Entry) → count ≡ length turns → count + 1 ≡ length (turns ++ entry ∷ [])
 turned_more count turns entry same = ap (λ n. n + 1) same ∙ sym (length-append turns (entry ∷ []))
-
--- a posting leaves the pins and the floor
-pub posted_pins : (turns : List Entry) (caller : ℕ) (command : Command) (reply : Reply) → pin_of reply ≡ None
-    → pins_held turns ≡ pins_held (turns ++ posting caller command reply ∷ [])
-posted_pins turns caller command reply none = sym (pins_held-same turns (posting caller command reply) (λ n. refl) none)
-
-pub posted_floor : (turns : List Entry) (caller : ℕ) (command : Command) (reply : Reply) → floor_set reply ≡ None
-    → floor_of turns ≡ floor_of (turns ++ posting caller command reply ∷ [])
-posted_floor turns caller command reply none = sym (floor_of-kept turns (posting caller command reply) none)
 
 module _ {D W : Type 0} {g : Ghosts D} {w : WatcherGhosts W} where
   -- the commands after the turns are those that the books keep
@@ -89,13 +77,14 @@ module _ {D W : Type 0} {g : Ghosts D} {w : WatcherGhosts W} where
         → commands_in books ≡ commands_of old → accepted_of (entry ∷ []) ≡ [] → faults_met (entry ∷ []) ≡ []
         → IsDue opening turns entry.caller entry.call entry.reply
         → (pins : ArrayVec Held) → pins.items ≡ pins_held (turns ++ entry ∷ [])
-        → (floor : ℕ) → floor ≡ floor_of (turns ++ entry ∷ [])
+        → floor_in books ≡ floor_of (turns ++ entry ∷ [])
         → (watchers : W) → ((before : ℕ) (heard : List Command) → w.told old.watchers before heard → w.told watchers before heard)
-        → StandsFor {w = w} (record { journal = old.journal; books = books; watchers = watchers; turns = old.turns + 1; pins = pins; floor = floor; begun = old.begun; recovered = old.recovered; counted = counted })
+        → StandsFor {w = w} (record { journal = old.journal; books = books; watchers = watchers; turns = old.turns + 1; pins = pins; begun = old.begun; recovered = old.recovered; counted = counted })
         (turns ++ entry ∷ [])
-    stands_still books counted entry as_was none quiet due pins pinned floor floored watchers told =
+    stands_still books counted entry as_was none quiet due pins pinned floored watchers told =
         let same : commands_after opening (turns ++ entry ∷ []) ≡ commands = commands-same opening turns entry none in
-        let kept : commands_in books ≡ commands_after opening (turns ++ entry ∷ []) = as_was ∙ stands.kept ∙ sym same in
+        let kept : commands_in books ≡ commands_after opening (turns ++ entry ∷ []) = as_was ∙ stands.listed ∙ sym same in
+        let held = promised books (commands_after opening (turns ++ entry ∷ [])) (floor_of (turns ++ entry ∷ [])) kept floored in
         let holds : g.honest (disk_of old) → JournalHolds old.journal opening (turns ++ entry ∷ []) = λ honest.
         let before = stands.inside.journal honest in record {
           last = before.last;
@@ -103,10 +92,12 @@ module _ {D W : Type 0} {g : Ghosts D} {w : WatcherGhosts W} where
           pending = λ unclean. left_still opening turns entry before.last none (before.pending unclean);
         } in
         record {
-          history = record { legal = legal-push opening turns entry stands.history.legal due; counted = ap length kept };
-          kept = kept;
-          policies = values-book books.policies books.ledger (commands_in books) books.kept ∙ ap book kept;
-          ledger = books.kept.booked ∙ ap ledger_of kept;
+          history = record { legal = legal-push opening turns entry stands.history.legal due; counted = held.count };
+          versions = held.versions;
+          kept = held.few;
+          policies = held.policies;
+          ledger = held.ledger;
+          listed = kept;
           turned = turned_more old.turns turns entry stands.turned;
           pins = pinned;
           floor = floored;
@@ -132,18 +123,22 @@ module _ {D W : Type 0} {g : Ghosts D} {w : WatcherGhosts W} where
 
     -- it stands for the same turns with other books of the same commands, and watchers who were told of the same
     pub stands_with : (books : Books) (counted : records_in old.journal ≡ length (commands_in books)) → commands_in books ≡ commands_of old
-        → (watchers : W) → ((before : ℕ) (heard : List Command) → w.told old.watchers before heard → w.told watchers before heard)
-        → StandsFor {w = w} (record { journal = old.journal; books = books; watchers = watchers; turns = old.turns; pins = old.pins; floor = old.floor; begun = old.begun; recovered = old.recovered; counted = counted }) turns
-    stands_with books counted as_was watchers told =
-        let kept : commands_in books ≡ commands = as_was ∙ stands.kept in
+        → floor_in books ≡ floor_in old.books → (watchers : W) → ((before : ℕ) (heard : List Command) → w.told old.watchers before heard → w.told watchers before heard)
+        → StandsFor {w = w} (record { journal = old.journal; books = books; watchers = watchers; turns = old.turns; pins = old.pins; begun = old.begun; recovered = old.recovered; counted = counted }) turns
+    stands_with books counted as_was still watchers told =
+        let kept : commands_in books ≡ commands = as_was ∙ stands.listed in
+        let floored : floor_in books ≡ floor_of turns = still ∙ stands.floor in
+        let held = promised books commands (floor_of turns) kept floored in
         record {
-          history = record { legal = stands.history.legal; counted = ap length kept };
-          kept = kept;
-          policies = values-book books.policies books.ledger (commands_in books) books.kept ∙ ap book kept;
-          ledger = books.kept.booked ∙ ap ledger_of kept;
+          history = record { legal = stands.history.legal; counted = held.count };
+          versions = held.versions;
+          kept = held.few;
+          policies = held.policies;
+          ledger = held.ledger;
+          listed = kept;
           turned = stands.turned;
           pins = stands.pins;
-          floor = stands.floor;
+          floor = floored;
           honesty = stands.honesty;
           opened = stands.opened;
           images_now = stands.images_now;
@@ -161,9 +156,9 @@ module _ {D W : Type 0} {g : Ghosts D} {w : WatcherGhosts W} where
         ⊎ ((is_clean old.journal ≡ false) × IsJournal image (bodies_of commands ++ (stands.inside.journal honest).last ∷ []))
         → HoldsNow opening turns image ⊎ JournalBytes image (commands ++ command ∷ [])
     during honest command image valid accepted held =
-        let all = valid_after old turns stands.kept in
+        let all = valid_after old turns stands.listed in
         elim held [
-          | inl without ↦ inl (inl (journal_of image commands all (accepted_after old turns stands.kept) without))
+          | inl without ↦ inl (inl (journal_of image commands all (accepted_after old turns stands.listed) without))
           | inr other ↦ elim other [
             | inl more ↦ inr (journal_of_more image commands command all valid accepted more)
             | inr earlier ↦
@@ -183,10 +178,10 @@ module _ {D W : Type 0} {g : Ghosts D} {w : WatcherGhosts W} where
         (records : (bodies : List (List ℕ)) (last : List ℕ) → g.honest (disk_under journal) → JournalStands old.journal bodies last
         → Records old.journal journal bodies last (spelling_of command) result) where
       decided' : next (policy_of commands (id_of command)) command ≡ Ok policy
-      decided' = subst (λ cs. next (policy_of cs (id_of command)) command ≡ Ok policy) stands.kept decided
+      decided' = subst (λ cs. next (policy_of cs (id_of command)) command ≡ Ok policy) stands.listed decided
 
       accepted : IsAccepted (commands ++ command ∷ [])
-      accepted = IsAccepted-push commands command (accepted_after old turns stands.kept) (ap is_ok decided')
+      accepted = IsAccepted-push commands command (accepted_after old turns stands.listed) (ap is_ok decided')
 
       recorded : (honest : g.honest (disk_under journal))
           → Records old.journal journal (bodies_of commands) (stands.inside.journal (honesty honest)).last (spelling_of command) result
@@ -255,24 +250,28 @@ module _ {D W : Type 0} {g : Ghosts D} {w : WatcherGhosts W} where
               where
                 by : (clean : Bool) → is_clean journal ≡ clean → IsKept clean (bodies_of commands ++ spelling_of command ∷ []) [] image
                     → JournalBytes image (commands ++ command ∷ [])
-                by true is file = journal_of_more image commands command (valid_after old turns stands.kept) valid accepted file
+                by true is file = journal_of_more image commands command (valid_after old turns stands.listed) valid accepted file
                 by false is file = absurd (held.1 is)
 
       -- a posting that was accepted
       module _ (books : Books) (counted : records_in journal ≡ length (commands_in books)) (count : ℕ) (value : T)
+          (still : floor_in books ≡ floor_in old.books)
           (quiet : g.faults (disk_under journal) ≡ g.faults (disk_of old)) (more : commands_in books ≡ commands_of old ++ command ∷ [])
           (few : length (commands_of old) ≡ 4000000 → ⊥) (ok : result ≡ Ok value) (position : count ≡ length (commands_in books))
           (watchers : W) (told : (before : ℕ) (heard : List Command) → w.told old.watchers before heard → count ≡ before + length heard + 1 → w.told watchers before (heard ++ command ∷ []))
           (only_now : OnlyNow g) where
         pub stands_accepted : (caller : ℕ)
-            → StandsFor {w = w} (record { journal = journal; books = books; watchers = watchers; turns = old.turns + 1; pins = old.pins; floor = old.floor; begun = old.begun; recovered = old.recovered; counted = counted })
+            → StandsFor {w = w} (record { journal = journal; books = books; watchers = watchers; turns = old.turns + 1; pins = old.pins; begun = old.begun; recovered = old.recovered; counted = counted })
             (turns ++ posting caller command (Accepted count) ∷ [])
         stands_accepted caller =
             let entry = posting caller command (Accepted count) in
             let grown : commands_after opening (turns ++ entry ∷ []) ≡ commands ++ command ∷ [] = commands-more opening turns caller command count in
-            let kept : commands_in books ≡ commands_after opening (turns ++ entry ∷ []) =
-            more ∙ ap (λ cs. cs ++ command ∷ []) stands.kept ∙ sym grown in
-            let due : refusal_due commands command ≡ None = is_due commands command policy decided' (λ full. few (ap length stands.kept ∙ full)) in
+            let all = commands_after opening (turns ++ entry ∷ []) in
+            let floor = floor_of (turns ++ entry ∷ []) in
+            let kept : commands_in books ≡ all = more ∙ ap (λ cs. cs ++ command ∷ []) stands.listed ∙ sym grown in
+            let floored : floor_in books ≡ floor = still ∙ stands.floor ∙ posted_floor turns caller command (Accepted count) refl in
+            let held = promised books all floor kept floored in
+            let due : refusal_due commands command ≡ None = is_due commands command policy decided' (λ full. few (ap length stands.listed ∙ full)) in
             let at : count ≡ length commands + 1 = position ∙ ap length (kept ∙ grown) ∙ length-append commands (command ∷ []) in
             let holds : g.honest (disk_under journal) → JournalHolds journal opening (turns ++ entry ∷ []) = λ honest. record {
               last = [];
@@ -284,13 +283,15 @@ module _ {D W : Type 0} {g : Ghosts D} {w : WatcherGhosts W} where
             λ honest. holds_now journal opening (turns ++ entry ∷ []) (subst (AllByRecursion IsValid) kept books.kept.valid)
             (subst IsAccepted kept books.kept.accepted) (holds honest) in
             record {
-              history = record { legal = legal-push opening turns entry stands.history.legal (due, at); counted = ap length kept };
-              kept = kept;
-              policies = values-book books.policies books.ledger (commands_in books) books.kept ∙ ap book kept;
-              ledger = books.kept.booked ∙ ap ledger_of kept;
+              history = record { legal = legal-push opening turns entry stands.history.legal (due, at); counted = held.count };
+              versions = held.versions;
+              kept = held.few;
+              policies = held.policies;
+              ledger = held.ledger;
+              listed = kept;
               turned = turned_more old.turns turns entry stands.turned;
               pins = stands.pins ∙ posted_pins turns caller command (Accepted count) refl;
-              floor = stands.floor ∙ posted_floor turns caller command (Accepted count) refl;
+              floor = floored;
               honesty = λ honest. stands.honesty (honesty honest);
               opened = λ honest. stands.opened (honesty honest);
               images_now = now;
@@ -317,13 +318,17 @@ module _ {D W : Type 0} {g : Ghosts D} {w : WatcherGhosts W} where
           (later : g.faults (disk_of old) ≤ g.faults (disk_under journal)) (rose : Rose (g.faults (disk_of old)) (g.faults (disk_under journal)))
           (err : result ≡ Err error) where
         pub stands_faulted : (caller : ℕ)
-            → StandsFor {w = w} (record { journal = journal; books = old.books; watchers = old.watchers; turns = old.turns + 1; pins = old.pins; floor = old.floor; begun = old.begun; recovered = old.recovered; counted = counted })
+            → StandsFor {w = w} (record { journal = journal; books = old.books; watchers = old.watchers; turns = old.turns + 1; pins = old.pins; begun = old.begun; recovered = old.recovered; counted = counted })
             (turns ++ posting caller command (Faulted count) ∷ [])
         stands_faulted caller =
             let entry = posting caller command (Faulted count) in
             let same : commands_after opening (turns ++ entry ∷ []) ≡ commands = commands-same opening turns entry refl in
-            let kept : commands_of old ≡ commands_after opening (turns ++ entry ∷ []) = stands.kept ∙ sym same in
-            let due : refusal_due commands command ≡ None = is_due commands command policy decided' (λ full. few (ap length stands.kept ∙ full)) in
+            let all = commands_after opening (turns ++ entry ∷ []) in
+            let floor = floor_of (turns ++ entry ∷ []) in
+            let kept : commands_of old ≡ all = stands.listed ∙ sym same in
+            let floored : floor_in old.books ≡ floor = stands.floor ∙ posted_floor turns caller command (Faulted count) refl in
+            let held = promised old.books all floor kept floored in
+            let due : refusal_due commands command ≡ None = is_due commands command policy decided' (λ full. few (ap length stands.listed ∙ full)) in
             let fresh = is_fresh opening turns (g.faults (disk_of old)) count stands.inside.opened stands.inside.met (rw told rose) in
             let failed = λ (honest : g.honest (disk_under journal)).
             subst (λ r. OnErr r ((left : List ℕ) × JournalStands journal (bodies_of commands) left
@@ -348,13 +353,15 @@ module _ {D W : Type 0} {g : Ghosts D} {w : WatcherGhosts W} where
               ];
             } in
             record {
-              history = record { legal = legal-push opening turns entry stands.history.legal (due, fresh); counted = ap length kept };
-              kept = kept;
-              policies = values-book old.books.policies old.books.ledger (commands_in old.books) old.books.kept ∙ ap book kept;
-              ledger = old.books.kept.booked ∙ ap ledger_of kept;
+              history = record { legal = legal-push opening turns entry stands.history.legal (due, fresh); counted = held.count };
+              versions = held.versions;
+              kept = held.few;
+              policies = held.policies;
+              ledger = held.ledger;
+              listed = kept;
               turned = turned_more old.turns turns entry stands.turned;
               pins = stands.pins ∙ posted_pins turns caller command (Faulted count) refl;
-              floor = stands.floor ∙ posted_floor turns caller command (Faulted count) refl;
+              floor = floored;
               honesty = λ honest. stands.honesty (honesty honest);
               opened = λ honest. stands.opened (honesty honest);
               images_now = λ (honest : g.honest (disk_under journal)). holds_now journal opening (turns ++ entry ∷ [])
@@ -378,17 +385,3 @@ module _ {D W : Type 0} {g : Ghosts D} {w : WatcherGhosts W} where
                 journal = holds;
               };
             }
-
-  -- the disk that an office leaves
-  pub left_by : (state : OfficeState D W g w) (turns : List Entry) → StandsFor state turns
-      → IsLeftBy g (begun_of state) (disk_of state) (opening_of state) turns
-  left_by state turns stands = record {
-    honesty = stands.honesty;
-    faults = stands.fault_count;
-    opened = stands.opened;
-    now = stands.images_now;
-    since = λ honest. (stands.images_since honest).since;
-    synced = λ honest. (stands.images_since honest).synced;
-    kept = stands.images_kept;
-    alone = stands.alone;
-  }

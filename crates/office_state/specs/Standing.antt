@@ -1,17 +1,21 @@
 -- The office stands for the history of its turns
-use Rattle.std.specs.Prelude.{◌≡◌, ◌⊎◌, ℕ, List, length}
+use Rattle.std.specs.Prelude.{◌≡◌, ◌⊎◌, ℕ, ◌+◌, ◌≤◌, List, drop, length}
 use Rattle.outside_io.specs.declared.disks.Disk.{Ghosts}
+use Rattle.policy_types.specs.declared.command.Command.{Command}
 use Rattle.policy_types.specs.declared.entry.Entry.{Entry}
 use Rattle.policy_machine.specs.Accounts.{ledger_of}
 use Rattle.policy_machine.specs.Book.{book}
 use Rattle.policy_machine.specs.History.{Opening, IsLegal, accepted_of, commands_after, floor_of}
+use Rattle.policy_versions.specs.Commands.{sets_of}
 use Rattle.posting_journal.specs.Opening.{IsSynced}
+use Rattle.versioned_book.specs.Settings.{own}
+use Rattle.versioned_book.specs.Versions.{versions_from}
 use Rattle.watcher_set.specs.declared.watching.Watching.{Ghosts as WatcherGhosts}
 use Rattle.office_state.specs.declared.state.OfficeState.{OfficeState}
 use Rattle.office_state.specs.Images.{AreQuiet, HoldsNow, HoldsOnce, HoldsSince, IsLeftAlone, KeepsAccepted, faults_after}
 use Rattle.office_state.specs.Journals.{Opens}
 use Rattle.office_state.specs.Pins.{pins_held}
-use Rattle.office_state.specs.States.{balances_of, begun_of, commands_of, count_of, disk_of, floor_kept, opening_of, pins_of, policies_of, turns_of}
+use Rattle.office_state.specs.States.{balances_of, begun_of, commands_of, count_of, disk_of, floor_kept, kept_count, opening_of, pins_of, policies_of, turns_of, versions_left}
 use Rattle.office_state.specs.inside.Holding.{Holds}
 
 -- the turns are a legal history from the opening on, and the count is that of the commands after it
@@ -27,10 +31,18 @@ pub record LeavesSince {D : Type 0} (g : Ghosts D) (begun now : D) (opening : Op
       ⊎ HoldsOnce opening turns image
   pub synced : (mid : D) × IsSynced g begun mid now × HoldsSince g now (g.clock mid) opening turns
 
+-- so many versions are kept at most: one for each policy, and one for each command accepted after the floor
+abbrev pub KeepsFew : ℕ → ℕ → List Command → Type 0
+KeepsFew kept floor commands = kept ≤ length (book commands) + length (drop floor commands)
+
 pub record StandsFor {D W : Type 0} {g : Ghosts D} {w : WatcherGhosts W} (state : OfficeState D W g w) (turns : List Entry)
     : Type 0 where
   pub history : IsHistory state turns
-  pub kept : commands_of state ≡ commands_after (opening_of state) turns
+  -- the versions of a number are its policies after each of its commands, with the commands' numbers, but those that no
+  -- position from the floor on needs
+  pub versions : (id : ℕ) → versions_left state id
+      ≡ versions_from (floor_of turns) (own id (sets_of (commands_after (opening_of state) turns)))
+  pub kept : KeepsFew (kept_count state) (floor_of turns) (commands_after (opening_of state) turns)
   pub policies : policies_of state ≡ book (commands_after (opening_of state) turns)
   pub ledger : balances_of state ≡ ledger_of (commands_after (opening_of state) turns)
   pub turned : turns_of state ≡ length turns
@@ -52,4 +64,6 @@ pub record StandsFor {D W : Type 0} {g : Ghosts D} {w : WatcherGhosts W} (state 
   pub alone : AreQuiet turns → IsLeftAlone g (begun_of state) (disk_of state)
   -- its watchers were told of just the accepted commands, in their order, each at its position behind the opening's
   pub told : w.told state.watchers (length (opening_of state).commands) (accepted_of turns)
+  -- the list of which the contracts of its calls speak
+  pub listed : commands_of state ≡ commands_after (opening_of state) turns
   pub inside : Holds (begun_of state) state.journal (opening_of state) turns

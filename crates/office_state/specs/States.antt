@@ -1,5 +1,5 @@
 -- What a caller sees of an office
-use Rattle.std.specs.Prelude.{ℕ, List, length}
+use Rattle.std.specs.Prelude.{ℕ, List}
 use Rattle.outside_io.specs.declared.disks.Disk.{Ghosts}
 use Rattle.policy_types.specs.declared.command.Command.{Command}
 use Rattle.policy_types.specs.declared.policy.Policy.{Policy}
@@ -10,7 +10,8 @@ use Rattle.watcher_set.specs.declared.watching.Watching.{Ghosts as WatcherGhosts
 use Rattle.watcher_set.specs.Noted.{Auditor}
 use Rattle.office_state.specs.declared.held.Held.{Held}
 use Rattle.office_state.specs.declared.state.OfficeState.{OfficeState}
-use Rattle.office_state.specs.inside.Books.{balances_in, commands_in, policies_in}
+use Rattle.versioned_book.specs.Books.{versions_in}
+use Rattle.office_state.specs.inside.Books.{balances_in, commands_in, floor_in, kept_in, policies_in}
 
 -- what an office was opened on, and the disk and the auditors as they were handed in
 pub record Opened (D : Type 0) : Type 0 where
@@ -22,14 +23,22 @@ module _ {D W : Type 0} {g : Ghosts D} {w : WatcherGhosts W} where
   abbrev pub disk_of : OfficeState D W g w → D
   disk_of state = disk_under state.journal
 
-  -- the accepted commands, all of which it keeps
+  -- The accepted commands. It holds none of them in memory: the list stands for what contracts say of its calls.
   abbrev pub commands_of : OfficeState D W g w → List Command
   commands_of state = commands_in state.books
 
   abbrev pub count_of : OfficeState D W g w → ℕ
-  count_of state = length (commands_of state)
+  count_of state = state.books.count
 
-  -- the policies that they leave, in order of issue
+  -- the versions that it keeps of the policy of a number, each with the number of the command that made it, from 1
+  abbrev pub versions_left : OfficeState D W g w → ℕ → List (ℕ × Policy)
+  versions_left state id = versions_in state.books.versions id
+
+  -- how many versions it keeps
+  abbrev pub kept_count : OfficeState D W g w → ℕ
+  kept_count state = kept_in state.books
+
+  -- the newest version of each policy, in order of issue
   abbrev pub policies_of : OfficeState D W g w → List Policy
   policies_of state = policies_in state.books
 
@@ -45,9 +54,9 @@ module _ {D W : Type 0} {g : Ghosts D} {w : WatcherGhosts W} where
   abbrev pub pins_of : OfficeState D W g w → List Held
   pins_of state = state.pins.items
 
-  -- the position before which nothing need be kept
+  -- the position from which on each policy is kept
   abbrev pub floor_kept : OfficeState D W g w → ℕ
-  floor_kept state = state.floor
+  floor_kept state = floor_in state.books
 
   -- the disk on which it was opened, as it was handed in
   abbrev pub begun_of : OfficeState D W g w → D

@@ -4,5 +4,4 @@ pub mod Records
 pub mod Replays
 pub mod Holding
 pub mod Pinning
-pub mod Windows
 pub mod Turns

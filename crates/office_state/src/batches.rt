@@ -8,9 +8,9 @@ ghost use Rattle.office_state.specs.States.{disk_of, opened_of, pins_of, turns_o
 ghost use Rattle.office_state.specs.Turning.{read_turn};
 ghost use Rattle.office_state.specs.declared.held.Held.{Held as AHeld};
 
+use crate::filling::POLICIES_PER_READ;
 use crate::held::Held;
 use crate::state::OfficeState;
-use crate::windows::POLICIES_PER_READ;
 use outside_io::Disk;
 use policy_types::{NoMemory, Policy};
 use std::alloc::Global;
@@ -39,7 +39,7 @@ impl Batch {
     pub fn new(alloc: Global) -> Result<Batch, NoMemory>
         ensures { IfOk result (λ batch. batch ≡ []) }
     {
-        match Vec::with_capacity(alloc, POLICIES_PER_READ) {
+        match Vec::with_capacity(alloc, POLICIES_PER_READ as usize) {
             Ok(policies) => Ok(Batch { policies }),
             Err(_) => Err(NoMemory),
         }
@@ -71,6 +71,7 @@ impl<D: Disk, W: Watching> OfficeState<D, W> {
     pub fn read(&mut self, caller: u64, pin: u64, first: u32, batch: &mut Batch)
         requires turns { turns_of self.old < 2 ^ 62 }
         requires held { MayRead (pins_of self.old) caller pin first }
+        requires stands { (history : List Entry) × StandsFor self.old history }
         ensures opened { opened_of self.new ≡ opened_of self.old }
         ensures disk { disk_of self.new ≡ disk_of self.old }
         ensures stands { (history : List Entry) → StandsFor self.old history

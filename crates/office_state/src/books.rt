@@ -1,5 +1,5 @@
-// The books: the accepted commands, and the policies and balances that they leave.
-ghost use Rattle.std.specs.Prelude.{◌≡◌, ◌+◌, ◌<◌, ◌≤◌, ◌++◌, [], ◌∷◌, Ok, Some, IfOk, OnOk, length, take, slice_get};
+// The books: each policy's versions, and the balances that the accepted commands leave.
+ghost use Rattle.std.specs.Prelude.{◌≡◌, ◌+◌, ◌<◌, ◌≤◌, ◌++◌, [], ◌∷◌, Ok, Some, OnOk, length, take, slice_get};
 ghost use Rattle.policy_types.specs.Limits.{most_commands};
 ghost use Rattle.policy_types.specs.Valid.{IsValid, id_of};
 ghost use Rattle.policy_machine.specs.Accounts.{ledger_of};
@@ -8,55 +8,51 @@ ghost use Rattle.money_ledgers.specs.Balances.{balances};
 ghost use Rattle.policy_machine.specs.Rules.{next};
 ghost use Rattle.office_state.specs.inside.Keeping.{Keeps, Keeps-prop};
 
-use crate::folding::{issues_in, policy_after};
-use indexmap::IndexMap;
+use crate::accepted_list::AcceptedList;
 use money_ledgers::Ledger;
 use policy_machine::decide;
 use policy_types::{Command, NoMemory, Policy, Refusal};
 use std::alloc::Global;
+use versioned_book::VersionedBook;
 
-/// The accepted commands in order, the policies by their numbers in order of issue, and the ledger.
+/// What is kept of the accepted commands: how many there are, each policy's versions by the numbers of the commands
+/// that made them, from the floor on, and the ledger.
 #[derive(Drop)]
 pub(crate) struct Books {
-    pub(crate) commands: Vec<Command>,
-    pub(crate) policies: IndexMap<u32, Policy>,
+    pub(crate) versions: VersionedBook<Policy>,
+    pub(crate) count: u32,
     pub(crate) ledger: Ledger,
-    ghost kept: { Keeps policies ledger commands.items } by { Keeps-prop policies ledger commands.items },
+    // The commands themselves, for contracts alone.
+    pub(crate) accepted: AcceptedList,
+    ghost kept: { Keeps versions count ledger accepted.commands } by { Keeps-prop versions count ledger accepted.commands },
 }
 
 impl Books {
-    ghost use Rattle.office_state.specs.inside.Books.{commands_in, room_in};
+    ghost use Rattle.office_state.specs.inside.Books.{CanKeep, commands_in, floor_in, kept_in};
 
-    /// The books of no command, with room for so many.
-    pub(crate) fn with_capacity(alloc: Global, room: usize) -> Result<Books, NoMemory>
-        ensures empty { IfOk result (λ books. commands_in books ≡ []) }
-        ensures room { IfOk result (λ books. room ≤ room_in books) }
+    /// The books of no command. They take no memory yet.
+    pub(crate) fn new(alloc: Global) -> Books
+        ensures empty { commands_in result ≡ [] }
+        ensures floor { floor_in result ≡ 0 }
     {
-        let Ok(commands) = Vec::with_capacity(alloc, room) else {
-            return Err(NoMemory);
-        };
-        let Ok(policies) = IndexMap::with_capacity(alloc, room) else {
-            return Err(NoMemory);
-        };
-        Ok(Books {
-            commands,
-            policies,
+        Books {
+            versions: VersionedBook::new(alloc),
+            count: 0,
             ledger: Ledger::new(),
-        })
+            accepted: AcceptedList::new(),
+        }
     }
 
-    /// Makes room for so many commands more.
-    pub(crate) fn reserve(&mut self, additional: usize) -> Result<(), NoMemory>
+    /// Makes room for one command more of this policy's number.
+    pub(crate) fn reserve(&mut self, id: u32) -> Result<(), NoMemory>
         ensures commands { commands_in self.new ≡ commands_in self.old }
-        ensures done { OnOk result (additional ≤ room_in self.new) }
+        ensures floor { floor_in self.new ≡ floor_in self.old }
+        ensures done { OnOk result (CanKeep self.new id) }
     {
-        if self.commands.reserve(additional).is_err() {
-            return Err(NoMemory);
+        match self.versions.reserve(id) {
+            Ok(()) => Ok(()),
+            Err(_) => Err(NoMemory),
         }
-        if self.policies.reserve(additional).is_err() {
-            return Err(NoMemory);
-        }
-        Ok(())
     }
 
     /// What the rules make of the policy that a command names.
@@ -64,30 +60,30 @@ impl Books {
         requires valid { IsValid command.now }
         ensures { result ≡ next (policy_of (commands_in self.now) (id_of command.now)) command.now }
     {
-        decide(self.policies.get(&command.id()), command)
+        let policy = self.versions.get(command.id());
+        decide(policy.as_ref(), command)
     }
 
-    /// Keeps an accepted command and what it made of its policy. There is room for it.
+    /// Keeps an accepted command as what it made of its policy. There is room for it.
     pub(crate) fn keep(&mut self, command: &Command, policy: Policy)
         requires valid { IsValid command.now }
         requires accepted { next (policy_of (commands_in self.old) (id_of command.now)) command.now ≡ Ok policy }
         requires few { length (commands_in self.old) < most_commands }
-        requires room { 0 < room_in self.old }
+        requires room { CanKeep self.old (id_of command.now) }
         ensures commands { commands_in self.new ≡ commands_in self.old ++ command.now ∷ [] }
-        ensures room { room_in self.old ≤ room_in self.new + 1 }
+        ensures floor { floor_in self.new ≡ floor_in self.old }
     {
         self.ledger.post(command, &policy);
-        let Ok(_) = self.policies.insert(policy.id, policy) else {
-            unreachable!()
-        };
-        self.commands.push_reserved(*command);
+        self.count += 1;
+        self.versions.set(command.id(), self.count, policy);
+        self.accepted = self.accepted.with(command);
     }
 
     /// How many commands there are.
     pub(crate) fn count(&self) -> u32
         ensures { result ≡ length (commands_in self.now) }
     {
-        self.commands.len() as u32
+        self.count
     }
 
     /// The balances.
@@ -97,32 +93,34 @@ impl Books {
         self.ledger
     }
 
-    /// How many policies there are after the first `p` commands.
-    pub(crate) fn policies(&self, p: u32) -> u32
-        requires { p ≤ length (commands_in self.now) }
-        ensures { result ≡ length (book (take p (commands_in self.now))) }
+    /// The position before which nothing need be kept.
+    pub(crate) fn floor(&self) -> u32
+        ensures { result ≡ floor_in self.now }
     {
-        if p == self.count() {
-            return self.policies.len() as u32;
-        }
-        issues_in(&self.commands[..p as usize])
+        self.versions.floor()
     }
 
-    /// The policy of this index, in order of issue, after the first `p` commands.
-    pub(crate) fn policy(&self, index: u32, p: u32) -> Policy
-        requires position { p ≤ length (commands_in self.now) }
-        requires within { index < length (book (take p (commands_in self.now))) }
-        ensures { slice_get (book (take p (commands_in self.now))) index ≡ Some result }
+    /// How many versions are kept.
+    pub(crate) fn kept(&self) -> u32
+        ensures { result ≡ kept_in self.now }
     {
-        let Some((id, policy)) = self.policies.get_index(index as usize) else {
-            unreachable!()
-        };
-        if p == self.count() {
-            return *policy;
-        }
-        let Some(then) = policy_after(&self.commands[..p as usize], *id) else {
-            unreachable!()
-        };
-        then
+        self.versions.kept()
+    }
+
+    /// How many policies there are after the first `p` commands.
+    pub(crate) fn policies(&self, p: u32) -> u32
+        ensures { result ≡ length (book (take p (commands_in self.now))) }
+    {
+        self.versions.count_at(p)
+    }
+
+    /// Drops the versions that no position from the floor on needs.
+    pub(crate) fn trim(&mut self, floor: u32)
+        requires rising { floor_in self.old ≤ floor }
+        requires reached { floor ≤ length (commands_in self.old) }
+        ensures commands { commands_in self.new ≡ commands_in self.old }
+        ensures floor { floor_in self.new ≡ floor }
+    {
+        self.versions.trim(floor);
     }
 }

@@ -1,11 +1,12 @@
 //! The office: its journal, what it keeps of the accepted commands, and the history of its turns.
 #![tactic(auto)]
 
+mod accepted_list;
 mod answer;
 mod batches;
 mod books;
 mod faults;
-mod folding;
+mod filling;
 mod held;
 mod laws;
 mod opening;
@@ -16,7 +17,6 @@ mod recording;
 mod replaying;
 mod state;
 mod trimming;
-mod windows;
 
 pub use answer::Answer;
 pub use batches::Batch;

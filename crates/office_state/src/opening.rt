@@ -57,12 +57,7 @@ fn office_of<D: Disk, W: Watching>(
     ensures none { IfErr result (λ fault. HasNoOffice journal fault.disk fault.cause) }
 {
     let mut journal = journal;
-    let Ok(mut books) = Books::with_capacity(alloc, journal.count() as usize) else {
-        return Err(StartFault {
-            cause: StartCause::NoMemory,
-            disk: journal.release(),
-        });
-    };
+    let mut books = Books::new(alloc);
     match replay(&mut journal, &mut books) {
         Ok(()) => {
             let recovered = Snapshot::of(&books);
@@ -72,7 +67,6 @@ fn office_of<D: Disk, W: Watching>(
                 watchers,
                 turns: 0,
                 pins: ArrayVec::new(),
-                floor: 0,
                 begun,
                 recovered,
             })

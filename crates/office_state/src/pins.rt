@@ -54,8 +54,9 @@ impl<D: Disk, W: Watching> OfficeState<D, W> {
         if count < p {
             return Err(PinRefusal::Ahead(count));
         }
-        if p < self.floor {
-            return Err(PinRefusal::Trimmed(self.floor));
+        let floor = self.books.floor();
+        if p < floor {
+            return Err(PinRefusal::Trimmed(floor));
         }
         hold(&mut self.pins, &self.books, number, caller, p)
     }
@@ -83,7 +84,6 @@ fn hold(
     caller: u64,
     position: u32,
 ) -> Result<PinInfo, PinRefusal>
-    requires { position ≤ length (commands_in books.now) }
     ensures { MatchResult result
         (λ info. HasTaken pins.old.items pins.new.items (book (take position (commands_in books.now))) number caller
         position info)

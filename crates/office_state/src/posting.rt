@@ -1,5 +1,5 @@
 // A command is posted.
-ghost use Rattle.std.specs.Prelude.{◌≡◌, ◌^◌, ◌≤◌, ◌<◌, ◌++◌, [], ◌∷◌, Ok, OnOk, List, ℕ};
+ghost use Rattle.std.specs.Prelude.{◌≡◌, ◌^◌, ◌<◌, ◌++◌, [], ◌∷◌, Ok, OnOk, List, ℕ};
 ghost use Rattle.policy_types.specs.Valid.{IsValid, id_of};
 ghost use Rattle.policy_types.specs.declared.command.Command.{Command as ACommand};
 ghost use Rattle.policy_types.specs.declared.entry.Entry.{Entry};
@@ -8,7 +8,7 @@ ghost use Rattle.policy_machine.specs.Rules.{next};
 ghost use Rattle.office_state.specs.Posting.{CrashesIn, IsBeforeWriting, turn_of};
 ghost use Rattle.office_state.specs.Standing.{StandsFor};
 ghost use Rattle.office_state.specs.States.{commands_of, disk_of, opened_of, opening_of, turns_of};
-ghost use Rattle.office_state.specs.inside.Books.{commands_in, room_in};
+ghost use Rattle.office_state.specs.inside.Books.{CanKeep, commands_in, floor_in};
 ghost use Rattle.office_state.specs.inside.Turns.{one_more};
 
 use crate::answer::Answer;
@@ -57,7 +57,7 @@ impl<D: Disk, W: Watching> OfficeState<D, W> {
         ensures crash { (history : List Entry) → StandsFor self.old history → D.honest (disk_of self.new)
             → CrashesIn D.Disk (disk_of self.old) (disk_of self.new) (opening_of self.old) history command.now result }
     {
-        if take_memory(&mut self.books, &mut self.watchers).is_err() {
+        if take_memory(&mut self.books, command.id(), &mut self.watchers).is_err() {
             return Answer::NoMemory;
         }
         match self.books.decision(command) {
@@ -71,7 +71,7 @@ impl<D: Disk, W: Watching> OfficeState<D, W> {
         requires valid { IsValid command.now }
         requires stands { (history : List Entry) × StandsFor self.old history }
         requires accepted { next (policy_of (commands_of self.old) (id_of command.now)) command.now ≡ Ok policy }
-        requires room { 1 ≤ room_in self.old.books }
+        requires room { CanKeep self.old.books (id_of command.now) }
         requires ready { W.has_room self.old.watchers }
         ensures opened { opened_of self.new ≡ opened_of self.old }
         ensures honesty { D.honest (disk_of self.new) → D.honest (disk_of self.old) }
@@ -97,14 +97,15 @@ impl<D: Disk, W: Watching> OfficeState<D, W> {
     }
 }
 
-// Takes the memory that a posting may need: that of the books, and that of the watchers.
-fn take_memory<W: Watching>(books: &mut Books, watchers: &mut W) -> Result<(), NoMemory>
+// Takes the memory that a posting of this policy's number may need: that of the books, and that of the watchers.
+fn take_memory<W: Watching>(books: &mut Books, id: u32, watchers: &mut W) -> Result<(), NoMemory>
     ensures commands { commands_in books.new ≡ commands_in books.old }
+    ensures floor { floor_in books.new ≡ floor_in books.old }
     ensures handed { W.handed watchers.new ≡ W.handed watchers.old }
     ensures told { (before : ℕ) (commands : List ACommand) → W.told watchers.old before commands → W.told watchers.new before commands }
-    ensures room { OnOk result (1 ≤ room_in books.new) }
+    ensures room { OnOk result (CanKeep books.new id) }
     ensures ready { OnOk result (W.has_room watchers.new) }
 {
-    books.reserve(1)?;
+    books.reserve(id)?;
     watchers.ready()
 }

@@ -4,11 +4,11 @@ ghost use Rattle.policy_types.specs.declared.entry.Entry.{Entry};
 ghost use Rattle.money_ledgers.specs.Balances.{balances};
 ghost use Rattle.policy_machine.specs.Accounts.{ledger_of};
 ghost use Rattle.policy_machine.specs.Book.{book};
-ghost use Rattle.policy_machine.specs.History.{accepted_of};
+ghost use Rattle.policy_machine.specs.History.{accepted_of, commands_after, floor_of};
 ghost use Rattle.watcher_set.specs.Noted.{reports_of};
 ghost use Rattle.office_state.specs.Images.{IsLeftBy};
-ghost use Rattle.office_state.specs.Standing.{StandsFor};
-ghost use Rattle.office_state.specs.States.{auditors_of, begun_of, commands_of, count_of, disk_of, opening_of, turns_of};
+ghost use Rattle.office_state.specs.Standing.{KeepsFew, StandsFor};
+ghost use Rattle.office_state.specs.States.{auditors_of, begun_of, commands_of, count_of, disk_of, floor_kept, kept_count, opening_of, turns_of};
 
 use crate::state::OfficeState;
 use money_ledgers::Ledger;
@@ -39,9 +39,17 @@ impl<D: Disk, W: Watching> OfficeState<D, W> {
         self.books.ledger()
     }
 
+    /// The position from which on policies are kept.
+    pub fn floor(&self) -> u32
+        ensures { result ≡ floor_kept self.now }
+    {
+        self.books.floor()
+    }
+
     /// How many policies there are after the first `p` accepted commands.
     pub fn policies(&self, p: u32) -> u32
-        requires { p ≤ count_of self.now }
+        requires position { p ≤ count_of self.now }
+        requires floor { floor_kept self.now ≤ p }
         ensures { result ≡ length (book (take p (commands_of self.now))) }
     {
         self.books.policies(p)
@@ -50,10 +58,20 @@ impl<D: Disk, W: Watching> OfficeState<D, W> {
     /// The policy of this index, in order of issue, after the first `p` accepted commands.
     pub fn policy(&self, index: u32, p: u32) -> Policy
         requires position { p ≤ count_of self.now }
+        requires floor { floor_kept self.now ≤ p }
         requires within { index < length (book (take p (commands_of self.now))) }
         ensures { slice_get (book (take p (commands_of self.now))) index ≡ Some result }
     {
         self.books.policy(index, p)
+    }
+
+    /// How many versions of policies are kept.
+    pub fn kept(&self) -> u32
+        ensures kept { result ≡ kept_count self.now }
+        ensures few { (history : List Entry) → StandsFor self.now history
+            → KeepsFew result (floor_of history) (commands_after (opening_of self.now) history) }
+    {
+        self.books.kept()
     }
 
     /// Gives back the disk, and the ledger, and the reports of the watchers.

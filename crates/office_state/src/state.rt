@@ -9,7 +9,7 @@ use posting_journal::Journal;
 use std::snapshot::Snapshot;
 use watcher_set::Watching;
 
-/// An office on its disk: each accepted command stands in its journal, and all of them are kept in memory.
+/// An office on its disk: each accepted command stands in its journal, and what it made of its policy in memory.
 #[derive(Drop)]
 pub struct OfficeState<D: Disk, W: Watching> {
     pub(crate) journal: Journal<D>,
@@ -19,10 +19,8 @@ pub struct OfficeState<D: Disk, W: Watching> {
     // How many turns it answered.
     pub(crate) turns: u64,
     pub(crate) pins: Pins,
-    // The position before which nothing need be kept.
-    pub(crate) floor: u32,
     // What it was opened on, for contracts alone: the disk as it was handed in, and the books of its journal.
     pub(crate) begun: Snapshot<D>,
     pub(crate) recovered: Snapshot<Books>,
-    ghost counted: { count_of journal ≡ length books.commands.items },
+    ghost counted: { count_of journal ≡ length books.accepted.commands },
 }

@@ -1,4 +1,4 @@
-// What no pin needs may be forgotten.
+// What no pin needs is forgotten.
 ghost use Rattle.std.specs.Prelude.{◌≡◌, ◌^◌, ◌<◌, ◌++◌, [], ◌∷◌, List, map, min};
 ghost use Rattle.std.specs.List.{fold};
 ghost use Rattle.policy_types.specs.declared.entry.Entry.{Entry};
@@ -12,18 +12,21 @@ use outside_io::Disk;
 use watcher_set::Watching;
 
 impl<D: Disk, W: Watching> OfficeState<D, W> {
-    /// Raises the floor to the least position of a live pin, or to the count where none is live, and gives it.
+    /// Raises the floor to the least position of a live pin, or to the count where none is live, and gives it. The versions
+    /// that no position from the floor on needs are dropped.
     pub fn trim(&mut self, caller: u64) -> u32
         requires turns { turns_of self.old < 2 ^ 62 }
+        requires stands { (history : List Entry) × StandsFor self.old history }
         ensures opened { opened_of self.new ≡ opened_of self.old }
         ensures disk { disk_of self.new ≡ disk_of self.old }
         ensures stands { (history : List Entry) → StandsFor self.old history
             → StandsFor self.new (history ++ trim_turn caller result ∷ []) }
     {
         let _ = caller;
-        self.floor = least_position(&self.pins, self.books.count());
+        let floor = least_position(&self.pins, self.books.count());
+        self.books.trim(floor);
         self.turns += 1;
-        self.floor
+        floor
     }
 }
 

@@ -12,15 +12,16 @@ use std::rt::Files;
 
 /// The file with a name in the folder in which the program runs. It is opened, or made, at the
 /// first call; nothing of it is cut off. It is locked against other processes that do the same, until
-/// it is dropped; where one of them has it, the call fails and counts.
+/// it is dropped; where one of them has it, the call fails and counts. So does a write past the end and a sync
+/// where the file was removed, renamed, replaced or cut.
 #[derive(Drop)]
-pub struct FileDisk<R: Files<File = File>, F: FoundFile> {
+pub struct FileDisk<R: Files<File = File> + AllocGlobal, F: FoundFile> {
     file: NotedFile<R>,
     found: PhantomData<F>,
     ghost within: { AreAllowed F.bytes F.torn file.calls → writes_within F.bytes F.torn file.calls ≡ true },
 }
 
-impl<R: Files<File = File>, F: FoundFile> FileDisk<R, F> {
+impl<R: Files<File = File> + AllocGlobal, F: FoundFile> FileDisk<R, F> {
     /// Touches nothing. It had no fault so far.
     pub fn at(files: R, name: &'static str, _found: F) -> FileDisk<R, F>
         ensures faults { result.file.faults ≡ 0 }
@@ -33,7 +34,7 @@ impl<R: Files<File = File>, F: FoundFile> FileDisk<R, F> {
     }
 }
 
-impl<R: Files<File = File>, F: FoundFile> Disk for FileDisk<R, F> {
+impl<R: Files<File = File> + AllocGlobal, F: FoundFile> Disk for FileDisk<R, F> {
     ghost faults = { λ disk. disk.file.faults };
 
     ghost honest = { λ disk. AreAllowed F.bytes F.torn disk.file.calls };

@@ -14,6 +14,7 @@ mod file_disk;
 mod folder_shelf;
 mod found_file;
 mod gates;
+mod held_file;
 mod laws;
 mod map_shelf;
 mod noted_file;

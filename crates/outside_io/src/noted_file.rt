@@ -7,25 +7,25 @@ ghost use Rattle.outside_io.specs.FileCalls.{Measured, ReadFrom, WrittenTo, Sync
 use crate::Failed;
 use crate::counting::counted;
 use crate::file_calls::FileCalls;
-use std::fs::{File, OpenOptions};
+use crate::held_file::HeldFile;
+use std::fs::File;
 use std::io;
 use std::io::ErrorKind;
-use std::os::unix::fs::FileExt;
 use std::rt::Files;
 
 // The file with a name in the folder in which the program runs. It is opened, or made, at the first call; nothing of it
 // is cut off. It is locked against other processes that do the same, until it is dropped; where one of them has it, the
-// call fails and counts.
+// call fails and counts. So does one that finds the file cut, or no longer under its name.
 #[derive(Drop)]
-pub(crate) struct NotedFile<R: Files<File = File>> {
+pub(crate) struct NotedFile<R: Files<File = File> + AllocGlobal> {
     files: R,
     name: &'static str,
-    file: Option<File>,
+    file: Option<HeldFile>,
     pub(crate) faults: u64,
     pub(crate) calls: FileCalls,
 }
 
-impl<R: Files<File = File>> NotedFile<R> {
+impl<R: Files<File = File> + AllocGlobal> NotedFile<R> {
     // Touches nothing.
     pub(crate) fn at(files: R, name: &'static str) -> NotedFile<R>
         ensures faults { result.faults ≡ 0 }
@@ -90,68 +90,53 @@ impl<R: Files<File = File>> NotedFile<R> {
     }
 }
 
-fn ask_length<R: Files<File = File>>(
+fn ask_length<R: Files<File = File> + AllocGlobal>(
     files: &R,
     name: &str,
-    slot: &mut Option<File>,
+    slot: &mut Option<HeldFile>,
 ) -> io::Result<u64> {
-    Ok(opened(files, name, slot)?.metadata()?.len())
+    opened(files, name, slot)?.length(files)
 }
 
-fn fill<R: Files<File = File>>(
+fn fill<R: Files<File = File> + AllocGlobal>(
     files: &R,
     name: &str,
-    slot: &mut Option<File>,
+    slot: &mut Option<HeldFile>,
     at: u64,
     buf: &mut [u8],
 ) -> io::Result<()> {
-    opened(files, name, slot)?.read_exact_at(buf, at)
+    opened(files, name, slot)?.fill(at, buf)
 }
 
-fn put<R: Files<File = File>>(
+fn put<R: Files<File = File> + AllocGlobal>(
     files: &R,
     name: &str,
-    slot: &mut Option<File>,
+    slot: &mut Option<HeldFile>,
     at: u64,
     bytes: &[u8],
 ) -> io::Result<()> {
-    opened(files, name, slot)?.write_all_at(bytes, at)
+    opened(files, name, slot)?.put(files, name, at, bytes)
 }
 
-fn make_safe<R: Files<File = File>>(
+fn make_safe<R: Files<File = File> + AllocGlobal>(
     files: &R,
     name: &str,
-    slot: &mut Option<File>,
+    slot: &mut Option<HeldFile>,
 ) -> io::Result<()> {
-    opened(files, name, slot)?.sync_all()
+    opened(files, name, slot)?.make_safe(files, name)
 }
 
 // The file, which the first call opens or makes.
-fn opened<'a, R: Files<File = File>>(
+fn opened<'a, R: Files<File = File> + AllocGlobal>(
     files: &R,
     name: &str,
-    slot: &'a mut Option<File>,
-) -> io::Result<&'a File> {
+    slot: &'a mut Option<HeldFile>,
+) -> io::Result<&'a mut HeldFile> {
     if slot.is_none() {
-        *slot = Some(open_or_make(files, name)?);
+        *slot = Some(HeldFile::open(files, name)?);
     }
     match slot {
         Some(file) => Ok(file),
         None => Err(io::Error::from(ErrorKind::NotFound)),
     }
-}
-
-// The file is safe only once its folder is. A run that made the file may have ended before that, so every run sees to
-// it.
-fn open_or_make<R: Files<File = File>>(files: &R, name: &str) -> io::Result<File> {
-    let file = OpenOptions::new()
-        .read(true)
-        .write(true)
-        .create(true)
-        .open(files, name)?;
-    if file.try_lock().is_err() {
-        return Err(io::Error::from(ErrorKind::WouldBlock));
-    }
-    File::open(files, ".")?.sync_all()?;
-    Ok(file)
 }

@@ -57,8 +57,8 @@ impl<R: Read> Source for StdSource<R> {
         ensures end { SeesEnd result buf.new → HasEnd self.new.given }
         ensures not_before { HasEnd self.new.given → HasEnd self.old.given ⊎ SeesEnd result buf.new }
     {
-        // The one call of the reader. Where it fails it gave nothing, and nothing is noted.
-        let many = counted(self.reader.read(buf), &mut self.faults)?;
+        // The call of the reader. Where it fails it gave nothing, and nothing is noted.
+        let many = counted(give_some(&mut self.reader, buf), &mut self.faults)?;
         // The reader said how many bytes it put in front, so these are what it gave. The buffer isn't written again.
         self.given.note(buf.len(), &buf[..many]);
         Ok(many)
@@ -105,7 +105,7 @@ impl<W: Write> Sink for StdSink<W> {
         ensures bytes { WriteAppends (Some (passed_bytes self.old.taken)) (Some (passed_bytes self.new.taken))
             result bytes.now }
     {
-        // The one call of the writer. Where it fails it took nothing, and nothing is noted.
+        // The call of the writer. Where it fails it took nothing, and nothing is noted.
         let many = counted(take_some(&mut self.writer, bytes), &mut self.faults)?;
         // The writer said how many bytes it took from the front.
         self.taken.note(bytes.len(), &bytes[..many]);
@@ -113,15 +113,35 @@ impl<W: Write> Sink for StdSink<W> {
     }
 }
 
-// One write, whose answer isn't kept back: a writer that takes nothing of a piece fails.
+// One read. Where a signal interrupted it, nothing was given, and it is made again.
+fn give_some<R: Read>(reader: &mut R, buf: &mut [u8]) -> io::Result<usize>
+    ensures bound { IfOk result (λ n. n ≤ length buf.new) }
+    ensures through { ReadConsumes (R.remaining reader.old) (R.remaining reader.new) result buf.new }
+{
+    for _ in 0..u64::MAX {
+        match reader.read(buf) {
+            Ok(many) => return Ok(many),
+            Err(e) if e.kind() == ErrorKind::Interrupted => {}
+            Err(e) => return Err(e),
+        }
+    }
+    Err(io::Error::from(ErrorKind::TimedOut))
+}
+
+// One write, whose answer isn't kept back: a writer that takes nothing of a piece fails. Where a signal interrupted it,
+// nothing was taken, and it is made again.
 fn take_some<W: Write>(writer: &mut W, bytes: &[u8]) -> io::Result<usize>
     ensures bound { IfOk result (λ n. n ≤ length bytes.now) }
     ensures some { 0 < length bytes.now → IfOk result (λ n. 0 < n) }
     ensures through { WriteAppends (W.contents writer.old) (W.contents writer.new) result bytes.now }
 {
-    let many = writer.write(bytes)?;
-    if many == 0 && !bytes.is_empty() {
-        return Err(io::Error::from(ErrorKind::WriteZero));
+    for _ in 0..u64::MAX {
+        match writer.write(bytes) {
+            Ok(0) if !bytes.is_empty() => return Err(io::Error::from(ErrorKind::WriteZero)),
+            Ok(many) => return Ok(many),
+            Err(e) if e.kind() == ErrorKind::Interrupted => {}
+            Err(e) => return Err(e),
+        }
     }
-    Ok(many)
+    Err(io::Error::from(ErrorKind::TimedOut))
 }

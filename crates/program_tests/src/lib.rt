@@ -8,6 +8,8 @@ mod devices;
 #[cfg(test)]
 mod disk_tests;
 #[cfg(test)]
+mod fault_tests;
+#[cfg(test)]
 mod load_tests;
 #[cfg(test)]
 mod lying_disk;

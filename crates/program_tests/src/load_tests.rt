@@ -32,7 +32,7 @@ fn done<R: Threads + Wait + Sync>(
 fn scripts_are_generated(rt: HostRuntime) -> Result<(), AllocError> {
     let made = done(&rt, rt.alloc(), &["generate", "1", "1", "1"], FLAT, &[])?;
     assert!(rt; ends(&made, 0, ROWS));
-    assert!(rt; made.disk.calls().is_empty());
+    assert!(rt; made.disk.calls() == 0);
     Ok(())
 }
 
@@ -71,6 +71,6 @@ fn loads_need_a_basis(rt: HostRuntime) -> Result<(), AllocError> {
         &[],
     )?;
     assert!(rt; ends(&bad, 4, "badbasis,basis.csv,1,badrow\n"));
-    assert!(rt; bad.disk.calls().is_empty());
+    assert!(rt; bad.disk.calls() == 0);
     Ok(())
 }

@@ -120,7 +120,7 @@ fn holds<R: Threads + Wait + Sync>(rt: &R, alloc: Global, case: &Case) -> Result
         disk,
     )?;
     let left = bytes_of(alloc, case.left)?;
-    let untouched = ran.disk.calls().is_empty() == matches!(case.status, 2 | 3 | 6);
+    let untouched = (ran.disk.calls() == 0) == matches!(case.status, 2 | 3 | 6);
     Ok(
         untouched
             && ran.status == case.status

@@ -117,7 +117,7 @@ pub(crate) fn holds<R: Threads + Wait + Sync>(
 ) -> Result<bool, AllocError> {
     let read = value_over(rt, alloc, case, &[], &[], &[])?;
     let journal = journal_of(rt, alloc, case)?;
-    let untouched = read.disk.calls().is_empty() == matches!(case.status, 2 | 4 | 6);
+    let untouched = (read.disk.calls() == 0) == matches!(case.status, 2 | 4 | 6);
     Ok(
         ends(&read, case.status, case.written)
             && untouched

@@ -72,12 +72,12 @@ fn long_files_are_refused(rt: HostRuntime) -> Result<(), AllocError> {
         let shelf = MapShelf::new(files, Vec::new(alloc));
         let read = run_with(&rt, alloc, &["value", "2021-01-01"], &[], shelf, foreign)?;
         assert!(rt; ends(&read, 4, written));
-        assert!(rt; read.disk.calls().is_empty());
+        assert!(rt; read.disk.calls() == 0);
     }
     Ok(())
 }
 
-// The shelf is called twice, for the basis and for the table; the disk six times.
+// The shelf is called twice, for the basis and for the table; the disk five times.
 #[test]
 fn failing_devices_are_answered(rt: HostRuntime) -> Result<(), AllocError> {
     let alloc = rt.alloc();
@@ -90,12 +90,12 @@ fn failing_devices_are_answered(rt: HostRuntime) -> Result<(), AllocError> {
             assert!(rt; ends(&read, 0, written));
         } else {
             assert!(rt; ends(&read, 6, "readfault\n"));
-            assert!(rt; read.disk.calls().is_empty());
+            assert!(rt; read.disk.calls() == 0);
         }
     }
-    for call in 1..=7 {
+    for call in 1..=6 {
         let read = value_over(&rt, alloc, &case, &[], &[], &[call])?;
-        if call == 7 {
+        if call == 6 {
             assert!(rt; ends(&read, 0, written));
         } else {
             assert!(rt; ends(&read, 8, "diskfault\n"));

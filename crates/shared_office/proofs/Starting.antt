@@ -56,6 +56,6 @@ module _ {D W : Type 0} (g : Ghosts D) (w : WatcherGhosts W) where
       opened = opened;
       whole = whole;
       disk = subst (λ (s : OfficeState D W g w). StandsFor s pass.seen → IsLeftBy g (begun_of s) disk (opening_of s) pass.seen) same (left pass.seen) stood.state;
-      ledger = ledger ∙ ap (λ (s : OfficeState D W g w). ledger_of (commands_of s)) same ∙ ap ledger_of stood.state.kept;
+      ledger = ledger ∙ ap (λ (s : OfficeState D W g w). ledger_of (commands_of s)) same ∙ ap ledger_of stood.state.listed;
       reports = subst (λ (s : OfficeState D W g w). StandsFor s pass.seen → reports ≡ reports_of (auditors_of s) (accepted_of pass.seen)) same (told pass.seen) stood.state ∙ ap (λ auditors. reports_of auditors (accepted_of pass.seen)) stood.handed;
     }

@@ -16,7 +16,8 @@ use Rattle.schedule_laws.specs.PinnedReads.{book_at}
 use Rattle.schedule_laws.proofs.ReadsTogether.{read_holds}
 use Rattle.office_state.specs.Turning.{read_turn}
 use Rattle.office_state.specs.declared.held.Held.{Held}
-use Rattle.office_state.proofs.BookSteps.{all-take, length-issues}
+use Rattle.policy_versions.proofs.Fronts.{all-take}
+use Rattle.office_state.proofs.BookSteps.{length-issues}
 use Rattle.turn_lock.specs.History.{StartsWith}
 use Rattle.turn_lock.specs.Passes.{Holding, PassFacts, TakesTurn}
 use Rattle.shared_office.specs.Offices.{IsOfficeHistory, OfficeOpening}

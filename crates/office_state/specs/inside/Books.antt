@@ -1,23 +1,37 @@
 -- What is seen of the books
-use Rattle.std.specs.Prelude.{ℕ, ◌-◌, min, List, length, vec_capacity}
-use Rattle.indexmap.specs.IndexMap.{spare, values}
+use Rattle.std.specs.Prelude.{ℕ, List, filter_map}
+use Rattle.indexmap.specs.IndexMap.{keys}
 use Rattle.policy_types.specs.declared.command.Command.{Command}
 use Rattle.policy_types.specs.declared.policy.Policy.{Policy}
 use Rattle.policy_types.specs.Accounts.{Booking}
 use Rattle.money_ledgers.specs.Balances.{balances}
+use Rattle.versioned_book.specs.Books.{CanSet, kept_of, versions_in}
+use Rattle.versioned_book.specs.Versions.{newest_of}
 use Rattle.office_state.specs.declared.books.Books.{Books}
 
--- the commands that they keep, in order
+-- the commands for which they stand, in order
 abbrev pub commands_in : Books → List Command
-commands_in books = books.commands.items
+commands_in books = books.accepted.commands
 
--- the policies that these leave, in order of issue
+-- the newest version of each policy, in order of issue
 abbrev pub policies_in : Books → List Policy
-policies_in books = values books.policies
+policies_in books = filter_map (λ (id : ℕ). newest_of (versions_in books.versions id)) (keys books.versions.chains)
 
 abbrev pub balances_in : Books → Booking
 balances_in books = balances books.ledger
 
--- how many more they can keep without memory
-abbrev pub room_in : Books → ℕ
-room_in books = min (spare books.policies) (vec_capacity books.commands - length books.commands.items)
+-- the position from which on each policy is kept
+abbrev pub floor_in : Books → ℕ
+floor_in books = books.versions.floor
+
+-- how many versions are kept
+abbrev pub kept_in : Books → ℕ
+kept_in books = kept_of books.versions
+
+-- one command more of a policy's number needs no memory
+abbrev pub CanKeep : Books → ℕ → Type 0
+CanKeep books id = CanSet books.versions id
+
+-- The most looks that finding one version takes: 2 ^ 22 is at most twice the most commands and one more, and 2 ^ 23 isn't.
+abbrev pub looks_at_most : ℕ
+looks_at_most = 22

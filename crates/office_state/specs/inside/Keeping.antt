@@ -1,9 +1,8 @@
--- The policies and the ledger that are kept beside the accepted commands
-use Rattle.std.specs.Prelude.{◌≡◌, ℕ, ◌≤◌, List, [], ◌∷◌, ◌++◌, length, nat_eq}
+-- The versions and the ledger that are kept of the accepted commands
+use Rattle.std.specs.Prelude.{◌≡◌, ℕ, ◌≤◌, List, [], ◌∷◌, ◌++◌, length}
 use Rattle.std.specs.Coded.{×_prop, Unit-prop}
-use Rattle.std.specs.List.{AllByRecursion, filter_map}
+use Rattle.std.specs.List.{AllByRecursion}
 use Rattle.std.proofs.Props.{props}
-use Rattle.indexmap.specs.IndexMap.{IndexMap, IsUnique, get, keys}
 use Rattle.policy_types.specs.declared.command.Command.{Command}
 use Rattle.policy_types.specs.declared.command.Command.TheVariants.{Issue, Premium, Alter, Lapse, Reinstate, Claim, Settle, Mature}
 use Rattle.policy_types.specs.declared.command.Plan.TheVariants.{Term, Whole, Endowment, Limited}
@@ -13,17 +12,20 @@ use Rattle.policy_types.specs.Valid.{IsValid}
 use Rattle.money_ledgers.specs.Balances.{balances}
 use Rattle.money_ledgers.specs.declared.ledger.Ledger.{Ledger}
 use Rattle.policy_machine.specs.Accounts.{ledger_of}
-use Rattle.policy_machine.specs.Book.{policy_of, issue_id, IsAccepted, IsAcceptedAfter}
+use Rattle.policy_machine.specs.Book.{IsAccepted, IsAcceptedAfter}
+use Rattle.policy_versions.specs.Commands.{sets_of}
+use Rattle.versioned_book.specs.Books.{IsBookOf, IsBookOf-prop}
+use Rattle.versioned_book.specs.declared.book.VersionedBook.{VersionedBook}
 
--- the policies are those of the commands by their numbers, in order of issue, and the balances are theirs
-pub record Keeps {S : Type 0} (policies : IndexMap ℕ Policy S) (ledger : Ledger) (commands : List Command)
-    : Type 0 where
+-- The commands are accepted one after the other. Each of them set the version of its policy at its own number, from 1, the
+-- last of them the last, and the balances are theirs.
+pub record Keeps (versions : VersionedBook Policy) (count : ℕ) (ledger : Ledger) (commands : List Command) : Type 0 where
   pub valid : AllByRecursion IsValid commands
   pub accepted : IsAccepted commands
   pub few : length commands ≤ most_commands
-  pub unique : IsUnique nat_eq policies
-  pub in_order : keys policies ≡ filter_map issue_id commands
-  pub found : (id : ℕ) → get nat_eq policies id ≡ policy_of commands id
+  pub counted : count ≡ length commands
+  pub set : IsBookOf versions (sets_of commands)
+  pub last : versions.last ≡ length commands
   pub booked : balances ledger ≡ ledger_of commands
 
 IsValid-prop : (command : Command) → IsProp (IsValid command)
@@ -43,7 +45,10 @@ IsAcceptedAfter-prop : (before commands : List Command) → IsProp (IsAcceptedAf
 IsAcceptedAfter-prop before [] = Unit-prop
 IsAcceptedAfter-prop before (command ∷ commands) = ×_prop (Prim.hlevel props) (IsAcceptedAfter-prop (before ++ command ∷ []) commands)
 
+set-prop : (versions : VersionedBook Policy) (commands : List Command) → IsProp (IsBookOf versions (sets_of commands))
+set-prop versions commands = IsBookOf-prop (Prim.hlevel props) versions (sets_of commands)
+
 -- it has one proof at most
-pub Keeps-prop : {S : Type 0} (policies : IndexMap ℕ Policy S) (ledger : Ledger) (commands : List Command)
-    → IsProp (Keeps policies ledger commands)
-Keeps-prop policies ledger commands = Prim.hlevel (props, IsValid-prop, IsAcceptedAfter-prop)
+pub Keeps-prop : (versions : VersionedBook Policy) (count : ℕ) (ledger : Ledger) (commands : List Command)
+    → IsProp (Keeps versions count ledger commands)
+Keeps-prop versions count ledger commands = Prim.hlevel (props, IsValid-prop, IsAcceptedAfter-prop, set-prop)

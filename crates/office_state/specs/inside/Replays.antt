@@ -18,7 +18,7 @@ use Rattle.office_state.specs.declared.faults.StartCause.{StartCause}
 use Rattle.office_state.specs.declared.faults.StartCause.TheVariants.{DiskFault, NotAJournal, BadRecord, NoMemory}
 use Rattle.office_state.specs.declared.state.OfficeState.{OfficeState}
 use Rattle.office_state.specs.Journals.{IsUnspelled, bodies_of}
-use Rattle.office_state.specs.inside.Books.{commands_in}
+use Rattle.office_state.specs.inside.Books.{commands_in, floor_in}
 
 -- the cause for which a journal isn't opened, as that for which no office is
 abbrev pub as_cause : JournalCause → StartCause
@@ -59,13 +59,14 @@ pub record IsReplayed {D : Type 0} {g : Ghosts D} (old new : Journal D g) (befor
   pub quiet : IsQuiet old (disk_of new)
   pub spelled : BodiesHave old (disk_of new) (λ bodies. slice_index_or bodies n [] ≡ spelling_of command)
 
--- record n isn't: the disk failed, or its body spells no command that can follow these
+-- record n isn't: the disk failed, or its body spells no command that can follow these, or there was no memory
 abbrev pub IsStuck : {D : Type 0} {g : Ghosts D} → Journal D g → Journal D g → ℕ → List Command → StartCause → Type 0
 IsStuck old new n commands (DiskFault count) = HasFailed old (disk_of new) count
 IsStuck old new n commands (BadRecord m) =
     (m ≡ n) × IsQuiet old (disk_of new)
     × BodiesHave old (disk_of new) (λ bodies. IsUnspelled (slice_index_or bodies n []) commands)
-IsStuck old new n commands _ = ⊥
+IsStuck old new n commands NoMemory = IsQuiet old (disk_of new)
+IsStuck old new n commands NotAJournal = ⊥
 
 -- the first n records are those of the commands that the books keep
 pub record AreReplayed {D : Type 0} {g : Ghosts D} (old new : Journal D g) (books : Books) (n : ℕ) : Type 0 where
@@ -97,7 +98,7 @@ pub record IsOfficeOf {D W : Type 0} {g : Ghosts D} {w : WatcherGhosts W} (journ
   pub replayed : AreReplayed journal state.journal state.books (count_of journal)
   pub turns : state.turns ≡ 0
   pub pins : state.pins.items ≡ []
-  pub floor : state.floor ≡ 0
+  pub floor : floor_in state.books ≡ 0
   pub recovered : state.recovered.value ≡ state.books
   pub begun : state.begun.value ≡ disk
   pub watched : state.watchers ≡ watchers

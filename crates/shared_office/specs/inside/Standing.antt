@@ -32,6 +32,6 @@ module _ {D W : Type 0} {g : Ghosts D} {w : WatcherGhosts W} where
       → IsOfficeHistory (opening_on shared) history
   is_history shared history stood = record {
     legal = stood.state.history.legal;
-    valid = subst (AllByRecursion IsValid) stood.state.kept shared.state.books.kept.valid;
-    few = subst (λ (commands : List Command). length commands ≤ most_commands) stood.state.kept shared.state.books.kept.few;
+    valid = subst (AllByRecursion IsValid) stood.state.listed shared.state.books.kept.valid;
+    few = subst (λ (commands : List Command). length commands ≤ most_commands) stood.state.listed shared.state.books.kept.few;
   }

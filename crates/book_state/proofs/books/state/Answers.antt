@@ -10,7 +10,7 @@ pub returns-in-Ok : goal.returns-in-Ok
 returns-in-Ok g c =
     let opened = c.in-Ok.ensures.opened in
     let closed = c.close-disk.ensures.left [] opened.stands in
-    let all : commands_of c.in-Ok.office ≡ (opening_of c.in-Ok.office).commands = opened.stands.kept ∙ append-nil (opening_of c.in-Ok.office).commands in
+    let all : commands_of c.in-Ok.office ≡ (opening_of c.in-Ok.office).commands = opened.stands.listed ∙ append-nil (opening_of c.in-Ok.office).commands in
     ends_text g.D.Disk c.args.disk c.close-disk.result.0 books_text _ (opening_of c.in-Ok.office).commands c.write_text.result c.books-text.result
     (opened_left g.D.Disk (begun_of c.in-Ok.office) c.args.disk c.close-disk.result.0 (opening_of c.in-Ok.office).commands opened.begun closed)
     (rw all at c.books-text.ensures) c.write_text.ensures

@@ -9,19 +9,20 @@ use Rattle.policy_machine.specs.History.{accepted_of, commands_after}
 use Rattle.office_state.specs.Standing.{StandsFor}
 use Rattle.office_state.specs.States.{commands_of, opening_of}
 use Rattle.office_state.proofs.HistorySteps.{few_accepted, is_full, next_position, posting}
-use Rattle.office_state.proofs.TurnSteps.{crash_accepted, crash_faulted, posted_floor, posted_pins, stands_accepted, stands_faulted, stands_still}
+use Rattle.office_state.proofs.PostedPins.{posted_floor, posted_pins}
+use Rattle.office_state.proofs.TurnSteps.{crash_accepted, crash_faulted, stands_accepted, stands_faulted, stands_still}
 use Rattle.office_state.proofs.state.OfficeState.accept.Goals as goal
 
 pub returns-then-count-eq-MOST_COMMANDS-clause-stands : goal.returns-then-count-eq-MOST_COMMANDS-clause-stands
 returns-then-count-eq-MOST_COMMANDS-clause-stands g c = λ (history : List Entry) (caller : ℕ) (stands : StandsFor c.args.self.now history).
     let old = c.args.self.now in
     let command = c.args.command.now in
-    let decided = subst (λ cs. next (policy_of cs (id_of command)) command ≡ Ok c.args.policy) stands.kept c.requires.accepted in
-    let full = sym (ap length stands.kept) ∙ sym c.count.ensures ∙ c.if-count-eq-MOST_COMMANDS.true in
+    let decided = subst (λ cs. next (policy_of cs (id_of command)) command ≡ Ok c.args.policy) stands.listed c.requires.accepted in
+    let full = sym (ap length stands.listed) ∙ sym c.count.ensures ∙ c.if-count-eq-MOST_COMMANDS.true in
     stands_still old history stands old.books old.counted (posting caller command (Refused Full)) refl refl refl
     (is_full (commands_after (opening_of old) history) command c.args.policy decided full)
     old.pins (stands.pins ∙ posted_pins history caller command (Refused Full) refl)
-    old.floor (stands.floor ∙ posted_floor history caller command (Refused Full) refl)
+    (stands.floor ∙ posted_floor history caller command (Refused Full) refl)
     old.watchers (λ before heard told. told)
 
 pub note-requires-clause-next : goal.note-requires-clause-next
@@ -30,17 +31,17 @@ note-requires-clause-next g c =
       _,
       accepted_of history,
       stands.told,
-      few_accepted (opening_of c.args.self.now) history (commands_of c.args.self.now) stands.kept c.args.self.now.books.kept.few
+      few_accepted (opening_of c.args.self.now) history (commands_of c.args.self.now) stands.listed c.args.self.now.books.kept.few
           (λ full. c.if-count-eq-MOST_COMMANDS.false (c.count.ensures ∙ full)),
       next_position (opening_of c.args.self.now) history (commands_of c.args.self.now) c.args.command.now c.count-position.result
-          stands.kept (c.count-position.ensures ∙ ap length c.keep.ensures.commands),
+          stands.listed (c.count-position.ensures ∙ ap length c.keep.ensures.commands),
     )
 
 pub returns-in-Ok-clause-stands : goal.returns-in-Ok-clause-stands
 returns-in-Ok-clause-stands g c = λ (history : List Entry) (caller : ℕ) (stands : StandsFor c.args.self.now history).
     stands_accepted c.args.self.now history stands c.args.command.now c.args.policy c.record.new.journal c.record.result c.requires.valid
     c.requires.accepted c.record.ensures.disk.honesty (rw c.encode.ensures at c.record.ensures.records) c.keep.new.self _ c.count-position.result c.in-Ok.field-0
-    c.in-Ok.ensures.disk.quiet c.keep.ensures.commands (λ full. c.if-count-eq-MOST_COMMANDS.false (c.count.ensures ∙ full)) c.in-Ok.is c.count-position.ensures
+    c.keep.ensures.floor c.in-Ok.ensures.disk.quiet c.keep.ensures.commands (λ full. c.if-count-eq-MOST_COMMANDS.false (c.count.ensures ∙ full)) c.in-Ok.is c.count-position.ensures
     c.note.new.self c.note.ensures.told g.met.D.Disk.only_now caller
 
 pub returns-in-Ok-clause-crash : goal.returns-in-Ok-clause-crash

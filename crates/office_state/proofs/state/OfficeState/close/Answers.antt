@@ -4,7 +4,7 @@ use Rattle.policy_machine.specs.History.{accepted_of}
 use Rattle.office_state.specs.Images.{IsLeftBy}
 use Rattle.office_state.specs.Standing.{StandsFor}
 use Rattle.office_state.specs.States.{begun_of, opening_of}
-use Rattle.office_state.proofs.TurnSteps.{left_by}
+use Rattle.office_state.proofs.LeavingSteps.{left_by}
 use Rattle.office_state.proofs.state.OfficeState.close.Goals as goal
 
 pub returns-clause-left : goal.returns-clause-left

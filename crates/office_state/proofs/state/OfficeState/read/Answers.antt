@@ -1,8 +1,14 @@
 use Rattle.std.proofs.Common.{List}
 use Rattle.policy_types.specs.declared.entry.Entry.{Entry}
 use Rattle.office_state.specs.Standing.{StandsFor}
-use Rattle.office_state.proofs.PinTurns.{stands_read}
+use Rattle.office_state.proofs.PinTurns.{pins_above, stands_read}
 use Rattle.office_state.proofs.state.OfficeState.read.Goals as goal
+
+-- no live pin's position is below the floor
+pub fill-requires-clause-floor : goal.fill-requires-clause-floor
+fill-requires-clause-floor g c =
+    let (history, stands) = c.requires.stands in
+    pins_above c.args.self.now history stands c.args.self.now.counted c.in-Some.held c.in-Some.ensures.found.0
 
 pub returns-clause-stands : goal.returns-clause-stands
 returns-clause-stands g c = λ (history : List Entry) (stands : StandsFor c.args.self.now history).

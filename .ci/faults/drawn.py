@@ -1,0 +1,100 @@
+"""Drawn scripts of eight clerks in which a call of the journal fails, or two in a row, or that are killed.
+
+usage: python3 drawn.py PROGRAM FOLDER SEED
+
+Each failing call is one of a posting's, drawn among all that an undisturbed run of the same script makes, or one of the
+opening's; strace counts the calls of each thread by itself. Just as many lines as calls failed are answered `fault`; what
+was accepted is in the file, and beyond it at most the last that wasn't.
+"""
+import collections
+import os
+import random
+import sys
+from concurrent.futures import ThreadPoolExecutor
+
+from judge import Wrong, demand, judge_early_end, judge_transcript, reason
+from journals import file_of, read_journal
+from runs import JOURNAL, ROOT, Desk, read_bytes
+from tables import read_basis
+
+sys.path.insert(0, os.path.join(ROOT, ".ci", "stress"))
+from scripts import draws, make_book, make_script
+
+AT_ONCE = 2
+SCRIPTS, FAULTS_EACH = 4, 10
+KINDS = ["pwrite64", "fsync", "statx", "pread64"]
+ERRORS = ["EIO", "ENOSPC"]
+
+
+class Drawn:
+    """A drawn script over a drawn book."""
+
+    def __init__(self, program, folder, seed):
+        self.program, self.folder, self.seed = program, folder, seed
+        draw = draws(seed)
+        self.before = file_of(make_book(draw, 40).commands)
+        self.script = make_script(draw, read_journal(self.before).book).encode()
+        desk = self.desk("undisturbed")
+        self.basis, self.known = read_basis(desk.path("basis.csv")), {}
+        ended = desk.run(["run"], self.strace(desk, KINDS, []))
+        judge_transcript(self.script, ended, self.before, self.basis, self.known)
+        # by kind, how many calls the thread makes that makes most
+        self.most = collections.Counter()
+        by_thread = collections.Counter(tuple(line.split("(")[0].split()[-2:]) for line in self.log(desk))
+        for (thread, kind), count in by_thread.items():
+            self.most[kind] = max(self.most[kind], count)
+
+    def desk(self, name):
+        desk = Desk(self.program, os.path.join(self.folder, name))
+        desk.lay(self.before, self.script)
+        return desk
+
+    def strace(self, desk, kinds, inject):
+        paths = ["-P", desk.path(JOURNAL), "-P", JOURNAL]
+        return ["strace", "-f", "-qq", "-o", desk.path("log"), *paths, "-e", f"trace={','.join(kinds)}", *inject]
+
+    def log(self, desk):
+        lines = read_bytes(desk.path("log")).decode("utf-8", "replace").splitlines()
+        return [line for line in lines if "(" in line and "resumed" not in line]
+
+    def try_one(self, number):
+        draw = random.Random(f"drawn {self.seed} {number}")
+        kind = draw.choice([kind for kind in KINDS if self.most[kind]])
+        first = draw.randint(1, self.most[kind])
+        last = first + draw.randrange(2)
+        error = draw.choice(ERRORS)
+        desk = self.desk(str(number))
+        inject = ["-e", f"inject={kind}:error={error}:when={first}..{last}"]
+        ended = desk.run(["run"], self.strace(desk, [kind], inject))
+        hits = sum("(INJECTED)" in line for line in read_bytes(desk.path("log")).decode("utf-8", "replace").splitlines())
+        try:
+            demand(not ended.complaints, f"on standard error: {ended.complaints[:300]}")
+            if ended.text == "diskfault\n":
+                demand(hits == 1, f"{hits} calls failed in the opening")
+                judge_early_end(ended, 8, self.before)
+                return 0
+            faults = judge_transcript(self.script, ended, self.before, self.basis, self.known)
+            demand(faults == hits, f"{faults} lines are answered fault, and {hits} calls failed")
+            desk.judge_reopening()
+            return faults
+        except Exception as wrong:
+            raise Wrong(f"script {self.seed}: {kind} {first} to {last} fails with {error}: {reason(wrong)}; "
+                        f"the files are in {desk.folder}")
+
+
+def main():
+    program, folder, seed = sys.argv[1], sys.argv[2], int(sys.argv[3])
+    faults = 0
+    for n in range(SCRIPTS):
+        drawn = Drawn(program, os.path.join(folder, str(n)), 1000 * seed + n)
+        with ThreadPoolExecutor(AT_ONCE) as pool:
+            faults += sum(pool.map(drawn.try_one, range(FAULTS_EACH)))
+    print(f"faults: {SCRIPTS} drawn scripts of eight clerks, each with {FAULTS_EACH} times one failing call or two in a row: "
+          f"{faults} lines are answered fault, nothing accepted is lost")
+
+
+if __name__ == "__main__":
+    try:
+        main()
+    except Wrong as wrong:
+        sys.exit(f"faults: {wrong}")

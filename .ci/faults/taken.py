@@ -1,0 +1,144 @@
+"""Runs whose journal is taken away: removed, renamed, replaced by another file, or cut, while strace holds up a call.
+
+usage: python3 taken.py PROGRAM FOLDER
+
+From then on no line may be answered `accepted`, and the status is 8. What was accepted before is in the file that was taken
+away; the file that took its place isn't touched. Where the name is a symbolic link, it is so of the file to which it leads,
+and the folder of that file is synced.
+"""
+import concurrent.futures
+import os
+import re
+import sys
+import time
+
+from judge import Wrong, commands_in, demand, demand_file, follow, reason
+from journals import RECORD_SIZE, file_of, read_journal
+from runs import JOURNAL, Desk, read_bytes, write_bytes
+from scenes import ONE_CLERK, book_before
+from tables import read_basis
+
+AT_ONCE = 4
+# a call is held up for so long, in microseconds; the deed is done once the file has stood still for so long, in seconds
+HELD_UP, STILL = 800_000, 0.2
+# The calls of the journal that are held up: the first sync and the question behind it; of the second posting both syncs
+# and each question. The opening makes one sync and asks four times; a posting makes two, and asks before it writes and
+# behind each of them.
+HELD = [("fsync", 1), ("statx", 3), ("fsync", 4), ("fsync", 5), ("statx", 8), ("statx", 9), ("statx", 10)]
+
+
+def remove(desk):
+    os.remove(desk.path(JOURNAL))
+
+
+def rename(desk):
+    os.rename(desk.path(JOURNAL), desk.path("old.life"))
+
+
+def replace(desk):
+    write_bytes(desk.path("new.life"), file_of(book_before().commands[:3]))
+    os.rename(desk.path("new.life"), desk.path(JOURNAL))
+
+
+def cut(desk):
+    size = os.path.getsize(desk.path(JOURNAL))
+    os.truncate(desk.path(JOURNAL), size - RECORD_SIZE)
+
+
+DEEDS = [remove, rename, replace, cut]
+
+
+def wait_until_still(desk, run):
+    """Waits until the program makes no progress: it is held up."""
+    last, since = None, time.monotonic()
+    while run.poll() is None and time.monotonic() - since < STILL:
+        try:
+            found = os.stat(desk.path(JOURNAL))
+            now = (found.st_size, found.st_mtime_ns, os.path.getsize(desk.path("log")))
+        except FileNotFoundError:
+            now = None
+        if now != last:
+            last, since = now, time.monotonic()
+        time.sleep(0.01)
+    demand(run.poll() is None, "the program had ended before")
+
+
+def held_up(desk, kind, k):
+    """Starts a run of the four lines in which a call is held up."""
+    hold = ["-e", f"trace={kind}", "-e", f"inject={kind}:delay_enter={HELD_UP}:when={k}"]
+    return desk.start(["run"], ["strace", "-f", "-qq", "-o", desk.path("log"), "-P", desk.path(JOURNAL), "-P", JOURNAL, *hold])
+
+
+def judge(ended, before, kept, was_cut, basis):
+    """Nothing is accepted behind the first fault, and what was is kept; tells how many lines met one."""
+    demand(ended.status == 8, f"status {ended.status}, wanted 8; printed {ended.text[:200]!r}")
+    if ended.text == "diskfault\n":
+        return 0
+    run = follow(ONE_CLERK, ended.text, before, basis, {})
+    demand(run.faults > 0, f"no line is answered fault: {ended.text[:200]!r}")
+    demand(",accepted," not in ended.text[ended.text.index(",fault"):], f"accepted behind a fault: {ended.text[:200]!r}")
+    if was_cut:
+        # a file that is cut behind an open gate is refused from there on
+        found = read_journal(kept).commands
+        demand(found == run.book.commands[:len(found)], "a record of the cut file is another")
+    else:
+        demand_file(kept, run.book.commands, run.in_doubt)
+    return run.faults
+
+
+def try_one(program, folder, deed, kind, k):
+    desk = Desk(program, folder)
+    before = file_of(book_before().commands)
+    desk.lay(before, ONE_CLERK)
+    run = held_up(desk, kind, k)
+    try:
+        wait_until_still(desk, run)
+        with open(desk.path(JOURNAL), "rb") as taken:
+            deed(desk)
+            ended = desk.ended(run)
+            kept = taken.read()
+        faults = judge(ended, before, kept, deed is cut, read_basis(desk.path("basis.csv")))
+        if deed is replace:
+            demand(ended.after == file_of(book_before().commands[:3]), "the file in its place was touched")
+        return faults
+    except Exception as wrong:
+        run.kill()
+        raise Wrong(f"{deed.__name__} while {kind} {k} is held up: {reason(wrong)}; the files are in {desk.folder}")
+
+
+def try_a_link(program, folder):
+    """The journal is a symbolic link into another folder: that one is synced, and the file there is the journal."""
+    desk = Desk(program, folder)
+    desk.lay(b"", ONE_CLERK)
+    os.mkdir(desk.path("far"))
+    os.symlink(os.path.join("far", "kept.life"), desk.path(JOURNAL))
+    ended = desk.run(["run"], ["strace", "-f", "-y", "-qq", "-o", desk.path("log"), "-e", "trace=fsync"])
+    synced = re.findall(r"fsync\(\d+<([^>]*)>", read_bytes(desk.path("log")).decode())
+    demand(ended.status == 0, f"over a symbolic link: status {ended.status}: {ended.text[:200]!r}")
+    demand(set(synced) == {desk.path("far"), desk.path("far/kept.life")}, f"over a symbolic link: synced {sorted(set(synced))}")
+    demand(len(commands_in(read_bytes(desk.path("far/kept.life")), "the far file")) == 4, "the far file isn't the journal")
+    os.remove(desk.path("script.csv"))
+    write_bytes(desk.path("script.csv"), b"1,premium,101,2020-12-01,400.00\n")
+    run = held_up(desk, "fsync", 2)
+    wait_until_still(desk, run)
+    os.remove(desk.path("far/kept.life"))
+    ended = desk.ended(run)
+    demand(ended.status == 8 and ",fault\n" in ended.text, f"the far file was removed: {ended.status}, {ended.text[:200]!r}")
+
+
+def main():
+    program, folder = sys.argv[1:3]
+    tried = [(deed, kind, k) for deed in DEEDS for kind, k in HELD]
+    with concurrent.futures.ThreadPoolExecutor(AT_ONCE) as pool:
+        runs = [pool.submit(try_one, program, os.path.join(folder, str(n)), *it) for n, it in enumerate(tried)]
+        faults = sum(run.result() for run in runs)
+    try_a_link(program, os.path.join(folder, "link"))
+    print(f"faults: {len(tried)} runs whose journal was removed, renamed, replaced or cut end with 8, {faults} lines are answered "
+          "fault, and none behind them is accepted; a symbolic link is followed")
+
+
+if __name__ == "__main__":
+    try:
+        main()
+    except Wrong as wrong:
+        sys.exit(f"faults: {wrong}")

@@ -1,0 +1,6 @@
+-- Nothing was given so far.
+use Rattle.std.specs.Io.KnownBytes.{Keeps}
+use Rattle.outside_io.proofs.real_streams.give_some.Given as goal
+
+abbrev pub invariant-loop : goal.invariant-loop
+invariant-loop g l = Keeps (g.R.Read.remaining l.initial.reader) (g.R.Read.remaining l.reader)

@@ -1,0 +1,6 @@
+-- Nothing was taken so far.
+use Rattle.std.specs.Io.KnownBytes.{Keeps}
+use Rattle.outside_io.proofs.real_streams.take_some.Given as goal
+
+abbrev pub invariant-loop : goal.invariant-loop
+invariant-loop g l = Keeps (g.W.Write.contents l.initial.writer) (g.W.Write.contents l.writer)

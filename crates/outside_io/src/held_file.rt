@@ -1,0 +1,150 @@
+// A file of the system that has to stay what it is: the one under its name, and as long as it was.
+use std::fs::{File, Metadata, OpenOptions};
+use std::io::ErrorKind;
+use std::os::unix::fs::{FileExt, MetadataExt};
+use std::rt::Files;
+use std::{fs, io};
+
+// A file that was opened under a name: which file it is, how long it has been so far, and whether it was found to be cut,
+// or no longer there. From then on it is not written to.
+#[derive(Drop)]
+pub(crate) struct HeldFile {
+    file: File,
+    device: u64,
+    inode: u64,
+    length: u64,
+    lost: bool,
+}
+
+impl HeldFile {
+    // Opens the file, or makes it; nothing of it is cut off. It is locked against other processes that do the same.
+    pub(crate) fn open<R: Files<File = File> + AllocGlobal>(
+        files: &R,
+        name: &str,
+    ) -> io::Result<HeldFile> {
+        let file = OpenOptions::new()
+            .read(true)
+            .write(true)
+            .create(true)
+            .open(files, name)?;
+        if file.try_lock().is_err() {
+            return Err(io::Error::from(ErrorKind::WouldBlock));
+        }
+        sync_folder(files, name)?;
+        let told = ask(files, Asked::Open(&file))?;
+        Ok(HeldFile {
+            file,
+            device: told.dev(),
+            inode: told.ino(),
+            length: told.len(),
+            lost: false,
+        })
+    }
+
+    // How long it is. That it got shorter is a failure.
+    pub(crate) fn length<R: Files<File = File>>(&mut self, files: &R) -> io::Result<u64> {
+        let told = ask(files, Asked::Open(&self.file))?.len();
+        if told < self.length {
+            self.lost = true;
+            return Err(lost());
+        }
+        self.length = told;
+        Ok(told)
+    }
+
+    pub(crate) fn fill(&self, at: u64, buf: &mut [u8]) -> io::Result<()> {
+        self.file.read_exact_at(buf, at)
+    }
+
+    // A write past the end would hide that the file was cut, so before such a one it is looked for.
+    pub(crate) fn put<R: Files<File = File>>(
+        &mut self,
+        files: &R,
+        name: &str,
+        at: u64,
+        bytes: &[u8],
+    ) -> io::Result<()> {
+        let end = at.saturating_add(bytes.len() as u64);
+        if end > self.length || self.lost {
+            self.look_for(files, name)?;
+        }
+        self.file.write_all_at(bytes, at)?;
+        self.length = self.length.max(end);
+        Ok(())
+    }
+
+    // Nothing is safe in a file that is no longer under its name, so after a sync it is looked for.
+    pub(crate) fn make_safe<R: Files<File = File>>(
+        &mut self,
+        files: &R,
+        name: &str,
+    ) -> io::Result<()> {
+        self.file.sync_all()?;
+        self.look_for(files, name)
+    }
+
+    // Fails where the name stands for no file or for another, or the file was cut; and ever after.
+    fn look_for<R: Files<File = File>>(&mut self, files: &R, name: &str) -> io::Result<()> {
+        if self.lost {
+            return Err(lost());
+        }
+        let found = match ask(files, Asked::Named(name)) {
+            Ok(found) => found,
+            Err(e) => {
+                self.lost = e.kind() == ErrorKind::NotFound;
+                return Err(e);
+            }
+        };
+        let is_same = found.dev() == self.device && found.ino() == self.inode;
+        self.lost = !is_same || found.nlink() == 0 || found.len() < self.length;
+        if self.lost {
+            return Err(lost());
+        }
+        Ok(())
+    }
+}
+
+fn lost() -> io::Error {
+    io::Error::from(ErrorKind::NotFound)
+}
+
+// The file is safe only once its folder is: where the name is a symbolic link, that in which the file itself lies. A run
+// that made the file may have ended before that, so every run sees to it.
+fn sync_folder<R: Files<File = File> + AllocGlobal>(files: &R, name: &str) -> io::Result<()> {
+    if !ask(files, Asked::Entry(name))?.is_symlink() {
+        return File::open(files, ".")?.sync_all();
+    }
+    let path = files.canonicalize(files.alloc(), name)?;
+    match path.parent() {
+        Some(folder) => File::open(files, folder)?.sync_all(),
+        None => Err(io::Error::from(ErrorKind::NotFound)),
+    }
+}
+
+// What is asked about: the open file, the file under a name, or the name itself, be it a symbolic link.
+#[derive(Clone, Copy)]
+enum Asked<'a> {
+    Open(&'a File),
+    Named(&'a str),
+    Entry(&'a str),
+}
+
+// A question that a signal interrupted is asked again.
+fn ask<R: Files<File = File>>(files: &R, asked: Asked<'_>) -> io::Result<Metadata> {
+    for _ in 0..u64::MAX {
+        match ask_once(files, asked) {
+            Ok(told) => return Ok(told),
+            Err(e) if e.kind() == ErrorKind::Interrupted => {}
+            Err(e) => return Err(e),
+        }
+    }
+    Err(io::Error::from(ErrorKind::TimedOut))
+}
+
+fn ask_once<R: Files<File = File>>(files: &R, asked: Asked<'_>) -> io::Result<Metadata> {
+    match asked {
+        Asked::Open(file) => file.metadata(),
+        Asked::Named(name) => fs::metadata(files, name),
+        Asked::Entry(name) => fs::symlink_metadata(files, name),
+    }
+}

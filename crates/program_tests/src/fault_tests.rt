@@ -1,0 +1,184 @@
+// Runs of six issues in which calls of the disk fail, and crashes at each moment of one. What is left is judged by what was
+// answered.
+use crate::devices::{Finished, run_on};
+use memory_disk::MemoryDisk;
+use std::alloc::{AllocError, Global};
+use std::sync::Wait;
+use std::test::Fail;
+use std::thread::Threads;
+
+const SIX: &str = "1,issue,1,2020-01-01,endowment,0,3,1000.00,400.00\n\
+    1,issue,2,2020-01-01,endowment,0,3,1000.00,400.00\n\
+    1,issue,3,2020-01-01,endowment,0,3,1000.00,400.00\n\
+    1,issue,4,2020-01-01,endowment,0,3,1000.00,400.00\n\
+    1,issue,5,2020-01-01,endowment,0,3,1000.00,400.00\n\
+    1,issue,6,2020-01-01,endowment,0,3,1000.00,400.00\n";
+
+// A creation makes 9 calls, and each of the six postings 4.
+const CREATION_CALLS: u32 = 9;
+
+const POSTING_CALLS: u32 = 4;
+
+const ALL_CALLS: u32 = 33;
+
+// Which of the six lines are answered `fault`, as the text is if the others are accepted in order.
+fn faulted(text: &[u8]) -> [bool; 6] {
+    let mut faults = [false; 6];
+    for (n, line) in text.split(|byte| *byte == b'\n').enumerate() {
+        if n < 6 {
+            faults[n] = line.ends_with(b",fault");
+        }
+    }
+    faults
+}
+
+// The text of a run in which these lines are answered `fault`.
+fn answered(alloc: Global, faults: &[bool; 6]) -> Result<String, AllocError> {
+    let mut text = String::new(alloc);
+    let mut count = 0u32;
+    for n in 0..6usize {
+        let id = n + 1;
+        let line = if faults[n] {
+            format!(in alloc; "1,issue,{id},fault\n")?
+        } else {
+            count = count.saturating_add(1);
+            format!(in alloc; "1,issue,{id},accepted,{count}\n")?
+        };
+        text.push_str(&line)?;
+    }
+    Ok(text)
+}
+
+fn how_many(faults: &[bool; 6]) -> usize {
+    faults.iter().filter(|fault| **fault).count()
+}
+
+// The numbers of the policies in a file, record by record, up to the first closed gate.
+fn ids_in(alloc: Global, file: &[u8]) -> Result<Vec<u8>, AllocError> {
+    let mut ids = Vec::new(alloc);
+    for n in 0..8usize {
+        let (gate, id) = (file.get(17 + 65 * n), file.get(25 + 65 * n));
+        match (gate, id) {
+            (Some(1), Some(id)) => ids.push(*id)?,
+            _ => return Ok(ids),
+        }
+    }
+    Ok(ids)
+}
+
+// Whether a file opens to just the accepted ones, or these and one behind them that was answered `fault`.
+fn left_right(alloc: Global, file: &[u8], faults: &[bool; 6]) -> Result<bool, AllocError> {
+    let ids = ids_in(alloc, file)?;
+    let mut left = ids.as_slice();
+    let mut last = 0;
+    for n in 0..6u8 {
+        if !faults[n as usize] {
+            let Some((first, rest)) = left.split_first() else {
+                return Ok(false);
+            };
+            if *first != n + 1 {
+                return Ok(false);
+            }
+            last = *first;
+            left = rest;
+        }
+    }
+    Ok(match left {
+        [] => true,
+        [one] => last < *one && *one <= 6 && faults[*one as usize - 1],
+        _ => false,
+    })
+}
+
+// What reopening leaves of a file.
+fn reopened<R: Threads + Wait + Sync>(
+    rt: &R,
+    alloc: Global,
+    file: &[u8],
+) -> Result<Finished, AllocError> {
+    let disk = MemoryDisk::new(alloc, Vec::from_slice(alloc, file)?, Vec::new(alloc));
+    run_on(rt, alloc, &[], disk)
+}
+
+// Whether a run in which these calls fail, so many at most, is answered and leaves what it may.
+fn holds<R: Threads + Wait + Sync>(
+    rt: &R,
+    alloc: Global,
+    failing: &[u64],
+) -> Result<bool, AllocError> {
+    let disk = MemoryDisk::new(alloc, Vec::new(alloc), Vec::from_slice(alloc, failing)?);
+    let ran = run_on(rt, alloc, &[SIX], disk)?;
+    let again = reopened(rt, alloc, ran.disk.bytes())?;
+    if ran.status != 8 || again.status != 0 {
+        return Ok(false);
+    }
+    if ran.output.bytes() == b"diskfault\n".as_slice() {
+        return Ok(ids_in(alloc, again.disk.bytes())?.is_empty());
+    }
+    let faults = faulted(ran.output.bytes());
+    let many = how_many(&faults);
+    let text = answered(alloc, &faults)?;
+    let told = 1 <= many && many <= failing.len() && ran.output.bytes() == text.as_bytes();
+    Ok(told && left_right(alloc, again.disk.bytes(), &faults)?)
+}
+
+// Each call fails alone, and each with the one behind it.
+#[test]
+fn each_failing_call_is_answered(rt: HostRuntime) -> Result<(), AllocError> {
+    let alloc = rt.alloc();
+    for call in 1..=u64::from(ALL_CALLS) {
+        assert!(rt; holds(&rt, alloc, &[call])?, "call {call}");
+        assert!(rt;
+            holds(&rt, alloc, &[call, call + 1])?,
+            "calls from {call} on"
+        );
+    }
+    Ok(())
+}
+
+// A crash at each moment, when of the writes that weren't synced none, one or two had been done, or a part of each.
+#[test]
+fn each_crash_leaves_what_was_acknowledged(rt: HostRuntime) -> Result<(), Fail> {
+    let alloc = rt.alloc();
+    let empty = MemoryDisk::new(alloc, Vec::new(alloc), Vec::new(alloc));
+    let ran = run_on(&rt, alloc, &[SIX], empty)?;
+    assert!(rt; ran.disk.calls() == ALL_CALLS);
+    for moment in 0..=ALL_CALLS {
+        let acknowledged = (moment.saturating_sub(CREATION_CALLS) / POSTING_CALLS) as usize;
+        for keep in [0, 1, 2] {
+            let image = ran
+                .disk
+                .image(alloc, moment, keep)
+                .map_err(|_| "no memory")?;
+            assert!(rt;
+                opens_to(&rt, alloc, &image, acknowledged)?,
+                "call {moment}, {keep} writes"
+            );
+        }
+        for reached in [1, 16, 17, 32, 64] {
+            let image = ran
+                .disk
+                .torn_image(alloc, moment, reached)
+                .map_err(|_| "no memory")?;
+            assert!(rt;
+                opens_to(&rt, alloc, &image, acknowledged)?,
+                "call {moment}, {reached} bytes"
+            );
+        }
+    }
+    Ok(())
+}
+
+// Whether a file opens to so many of the six, or to one more.
+fn opens_to<R: Threads + Wait + Sync>(
+    rt: &R,
+    alloc: Global,
+    file: &[u8],
+    many: usize,
+) -> Result<bool, AllocError> {
+    let again = reopened(rt, alloc, file)?;
+    let ids = ids_in(alloc, again.disk.bytes())?;
+    let six: [u8; 6] = [1, 2, 3, 4, 5, 6];
+    let in_order = six.starts_with(&ids);
+    Ok(again.status == 0 && in_order && (ids.len() == many || ids.len() == many + 1))
+}
