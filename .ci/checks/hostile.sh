@@ -116,13 +116,19 @@ name="drawn cases"
 wait "$drawn" || { complain "a case failed"; kept=yes; }
 cat "$work/drawn"
 
-# A journal that is full, and one with a further open gate, which is the last byte. A program that LIFE_PROGRAM names is
-# mostly an unproved one, which isn't compiled for speed and takes minutes over each; it is spared these two.
+# A journal that lacks one record, takes it, and is full; then one with a further open gate, which is the last byte. A
+# program that LIFE_PROGRAM names is mostly an unproved one, which isn't compiled for speed and takes minutes over each; it
+# is spared these three.
 full_journal() {
     begin "full journal"
     [ -z "${LIFE_FULL:-}" ] || patience=3000
-    python3 "$hostile/big_journals.py" policies 4000000 journal.life
+    python3 "$hostile/big_journals.py" policies 3999999 journal.life
     echo "1,issue,4000001,2020-01-01,endowment,0,3,1000.00,400.00" >more.csv
+    { echo "1,issue,4000000,2020-01-01,endowment,0,3,1000.00,400.00"; cat more.csv; } >two.csv
+    answers 0 "1,issue,4000000,accepted,4000000
+1,issue,4000001,refused,full,4000000
+watcher,1,1,1
+watcher,2,1,0" two.csv
     answers 0 "1,issue,4000001,refused,full,4000000
 $(cat "$none_watched")" more.csv
     [ "$(wc -c <journal.life)" = 260000018 ] || complain "the file has $(wc -c <journal.life) bytes"

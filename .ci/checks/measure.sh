@@ -38,9 +38,17 @@ leaves_none
 prints postings,8,80 postings 8 80
 [ "$(wc -c <journal.life)" -eq $((18 + 80 * 65)) ] || complain "there aren't 80 records"
 
+# a version of each policy is left of many, also of a policy with four million
+begin "versions"
+prints versions,1000,10000,18497 versions 1000 10 20 0
+prints versions,1000,1000,18497 versions 1000 10 20 1
+prints versions,1,4000000,24951 versions 1 4000000 500 0
+prints versions,1,1,24951 versions 1 4000000 500 1
+prints versions,0,0,0 versions 0 10 10 1
+
 begin "other words"
 : >wanted
-for words in "" "turns 0 1" "turns 33 1" "postings 1" "reserves 1" "tables" "no"; do
+for words in "" "turns 0 1" "turns 33 1" "postings 1" "reserves 1" "versions 1 1 1" "tables" "no"; do
     # shellcheck disable=SC2086
     "$measure" $words </dev/null >out
     judge $? 2 wanted

@@ -6,3 +6,4 @@ pub mod Picking
 pub mod Exact
 pub mod ListCuts
 pub mod CallerLemmas
+pub mod WorkedRows

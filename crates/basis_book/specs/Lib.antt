@@ -4,4 +4,5 @@ pub mod Row
 pub mod Rows
 pub mod File
 pub mod Dated
+pub mod Worked
 pub mod inside

@@ -6,12 +6,13 @@ ghost use Rattle.basis_book.specs.declared.fault.BasisFault.{BasisFault as AFaul
 ghost use Rattle.basis_book.specs.inside.Fields.{AreThree};
 ghost use Rattle.basis_book.specs.File.{GivesBook, HasRows, IsBasisFile, IsBookAnswer, IsFileFault};
 ghost use Rattle.basis_book.specs.inside.Judged.{Judged};
+ghost use Rattle.basis_book.specs.inside.Starting.{StandsAtStart};
 
 use crate::fault::BasisFault;
 use crate::fields::Fields;
 use crate::reading::Reading;
 use crate::row::BasisRows;
-use csv::{ByteRecord, ReaderBuilder};
+use csv::{ByteRecord, Reader, ReaderBuilder};
 use policy_types::NoMemory;
 use std::alloc::Global;
 
@@ -55,23 +56,47 @@ fn three_fields(row: &ByteRecord) -> Option<Fields<'_>>
     })
 }
 
-/// Reads all rows: nothing but memory can be refused to a reader of bytes in memory.
+/// The most fields that a row can have: one more than there are commas.
+fn most_fields(bytes: &[u8]) -> usize {
+    let commas = bytes.iter().filter(|byte| **byte == b',').count();
+    commas.saturating_add(1)
+}
+
+/// A reader of all rows. It has a header row, which is no row of the file: else it would take the first row of the file
+/// for one, and keep it twice.
+fn reader_of(alloc: Global, bytes: &[u8]) -> Result<Reader<&[u8]>, NoMemory>
+    ensures { IfOk result (StandsAtStart bytes.now) }
+{
+    let mut reader = ReaderBuilder::new()
+        .flexible(true)
+        .from_reader(alloc, bytes);
+    match reader.set_byte_headers(ByteRecord::new(alloc)) {
+        Ok(()) => Ok(reader),
+        Err(_) => Err(NoMemory),
+    }
+}
+
+/// Reads all rows: nothing but memory can be refused to a reader of bytes in memory. One record serves for all of them,
+/// and has room for the fields of each from the start, so that it never grows to twice what is needed.
 fn judge_rows(alloc: Global, bytes: &[u8]) -> Result<Reading, NoMemory>
     ensures { IfOk result (λ reading.
         (rows : List (List (List ℕ))) × HasRows bytes.now rows × Judged rows reading) }
 {
-    let reader = ReaderBuilder::new()
-        .has_headers(false)
-        .flexible(true)
-        .from_reader(alloc, bytes);
+    let mut reader = reader_of(alloc, bytes)?;
+    let Ok(mut row) = ByteRecord::with_capacity(alloc, 0, most_fields(bytes)) else {
+        return Err(NoMemory);
+    };
     let mut reading = Reading::new(alloc);
-    for row in reader.into_byte_records() {
-        let Ok(row) = row else {
+    for _ in 0..u64::MAX {
+        let Ok(found) = reader.read_byte_record(&mut row) else {
             return Err(NoMemory);
         };
+        if !found {
+            return Ok(reading);
+        }
         if reading.add(alloc, three_fields(&row)).is_err() {
             return Err(NoMemory);
         }
     }
-    Ok(reading)
+    Err(NoMemory)
 }

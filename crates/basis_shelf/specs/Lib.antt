@@ -3,4 +3,5 @@ pub mod Bases
 pub mod FirstBad
 pub mod Answers
 pub mod Lines
+pub mod Worked
 pub mod inside

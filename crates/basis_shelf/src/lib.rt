@@ -8,8 +8,10 @@ mod rows;
 mod shelf_file;
 mod tables;
 mod telling;
+mod worked;
 
 pub use fault::{BadBasis, BasisWord, NoBasis};
 pub use fetching::fetch_basis;
 pub use laws::{a_basis_has_one_answer, a_file_has_one_answer};
 pub use telling::bad_basis_line;
+pub use worked::shelves_by_hand;

@@ -1,3 +1,4 @@
 pub mod Decimal
 pub mod Rate
+pub mod Worked
 pub mod inside

@@ -8,6 +8,8 @@ mod parts;
 mod rate;
 mod reader;
 mod units;
+mod worked;
 
 pub use fault::RateFault;
 pub use rate::{LONGEST_TEXT, read_rate};
+pub use worked::rates_by_hand;

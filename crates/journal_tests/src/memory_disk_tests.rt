@@ -45,7 +45,9 @@ fn images_of_each_moment(rt: HostRuntime) -> Result<(), Fail> {
         assert!(rt; moment <= disk.calls());
         let image = disk.image(alloc, moment, keep).map_err(|_| "no memory")?;
         assert!(rt; image.as_slice() == whole, "after {moment} calls");
-        let image = disk.torn_image(alloc, moment, keep as usize).map_err(|_| "no memory")?;
+        let image = disk
+            .torn_image(alloc, moment, keep as usize)
+            .map_err(|_| "no memory")?;
         assert!(rt; image.as_slice() == torn, "torn, after {moment} calls");
     }
     assert!(rt; ask_length(&mut disk) == Ok(10));

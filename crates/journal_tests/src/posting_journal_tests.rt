@@ -283,7 +283,10 @@ fn records_are_read_by_pieces(rt: HostRuntime) -> Result<(), Fail> {
         assert!(rt; numbers_at(&mut journal, n) == Some((n, n)), "record {n}");
     }
     for (first, many, last) in [(0, 1008, 1007), (1008, 1008, 2015), (2016, 84, 2099)] {
-        assert!(rt; last_in_piece(&mut journal, first, many) == Some(last), "from {first}");
+        assert!(rt;
+            last_in_piece(&mut journal, first, many) == Some(last),
+            "from {first}"
+        );
     }
     let disk = journal.release();
     // sync, length, front, three pieces of gates; two reads for each record, one for each piece

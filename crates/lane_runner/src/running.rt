@@ -1,6 +1,7 @@
 // Lanes are run at the same time, each in a pass of its own.
 ghost use Rattle.std.specs.Prelude.{◌≡◌, ◌+◌, ◌≤◌, ◌<◌, ◌^◌, ◌++◌, [], length, map, vec_capacity, OnErr, IfOk};
 ghost use Rattle.std.specs.List.{AllByRecursion, AllZip, flat_map};
+ghost use Rattle.std.specs.Thread.{IsSync};
 ghost use Rattle.std.specs.List.Sorted.{IsNonDecreasingBy, IsPermutation};
 ghost use Rattle.turn_lock.specs.Passes.{PassFacts};
 ghost use Rattle.shared_office.specs.Offices.{IsOfficeHistory};
@@ -214,7 +215,8 @@ fn run_all<D: Disk + Send, W: Watching + Send, G: Gate + Sync, R: Threads + Wait
         seats,
         lanes.len().max(1),
         &|index, seat: &mut Seat<D, W>|
-            requires { (index < length lanes.now) × IsReadyAt office.now lanes.now index seat.now }
+            requires sync { IsSync R.row }
+            requires ready { (index < length lanes.now) × IsReadyAt office.now lanes.now index seat.now }
             ensures { HasRunAt basis.entry.now lanes.entry.now index seat.entry.now seat.exit.now }
         {
             let lane = &lanes[index];

@@ -2,6 +2,8 @@
 #![tactic(auto)]
 
 #[cfg(test)]
+mod forty_commands;
+#[cfg(test)]
 mod lane_gates;
 #[cfg(test)]
 mod lane_runner_tests;
@@ -11,5 +13,7 @@ mod lane_trials;
 mod offices;
 #[cfg(test)]
 mod snapshot_meeting;
+#[cfg(test)]
+mod snapshot_positions;
 #[cfg(test)]
 mod snapshot_value_tests;

@@ -54,7 +54,7 @@ use Rattle.life_args.specs.declared.mode.Mode.{Mode}
 use Rattle.life_args.specs.declared.mode.Mode.TheVariants.{Run}
 use Rattle.life_app.specs.Obeys.{Does, EndsMode, Obeys, SaysUnasked}
 use Rattle.life_app.specs.Words.{AskForRun}
-use Rattle.life_app.specs.Headline.{IsEnclosingRow, IsGivenBasis, IsPromised, IsThere, IsTold, IsToldText, IsUnrun, IsWorthBy, WasFaulted}
+use Rattle.life_app.specs.Headline.{IsEnclosingRow, IsGivenBasis, IsPromised, IsThere, IsToldLine, IsToldText, IsUnrun, IsWorthBy, WasFaulted}
 
 -- the rounded bounds of a row are bounds of the exact reserve
 worth_by : (policy : Policy) (entry : Dated) (on : ℤ) (shape : Result Shape NotValued) (t : ℕ) (worth : Worth)
@@ -103,12 +103,11 @@ told_text _ _ _ _ _ _ _ is = absurd is
 -- the text of a run line by line
 told_lines : (opening : Opening) (history : List Entry) (basis : List Dated) (dry : List ℕ) (lines : List AnsweredLine) (text : List ℕ)
     → IsTranscript opening history basis dry lines text
-    → (texts : List (List ℕ)) × AllZip (IsTold opening.commands history basis dry) lines texts
+    → (texts : List (List ℕ)) × AllZip (IsToldLine opening.commands history basis dry) lines texts
     × (text ≡ flat_map (λ (one : List ℕ). one) texts)
 told_lines opening history basis dry [] text is = ([], tt, is)
 told_lines opening history basis dry (line ∷ lines) text is =
-    let rest = told_lines opening history basis dry lines is.1.0 is.1.3 in
-    (
+    let rest = told_lines opening history basis dry lines is.1.0 is.1.3 in (
       is.0 ∷ rest.0,
       (
         told_text line.clerk line.line line.first.1.reply (commands_after opening (take line.first.0 history)) basis _ is.0 is.1.2,
@@ -190,8 +189,7 @@ module _ {D : Type 0} (g : Ghosts D) (old new : D) (output : Stream) where
           | inr once ↦ inr (once.held, once.rest, once.front, there_once opening ran.history once.held once.more image once.one once.opens)
         ];
         kept = λ honest some rest split.
-            let kept = ran.disk.kept honest some rest split in
-            (
+            let kept = ran.disk.kept honest some rest split in (
               g.clock kept.stood,
               kept.later,
               kept.passed,
@@ -233,7 +231,7 @@ module _ {D : Type 0} (g : Ghosts D) (old new : D) (output : Stream) where
   by_ending lanes basis auditors BadJournal ends = inr (refused ends.cause ends.line ends.alone)
   by_ending lanes basis auditors WriteFault ends =
       inl (promised lanes basis auditors _ _ 7 ends.1 (λ text part. (part.taken, part.written))
-      (λ text part status. elim status [ | inl zero ↦ cc | inr eight ↦ cc ]))
+      (λ text part status. elim status [ inl zero ↦ cc | inr eight ↦ cc ]))
   by_ending lanes basis auditors DiskFault ends = elim ends.1 [
     | inl said ↦ inr (unrun_alone 8 (λ never. cc) _ said.0 said.1)
     | inr ran ↦ inl (promised lanes basis auditors _ _ 8 ran all_of (λ text all status. all))
@@ -241,7 +239,7 @@ module _ {D : Type 0} (g : Ghosts D) (old new : D) (output : Stream) where
   by_ending lanes basis auditors NoMemory ends = elim ends [
     | inl said ↦ inr (unrun_alone 9 (λ never. cc) _ said.0 said.1)
     | inr (inl ran) ↦
-        inl (promised lanes basis auditors _ _ 9 ran (λ text none. (0, none)) (λ text none status. elim status [ | inl zero ↦ cc | inr eight ↦ cc ]))
+        inl (promised lanes basis auditors _ _ 9 ran (λ text none. (0, none)) (λ text none status. elim status [ inl zero ↦ cc | inr eight ↦ cc ]))
     | inr (inr ran) ↦ inl (promised lanes basis auditors _ _ 9 ran all_of (λ text all status. all))
   ]
   by_ending lanes basis auditors _ ends = absurd ends

@@ -10,7 +10,7 @@ use Rattle.posting_journal.specs.Runs.{IsSafe}
 use Rattle.office_state.specs.Images.{HoldsNow, HoldsOnce, IsLeftAlone, IsLeftBy, IsOneMore, OpensAlike}
 use Rattle.office_state.specs.Journals.{Opens}
 use Rattle.office_state.proofs.JournalLaws.{opens_to_one}
-use Rattle.life_app.specs.Runs.{Adds, AreLeft, AreRuns, HasAnswered, HasReturned, IsLeftSo, IsRunOn, OneRun, WasCut}
+use Rattle.life_app.specs.Runs.{AddsCommands, AreLeft, AreRuns, HasAnsweredSome, HasReturned, IsLeftSo, IsRunOn, OneRun, WasCut}
 use Rattle.life_app.proofs.HeadlineLaws.{faulted_last}
 
 -- Each image that a disk may leave opens to commands with P: these, or these and one more.
@@ -23,14 +23,14 @@ pub record Starts {D : Type 0} (g : Ghosts D) (P : List Command → Type 0) (dis
 -- what has P, and behind it what a run adds
 abbrev Grown : {D : Type 0} → (List Command → Type 0) → OneRun D → List Command → Type 0
 Grown P run commands =
-    (before held more : List Command) × P before × Adds run held more × (commands ≡ before ++ held ++ more)
+    (before held more : List Command) × P before × AddsCommands run held more × (commands ≡ before ++ held ++ more)
 
 same_front : (front xs ys : List Command) → front ++ xs ≡ front ++ ys → xs ≡ ys
 same_front [] xs ys same = same
 same_front (command ∷ front) xs ys same = same_front front xs ys (cc)
 
 -- a run that had answered nothing may add nothing
-adds_nothing : {D : Type 0} (run : OneRun D) → run.answered ≡ [] → Adds run [] []
+adds_nothing : {D : Type 0} (run : OneRun D) → run.answered ≡ [] → AddsCommands run [] []
 adds_nothing run none = record { front = (accepted_of run.history, refl); one = tt; answered = ([], sym (append-nil run.answered ∙ none)) }
 
 grown_same : {D : Type 0} (P : List Command → Type 0) (run : OneRun D) (commands : List Command) → run.answered ≡ [] → P commands
@@ -145,7 +145,7 @@ module _ {D : Type 0} (g : Ghosts D) (facts : Facts g) (P : List Command → Typ
     opened_near = near (left.honesty honest) run.opening.commands (left.opened honest)
 
     adds_all : HasReturned run → (more : List Command) → IsOneMore run.history (accepted_of run.history) more
-        → Adds run (accepted_of run.history) more
+        → AddsCommands run (accepted_of run.history) more
     adds_all returned more one = record {
       front = ([], sym (append-nil (accepted_of run.history)));
       one = one;
@@ -178,8 +178,7 @@ module _ {D : Type 0} (g : Ghosts D) (facts : Facts g) (P : List Command → Typ
           inl refl,
         )
         | inr more ↦
-            let was = faulted_last run.history more.0 more.1 in
-            (
+            let was = faulted_last run.history more.0 more.1 in (
               commands_after run.opening run.history ++ more.0 ∷ [],
               inl more.2,
               (
@@ -188,7 +187,7 @@ module _ {D : Type 0} (g : Ghosts D) (facts : Facts g) (P : List Command → Typ
                 more.0 ∷ [],
                 opened_near.0,
                 adds_all returned (more.0 ∷ [])
-                (was.after, (record { before = was.before; caller = was.caller; count = was.count; turns = was.turns }, was.then)),
+                    (was.after, (record { before = was.before; caller = was.caller; count = was.count; turns = was.turns }, was.then)),
                 refl,
               ),
               inr (more.0, refl),
@@ -203,12 +202,11 @@ module _ {D : Type 0} (g : Ghosts D) (facts : Facts g) (P : List Command → Typ
       | inl nothing ↦ (held ++ more, ap (λ (cs : List Command). cs ++ (held ++ more)) (sym nothing))
       | inr some ↦
           let least = some.kept.since (g.reads run.next) some.late in
-          let same = opens_to_one (g.reads run.next) _ _ opens least.1 in
-          (
+          let same = opens_to_one (g.reads run.next) _ _ opens least.1 in (
             least.0,
             same_front run.opening.commands (held ++ more) (accepted_of some.front ++ least.0)
-            (sym (append_assoc run.opening.commands held more) ∙ same ∙ append_assoc run.opening.commands (accepted_of some.front) least.0)
-            ∙ ap (λ (cs : List Command). cs ++ least.0) (sym some.answered),
+                (sym (append_assoc run.opening.commands held more) ∙ same ∙ append_assoc run.opening.commands (accepted_of some.front) least.0)
+                ∙ ap (λ (cs : List Command). cs ++ least.0) (sym some.answered),
           )
     ]
 
@@ -227,8 +225,7 @@ module _ {D : Type 0} (g : Ghosts D) (facts : Facts g) (P : List Command → Typ
             let lengths : length held.0 ≡ length run.opening.commands + length (accepted_of some.front) + length least.0 =
             ap length same ∙ length-append (commands_after run.opening some.front) least.0
             ∙ ap (λ n. n + length least.0) (length-append run.opening.commands (accepted_of some.front)) in
-            let none : least.0 ≡ [] = no_items least.0 (let s = short.1 in let l = long.0 in omega (arith, s, l, lengths, one)) in
-            (
+            let none : least.0 ≡ [] = no_items least.0 (let s = short.1 in let l = long.0 in omega (arith, s, l, lengths, one)) in (
               held.0,
               held.1,
               (
@@ -295,8 +292,7 @@ one_by_one : {D : Type 0} (P : List Command → Type 0) (runs : List (OneRun D))
     → (before : List Command) × P before × AreLeft before runs commands
 one_by_one P [] commands is = (commands, is, refl)
 one_by_one P (run ∷ runs) commands grown =
-    let rest = one_by_one (Grown P run) runs commands grown in
-    (
+    let rest = one_by_one (Grown P run) runs commands grown in (
       rest.1.0,
       rest.1.3,
       (rest.1.1, rest.1.2, rest.1.4, subst (λ (before : List Command). AreLeft before runs commands) rest.1.5 rest.2),

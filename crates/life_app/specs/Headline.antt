@@ -72,8 +72,8 @@ IsToldText clerk (Value on at workers) (Pinned position policies) commands basis
 IsToldText _ _ _ _ _ _ _ = ⊥
 
 -- the text of an answered line of a history that began after these commands
-abbrev pub IsTold : List Command → List Entry → List Dated → List ℕ → AnsweredLine → List ℕ → Type 0
-IsTold commands history basis dry answered text =
+abbrev pub IsToldLine : List Command → List Entry → List Dated → List ℕ → AnsweredLine → List ℕ → Type 0
+IsToldLine commands history basis dry answered text =
     IsToldText answered.clerk answered.line answered.first.1.reply
     (commands ++ accepted_of (take answered.first.0 history)) basis (Contains dry answered.first.0) text
 
@@ -110,7 +110,7 @@ pub record IsPromised {D : Type 0} (g : Ghosts D) (Opens : List ℕ → List Com
   -- a front of the transcript was written, and all of it at the statuses 0 and 8; the auditors' lines stand behind
   pub texts : List (List ℕ)
   pub behind : List ℕ
-  pub told : AllZip (IsTold commands history basis dry) lines texts
+  pub told : AllZip (IsToldLine commands history basis dry) lines texts
   pub wrote : (n : ℕ) × Appends output.before output.after (take n (flat_map (λ (text : List ℕ). text) texts ++ behind))
   pub whole : (status ≡ 0) ⊎ (status ≡ 8)
       → Appends output.before output.after (flat_map (λ (text : List ℕ). text) texts ++ behind)

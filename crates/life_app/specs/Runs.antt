@@ -30,7 +30,7 @@ pub record HasReturned {D : Type 0} (run : OneRun D) : Type 0 where
 
 -- The crash came when nothing was answered yet; or when a beginning of the turns had been answered, at or after a moment
 -- since which each image holds what they accepted.
-pub record HasAnswered {D : Type 0} (g : Ghosts D) (old : D) (run : OneRun D) : Type 0 where
+pub record HasAnsweredSome {D : Type 0} (g : Ghosts D) (old : D) (run : OneRun D) : Type 0 where
   pub front : List Entry
   pub rest : List Entry
   pub split : run.history ≡ front ++ rest
@@ -42,7 +42,7 @@ pub record HasAnswered {D : Type 0} (g : Ghosts D) (old : D) (run : OneRun D) : 
 pub record WasCut {D : Type 0} (g : Ghosts D) (old : D) (run : OneRun D) : Type 0 where
   pub left : g.left_since run.new (g.clock old) (g.reads run.next)
   pub safe : IsSafe g run.next
-  pub when : (run.answered ≡ []) ⊎ HasAnswered g old run
+  pub when : (run.answered ≡ []) ⊎ HasAnsweredSome g old run
 
 -- a run on this disk, which comes back honest
 pub record IsRunOn {D : Type 0} (g : Ghosts D) (old : D) (run : OneRun D) : Type 0 where
@@ -57,7 +57,7 @@ AreRuns g first (run ∷ runs) last = IsRunOn g first run × AreRuns g run.next 
 
 -- What a run adds: a front of what it accepted, and at most one more, whose posting was answered `fault` when just that was
 -- accepted. What it had answered is the front of this.
-pub record Adds {D : Type 0} (run : OneRun D) (held more : List Command) : Type 0 where
+pub record AddsCommands {D : Type 0} (run : OneRun D) (held more : List Command) : Type 0 where
   pub front : (rest : List Command) × (accepted_of run.history ≡ held ++ rest)
   pub one : IsOneMore run.history held more
   pub answered : (rest : List Command) × (held ++ more ≡ run.answered ++ rest)
@@ -66,4 +66,4 @@ pub record Adds {D : Type 0} (run : OneRun D) (held more : List Command) : Type 
 abbrev pub AreLeft : {D : Type 0} → List Command → List (OneRun D) → List Command → Type 0
 AreLeft before [] commands = commands ≡ before
 AreLeft before (run ∷ runs) commands =
-    (held more : List Command) × Adds run held more × AreLeft (before ++ held ++ more) runs commands
+    (held more : List Command) × AddsCommands run held more × AreLeft (before ++ held ++ more) runs commands

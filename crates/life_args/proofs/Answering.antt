@@ -80,7 +80,7 @@ odd_refused verb words odd pieces spelling = true≢false (sym odd ∙ spelled_e
 -- ---- a mode
 
 -- words ask for a mode of their verb, whose pieces spell them
-asked_of : (verb : Verb) (words : List Text) (one : Mode) → AreWords (verb_word verb ∷ words) one
+pub asked_of : (verb : Verb) (words : List Text) (one : Mode) → AreWords (verb_word verb ∷ words) one
     → (verb_of one ≡ verb) × ((pieces : List WordPiece) × Spelling (options_of verb) words pieces × SaysMode (values_of pieces) one)
 asked_of verb words one are =
     let asks = asked (verb_word verb) words one are in

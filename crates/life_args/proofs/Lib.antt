@@ -8,3 +8,5 @@ pub mod Asking
 pub mod Once
 pub mod Answering
 pub mod Saying
+pub mod Either
+pub mod WorkedWords

@@ -1,4 +1,5 @@
 pub mod Pieces
 pub mod Values
 pub mod Words
+pub mod Worked
 pub mod inside

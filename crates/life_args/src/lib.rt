@@ -9,8 +9,10 @@ mod modes;
 mod reading;
 mod values;
 mod verb;
+mod worked;
 
 pub use fault::WordsFault;
 pub use laws::words_ask_once;
 pub use mode::Mode;
 pub use reading::read_words;
+pub use worked::words_by_hand;

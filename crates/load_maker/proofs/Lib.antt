@@ -1,4 +1,4 @@
-mod Drawing
+pub mod Drawing
 mod Dealing
 mod Counting
 pub mod Facts

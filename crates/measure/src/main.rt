@@ -11,6 +11,9 @@
 //!   and prints `waiting,8,COUNT`.
 //! - `postings CALLERS COUNT` has so many callers issue COUNT policies in all, each as many (a rest is left out), at the
 //!   office of `journal.life` in the folder where it runs, and prints `postings,CALLERS,ACCEPTED`.
+//! - `versions POLICIES VERSIONS READS TRIMS` sets so many policies so many times each in a book of versions, in turn; reads
+//!   256 of them so many times, each time at another position; gives up all but the newest versions, so many times over; and
+//!   prints `versions,POLICIES,KEPT,PAID`: how many versions are kept then, and the sum of the premiums paid that were read.
 //! - `sleeping CALLERS COUNT` does the same on a disk in memory whose sync sleeps 50 microseconds.
 //!
 //! The status is 2 where the words are others, 8 where the journal doesn't open, 9 where there is no memory.
@@ -23,6 +26,7 @@ mod reserves;
 mod sleeping_disk;
 mod tables;
 mod turns;
+mod versions;
 mod waiting;
 mod words;
 
@@ -33,6 +37,7 @@ use std::process::ExitCode;
 use std::{env, io};
 use tables::measure_tables;
 use turns::{measure_postings, measure_turns, measure_waiting};
+use versions::measure_versions;
 use words::Outcome;
 
 fn main(rt: HostRuntime) -> io::Result<ExitCode> {
@@ -47,6 +52,7 @@ fn main(rt: HostRuntime) -> io::Result<ExitCode> {
         "reserves" => measure_reserves(&rt, &mut words)?,
         "turns" => measure_turns(&rt, &mut words)?,
         "waiting" => measure_waiting(&rt, &mut words)?,
+        "versions" => measure_versions(&rt, &mut words)?,
         "postings" => {
             let disk = FileDisk::at(rt, "journal.life", AnyFile);
             measure_postings(&rt, &mut words, "postings", disk)?

@@ -8,6 +8,8 @@ mod office_pin_tests;
 #[cfg(test)]
 mod office_posting_tests;
 #[cfg(test)]
+mod office_version_tests;
+#[cfg(test)]
 mod office_watcher_tests;
 #[cfg(test)]
 mod policies;

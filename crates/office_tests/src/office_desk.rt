@@ -120,9 +120,12 @@ pub(crate) fn answers<W: Watching>(desk: &mut Desk<W>, postings: &[Posting]) -> 
     true
 }
 
-// Whether just these policies stood there after so many commands.
+// Whether just these policies stood there after so many commands, and are kept.
 pub(crate) fn shows<W: Watching>(desk: &Desk<W>, position: u32, policies: &[Policy]) -> bool {
-    if desk.office.count() < position || desk.office.policies(position) as usize != policies.len() {
+    if desk.office.count() < position || position < desk.office.floor() {
+        return false;
+    }
+    if desk.office.policies(position) as usize != policies.len() {
         return false;
     }
     for index in 0..desk.office.policies(position) {

@@ -8,14 +8,14 @@ use watcher_set::NoWatchers;
 
 // A call of one caller that concerns pins, and its answer.
 #[derive(Clone, Copy)]
-enum Pinning {
+pub(crate) enum Pinning {
     Now(Result<PinInfo, PinRefusal>),
     At(u32, Result<PinInfo, PinRefusal>),
     Trim(u32),
     Unpin(u64),
 }
 
-fn pinned(number: u64, position: u32, policies: u32) -> Result<PinInfo, PinRefusal> {
+pub(crate) fn pinned(number: u64, position: u32, policies: u32) -> Result<PinInfo, PinRefusal> {
     Ok(PinInfo {
         number,
         position,
@@ -24,7 +24,7 @@ fn pinned(number: u64, position: u32, policies: u32) -> Result<PinInfo, PinRefus
 }
 
 // Whether the office answers so.
-fn pins_so(desk: &mut Desk<NoWatchers>, pinning: Pinning) -> bool {
+pub(crate) fn pins_so(desk: &mut Desk<NoWatchers>, pinning: Pinning) -> bool {
     if MOST_TURNS <= desk.office.turns() {
         return false;
     }
@@ -48,7 +48,7 @@ fn gives_up(desk: &mut Desk<NoWatchers>, pin: u64) -> bool {
 }
 
 // Reads a batch of a pin, if the caller holds it.
-fn reads(desk: &mut Desk<NoWatchers>, pin: u64, first: u32, batch: &mut Batch) -> bool {
+pub(crate) fn reads(desk: &mut Desk<NoWatchers>, pin: u64, first: u32, batch: &mut Batch) -> bool {
     let Some(held) = desk.office.held(pin) else {
         return false;
     };
@@ -126,12 +126,7 @@ fn positions_that_are_pinned(rt: HostRuntime) -> Result<(), AllocError> {
     Ok(())
 }
 
-// What may go from one thread to another.
-fn sent<T: Send>(value: T) -> T {
-    value
-}
-
-// Sixteen pins are taken, and the next only once one of them was given up. The office may go to another thread between.
+// Sixteen pins are taken, and the next only once one of them was given up.
 #[test]
 fn seventeen_pins(rt: HostRuntime) -> Result<(), AllocError> {
     let alloc = rt.alloc();
@@ -141,7 +136,6 @@ fn seventeen_pins(rt: HostRuntime) -> Result<(), AllocError> {
     for number in 0..16 {
         assert!(rt; pins_so(&mut desk, Pinning::Now(pinned(number, 0, 0))));
     }
-    let mut desk = sent(desk);
     let rows = [
         Pinning::Now(Err(PinRefusal::PinsFull)),
         Pinning::At(1, Err(PinRefusal::Ahead(0))),

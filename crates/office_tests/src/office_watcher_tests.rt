@@ -81,6 +81,37 @@ fn watchers_without_memory(rt: HostRuntime) -> Result<(), AllocError> {
     Ok(())
 }
 
+// A policy whose issue lacks the watchers' memory, and one whose first premium is refused, leave no trace: they don't stand
+// in the book, nor in the order of issue.
+#[test]
+fn postings_that_leave_no_trace(rt: HostRuntime) -> Result<(), AllocError> {
+    let alloc = rt.alloc();
+    let watchers = Forgetful {
+        calls: 0,
+        refused: 2,
+        nobody: NoWatchers,
+    };
+    let Ok(mut desk) = watched_on(alloc, &[], &[], watchers)? else {
+        panic!(rt; "no office");
+    };
+    let first = policy(1, NEW_YEAR, NEW_YEAR, 0, Status::InForce, 0);
+    let second = policy(2, NEW_YEAR, NEW_YEAR, 0, Status::InForce, 0);
+    let third = policy(3, NEW_YEAR, NEW_YEAR, 0, Status::InForce, 0);
+    assert!(rt; answers(&mut desk, &[accepted(issue(1, NEW_YEAR), 1)]));
+    assert!(rt; answers(&mut desk, &[lacking_memory(issue(3, NEW_YEAR))]));
+    assert!(rt; desk.office.kept() == 1 && shows(&desk, 1, &[first]));
+    assert!(rt; answers(&mut desk, &[refused(premium(NEW_YEAR), Refusal::Unknown)]));
+    assert!(rt; desk.office.kept() == 1 && shows(&desk, 1, &[first]));
+    let rest = [
+        accepted(issue(2, NEW_YEAR), 2),
+        accepted(issue(3, NEW_YEAR), 3),
+    ];
+    assert!(rt; answers(&mut desk, &rest));
+    assert!(rt; desk.office.kept() == 3 && shows(&desk, 1, &[first]));
+    assert!(rt; shows(&desk, 2, &[first, second]) && shows(&desk, 3, &[first, second, third]));
+    Ok(())
+}
+
 // The reports of watchers at the end of an office that answers so.
 fn reports_after<W: Watching>(
     alloc: Global,

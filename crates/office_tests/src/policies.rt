@@ -19,8 +19,13 @@ pub(crate) fn issue(id: u32, day: i32) -> Command {
 
 /// The first or a later premium of the policy 7001.
 pub(crate) fn premium(day: i32) -> Command {
+    premium_of(7001, day)
+}
+
+/// The first or a later premium of such a policy.
+pub(crate) fn premium_of(id: u32, day: i32) -> Command {
     Command::Premium {
-        id: 7001,
+        id,
         day,
         amount: 40_000,
     }

@@ -1,5 +1,8 @@
 -- What a cache holds, and when that is right.
-use Rattle.std.specs.Prelude.{◌≡◌, ℕ, ◌<◌, ◌≤◌, List, length, map, slice_get, All, Some, Ok, vec_capacity}
+use Rattle.std.specs.Prelude.{◌≡◌, ℕ, ◌<◌, ◌≤◌, List, length, None, slice_get, All, Some, Ok, vec_capacity, Contains, take, ◌-◌, ◌∷◌, ◌⊎◌}
+use Rattle.std.specs.Map.{keys_of, lookup}
+use Rattle.std.specs.Set.{remove_key}
+use Rattle.policy_value.specs.contracts.key.CacheKeyPartialEq.TheImpl.{eq-value}
 use Rattle.rate_table.specs.Rates.{Rates}
 use Rattle.rate_table.specs.declared.shape.Shape.{Shape}
 use Rattle.plan_benefits.specs.Shapes.{shape_of}
@@ -45,6 +48,16 @@ pub record IsRightFor (basis : List Dated) (cache : ColumnCache) : Type 0 where
   pub premiums : All (IsRightPremium basis) cache.premiums.entries
   pub columns : IsRightStore basis cache.columns
 
+-- a key was asked for. It is in front where it was among the keys. Where it wasn't, it was put in front, and of as many
+-- keys as the cache holds the last left it; or for want of memory the keys are as before.
+pub record HasAsked (key : CacheKey) (most : ℕ) (old new : List CacheKey) : Type 0 where
+  pub hit : Contains old key → new ≡ key ∷ remove_key (eq-value.it key) old
+  pub miss : (Contains old key → ⊥) → (new ≡ key ∷ take (most - 1) old) ⊎ (new ≡ old)
+
 -- the keys of the policies, the last used first
-unfoldable pub kept_keys : ColumnCache → List CacheKey
-kept_keys cache = map (λ (entry : CacheKey × Premium). entry.0) cache.premiums.entries
+abbrev pub kept_keys : ColumnCache → List CacheKey
+kept_keys cache = keys_of cache.premiums.entries
+
+-- no premium is kept for a key
+abbrev pub IsMissing : CacheKey → ColumnCache → Type 0
+IsMissing key cache = lookup (eq-value.it key) cache.premiums.entries ≡ None

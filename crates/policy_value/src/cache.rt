@@ -1,11 +1,11 @@
-ghost use Rattle.std.specs.Prelude.{◌≡◌, ◌≤◌, ◌+◌, [], List, All, IfSome, IfOk, Ok, length, min};
+ghost use Rattle.std.specs.Prelude.{◌≡◌, ◌≤◌, ◌+◌, [], List, All, IfSome, IfNone, IsSome, IfOk, Ok, length, min};
 ghost use Rattle.rate_table.specs.Rates.{AreRates};
 ghost use Rattle.plan_benefits.specs.Shapes.{shape_of};
 ghost use Rattle.present_value.specs.Sums.{cover_of};
 ghost use Rattle.present_value.specs.Premium.{cap_of, cap_shape};
 ghost use Rattle.crvm_reserve.specs.Made.{CanReserve, IsMadeFor, premium_of};
 ghost use Rattle.basis_book.specs.Dated.{Dated};
-ghost use Rattle.policy_value.specs.Caches.{IsRightFor, IsRightPremium, IsRightStore, IsRowOf, kept_keys};
+ghost use Rattle.policy_value.specs.Caches.{HasAsked, IsMissing, IsRightFor, IsRightPremium, IsRightStore, IsRowOf, kept_keys};
 
 use crate::columns::ColumnStore;
 use crate::key::CacheKey;
@@ -76,6 +76,7 @@ impl ColumnCache {
         ensures made { IsMadeFor (cover_of table.now shape.now bp) (cap_of table.now shape.now.age bp) t
             result.0 result.1 }
         ensures right { IsRightFor basis.now self.new }
+        ensures keys { HasAsked key self.old.premiums.cap (kept_keys self.old) (kept_keys self.new) }
     {
         let cap = shape_of_cap(table, shape.age);
         let premium = self.premium(basis, key, table, bp, shape, &cap);
@@ -103,6 +104,7 @@ impl ColumnCache {
         requires ages { AreRates table.now }
         ensures premium { result ≡ premium_of (cover_of table.now shape.now bp) (cap_of table.now shape.now.age bp) }
         ensures right { IsRightFor basis.now self.new }
+        ensures keys { HasAsked key self.old.premiums.cap (kept_keys self.old) (kept_keys self.new) }
     {
         if let Some(premium) = self.find(key) {
             return premium;
@@ -121,6 +123,8 @@ impl ColumnCache {
             → All (IsRightPremium basis) self.new.premiums.entries }
         ensures found { (basis : List Dated) → All (IsRightPremium basis) self.old.premiums.entries
             → IfSome result (λ premium. IsRightPremium basis (key, premium)) }
+        ensures hit { IsSome result → HasAsked key self.old.premiums.cap (kept_keys self.old) (kept_keys self.new) }
+        ensures miss { IfNone result ((self.new.premiums ≡ self.old.premiums) × IsMissing key self.old) }
     {
         if self.premiums.promote(&key) {
             self.premiums.peek(&key).copied()

@@ -4,6 +4,7 @@ ghost use Rattle.policy_types.specs.Valid.{IsIssue};
 ghost use Rattle.plan_benefits.specs.Shapes.{shape_of};
 ghost use Rattle.rate_table.specs.declared.shape.Shape.{Shape as AShape};
 ghost use Rattle.policy_value.specs.Caches.{IsRightFor, IsRowOf};
+ghost use Rattle.policy_value.specs.Used.{Asks, AsksByBasis, AsksByShape};
 ghost use Rattle.policy_value.specs.Rows.{IsInsured, IsValueOf, IsReserveOf, IsWithinAmount, RowOf, IsExact};
 
 use crate::cache::ColumnCache;
@@ -29,6 +30,7 @@ pub fn row(policy: &Policy, basis: &Basis, on: i32, cache: &mut ColumnCache) -> 
         → IsExact policy.now entry.table entry.bp result.t result.worth }
     ensures most { IsWithinAmount policy.now.amount result.worth }
     ensures right { IsRightFor basis.now cache.new }
+    ensures keys { Asks policy.now basis.now on cache.old cache.new }
 {
     let (t, worth) = if is_insured(policy, on) {
         value_by_basis(policy, basis, on, cache)
@@ -61,6 +63,7 @@ fn value_by_basis(policy: &Policy, basis: &Basis, on: i32, cache: &mut ColumnCac
         → IsExact policy.now entry.table entry.bp result.0 result.1 }
     ensures most { IsWithinAmount policy.now.amount result.1 }
     ensures right { IsRightFor basis.now cache.new }
+    ensures keys { AsksByBasis policy.now basis.now cache.old cache.new }
 {
     match basis.pick(policy.issued) {
         Some((place, table, bp)) => value_by_table(policy, basis, place, table, bp, on, cache),
@@ -89,6 +92,8 @@ fn value_by_table(
     ensures exact { IsExact policy.now table.now bp result.0 result.1 }
     ensures most { IsWithinAmount policy.now.amount result.1 }
     ensures right { IsRightFor basis.now cache.new }
+    ensures keys { AsksByShape policy.now basis_row
+        (shape_of policy.now.plan policy.now.age policy.now.years table.now) cache.old cache.new }
 {
     match shape(policy.plan, policy.age, policy.years, table) {
         Ok(shape) => {

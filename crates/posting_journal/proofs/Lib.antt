@@ -5,3 +5,4 @@ pub mod Parts
 pub mod Staging
 pub mod Unique
 pub mod Written
+pub mod WorkedFiles

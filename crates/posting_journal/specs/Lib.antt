@@ -7,4 +7,5 @@ pub mod States
 pub mod Pieces
 pub mod Opening
 pub mod Starting
+pub mod Worked
 pub mod inside

@@ -14,8 +14,10 @@ mod putting;
 mod reading;
 mod scanning;
 mod starting;
+mod worked;
 
 pub use faults::{DiskFault, JournalCause, JournalFault};
 pub use journal::Journal;
 pub use laws::{one_list_of_bodies, refused_files_open_to_none};
 pub use pieces::Piece;
+pub use worked::{creations_by_hand, journals_by_hand, refused_files_by_hand};

@@ -5,3 +5,4 @@ pub mod LoadPins
 pub mod LoadAnswers
 pub mod LoadSteps
 pub mod LoadStatus
+pub mod ReadsBack

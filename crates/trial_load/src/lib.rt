@@ -2,7 +2,9 @@
 #![tactic(auto)]
 
 mod generating;
+mod laws;
 mod loading;
 
 pub use generating::generate;
+pub use laws::generated_text_reads;
 pub use loading::load;

@@ -3,4 +3,5 @@ pub mod Noted
 pub mod Premiums
 pub mod Told
 pub mod Watchers
+pub mod Worked
 pub mod inside

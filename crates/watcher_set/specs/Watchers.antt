@@ -1,8 +1,9 @@
--- What contracts see of the two auditors of this crate
+-- What contracts see of the auditors of this crate
 use Rattle.std.specs.Prelude.{ℕ, List}
 use Rattle.policy_types.specs.declared.command.Command.{Command}
 use Rattle.watcher_set.specs.declared.counting.CountWatcher.{CountWatcher}
 use Rattle.watcher_set.specs.declared.premiums.PremiumWatcher.{PremiumWatcher}
+use Rattle.watcher_set.specs.declared.tight.TightWatcher.{TightWatcher}
 
 -- the commands that it has noted
 abbrev pub counted : CountWatcher → List Command
@@ -15,3 +16,11 @@ limit_of watcher = watcher.limit
 -- the commands that it has noted
 abbrev pub premium_commands : PremiumWatcher → List Command
 premium_commands watcher = watcher.noted.items
+
+-- the commands that it has noted
+abbrev pub tight_commands : TightWatcher → List Command
+tight_commands watcher = watcher.noted.items
+
+-- how many calls of `ready` there are up to the one without memory, with it; 0 where that is past
+abbrev pub calls_left_of : TightWatcher → ℕ
+calls_left_of watcher = watcher.calls_left

@@ -23,3 +23,4 @@ pub mod PathReading
 pub mod Judging
 pub mod Final
 pub mod WorkedPlaces
+pub mod WorkedTables

@@ -6,4 +6,5 @@ pub mod Texts
 pub mod Documents
 pub mod Checks
 pub mod Answers
+pub mod Worked
 pub mod inside

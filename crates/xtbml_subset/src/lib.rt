@@ -17,6 +17,8 @@ mod state;
 mod table;
 mod text;
 mod token;
+mod worked;
 
 pub use fault::{TableFault, TableKind};
 pub use reader::read_table;
+pub use worked::{a_table_by_hand, refused_tables_by_hand};

@@ -1,4 +1,4 @@
-use Rattle.std.proofs.Common.{Bor, List, ℕ, ◌≡◌, ◌∙◌, ◌++◌, sym, refl, rules, inl, inr, true, Some, ◌∷◌, [], is_ok}
+use Rattle.std.proofs.Common.{Bor, List, ℕ, ◌≡◌, ◌∙◌, ◌++◌, sym, refl, rules, inl, true, false, Some, ◌∷◌, [], is_ok}
 use Rattle.csv.specs.Reading.{Reached, default_config, strip_bom}
 use Rattle.csv.specs.Records.{fields_of}
 use Rattle.csv.specs.declared.parser.State.TheVariants as st
@@ -6,38 +6,25 @@ use Rattle.csv.proofs.ReadFacts.{rows-end, rows-more}
 use Rattle.basis_book.proofs.Additions.{OnOk_holds}
 use Rattle.basis_book.proofs.file.judge_rows.Goals as goal
 
-pub loop-row-init : goal.loop-row-init
+pub loop-init : goal.loop-init
 unfolding Reached
-loop-row-init c =
-    let fr = c.from_reader-reader.ensures in
-    let e = c.has_headers.ensures in
-    let f = c.flexible.ensures in
-    let start = c.into_iter-row-iterator.ensures.into_iter_gives ∙ refl in
-    let rdr = c.into_byte_records-row-items.ensures.rdr in
-    let left = c.into_byte_records-row-items.ensures.left in
-    rw (start, rdr) (
-      rw (f, e) at fr.trim ∙ c.new.ensures.trim,
-      inr (inr (rw (f, e) at fr.has_headers, fr.headers)),
-      left,
-      rw (f, e) at fr.config ∙ c.new.ensures.config,
-      strip_bom c.args.bytes.now,
-      fr.source,
-      [],
-      (sym fr.state, refl),
-      c.new-reading.ensures,
-    )
+loop-init c =
+    let at = c.in_ok-reader.ensures in
+    (at.plain, at.ready, at.config, strip_bom c.args.bytes.now, at.source, [], (sym at.state, refl), c.new-reading.ensures)
 
-pub loop-row-preserved : goal.loop-row-preserved
-loop-row-preserved c =
-    let inv = c.loop-row.invariant in
-    let s = rw (c.in-Some.is, c.in-Ok.is) at ((c.next.ensures.steps inv.2 inv.0).0 inv.1) in
+pub loop-preserved : goal.loop-preserved
+loop-preserved c =
+    let inv = c.loop.invariant in
+    let yes : c.in-Ok-read_byte_record.found ≡ true = search rules in
+    let s = rw yes at (c.in-Ok-read_byte_record.ensures.reads inv.0 inv.1) in
     let good : is_ok c.add.result ≡ true = search rules in
-    let fields = fields_of c.in-Ok.row in
-    let m = rows-more (λ (s : Bor (List ℕ)). Some s.now) c.loop-row.row-iterator.rdr c.next.new.self.rdr fields default_config st.StartRecord (strip_bom c.args.bytes.now) inv.4 inv.6 inv.3 inv.5 inv.7 s.0 in
-    (s.0.3 ∙ inv.0, inl s.1, s.2, s.0.2 ∙ inv.3, m.0, m.1, inv.6 ++ fields ∷ [], m.2, OnOk_holds c.add.result _ good (c.add.ensures inv.6 fields c.three_fields.ensures inv.8))
+    let fields = fields_of c.read_byte_record.new.row in
+    let m = rows-more (λ (s : Bor (List ℕ)). Some s.now) c.loop.reader c.read_byte_record.new.self fields default_config st.StartRecord (strip_bom c.args.bytes.now) inv.3 inv.5 inv.2 inv.4 inv.6 s in
+    (s.3 ∙ inv.0, inl (c.in-Ok-read_byte_record.ensures.ready inv.0), s.2 ∙ inv.2, m.0, m.1, inv.5 ++ fields ∷ [], m.2, OnOk_holds c.add.result _ good (c.add.ensures inv.5 fields c.three_fields.ensures inv.7))
 
-pub returns : goal.returns
-returns c =
-    let inv = c.loop-row.invariant in
-    let s = rw c.in-None.is at ((c.next.ensures.steps inv.2 inv.0).0 inv.1) in
-    (inv.6, (c.loop-row.row-iterator.rdr.state, inv.4, inv.7, rows-end (λ (s : Bor (List ℕ)). Some s.now) c.loop-row.row-iterator.rdr c.next.new.self.rdr [] default_config inv.4 inv.3 inv.5 s), inv.8)
+pub returns-then-not-found : goal.returns-then-not-found
+returns-then-not-found c =
+    let inv = c.loop.invariant in
+    let no : c.in-Ok-read_byte_record.found ≡ false = search rules in
+    let s = rw no at (c.in-Ok-read_byte_record.ensures.reads inv.0 inv.1) in
+    (inv.5, (c.loop.reader.state, inv.3, inv.6, rows-end (λ (s : Bor (List ℕ)). Some s.now) c.loop.reader c.read_byte_record.new.self _ default_config inv.3 inv.2 inv.4 s), inv.7)

@@ -13,7 +13,7 @@ loop-line-init g c = record {
 }
 
 pub answer_line-answered-requires-clause-left : goal.answer_line-answered-requires-clause-left
-answer_line-answered-requires-clause-left g c =
+answer_line-answered-requires-clause-left g c κs within =
     next_left c.args.asked.now c.loop-line.line-index _ c.loop-line.pass.left _ c.args.pass.now.left c.loop-line-test.true c.requires.left
     c.loop-line.invariant.answered.grows.left c.loop-line.invariant.answered.few
 

@@ -1,4 +1,4 @@
-use Rattle.std.proofs.Common.{◌≡◌, length, sym, ◌∙◌, subst, arith}
+use Rattle.std.proofs.Common.{◌≡◌, length, sym, ◌∙◌, subst, arith, rules}
 use denote.Param.SendFields.{declared_sync, as_row_sync}
 use denote.Param.Send.{sendable}
 use Rattle.std.proofs.Crossing.{crosses, sync}
@@ -11,9 +11,15 @@ use Rattle.lane_runner.proofs.running.run_all.Goals as goal
 
 pub for_each_mut-requires-clause-accepts : goal.for_each_mut-requires-clause-accepts
 for_each_mut-requires-clause-accepts g c κs within = λ i p below here. (
-  (let long = zip_length (IsReadySeat c.args.office.now) c.args.lanes.now c.args.seats.now c.requires.ready in omega (arith, below, long)),
-  λ lane at. subst (IsReadySeat c.args.office.now lane) (sym here)
-      (zip_at (IsReadySeat c.args.office.now) c.args.lanes.now c.args.seats.now i lane p.now c.requires.ready at),
+  search rules,
+  (
+    (
+      (let long = zip_length (IsReadySeat c.args.office.now) c.args.lanes.now c.args.seats.now c.requires.ready in omega (arith, below, long)),
+      λ lane at. subst (IsReadySeat c.args.office.now lane) (sym here)
+          (zip_at (IsReadySeat c.args.office.now) c.args.lanes.now c.args.seats.now i lane p.now c.requires.ready at),
+    ),
+    search rules,
+  ),
 )
 
 pub returns : goal.returns

@@ -1,8 +1,6 @@
 use Rattle.std.proofs.Common.{ap, sym, ◌∙◌, min}
 use Rattle.std.proofs.lemmas.List.{length-map}
-use Rattle.policy_value.specs.Caches.{kept_keys}
 use Rattle.policy_value.proofs.cache.ColumnCache.len.Goals as goal
 
 pub returns : goal.returns
-unfolding kept_keys
 returns c = c.min.ensures ∙ ap (λ n. min n 255) (c.len.ensures.len ∙ sym (length-map c.args.self.now.premiums.entries _))

@@ -1,6 +1,6 @@
 use Rattle.std.proofs.Common.{refl}
 use Rattle.std.proofs.lemmas.List.Elements.{All-nil}
-use Rattle.policy_value.specs.Caches.{IsRightPremium, kept_keys}
+use Rattle.policy_value.specs.Caches.{IsRightPremium}
 use Rattle.policy_value.proofs.cache.ColumnCache.with_room.Goals as goal
 
 pub returns-in-Ok-clause-right : goal.returns-in-Ok-clause-right
@@ -10,5 +10,4 @@ returns-in-Ok-clause-right c = λ basis. record {
 }
 
 pub returns-in-Ok-clause-empty : goal.returns-in-Ok-clause-empty
-unfolding kept_keys
 returns-in-Ok-clause-empty c = rw c.in-Ok.ensures refl

@@ -1,0 +1,37 @@
+-- Worked words: each command as it is typed, and words that are nearly one
+use Rattle.std.specs.Prelude.{◌≡◌, ℕ, List, [], ◌∷◌, map, codes, string_bytes, String, Some, None, pos}
+use Rattle.std.specs.Global.{Global}
+use Rattle.policy_types.specs.declared.entry.At.TheVariants.{Now, Position}
+use Rattle.life_args.specs.declared.mode.Mode.{Mode}
+use Rattle.life_args.specs.declared.mode.Mode.TheVariants.{Run, Value, State, Generate, Load}
+use Rattle.life_args.specs.Words.{AskFor, AskForNothing}
+
+-- words that are these bytes ask for this
+abbrev pub Ask : List (List ℕ) → Mode → Type 0
+Ask typed mode = (words : List (String Global)) → map string_bytes words ≡ typed → AskFor words mode
+
+-- words that are these bytes ask for nothing
+abbrev pub AskNothing : List (List ℕ) → Type 0
+AskNothing typed = (words : List (String Global)) → map string_bytes words ≡ typed → AskForNothing words
+
+abbrev pub RunWords : Type 0
+RunWords = Ask (codes "run" ∷ []) (Run (codes "basis.csv"))
+    × Ask (codes "run" ∷ codes "--basis" ∷ codes "b2.csv" ∷ []) (Run (codes "b2.csv"))
+
+-- options before and behind the day, in two words or in one
+abbrev pub ValueWords : Type 0
+ValueWords = Ask (codes "value" ∷ codes "2021-01-01" ∷ []) (Value (pos 18628) Now 1 (codes "basis.csv"))
+    × Ask (codes "value" ∷ codes "--at=5" ∷ codes "2021-01-01" ∷ codes "--workers" ∷ codes "64" ∷ [])
+    (Value (pos 18628) (Position 5) 64 (codes "basis.csv"))
+
+abbrev pub StateWords : Type 0
+StateWords = Ask (codes "state" ∷ []) (State None) × Ask (codes "state" ∷ codes "7001" ∷ []) (State (Some 7001))
+
+abbrev pub LoadWords : Type 0
+LoadWords = Ask (codes "generate" ∷ codes "1" ∷ codes "2" ∷ codes "3" ∷ []) (Generate 1 2 3)
+    × Ask (codes "load" ∷ codes "0" ∷ codes "100000" ∷ codes "8" ∷ codes "64" ∷ []) (Load 0 100000 8 64)
+
+-- no words, a word too many, no day, too few numbers, and no such command
+abbrev pub NearWords : Type 0
+NearWords = AskNothing [] × AskNothing (codes "run" ∷ codes "now" ∷ []) × AskNothing (codes "value" ∷ [])
+    × AskNothing (codes "generate" ∷ codes "1" ∷ codes "1" ∷ []) × AskNothing (codes "help" ∷ [])

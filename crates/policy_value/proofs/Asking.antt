@@ -1,0 +1,99 @@
+-- The keys of a cache after one of them was asked for.
+use Rattle.std.proofs.Common.{rules, true≢false, subst, ◌≡◌, ℕ, ◌-◌, Bool, true, false, List, [], ◌∷◌, map, take, Contains, Result, Ok, Err, OnOk, OnErr, Option, Some, None, is_some, refl, sym, ap, ◌∙◌, inl, inr}
+use Rattle.std.proofs.lemmas.List.{take-map}
+use Rattle.std.specs.Cmp.Rules.{comparing, hashing}
+use Rattle.std.specs.Map.{keys_of, lookup, lookup_entry, remove_entry}
+use Rattle.std.specs.Set.{remove_key}
+use Rattle.std.specs.Option.{option_map_or}
+use Rattle.lru.specs.LruCache.{LruCache, lru_cache, promoted, put_entries}
+use Rattle.lru.proofs.Splits.{Contains-nil, Contains-cons, Contains-head, Contains-tail}
+use Rattle.policy_value.specs.Caches.{HasAsked}
+use Rattle.policy_value.specs.declared.key.CacheKey.{CacheKey}
+use Rattle.policy_value.specs.contracts.key.CacheKeyPartialEq.TheImpl.{eq-value}
+use Rattle.policy_value.proofs.Keeping.{same_key}
+use Rattle.crvm_reserve.specs.declared.premium.Premium.{Premium}
+
+module _ {K V : Type 0} (test : K → Bool) where
+  keys_removed : (es : List (K × V)) → keys_of (remove_entry test es) ≡ remove_key test (keys_of es)
+  keys_removed [] = refl
+  keys_removed (e ∷ es) = (elim (test e.0) as (λ y. test e.0 ≡ y → keys_of (remove_entry test (e ∷ es)) ≡ remove_key test (keys_of (e ∷ es))) [
+    | true ↦ λ t. rw t refl
+    | false ↦ λ t. rw t (ap (λ (ks : List K). e.0 ∷ ks) (keys_removed es))
+  ]) refl
+
+  -- what is found is an entry, whose key passes
+  entry_found : (es : List (K × V)) (v : V) → lookup test es ≡ Some v → (e : K × V) × (lookup_entry test es ≡ Some e) × (test e.0 ≡ true) × Contains (keys_of es) e.0
+  entry_found [] v h = cc
+  entry_found (e ∷ es) v h = (elim (test e.0) as (λ y. test e.0 ≡ y → (f : K × V) × (lookup_entry test (e ∷ es) ≡ Some f) × (test f.0 ≡ true) × Contains (keys_of (e ∷ es)) f.0) [
+    | true ↦ λ t. (e, rw t refl, t, Contains-head e.0 (keys_of es))
+    | false ↦ λ t. let on = entry_found es v (rw t at h) in (on.0, rw t on.1, on.2, Contains-tail e.0 (keys_of es) on.0.0 on.3)
+  ]) refl
+
+  -- where nothing is found no entry's key passes
+  none_found : (es : List (K × V)) → lookup test es ≡ None → (lookup_entry test es ≡ None) × ((k : K) → Contains (keys_of es) k → test k ≡ false)
+  none_found [] h = (refl, λ k at. absurd (Contains-nil k at))
+  none_found (e ∷ es) h = (elim (test e.0) as (λ y. test e.0 ≡ y → (lookup_entry test (e ∷ es) ≡ None) × ((k : K) → Contains (keys_of (e ∷ es)) k → test k ≡ false)) [
+    | true ↦ λ t. let h' = rw t at h in absurd (some_none h')
+    | false ↦ λ t. let on = none_found es (rw t at h) in (
+      rw t on.0,
+      λ k at. elim (Contains-cons e.0 (keys_of es) k at) [
+        | inl same ↦ ap test (sym same) ∙ t
+        | inr later ↦ on.1 k later
+      ],
+    )
+  ]) refl
+    where
+      some_none : {v : V} → (let o : Option V = Some v in o) ≡ None → ⊥
+      some_none h = cc
+
+itself : (key : CacheKey) → eq-value.it key key ≡ true
+itself key = search (comparing, hashing, rules)
+
+-- a key that is found goes to the front
+pub asked_hit : (key : CacheKey) (most : ℕ) (es new : List (CacheKey × Premium)) (v : Premium) → lookup (eq-value.it key) es ≡ Some v → new ≡ promoted (eq-value.it key) es
+    → HasAsked key most (keys_of es) (keys_of new)
+asked_hit key most es new v found is =
+    let entry = entry_found (eq-value.it key) es v found in
+    let same = same_key key entry.0.0 entry.2 in
+    record {
+      hit = λ at. rw (is, entry.1) (ap (λ (k : CacheKey). k ∷ keys_of (remove_entry (eq-value.it key) es)) (sym same)
+          ∙ ap (λ (ks : List CacheKey). key ∷ ks) (keys_removed (eq-value.it key) es));
+      miss = λ absent. absurd (absent (subst (λ (k : CacheKey). Contains (keys_of es) k) (sym same) entry.3));
+    }
+
+-- one that isn't is put in front, or not
+missing : (key : CacheKey) (es : List (CacheKey × Premium)) → lookup (eq-value.it key) es ≡ None → Contains (keys_of es) key → ⊥
+missing key es none at =
+    let no = (none_found (eq-value.it key) es none).1 key at in
+    let yes = itself key in
+    true≢false (sym yes ∙ no)
+
+pub asked_miss : {X E : Type 0} (key : CacheKey) (c new : LruCache CacheKey Premium) (v : Premium) (r : Result X E) → lookup (eq-value.it key) c.entries ≡ None
+    → OnOk r (new ≡ lru_cache (put_entries eq-value.it c key v) c.cap) → OnErr r (new ≡ c) → HasAsked key c.cap (keys_of c.entries) (keys_of new.entries)
+asked_miss key c new v (Ok x) none put stays = record {
+  hit = λ at. absurd (missing key c.entries none at);
+  miss = λ absent. inl (rw (put, (none_found (eq-value.it key) c.entries none).0) (ap (λ (ks : List CacheKey). key ∷ ks) (sym (take-map (λ (e : CacheKey × Premium). e.0) (c.cap - 1) c.entries))));
+}
+asked_miss key c new v (Err e) none put stays = record {
+  hit = λ at. absurd (missing key c.entries none at);
+  miss = λ absent. inr (ap (λ (l : LruCache CacheKey Premium). keys_of l.entries) stays);
+}
+
+-- nothing moves where nothing is found
+pub not_promoted : (key : CacheKey) (c new : LruCache CacheKey Premium) → lookup (eq-value.it key) c.entries ≡ None → new ≡ lru_cache (promoted (eq-value.it key) c.entries) c.cap → new ≡ c
+not_promoted key c new none is = rw (none_found (eq-value.it key) c.entries none).0 at is
+
+pub some_value : {V : Type 0} (o : Option V) → is_some o ≡ true → (v : V) × (o ≡ Some v)
+some_value None h = cc
+some_value (Some v) h = (v, refl)
+
+pub none_value : {V : Type 0} (o : Option V) → is_some o ≡ false → o ≡ None
+none_value None h = refl
+none_value (Some v) h = cc
+
+-- what is found is found in front
+pub found_again : (key : CacheKey) (es : List (CacheKey × Premium)) (v : Premium) → lookup (eq-value.it key) es ≡ Some v
+    → (w : Premium) × (lookup (eq-value.it key) (promoted (eq-value.it key) es) ≡ Some w)
+found_again key es v found =
+    let entry = entry_found (eq-value.it key) es v found in
+    (entry.0.1, rw (entry.1, entry.2) refl)

@@ -1,0 +1,30 @@
+-- What a row does to the cache that it is handed.
+use Rattle.std.specs.Prelude.{◌≡◌, ℕ, List, All, ℤ, ◌<ℤ◌, Result, Ok, Err}
+use Rattle.policy_types.specs.declared.policy.Policy.{Policy}
+use Rattle.rate_table.specs.declared.shape.Shape.{Shape}
+use Rattle.plan_benefits.specs.Shapes.{shape_of}
+use Rattle.plan_benefits.specs.declared.fault.NotValued.{NotValued}
+use Rattle.basis_book.specs.Dated.{Dated, IsPicked}
+use Rattle.policy_value.specs.declared.cache.ColumnCache.{ColumnCache}
+use Rattle.policy_value.specs.declared.key.CacheKey.{CacheKey}
+use Rattle.policy_value.specs.Rows.{IsInsured}
+use Rattle.policy_value.specs.Caches.{HasAsked, kept_keys}
+
+-- the key of a policy by the row of the basis at a place
+abbrev pub key_of : Policy → ℕ → CacheKey
+key_of policy place = record { basis_row = place; plan = policy.plan; age = policy.age; years = policy.years }
+
+-- by a table: a policy with a shape is asked for by its key, and one without leaves the cache as it is
+abbrev pub AsksByShape : Policy → ℕ → Result Shape NotValued → ColumnCache → ColumnCache → Type 0
+AsksByShape policy place (Ok shape) old new = HasAsked (key_of policy place) old.premiums.cap (kept_keys old) (kept_keys new)
+AsksByShape policy place (Err word) old new = new ≡ old
+
+-- of an insured policy: by the last entry of the basis that had begun on its day of issue
+pub record AsksByBasis (policy : Policy) (basis : List Dated) (old new : ColumnCache) : Type 0 where
+  pub unnamed : All (λ (entry : Dated). policy.issued <ℤ entry.from_day) basis → new ≡ old
+  pub named : (index : ℕ) → (entry : Dated) → IsPicked basis policy.issued index entry
+      → AsksByShape policy index (shape_of policy.plan policy.age policy.years entry.table) old new
+
+pub record Asks (policy : Policy) (basis : List Dated) (on : ℤ) (old new : ColumnCache) : Type 0 where
+  pub insured : IsInsured policy on → AsksByBasis policy basis old new
+  pub uninsured : (IsInsured policy on → ⊥) → new ≡ old

@@ -1,0 +1,307 @@
+-- The generated text reads back as its rows, and these as the generated lanes
+use Rattle.std.proofs.Common.{◌≡◌, ℕ, zero, suc, ◌+◌, ◌*◌, ◌/◌, ◌-◌, ◌%◌, ◌^◌, ◌<◌, ◌≤◌, ◌==◌, ◌⊎◌, ℤ, Bool, true, false, List, [], ◌∷◌, ◌++◌, length, map, refl, ap, sym, ◌∙◌, subst, inl, inr, cond, arith, add-one, append-nil, append_assoc}
+use Rattle.std.specs.Prelude.{decimal, codes, Some, None}
+use Rattle.std.specs.List.{AllByRecursion, AllZip, filter, flat_map, list_any}
+use Rattle.std.proofs.lemmas.Bool.{cases_Bool, cases_lt, eq-eqb, ne_eqb}
+use Rattle.std.specs.Int.Digits.{digits_of}
+use Rattle.std.proofs.lemmas.Fmt.{decimal_digit, decimal-digits_of}
+use Rattle.std.proofs.lemmas.List.{length-append}
+use Rattle.std.proofs.lemmas.List.Folds.{list_any-append}
+use Rattle.csv.specs.Machine.{next_record}
+use Rattle.csv.specs.Reading.{default_config, records, records_from, strip_bom}
+use Rattle.csv.specs.Writing.{default_writer, field_text, fields_text, is_blank, needs_byte, row_text}
+use Rattle.csv.specs.declared.parser.State.TheVariants as st
+use Rattle.csv.proofs.RoundTrip.{read-write-many}
+use Rattle.life_dates.specs.Calendar.{Date, date_of}
+use Rattle.life_dates.specs.DayText.{date_text, day_text, two_digits}
+use Rattle.money_core.specs.CentsText.{cents_text, hundredths_text}
+use Rattle.text_lines.specs.Lines.{behind_commas, line_of}
+use Rattle.text_lines.specs.Fields.{term_fields}
+use Rattle.policy_types.specs.Words.{kind_word, plan_word}
+use Rattle.policy_types.specs.Valid.{AreYears, IsValid, day_of, id_of}
+use Rattle.policy_types.specs.declared.command.Command.{Command}
+use Rattle.policy_types.specs.declared.command.Command.TheVariants.{Issue, Premium, Alter, Lapse, Reinstate, Claim, Settle, Mature}
+use Rattle.policy_types.specs.declared.command.Plan.{Plan}
+use Rattle.policy_types.specs.declared.command.Plan.TheVariants.{Term, Whole, Endowment, Limited}
+use Rattle.policy_types.specs.declared.script.Lane.{Lane}
+use Rattle.policy_types.specs.declared.script.Line.{Line}
+use Rattle.policy_types.specs.declared.script.Line.TheVariants.{Post}
+use Rattle.command_csv.specs.declared.row.ClerkLine.{ClerkLine}
+use Rattle.command_csv.specs.Reads.{IsLineRow, Reads, all_lines, lane_of, lanes_of, lanes_up_to, lines_of, valuations_in}
+use Rattle.command_csv.specs.Rows.{rows_of}
+use Rattle.command_csv.specs.Spelling.{row_fields}
+use Rattle.load_maker.specs.GeneratedLanes.{dealt_lanes, dealt_lines, generated_lanes, lane_with}
+use Rattle.load_maker.specs.GeneratedRows.{ScriptRow, generated_rows}
+use Rattle.load_maker.specs.GeneratedScript.{generated_text, script_row_text}
+use Rattle.load_maker.proofs.Drawing.{IsRowFor, rows_right}
+
+-- no byte of the field calls for quotes
+abbrev Plain : List ℕ → Type 0
+Plain field = list_any (needs_byte default_writer) field ≡ false
+
+-- nor does one from `-` on, which is behind the comma
+plain_byte : (b : ℕ) → 45 ≤ b → needs_byte default_writer b ≡ false
+plain_byte b high =
+    rw (
+      ne_eqb b 44 (λ e. omega (arith, high, e)),
+      ne_eqb b 34 (λ e. omega (arith, high, e)),
+      ne_eqb b 13 (λ e. omega (arith, high, e)),
+      ne_eqb b 10 (λ e. omega (arith, high, e)),
+    ) refl
+
+plain_more : (b : ℕ) (field : List ℕ) → 45 ≤ b → Plain field → Plain (b ∷ field)
+plain_more b field high plain = rw (plain_byte b high, plain) refl
+
+plain_both : (xs ys : List ℕ) → Plain xs → Plain ys → Plain (xs ++ ys)
+plain_both xs ys one two = rw (list_any-append (needs_byte default_writer) xs ys, one, two) refl
+
+plain_digits : (digits : List ℕ) → Plain (map (λ d. 48 + d) digits)
+plain_digits [] = refl
+plain_digits (d ∷ digits) = plain_more (48 + d) (map (λ d. 48 + d) digits) (omega arith) (plain_digits digits)
+
+plain_number : (n : ℕ) → n < 2 ^ 64 → Plain (decimal n)
+plain_number zero small = subst Plain (sym (decimal_digit 0 (omega arith))) (plain_more 48 [] (omega arith) refl)
+plain_number (suc n) small = subst Plain (sym (decimal-digits_of (suc n) (omega arith) small)) (plain_digits (digits_of 10 (suc n)))
+
+plain_all : (field : List ℕ) → AllByRecursion (λ b. 45 ≤ b) field → Plain field
+plain_all [] all = refl
+plain_all (b ∷ field) all = plain_more b field all.0 (plain_all field all.1)
+
+plain_day : (day : ℤ) → Plain (day_text day)
+unfolding day_text
+plain_day day = plain_date (date_of day)
+  where
+    plain_date : (date : Date) → Plain (date_text date)
+    plain_date date = plain_all (date_text date) (
+      omega arith,
+      (
+        omega arith,
+        (
+          omega arith,
+          (
+            omega arith,
+            (omega arith, (omega arith, (omega arith, (omega arith, (omega arith, (omega arith, tt)))))),
+          ),
+        ),
+      ),
+    )
+
+plain_cents : (n : ℕ) → n < 2 ^ 64 → Plain (cents_text n)
+plain_cents n small =
+    plain_both (decimal (n / 100)) (hundredths_text (n % 100)) (plain_number (n / 100) (omega (arith, small)))
+    (plain_all (hundredths_text (n % 100)) (omega arith, (omega arith, (omega arith, tt))))
+
+plain_plan : (plan : Plan) → Plain (plan_word plan)
+plain_plan Term = refl
+plain_plan Whole = refl
+plain_plan Endowment = refl
+plain_plan Limited = refl
+
+-- the text of a row is what the default writer writes of its fields
+abbrev fields_in : ScriptRow → List (List ℕ)
+fields_in row = kind_word row.command ∷ decimal (id_of row.command) ∷ day_text (day_of row.command) ∷ term_fields row.command
+
+written : (fields : List (List ℕ)) → AllByRecursion Plain fields → fields_text default_writer fields ≡ behind_commas fields
+unfolding fields_text
+written [] plain = refl
+written (field ∷ fields) plain = rw (plain.0, written fields plain.1) refl
+
+row_written : (first second : List ℕ) (rest : List (List ℕ)) → Plain first → AllByRecursion Plain (second ∷ rest)
+    → row_text default_writer (first ∷ second ∷ rest) ≡ line_of first (second ∷ rest)
+unfolding is_blank
+row_written first second rest plain others = rw (plain, written (second ∷ rest) others) refl
+
+years_small : (plan : Plan) (age years : ℕ) → AreYears plan age years → years ≤ 131
+years_small Whole age years are = omega (arith, are)
+years_small Term age years are = (let end = are.1 in omega (arith, end))
+years_small Endowment age years are = (let end = are.1 in omega (arith, end))
+years_small Limited age years are = (let end = are.1 in omega (arith, end))
+
+plain_amount : (cents : ℕ) → cents ≤ 40000000000 → Plain (cents_text cents)
+plain_amount cents fits = plain_cents cents (omega (arith, fits))
+
+plain_terms : (command : Command) → IsValid command → AllByRecursion Plain (term_fields command)
+plain_terms (Issue id day plan age years amount premium) valid =
+    let old = valid.age_in in
+    let most = valid.amount_in.1 in
+    let more = valid.premium_in.1 in (
+      plain_plan plan,
+      (
+        plain_number age (omega (arith, old)),
+        (
+          plain_number years (let few = years_small plan age years valid.years_in in omega (arith, few)),
+          (plain_amount amount (omega (arith, most)), (plain_amount premium (omega (arith, more)), tt)),
+        ),
+      ),
+    )
+plain_terms (Premium id day amount) valid = (plain_amount amount (let most = valid.2.1 in omega (arith, most)), tt)
+plain_terms (Alter id day amount premium) valid =
+    (plain_amount amount (let most = valid.2.1 in omega (arith, most)), (plain_amount premium (let most = valid.3.1 in omega (arith, most)), tt))
+plain_terms (Lapse id day) valid = tt
+plain_terms (Reinstate id day amount) valid = (plain_amount amount (let most = valid.2.1 in omega (arith, most)), tt)
+plain_terms (Claim id day) valid = tt
+plain_terms (Settle id day amount) valid = (plain_amount amount (let most = valid.2.1 in omega (arith, most)), tt)
+plain_terms (Mature id day) valid = tt
+
+plain_kind : (command : Command) → Plain (kind_word command)
+plain_kind (Issue id day plan age years amount premium) = refl
+plain_kind (Premium id day amount) = refl
+plain_kind (Alter id day amount premium) = refl
+plain_kind (Lapse id day) = refl
+plain_kind (Reinstate id day amount) = refl
+plain_kind (Claim id day) = refl
+plain_kind (Settle id day amount) = refl
+plain_kind (Mature id day) = refl
+
+small_id : (command : Command) → IsValid command → id_of command ≤ 4294967295
+small_id (Issue id day plan age years amount premium) valid = valid.id_in.1
+small_id (Premium id day amount) valid = valid.0.1
+small_id (Alter id day amount premium) valid = valid.0.1
+small_id (Lapse id day) valid = valid.0.1
+small_id (Reinstate id day amount) valid = valid.0.1
+small_id (Claim id day) valid = valid.0.1
+small_id (Settle id day amount) valid = valid.0.1
+small_id (Mature id day) valid = valid.0.1
+
+plain_fields : (row : ScriptRow) → IsValid row.command → AllByRecursion Plain (fields_in row)
+plain_fields row valid = (
+  plain_kind row.command,
+  (
+    plain_number (id_of row.command) (let small = small_id row.command valid in omega (arith, small)),
+    (plain_day (day_of row.command), plain_terms row.command valid),
+  ),
+)
+
+-- a row as a clerk's line
+abbrev entry_in : ScriptRow → ClerkLine
+entry_in row = record { clerk = row.lane; line = Post row.command }
+
+same_fields : (lane : ℕ) (command : Command)
+    → row_fields (record { clerk = lane; line = Post command }) ≡ decimal lane ∷ fields_in (record { lane = lane; command = command })
+same_fields lane (Issue id day plan age years amount premium) = refl
+same_fields lane (Premium id day amount) = refl
+same_fields lane (Alter id day amount premium) = refl
+same_fields lane (Lapse id day) = refl
+same_fields lane (Reinstate id day amount) = refl
+same_fields lane (Claim id day) = refl
+same_fields lane (Settle id day amount) = refl
+same_fields lane (Mature id day) = refl
+
+row_is_written : (row : ScriptRow) → row.lane ≤ 8 → IsValid row.command
+    → script_row_text row ≡ row_text default_writer (decimal row.lane ∷ fields_in row)
+unfolding script_row_text
+row_is_written row last valid =
+    sym (row_written (decimal row.lane) (kind_word row.command) (decimal (id_of row.command) ∷ day_text (day_of row.command) ∷ term_fields row.command)
+    (plain_number row.lane (omega (arith, last))) (plain_fields row valid))
+
+-- a text of rows reads as their fields, with as many reads as there are rows, or more
+rows_back : (lanes : ℕ) (rows : List ScriptRow) (more : ℕ) → length rows ≤ more → lanes ≤ 8 → AllByRecursion (IsRowFor lanes) rows
+    → records_from default_config (suc more) st.StartRecord (flat_map script_row_text rows)
+    ≡ map (λ (row : ScriptRow). decimal row.lane ∷ fields_in row) rows
+unfolding records_from next_record
+rows_back lanes [] more enough few right = refl
+rows_back lanes (row ∷ rows) zero enough few right = absurd (omega (arith, enough))
+rows_back lanes (row ∷ rows) (suc more) enough few right =
+    let last = right.0.last in
+    let text = row_is_written row (omega (arith, last, few)) right.0.valid in
+    rw (
+      text,
+      read-write-many (decimal row.lane) (kind_word row.command) (decimal (id_of row.command) ∷ day_text (day_of row.command) ∷ term_fields row.command)
+          (flat_map script_row_text rows),
+    )
+    (ap (λ (later : List (List (List ℕ))). (decimal row.lane ∷ fields_in row) ∷ later) (rows_back lanes rows more (omega (arith, enough)) few right.1))
+
+-- each row's text is at least a byte long
+rows_shorter : (rows : List ScriptRow) → length rows ≤ length (flat_map script_row_text rows)
+unfolding script_row_text
+rows_shorter [] = omega arith
+rows_shorter (row ∷ rows) =
+    let more = rows_shorter rows in
+    let front = decimal row.lane ++ behind_commas (fields_in row) in
+    let both = length-append (front ++ 10 ∷ []) (flat_map script_row_text rows) in
+    let one = length-append front (10 ∷ []) in
+    rw (both, one) (omega (arith, more))
+
+-- a text that begins with a digit has no byte order mark
+no_mark : (a : ℕ) (rest : List ℕ) → (a == 0xEF) ≡ false → strip_bom (a ∷ rest) ≡ a ∷ rest
+unfolding strip_bom
+no_mark a [] plain = refl
+no_mark a (b ∷ []) plain = refl
+no_mark a (b ∷ c ∷ rest) plain = rw plain refl
+
+no_mark_in : (lanes : ℕ) (rows : List ScriptRow) → lanes ≤ 8 → AllByRecursion (IsRowFor lanes) rows
+    → strip_bom (flat_map script_row_text rows) ≡ flat_map script_row_text rows
+unfolding strip_bom script_row_text
+no_mark_in lanes [] few right = refl
+no_mark_in lanes (row ∷ rows) few right =
+    let last = right.0.last in
+    rw (decimal_digit row.lane (omega (arith, last, few)))
+    (no_mark (48 + row.lane) _ (ne_eqb (48 + row.lane) 0xEF (λ e. omega (arith, last, few, e))))
+
+text_rows : (lanes : ℕ) (rows : List ScriptRow) → lanes ≤ 8 → AllByRecursion (IsRowFor lanes) rows
+    → rows_of (flat_map script_row_text rows) ≡ map (λ (row : ScriptRow). decimal row.lane ∷ fields_in row) rows
+text_rows lanes rows few right =
+    rw (no_mark_in lanes rows few right, add-one) (rows_back lanes rows (length (flat_map script_row_text rows)) (rows_shorter rows) few right)
+
+-- these are the rows of the lines
+line_rows : (lanes : ℕ) (rows : List ScriptRow) → lanes ≤ 8 → AllByRecursion (IsRowFor lanes) rows
+    → AllZip IsLineRow (map (λ (row : ScriptRow). decimal row.lane ∷ fields_in row) rows) (map entry_in rows)
+line_rows lanes [] few right = tt
+line_rows lanes (row ∷ rows) few right =
+    let last = right.0.last in (
+      record {
+        allowed = record { clerk_in = (right.0.first, omega (arith, last, few)); right = right.0.valid };
+        spelled = sym (same_fields row.lane row.command);
+      },
+      line_rows lanes rows few right.1,
+    )
+
+none_valued : (rows : List ScriptRow) → valuations_in (all_lines (map entry_in rows)) ≡ 0
+none_valued [] = refl
+none_valued (row ∷ rows) = none_valued rows
+
+-- and their lanes are those that are dealt
+lines_same : (clerk : ℕ) (rows : List ScriptRow) → lines_of clerk (map entry_in rows) ≡ dealt_lines clerk rows
+lines_same clerk [] = refl
+lines_same clerk (row ∷ rows) = elim (cases_Bool (row.lane == clerk)) [
+  | inl here ↦ rw here (ap (λ (more : List Line). Post row.command ∷ more) (lines_same clerk rows))
+  | inr elsewhere ↦ rw elsewhere (lines_same clerk rows)
+]
+
+lane_same : (number : ℕ) (lines : List Line) → lane_of number lines ≡ lane_with number lines
+lane_same number [] = refl
+lane_same number (line ∷ lines) = refl
+
+lanes_same : (n : ℕ) (rows : List ScriptRow) → lanes_up_to n (map entry_in rows) ≡ dealt_lanes n rows
+lanes_same zero rows = refl
+lanes_same (suc n) rows =
+    rw (lanes_same n rows, lines_same (suc n) rows) (ap (λ (more : List Lane). dealt_lanes n rows ++ more) (lane_same (suc n) (dealt_lines (suc n) rows)))
+
+none_above : (lanes lane : ℕ) (rows : List ScriptRow) → lanes < lane → AllByRecursion (IsRowFor lanes) rows → dealt_lines lane rows ≡ []
+none_above lanes lane [] above right = refl
+none_above lanes lane (row ∷ rows) above right =
+    let last = right.0.last in
+    rw (ne_eqb row.lane lane (λ e. omega (arith, last, above, e))) (none_above lanes lane rows above right.1)
+
+no_more_lanes : (lanes n : ℕ) (rows : List ScriptRow) → lanes ≤ n → AllByRecursion (IsRowFor lanes) rows → dealt_lanes n rows ≡ dealt_lanes lanes rows
+no_more_lanes lanes zero rows most right = (let same : 0 ≡ lanes = omega (arith, most) in ap (λ (k : ℕ). dealt_lanes k rows) same)
+no_more_lanes lanes (suc n) rows most right = elim (cases_lt n lanes) [
+  | inl last ↦ (let same : suc n ≡ lanes = omega (arith, most, last) in ap (λ (k : ℕ). dealt_lanes k rows) same)
+  | inr more ↦ rw (none_above lanes (suc n) rows (omega (arith, more)) right) (append-nil (dealt_lanes n rows) ∙ no_more_lanes lanes n rows more right)
+]
+
+pub reads_back : (seed lanes count : ℕ) → 1 ≤ lanes → lanes ≤ 8 → count ≤ 100000
+    → Reads (generated_text seed lanes count) (generated_lanes seed lanes count)
+unfolding generated_text generated_lanes
+reads_back seed lanes count some few small =
+    let rows = generated_rows seed lanes count in
+    let right = rows_right seed lanes count some small in
+    record {
+      entries = map entry_in rows;
+      rows = record {
+        each = subst (λ (found : List (List (List ℕ))). AllZip IsLineRow found (map entry_in rows)) (sym (text_rows lanes rows few right))
+            (line_rows lanes rows few right);
+        few = (let none = none_valued rows in omega (arith, none));
+      };
+      by_clerk = sym (lanes_same 8 rows ∙ no_more_lanes lanes 8 rows few right);
+    }

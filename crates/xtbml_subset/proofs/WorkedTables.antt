@@ -1,0 +1,84 @@
+-- What worked tables are computed from.
+use Rattle.std.proofs.Common.{◌≡◌, ℕ, List, [], ◌∷◌, length, None, Some, Ok, Err, Result, refl, inl, inr, codes, lit≤}
+use Rattle.std.specs.Prelude.{⊤}
+use Rattle.decimal_text.specs.Rate.{IsRate}
+use Rattle.rate_table.specs.Rates.{Rates}
+use Rattle.xtbml_subset.specs.declared.fault.TableFault.{TableFault}
+use Rattle.xtbml_subset.specs.Answers.{IsJudged}
+use Rattle.xtbml_subset.specs.Checks.{parts_of, within, path, rates_of, factor_of, age_of, IsTable}
+use Rattle.xtbml_subset.specs.Texts.{trimmed}
+use Rattle.xtbml_subset.specs.inside.Elements.{Found, elements_at, elements_from, text_at}
+use Rattle.xtbml_subset.specs.inside.Reading.{piece_at, marked_at, tag_at, name_at, attributes_from, attribute_at, spaces_at, quoted_at, closed_at, end_tag_at, comment_at, declaration_at}
+use Rattle.xtbml_subset.specs.inside.Rows.{found_asks}
+use Rattle.xtbml_subset.specs.inside.Walk.{fault_at, walk_from}
+use Rattle.xtbml_subset.proofs.Final.{judged_by}
+
+unfoldable pub tables_on_literals : ⊤
+unfolding text_at fault_at walk_from piece_at marked_at tag_at name_at attributes_from attribute_at spaces_at quoted_at closed_at end_tag_at comment_at declaration_at elements_from within path rates_of factor_of age_of trimmed
+tables_on_literals = tt
+
+-- what the first element of a document, its root, is judged to be
+abbrev pub RootIs : ℕ → Result Rates TableFault → List Found → Type 0
+RootIs total answer [] = ⊥
+RootIs total answer (f ∷ others) = IsTable (parts_of (found_asks total) f) answer
+
+-- a document is judged by its elements
+pub judged : (bytes : List ℕ) (answer : Result Rates TableFault) → None ≡ fault_at bytes → RootIs (length bytes) answer (elements_at 0 None bytes)
+    → IsJudged bytes answer
+judged bytes answer e is = by (elements_at 0 None bytes) refl is
+  where
+    by : (found : List Found) → elements_at 0 None bytes ≡ found → RootIs (length bytes) answer found → IsJudged bytes answer
+    by (f ∷ others) same is = judged_by bytes f others answer e same is
+    by [] same is = absurd is
+
+-- rates, by their digits
+pub a_tenth : IsRate (codes "0.1") 100000000
+a_tenth = (
+  record { whole = codes "0"; fraction = codes "1"; raised = 0; lowered = 0 },
+  record {
+    plain = codes "0.1";
+    exponent = [];
+    joined = refl;
+    plain_is = inr refl;
+    exponent_is = (refl, refl);
+    whole_digits = ((lit≤ tt, lit≤ tt), tt);
+    fraction_digits = ((lit≤ tt, lit≤ tt), tt);
+    some_digit = lit≤ tt;
+  },
+  refl,
+  lit≤ tt,
+)
+
+pub a_half : IsRate (codes ".5") 500000000
+a_half = (
+  record { whole = []; fraction = codes "5"; raised = 0; lowered = 0 },
+  record {
+    plain = codes ".5";
+    exponent = [];
+    joined = refl;
+    plain_is = inr refl;
+    exponent_is = (refl, refl);
+    whole_digits = tt;
+    fraction_digits = ((lit≤ tt, lit≤ tt), tt);
+    some_digit = lit≤ tt;
+  },
+  refl,
+  lit≤ tt,
+)
+
+pub one : IsRate (codes "1") 1000000000
+one = (
+  record { whole = codes "1"; fraction = []; raised = 0; lowered = 0 },
+  record {
+    plain = codes "1";
+    exponent = [];
+    joined = refl;
+    plain_is = inl (refl, refl);
+    exponent_is = (refl, refl);
+    whole_digits = ((lit≤ tt, lit≤ tt), tt);
+    fraction_digits = tt;
+    some_digit = lit≤ tt;
+  },
+  refl,
+  lit≤ tt,
+)

@@ -1,0 +1,16 @@
+//! Worked table files, each a theorem over the definitions alone.
+
+ghost use Rattle.xtbml_subset.specs.Worked.{BadRates, NoDocuments, NoTables, OtherTables, ThreeRates};
+
+/// A table of three rates.
+pub fn a_table_by_hand()
+    ensures { ThreeRates }
+{}
+
+/// A file of each fault.
+pub fn refused_tables_by_hand()
+    ensures documents { NoDocuments }
+    ensures tables { NoTables }
+    ensures others { OtherTables }
+    ensures rates { BadRates }
+{}
