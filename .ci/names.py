@@ -12,7 +12,6 @@ ALLOWED = {
     "count_of": "of a journal's records and of the commands of the office that keeps it",
     "disk_of": "of a journal and of the office that keeps it: the same disk",
     "own": "of a policy's commands in policy_machine, of a seat's page in an inner definition of turn_lock",
-    "put": "of bytes in outside_io, of policies in an inner definition of office_state",
     "turns_of": "of a caller's turns in a history, and of how many turns an office answered",
 }
 

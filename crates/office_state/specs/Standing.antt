@@ -15,7 +15,7 @@ use Rattle.office_state.specs.declared.state.OfficeState.{OfficeState}
 use Rattle.office_state.specs.Images.{AreQuiet, HoldsNow, HoldsOnce, HoldsSince, IsLeftAlone, KeepsAccepted, faults_after}
 use Rattle.office_state.specs.Journals.{Opens}
 use Rattle.office_state.specs.Pins.{pins_held}
-use Rattle.office_state.specs.States.{balances_of, begun_of, commands_of, count_of, disk_of, floor_kept, kept_count, opening_of, pins_of, policies_of, turns_of, kept_versions}
+use Rattle.office_state.specs.States.{balances_of, begun_of, commands_of, count_of, disk_of, floor_kept, kept_count, opening_of, pins_of, policies_of, turns_of, versions_left}
 use Rattle.office_state.specs.inside.Holding.{Holds}
 
 -- the turns are a legal history from the opening on, and the count is that of the commands after it
@@ -40,7 +40,7 @@ pub record StandsFor {D W : Type 0} {g : Ghosts D} {w : WatcherGhosts W} (state 
   pub history : IsHistory state turns
   -- the versions of a number are its policies after each of its commands, with the commands' numbers, but those that no
   -- position from the floor on needs
-  pub versions : (id : ℕ) → kept_versions state id
+  pub versions : (id : ℕ) → versions_left state id
       ≡ versions_from (floor_of turns) (own id (sets_of (commands_after (opening_of state) turns)))
   pub kept : KeepsFew (kept_count state) (floor_of turns) (commands_after (opening_of state) turns)
   pub policies : policies_of state ≡ book (commands_after (opening_of state) turns)

@@ -31,8 +31,8 @@ module _ {D W : Type 0} {g : Ghosts D} {w : WatcherGhosts W} where
   count_of state = state.books.count
 
   -- the versions that it keeps of the policy of a number, each with the number of the command that made it, from 1
-  abbrev pub kept_versions : OfficeState D W g w → ℕ → List (ℕ × Policy)
-  kept_versions state id = versions_in state.books.versions id
+  abbrev pub versions_left : OfficeState D W g w → ℕ → List (ℕ × Policy)
+  versions_left state id = versions_in state.books.versions id
 
   -- how many versions it keeps
   abbrev pub kept_count : OfficeState D W g w → ℕ

@@ -65,13 +65,6 @@ impl<D: Disk, W: Watching> OfficeState<D, W> {
         self.books.policy(index, p)
     }
 
-    /// The position from which on policies are kept.
-    pub fn floor(&self) -> u32
-        ensures { result ≡ floor_kept self.now }
-    {
-        self.books.floor()
-    }
-
     /// How many versions of policies are kept.
     pub fn kept(&self) -> u32
         ensures kept { result ≡ kept_count self.now }
