@@ -49,7 +49,7 @@ prints versions,0,0,0 versions 0 10 10 1
 # where the room for a version is refused, sooner or later, a run says so
 begin "versions without memory"
 : >wanted
-for kib in 20000 60000 120000; do
+for kib in 40000 80000 120000; do
     (ulimit -v $kib && exec timeout 60 "$measure" versions 4000000 1 0 0) </dev/null >out
     judge $? 9 wanted
 done
