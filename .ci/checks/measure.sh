@@ -46,6 +46,14 @@ prints versions,1,4000000,24951 versions 1 4000000 500 0
 prints versions,1,1,24951 versions 1 4000000 500 1
 prints versions,0,0,0 versions 0 10 10 1
 
+# where the room for a version is refused, sooner or later, a run says so
+begin "versions without memory"
+: >wanted
+for kib in 40000 80000 120000; do
+    (ulimit -v $kib && exec timeout 60 "$measure" versions 4000000 1 0 0) </dev/null >out
+    judge $? 9 wanted
+done
+
 begin "other words"
 : >wanted
 for words in "" "turns 0 1" "turns 33 1" "postings 1" "reserves 1" "versions 1 1 1" "tables" "no"; do

@@ -264,7 +264,7 @@ fn last_in_piece(journal: &mut Journal<MemoryDisk>, first: u32, many: u32) -> Op
     if first > journal.count() || journal.bodies(first, &mut piece).is_err() {
         return None;
     }
-    let last = first.saturating_add(many) - 1;
+    let last = first.saturating_add(many).saturating_sub(1);
     if last == u32::MAX || piece.has_body(last + 1) || !piece.has_body(last) {
         return None;
     }
@@ -299,14 +299,14 @@ fn records_are_read_by_pieces(rt: HostRuntime) -> Result<(), Fail> {
 fn long_files_are_opened_or_refused(rt: HostRuntime) -> Result<(), Fail> {
     let alloc = rt.alloc();
     for (cut, at, gate, answer) in [
-        (0, 2100, 0, Ok(2100)),
+        (0, 2100_u32, 0, Ok(2100)),
         (0, 2100, 1, Err(JournalCause::BadRecord(2100))),
         (1, 2099, 1, Err(JournalCause::BadRecord(2099))),
         (0, 1008, 2, Ok(1008)),
         (30, 1500, 0, Ok(1500)),
     ] {
         let mut bytes = long_file(alloc, 2100)?;
-        let place = 17 + 65 * at;
+        let place = 17 + 65 * at as usize;
         if place >= bytes.len() {
             return Err(Fail::new("no such gate"));
         }

@@ -180,5 +180,5 @@ fn opens_to<R: Threads + Wait + Sync>(
     let ids = ids_in(alloc, again.disk.bytes())?;
     let six: [u8; 6] = [1, 2, 3, 4, 5, 6];
     let in_order = six.starts_with(&ids);
-    Ok(again.status == 0 && in_order && (ids.len() == many || ids.len() == many + 1))
+    Ok(again.status == 0 && in_order && (ids.len() == many || ids.len() == many.saturating_add(1)))
 }

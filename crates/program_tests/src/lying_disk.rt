@@ -5,13 +5,14 @@ ghost use Rattle.outside_io.specs.Disks.{Elapses, HasDiskCause, Looks, Syncs, Wr
 
 use outside_io::{Disk, Failed};
 
-/// Gives a wrong byte at its read of that number, counted from 1, and does nothing any more then.
+/// Gives a wrong byte at this place of its read of that number, counted from 1, and does nothing any more then.
 #[derive(Drop)]
 pub(crate) struct LyingDisk<D: Disk + Drop> {
     pub disk: D,
     pub lied: bool,
     pub reads: u64,
     pub lie: u64,
+    pub place: usize,
 }
 
 impl<D: Disk + Drop> Disk for LyingDisk<D> {
@@ -52,7 +53,7 @@ impl<D: Disk + Drop> Disk for LyingDisk<D> {
         let answer = self.disk.read(at, buf);
         if self.reads == self.lie {
             self.lied = true;
-            lie_in(buf);
+            lie_in(buf, self.place);
         }
         answer
     }
@@ -72,10 +73,10 @@ impl<D: Disk + Drop> Disk for LyingDisk<D> {
     }
 }
 
-fn lie_in(bytes: &mut [u8])
+fn lie_in(bytes: &mut [u8], place: usize)
     ensures { length bytes.new ≡ length bytes.old }
 {
-    if let Some(first) = bytes.first_mut() {
-        *first ^= 1;
+    if let Some(byte) = bytes.get_mut(place) {
+        *byte ^= 1;
     }
 }

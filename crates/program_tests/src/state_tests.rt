@@ -120,19 +120,19 @@ fn journals_are_created_or_refused(rt: HostRuntime) -> Result<(), AllocError> {
     Ok(())
 }
 
-// A journal of one record is opened in six calls, and read again for a policy's entries in six more.
+// A journal of one record is opened in five calls, and read again for a policy's entries in five more.
 #[test]
 fn failing_calls_are_answered(rt: HostRuntime) -> Result<(), AllocError> {
     let alloc = rt.alloc();
     let empty = MemoryDisk::new(alloc, Vec::new(alloc), Vec::new(alloc));
     let first = "1,issue,1,2020-01-01,endowment,0,3,1000.00,400.00\n";
     let ran = run_words(&rt, alloc, &["run"], &[first], empty)?;
-    for call in 1..=13 {
+    for call in 1..=11 {
         let file = Vec::from_slice(alloc, ran.disk.bytes())?;
         let disk = MemoryDisk::new(alloc, file, Vec::from_slice(alloc, &[call])?);
         let read = run_words(&rt, alloc, &["state", "1"], &[], disk)?;
-        assert!(rt; (read.status == 8) == (call <= 12));
-        assert!(rt; call == 13 || read.output.bytes() == b"diskfault\n".as_slice());
+        assert!(rt; (read.status == 8) == (call <= 10));
+        assert!(rt; call == 11 || read.output.bytes() == b"diskfault\n".as_slice());
         assert!(rt; read.disk.bytes() == ran.disk.bytes());
     }
     Ok(())
