@@ -1,6 +1,7 @@
 #!/bin/sh
-# The program where its machine fails: each call of a small run fails once, calls of drawn scripts fail, the journal is taken
-# away, memory comes to an end, signals stop runs, and the reader of the output goes away. Each time the answers, the status and the file are judged by docs/FORMATS.md.
+# The program where its machine fails: each call of a small run fails once, calls of drawn scripts fail, the journal is
+# taken away, memory comes to an end, signals stop runs, and the reader of the output goes away. Each time the answers,
+# the status and the file are judged by docs/FORMATS.md.
 . "$(dirname "$0")/../common.sh"
 # where it is missing and this may install it, it is installed
 command -v strace >/dev/null || { apt-get update -qq && apt-get install -y -qq strace; } >/dev/null 2>&1
