@@ -15,7 +15,7 @@ import datetime, sys
 from commands import PLANS, Command
 from journals import file_of
 
-first, plans = datetime.date(2000, 1, 1), sorted(PLANS)
+first, plans = datetime.date(2000, 1, 1), sorted(PLANS.values())
 def issue(number):
     plan = plans[number % len(plans)]
     return Command("issue", number, first + datetime.timedelta(days=number * 37 % 7305), plan, 20 + number * 13 % 50,
