@@ -108,15 +108,8 @@ def due_of(lines, kept):
     return book.commands[len(kept):]
 
 
-def is_part(some, all_in_order):
-    """Whether these stand among the others, in their order."""
-    rest = iter(all_in_order)
-    return all(one in rest for one in some)
-
-
-def judge_unanswered(script, before, after, is_whole, may_skip=False):
-    """The file of a run that printed no transcript: of each clerk the first of what is accepted, or all of it. Where lines
-    may have found no memory, each of them may be left out."""
+def judge_unanswered(script, before, after, is_whole):
+    """The file of a run that printed no transcript: of each clerk the first of what is accepted, or all of it."""
     kept, found = commands_in(before, "the file before"), commands_in(after, "the file afterwards")
     demand(found[:len(kept)] == kept, "a record from before is lost or another")
     lanes = lanes_of(read_script(script))
@@ -126,13 +119,26 @@ def judge_unanswered(script, before, after, is_whole, may_skip=False):
         demand(command.number in clerk_of, f"a record was never asked for: {','.join(words_of(command))}")
         of_clerk[clerk_of[command.number]].append(command)
     for lane, own in of_clerk.items():
-        if may_skip:
-            asked = [line.command for line in lanes[lane] if line.command]
-            demand(is_part(own, asked), f"clerk {lane}'s records aren't among its postings, in order")
-            continue
         due = due_of(lanes[lane], kept)
         demand(own == due[:len(own)], f"clerk {lane}'s records aren't the first of its postings, in order")
         demand(not is_whole or own == due, f"clerk {lane} has {len(own)} records of {len(due)}")
+    return len(found) - len(kept)
+
+
+def judge_lacking(script, before, after):
+    """The file of a run that wanted memory and printed no transcript: of each clerk some of its postings, in their order,
+    each as the rules accept it behind those before it. One that wanted memory changes nothing, and the next may find it.
+    """
+    kept, found = commands_in(before, "the file before"), commands_in(after, "the file afterwards")
+    demand(found[:len(kept)] == kept, "a record from before is lost or another")
+    lanes = lanes_of(read_script(script))
+    clerk_of = {line.command.number: lane for lane, lines in lanes.items() for line in lines if line.command}
+    unread = {lane: iter([line.command for line in lines if line.command]) for lane, lines in lanes.items()}
+    for command in found[len(kept):]:
+        demand(command.number in clerk_of, f"a record was never asked for: {','.join(words_of(command))}")
+        lane = clerk_of[command.number]
+        demand(command in unread[lane], f"clerk {lane}'s records aren't some of its postings, in order")
+    Book(found)
     return len(found) - len(kept)
 
 
