@@ -47,6 +47,45 @@ fn generated_scripts_are_run(rt: HostRuntime) -> Result<(), AllocError> {
     Ok(())
 }
 
+// Table G: the rate at an age is 600 times its cube in units of 10^-9, and at most 1.
+fn table_g(alloc: Global) -> Result<String, AllocError> {
+    let mut file = String::from_str(alloc, "<XTbML><Table><Values><Axis>")?;
+    for age in 0..=120_u64 {
+        let rate = 600 * age * age * age;
+        let rate = rate.min(1_000_000_000);
+        let (whole, rest) = (rate / 1_000_000_000, rate % 1_000_000_000);
+        file.push_str(format!(in alloc; "<Y t=\"{age}\">{whole}.{rest:09}</Y>")?.as_str())?;
+    }
+    file.push_str("</Axis></Values></Table></XTbML>")?;
+    Ok(file)
+}
+
+// A load of a hundred thousand policies in eight lanes, valued by these workers.
+fn big_load<R: Threads + Wait + Sync>(
+    rt: &R,
+    alloc: Global,
+    workers: &str,
+) -> Result<Finished, AllocError> {
+    let mut files = BTreeMap::new(alloc);
+    add(alloc, &mut files, "basis.csv", "1900-01-01,g.xml,400\n")?;
+    add(alloc, &mut files, "g.xml", table_g(alloc)?.as_str())?;
+    let shelf = MapShelf::new(files, Vec::new(alloc));
+    let disk = MemoryDisk::new(alloc, Vec::new(alloc), Vec::new(alloc));
+    let words = &["load", "1", "100000", "8", workers];
+    run_with(rt, alloc, words, &[], shelf, disk)
+}
+
+#[test]
+fn workers_change_no_byte_of_a_big_load(rt: HostRuntime) -> Result<(), AllocError> {
+    let alloc = rt.alloc();
+    for workers in ["1", "8"] {
+        let made = big_load(&rt, alloc, workers)?;
+        assert!(rt; ends(&made, 0, "load,200000,0,100000,24983240405.50,24983241045.16,0\n"));
+        assert_eq!(rt; made.disk.bytes().len(), 13_000_018);
+    }
+    Ok(())
+}
+
 // Over a journal that has the policies already each posting is refused.
 #[test]
 fn loads_go_on_from_a_journal(rt: HostRuntime) -> Result<(), AllocError> {
