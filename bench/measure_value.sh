@@ -3,7 +3,8 @@
 # `reserve_bounds` of `measure reserves` on the same policies. Prints for each the seconds of processor time (medians of
 # five rounds in turn), policies a second, the sums of the bounds, the peak memory, and the time of a valuation of one
 # policy from start to end. The valuation alone is what is left when a valuation on a day before all issues is taken
-# away, which opens the same journal and prints as many rows. The journal is written in one go by this script.
+# away, which opens the same journal and prints as many rows. Then, by the clock, a million policies by one, two, four and
+# sixty-four workers, and three hundred by one and by sixty-four. The journals are written in one go by this script.
 # usage: sh bench/measure_value.sh   (needs python3 and GNU time)
 root=$(cd "$(dirname "$0")/.." && pwd) || exit 2
 sh "$root/life" prove || exit 2
@@ -73,4 +74,46 @@ print("bare loop       %8.0f policies a second; the valuation alone is %.2f of i
 make_journal(1)
 print("one policy      %8.1f ms by the clock, medians of 21" % (
     1000 * statistics.median(timed([program, "value", "2020-12-31"])[1] for _ in range(21))))
+
+def clocks(workers, rounds):
+    """For each number of workers the seconds by the clock of a valuation, medians of rounds in turn."""
+    seconds = {number: [] for number in workers}
+    for _ in range(rounds):
+        for number in workers:
+            seconds[number].append(timed([program, "value", "2020-12-31", "--workers", str(number)])[1])
+    return {number: statistics.median(all_of) for number, all_of in seconds.items()}
+
+def growth(number):
+    """By how many MiB the memory grows, at most, from the first thread of a valuation on until its last has ended."""
+    run = subprocess.Popen([program, "value", "2020-12-31", "--workers", str(number)], stdin=subprocess.DEVNULL,
+                           stdout=open("written", "wb"))
+    before, most, last = None, 0, 0
+    while run.poll() is None:
+        try:
+            fields = dict(line.split(":", 1) for line in open("/proc/%d/status" % run.pid))
+        except OSError:
+            break
+        if "VmRSS" not in fields:
+            break
+        now = int(fields["VmRSS"].split()[0]) / 1024
+        if int(fields["Threads"]) > 1:
+            before = last if before is None else before
+            most = max(most, now)
+        last = now
+    run.wait()
+    return most - before if before is not None else 0
+
+make_journal(300)
+few = clocks([1, 64], 21)
+print("300 policies    %8.2f ms by one worker, %.2f by 64, by the clock, medians of 21 in turn" % (1000 * few[1], 1000 * few[64]))
+MANY = 1000000
+make_journal(MANY)
+idle = statistics.median(timed([program, "value", "1999-12-31"])[1] for _ in range(3))
+many = clocks([1, 2, 4, 64], 3)
+print("%d policies, by the clock, less %.2f s of a run that values none:" % (MANY, idle))
+for number in many:
+    alone = many[number] - idle
+    print("  %2d workers    %6.3f s, %.2f times one" % (number, alone, (many[1] - idle) / alone))
+print("memory that grows while workers work, beside 32 bytes a row: %s" % ", ".join(
+    "%.0f MiB with %d" % (growth(number) - MANY * 32 / 2**20, number) for number in [4, 16, 64]))
 PY

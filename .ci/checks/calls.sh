@@ -23,7 +23,7 @@ record() {
 record fresh
 cmp -s expected out || { echo "calls: another transcript under strace" >&2; exit 1; }
 record again
-python3 - <<'PY'
+python3 - <<'PY' || exit 1
 import re, sys
 
 def calls(name):
@@ -76,5 +76,19 @@ def judge(name, wanted):
 
 judge("fresh", HELD + OPENED + created + posted + ENDED)
 judge("again", HELD + OPENED + ENDED)
-print("calls: the program syncs each write before the next, and its records before its transcript")
 PY
+
+# A journal of 20,000 records is read by pieces, twice: for its gates, and for its bodies.
+begin "a long journal"
+python3 - "$root" <<'PY' || exit 1
+import sys
+sys.path[:0] = [sys.argv[1] + "/.ci/faults", sys.argv[1] + "/tools"]
+from journals import file_of
+from scenes import many_policies
+open("journal.life", "wb").write(file_of(many_policies(20000).commands))
+PY
+strace -f -o reads -e trace=pread64 "$program" state </dev/null >out || complain "it isn't opened"
+reads=$(grep -c 'pread64(' reads)
+[ "$reads" -le $(($(wc -c <journal.life) / 32768 + 40)) ] || complain "it is opened by $reads reads"
+[ "$(tail -n 1 out)" = count,20000 ] || complain "another number of records"
+end "the program syncs each write before the next, and its records before its transcript; it reads a journal by pieces"

@@ -125,5 +125,22 @@ def judge_unanswered(script, before, after, is_whole):
     return len(found) - len(kept)
 
 
+def judge_lacking(script, before, after):
+    """The file of a run that wanted memory and printed no transcript: of each clerk some of its postings, in their order,
+    each as the rules accept it behind those before it. One that wanted memory changes nothing, and the next may find it.
+    """
+    kept, found = commands_in(before, "the file before"), commands_in(after, "the file afterwards")
+    demand(found[:len(kept)] == kept, "a record from before is lost or another")
+    lanes = lanes_of(read_script(script))
+    clerk_of = {line.command.number: lane for lane, lines in lanes.items() for line in lines if line.command}
+    unread = {lane: iter([line.command for line in lines if line.command]) for lane, lines in lanes.items()}
+    for command in found[len(kept):]:
+        demand(command.number in clerk_of, f"a record was never asked for: {','.join(words_of(command))}")
+        lane = clerk_of[command.number]
+        demand(command in unread[lane], f"clerk {lane}'s records aren't some of its postings, in order")
+    Book(found)
+    return len(found) - len(kept)
+
+
 def reason(wrong):
     return str(wrong) if isinstance(wrong, Wrong) else repr(wrong)

@@ -17,7 +17,7 @@ import sys
 from concurrent.futures import ThreadPoolExecutor
 from dataclasses import dataclass
 
-from judge import Wrong, commands_in, demand, demand_file, follow, judge_early_end, judge_unanswered, reason
+from judge import Wrong, commands_in, demand, demand_file, follow, judge_early_end, judge_lacking, reason
 from journals import file_of
 from runs import Desk, read_bytes
 from scenes import eight_clerks, many_policies
@@ -81,7 +81,7 @@ class Trial:
     def judge(self, kib, ended, pointed):
         if ended.status == -signal.SIGSEGV and pointed >= STACKS_FROM:
             demand(not ended.text, f"printed {ended.text[:200]!r}")
-            judge_unanswered(self.mode.script, self.mode.before, ended.after, False)
+            judge_lacking(self.mode.script, self.mode.before, ended.after)
             return "stack"
         if ended.status == 127 or ended.status < 0 or "error while loading" in ended.complaints:
             demand(kib < LOADED_FROM, f"it isn't loaded, or a signal ended it: {ended.complaints[:200]}")
@@ -116,7 +116,7 @@ class Trial:
             demand(run.unserved and not run.faults, "no line wanted memory, at status 9")
             demand_file(ended.after, run.book.commands)
         else:
-            judge_unanswered(self.mode.script, self.mode.before, ended.after, False)
+            judge_lacking(self.mode.script, self.mode.before, ended.after)
 
 
 def limits(draw):

@@ -6,7 +6,7 @@ import os
 import sys
 from dataclasses import replace
 
-from judge import Wrong, demand, judge_early_end, judge_transcript, judge_unanswered
+from judge import Wrong, demand, judge_early_end, judge_lacking, judge_transcript, judge_unanswered
 from journals import RECORD_SIZE, file_of, read_journal
 from runs import JOURNAL, Desk
 from scenes import ONE_CLERK, TWO_CLERKS, book_before
@@ -44,6 +44,12 @@ def cut(ended, records):
     return replace(ended, after=file_of(commands[:len(commands) - records]))
 
 
+def doubled(ended):
+    """The run's file with its last record once more."""
+    commands = read_journal(ended.after).commands
+    return file_of(commands + commands[-1:])
+
+
 def try_transcripts(program, folder):
     """A run of two clerks in which a sync failed, and what may not be made of it."""
     desk, before, ended = disturbed(program, folder, TWO_CLERKS, "fsync", 7, JOURNAL)
@@ -78,6 +84,7 @@ def try_ends(program, folder):
     judge_early_end(unread, 6, before)
     _, _, silent = disturbed(program, os.path.join(folder, "silent"), ONE_CLERK, "write", 1, "out")
     judge_unanswered(ONE_CLERK, before, silent.after, True)
+    judge_lacking(ONE_CLERK, before, cut(silent, 1).after)
     changed = {
         "another status": lambda: judge_early_end(replace(early, status=0), 8, before),
         "no last line": lambda: judge_early_end(replace(early, text=""), 8, before),
@@ -85,6 +92,8 @@ def try_ends(program, folder):
         "a file that was touched": lambda: judge_early_end(replace(unread, after=unread.after + b"\0"), 6, before),
         "a posting lost": lambda: judge_unanswered(ONE_CLERK, before, cut(silent, 1).after, True),
         "a posting of before lost": lambda: judge_unanswered(ONE_CLERK, before, file_of(book_before().commands[:4]), False),
+        "a posting twice": lambda: judge_lacking(ONE_CLERK, before, doubled(silent)),
+        "one of before lost for want of memory": lambda: judge_lacking(ONE_CLERK, before, file_of(book_before().commands[:4])),
     }
     for what, judge in changed.items():
         demand(refused(judge), f"the judge takes {what}")

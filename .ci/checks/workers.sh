@@ -1,0 +1,58 @@
+#!/bin/sh
+# Workers of a valuation, which no contract tells apart: a worker more is a thread more where each has 8,192 policies, as
+# strace counts; and whatever their number, the text is that of one worker.
+. "$(dirname "$0")/../common.sh"
+command -v strace >/dev/null || { apt-get update -qq && apt-get install -y -qq strace; } >/dev/null 2>&1
+command -v strace >/dev/null || {
+    echo "workers: strace is needed to count threads" >&2
+    exit 1
+}
+
+# a journal of so many issues, of all plans, ages and durations, and of twenty years
+make_book() {
+    PYTHONPATH=$tools python3 - "$1" >journal.life <<'PY'
+import datetime, sys
+from commands import PLANS, Command
+from journals import file_of
+
+first, plans = datetime.date(2000, 1, 1), sorted(PLANS.values())
+def issue(number):
+    plan = plans[number % len(plans)]
+    return Command("issue", number, first + datetime.timedelta(days=number * 37 % 7305), plan, 20 + number * 13 % 50,
+                   0 if plan == "whole" else 2 + number * 7 % 40, 100000 * (1 + number % 900), 2000 * (1 + number % 900))
+sys.stdout.buffer.write(file_of(issue(number) for number in range(1, int(sys.argv[1]) + 1)))
+PY
+}
+
+# a valuation by so many workers: it starts so many threads, and its text is that of one
+has_threads() {
+    strace -f -qq -o log -e trace=clone,clone3 "$program" value 2020-12-31 --workers "$1" </dev/null >out ||
+        complain "with $1 workers it ended with $?"
+    started=$(grep -c 'clone3*(' log)
+    [ "$started" -eq "$2" ] || complain "with $1 workers it started $started threads, and not $2"
+    cmp -s alone out || complain "with $1 workers the text is another"
+}
+
+# a book of so many policies, as one worker values it
+begin_with_book() {
+    begin_with_examples "workers of $1 policies"
+    make_book "$1"
+    "$program" value 2020-12-31 </dev/null >alone || complain "it ended with $?"
+    [ "$(grep -c '^row,' alone)" -eq "$1" ] || complain "there aren't $1 rows"
+}
+
+# 8,192 policies for each worker are valued together, then the next; the thread that reads is one of the workers
+begin_with_book 16383
+has_threads 64 0
+begin_with_book 16384
+has_threads 1 0
+has_threads 2 1
+has_threads 64 1
+begin_with_book 24577
+has_threads 2 2
+has_threads 3 4
+has_threads 64 4
+begin_with_book 40000
+has_threads 4 6
+
+end "each worker has a thread where there is work for it, and the text is the same"
