@@ -42,11 +42,21 @@ fn shelf_beside(alloc: Global, table: &str) -> Result<MapShelf, AllocError> {
     Ok(MapShelf::new(files, Vec::new(alloc)))
 }
 
+// A MiB of rows of a 9, doubled as often as it takes.
+fn mebibyte(alloc: Global) -> Result<String, AllocError> {
+    let mut rows = String::from_str(alloc, "9\n")?;
+    for _ in 0..19 {
+        let half = String::from_str(alloc, rows.as_str())?;
+        rows.push_str(half.as_str())?;
+    }
+    Ok(rows)
+}
+
 // A script of 16 MiB isn't too long: its first row is judged. One of a byte more is.
 #[test]
 fn the_longest_script(rt: HostRuntime) -> Result<(), AllocError> {
     let alloc = rt.alloc();
-    let lines = repeated(alloc, "9\n", 524_288)?;
+    let lines = mebibyte(alloc)?;
     let m = lines.as_str();
     let most = [m, m, m, m, m, m, m, m, m, m, m, m, m, m, m, m];
     let ran = run_on(&rt, alloc, &most, empty(alloc))?;
