@@ -4,7 +4,7 @@ use memory_disk::MemoryDisk;
 use std::alloc::{AllocError, Global};
 
 // The lines of this clerk.
-fn lines_of(alloc: Global, text: &[u8], clerk: u8) -> Result<Vec<u8>, AllocError> {
+pub(crate) fn lines_of(alloc: Global, text: &[u8], clerk: u8) -> Result<Vec<u8>, AllocError> {
     let mut lines = Vec::new(alloc);
     let mut begins = true;
     let mut keeps = false;

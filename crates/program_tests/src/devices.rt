@@ -4,7 +4,7 @@ ghost use Rattle.std.specs.List.{AllByRecursion};
 
 use life_app::{Ended, life};
 use memory_disk::MemoryDisk;
-use outside_io::{BytesSink, BytesSource, MapShelf, OpenGate};
+use outside_io::{BytesSink, BytesSource, Gate, MapShelf, OpenGate};
 use policy_types::Watcher;
 use std::alloc::{AllocError, Global};
 use std::collections::BTreeMap;
@@ -40,11 +40,12 @@ pub(crate) fn run_over<R: Threads + Wait + Sync>(
         shelf,
         disk,
         Vec::new(alloc),
+        &OpenGate,
     )
 }
 
-// Does what the words ask for, over these devices and with these watchers.
-fn run_beside<R: Threads + Wait + Sync>(
+// Does what the words ask for, over these devices, with these watchers and this gate.
+fn run_beside<R: Threads + Wait + Sync, G: Gate + Sync>(
     rt: &R,
     alloc: Global,
     words: &[String],
@@ -54,6 +55,7 @@ fn run_beside<R: Threads + Wait + Sync>(
     shelf: MapShelf,
     disk: MemoryDisk,
     watchers: Vec<Box<dyn Watcher + Send>>,
+    gate: &G,
 ) -> Result<Finished, AllocError>
     requires few { length watchers.items ≤ 16 }
     requires fresh { AllByRecursion (λ b. noted b ≡ []) watchers.items }
@@ -74,7 +76,7 @@ fn run_beside<R: Threads + Wait + Sync>(
         &mut shelf,
         disk,
         watchers,
-        &OpenGate,
+        gate,
     );
     Ok(Finished {
         status,
@@ -124,6 +126,7 @@ pub(crate) fn run_with<R: Threads + Wait + Sync>(
         shelf,
         disk,
         none,
+        &OpenGate,
     )
 }
 
@@ -138,7 +141,32 @@ pub(crate) fn run_script_with<R: Threads + Wait + Sync>(
 ) -> Result<Finished, AllocError> {
     let words = words_of(alloc, words)?;
     let none = Vec::new(alloc);
-    run_beside(rt, alloc, &words, script, &[], &[], shelf, disk, none)
+    run_beside(
+        rt,
+        alloc,
+        &words,
+        script,
+        &[],
+        &[],
+        shelf,
+        disk,
+        none,
+        &OpenGate,
+    )
+}
+
+// Runs a script on an empty disk beside a shelf, with this gate.
+pub(crate) fn run_gated<R: Threads + Wait + Sync, G: Gate + Sync>(
+    rt: &R,
+    alloc: Global,
+    script: &[&str],
+    shelf: MapShelf,
+    gate: &G,
+) -> Result<Finished, AllocError> {
+    let words = words_of(alloc, &["run"])?;
+    let disk = MemoryDisk::new(alloc, Vec::new(alloc), Vec::new(alloc));
+    let none = Vec::new(alloc);
+    run_beside(rt, alloc, &words, script, &[], &[], shelf, disk, none, gate)
 }
 
 // Does what the words ask for on an empty disk, with these watchers.
@@ -152,10 +180,36 @@ pub(crate) fn run_watched<R: Threads + Wait + Sync>(
     requires few { length watchers.items ≤ 16 }
     requires fresh { AllByRecursion (λ b. noted b ≡ []) watchers.items }
 {
+    let disk = MemoryDisk::new(alloc, Vec::new(alloc), Vec::new(alloc));
+    run_watched_over(rt, alloc, words, script, watchers, disk)
+}
+
+// Does what the words ask for over a disk, with these watchers.
+pub(crate) fn run_watched_over<R: Threads + Wait + Sync>(
+    rt: &R,
+    alloc: Global,
+    words: &[&str],
+    script: &[&str],
+    watchers: Vec<Box<dyn Watcher + Send>>,
+    disk: MemoryDisk,
+) -> Result<Finished, AllocError>
+    requires few { length watchers.items ≤ 16 }
+    requires fresh { AllByRecursion (λ b. noted b ≡ []) watchers.items }
+{
     let words = words_of(alloc, words)?;
     let shelf = MapShelf::new(BTreeMap::new(alloc), Vec::new(alloc));
-    let disk = MemoryDisk::new(alloc, Vec::new(alloc), Vec::new(alloc));
-    run_beside(rt, alloc, &words, script, &[], &[], shelf, disk, watchers)
+    run_beside(
+        rt,
+        alloc,
+        &words,
+        script,
+        &[],
+        &[],
+        shelf,
+        disk,
+        watchers,
+        &OpenGate,
+    )
 }
 
 // Runs a script over a disk.

@@ -10,6 +10,8 @@ mod disk_tests;
 #[cfg(test)]
 mod fault_tests;
 #[cfg(test)]
+mod hostile_tests;
+#[cfg(test)]
 mod load_tests;
 #[cfg(test)]
 mod lying_disk;

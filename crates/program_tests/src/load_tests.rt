@@ -1,5 +1,5 @@
-// Generated scripts, written and run. The rows and the sums are worked out by hand from the formats: every generated age
-// lies past the table.
+// Generated scripts, written and run. The rows are worked out by hand from the formats. Every generated age lies past table
+// Q; by a longer table the sums were worked out with exact fractions, in another language.
 use crate::devices::{Finished, run_with};
 use crate::value_cases::{FLAT, Q, add, ends};
 use memory_disk::MemoryDisk;
@@ -20,9 +20,21 @@ fn done<R: Threads + Wait + Sync>(
     basis: &str,
     bytes: &[u8],
 ) -> Result<Finished, AllocError> {
+    done_by(rt, alloc, words, basis, Q, bytes)
+}
+
+// The same with this table.
+fn done_by<R: Threads + Wait + Sync>(
+    rt: &R,
+    alloc: Global,
+    words: &[&str],
+    basis: &str,
+    table: &str,
+    bytes: &[u8],
+) -> Result<Finished, AllocError> {
     let mut files = BTreeMap::new(alloc);
     add(alloc, &mut files, "basis.csv", basis)?;
-    add(alloc, &mut files, "q.xml", Q)?;
+    add(alloc, &mut files, "q.xml", table)?;
     let shelf = MapShelf::new(files, Vec::new(alloc));
     let disk = MemoryDisk::new(alloc, Vec::from_slice(alloc, bytes)?, Vec::new(alloc));
     run_with(rt, alloc, words, &[], shelf, disk)
@@ -96,6 +108,33 @@ fn loads_go_on_from_a_journal(rt: HostRuntime) -> Result<(), AllocError> {
     let again = done(&rt, alloc, words, FLAT, first.disk.bytes())?;
     assert!(rt; ends(&again, 0, "load,0,6,3,0.00,0.00,3\n"));
     assert!(rt; again.disk.bytes() == first.disk.bytes());
+    Ok(())
+}
+
+// The ages 20 to 111, with a rate of 0.02 at each, and of 1 at the last.
+fn long_table(alloc: Global) -> Result<String, AllocError> {
+    let mut table = String::from_str(alloc, "<XTbML><Table><Values><Axis>")?;
+    for age in 20..111u8 {
+        table.push_str(&format!(in alloc; "<Y t=\"{age}\">0.02</Y>")?)?;
+    }
+    table.push_str("<Y t=\"111\">1</Y></Axis></Values></Table></XTbML>")?;
+    Ok(table)
+}
+
+// An endowment of 996000.00 over 18 years at age 44, and one of 912000.00 over 21 years at age 20, which was issued on
+// 2008-12-31: the day of the valuation is its twelfth anniversary.
+#[test]
+fn loads_are_worth_something(rt: HostRuntime) -> Result<(), AllocError> {
+    let alloc = rt.alloc();
+    let table = long_table(alloc)?;
+    for (seed, written) in [
+        ("1", "load,2,0,1,536591.17,536591.18,0\n"),
+        ("6432", "load,2,0,1,377084.41,377084.42,0\n"),
+    ] {
+        let words = ["load", seed, "1", "1", "1"];
+        let one = done_by(&rt, alloc, &words, "1900-01-01,q.xml,400\n", &table, &[])?;
+        assert!(rt; ends(&one, 0, written));
+    }
     Ok(())
 }
 

@@ -36,6 +36,11 @@ const NAMELESS: [u8; 28] = [
     1, 3, 0, 3, 0, 0, 0, 0, 0, 0, 0x47, 0x56, 0, 0, 0, 0, 0, 1, 0x86, 0xa0, 0, 0, 0, 0, 0, 0, 0x9c,
     0x40,
 ];
+// The same with the day 200000, which no date has.
+const LATE: [u8; 28] = [
+    1, 3, 0, 3, 0, 0, 0x1b, 0x59, 0, 3, 0x0d, 0x40, 0, 0, 0, 0, 0, 1, 0x86, 0xa0, 0, 0, 0, 0, 0, 0,
+    0x9c, 0x40,
+];
 // The day -25567, a cent and a cent.
 const OLD_FIELDS: [u8; 28] = [
     1, 2, 129, 0, 0, 0, 0, 9, 0xff, 0xff, 0x9c, 0x21, 0, 0, 0, 0, 0, 0, 0, 1, 0, 0, 0, 0, 0, 0, 0,
@@ -230,7 +235,7 @@ fn files_are_opened_or_refused(rt: HostRuntime) -> Result<(), AllocError> {
             file: &[&[2], &HEAD, &[7]],
             ..run_of(&[], 0, "", NO_RECORD)
         },
-        // The kind 9, the id 0, a byte behind the fields, the same policy twice.
+        // The kind 9, the id 0, the day 200000, a byte behind the fields, the same policy twice.
         refused(
             &[&[1], &HEAD, &[1], &NO_KIND, &ZEROS, &[0]],
             "badjournal,badrecord,0\n",
@@ -244,6 +249,10 @@ fn files_are_opened_or_refused(rt: HostRuntime) -> Result<(), AllocError> {
         },
         refused(
             &[&[1], &HEAD, &[1], &NAMELESS, &ZEROS, &[0]],
+            "badjournal,badrecord,0\n",
+        ),
+        refused(
+            &[&[1], &HEAD, &[1], &LATE, &ZEROS, &[0]],
             "badjournal,badrecord,0\n",
         ),
         refused(
