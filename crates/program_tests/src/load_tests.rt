@@ -92,7 +92,13 @@ fn workers_change_no_byte_of_a_big_load(rt: HostRuntime) -> Result<(), AllocErro
     let alloc = rt.alloc();
     for workers in ["1", "8"] {
         let made = big_load(&rt, alloc, workers)?;
-        assert!(rt; ends(&made, 0, "load,200000,0,100000,24983240405.50,24983241045.16,0\n"));
+        assert!(rt;
+            ends(
+                &made,
+                0,
+                "load,200000,0,100000,24983240405.50,24983241045.16,0\n"
+            )
+        );
         assert_eq!(rt; made.disk.bytes().len(), 13_000_018);
     }
     Ok(())
