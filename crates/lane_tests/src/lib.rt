@@ -17,3 +17,5 @@ mod snapshot_meeting;
 mod snapshot_positions;
 #[cfg(test)]
 mod snapshot_value_tests;
+#[cfg(test)]
+mod workers_tests;

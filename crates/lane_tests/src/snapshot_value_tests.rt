@@ -1,6 +1,6 @@
 // Valuations of one caller's office. The reserves are worked out by hand from the plan and the table: of 1000.00 on an
 // endowment of three years at age 0, after one year 127.22 to 127.23 and after two 515.12 to 515.13.
-ghost use Rattle.std.specs.Prelude.{◌≡◌};
+ghost use Rattle.std.specs.Prelude.{◌≡◌, ◌≤◌};
 
 use crate::offices::{ONE_YEAR, flat_basis, issue_all, post};
 use basis_book::Basis;
@@ -68,23 +68,24 @@ pub(crate) fn is_of(
     valued.turn == turn && valuation.position == position && id == policies
 }
 
-// What is asked of an office whose commands are three hundred issues and then a lapse, in the turns 0 to 300: a
-// position, a day, and then the policies there are, their row, and how many turns are taken.
-type Case = (At, i32, u32, u32, Row, u64);
+/// What is asked of an office: a position, a day, and then the policies there are, their row, and how many turns are taken.
+pub(crate) type Case = (At, i32, u32, u32, Row, u64);
 
-// Values at each of the positions, and gives the number of the case that came out otherwise.
-fn first_wrong<D: Disk, W: Watching, R: Threads + Wait + Sync>(
+/// Values at each of the positions, from this turn on, and gives the number of the case that came out otherwise.
+pub(crate) fn first_wrong<D: Disk, W: Watching, R: Threads + Wait + Sync>(
     rt: &R,
     alloc: Global,
     office: &Office<D, W>,
     pass: &mut OfficePass<D, W>,
     basis: &Basis,
+    workers: u8,
+    first: u64,
     cases: &[Case],
 ) -> Option<usize>
-    requires { pass.old.turnstile ≡ office.now }
+    requires { (pass.old.turnstile ≡ office.now) × (1 ≤ workers) × (workers ≤ 64) }
     ensures { (pass.new.turnstile ≡ pass.old.turnstile) × (pass.new.shares ≡ pass.old.shares) }
 {
-    let mut turn = 301;
+    let mut turn = first;
     for (index, case) in cases.iter().enumerate() {
         let (at, on, position, policies, row, turns) = *case;
         let steps = Steps {
@@ -94,7 +95,7 @@ fn first_wrong<D: Disk, W: Watching, R: Threads + Wait + Sync>(
         if pass.left() < 16_000 {
             return Some(index);
         }
-        let answer = value(rt, alloc, office, pass, basis, on, at, 4, 3, &steps);
+        let answer = value(rt, alloc, office, pass, basis, on, at, workers, 3, &steps);
         let called = steps.in_order.get() && u64::from(steps.last.get()).saturating_add(2) == turns;
         if !called || !is_of(&answer, turn, position, policies, &row) {
             return Some(index);
@@ -174,7 +175,7 @@ fn positions_are_valued(rt: HostRuntime) -> Result<(), Fail> {
         (At::Position(1), ONE_YEAR, 1, 1, first, 3),
         (At::Position(0), ONE_YEAR, 0, 0, first, 2),
     ];
-    let wrong = first_wrong(&rt, alloc, &office, &mut pass, &basis, &cases);
+    let wrong = first_wrong(&rt, alloc, &office, &mut pass, &basis, 4, 301, &cases);
     let last = now_and_ahead(&rt, alloc, &office, &mut pass, &basis);
     close(office, pass);
     assert_eq!(rt; wrong, None);
