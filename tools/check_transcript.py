@@ -90,7 +90,7 @@ class Run:
             self.book.take(command, answer)
             self.accepted += 1
             self.premiums += command.amount if command.kind in ("premium", "reinstate") else 0
-        demand(head == [*line.words[:3], *words], f"{line.row.text} is answered {head}, and the rules say {words}")
+        demand(head == [*line.head, *words], f"{line.row.text} is answered {head}, and the rules say {words}")
 
     def trim(self, head: list[str]) -> None:
         count = len(self.book.commands)
@@ -106,7 +106,7 @@ class Run:
     def value(self, answer: Answer, line: Line) -> None:
         head, count = answer[0], len(self.book.commands)
         position = count if line.position is None else line.position
-        start = list(line.words[:3])
+        start = line.head
         if position > count:
             demand(head == [*start, "refused", "ahead", str(count)], f"{head}: position {position} is ahead of {count}")
         elif position < self.floor:

@@ -17,11 +17,11 @@ EPOCH = datetime.date(1970, 1, 1)
 
 @dataclass(frozen=True)
 class Command:
-    """A posting: amounts are in cents, and what its kind doesn't hold is empty or 0."""
+    """A posting: amounts are in cents, and what its kind doesn't hold is empty or 0. An upgrade has its kind alone."""
 
     kind: str
-    number: int
-    day: datetime.date
+    number: int = 0
+    day: datetime.date | None = None
     plan: str = ""
     age: int = 0
     years: int = 0
@@ -29,8 +29,13 @@ class Command:
     premium: int = 0
 
 
+UPGRADE = Command("upgrade")
+
+
 def words_of(command: Command) -> list[str]:
     """The fields of a command behind the lane: its kind, its policy's number, its day, and what the kind holds."""
+    if command.kind == "upgrade":
+        return [command.kind]
     words = [command.kind, str(command.number), str(command.day)]
     for name in FIELDS[command.kind]:
         value = getattr(command, name)
@@ -44,8 +49,11 @@ def years_fit(plan: str, age: int, years: int) -> bool:
 
 def demand_valid(command: Command) -> None:
     """Refuses a command of which a field lies outside its limits."""
+    if command.kind == "upgrade":
+        demand(command == UPGRADE, "an upgrade has its kind alone")
+        return
     demand(1 <= command.number <= MOST_NUMBER, f"the policy's number is {command.number}")
-    demand(FIRST_DAY <= command.day <= LAST_DAY, f"the day is {command.day}")
+    demand(command.day and FIRST_DAY <= command.day <= LAST_DAY, f"the day is {command.day}")
     most = MOST_REINSTATEMENT_CENTS if command.kind == "reinstate" else MOST_CENTS
     for name in ("amount", "premium"):
         if name in FIELDS[command.kind]:
@@ -59,7 +67,7 @@ def demand_valid(command: Command) -> None:
 
 def body_of(command: Command) -> bytes:
     """The record's body of a command."""
-    day = (command.day - EPOCH).days
+    day = (command.day - EPOCH).days if command.day else 0
     head = bytes([CODES[command.kind], PLAN_CODES.get(command.plan, 0), command.age, command.years])
     return (head + command.number.to_bytes(4, "big") + day.to_bytes(4, "big", signed=True)
             + command.amount.to_bytes(8, "big") + command.premium.to_bytes(8, "big") + bytes(36))
@@ -72,6 +80,9 @@ def command_in(body: bytes) -> Command:
         raise Wrong(f"there is no kind {body[0]}")
     if kind == "issue" and body[1] not in PLANS:
         raise Wrong(f"there is no plan {body[1]}")
+    if kind == "upgrade":
+        demand(body == body_of(UPGRADE), "an upgrade has bytes where it holds nothing")
+        return UPGRADE
     try:
         day = EPOCH + datetime.timedelta(int.from_bytes(body[8:12], "big", signed=True))
     except OverflowError:

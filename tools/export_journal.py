@@ -21,7 +21,7 @@ from rules import bookings
 
 COLUMNS = ("position", "kind", "policy", "day", "plan", "age", "years", "amount", "premium")
 SCHEMA = """
-create table command (position integer primary key, kind text not null, policy integer not null, day text not null,
+create table command (position integer primary key, kind text not null, policy integer, day text,
                       plan text, age integer, years integer, amount_cents integer, premium_cents integer);
 create table booking (position integer not null references command, account text not null, cents integer not null);
 create table policy (policy integer primary key, status text not null, plan text not null, age integer not null,
@@ -59,7 +59,7 @@ def write_sqlite(journal: Journal, path: str) -> None:
         for position, (command, booked) in enumerate(bookings(journal.commands), 1):
             held = [getattr(command, name) if name in FIELDS[command.kind] else None
                     for name in ("plan", "age", "years", "amount", "premium")]
-            row = position, command.kind, command.number, str(command.day), *held
+            row = position, command.kind, command.number or None, str(command.day) if command.day else None, *held
             database.execute(f"insert into command values ({','.join('?' * len(row))})", row)
             database.executemany("insert into booking values (?, ?, ?)",
                                  [(position, account, cents) for account, cents in booked.items()])

@@ -25,7 +25,8 @@ MOST_WORKERS = 64
 MOST_LANES = 8
 
 PLANS = {1: "term", 2: "whole", 3: "endowment", 4: "limited"}
-KINDS = {1: "issue", 2: "premium", 3: "alter", 4: "lapse", 5: "reinstate", 6: "claim", 7: "settle", 8: "mature"}
+KINDS = {1: "issue", 2: "premium", 3: "alter", 4: "lapse", 5: "reinstate", 6: "claim", 7: "settle", 8: "mature", 9: "upgrade",
+         10: "paidup"}
 # what a posting has behind its day
 FIELDS = {
     "issue": ("plan", "age", "years", "amount", "premium"),
@@ -36,6 +37,9 @@ FIELDS = {
     "claim": (),
     "settle": ("amount",),
     "mature": (),
+    "paidup": ("amount",),
+    # which has no policy and no day either
+    "upgrade": (),
 }
 
 

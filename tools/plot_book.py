@@ -11,7 +11,7 @@ import argparse
 from drawing import bars
 from formats import PLANS, Wrong, bytes_of, complain, demand, printed_cents, printed_rows
 
-STATUSES = ("inforce", "lapsed", "claimed", "matured", "expired", "settled")
+STATUSES = ("inforce", "lapsed", "claimed", "matured", "expired", "settled", "paidup")
 POLICY_FIELDS = 11
 
 

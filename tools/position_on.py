@@ -19,13 +19,13 @@ MOST_TOLD = 10
 
 
 def position_on(commands: list[Command], day: datetime.date) -> int:
-    return next((position for position, command in enumerate(commands) if command.day > day), len(commands))
+    return next((position for position, command in enumerate(commands) if command.day and command.day > day), len(commands))
 
 
 def later_posted(commands: list[Command], day: datetime.date) -> list[int]:
     """The positions behind that of the day whose commands are of the day or before."""
     start = position_on(commands, day)
-    return [position for position, command in enumerate(commands, 1) if position > start and command.day <= day]
+    return [position for position, command in enumerate(commands, 1) if position > start and command.day and command.day <= day]
 
 
 def tell_later(commands: list[Command], day: datetime.date) -> None:

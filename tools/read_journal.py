@@ -18,8 +18,7 @@ from rules import balances_of, bookings
 
 def list_records(commands: list[Command]) -> None:
     for position, command in enumerate(commands, 1):
-        kind, number, day, *rest = words_of(command)
-        print(",".join([str(position), kind, number, day, *rest]))
+        print(",".join([str(position), *words_of(command)]))
     for account, balance in balances_of(commands).items():
         print(f"balance,{account},{money(balance)}")
     print(f"count,{len(commands)}")

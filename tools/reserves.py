@@ -60,7 +60,7 @@ def row_for(basis: Sequence[BasisRow], day: datetime.date) -> BasisRow | None:
 
 def worth(policy: Policy, basis: Sequence[BasisRow], on: datetime.date, known: Known | None = None) -> Worth:
     """The year, and the exact value in cents or a word. `known` keeps exact reserves for further policies of the basis."""
-    if policy.status != "inforce" or policy.issued > on:
+    if policy.status not in ("inforce", "paidup") or policy.issued > on:
         return 0, Fraction(0)
     row = row_for(basis, policy.issued)
     if row is None:
@@ -77,8 +77,11 @@ def worth(policy: Policy, basis: Sequence[BasisRow], on: datetime.date, known: K
         return 0, "ratehigh"
     year = min(completed(policy.issued, on), years)
     known = {} if known is None else known
-    case = row.day, age, years, payments, policy.plan != "term", year
+    is_paid_up = policy.status == "paidup"
+    case = row.day, age, years, payments, policy.plan != "term", is_paid_up, year
     if case not in known:
         cover = Cover(table, age, years, payments, policy.plan != "term")
-        known[case] = reserve(table, cover, age, row.discount, year)
+        benefits, _ = cover.values_at(year, row.discount)
+        # of a paid-up policy no premium is taken off
+        known[case] = benefits if is_paid_up else reserve(table, cover, age, row.discount, year)
     return year, policy.amount * known[case]

@@ -33,19 +33,28 @@ class History:
         self.records = records
         self.states: dict[int, list[tuple[int, Policy | None]]] = {}
         book = Book()
-        book.policies = dict(begun.policies)
+        book.policies, book.upgrade = dict(begun.policies), begun.upgrade
         for number in {command.number for command in records}:
             self.states[number] = [(0, begun.policies.get(number))]
         self.begun = begun
+        # after how many of the records there is an upgrade, if there is one
+        self.upgraded = 0 if begun.upgrade else None
         for after, command in enumerate(records, 1):
-            answer = decide(book.policies.get(command.number), command)
+            answer = book.decide(command)
             if isinstance(answer, Refusal):
                 raise Wrong(f"record {after} of the run can't follow: {','.join(answer.words())}")
-            book.policies[command.number] = answer
-            self.states[command.number].append((after, answer))
+            book.take(command, answer)
+            if isinstance(answer, Policy):
+                self.states[command.number].append((after, answer))
+            else:
+                self.upgraded = after
 
     def refused_from(self, command: Command, moment: int) -> int | None:
         """The first moment, not before the given one, at which the command is refused: after so many records."""
+        if command.kind == "upgrade":
+            return None if self.upgraded is None else max(self.upgraded, moment)
+        if command.kind == "paidup" and (self.upgraded is None or moment < self.upgraded):
+            return moment
         states = self.states.get(command.number, [(0, self.begun.policies.get(command.number))])
         for place, (since, policy) in enumerate(states):
             until = states[place + 1][0] - 1 if place + 1 < len(states) else len(self.records)

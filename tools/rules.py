@@ -81,8 +81,9 @@ def end_of(policy: Policy) -> datetime.date:
 
 
 def due_of(policy: Policy) -> datetime.date | None:
-    """The day on which the next premium is due, or none where all are paid."""
-    return anniversary(policy.issued, policy.paid) if policy.paid < payments_of(policy) else None
+    """The day on which the next premium is due, or none where all are paid or the policy is paid up."""
+    none = policy.status == "paidup" or policy.paid >= payments_of(policy)
+    return None if none else anniversary(policy.issued, policy.paid)
 
 
 def missed_by(policy: Policy, day: datetime.date) -> int:
@@ -95,7 +96,8 @@ def missed_by(policy: Policy, day: datetime.date) -> int:
 
 # --- the checks ---
 
-STATUSES = {"reinstate": ("lapsed",), "settle": ("claimed", "matured")}
+STATUSES = {"reinstate": ("lapsed",), "settle": ("claimed", "matured"), "claim": ("inforce", "paidup"),
+            "mature": ("inforce", "paidup")}
 
 
 def reasons(policy: Policy, command: Command) -> Iterator[tuple[bool, Refusal]]:
@@ -133,6 +135,11 @@ def reasons(policy: Policy, command: Command) -> Iterator[tuple[bool, Refusal]]:
     elif kind == "mature":
         yield grace
         yield day < end, Refusal("notmatured", end)
+    elif kind == "paidup":
+        yield over
+        yield due is None, Refusal("nothingdue")
+        yield grace
+        yield command.amount >= policy.amount, Refusal("notareduction", policy.amount)
 
 
 def changed(policy: Policy, command: Command) -> Policy:
@@ -150,13 +157,15 @@ def changed(policy: Policy, command: Command) -> Policy:
     if kind == "settle":
         left = policy.outstanding - command.amount
         return replace(new, outstanding=left, status=policy.status if left else "settled")
+    if kind == "paidup":
+        return replace(new, status="paidup", amount=command.amount)
     if kind == "mature" and policy.plan == "term":
         return replace(new, status="expired")
     return replace(new, status="claimed" if kind == "claim" else "matured", outstanding=policy.amount)
 
 
 def decide(policy: Policy | None, command: Command) -> Refusal | Policy:
-    """The first reason to refuse a command on a policy, or on none; or the policy afterwards."""
+    """The first reason to refuse a command on a policy, or on none; or the policy afterwards. No upgrade is decided here."""
     if command.kind == "issue":
         if policy:
             return Refusal("taken")
@@ -172,25 +181,42 @@ def decide(policy: Policy | None, command: Command) -> Refusal | Policy:
 
 # --- the book and the accounts ---
 
+@dataclass(frozen=True)
+class Upgraded:
+    """What an upgrade that is accepted leaves: no policy."""
+
+
 class Book:
-    """The accepted commands, and the policies that they leave, in order of issue."""
+    """The accepted commands, the policies that they leave, in order of issue, and the position of the upgrade, or 0."""
 
     def __init__(self, commands: Iterable[Command] = ()) -> None:
         self.commands: list[Command] = []
         self.policies: dict[int, Policy] = {}
+        self.upgrade = 0
         for command in commands:
             self.post(command)
 
-    def decide(self, command: Command) -> Refusal | Policy:
-        answer = decide(self.policies.get(command.number), command)
-        if isinstance(answer, Policy) and len(self.commands) >= MOST_COMMANDS:
+    def judge(self, command: Command) -> Refusal | Policy | Upgraded:
+        """The answer of the rules: what depends on the upgrade, and else what the policy decides."""
+        if command.kind == "upgrade":
+            return Refusal("upgraded", str(self.upgrade)) if self.upgrade else Upgraded()
+        if command.kind == "paidup" and not self.upgrade:
+            return Refusal("notupgraded")
+        return decide(self.policies.get(command.number), command)
+
+    def decide(self, command: Command) -> Refusal | Policy | Upgraded:
+        answer = self.judge(command)
+        if not isinstance(answer, Refusal) and len(self.commands) >= MOST_COMMANDS:
             return Refusal("full", str(MOST_COMMANDS))
         return answer
 
-    def take(self, command: Command, after: Policy) -> None:
+    def take(self, command: Command, after: Policy | Upgraded) -> None:
         """Keeps a command that was accepted, and the policy that it left."""
-        self.policies[command.number] = after
         self.commands.append(command)
+        if isinstance(after, Policy):
+            self.policies[command.number] = after
+        else:
+            self.upgrade = len(self.commands)
 
     def post(self, command: Command) -> None:
         """Keeps a command that must be accepted."""
@@ -200,8 +226,10 @@ class Book:
         self.take(command, answer)
 
 
-def booking_of(command: Command, after: Policy) -> dict[str, int]:
-    """What an accepted command books on the accounts, in cents, by the policy that it left."""
+def booking_of(command: Command, after: Policy | None) -> dict[str, int]:
+    """What an accepted command books on the accounts, in cents, by the policy that it left, if it left one."""
+    if after is None:
+        return {}
     if command.kind in ("premium", "reinstate"):
         return {"cash": command.amount, "premiums": -command.amount}
     if command.kind == "settle":
@@ -216,7 +244,7 @@ def bookings(commands: Iterable[Command]) -> Iterator[tuple[Command, dict[str, i
     book = Book()
     for command in commands:
         book.post(command)
-        yield command, booking_of(command, book.policies[command.number])
+        yield command, booking_of(command, book.policies.get(command.number))
 
 
 def balances_of(commands: Iterable[Command]) -> dict[str, int]:

@@ -24,8 +24,10 @@ class Line:
     position: int | None = None
 
     @property
-    def words(self) -> tuple[str, ...]:
-        return self.row.fields
+    def head(self) -> list[str]:
+        """The fields with which its answer begins: lane, kind, and the policy's number (0 of an upgrade) or the day."""
+        fields = self.row.fields
+        return [*fields[:2], "0"] if self.kind == "upgrade" else list(fields[:3])
 
 
 @dataclass(frozen=True)
@@ -95,7 +97,7 @@ def wanted_of(kind: str) -> list[Wanted]:
     """The fields of a kind behind lane and kind."""
     if kind == "value":
         return [DAY, POSITION, WORKERS]
-    if kind == "trim":
+    if kind in ("trim", "upgrade"):
         return []
     if kind == "reinstate":
         return [NUMBER, DAY, amount("amount", MOST_REINSTATEMENT_CENTS)]

@@ -36,9 +36,9 @@ class FaultyRun(Run):
         self.in_doubt = []
 
     def post(self, head, line, command):
-        if head == [*line.words[:3], "nomemory"]:
+        if head == [*line.head, "nomemory"]:
             self.unserved += 1
-        elif head == [*line.words[:3], "fault"]:
+        elif head == [*line.head, "fault"]:
             demand(not isinstance(self.book.decide(command), Refusal), f"{head}: the rules refuse it, which needs no disk")
             self.faults += 1
             self.in_doubt.append(command)
@@ -49,7 +49,7 @@ class FaultyRun(Run):
                 self.in_doubt = []
 
     def value(self, answer, line):
-        if answer[0] == [*line.words[:3], "nomemory"]:
+        if answer[0] == [*line.head, "nomemory"]:
             self.unserved += 1
         else:
             super().value(answer, line)

@@ -11,7 +11,7 @@ sys.path.insert(0, os.path.join(os.path.dirname(os.path.abspath(__file__)), ".."
 import datetime
 import math
 
-from commands import Command, words_of
+from commands import UPGRADE, Command, words_of
 from formats import FIRST_DAY, LAST_DAY, money
 from reserves import worth
 from rules import EARLY, GRACE, REINSTATEMENT_ANNIVERSARIES, Book, Refusal, anniversary, end_of, missed_by
@@ -52,9 +52,10 @@ def make_command(draw, book, number):
     policy = policy or book_policy(draw)
     if policy.status == "inforce" and draw.random() < 0.4:
         return next_premium(draw, policy, number)
-    kinds = {"inforce": ["premium"] * 6 + ["alter", "lapse", "lapse", "claim", "mature", "reinstate", "settle", "issue"],
+    kinds = {"inforce": ["premium"] * 6 + ["alter", "lapse", "lapse", "claim", "mature", "reinstate", "settle", "issue", "paidup", "paidup"],
              "lapsed": ["reinstate"] * 5 + ["premium", "lapse", "claim"],
-             "claimed": ["settle"] * 4 + ["premium", "mature"], "matured": ["settle"] * 4 + ["claim", "alter"]}
+             "claimed": ["settle"] * 4 + ["premium", "mature"], "matured": ["settle"] * 4 + ["claim", "alter"],
+             "paidup": ["claim", "mature", "mature", "premium", "alter", "lapse", "paidup"]}
     kind = draw.choice(kinds.get(policy.status, ["premium", "alter", "settle", "mature"]))
     if kind == "issue":
         return make_issue(draw, number)
@@ -62,9 +63,9 @@ def make_command(draw, book, number):
     amount = premium = 0
     if kind == "premium":
         amount = policy.premium + off
-    elif kind == "alter":
+    elif kind in ("alter", "paidup"):
         amount = max(policy.amount * 2 // 3, 1) if draw.random() < 0.8 else policy.amount
-        premium = draw.randrange(1, 10**5)
+        premium = draw.randrange(1, 10**5) if kind == "alter" else 0
     elif kind == "reinstate":
         amount = max(missed_by(policy, day) * policy.premium + off, 1)
     elif kind == "settle":
@@ -107,6 +108,11 @@ def make_script(draw, book):
             rows.append(f"{lane},value,{on},{at},{draw.choice([1, 2, 8, 64])}")
         elif what < 0.08:
             rows.append(f"{lane},trim")
+        elif what < 0.09:
+            after = book.decide(UPGRADE)
+            if not isinstance(after, Refusal):
+                book.take(UPGRADE, after)
+            rows.append(row_of(lane, UPGRADE))
         else:
             number = draw.choice(numbers)
             # most commands on a policy are one clerk's, so that many come in the order in which they were thought of
@@ -149,9 +155,9 @@ class Office:
         elif line.kind == "value":
             position = count if line.position is None else line.position
             if position > count:
-                self.lines.append(",".join([*line.words[:3], "refused", "ahead", str(count)]))
+                self.lines.append(",".join([*line.head, "refused", "ahead", str(count)]))
             elif position < self.floor:
-                self.lines.append(",".join([*line.words[:3], "refused", "trimmed", str(self.floor)]))
+                self.lines.append(",".join([*line.head, "refused", "trimmed", str(self.floor)]))
             else:
                 # so many turns to read, and one to give the pin up
                 self.live[lane] = [position, self.draw.choice([0, 1, 2, 8, 20])]
@@ -162,16 +168,16 @@ class Office:
     def post(self, line):
         command, after = line.command, self.book.decide(line.command)
         if isinstance(after, Refusal):
-            self.lines.append(",".join([*line.words[:3], "refused", *after.words()]))
+            self.lines.append(",".join([*line.head, "refused", *after.words()]))
             return
         self.book.take(command, after)
-        self.lines.append(",".join([*line.words[:3], "accepted", str(len(self.book.commands))]))
+        self.lines.append(",".join([*line.head, "accepted", str(len(self.book.commands))]))
         self.accepted += 1
         self.premiums += command.amount if command.kind in ("premium", "reinstate") else 0
 
     def show(self, line, position):
         policies = Book(self.book.commands[:position]).policies
-        self.lines.append(",".join([*line.words[:3], str(position), str(len(policies))]))
+        self.lines.append(",".join([*line.head, str(position), str(len(policies))]))
         sums, words = [0, 0], 0
         for number, policy in policies.items():
             year, exact = worth(policy, self.basis, line.day, self.known)

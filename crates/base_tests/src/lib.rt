@@ -10,6 +10,8 @@ mod money_core_tests;
 #[cfg(test)]
 mod money_ledgers_tests;
 #[cfg(test)]
+mod paid_up_rows;
+#[cfg(test)]
 mod policy_machine_rows;
 #[cfg(test)]
 mod policy_machine_tests;

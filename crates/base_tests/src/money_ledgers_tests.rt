@@ -88,13 +88,22 @@ fn one_command(rt: HostRuntime) {
             ledger(0, 0, 100_000, -100_000),
         ),
         (
+            Command::PaidUp {
+                id,
+                day,
+                amount: 30_000,
+            },
+            policy(Status::PaidUp, 0),
+            ledger(0, 0, 0, 0),
+        ),
+        (
             Command::Mature { id, day },
             policy(Status::Expired, 0),
             ledger(0, 0, 0, 0),
         ),
     ] {
         let mut balances = Ledger::new();
-        assert!(rt; command.is_valid());
+        assert!(rt; command.is_valid() && !command.is_upgrade());
         assert!(rt; after.amount <= 10_000_000_000);
         balances.post(&command, &after);
         assert_eq!(rt; balances, expected);

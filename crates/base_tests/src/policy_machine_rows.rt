@@ -20,6 +20,8 @@ pub(crate) enum Step {
     Claim(i32),
     Settle(i32, u64),
     Mature(i32),
+    // Made paid up.
+    Reduce(i32, u64),
 }
 
 // The last day, amount, premium, number of premiums paid, status and what is outstanding.
@@ -28,19 +30,19 @@ pub(crate) type State = (i32, u64, u64, u8, Status, u64);
 // A name, the accepted commands before, the command and its answer.
 pub(crate) type Row = (&'static str, &'static [Step], Step, Result<State, Refusal>);
 
-const FIRST: Step = Pay(18_262, 15_000);
+pub(crate) const FIRST: Step = Pay(18_262, 15_000);
 
 const SECOND: Step = Pay(18_538, 15_000);
 
-const PAID: &[Step] = &[Issue(Endowment), FIRST];
+pub(crate) const PAID: &[Step] = &[Issue(Endowment), FIRST];
 
-const PAID_LATE: &[Step] = &[Issue(Endowment), Pay(18_290, 15_000)];
+pub(crate) const PAID_LATE: &[Step] = &[Issue(Endowment), Pay(18_290, 15_000)];
 
 const LAPSED: &[Step] = &[Issue(Endowment), Lapse(18_294)];
 
 const LAPSED_LATER: &[Step] = &[Issue(Endowment), FIRST, Lapse(18_660)];
 
-const CLAIMED: &[Step] = &[Issue(Endowment), FIRST, Claim(18_300)];
+pub(crate) const CLAIMED: &[Step] = &[Issue(Endowment), FIRST, Claim(18_300)];
 
 const PARTLY_SETTLED: &[Step] = &[
     Issue(Endowment),
@@ -68,9 +70,9 @@ const MATURED: &[Step] = &[
     Mature(20_089),
 ];
 
-const TERM: &[Step] = &[Issue(Term), FIRST, SECOND];
+pub(crate) const TERM: &[Step] = &[Issue(Term), FIRST, SECOND];
 
-const PAID_UP: &[Step] = &[Issue(Limited), FIRST, SECOND];
+pub(crate) const PAID_UP: &[Step] = &[Issue(Limited), FIRST, SECOND];
 
 const PAID_UP_BUT_ONE: &[Step] = &[Issue(Limited), FIRST, Lapse(18_660)];
 

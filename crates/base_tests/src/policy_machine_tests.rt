@@ -2,11 +2,12 @@
 ghost use Rattle.policy_machine.specs.Rules.{IsSound};
 ghost use Rattle.std.specs.Prelude.{IfOk, IfSome};
 
-use crate::policy_machine_rows::{ROWS, State, Step};
+use crate::paid_up_rows::PAID_UP_ROWS;
+use crate::policy_machine_rows::{ROWS, Row, State, Step};
 use Plan::{Endowment, Limited};
 use Status::InForce;
-use Step::{Alter, Claim, Issue, Lapse, Mature, Pay, Reinstate, Settle};
-use policy_machine::decide;
+use Step::{Alter, Claim, Issue, Lapse, Mature, Pay, Reduce, Reinstate, Settle};
+use policy_machine::{decide, judge, upgrade_place};
 use policy_types::{Command, Plan, Policy, Refusal, Status};
 use std::process::Abort;
 
@@ -34,6 +35,7 @@ fn command(step: Step) -> Command {
         Claim(day) => Command::Claim { id, day },
         Settle(day, amount) => Command::Settle { id, day, amount },
         Mature(day) => Command::Mature { id, day },
+        Reduce(day, amount) => Command::PaidUp { id, day, amount },
     }
 }
 
@@ -56,6 +58,7 @@ fn answer(rt: &impl Abort, policy: Option<Policy>, command: Command) -> Result<P
     ensures { IfOk result IsSound }
 {
     assert!(rt; command.is_valid());
+    assert!(rt; !command.is_upgrade());
     match policy {
         Some(policy) => {
             assert!(rt; policy.id == command.id());
@@ -82,16 +85,40 @@ fn after(rt: &impl Abort, steps: &[Step]) -> Option<Policy>
     policy
 }
 
-#[test]
-fn each_command_is_answered_by_the_rules(rt: HostRuntime) {
-    for row in &ROWS {
+fn answers(rt: &impl Abort, rows: &[Row]) {
+    for row in rows {
         let (name, before, step, wanted) = *row;
-        let found = match answer(&rt, after(&rt, before), command(step)) {
+        let found = match answer(rt, after(rt, before), command(step)) {
             Ok(policy) => Ok(state(policy)),
             Err(refusal) => Err(refusal),
         };
         assert_eq!(rt; found, wanted, "{name}");
     }
+}
+
+#[test]
+fn each_command_is_answered_by_the_rules(rt: HostRuntime) {
+    answers(&rt, ROWS.as_slice());
+    answers(&rt, PAID_UP_ROWS.as_slice());
+}
+
+// What waits for an upgrade, and that it comes once; its place is counted from 1.
+#[test]
+fn commands_are_judged_by_the_place_of_the_upgrade(rt: HostRuntime) {
+    let reduce = command(Reduce(18_300, 30_000));
+    assert!(rt; reduce.is_valid() && Command::Upgrade.is_valid());
+    for (upgrade, command, wanted) in [
+        (0, reduce, Err(Refusal::NotUpgraded)),
+        (3, reduce, Err(Refusal::Unknown)),
+        (0, Command::Upgrade, Ok(None)),
+        (3, Command::Upgrade, Err(Refusal::Upgraded(3))),
+    ] {
+        assert!(rt; command.is_valid());
+        assert_eq!(rt; judge(upgrade, None, &command), wanted);
+    }
+    assert_eq!(rt; upgrade_place(0, 2, &reduce), 0);
+    assert_eq!(rt; upgrade_place(0, 2, &Command::Upgrade), 3);
+    assert_eq!(rt; upgrade_place(3, 9, &Command::Upgrade), 3);
 }
 
 #[test]

@@ -89,6 +89,16 @@ fn entries(rt: HostRuntime) {
             Command::Mature { id, day: 84005 },
             "entry,4000000,mature,2199-12-31\n",
         ),
+        (
+            9,
+            Command::PaidUp {
+                id,
+                day: 18597,
+                amount: 30_000,
+            },
+            "entry,9,paidup,2020-12-01,300.00\n",
+        ),
+        (10, Command::Upgrade, "entry,10,upgrade\n"),
     ] {
         assert!(rt; command.is_valid());
         let text = print_entry(rt.alloc(), position, &command);
@@ -108,6 +118,7 @@ fn policies(rt: HostRuntime) {
         (Plan::Endowment, Status::Matured, 3, "matured,endowment"),
         (Plan::Limited, Status::Expired, 10, "expired,limited"),
         (Plan::Limited, Status::Settled, 255, "settled,limited"),
+        (Plan::Term, Status::PaidUp, 1, "paidup,term"),
     ] {
         let mut policy = CLAIMED;
         policy.plan = plan;

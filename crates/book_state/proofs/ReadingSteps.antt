@@ -1,5 +1,5 @@
 -- What one more record adds to an account, and what is known once all records were read, or one couldn't be
-use Rattle.std.proofs.Common.{◌≡◌, if◌then◌else◌, add-one, length-append, ℕ, ◌+◌, ◌<◌, ◌==◌, Bool, true, false, List, [], ◌∷◌, ◌++◌, length, take, slice_index_or, refl, ap, ap₂, sym, ◌∙◌, subst, inl, inr, Some, Option, Ok, Err, Result, IsOk, append-nil, append_assoc, arith}
+use Rattle.std.proofs.Common.{◌≡◌, if◌then◌else◌, add-one, length-append, ℕ, ◌+◌, ◌<◌, ◌≤◌, ◌==◌, ◌⊎◌, Bool, true, false, List, [], ◌∷◌, ◌++◌, length, take, slice_index_or, refl, ap, ap₂, sym, ◌∙◌, subst, inl, inr, Some, None, Option, Ok, Err, Result, IsOk, append-nil, append_assoc, arith}
 use Rattle.std.specs.Prelude.{IfSome}
 use Rattle.std.specs.List.{All, AllByRecursion, enumerate_from, filter}
 use Rattle.std.proofs.Math.Seq.{take-length, take-suc}
@@ -8,12 +8,14 @@ use Rattle.std.proofs.lemmas.List.Elements.{All-from_recursion, filter-append}
 use Rattle.outside_io.specs.declared.disks.Disk.{Ghosts}
 use Rattle.outside_io.specs.Faults.{Rose}
 use Rattle.policy_types.specs.declared.command.Command.{Command}
+use Rattle.policy_types.specs.declared.command.Command.TheVariants.{Upgrade}
 use Rattle.policy_types.specs.declared.policy.Policy.{Policy}
 use Rattle.policy_types.specs.declared.refusal.Refusal.{Refusal}
 use Rattle.policy_types.specs.Valid.{IsValid, id_of}
-use Rattle.policy_machine.specs.Book.{IsAcceptedAfter, kept, policy_of}
+use Rattle.policy_machine.specs.Book.{IsAcceptedAfter, judge, kept, policy_of}
 use Rattle.policy_machine.specs.Rules.{IsSound, next}
 use Rattle.policy_machine.proofs.BookLemmas.{policy_of-own, policy_of-push_other, policy_of-push_own, policy_of-sound}
+use Rattle.policy_machine.proofs.JudgeLemmas.{accepted_next}
 use Rattle.record_codec.specs.Spelling.{spelling_of}
 use Rattle.posting_journal.specs.Creation.{IsUnfinished, OpensToBodies}
 use Rattle.posting_journal.specs.Runs.{LooksOn}
@@ -87,12 +89,25 @@ account_own old new commands command after n holds valid each own same entries p
 }
 
 -- one that the rules refuse can't be next
-pub not_next : (account : Account) (commands : List Command) (command : Command) (refusal : Refusal) → IsAccount account commands
+pub not_next : (account : Account) (commands : List Command) (command : Command) (refusal : Refusal) → 1 ≤ account.id → IsAccount account commands
     → id_of command ≡ account.id → next account.policy command ≡ Err refusal → CanBeNext commands command → ⊥
-not_next account commands command refusal holds own decided can =
-    let decision : next (policy_of commands (id_of command)) command ≡ Err refusal =
-    ap (λ id. next (policy_of commands id) command) own ∙ ap (λ p. next p command) (sym holds.policy) ∙ decided in
-    let bad : IsOk {T = Policy} {E = Refusal} (Err refusal) = subst (λ (r : Result Policy Refusal). IsOk r) decision can in absurd (cc)
+not_next account commands command refusal some holds own decided can = by_kind can
+  where
+    decision : next (policy_of commands (id_of command)) command ≡ Err refusal
+    decision = ap (λ id. next (policy_of commands id) command) own ∙ ap (λ p. next p command) (sym holds.policy) ∙ decided
+
+    by_kind : (command ≡ Upgrade) ⊎ IsOk (next (policy_of commands (id_of command)) command) → ⊥
+    by_kind (inl upgraded) = omega (arith, some, own, ap id_of upgraded)
+    by_kind (inr accepted) =
+        let bad : IsOk {T = Policy} {E = Refusal} (Err refusal) = subst (λ (r : Result Policy Refusal). IsOk r) decision accepted in absurd (cc)
+
+-- what is accepted can be next
+accepted_can : (before : List Command) (command : Command) → judge before command ≡ None → CanBeNext before command
+accepted_can before command accepted = by_kind (accepted_next before command accepted)
+  where
+    by_kind : (command ≡ Upgrade) ⊎ ((after : Policy) × (next (policy_of before (id_of command)) command ≡ Ok after)) → CanBeNext before command
+    by_kind (inl upgraded) = inl upgraded
+    by_kind (inr made) = inr (subst (λ (r : Result Policy Refusal). IsOk r) (sym made.1) tt)
 
 -- a body that spells a command spells no other
 pub spells_no_next : (body : List ℕ) (commands : List Command) (command : Command) → IsValid command → body ≡ spelling_of command
@@ -108,7 +123,7 @@ never_stopped : (before all commands : List Command) → AllByRecursion IsValid 
     → SpellsNoNext (slice_index_or (bodies_of all) (length commands) []) (before ++ commands) → ⊥
 never_stopped before [] commands valid accepted within valid_too front none = omega (arith, within)
 never_stopped before (command ∷ all) [] valid accepted within valid_too front none =
-    none command valid.0 refl (subst (λ (cs : List Command). CanBeNext cs command) (sym (append-nil before)) accepted.0)
+    none command valid.0 refl (subst (λ (cs : List Command). CanBeNext cs command) (sym (append-nil before)) (accepted_can before command accepted.0))
 never_stopped before (command ∷ all) (first ∷ commands) valid accepted within valid_too front none =
     let head : spelling_of command ≡ spelling_of first = cc in
     let rest : take (length commands) (bodies_of all) ≡ bodies_of commands = cc in

@@ -1,5 +1,5 @@
 // One policy's entries, and the policy as they left it. The journal's records are read again for them.
-ghost use Rattle.std.specs.Prelude.{◌≡◌, List, [], ◌∷◌, codes, decimal, IfOk};
+ghost use Rattle.std.specs.Prelude.{◌≡◌, ◌≤◌, List, [], ◌∷◌, codes, decimal, IfOk};
 ghost use Rattle.policy_types.specs.declared.command.Command.{Command as ACommand};
 ghost use Rattle.text_lines.specs.Lines.{line_of};
 ghost use Rattle.book_state.specs.Books.{account_text, policy_account};
@@ -19,6 +19,7 @@ use watcher_set::NoWatchers;
 
 /// Writes the entries of the policy of this number, and the policy as they left it.
 pub fn account<K: Sink, D: Disk>(alloc: Global, id: u32, output: &mut K, disk: D) -> Finished<D>
+    requires { 1 ≤ id }
     ensures { EndsState D.Disk disk result.disk (policy_account id)
         (between K.faults K.written output.old output.new) result.ending }
 {
@@ -36,6 +37,7 @@ pub fn account<K: Sink, D: Disk>(alloc: Global, id: u32, output: &mut K, disk: D
 
 // Writes the account of a policy of a journal that opens.
 fn write_account<K: Sink, D: Disk>(alloc: Global, id: u32, output: &mut K, disk: D) -> Finished<D>
+    requires { 1 ≤ id }
     ensures { EndsReading D.Disk disk result.disk id (between K.faults K.written output.old output.new) result.ending }
 {
     match read_again(alloc, id, disk) {

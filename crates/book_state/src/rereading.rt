@@ -1,5 +1,5 @@
 // The records of a journal are read again, for one policy.
-ghost use Rattle.std.specs.Prelude.{◌≡◌, ◌+◌, ◌<◌, ◌++◌, [], ◌∷◌, List, length, take, IfOk, IfErr, MatchResult};
+ghost use Rattle.std.specs.Prelude.{◌≡◌, ◌+◌, ◌<◌, ◌≤◌, ◌++◌, [], ◌∷◌, List, length, take, IfOk, IfErr, MatchResult};
 ghost use Rattle.policy_types.specs.declared.command.Command.{Command as ACommand};
 ghost use Rattle.policy_types.specs.Limits.{most_commands};
 ghost use Rattle.policy_types.specs.Valid.{IsValid};
@@ -34,6 +34,7 @@ pub struct ReadAgain<D> {
 impl Account {
     /// Adds a record's command, where it names the policy; `n` is the record's number, from 0.
     fn add(&mut self, n: u32, command: &Command) -> Result<(), StartCause>
+        requires named { 1 ≤ self.old.id }
         requires valid { IsValid command.now }
         requires few { n < most_commands }
         requires holds { (commands : List ACommand) × IsAccount self.old commands × (length commands ≡ n) }
@@ -59,6 +60,7 @@ impl Account {
 
 /// The account of a policy, from the journal on the disk. Over a journal nothing is written.
 pub fn read_again<D: Disk>(alloc: Global, id: u32, disk: D) -> Result<ReadAgain<D>, StartFault<D>>
+    requires { 1 ≤ id }
     ensures read { IfOk result (λ read. HasRead D.Disk disk read.disk read.account id) }
     ensures stopped { IfErr result (λ fault. HasNotRead D.Disk disk fault.disk fault.cause) }
 {
@@ -88,6 +90,7 @@ fn read_journal<D: Disk>(
     id: u32,
     journal: Journal<D>,
 ) -> Result<ReadAgain<D>, StartFault<D>>
+    requires { 1 ≤ id }
     ensures read { IfOk result (λ read. IsReadFrom journal read.disk read.account id) }
     ensures stopped { IfErr result (λ fault. IsStoppedFrom journal fault.disk fault.cause) }
 {
@@ -111,6 +114,7 @@ fn read_journal<D: Disk>(
 
 // Reads each record's command, in order.
 fn read_records<D: Disk>(journal: &mut Journal<D>, account: &mut Account) -> Result<(), StartCause>
+    requires named { 1 ≤ account.old.id }
     requires empty { IsAccount account.old [] }
     ensures stays { StaysAs journal.old journal.new }
     ensures id { account.new.id ≡ account.old.id }
@@ -130,6 +134,7 @@ fn read_record<D: Disk>(
     n: u32,
     account: &mut Account,
 ) -> Result<(), StartCause>
+    requires named { 1 ≤ account.old.id }
     requires within { n < count_of journal.old }
     requires few { n < most_commands }
     requires holds { (commands : List ACommand) × IsAccount account.old commands × (length commands ≡ n) }

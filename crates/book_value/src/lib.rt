@@ -2,5 +2,7 @@
 #![tactic(auto)]
 
 mod valuing;
+mod worked;
 
 pub use valuing::value;
+pub use worked::valuations_by_hand;

@@ -10,7 +10,7 @@ use Rattle.life_dates.specs.DayText.{day_text}
 use Rattle.money_core.specs.CentsText.{cents_text}
 use Rattle.command_csv.specs.declared.fields.Fields.{Fields}
 use Rattle.command_csv.specs.declared.kind.Kind.{Kind}
-use Rattle.command_csv.specs.declared.kind.Kind.TheVariants.{Issue, Premium, Alter, Lapse, Reinstate, Claim, Settle, Mature, Value, Trim}
+use Rattle.command_csv.specs.declared.kind.Kind.TheVariants.{Issue, Premium, Alter, Lapse, Reinstate, Claim, Settle, Mature, PaidUp, Upgrade, Value, Trim}
 use Rattle.policy_types.specs.declared.entry.At.{At}
 use Rattle.policy_types.specs.declared.entry.At.TheVariants.{Now}
 use Rattle.command_csv.specs.Spelling.{at_text}
@@ -112,6 +112,8 @@ kind_possible Reinstate = policy_possible Reinstatement reinstatement_possible
 kind_possible Claim = policy_possible Ends end_possible
 kind_possible Settle = policy_possible (Amount Ends) (amount_possible Ends end_possible)
 kind_possible Mature = policy_possible Ends end_possible
+kind_possible PaidUp = policy_possible (Amount Ends) (amount_possible Ends end_possible)
+kind_possible Upgrade = end_possible
 kind_possible Value = day_possible PositionOn position_possible
 kind_possible Trim = end_possible
 

@@ -128,16 +128,18 @@ may_follow valued kind.Reinstate = inl tt
 may_follow valued kind.Claim = inl tt
 may_follow valued kind.Settle = inl tt
 may_follow valued kind.Mature = inl tt
+may_follow valued kind.PaidUp = inl tt
+may_follow valued kind.Upgrade = inl tt
 may_follow valued kind.Trim = inl tt
 
 kind_decides : (valued : ℕ) (word : List ℕ) → Decides (KindMayStandBehind valued) kind_spelling word
 kind_decides valued word = by (may_follow valued there) (same_text word (kind_spelling there))
   where
     there : Kind
-    there = kind_by (get_or word 0 0)
+    there = kind_by word
 
     only : (k : Kind) → word ≡ kind_spelling k → k ≡ there
-    only k e = sym (ap (λ (w : List ℕ). kind_by (get_or w 0 0)) e ∙ kind_again k)
+    only k e = sym (ap kind_by e ∙ kind_again k)
 
     by : KindMayStandBehind valued there ⊎ (KindMayStandBehind valued there → ⊥) → (word ≡ kind_spelling there) ⊎ (word ≡ kind_spelling there → ⊥) → Decides (KindMayStandBehind valued) kind_spelling word
     by (inl room) (inl e) = inl (there, room, e)
@@ -261,6 +263,8 @@ judge_kind kind.Reinstate = judge_policy Reinstatement reinstatement_possible ju
 judge_kind kind.Claim = judge_policy Ends end_possible judge_end
 judge_kind kind.Settle = judge_policy (Amount Ends) (amount_possible Ends end_possible) one_amount
 judge_kind kind.Mature = judge_policy Ends end_possible judge_end
+judge_kind kind.PaidUp = judge_policy (Amount Ends) (amount_possible Ends end_possible) one_amount
+judge_kind kind.Upgrade = judge_end
 judge_kind kind.Value = judge_day PositionOn position_possible judge_position
 judge_kind kind.Trim = judge_end
 

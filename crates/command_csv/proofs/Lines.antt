@@ -28,6 +28,8 @@ kind_in (command.Reinstate id day amount) = kind.Reinstate
 kind_in (command.Claim id day) = kind.Claim
 kind_in (command.Settle id day amount) = kind.Settle
 kind_in (command.Mature id day) = kind.Mature
+kind_in (command.PaidUp id day amount) = kind.PaidUp
+kind_in command.Upgrade = kind.Upgrade
 
 -- the kind of a line
 abbrev pub kind_of : Line → Kind
@@ -45,6 +47,8 @@ size_of kind.Reinstate = 4
 size_of kind.Claim = 3
 size_of kind.Settle = 4
 size_of kind.Mature = 3
+size_of kind.PaidUp = 4
+size_of kind.Upgrade = 1
 size_of kind.Value = 4
 size_of kind.Trim = 1
 
@@ -57,6 +61,8 @@ begins_with_word (command.Reinstate id day amount) = refl
 begins_with_word (command.Claim id day) = refl
 begins_with_word (command.Settle id day amount) = refl
 begins_with_word (command.Mature id day) = refl
+begins_with_word (command.PaidUp id day amount) = refl
+begins_with_word command.Upgrade = refl
 
 has_size : (c : Command) → length (command_fields c) ≡ size_of (kind_in c)
 has_size (command.Issue id day plan age years amount premium) = refl
@@ -67,6 +73,8 @@ has_size (command.Reinstate id day amount) = refl
 has_size (command.Claim id day) = refl
 has_size (command.Settle id day amount) = refl
 has_size (command.Mature id day) = refl
+has_size (command.PaidUp id day amount) = refl
+has_size command.Upgrade = refl
 
 size_at_most : (k : Kind) → size_of k ≤ 8
 size_at_most kind.Issue = omega arith
@@ -77,6 +85,8 @@ size_at_most kind.Reinstate = omega arith
 size_at_most kind.Claim = omega arith
 size_at_most kind.Settle = omega arith
 size_at_most kind.Mature = omega arith
+size_at_most kind.PaidUp = omega arith
+size_at_most kind.Upgrade = omega arith
 size_at_most kind.Value = omega arith
 size_at_most kind.Trim = omega arith
 
@@ -113,6 +123,8 @@ has_form valued (command.Reinstate id day amount) h = then_is kind.Reinstate tt 
 has_form valued (command.Claim id day) h = then_is kind.Claim tt (then_is id h.0 (then_is day h.1 refl))
 has_form valued (command.Settle id day amount) h = then_is kind.Settle tt (then_is id h.0 (then_is day h.1 (then_is amount h.2 refl)))
 has_form valued (command.Mature id day) h = then_is kind.Mature tt (then_is id h.0 (then_is day h.1 refl))
+has_form valued (command.PaidUp id day amount) h = then_is kind.PaidUp tt (then_is id h.0 (then_is day h.1 (then_is amount h.2 refl)))
+has_form valued command.Upgrade h = then_is kind.Upgrade tt refl
 
 -- and so have those of a line that may stand where it does
 line_form : (valued : ℕ) (line : Line) → IsScriptLine line → MayStandBehind valued line → KindForm valued (line_fields line)
@@ -183,6 +195,11 @@ of_form valued fields h = by h.value h.rest h.fits h.spelled h.more
     by kind.Mature rest fits e m =
         let d = m.more in
         posted valued fields (command.Mature m.value d.value) (m.fits, d.fits) (let one = m.spelled in let two = d.spelled in let last = d.more in cc)
+    by kind.PaidUp rest fits e m =
+        let d = m.more in
+        let s = d.more in
+        posted valued fields (command.PaidUp m.value d.value s.value) (m.fits, d.fits, s.fits) (let one = m.spelled in let two = d.spelled in let three = s.spelled in let last = s.more in cc)
+    by kind.Upgrade rest fits e m = posted valued fields command.Upgrade tt cc
     by kind.Value rest fits e m =
         let a = m.more in
         let w = a.more in

@@ -1,5 +1,5 @@
 -- A script is read in one way
-use Rattle.std.proofs.Common.{◌≡◌, ℕ, ◌≤◌, cond, Bool, true, false, List, [], ◌∷◌, Some, take, refl, ap, sym, ◌∙◌, subst, arith, lit≤, ℤ}
+use Rattle.std.proofs.Common.{◌≡◌, ℕ, ◌≤◌, cond, Bool, true, false, List, [], ◌∷◌, Some, take, refl, ap, sym, ◌∙◌, subst, arith, lit≤, ℤ, pos}
 use Rattle.std.specs.Prelude.{decimal, ◌==◌, ◌||◌}
 use Rattle.std.specs.List.{AllZip}
 use Rattle.std.specs.Str.Parse.{AllDigits}
@@ -16,6 +16,7 @@ use Rattle.policy_types.specs.declared.entry.At.TheVariants.{Now, Position}
 use Rattle.policy_types.specs.declared.script.Line.TheVariants.{Post, Value, Trim}
 use Rattle.policy_types.specs.declared.script.Lane.{Lane}
 use Rattle.policy_types.specs.Valid.{IsValid, IsId, id_of, day_of}
+use Rattle.std.specs.Option.{unwrap_or}
 use Rattle.life_dates.specs.Calendar.{IsDay, days_in_month, is_leap_year, day_number}
 use Rattle.life_dates.specs.DayText.{day_text, IsDayText}
 use Rattle.life_dates.proofs.TextLemmas.{IsDayText-day_text, read_exact}
@@ -61,7 +62,10 @@ same_id a b h k e = decimal_injective a b (omega (arith, h)) (omega (arith, k)) 
 same_cents : (a b : ℕ) → a ≤ 40000000000 → b ≤ 40000000000 → cents_text a ≡ cents_text b → a ≡ b
 same_cents a b h k e = cents_text_injective a b (omega (arith, h)) (omega (arith, k)) e
 
--- what an issue holds that some other commands don't
+-- what some commands hold and others don't
+day_in : Command → ℤ
+day_in c = unwrap_or (day_of c) (pos 0)
+
 plan_in : Command → Plan
 plan_in (command.Issue id day plan age years amount premium) = plan
 plan_in _ = Term
@@ -80,6 +84,7 @@ amount_in (command.Premium id day amount) = amount
 amount_in (command.Alter id day amount premium) = amount
 amount_in (command.Reinstate id day amount) = amount
 amount_in (command.Settle id day amount) = amount
+amount_in (command.PaidUp id day amount) = amount
 amount_in _ = 0
 
 premium_in : Command → ℕ
@@ -96,10 +101,12 @@ made kind.Reinstate id day plan age years amount premium = command.Reinstate id 
 made kind.Claim id day plan age years amount premium = command.Claim id day
 made kind.Settle id day plan age years amount premium = command.Settle id day amount
 made kind.Mature id day plan age years amount premium = command.Mature id day
+made kind.PaidUp id day plan age years amount premium = command.PaidUp id day amount
+made kind.Upgrade id day plan age years amount premium = command.Upgrade
 made _ id day plan age years amount premium = command.Lapse id day
 
-made_again : (c : Command) → c ≡ made (kind_in c) (id_of c) (day_of c) (plan_in c) (age_in c) (years_in c) (amount_in c) (premium_in c)
-unfolding plan_in age_in years_in amount_in premium_in made
+made_again : (c : Command) → c ≡ made (kind_in c) (id_of c) (day_in c) (plan_in c) (age_in c) (years_in c) (amount_in c) (premium_in c)
+unfolding day_in plan_in age_in years_in amount_in premium_in made
 made_again (command.Issue id day plan age years amount premium) = refl
 made_again (command.Premium id day amount) = refl
 made_again (command.Alter id day amount premium) = refl
@@ -108,6 +115,8 @@ made_again (command.Reinstate id day amount) = refl
 made_again (command.Claim id day) = refl
 made_again (command.Settle id day amount) = refl
 made_again (command.Mature id day) = refl
+made_again (command.PaidUp id day amount) = refl
+made_again command.Upgrade = refl
 
 -- two commands of one kind, of the same fields
 one_made : (k : Kind) (id id' : ℕ) (day day' : ℤ) (plan plan' : Plan) (age age' years years' amount amount' premium premium' : ℕ)
@@ -153,6 +162,12 @@ one_made kind.Mature id id' day day' plan plan' age age' years years' amount amo
     let i : id ≡ id' = same_id id id' h.0 k.0 cc in
     let d : day ≡ day' = day_text_injective day day' h.1 k.1 cc in
     cc
+one_made kind.PaidUp id id' day day' plan plan' age age' years years' amount amount' premium premium' h k e =
+    let i : id ≡ id' = same_id id id' h.0 k.0 cc in
+    let d : day ≡ day' = day_text_injective day day' h.1 k.1 cc in
+    let m : amount ≡ amount' = same_cents amount amount' (omega (arith, h.2)) (omega (arith, k.2)) cc in
+    cc
+one_made kind.Upgrade id id' day day' plan plan' age age' years years' amount amount' premium premium' h k e = refl
 one_made _ id id' day day' plan plan' age age' years years' amount amount' premium premium' h k e =
     let i : id ≡ id' = same_id id id' h.0 k.0 cc in
     let d : day ≡ day' = day_text_injective day day' h.1 k.1 cc in
@@ -162,10 +177,10 @@ one_command : (a b : Command) → IsValid a → IsValid b → command_fields a �
 one_command a b h k e =
     let kinds : kind_in a ≡ kind_in b = one_kind (Post a) (Post b) [] (ap (take 1) (append-nil (command_fields a) ∙ e)) in
     let one = made_again a in
-    let two : b ≡ made (kind_in a) (id_of b) (day_of b) (plan_in b) (age_in b) (years_in b) (amount_in b) (premium_in b) =
-    made_again b ∙ ap (λ (x : Kind). made x (id_of b) (day_of b) (plan_in b) (age_in b) (years_in b) (amount_in b) (premium_in b)) (sym kinds) in
+    let two : b ≡ made (kind_in a) (id_of b) (day_in b) (plan_in b) (age_in b) (years_in b) (amount_in b) (premium_in b) =
+    made_again b ∙ ap (λ (x : Kind). made x (id_of b) (day_in b) (plan_in b) (age_in b) (years_in b) (amount_in b) (premium_in b)) (sym kinds) in
     let P : Command → Type 0 = λ c. IsValid c in
-    one ∙ one_made (kind_in a) (id_of a) (id_of b) (day_of a) (day_of b) (plan_in a) (plan_in b) (age_in a) (age_in b) (years_in a) (years_in b) (amount_in a) (amount_in b) (premium_in a) (premium_in b)
+    one ∙ one_made (kind_in a) (id_of a) (id_of b) (day_in a) (day_in b) (plan_in a) (plan_in b) (age_in a) (age_in b) (years_in a) (years_in b) (amount_in a) (amount_in b) (premium_in a) (premium_in b)
     (subst P one h) (subst P two k) (ap command_fields (sym one) ∙ e ∙ ap command_fields two) ∙ sym two
 
 -- no posting is of the other kinds
@@ -183,6 +198,8 @@ posting (command.Reinstate id day amount) = tt
 posting (command.Claim id day) = tt
 posting (command.Settle id day amount) = tt
 posting (command.Mature id day) = tt
+posting (command.PaidUp id day amount) = tt
+posting command.Upgrade = tt
 
 no_posting : (c : Command) (k : Kind) → (is_posting k → ⊥) → kind_in c ≡ k → ⊥
 no_posting c k none e = none (subst is_posting e (posting c))

@@ -4,7 +4,7 @@ use Rattle.std.specs.Prelude.{if◌then◌else◌, ◌==◌}
 use Rattle.policy_types.specs.declared.command.Plan.{Plan}
 use Rattle.policy_types.specs.declared.command.Plan.TheVariants.{Term, Whole, Endowment, Limited}
 use Rattle.command_csv.specs.declared.kind.Kind.{Kind}
-use Rattle.command_csv.specs.declared.kind.Kind.TheVariants.{Issue, Premium, Alter, Lapse, Reinstate, Claim, Settle, Mature, Value, Trim}
+use Rattle.command_csv.specs.declared.kind.Kind.TheVariants.{Issue, Premium, Alter, Lapse, Reinstate, Claim, Settle, Mature, PaidUp, Upgrade, Value, Trim}
 use Rattle.policy_types.specs.Words.{plan_word}
 use Rattle.command_csv.specs.inside.Forms.{kind_spelling}
 
@@ -21,14 +21,19 @@ plan_again Limited = refl
 pub plan_word_injective : (plan other : Plan) → plan_word plan ≡ plan_word other → plan ≡ other
 plan_word_injective plan other e = sym (plan_again plan) ∙ ap (λ (word : List ℕ). plan_by (get_or word 0 0)) e ∙ plan_again other
 
--- the kind whose word begins with this letter
-abbrev pub kind_by : ℕ → Kind
-kind_by letter =
-    if letter == 105 then Issue else if letter == 112 then Premium else if letter == 97 then Alter else if letter == 108 then Lapse
-    else if letter == 114 then Reinstate else if letter == 99 then Claim else if letter == 115 then Settle else if letter == 109 then Mature
-    else if letter == 118 then Value else Trim
+-- the kind whose word begins with these two letters
+abbrev kind_by_letters : ℕ → ℕ → Kind
+kind_by_letters first second =
+    if first == 105 then Issue else if first == 112 then (if second == 97 then PaidUp else Premium)
+    else if first == 97 then Alter else if first == 108 then Lapse
+    else if first == 114 then Reinstate else if first == 99 then Claim else if first == 115 then Settle else if first == 109 then Mature
+    else if first == 117 then Upgrade else if first == 118 then Value else Trim
 
-pub kind_again : (kind : Kind) → kind_by (get_or (kind_spelling kind) 0 0) ≡ kind
+-- the kind whose word this may be
+abbrev pub kind_by : List ℕ → Kind
+kind_by word = kind_by_letters (get_or word 0 0) (get_or word 1 0)
+
+pub kind_again : (kind : Kind) → kind_by (kind_spelling kind) ≡ kind
 kind_again Issue = refl
 kind_again Premium = refl
 kind_again Alter = refl
@@ -37,8 +42,10 @@ kind_again Reinstate = refl
 kind_again Claim = refl
 kind_again Settle = refl
 kind_again Mature = refl
+kind_again PaidUp = refl
+kind_again Upgrade = refl
 kind_again Value = refl
 kind_again Trim = refl
 
 pub kind_word_injective : (kind other : Kind) → kind_spelling kind ≡ kind_spelling other → kind ≡ other
-kind_word_injective kind other e = sym (kind_again kind) ∙ ap (λ (word : List ℕ). kind_by (get_or word 0 0)) e ∙ kind_again other
+kind_word_injective kind other e = sym (kind_again kind) ∙ ap kind_by e ∙ kind_again other

@@ -1,7 +1,7 @@
 -- How a clerk's line is written: the fields of its row
 use Rattle.std.specs.Prelude.{ℕ, List, [], ◌∷◌, codes, decimal}
 use Rattle.policy_types.specs.declared.command.Command.{Command}
-use Rattle.policy_types.specs.declared.command.Command.TheVariants.{Issue, Premium, Alter, Lapse, Reinstate, Claim, Settle, Mature}
+use Rattle.policy_types.specs.declared.command.Command.TheVariants.{Issue, Premium, Alter, Lapse, Reinstate, Claim, Settle, Mature, PaidUp, Upgrade}
 use Rattle.policy_types.specs.declared.entry.At.{At}
 use Rattle.policy_types.specs.declared.entry.At.TheVariants.{Now, Position}
 use Rattle.policy_types.specs.Words.{plan_word}
@@ -15,7 +15,7 @@ use Rattle.money_core.specs.CentsText.{cents_text}
 abbrev pub by_first : Line → ClerkLine
 by_first line = record { clerk = 1; line = line }
 
--- the kind, the policy's number, the day, and what else the command holds: whole numbers without leading zeros,
+-- the kind, and where the command names a policy, its number, the day, and what else it holds: whole numbers without leading zeros,
 -- days as YYYY-MM-DD, amounts with a point and two digits
 abbrev pub command_fields : Command → List (List ℕ)
 command_fields (Issue id day plan age years amount premium) =
@@ -27,6 +27,8 @@ command_fields (Reinstate id day amount) = codes "reinstate" ∷ decimal id ∷ 
 command_fields (Claim id day) = codes "claim" ∷ decimal id ∷ day_text day ∷ []
 command_fields (Settle id day amount) = codes "settle" ∷ decimal id ∷ day_text day ∷ cents_text amount ∷ []
 command_fields (Mature id day) = codes "mature" ∷ decimal id ∷ day_text day ∷ []
+command_fields (PaidUp id day amount) = codes "paidup" ∷ decimal id ∷ day_text day ∷ cents_text amount ∷ []
+command_fields Upgrade = codes "upgrade" ∷ []
 
 -- the position of a valuation
 abbrev pub at_text : At → List ℕ

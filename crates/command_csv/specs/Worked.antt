@@ -1,7 +1,7 @@
 -- Scripts, and what they say: each kind of line as a clerk writes it, and some first faults
 use Rattle.std.specs.Prelude.{ℕ, List, [], ◌∷◌, ◌++◌, pos, codes, replicate}
 use Rattle.std.specs.List.{flat_map}
-use Rattle.policy_types.specs.declared.command.Command.TheVariants.{Issue, Premium, Alter, Lapse, Reinstate, Claim, Settle, Mature}
+use Rattle.policy_types.specs.declared.command.Command.TheVariants.{Issue, Premium, Alter, Lapse, Reinstate, Claim, Settle, Mature, PaidUp, Upgrade}
 use Rattle.policy_types.specs.declared.command.Plan.TheVariants.{Endowment}
 use Rattle.policy_types.specs.declared.entry.At.TheVariants.{Now, Position}
 use Rattle.policy_types.specs.declared.script.Line.{Line}
@@ -36,6 +36,12 @@ SettleLine = SaysLines (codes "1,settle,7001,2023-01-15,0.01\n") (Post (Settle 7
 
 abbrev pub MatureLine : Type 0
 MatureLine = SaysLines (codes "1,mature,4294967295,2199-12-31") (Post (Mature 4294967295 (pos 84005)) ∷ [])
+
+abbrev pub PaidUpLine : Type 0
+PaidUpLine = SaysLines (codes "1,paidup,7001,2020-12-01,300.00\n") (Post (PaidUp 7001 (pos 18597) 30000) ∷ [])
+
+abbrev pub UpgradeLine : Type 0
+UpgradeLine = SaysLines (codes "1,upgrade\n") (Post Upgrade ∷ [])
 
 abbrev pub ValueLine : Type 0
 ValueLine = SaysLines (codes "1,value,2020-01-01,now,64\n") (Value (pos 18262) Now 64 ∷ [])

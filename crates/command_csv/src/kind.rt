@@ -13,6 +13,8 @@ pub enum Kind {
     Claim,
     Settle,
     Mature,
+    PaidUp,
+    Upgrade,
     Value,
     Trim,
 }
@@ -31,6 +33,8 @@ pub fn kind_of(word: &[u8]) -> Option<Kind>
         b"claim" => Some(Kind::Claim),
         b"settle" => Some(Kind::Settle),
         b"mature" => Some(Kind::Mature),
+        b"paidup" => Some(Kind::PaidUp),
+        b"upgrade" => Some(Kind::Upgrade),
         b"value" => Some(Kind::Value),
         b"trim" => Some(Kind::Trim),
         _ => None,

@@ -1,6 +1,6 @@
 // The fields behind the kind of a line.
 ghost use Rattle.std.specs.Prelude.{◌≡◌, IfSome, IfNone};
-ghost use Rattle.command_csv.specs.declared.kind.Kind.TheVariants.{Issue, Premium, Alter, Lapse, Reinstate, Claim, Settle, Mature, Value};
+ghost use Rattle.command_csv.specs.declared.kind.Kind.TheVariants.{Issue, Premium, Alter, Lapse, Reinstate, Claim, Settle, Mature, PaidUp, Value};
 ghost use Rattle.command_csv.specs.inside.Forms.{form_of};
 ghost use Rattle.command_csv.specs.inside.Cursor.{HoldsLine, StopsIn};
 
@@ -24,6 +24,8 @@ impl Fields<'_> {
             Kind::Claim => self.claim(),
             Kind::Settle => self.settle(),
             Kind::Mature => self.mature(),
+            Kind::PaidUp => self.paid_up(),
+            Kind::Upgrade => Some(Line::Post(Command::Upgrade)),
             Kind::Value => self.valuation(),
             Kind::Trim => Some(Line::Trim),
         }
@@ -130,6 +132,17 @@ impl Fields<'_> {
         let id = self.id()?;
         let day = self.day()?;
         Some(Line::Post(Command::Mature { id, day }))
+    }
+
+    fn paid_up(&mut self) -> Option<Line>
+        requires head { self.old.asked ≡ 2 }
+        ensures some { IfSome result (HoldsLine PaidUp self.old self.new) }
+        ensures none { IfNone result (StopsIn (form_of PaidUp) self.old self.new) }
+    {
+        let id = self.id()?;
+        let day = self.day()?;
+        let amount = self.amount()?;
+        Some(Line::Post(Command::PaidUp { id, day, amount }))
     }
 
     fn valuation(&mut self) -> Option<Line>

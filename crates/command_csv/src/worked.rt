@@ -1,5 +1,5 @@
 // Worked scripts, each a theorem over the definitions alone.
-ghost use Rattle.command_csv.specs.Worked.{AlterLine, ClaimLine, IssueLine, LapseLine, MatureLine, NoClerk, NoClerkBefore, NoClerkNorKind, NoDay, NoWorkers, OddScript, OneTooMany, OneTooManyOfNoClerk, OneValuationTooMany, PremiumLine, ReinstateLine, SettleLine, ThreeClerks, TrimLine, TrimOfSomething, ValueAtLine, ValueLine};
+ghost use Rattle.command_csv.specs.Worked.{AlterLine, ClaimLine, IssueLine, LapseLine, MatureLine, NoClerk, NoClerkBefore, NoClerkNorKind, NoDay, NoWorkers, OddScript, OneTooMany, OneTooManyOfNoClerk, OneValuationTooMany, PaidUpLine, PremiumLine, ReinstateLine, SettleLine, ThreeClerks, TrimLine, TrimOfSomething, UpgradeLine, ValueAtLine, ValueLine};
 
 /// How a line of each kind is written.
 pub fn lines_are_written()
@@ -11,6 +11,8 @@ pub fn lines_are_written()
     ensures claim { ClaimLine }
     ensures settle { SettleLine }
     ensures mature { MatureLine }
+    ensures paid_up { PaidUpLine }
+    ensures upgrade { UpgradeLine }
     ensures value { ValueLine }
     ensures value_at { ValueAtLine }
     ensures trim { TrimLine }

@@ -2,3 +2,4 @@ pub mod Narrow
 pub mod Renewal
 pub mod Enclosed
 pub mod Tables
+pub mod PaidUp

@@ -74,6 +74,28 @@ pub record AreMade (columns : Columns) (premium : Premium) : Type 0 where
   pub cap : Cover
   pub made : AreMadeFor cover cap columns premium
 
+-- values are those of a cover at year t, whose rates are at most 1
+pub record IsPaidUpFor (c : Cover) (t : ℕ) (values : Values) : Type 0 where
+  pub within : t ≤ c.n
+  pub years : c.n ≤ 131
+  pub rates : (k : ℕ) → k < c.n → c.rates k ≤ ONE
+  pub values_are : AreValuesAt c t values
+
+pub record IsPaidUpAt (values : Values) : Type 0 where
+  pub cover : Cover
+  pub year : ℕ
+  pub made : IsPaidUpFor cover year values
+
+-- the same of columns
+pub record ArePaidUpFor (c : Cover) (columns : Columns) : Type 0 where
+  pub years : c.n ≤ 131
+  pub rates : (k : ℕ) → k < c.n → c.rates k ≤ ONE
+  pub columns_are : AreColumns c columns
+
+pub record ArePaidUp (columns : Columns) : Type 0 where
+  pub cover : Cover
+  pub made : ArePaidUpFor cover columns
+
 -- each bound lies within 100,000 units of the value that the two enclose
 pub record AreClose (lo hi : ℕ) (value : Fraction) : Type 0 where
   pub between : Between lo hi UNIT value

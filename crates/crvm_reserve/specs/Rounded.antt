@@ -52,3 +52,13 @@ amount_hi c cap amount t = up (amount * reserve_hi c cap t) UNIT
 -- both
 abbrev pub rounded : Cover → Cover → ℕ → ℕ → ℕ × ℕ
 rounded c cap amount t = (amount_lo c cap amount t, amount_hi c cap amount t)
+
+-- the same of a paid-up amount, of which no premium is due: the benefits alone
+unfoldable pub paid_up_lo : Cover → ℕ → ℕ → ℕ
+paid_up_lo c amount t = down (amount * ben_lo c t) UNIT
+
+unfoldable pub paid_up_hi : Cover → ℕ → ℕ → ℕ
+paid_up_hi c amount t = up (amount * ben_hi c t) UNIT
+
+abbrev pub rounded_paid_up : Cover → ℕ → ℕ → ℕ × ℕ
+rounded_paid_up c amount t = (paid_up_lo c amount t, paid_up_hi c amount t)

@@ -1,4 +1,4 @@
-//! Tests of what the program doesn't use yet: tables by age and duration, and the versions of a book.
+//! Tests of tables by age and duration, which the program doesn't use yet, and of the versions of a book.
 #![tactic(auto)]
 
 #[cfg(test)]

@@ -1,11 +1,11 @@
 -- Worked cases of what a run and `state` write, computed from the definitions alone. Day 18262 is 2020-01-01
 use Rattle.std.specs.Prelude.{◌≡◌, ◌++◌, ℕ, List, [], ◌∷◌, pos, codes}
 use Rattle.policy_types.specs.declared.command.Command.{Command}
-use Rattle.policy_types.specs.declared.command.Command.TheVariants.{Issue, Premium, Alter, Lapse, Reinstate, Claim, Settle, Mature}
+use Rattle.policy_types.specs.declared.command.Command.TheVariants.{Issue, Premium, Alter, Lapse, Reinstate, Claim, Settle, Mature, PaidUp, Upgrade}
 use Rattle.policy_types.specs.declared.command.Plan.TheVariants.{Endowment}
-use Rattle.policy_types.specs.declared.policy.Status.TheVariants.{InForce, Lapsed, Claimed, Matured, Expired, Settled}
+use Rattle.policy_types.specs.declared.policy.Status.TheVariants.{InForce, Lapsed, Claimed, Matured, Expired, Settled, PaidUp as IsPaidUp}
 use Rattle.policy_types.specs.declared.refusal.Refusal.{Refusal}
-use Rattle.policy_types.specs.declared.refusal.Refusal.TheVariants.{Taken, Unknown, BeforeLast, WrongStatus, TermOver, NothingDue, TooEarly, GraceOver, NotInArrears, TooLate, WrongAmount, NotAReduction, NotMatured, OverSettled, Full}
+use Rattle.policy_types.specs.declared.refusal.Refusal.TheVariants.{Taken, Unknown, BeforeLast, WrongStatus, TermOver, NothingDue, TooEarly, GraceOver, NotInArrears, TooLate, WrongAmount, NotAReduction, NotMatured, OverSettled, Full, NotUpgraded, Upgraded}
 use Rattle.policy_types.specs.declared.entry.Call.TheVariants.{Post}
 use Rattle.policy_types.specs.declared.entry.PinRefusal.TheVariants.{Ahead, Trimmed, PinsFull}
 use Rattle.policy_types.specs.declared.entry.Reply.{Reply}
@@ -62,6 +62,14 @@ PostingLines = (posting_text 1 policy_issue (Accepted 1) ≡ codes "1,issue,7001
     × (posting_text 1 (Claim 7001 (pos 18262)) (Accepted 3) ≡ codes "1,claim,7001,accepted,3" ++ 10 ∷ [])
     × (posting_text 1 (Settle 4294967295 (pos 18262) 1) (Accepted 4) ≡ codes "1,settle,4294967295,accepted,4" ++ 10 ∷ [])
     × (posting_text 1 (Mature 7001 (pos 18262)) (Accepted 5) ≡ codes "1,mature,7001,accepted,5" ++ 10 ∷ [])
+
+-- an upgrade, which has 0 for a policy, a policy made paid up, and each of their answers
+abbrev pub UpgradeLines : Type 0
+UpgradeLines = (posting_text 1 Upgrade (Accepted 3) ≡ codes "1,upgrade,0,accepted,3" ++ 10 ∷ [])
+    × (posting_text 1 Upgrade (Refused (Upgraded 3)) ≡ codes "1,upgrade,0,refused,upgraded,3" ++ 10 ∷ [])
+    × (posting_text 1 (PaidUp 7001 (pos 18597) 30000) (Refused NotUpgraded) ≡ codes "1,paidup,7001,refused,notupgraded" ++ 10 ∷ [])
+    × (posting_text 1 (PaidUp 7001 (pos 18597) 30000) (Accepted 4) ≡ codes "1,paidup,7001,accepted,4" ++ 10 ∷ [])
+    × Says (WrongStatus IsPaidUp) (codes "wrongstatus,paidup")
 
 abbrev pub posting_turn : ℕ → Command → Reply → Entry
 posting_turn caller command reply = record { caller = caller; call = Post command; reply = reply }

@@ -1,6 +1,6 @@
 //! Worked cases of what a run and `state` write, each a theorem over the definitions alone.
 
-ghost use Rattle.life_app.specs.Worked.{ClaimedBooks, ClaimedEntries, OtherLines, PostingLines, RefusalTexts, StatusTexts, TwoClerks, WatcherLines};
+ghost use Rattle.life_app.specs.Worked.{ClaimedBooks, ClaimedEntries, OtherLines, PostingLines, RefusalTexts, StatusTexts, TwoClerks, UpgradeLines, WatcherLines};
 
 /// Each refusal has its word, and its value where it has one.
 pub fn refusal_texts()
@@ -15,6 +15,11 @@ pub fn status_texts()
 /// A posting has one line, by its kind and its answer.
 pub fn posting_lines()
     ensures { PostingLines }
+{}
+
+/// An upgrade and a paid-up policy have their lines.
+pub fn upgrade_lines()
+    ensures { UpgradeLines }
 {}
 
 /// A trim has one line, and so has a valuation without rows.

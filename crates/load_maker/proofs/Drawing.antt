@@ -1,10 +1,10 @@
 -- The rows of drawn policies are of valid commands, and of the lanes to which they are dealt out
-use Rattle.std.proofs.Common.{◌≡◌, ℕ, zero, suc, ◌+◌, ◌*◌, ◌%◌, ◌≤◌, ◌<◌, List, [], ◌∷◌, ◌++◌, length, refl, arith, length-append}
+use Rattle.std.proofs.Common.{◌≡◌, ℕ, zero, suc, ◌+◌, ◌*◌, ◌%◌, ◌≤◌, ◌<◌, false, List, [], ◌∷◌, ◌++◌, length, refl, arith, length-append}
 use Rattle.std.specs.List.{AllByRecursion}
 use Rattle.std.proofs.lemmas.Int.{ints}
 use Rattle.policy_types.specs.declared.command.Plan.{Plan}
 use Rattle.policy_types.specs.declared.command.Plan.TheVariants.{Term, Whole, Endowment, Limited}
-use Rattle.policy_types.specs.Valid.{AreYears, IsIssue, IsValid}
+use Rattle.policy_types.specs.Valid.{AreYears, IsIssue, IsValid, is_upgrade}
 use Rattle.load_maker.specs.declared.generator.Drawn.{Drawn}
 use Rattle.load_maker.specs.Generator.{drawn_below, state_after, plan_drawn, policy_drawn, policy_of_draws, renewed, years_drawn}
 use Rattle.load_maker.specs.GeneratedRows.{ScriptRow, generated_rows, policy_rows}
@@ -46,11 +46,12 @@ right_policy id x first last =
     (drawn_below 1000 fourth) (drawn_below 3650 fifth) first last
     (below 60 second (omega arith)) (below 20 third (omega arith)) (below 1000 fourth (omega arith)) (below 3650 fifth (omega arith))
 
--- a row of one of so many lanes, with a valid command
+-- a row of one of so many lanes, with a valid command that names a policy
 pub record IsRowFor (lanes : ℕ) (row : ScriptRow) : Type 0 where
   pub first : 1 ≤ row.lane
   pub last : row.lane ≤ lanes
   pub valid : IsValid row.command
+  pub named : is_upgrade row.command ≡ false
 
 pub all_and : {A : Type 0} (P : A → Type 0) (xs ys : List A) → AllByRecursion P xs → AllByRecursion P ys → AllByRecursion P (xs ++ ys)
 all_and P [] ys all also = also
@@ -58,8 +59,8 @@ all_and P (x ∷ xs) ys all also = (all.0, all_and P xs ys all.1 also)
 
 right_rows : (lanes lane id : ℕ) (p : Drawn) → 1 ≤ lane → lane ≤ lanes → IsRight id p → AllByRecursion (IsRowFor lanes) (policy_rows lane id p)
 right_rows lanes lane id p first last right = (
-  record { first = first; last = last; valid = right },
-  (record { first = first; last = last; valid = (right.id_in, right.day_in, right.premium_in) }, tt),
+  record { first = first; last = last; valid = right; named = refl },
+  (record { first = first; last = last; valid = (right.id_in, right.day_in, right.premium_in); named = refl }, tt),
 )
 
 pub rows_right : (seed lanes n : ℕ) → 1 ≤ lanes → n ≤ 100000 → AllByRecursion (IsRowFor lanes) (generated_rows seed lanes n)

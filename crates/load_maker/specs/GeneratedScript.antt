@@ -1,10 +1,9 @@
 -- The script of the generator's policies
 use Rattle.std.specs.Prelude.{ℕ, List, ◌∷◌, decimal}
 use Rattle.std.specs.List.{flat_map}
-use Rattle.policy_types.specs.Valid.{day_of, id_of}
-use Rattle.life_dates.specs.DayText.{day_text}
+use Rattle.policy_types.specs.Valid.{id_of}
 use Rattle.text_lines.specs.Lines.{line_of}
-use Rattle.text_lines.specs.Fields.{term_fields}
+use Rattle.text_lines.specs.Fields.{entry_fields}
 use Rattle.policy_types.specs.Words.{kind_word}
 use Rattle.load_maker.specs.GeneratedRows.{ScriptRow, generated_rows}
 
@@ -12,7 +11,7 @@ use Rattle.load_maker.specs.GeneratedRows.{ScriptRow, generated_rows}
 unfoldable pub script_row_text : ScriptRow → List ℕ
 script_row_text row =
     line_of (decimal row.lane)
-    (kind_word row.command ∷ decimal (id_of row.command) ∷ day_text (day_of row.command) ∷ term_fields row.command)
+    (kind_word row.command ∷ decimal (id_of row.command) ∷ entry_fields row.command)
 
 -- the text of the rows of policies 1 to n
 unfoldable pub generated_text : (seed lanes n : ℕ) → List ℕ

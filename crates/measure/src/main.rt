@@ -11,10 +11,10 @@
 //!   and prints `waiting,8,COUNT`.
 //! - `postings CALLERS COUNT` has so many callers issue COUNT policies in all, each as many (a rest is left out), at the
 //!   office of `journal.life` in the folder where it runs, and prints `postings,CALLERS,ACCEPTED`.
+//! - `sleeping CALLERS COUNT` does the same on a disk in memory whose sync sleeps 50 microseconds.
 //! - `versions POLICIES VERSIONS READS TRIMS` sets so many policies so many times each in a book of versions, in turn; reads
 //!   256 of them so many times, each time at another position; gives up all but the newest versions, so many times over; and
 //!   prints `versions,POLICIES,KEPT,PAID`: how many versions are kept then, and the sum of the premiums paid that were read.
-//! - `sleeping CALLERS COUNT` does the same on a disk in memory whose sync sleeps 50 microseconds.
 //!
 //! The status is 2 where the words are others, 8 where the journal doesn't open, 9 where there is no memory.
 #![tactic(auto)]

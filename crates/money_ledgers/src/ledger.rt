@@ -1,7 +1,7 @@
 // What is booked for a command.
-ghost use Rattle.std.specs.Prelude.{◌≡◌, ◌≤◌};
+ghost use Rattle.std.specs.Prelude.{◌≡◌, ◌≤◌, false};
 ghost use Rattle.policy_types.specs.Accounts.{nothing_booked, premium_received, benefit_incurred, benefit_paid, booked_at_term, booking_of, added};
-ghost use Rattle.policy_types.specs.Valid.{IsValid};
+ghost use Rattle.policy_types.specs.Valid.{IsValid, is_upgrade};
 ghost use Rattle.money_ledgers.specs.Balances.{balances, HasRoom};
 
 use policy_types::{Command, Policy, Status};
@@ -32,16 +32,21 @@ impl Ledger {
         }
     }
 
-    /// Books an accepted command, which left the policy that it names as `after`.
+    /// Books an accepted command, which left the policy that it names as `after`. An upgrade books nothing.
     pub fn post(&mut self, command: &Command, after: &Policy)
         requires valid { IsValid command.now }
+        requires named { is_upgrade command.now ≡ false }
         requires amount { after.now.amount ≤ 10000000000 }
         requires room { HasRoom self.old }
         ensures { balances self.new
             ≡ added (balances self.old) (booking_of command.now after.now) }
     {
         match *command {
-            Command::Issue { .. } | Command::Alter { .. } | Command::Lapse { .. } => {}
+            Command::Issue { .. }
+            | Command::Alter { .. }
+            | Command::Lapse { .. }
+            | Command::PaidUp { .. }
+            | Command::Upgrade => {}
             Command::Premium { amount, .. } | Command::Reinstate { amount, .. } => {
                 self.receive_premiums(amount);
             }

@@ -13,9 +13,7 @@ use Rattle.policy_types.specs.declared.entry.Call.TheVariants.{Post}
 use Rattle.policy_types.specs.declared.entry.Reply.{Reply}
 use Rattle.policy_types.specs.declared.entry.Reply.TheVariants.{Accepted, Faulted}
 use Rattle.policy_types.specs.declared.entry.Entry.{Entry}
-use Rattle.policy_types.specs.Valid.{id_of}
-use Rattle.policy_machine.specs.Book.{policy_of}
-use Rattle.policy_machine.specs.Rules.{next}
+use Rattle.policy_machine.specs.Book.{judged_after}
 use Rattle.policy_machine.specs.History.{Opening, IsAbove, IsDue, IsFreshFault, IsLegalAfter, accepted_by, accepted_of, commands_after, fault_of, refusal_due}
 use Rattle.policy_machine.proofs.HistoryLemmas.{accepted_of-push}
 use Rattle.office_state.specs.Images.{HasFaulted, HasFaultedAt, HasFaultedBefore, HoldsOnce, IsOneMore, IsPending, faults_after}
@@ -95,20 +93,20 @@ all_up_to before now [] later up_to = tt
 all_up_to before now (n ∷ met) later up_to = (omega (arith, later, up_to.0), all_up_to before now met later up_to.1)
 
 -- a command that the rules accept can be posted where there is room
-pub is_due : (commands : List Command) (command : Command) (policy : Policy)
-    → next (policy_of commands (id_of command)) command ≡ Ok policy → (length commands ≡ 4000000 → ⊥)
+pub is_due : (commands : List Command) (command : Command) (after : Option Policy)
+    → judged_after commands command ≡ Ok after → (length commands ≡ 4000000 → ⊥)
     → refusal_due commands command ≡ None
-is_due commands command policy decided not_full =
+is_due commands command after decided not_full =
     rw decided (cond-false _ _ _ (ne_eqb (length commands) 4000000 not_full))
 
-pub is_full : (commands : List Command) (command : Command) (policy : Policy)
-    → next (policy_of commands (id_of command)) command ≡ Ok policy → length commands ≡ 4000000
+pub is_full : (commands : List Command) (command : Command) (after : Option Policy)
+    → judged_after commands command ≡ Ok after → length commands ≡ 4000000
     → refusal_due commands command ≡ Some Full
-is_full commands command policy decided full =
+is_full commands command after decided full =
     rw decided (cond-true _ _ _ (eq-eqb (length commands) 4000000 full))
 
 pub is_refused : (commands : List Command) (command : Command) (refusal : Refusal)
-    → next (policy_of commands (id_of command)) command ≡ Err refusal → refusal_due commands command ≡ Some refusal
+    → judged_after commands command ≡ Err refusal → refusal_due commands command ≡ Some refusal
 is_refused commands command refusal decided = rw decided refl
 
 -- where more commands may be accepted, fewer than the most were

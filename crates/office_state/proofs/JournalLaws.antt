@@ -1,14 +1,14 @@
 -- A file opens to one list of commands at most, and one that is refused for what its bytes show opens to none, and is
 -- refused for one cause.
 use Rattle.std.proofs.Common.{◌≡◌, inl, inr, ℕ, ◌<◌, ◌≤◌, List, [], ◌∷◌, ◌++◌, length, refl, ap, sym, subst}
-use Rattle.std.proofs.Common.{append_assoc, append-nil, length-append, IsOk, arith}
+use Rattle.std.proofs.Common.{append-nil, length-append, arith}
 use Rattle.std.proofs.lemmas.List.{length-map}
 use Rattle.std.proofs.lemmas.Bool.{cases_lt}
 use Rattle.std.specs.List.{AllByRecursion}
 use Rattle.policy_types.specs.declared.command.Command.{Command}
-use Rattle.policy_types.specs.Valid.{IsValid, id_of}
-use Rattle.policy_machine.specs.Rules.{next}
-use Rattle.policy_machine.specs.Book.{policy_of, IsAccepted, IsAcceptedAfter}
+use Rattle.policy_types.specs.Valid.{IsValid}
+use Rattle.policy_machine.specs.Book.{IsAccepted}
+use Rattle.policy_machine.proofs.JudgeLemmas.{accepted_at}
 use Rattle.record_codec.specs.Spelling.{spelling_of}
 use Rattle.record_codec.proofs.SpellingLemmas.{one_command}
 use Rattle.posting_journal.specs.Files.{IsJournal}
@@ -90,16 +90,6 @@ continues (first ∷ commands) (other ∷ all) body rest more here there longer 
       valid = found.valid;
     }
 
--- a command in the midst of accepted ones is accepted after those before it
-accepted_here : (before commands : List Command) (command : Command) (others : List Command)
-    → IsAcceptedAfter before (commands ++ command ∷ others)
-    → IsOk (next (policy_of (before ++ commands) (id_of command)) command)
-accepted_here before [] command others accepted = rw append-nil accepted.0
-accepted_here before (first ∷ commands) command others accepted =
-    let there : IsOk (next (policy_of ((before ++ first ∷ []) ++ commands) (id_of command)) command) =
-    accepted_here (before ++ first ∷ []) commands command others accepted.1 in
-    rw append_assoc at there
-
 -- accepted commands whose bodies the file begins with are no more than those before the record that can't follow
 not_longer : (bytes : List ℕ) (n : ℕ) → (at : IsUnfollowed bytes n) → (all : List Command) (more : List (List ℕ))
     → AllByRecursion IsValid all → IsAccepted all → IsJournal bytes (bodies_of all ++ more)
@@ -116,7 +106,7 @@ not_longer bytes n at all more valid accepted records = elim (cases_lt n (length
       absurd (at.none found.command found.spelled
       (record {
         valid = found.valid;
-        accepted = accepted_here [] at.commands found.command found.others parts;
+        accepted = accepted_at [] at.commands found.others found.command parts;
       }))
 ]
 

@@ -1,26 +1,27 @@
 -- What the books keep of the accepted commands, and what one more of them does to it
-use Rattle.std.proofs.Common.{◌≡◌, ℕ, ◌+◌, ◌*◌, ◌-◌, ◌^◌, ◌≤◌, ◌<◌, List, [], ◌∷◌, ◌++◌, length, refl, ap, sym, ◌∙◌, subst, filter_map, Ok, length-append, arith}
-use Rattle.std.specs.Prelude.{is_ok}
+use Rattle.std.proofs.Common.{◌≡◌, ℕ, ◌+◌, ◌*◌, ◌-◌, ◌^◌, ◌≤◌, ◌<◌, List, [], ◌∷◌, ◌++◌, length, refl, ap, sym, ◌∙◌, subst, filter_map, Ok, None, false, length-append, arith}
 use Rattle.std.proofs.lemmas.List.{length-drop}
 use Rattle.std.proofs.Math.Seq.{take-length}
 use Rattle.std.specs.List.{AllByRecursion}
 use Rattle.indexmap.specs.IndexMap.{keys}
 use Rattle.policy_types.specs.declared.command.Command.{Command}
+use Rattle.policy_types.specs.declared.command.Command.TheVariants.{Upgrade}
 use Rattle.policy_types.specs.declared.policy.Policy.{Policy}
 use Rattle.policy_types.specs.Limits.{most_commands}
-use Rattle.policy_types.specs.Valid.{IsValid, id_of}
+use Rattle.policy_types.specs.Valid.{IsValid, id_of, is_upgrade}
 use Rattle.policy_types.specs.Accounts.{AreWithin, added, booking_of}
 use Rattle.money_ledgers.specs.Balances.{HasRoom, balances}
 use Rattle.money_ledgers.specs.declared.ledger.Ledger.{Ledger}
 use Rattle.policy_machine.specs.Accounts.{ledger_of}
 use Rattle.policy_machine.specs.Rules.{next}
-use Rattle.policy_machine.specs.Book.{book, policy_of}
+use Rattle.policy_machine.specs.Book.{book, policy_of, judge, upgrade_of}
 use Rattle.policy_machine.proofs.BookLemmas.{IsAccepted-push}
-use Rattle.policy_machine.proofs.LedgerLemmas.{AreWithin-ledger, AreWithin-wider, ledger_of-push}
+use Rattle.policy_machine.proofs.JudgeLemmas.{upgrade_from-other}
+use Rattle.policy_machine.proofs.LedgerLemmas.{AreWithin-ledger, AreWithin-wider, ledger_of-push, ledger_of-upgrade}
 use Rattle.policy_versions.specs.Commands.{sets_of}
 use Rattle.policy_versions.proofs.BookValues.{key_count, keys_of-sets_of}
 use Rattle.policy_versions.proofs.PolicyValues.{newest_of-sets_of}
-use Rattle.policy_versions.proofs.SetSteps.{few_after, sets_of-accepted, sets_of-rise}
+use Rattle.policy_versions.proofs.SetSteps.{few_after, sets_of-accepted, sets_of-rise, sets_of-upgrade}
 use Rattle.versioned_book.specs.Books.{IsBookOf, IsSomeBook, kept_of, versions_in}
 use Rattle.versioned_book.specs.Settings.{Setting, keys_of, own, until}
 use Rattle.versioned_book.specs.Versions.{newest_of, versions_from}
@@ -41,57 +42,91 @@ all-more P (first ∷ xs) x all here = (all.0, all-more P xs x all.1 here)
 
 -- the books of no command
 pub keeps_nothing : (versions : VersionedBook Policy) (ledger : Ledger) → IsBookOf versions [] → versions.last ≡ 0
-    → balances ledger ≡ ledger_of [] → Keeps versions 0 ledger []
+    → balances ledger ≡ ledger_of [] → Keeps versions 0 0 ledger []
 keeps_nothing versions ledger set last booked = record {
   valid = tt;
   accepted = tt;
   few = omega arith;
   counted = refl;
+  upgraded = refl;
   set = set;
   last = last;
   booked = booked;
 }
 
-module _ (old new : VersionedBook Policy) (count : ℕ) (before after : Ledger) (commands : List Command) (command : Command) (policy : Policy) where
+module _ (old new : VersionedBook Policy) (count upgrade : ℕ) (before after : Ledger) (commands : List Command) (command : Command) (policy : Policy) where
   abbrev setting : ℕ → Setting Policy
   setting n = record { key = id_of command; position = n + 1; value = policy }
 
   -- the books keep one command more
-  pub keeps_more : IsValid command → length commands < most_commands → Keeps old count before commands
-      → next (policy_of commands (id_of command)) command ≡ Ok policy
+  pub keeps_more : IsValid command → length commands < most_commands → Keeps old count upgrade before commands
+      → next (policy_of commands (id_of command)) command ≡ Ok policy → judge commands command ≡ None → is_upgrade command ≡ false
       → ((sets : List (Setting Policy)) → IsBookOf old sets → IsBookOf new (sets ++ setting count ∷ []))
       → new.last ≡ count + 1 → balances after ≡ added (balances before) (booking_of command policy)
-      → Keeps new (count + 1) after (commands ++ command ∷ [])
-  keeps_more valid fewer keeps decided more last posted =
+      → Keeps new (count + 1) upgrade after (commands ++ command ∷ [])
+  keeps_more valid fewer keeps decided judged named more last posted =
       let many : count + 1 ≡ length (commands ++ command ∷ []) =
       ap (λ n. n + 1) keeps.counted ∙ sym (length-append commands (command ∷ [])) in
       let sets : sets_of commands ++ setting count ∷ [] ≡ sets_of (commands ++ command ∷ []) =
       ap (λ n. sets_of commands ++ setting n ∷ []) keeps.counted ∙ sym (sets_of-accepted commands command policy decided) in
       record {
         valid = all-more IsValid commands command keeps.valid valid;
-        accepted = IsAccepted-push commands command keeps.accepted (ap is_ok decided);
+        accepted = IsAccepted-push commands command keeps.accepted judged;
         few = omega (arith, fewer, length-append commands (command ∷ []));
         counted = many;
+        upgraded = keeps.upgraded ∙ sym (upgrade_from-other 1 commands command named);
         set = subst (IsBookOf new) sets (more (sets_of commands) keeps.set);
         last = last ∙ many;
         booked = posted ∙ ap (λ balance. added balance (booking_of command policy)) keeps.booked
             ∙ sym (ledger_of-push commands command policy decided);
       }
 
+keeps_upgraded : (old new : VersionedBook Policy) (count upgrade place : ℕ) (ledger : Ledger) (commands : List Command)
+    → length commands < most_commands → Keeps old count upgrade ledger commands → judge commands Upgrade ≡ None
+    → ((before : List Command) → upgrade ≡ upgrade_of before → count ≡ length before → place ≡ upgrade_of (before ++ Upgrade ∷ []))
+    → ((sets : List (Setting Policy)) → IsBookOf old sets → IsBookOf new sets) → new.last ≡ count + 1
+    → Keeps new (count + 1) place ledger (commands ++ Upgrade ∷ [])
+keeps_upgraded old new count upgrade place ledger commands fewer keeps judged placed same last =
+    let many : count + 1 ≡ length (commands ++ Upgrade ∷ []) =
+    ap (λ n. n + 1) keeps.counted ∙ sym (length-append commands (Upgrade ∷ [])) in
+    record {
+      valid = all-more IsValid commands Upgrade keeps.valid tt;
+      accepted = IsAccepted-push commands Upgrade keeps.accepted judged;
+      few = omega (arith, fewer, length-append commands (Upgrade ∷ []));
+      counted = many;
+      upgraded = placed commands keeps.upgraded keeps.counted;
+      set = subst (IsBookOf new) (sym (sets_of-upgrade commands)) (same (sets_of commands) keeps.set);
+      last = last ∙ many;
+      booked = keeps.booked ∙ sym (ledger_of-upgrade commands);
+    }
+
+-- an upgrade more
+pub keeps_upgrade : (old new : VersionedBook Policy) (count upgrade place : ℕ) (ledger : Ledger) (commands : List Command) (command : Command)
+    → command ≡ Upgrade → length commands < most_commands → Keeps old count upgrade ledger commands → judge commands command ≡ None
+    → ((before : List Command) → upgrade ≡ upgrade_of before → count ≡ length before → place ≡ upgrade_of (before ++ command ∷ []))
+    → ((sets : List (Setting Policy)) → IsBookOf old sets → IsBookOf new sets) → new.last ≡ count + 1
+    → Keeps new (count + 1) place ledger (commands ++ command ∷ [])
+keeps_upgrade old new count upgrade place ledger commands command is fewer keeps judged placed same last =
+    let placed' : (before : List Command) → upgrade ≡ upgrade_of before → count ≡ length before → place ≡ upgrade_of (before ++ Upgrade ∷ []) =
+    λ before up many. placed before up many ∙ ap (λ c. upgrade_of (before ++ c ∷ [])) is in
+    subst (λ c. Keeps new (count + 1) place ledger (commands ++ c ∷ [])) (sym is)
+    (keeps_upgraded old new count upgrade place ledger commands fewer keeps (subst (λ c. judge commands c ≡ None) is judged) placed' same last)
+
 -- other versions and another ledger of the same commands
-pub keeps_still : (old new : VersionedBook Policy) (count : ℕ) (ledger : Ledger) (commands : List Command) → Keeps old count ledger commands
-    → ((sets : List (Setting Policy)) → IsBookOf old sets → IsBookOf new sets) → new.last ≡ old.last → Keeps new count ledger commands
-keeps_still old new count ledger commands keeps same last = record {
+pub keeps_still : (old new : VersionedBook Policy) (count upgrade : ℕ) (ledger : Ledger) (commands : List Command) → Keeps old count upgrade ledger commands
+    → ((sets : List (Setting Policy)) → IsBookOf old sets → IsBookOf new sets) → new.last ≡ old.last → Keeps new count upgrade ledger commands
+keeps_still old new count upgrade ledger commands keeps same last = record {
   valid = keeps.valid;
   accepted = keeps.accepted;
   few = keeps.few;
   counted = keeps.counted;
+  upgraded = keeps.upgraded;
   set = same (sets_of commands) keeps.set;
   last = last ∙ keeps.last;
   booked = keeps.booked;
 }
 
-module _ (versions : VersionedBook Policy) (count : ℕ) (ledger : Ledger) (commands : List Command) (keeps : Keeps versions count ledger commands) where
+module _ (versions : VersionedBook Policy) (count upgrade : ℕ) (ledger : Ledger) (commands : List Command) (keeps : Keeps versions count upgrade ledger commands) where
   -- some settings make them
   pub some_book : IsSomeBook versions
   some_book = (sets_of commands, keeps.set)
@@ -143,9 +178,9 @@ pub record Promised (books : Books) (commands : List Command) (floor : ℕ) : Ty
 own_promises : (books : Books) → Promised books (commands_in books) (floor_in books)
 own_promises books = record {
   count = books.kept.counted;
-  versions = versions_are books.versions books.count books.ledger (commands_in books) books.kept;
-  few = few_kept books.versions books.count books.ledger (commands_in books) books.kept;
-  policies = newest_book books.versions books.count books.ledger (commands_in books) books.kept;
+  versions = versions_are books.versions books.count books.upgrade books.ledger (commands_in books) books.kept;
+  few = few_kept books.versions books.count books.upgrade books.ledger (commands_in books) books.kept;
+  policies = newest_book books.versions books.count books.upgrade books.ledger (commands_in books) books.kept;
   ledger = books.kept.booked;
 }
 

@@ -14,3 +14,5 @@ pub mod PostedPins
 pub mod TurnSteps
 pub mod LeavingSteps
 pub mod PinTurns
+pub mod WorkedOffices
+pub mod Either

@@ -1,7 +1,7 @@
 -- What one more turn does to an office
-use Rattle.std.proofs.Common.{◌≡◌, ◌⊎◌, ℕ, ◌+◌, ◌≤◌, Bool, true, false, List, [], ◌∷◌, ◌++◌, length, refl, ap, sym, ◌∙◌, subst, None, Ok, Err, Result, length-append, arith, inl, inr}
+use Rattle.std.proofs.Common.{◌≡◌, ◌⊎◌, ℕ, ◌+◌, ◌≤◌, Bool, true, false, List, [], ◌∷◌, ◌++◌, length, refl, ap, sym, ◌∙◌, subst, None, Option, Ok, Err, Result, length-append, arith, inl, inr}
 use Rattle.std.proofs.lemmas.List.{map-append}
-use Rattle.std.specs.Prelude.{is_ok, OnOk, OnErr}
+use Rattle.std.specs.Prelude.{OnOk, OnErr}
 use Rattle.std.specs.List.{AllByRecursion}
 use Rattle.outside_io.specs.declared.disks.Disk.{Ghosts}
 use Rattle.outside_io.specs.Faults.{Rose}
@@ -9,9 +9,8 @@ use Rattle.policy_types.specs.declared.command.Command.{Command}
 use Rattle.policy_types.specs.declared.policy.Policy.{Policy}
 use Rattle.policy_types.specs.declared.entry.Reply.TheVariants.{Accepted, Faulted}
 use Rattle.policy_types.specs.declared.entry.Entry.{Entry}
-use Rattle.policy_types.specs.Valid.{IsValid, id_of}
-use Rattle.policy_machine.specs.Book.{policy_of, IsAccepted}
-use Rattle.policy_machine.specs.Rules.{next}
+use Rattle.policy_types.specs.Valid.{IsValid}
+use Rattle.policy_machine.specs.Book.{IsAccepted, judged_after, refusal_in}
 use Rattle.policy_machine.specs.History.{Opening, IsDue, IsLegal, accepted_of, commands_after, floor_of, refusal_due}
 use Rattle.policy_machine.proofs.BookLemmas.{IsAccepted-push}
 use Rattle.policy_machine.proofs.HistoryLemmas.{IsLegalAfter-push, accepted_of-push}
@@ -172,16 +171,16 @@ module _ {D W : Type 0} {g : Ghosts D} {w : WatcherGhosts W} where
           ]
         ]
 
-    module _ {T E : Type 0} (command : Command) (policy : Policy) (journal : Journal D g) (result : Result T E) (valid : IsValid command)
-        (decided : next (policy_of (commands_of old) (id_of command)) command ≡ Ok policy)
+    module _ {T E : Type 0} (command : Command) (after : Option Policy) (journal : Journal D g) (result : Result T E) (valid : IsValid command)
+        (decided : judged_after (commands_of old) command ≡ Ok after)
         (honesty : g.honest (disk_under journal) → g.honest (disk_of old))
         (records : (bodies : List (List ℕ)) (last : List ℕ) → g.honest (disk_under journal) → JournalStands old.journal bodies last
         → Records old.journal journal bodies last (spelling_of command) result) where
-      decided' : next (policy_of commands (id_of command)) command ≡ Ok policy
-      decided' = subst (λ cs. next (policy_of cs (id_of command)) command ≡ Ok policy) stands.listed decided
+      decided' : judged_after commands command ≡ Ok after
+      decided' = subst (λ cs. judged_after cs command ≡ Ok after) stands.listed decided
 
       accepted : IsAccepted (commands ++ command ∷ [])
-      accepted = IsAccepted-push commands command (accepted_after old turns stands.listed) (ap is_ok decided')
+      accepted = IsAccepted-push commands command (accepted_after old turns stands.listed) (ap refusal_in decided')
 
       recorded : (honest : g.honest (disk_under journal))
           → Records old.journal journal (bodies_of commands) (stands.inside.journal (honesty honest)).last (spelling_of command) result
@@ -271,7 +270,7 @@ module _ {D W : Type 0} {g : Ghosts D} {w : WatcherGhosts W} where
             let kept : commands_in books ≡ all = more ∙ ap (λ cs. cs ++ command ∷ []) stands.listed ∙ sym grown in
             let floored : floor_in books ≡ floor = still ∙ stands.floor ∙ posted_floor turns caller command (Accepted count) refl in
             let held = promised books all floor kept floored in
-            let due : refusal_due commands command ≡ None = is_due commands command policy decided' (λ full. few (ap length stands.listed ∙ full)) in
+            let due : refusal_due commands command ≡ None = is_due commands command after decided' (λ full. few (ap length stands.listed ∙ full)) in
             let at : count ≡ length commands + 1 = position ∙ ap length (kept ∙ grown) ∙ length-append commands (command ∷ []) in
             let holds : g.honest (disk_under journal) → JournalHolds journal opening (turns ++ entry ∷ []) = λ honest. record {
               last = [];
@@ -328,7 +327,7 @@ module _ {D W : Type 0} {g : Ghosts D} {w : WatcherGhosts W} where
             let kept : commands_of old ≡ all = stands.listed ∙ sym same in
             let floored : floor_in old.books ≡ floor = stands.floor ∙ posted_floor turns caller command (Faulted count) refl in
             let held = promised old.books all floor kept floored in
-            let due : refusal_due commands command ≡ None = is_due commands command policy decided' (λ full. few (ap length stands.listed ∙ full)) in
+            let due : refusal_due commands command ≡ None = is_due commands command after decided' (λ full. few (ap length stands.listed ∙ full)) in
             let fresh = is_fresh opening turns (g.faults (disk_of old)) count stands.inside.opened stands.inside.met (rw told rose) in
             let failed = λ (honest : g.honest (disk_under journal)).
             subst (λ r. OnErr r ((left : List ℕ) × JournalStands journal (bodies_of commands) left

@@ -1,10 +1,9 @@
 -- The journal of a list of commands, as a whole file
-use Rattle.std.specs.Prelude.{◌≡◌, ◌⊎◌, ℕ, List, [], ◌∷◌, ◌++◌, length, map, IsOk}
+use Rattle.std.specs.Prelude.{◌≡◌, ◌⊎◌, ℕ, List, [], ◌∷◌, ◌++◌, length, map, None}
 use Rattle.std.specs.List.{AllByRecursion}
 use Rattle.policy_types.specs.declared.command.Command.{Command}
-use Rattle.policy_types.specs.Valid.{IsValid, id_of}
-use Rattle.policy_machine.specs.Rules.{next}
-use Rattle.policy_machine.specs.Book.{policy_of, IsAccepted}
+use Rattle.policy_types.specs.Valid.{IsValid}
+use Rattle.policy_machine.specs.Book.{judge, IsAccepted}
 use Rattle.record_codec.specs.Spelling.{spelling_of}
 use Rattle.posting_journal.specs.Files.{IsJournal}
 use Rattle.posting_journal.specs.Creation.{IsUnfinished, IsForeign, IsBadAt}
@@ -33,7 +32,7 @@ OpensToNone bytes = (commands : List Command) → Opens bytes commands → ⊥
 -- the command can stand behind these in a journal
 pub record CanFollow (commands : List Command) (command : Command) : Type 0 where
   pub valid : IsValid command
-  pub accepted : IsOk (next (policy_of commands (id_of command)) command)
+  pub accepted : judge commands command ≡ None
 
 -- the body spells no command that can follow these
 abbrev pub IsUnspelled : List ℕ → List Command → Type 0

@@ -6,4 +6,5 @@ pub mod Standing
 pub mod Opening
 pub mod Posting
 pub mod Turning
+pub mod Worked
 pub mod inside

@@ -1,30 +1,33 @@
 // The books: each policy's versions, and the balances that the accepted commands leave.
-ghost use Rattle.std.specs.Prelude.{◌≡◌, ◌+◌, ◌<◌, ◌≤◌, ◌++◌, [], ◌∷◌, Ok, Some, OnOk, length, take, slice_get};
+ghost use Rattle.std.specs.Prelude.{◌≡◌, ◌+◌, ◌<◌, ◌≤◌, ◌++◌, [], ◌∷◌, Ok, Some, None, false, OnOk, length, take, slice_get};
 ghost use Rattle.policy_types.specs.Limits.{most_commands};
-ghost use Rattle.policy_types.specs.Valid.{IsValid, id_of};
+ghost use Rattle.policy_types.specs.Valid.{IsValid, id_of, is_upgrade};
+ghost use Rattle.policy_types.specs.declared.command.Command.TheVariants.{Upgrade};
 ghost use Rattle.policy_machine.specs.Accounts.{ledger_of};
-ghost use Rattle.policy_machine.specs.Book.{book, policy_of};
+ghost use Rattle.policy_machine.specs.Book.{book, judge as judge_of, judged_after, policy_of};
 ghost use Rattle.money_ledgers.specs.Balances.{balances};
 ghost use Rattle.policy_machine.specs.Rules.{next};
 ghost use Rattle.office_state.specs.inside.Keeping.{Keeps, Keeps-prop};
 
 use crate::accepted_list::AcceptedList;
 use money_ledgers::Ledger;
-use policy_machine::decide;
+use policy_machine::{judge, upgrade_place};
 use policy_types::{Command, NoMemory, Policy, Refusal};
 use std::alloc::Global;
 use versioned_book::VersionedBook;
 
-/// What is kept of the accepted commands: how many there are, each policy's versions by the numbers of the commands
-/// that made them, from the floor on, and the ledger.
+/// What is kept of the accepted commands: how many there are, the place of the upgrade, each policy's versions by the
+/// numbers of the commands that made them, from the floor on, and the ledger.
 #[derive(Drop)]
 pub(crate) struct Books {
     pub(crate) versions: VersionedBook<Policy>,
     pub(crate) count: u32,
+    // The place of the upgrade, or 0.
+    pub(crate) upgrade: u32,
     pub(crate) ledger: Ledger,
     // The commands themselves, for contracts alone.
     pub(crate) accepted: AcceptedList,
-    ghost kept: { Keeps versions count ledger accepted.commands } by { Keeps-prop versions count ledger accepted.commands },
+    ghost kept: { Keeps versions count upgrade ledger accepted.commands } by { Keeps-prop versions count upgrade ledger accepted.commands },
 }
 
 impl Books {
@@ -38,6 +41,7 @@ impl Books {
         Books {
             versions: VersionedBook::new(alloc),
             count: 0,
+            upgrade: 0,
             ledger: Ledger::new(),
             accepted: AcceptedList::new(),
         }
@@ -55,19 +59,36 @@ impl Books {
         }
     }
 
-    /// What the rules make of the policy that a command names.
-    pub(crate) fn decision(&self, command: &Command) -> Result<Policy, Refusal>
+    /// What the rules make of a command: the policy that it leaves, or none where it is an upgrade.
+    pub(crate) fn judgement(&self, command: &Command) -> Result<Option<Policy>, Refusal>
         requires valid { IsValid command.now }
-        ensures { result ≡ next (policy_of (commands_in self.now) (id_of command.now)) command.now }
+        ensures { result ≡ judged_after (commands_in self.now) command.now }
     {
         let policy = self.versions.get(command.id());
-        decide(policy.as_ref(), command)
+        judge(self.upgrade, policy.as_ref(), command)
     }
 
-    /// Keeps an accepted command as what it made of its policy. There is room for it.
-    pub(crate) fn keep(&mut self, command: &Command, policy: Policy)
+    /// Keeps an accepted command, and the policy that it left. There is room for it.
+    pub(crate) fn keep(&mut self, command: &Command, after: Option<Policy>)
+        requires valid { IsValid command.now }
+        requires accepted { judged_after (commands_in self.old) command.now ≡ Ok after }
+        requires few { length (commands_in self.old) < most_commands }
+        requires room { CanKeep self.old (id_of command.now) }
+        ensures commands { commands_in self.new ≡ commands_in self.old ++ command.now ∷ [] }
+        ensures floor { floor_in self.new ≡ floor_in self.old }
+    {
+        match after {
+            Some(policy) => self.keep_policy(command, policy),
+            None => self.keep_upgrade(command),
+        }
+    }
+
+    // Keeps a command as what it made of its policy.
+    fn keep_policy(&mut self, command: &Command, policy: Policy)
         requires valid { IsValid command.now }
         requires accepted { next (policy_of (commands_in self.old) (id_of command.now)) command.now ≡ Ok policy }
+        requires judged { judge_of (commands_in self.old) command.now ≡ None }
+        requires named { is_upgrade command.now ≡ false }
         requires few { length (commands_in self.old) < most_commands }
         requires room { CanKeep self.old (id_of command.now) }
         ensures commands { commands_in self.new ≡ commands_in self.old ++ command.now ∷ [] }
@@ -76,6 +97,21 @@ impl Books {
         self.ledger.post(command, &policy);
         self.count += 1;
         self.versions.set(command.id(), self.count, policy);
+        self.accepted = self.accepted.with(command);
+    }
+
+    // Keeps an upgrade, which leaves policies and accounts as they are.
+    fn keep_upgrade(&mut self, command: &Command)
+        requires valid { IsValid command.now }
+        requires judged { judge_of (commands_in self.old) command.now ≡ None }
+        requires upgrade { command.now ≡ Upgrade }
+        requires few { length (commands_in self.old) < most_commands }
+        ensures commands { commands_in self.new ≡ commands_in self.old ++ command.now ∷ [] }
+        ensures floor { floor_in self.new ≡ floor_in self.old }
+    {
+        self.upgrade = upgrade_place(self.upgrade, self.count, command);
+        self.count += 1;
+        self.versions.pass(self.count);
         self.accepted = self.accepted.with(command);
     }
 

@@ -1,5 +1,5 @@
 // What the definitions of an office's file have to mean, as functions that do nothing.
-ghost use Rattle.std.specs.Prelude.{◌≡◌, ℕ, List};
+ghost use Rattle.std.specs.Prelude.{◌≡◌, ◌⊎◌, ℕ, List};
 ghost use Rattle.policy_types.specs.declared.command.Command.{Command};
 ghost use Rattle.office_state.specs.Journals.{IsOfTheFile, IsShown, Opens, OpensToNone};
 ghost use Rattle.office_state.specs.declared.faults.StartCause.{StartCause};
@@ -19,4 +19,10 @@ pub fn refused_files_open_to_none()
 pub fn one_cause_of_refusal()
     ensures { (bytes : List ℕ) (cause other : StartCause) → IsOfTheFile cause → IsOfTheFile other
         → IsShown bytes cause → IsShown bytes other → cause ≡ other }
+{}
+
+/// A file opens to some commands, or is refused for a cause that its bytes show.
+pub fn files_open_or_show_why()
+    ensures { (bytes : List ℕ) → ((commands : List Command) × Opens bytes commands)
+        ⊎ ((cause : StartCause) × IsOfTheFile cause × IsShown bytes cause) }
 {}

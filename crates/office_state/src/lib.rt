@@ -17,10 +17,14 @@ mod recording;
 mod replaying;
 mod state;
 mod trimming;
+mod worked;
 
 pub use answer::Answer;
 pub use batches::Batch;
 pub use faults::{StartCause, StartFault};
 pub use held::{Held, PinInfo};
-pub use laws::{one_cause_of_refusal, one_list_of_commands, refused_files_open_to_none};
+pub use laws::{
+    files_open_or_show_why, one_cause_of_refusal, one_list_of_commands, refused_files_open_to_none,
+};
 pub use state::OfficeState;
+pub use worked::{faults_by_hand, offices_by_hand, shown_by_hand};

@@ -3,8 +3,7 @@ ghost use Rattle.std.specs.Prelude.{◌≡◌, ◌^◌, ◌<◌, ◌++◌, [], �
 ghost use Rattle.policy_types.specs.Valid.{IsValid, id_of};
 ghost use Rattle.policy_types.specs.declared.command.Command.{Command as ACommand};
 ghost use Rattle.policy_types.specs.declared.entry.Entry.{Entry};
-ghost use Rattle.policy_machine.specs.Book.{policy_of};
-ghost use Rattle.policy_machine.specs.Rules.{next};
+ghost use Rattle.policy_machine.specs.Book.{judged_after};
 ghost use Rattle.office_state.specs.Posting.{CrashesIn, IsBeforeWriting, turn_of};
 ghost use Rattle.office_state.specs.Standing.{StandsFor};
 ghost use Rattle.office_state.specs.States.{commands_of, disk_of, opened_of, opening_of, turns_of};
@@ -60,17 +59,17 @@ impl<D: Disk, W: Watching> OfficeState<D, W> {
         if take_memory(&mut self.books, command.id(), &mut self.watchers).is_err() {
             return Answer::NoMemory;
         }
-        match self.books.decision(command) {
-            Ok(policy) => self.accept(command, policy),
+        match self.books.judgement(command) {
+            Ok(after) => self.accept(command, after),
             Err(refusal) => Answer::Refused(refusal),
         }
     }
 
-    // Records a command that the rules accept, keeps it, and tells the watchers.
-    fn accept(&mut self, command: &Command, policy: Policy) -> Answer
+    // Records a command that the rules accept, keeps it and the policy that it left, and tells the watchers.
+    fn accept(&mut self, command: &Command, after: Option<Policy>) -> Answer
         requires valid { IsValid command.now }
         requires stands { (history : List Entry) × StandsFor self.old history }
-        requires accepted { next (policy_of (commands_of self.old) (id_of command.now)) command.now ≡ Ok policy }
+        requires accepted { judged_after (commands_of self.old) command.now ≡ Ok after }
         requires room { CanKeep self.old.books (id_of command.now) }
         requires ready { W.has_room self.old.watchers }
         ensures opened { opened_of self.new ≡ opened_of self.old }
@@ -87,7 +86,7 @@ impl<D: Disk, W: Watching> OfficeState<D, W> {
         }
         match record(&mut self.journal, &encode(command)) {
             Ok(()) => {
-                self.books.keep(command, policy);
+                self.books.keep(command, after);
                 let position = self.books.count();
                 self.watchers.note(position, command);
                 Answer::Accepted(position)

@@ -52,12 +52,12 @@ fn replay_record<D: Disk>(
     let Some(command) = decode(&body) else {
         return Err(StartCause::BadRecord(n));
     };
-    let Ok(policy) = books.decision(&command) else {
+    let Ok(after) = books.judgement(&command) else {
         return Err(StartCause::BadRecord(n));
     };
     if books.reserve(command.id()).is_err() {
         return Err(StartCause::NoMemory);
     }
-    books.keep(&command, policy);
+    books.keep(&command, after);
     Ok(())
 }

@@ -1,17 +1,56 @@
 -- What an accepted command tells
-use Rattle.std.proofs.Common.{◌≡◌, ◌+◌, ◌-◌, ◌==◌, Bool, true, false, if◌then◌else◌, sym, ap, ◌∙◌, refl, subst, List, [], ◌∷◌, ℤ, Some, None, Option, Ok, Err, Result, IfOk, IfSome, ℕ}
+use Rattle.std.proofs.Common.{◌≡◌, ◌+◌, ◌-◌, ◌==◌, Bool, true, false, if◌then◌else◌, sym, ap, ◌∙◌, refl, subst, List, [], ◌∷◌, ℤ, Some, None, Option, Ok, Err, Result, IfOk, IfSome, ℕ, ◌⊎◌, inl, inr}
 use Rattle.std.specs.List.{AllByRecursion}
 use Rattle.policy_types.specs.declared.command.Command.{Command}
-use Rattle.policy_types.specs.declared.command.Command.TheVariants.{Issue, Premium, Alter, Lapse, Reinstate, Claim, Settle, Mature}
+use Rattle.policy_types.specs.declared.command.Command.TheVariants.{Issue, Premium, Alter, Lapse, Reinstate, Claim, Settle, Mature, PaidUp as MakePaidUp, Upgrade}
 use Rattle.policy_types.specs.declared.command.Plan.{Plan}
 use Rattle.policy_types.specs.declared.command.Plan.TheVariants.{Term, Whole, Endowment, Limited}
 use Rattle.policy_types.specs.declared.policy.Policy.{Policy}
 use Rattle.policy_types.specs.declared.policy.Status.{Status}
-use Rattle.policy_types.specs.declared.policy.Status.TheVariants.{InForce, Lapsed, Claimed, Matured, Expired, Settled}
+use Rattle.policy_types.specs.declared.policy.Status.TheVariants.{InForce, Lapsed, Claimed, Matured, Expired, Settled, PaidUp}
 use Rattle.policy_types.specs.declared.refusal.Refusal.{Refusal}
+use Rattle.policy_types.specs.declared.refusal.Refusal.TheVariants.{Unknown}
 use Rattle.policy_types.specs.Valid.{id_of, day_of}
-use Rattle.policy_machine.specs.Rules.{Check, checks_of, changed, first_refusal, decided, matured, premiums_missed, next}
-use Rattle.policy_machine.specs.Book.{IsSameContract}
+use Rattle.policy_machine.specs.Rules.{Check, checks_of, changed, first_refusal, decided, matured, premiums_missed, issued, next}
+use Rattle.policy_machine.specs.Book.{IsSameContract, issue_id}
+
+-- the command is this issue
+pub record IsIssueHere (command : Command) : Type 0 where
+  pub id : ℕ
+  pub day : ℤ
+  pub plan : Plan
+  pub age : ℕ
+  pub years : ℕ
+  pub amount : ℕ
+  pub premium : ℕ
+  pub is : command ≡ Issue id day plan age years amount premium
+
+-- the command issues nothing, and is refused where there is no policy of its number
+pub record NeedsPolicy (command : Command) : Type 0 where
+  pub none : issue_id command ≡ None
+  pub refused : next None command ≡ Err Unknown
+
+-- every command is one or the other
+pub issue_or_other : (command : Command) → IsIssueHere command ⊎ NeedsPolicy command
+issue_or_other (Issue id day plan age years amount premium) = inl (record {
+  id = id;
+  day = day;
+  plan = plan;
+  age = age;
+  years = years;
+  amount = amount;
+  premium = premium;
+  is = refl;
+})
+issue_or_other (Premium id day amount) = inr (record { none = refl; refused = refl })
+issue_or_other (Alter id day amount premium) = inr (record { none = refl; refused = refl })
+issue_or_other (Lapse id day) = inr (record { none = refl; refused = refl })
+issue_or_other (Reinstate id day amount) = inr (record { none = refl; refused = refl })
+issue_or_other (Claim id day) = inr (record { none = refl; refused = refl })
+issue_or_other (Settle id day amount) = inr (record { none = refl; refused = refl })
+issue_or_other (Mature id day) = inr (record { none = refl; refused = refl })
+issue_or_other (MakePaidUp id day amount) = inr (record { none = refl; refused = refl })
+issue_or_other Upgrade = inr (record { none = refl; refused = refl })
 
 -- where a decision is no refusal its first check doesn't apply
 passed : (applies : Bool) (refusal : Refusal) (others : Option Refusal) (after kept : Policy)
@@ -45,6 +84,8 @@ mature_keeps Limited p day = (alike p p.amount p.premium day p.paid Matured p.am
 changed_keeps : (p : Policy) (command : Command) → IsSameContract p (changed p command)
 changed_keeps p (Mature id day) = (mature_keeps p.plan p day).0
 changed_keeps p (Issue id day plan age years amount premium) = alike p p.amount p.premium p.last p.paid p.status p.outstanding
+changed_keeps p (MakePaidUp id day amount) = alike p amount p.premium day p.paid PaidUp p.outstanding
+changed_keeps p Upgrade = alike p p.amount p.premium p.last p.paid p.status p.outstanding
 changed_keeps p (Premium id day amount) = alike p p.amount p.premium day (p.paid + 1) p.status p.outstanding
 changed_keeps p (Alter id day amount premium) = alike p amount premium day p.paid p.status p.outstanding
 changed_keeps p (Lapse id day) = alike p p.amount p.premium day p.paid Lapsed p.outstanding
@@ -59,21 +100,21 @@ next-keeps before after command e =
     subst (IsSameContract before) fact.1 (changed_keeps before command)
 
 last_day : (before after : Policy) (command : Command) → next (Some before) command ≡ Ok after
-    → (changed before command).last ≡ day_of command → after.last ≡ day_of command
+    → day_of command ≡ Some (changed before command).last → day_of command ≡ Some after.last
 last_day before after command e day =
     let fact = accepted (checks_of before command) (changed before command) after e in
-    sym (ap (λ p. p.last) fact.1) ∙ day
+    day ∙ ap (λ (p : Policy). Some p.last) fact.1
 
 -- the day of an accepted command is the policy's last
-pub next-last : (before : Option Policy) (after : Policy) (command : Command) → next before command ≡ Ok after → after.last ≡ day_of command
-next-last None after (Issue id day plan age years amount premium) e = cc
-next-last None after (Premium id day amount) e = absurd (cc)
-next-last None after (Alter id day amount premium) e = absurd (cc)
-next-last None after (Lapse id day) e = absurd (cc)
-next-last None after (Reinstate id day amount) e = absurd (cc)
-next-last None after (Claim id day) e = absurd (cc)
-next-last None after (Settle id day amount) e = absurd (cc)
-next-last None after (Mature id day) e = absurd (cc)
+pub next-last : (before : Option Policy) (after : Policy) (command : Command) → next before command ≡ Ok after → day_of command ≡ Some after.last
+next-last None after command e = by_kind (issue_or_other command)
+  where
+    by_kind : IsIssueHere command ⊎ NeedsPolicy command → day_of command ≡ Some after.last
+    by_kind (inl c) =
+        let first : next None command ≡ Ok (issued c.id c.day c.plan c.age c.years c.amount c.premium) = ap (next None) c.is in
+        let same : issued c.id c.day c.plan c.age c.years c.amount c.premium ≡ after = cc in
+        ap day_of c.is ∙ ap (λ (p : Policy). Some p.last) same
+    by_kind (inr other) = let refused = other.refused in absurd (cc)
 next-last (Some p) after (Issue id day plan age years amount premium) e = absurd (cc)
 next-last (Some p) after (Premium id day amount) e = last_day p after (Premium id day amount) e refl
 next-last (Some p) after (Alter id day amount premium) e = last_day p after (Alter id day amount premium) e refl
@@ -81,17 +122,19 @@ next-last (Some p) after (Lapse id day) e = last_day p after (Lapse id day) e re
 next-last (Some p) after (Reinstate id day amount) e = last_day p after (Reinstate id day amount) e refl
 next-last (Some p) after (Claim id day) e = last_day p after (Claim id day) e refl
 next-last (Some p) after (Settle id day amount) e = last_day p after (Settle id day amount) e refl
-next-last (Some p) after (Mature id day) e = last_day p after (Mature id day) e (mature_keeps p.plan p day).1
+next-last (Some p) after (Mature id day) e = last_day p after (Mature id day) e (ap Some (sym (mature_keeps p.plan p day).1))
+next-last (Some p) after (MakePaidUp id day amount) e = last_day p after (MakePaidUp id day amount) e refl
+next-last (Some p) after Upgrade e = absurd (cc)
 
 begun : (id : ℕ) (after : Policy) (command : Command) → id_of command ≡ id → next None command ≡ Ok after → after.id ≡ id
-begun id after (Issue n day plan age years amount premium) own e = cc
-begun id after (Premium n day amount) own e = absurd (cc)
-begun id after (Alter n day amount premium) own e = absurd (cc)
-begun id after (Lapse n day) own e = absurd (cc)
-begun id after (Reinstate n day amount) own e = absurd (cc)
-begun id after (Claim n day) own e = absurd (cc)
-begun id after (Settle n day amount) own e = absurd (cc)
-begun id after (Mature n day) own e = absurd (cc)
+begun id after command own e = by_kind (issue_or_other command)
+  where
+    by_kind : IsIssueHere command ⊎ NeedsPolicy command → after.id ≡ id
+    by_kind (inl c) =
+        let first : next None command ≡ Ok (issued c.id c.day c.plan c.age c.years c.amount c.premium) = ap (next None) c.is in
+        let same : issued c.id c.day c.plan c.age c.years c.amount c.premium ≡ after = cc in
+        sym (ap (λ (p : Policy). p.id) same) ∙ sym (ap id_of c.is) ∙ own
+    by_kind (inr other) = let refused = other.refused in absurd (cc)
 
 pub if_ok : {P : Policy → Type 0} (r : Result Policy Refusal) → ((after : Policy) → r ≡ Ok after → P after) → IfOk r P
 if_ok (Ok after) each = each after refl

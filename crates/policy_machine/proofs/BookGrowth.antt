@@ -1,19 +1,21 @@
 -- What one more accepted command does to the book: an issue adds its policy at the end, another command changes one
 -- policy where it stands
-use Rattle.std.proofs.Common.{◌≡◌, ℕ, Bool, true, false, cond, ◌==◌, nat_eq, List, [], ◌∷◌, ◌++◌, map, refl, sym, ap, ◌⊎◌, inl, inr, ◌∙◌, append_assoc, append-nil, subst, None, Some, Option, Ok, Err, Result, IsOk, IfSome, eqb-true, eq-eqb, ne_eqb, filter_map, arith}
+use Rattle.std.proofs.Common.{◌≡◌, ℕ, Bool, true, false, cond, ◌==◌, nat_eq, List, [], ◌∷◌, ◌++◌, map, refl, sym, ap, ◌⊎◌, inl, inr, ◌∙◌, append_assoc, append-nil, subst, None, Some, Option, Ok, Err, Result, IfSome, eqb-true, eq-eqb, ne_eqb, filter_map, arith}
 use Rattle.std.specs.List.{AllByRecursion, IsDistinct, fold, cons_option}
 use Rattle.std.proofs.lemmas.Bool.{eqb-false}
 use Rattle.std.proofs.lemmas.List.Elements.{filter-append, filter_map-append}
 use Rattle.std.proofs.lemmas.List.Sums.{fold-append}
 use Rattle.policy_types.specs.declared.command.Command.{Command}
-use Rattle.policy_types.specs.declared.command.Command.TheVariants.{Issue, Premium, Alter, Lapse, Reinstate, Claim, Settle, Mature}
+use Rattle.policy_types.specs.declared.command.Command.TheVariants.{Upgrade}
 use Rattle.policy_types.specs.declared.policy.Policy.{Policy}
 use Rattle.policy_types.specs.declared.refusal.Refusal.{Refusal}
+use Rattle.policy_types.specs.declared.refusal.Refusal.TheVariants.{Taken}
 use Rattle.policy_types.specs.Valid.{id_of}
 use Rattle.policy_machine.specs.Rules.{next}
-use Rattle.policy_machine.specs.Book.{own, kept, policy_of, issue_id, book, IsAccepted, IsAcceptedAfter}
-use Rattle.policy_machine.proofs.AcceptedLemmas.{next-keeps}
+use Rattle.policy_machine.specs.Book.{own, kept, policy_of, issue_id, book, judge, IsAccepted, IsAcceptedAfter}
+use Rattle.policy_machine.proofs.AcceptedLemmas.{IsIssueHere, NeedsPolicy, issue_or_other, next-keeps}
 use Rattle.policy_machine.proofs.BookLemmas.{policy_of-own, policy_of-push_own, policy_of-push_other}
+use Rattle.policy_machine.proofs.JudgeLemmas.{accepted_next}
 
 -- there is a policy, and it has the number
 abbrev pub IsThere : ℕ → Option Policy → Type 0
@@ -32,14 +34,12 @@ IsThere-step id (Some p) command there = by_decision (next (Some p) command) ref
 -- after its issue there is a policy of the number
 IsThere-issue : (id : ℕ) (p : Option Policy) (command : Command) → issue_id command ≡ Some id → id_of command ≡ id → IfSome p (λ q. q.id ≡ id)
     → IsThere id (kept p (next p command))
-IsThere-issue id None (Issue n day plan age years amount premium) issue own_id has = own_id
-IsThere-issue id None (Premium n day amount) issue own_id has = grind arith
-IsThere-issue id None (Alter n day amount premium) issue own_id has = grind arith
-IsThere-issue id None (Lapse n day) issue own_id has = grind arith
-IsThere-issue id None (Reinstate n day amount) issue own_id has = grind arith
-IsThere-issue id None (Claim n day) issue own_id has = grind arith
-IsThere-issue id None (Settle n day amount) issue own_id has = grind arith
-IsThere-issue id None (Mature n day) issue own_id has = grind arith
+IsThere-issue id None command issue own_id has = by_kind (issue_or_other command)
+  where
+    by_kind : IsIssueHere command ⊎ NeedsPolicy command → IsThere id (kept None (next None command))
+    by_kind (inl c) =
+        subst (λ (this : Command). IsThere id (kept None (next None this))) (sym c.is) (sym (ap id_of c.is) ∙ own_id)
+    by_kind (inr other) = let none = other.none in absurd (cc)
 IsThere-issue id (Some p) command issue own_id has = IsThere-step id (Some p) command has
 
 IsThere-fold : (id : ℕ) (commands : List Command) (p : Option Policy) → IsThere id p
@@ -48,21 +48,21 @@ IsThere-fold id [] p there = there
 IsThere-fold id (command ∷ commands) p there =
     IsThere-fold id commands (kept p (next p command)) (IsThere-step id p command there)
 
-policy_of-append : (before rest : List Command) (id : ℕ)
+pub policy_of-append : (before rest : List Command) (id : ℕ)
     → policy_of (before ++ rest) id ≡ fold (λ policy command. kept policy (next policy command)) (policy_of before id) (own rest id)
 policy_of-append before rest id =
     let step = λ (policy : Option Policy) (command : Command). kept policy (next policy command) in
     ap (fold step None) (filter-append (λ c. id_of c == id) before rest) ∙ fold-append step None (own before id) (own rest id)
 
 issue_id_is : (command : Command) (id : ℕ) → issue_id command ≡ Some id → id_of command ≡ id
-issue_id_is (Issue n day plan age years amount premium) id issue = grind arith
-issue_id_is (Premium n day amount) id issue = grind arith
-issue_id_is (Alter n day amount premium) id issue = grind arith
-issue_id_is (Lapse n day) id issue = grind arith
-issue_id_is (Reinstate n day amount) id issue = grind arith
-issue_id_is (Claim n day) id issue = grind arith
-issue_id_is (Settle n day amount) id issue = grind arith
-issue_id_is (Mature n day) id issue = grind arith
+issue_id_is command id issue = by_kind (issue_or_other command)
+  where
+    by_kind : IsIssueHere command ⊎ NeedsPolicy command → id_of command ≡ id
+    by_kind (inl c) =
+        let number : issue_id command ≡ Some c.id = ap issue_id c.is in
+        let own_id : id_of command ≡ c.id = ap id_of c.is in
+        cc
+    by_kind (inr other) = let none = other.none in absurd (cc)
 
 -- the policy of an issued number, whatever follows the issue
 IsThere-issued : (before rest : List Command) (command : Command) (id : ℕ) → issue_id command ≡ Some id
@@ -135,14 +135,12 @@ not_issued commands id none = weaker (λ other. IsThere other (policy_of command
 issue_finds_none : (policy : Option Policy) (command : Command) (id : ℕ) (after : Policy) → issue_id command ≡ Some id
     → next policy command ≡ Ok after → policy ≡ None
 issue_finds_none None command id after issue accepted = refl
-issue_finds_none (Some p) (Issue n day plan age years amount premium) id after issue accepted = grind arith
-issue_finds_none (Some p) (Premium n day amount) id after issue accepted = grind arith
-issue_finds_none (Some p) (Alter n day amount premium) id after issue accepted = grind arith
-issue_finds_none (Some p) (Lapse n day) id after issue accepted = grind arith
-issue_finds_none (Some p) (Reinstate n day amount) id after issue accepted = grind arith
-issue_finds_none (Some p) (Claim n day) id after issue accepted = grind arith
-issue_finds_none (Some p) (Settle n day amount) id after issue accepted = grind arith
-issue_finds_none (Some p) (Mature n day) id after issue accepted = grind arith
+issue_finds_none (Some p) command id after issue accepted = by_kind (issue_or_other command)
+  where
+    by_kind : IsIssueHere command ⊎ NeedsPolicy command → Some p ≡ None
+    by_kind (inl c) =
+        let refused : next (Some p) command ≡ Err Taken = ap (next (Some p)) c.is in absurd (cc)
+    by_kind (inr other) = let none = other.none in absurd (cc)
 
 -- an accepted issue adds its policy at the end
 pub book-push_issue : (commands : List Command) (command : Command) (id : ℕ) (after : Policy) → issue_id command ≡ Some id
@@ -183,12 +181,18 @@ IsDistinct-nil : IsDistinct nat_eq []
 unfolding IsDistinct
 IsDistinct-nil = tt
 
-pub accepted_policy : (decision : Result Policy Refusal) → IsOk decision → (after : Policy) × (decision ≡ Ok after)
-accepted_policy (Ok after) ok = (after, refl)
-accepted_policy (Err refusal) ok = grind arith
+-- an accepted issue makes a policy
+issue_accepted : (before : List Command) (command : Command) (id : ℕ) → issue_id command ≡ Some id → judge before command ≡ None
+    → (after : Policy) × (next (policy_of before (id_of command)) command ≡ Ok after)
+issue_accepted before command id issue ok = by_kind (accepted_next before command ok)
+  where
+    by_kind : (command ≡ Upgrade) ⊎ ((after : Policy) × (next (policy_of before (id_of command)) command ≡ Ok after))
+        → (after : Policy) × (next (policy_of before (id_of command)) command ≡ Ok after)
+    by_kind (inr accepted) = accepted
+    by_kind (inl upgrade) = let none : issue_id command ≡ None = ap issue_id upgrade in absurd (cc)
 
 distinct_step : (before : List Command) (command : Command) → IsDistinct nat_eq (filter_map issue_id before)
-    → IsOk (next (policy_of before (id_of command)) command) → IsDistinct nat_eq (filter_map issue_id (before ++ command ∷ []))
+    → judge before command ≡ None → IsDistinct nat_eq (filter_map issue_id (before ++ command ∷ []))
 distinct_step before command distinct ok = subst (IsDistinct nat_eq) (sym (filter_map-append issue_id before (command ∷ []))) (with_first (issue_id command) refl)
   where
     with_first : (first : Option ℕ) → issue_id command ≡ first
@@ -196,7 +200,7 @@ distinct_step before command distinct ok = subst (IsDistinct nat_eq) (sym (filte
     with_first None none = subst (IsDistinct nat_eq) (sym (append-nil (filter_map issue_id before))) distinct
     with_first (Some id) issue =
         let own_id : id_of command ≡ id = issue_id_is command id issue in
-        let accepted = accepted_policy (next (policy_of before (id_of command)) command) ok in
+        let accepted = issue_accepted before command id issue ok in
         let none : policy_of before (id_of command) ≡ None =
         issue_finds_none (policy_of before (id_of command)) command id accepted.0 issue accepted.1 in
         IsDistinct-push (filter_map issue_id before) id distinct
@@ -226,14 +230,11 @@ among_more (Some other) ids id among =
 
 -- a number that has no policy yet gets one by its issue alone
 no_policy_yet : (command : Command) (id : ℕ) → id_of command ≡ id → (issue_id command ≡ Some id) ⊎ (kept None (next None command) ≡ None)
-no_policy_yet (Issue n day plan age years amount premium) id own_id = inl (ap Some own_id)
-no_policy_yet (Premium n day amount) id own_id = inr refl
-no_policy_yet (Alter n day amount premium) id own_id = inr refl
-no_policy_yet (Lapse n day) id own_id = inr refl
-no_policy_yet (Reinstate n day amount) id own_id = inr refl
-no_policy_yet (Claim n day) id own_id = inr refl
-no_policy_yet (Settle n day amount) id own_id = inr refl
-no_policy_yet (Mature n day) id own_id = inr refl
+no_policy_yet command id own_id = by_kind (issue_or_other command)
+  where
+    by_kind : IsIssueHere command ⊎ NeedsPolicy command → (issue_id command ≡ Some id) ⊎ (kept None (next None command) ≡ None)
+    by_kind (inl c) = inl (ap issue_id c.is ∙ ap Some (sym (ap id_of c.is) ∙ own_id))
+    by_kind (inr other) = inr (ap (kept None) other.refused)
 
 -- a number with a policy was issued
 was_issued : (commands : List Command) (id : ℕ) (p : Policy) → policy_of commands id ≡ Some p → Among (filter_map issue_id commands) id

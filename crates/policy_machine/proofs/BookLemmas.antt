@@ -1,28 +1,29 @@
 -- What one more command does to the book
-use Rattle.std.proofs.Common.{◌≡◌, ℕ, true, false, cond, ◌==◌, List, [], ◌∷◌, ◌++◌, ap, ◌∙◌, append_assoc, append-nil, Some, None, Option, Ok, Err, Result, IsOk, IfOk, IfSome, refl, Bool}
+use Rattle.std.proofs.Common.{◌≡◌, ℕ, true, false, cond, ◌==◌, List, [], ◌∷◌, ◌++◌, ap, ◌∙◌, append_assoc, append-nil, Some, None, Option, Ok, Err, Result, IfOk, IfSome, refl, Bool}
 use Rattle.std.specs.List.{AllByRecursion, cons_option, filter_map, fold}
 use Rattle.std.proofs.lemmas.Bool.{eqb-true}
-use Rattle.std.proofs.lemmas.List.Elements.{filter-append}
+use Rattle.std.proofs.lemmas.List.Elements.{filter-append, filter_map-append}
 use Rattle.std.proofs.lemmas.List.Sums.{fold-append}
 use Rattle.policy_types.specs.declared.command.Command.{Command}
+use Rattle.policy_types.specs.declared.command.Command.TheVariants.{Upgrade}
 use Rattle.policy_types.specs.declared.policy.Policy.{Policy}
 use Rattle.policy_types.specs.Valid.{IsValid, id_of}
 use Rattle.policy_machine.specs.Rules.{IsSound, next}
 use Rattle.policy_types.specs.declared.refusal.Refusal.{Refusal}
 use Rattle.policy_machine.proofs.AcceptedLemmas.{next-own}
 use Rattle.policy_machine.proofs.SoundLemmas.{next-sound}
-use Rattle.policy_machine.specs.Book.{own, kept, policy_of, issue_id, book, IsAccepted, IsAcceptedAfter}
+use Rattle.policy_machine.specs.Book.{own, kept, policy_of, issue_id, book, judge, IsAccepted, IsAcceptedAfter}
 
 -- one more command after accepted ones
 pub IsAcceptedAfter-push : (before rest : List Command) (command : Command) → IsAcceptedAfter before rest
-    → IsOk (next (policy_of (before ++ rest) (id_of command)) command) → IsAcceptedAfter before (rest ++ command ∷ [])
+    → judge (before ++ rest) command ≡ None → IsAcceptedAfter before (rest ++ command ∷ [])
 IsAcceptedAfter-push before [] command so_far here =
-    let here' : IsOk (next (policy_of before (id_of command)) command) = rw append-nil at here in (here', tt)
+    let here' : judge before command ≡ None = rw append-nil at here in (here', tt)
 IsAcceptedAfter-push before (first ∷ rest) command so_far here =
     (so_far.0, IsAcceptedAfter-push (before ++ first ∷ []) rest command so_far.1 (rw append_assoc here))
 
 pub IsAccepted-push : (commands : List Command) (command : Command) → IsAccepted commands
-    → IsOk (next (policy_of commands (id_of command)) command) → IsAccepted (commands ++ command ∷ [])
+    → judge commands command ≡ None → IsAccepted (commands ++ command ∷ [])
 IsAccepted-push commands command so_far here = IsAcceptedAfter-push [] commands command so_far here
 
 own-push : (commands : List Command) (command : Command) (id : ℕ)
@@ -46,6 +47,32 @@ policy_of-push_other commands command id other_id =
     let appended : own (commands ++ command ∷ []) id ≡ own commands id ++ [] =
     own-push commands command id ∙ ap (λ b. own commands id ++ cond b (command ∷ []) []) other_id in
     ap (λ cs. fold step None cs) appended ∙ fold-append step None (own commands id) []
+
+-- an upgrade leaves every policy
+pub policy_of-upgrade : (commands : List Command) (id : ℕ) → policy_of (commands ++ Upgrade ∷ []) id ≡ policy_of commands id
+policy_of-upgrade commands id = by_test (0 == id) refl
+  where
+    kept_upgrade : (policy : Option Policy) → kept policy (next policy Upgrade) ≡ policy
+    kept_upgrade None = refl
+    kept_upgrade (Some p) = refl
+
+    by_test : (b : Bool) → (0 == id) ≡ b → policy_of (commands ++ Upgrade ∷ []) id ≡ policy_of commands id
+    by_test true own_id = policy_of-push_own commands Upgrade id own_id ∙ kept_upgrade (policy_of commands id)
+    by_test false other_id = policy_of-push_other commands Upgrade id other_id
+
+-- two ways to look policies up that agree
+pub filter_map-same : (one other : ℕ → Option Policy) → ((id : ℕ) → one id ≡ other id) → (ids : List ℕ)
+    → filter_map one ids ≡ filter_map other ids
+filter_map-same one other same [] = refl
+filter_map-same one other same (id ∷ ids) =
+    ap (λ first. cons_option first (filter_map one ids)) (same id) ∙ ap (cons_option (other id)) (filter_map-same one other same ids)
+
+-- and the book
+pub book-upgrade : (commands : List Command) → book (commands ++ Upgrade ∷ []) ≡ book commands
+book-upgrade commands =
+    ap (filter_map (policy_of (commands ++ Upgrade ∷ [])))
+    (filter_map-append issue_id commands (Upgrade ∷ []) ∙ append-nil (filter_map issue_id commands))
+    ∙ filter_map-same (policy_of (commands ++ Upgrade ∷ [])) (policy_of commands) (policy_of-upgrade commands) (filter_map issue_id commands)
 
 abbrev step : Option Policy → Command → Option Policy
 step policy command = kept policy (next policy command)

@@ -1,21 +1,22 @@
 -- What one more command does to the balances
-use Rattle.std.proofs.Common.{◌≡◌, ℕ, ◌+◌, ◌*◌, ◌≤◌, ◌==◌, true, List, [], ◌∷◌, ◌++◌, length, ℤ, pos, ◌+ℤ◌, refl, ap, ◌∙◌, append_assoc, append-nil, None, Some, Option, Ok, cond, false, subst, suc, arith, rules}
+use Rattle.std.proofs.Common.{◌≡◌, ℕ, ◌+◌, ◌*◌, ◌≤◌, ◌==◌, true, List, [], ◌∷◌, ◌++◌, length, ℤ, pos, ◌+ℤ◌, refl, sym, ap, ◌∙◌, ◌⊎◌, inl, inr, append_assoc, append-nil, None, Some, Option, Ok, Result, cond, false, subst, suc, arith, rules}
 use Rattle.std.specs.List.{fold, AllByRecursion}
 use Rattle.std.proofs.lemmas.Int.{ints}
 use Rattle.std.proofs.lemmas.List.Sums.{fold-append}
 use Rattle.policy_types.specs.declared.command.Command.{Command}
-use Rattle.policy_types.specs.declared.command.Command.TheVariants.{Issue, Premium, Alter, Lapse, Reinstate, Claim, Settle, Mature}
+use Rattle.policy_types.specs.declared.command.Command.TheVariants.{Issue, Premium, Alter, Lapse, Reinstate, Claim, Settle, Mature, PaidUp as MakePaidUp, Upgrade}
 use Rattle.policy_types.specs.declared.policy.Policy.{Policy}
 use Rattle.policy_types.specs.declared.command.Plan.{Plan}
 use Rattle.policy_types.specs.declared.command.Plan.TheVariants.{Term, Whole, Endowment, Limited}
 use Rattle.policy_types.specs.declared.policy.Status.{Status}
-use Rattle.policy_types.specs.declared.policy.Status.TheVariants.{InForce, Lapsed, Claimed, Matured, Expired, Settled}
+use Rattle.policy_types.specs.declared.policy.Status.TheVariants.{InForce, Lapsed, Claimed, Matured, Expired, Settled, PaidUp}
 use Rattle.policy_types.specs.declared.refusal.Refusal.{Refusal}
 use Rattle.policy_types.specs.Accounts.{Booking, against, added, sum_of, IsWithin, AreWithin, booking_of, booked_at_term, nothing_booked, premium_received, benefit_incurred, benefit_paid}
 use Rattle.policy_types.specs.Valid.{id_of, IsValid}
 use Rattle.policy_machine.specs.Rules.{next, decided, changed, matured, checks_of, first_refusal}
 use Rattle.policy_machine.specs.Book.{kept, own, policy_of}
 use Rattle.policy_machine.specs.Accounts.{booked_on, booked_after, bookings_after, ledger_of}
+use Rattle.policy_machine.proofs.AcceptedLemmas.{IsIssueHere, NeedsPolicy, issue_or_other}
 use Rattle.policy_machine.proofs.BookLemmas.{policy_of-push_own}
 
 -- one booking more
@@ -64,6 +65,9 @@ sum_of-booking (Mature id day) after = at_term after.status after.amount
     at_term Claimed amount = refl
     at_term Expired amount = refl
     at_term Settled amount = refl
+    at_term PaidUp amount = refl
+sum_of-booking (MakePaidUp id day amount) after = refl
+sum_of-booking Upgrade after = refl
 
 sum_of-booked : (after : Option Policy) (command : Command) → sum_of (booked_on after command) ≡ pos 0
 sum_of-booked None command = refl
@@ -79,6 +83,21 @@ sum_of-after before (command ∷ rest) start balanced =
     let booking = booked_after before command in
     sum_of-after (before ++ command ∷ []) rest (added start booking)
     (sum_of-added start booking balanced (sum_of-booked (policy_of (before ++ command ∷ []) (id_of command)) command))
+
+-- an upgrade books nothing
+added_nothing : (b : Booking) → added b nothing_booked ≡ b
+added_nothing b = let right : (n : ℤ) → n +ℤ pos 0 ≡ n = λ n. omega (arith, ints) in rw (right b.cash, right b.premiums, right b.incurred, right b.payable) refl
+
+booked_upgrade : (after : Option Policy) → booked_on after Upgrade ≡ nothing_booked
+booked_upgrade None = refl
+booked_upgrade (Some after) = refl
+
+pub ledger_of-upgrade : (commands : List Command) → ledger_of (commands ++ Upgrade ∷ []) ≡ ledger_of commands
+ledger_of-upgrade commands =
+    ap (fold added nothing_booked) (bookings_after-push [] commands Upgrade)
+    ∙ fold-append added nothing_booked (bookings_after [] commands) (booked_after commands Upgrade ∷ [])
+    ∙ ap (added (ledger_of commands)) (booked_upgrade (policy_of (commands ++ Upgrade ∷ []) 0))
+    ∙ added_nothing (ledger_of commands)
 
 pub sum_of-ledger : (commands : List Command) → sum_of (ledger_of commands) ≡ pos 0
 sum_of-ledger commands = sum_of-after [] commands nothing_booked refl
@@ -96,6 +115,8 @@ changed_amount p (Lapse id day) valid modest = modest
 changed_amount p (Reinstate id day amount) valid modest = modest
 changed_amount p (Claim id day) valid modest = modest
 changed_amount p (Settle id day amount) valid modest = modest
+changed_amount p (MakePaidUp id day amount) valid modest = valid.2.1
+changed_amount p Upgrade valid modest = modest
 changed_amount p (Mature id day) valid modest = at_term p.plan (record p { last = day }) modest
   where
     at_term : (plan : Plan) (q : Policy) → q.amount ≤ 10000000000 → (matured plan q).amount ≤ 10000000000
@@ -110,14 +131,13 @@ IsModest-decided p after None before_in after_in = after_in
 IsModest-decided p after (Some refusal) before_in after_in = before_in
 
 IsModest-next : (p : Option Policy) (command : Command) → IsValid command → IsModest p → IsModest (kept p (next p command))
-IsModest-next None (Issue id day plan age years amount premium) valid modest = valid.amount_in.1
-IsModest-next None (Premium id day amount) valid modest = tt
-IsModest-next None (Alter id day amount premium) valid modest = tt
-IsModest-next None (Lapse id day) valid modest = tt
-IsModest-next None (Reinstate id day amount) valid modest = tt
-IsModest-next None (Claim id day) valid modest = tt
-IsModest-next None (Settle id day amount) valid modest = tt
-IsModest-next None (Mature id day) valid modest = tt
+IsModest-next None command valid modest = by_kind (issue_or_other command)
+  where
+    by_kind : IsIssueHere command ⊎ NeedsPolicy command → IsModest (kept None (next None command))
+    by_kind (inl c) =
+        let here : IsValid (Issue c.id c.day c.plan c.age c.years c.amount c.premium) = subst IsValid c.is valid in
+        subst (λ (this : Command). IsModest (kept None (next None this))) (sym c.is) here.amount_in.1
+    by_kind (inr other) = subst (λ (decision : Result Policy Refusal). IsModest (kept None decision)) (sym other.refused) tt
 IsModest-next (Some p) command valid modest =
     IsModest-decided p (changed p command) (first_refusal (checks_of p command)) modest (changed_amount p command valid modest)
 
@@ -175,6 +195,9 @@ booking_within (Mature id day) after valid modest = at_term after.status after.a
     at_term Claimed amount few = nothing_within 40000000000
     at_term Expired amount few = nothing_within 40000000000
     at_term Settled amount few = nothing_within 40000000000
+    at_term PaidUp amount few = nothing_within 40000000000
+booking_within (MakePaidUp id day amount) after valid modest = nothing_within 40000000000
+booking_within Upgrade after valid modest = nothing_within 40000000000
 
 booked_within : (after : Option Policy) (command : Command) → IsValid command → IsModest after
     → AreWithin 40000000000 (booked_on after command)

@@ -3,6 +3,10 @@ pub mod BookGrowth
 pub mod BookLemmas
 pub mod HistoryGrowth
 pub mod HistoryLemmas
+pub mod JudgeLemmas
+pub mod LeastLemmas
 pub mod LedgerLemmas
 pub mod MissedLemmas
+pub mod OldLemmas
+pub mod PaidUpLemmas
 pub mod SoundLemmas

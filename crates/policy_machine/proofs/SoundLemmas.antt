@@ -1,18 +1,19 @@
 -- Accepted commands keep a policy sound
-use Rattle.std.proofs.Common.{◌≡◌, ℕ, ◌-◌, ◌<◌, ◌≤◌, ◌↔◌, inl, inr, Bool, true, false, not, ◌==◌, if◌then◌else◌, refl, subst, arith, ℤ, IsTrue, Some, None, Option, Ok, IfOk, IfSome}
+use Rattle.std.proofs.Common.{◌≡◌, ℕ, ◌-◌, ◌<◌, ◌≤◌, ◌↔◌, ◌⊎◌, inl, inr, sym, Result, Bool, true, false, not, ◌==◌, if◌then◌else◌, refl, subst, arith, ℤ, IsTrue, Some, None, Option, Ok, IfOk, IfSome}
 use Rattle.std.proofs.lemmas.Bool.{cases_lt, eqb-false, eqb-true}
 use Rattle.std.proofs.lemmas.Bool.Decides.{nat_tests}
 use Rattle.std.proofs.lemmas.Int.{ints}
 use Rattle.policy_types.specs.declared.command.Command.{Command}
-use Rattle.policy_types.specs.declared.command.Command.TheVariants.{Issue, Premium, Alter, Lapse, Reinstate, Claim, Settle, Mature}
+use Rattle.policy_types.specs.declared.command.Command.TheVariants.{Issue, Premium, Alter, Lapse, Reinstate, Claim, Settle, Mature, PaidUp as MakePaidUp, Upgrade}
 use Rattle.policy_types.specs.declared.command.Plan.{Plan}
 use Rattle.policy_types.specs.declared.command.Plan.TheVariants.{Term, Whole, Endowment, Limited}
 use Rattle.policy_types.specs.declared.policy.Policy.{Policy}
 use Rattle.policy_types.specs.declared.policy.Status.{Status}
-use Rattle.policy_types.specs.declared.policy.Status.TheVariants.{InForce, Lapsed, Claimed, Matured, Expired, Settled}
+use Rattle.policy_types.specs.declared.policy.Status.TheVariants.{InForce, Lapsed, Claimed, Matured, Expired, Settled, PaidUp}
 use Rattle.policy_types.specs.Valid.{IsIssue, IsAmount, IsCommandDay, IsValid}
 use Rattle.policy_machine.specs.Rules.{IsSound, payments_of, checks_of, changed, is_in_force, is_lapsed, awaits_settlement, matured, issued, next}
-use Rattle.policy_machine.proofs.AcceptedLemmas.{accepted, if_ok}
+use Rattle.policy_types.specs.declared.refusal.Refusal.{Refusal}
+use Rattle.policy_machine.proofs.AcceptedLemmas.{IsIssueHere, NeedsPolicy, issue_or_other, accepted, if_ok}
 use Rattle.policy_machine.proofs.MissedLemmas.{premiums_missed-le}
 
 -- a policy in force, or a lapsed one, has nothing outstanding
@@ -23,6 +24,7 @@ in_force_idle Claimed e = absurd (cc)
 in_force_idle Matured e = absurd (cc)
 in_force_idle Expired e = refl
 in_force_idle Settled e = refl
+in_force_idle PaidUp e = refl
 
 lapsed_idle : (status : Status) → not (is_lapsed status) ≡ false → awaits_settlement status ≡ false
 lapsed_idle InForce e = refl
@@ -31,6 +33,7 @@ lapsed_idle Claimed e = absurd (cc)
 lapsed_idle Matured e = absurd (cc)
 lapsed_idle Expired e = refl
 lapsed_idle Settled e = refl
+lapsed_idle PaidUp e = refl
 
 nothing_outstanding : (p : Policy) → IsSound p → awaits_settlement p.status ≡ false → p.outstanding ≡ 0
 nothing_outstanding p sound idle = elim (cases_lt 0 p.outstanding) [
@@ -129,6 +132,24 @@ sound_claim p after id day sound day_in e =
       outstanding_when = (λ some. refl, λ awaits. sound.issue_in.amount_in.0);
     })
 
+-- the new amount is below the old one
+sound_paid_up : (p after : Policy) (id amount : ℕ) (day : ℤ) → IsSound p → IsCommandDay day → IsAmount amount
+    → next (Some p) (MakePaidUp id day amount) ≡ Ok after → IsSound after
+sound_paid_up p after id amount day sound day_in amount_in e =
+    let fact = accepted (checks_of p (MakePaidUp id day amount)) (changed p (MakePaidUp id day amount)) after e in
+    let since = fact.0.0 in
+    let in_force = fact.0.1.0 in
+    let none = nothing_outstanding p sound (in_force_idle p.status in_force) in
+    let i = sound.issue_in in
+    subst IsSound fact.1 (record {
+      issue_in = record { id_in = i.id_in; day_in = i.day_in; age_in = i.age_in; years_in = i.years_in; amount_in = amount_in; premium_in = i.premium_in };
+      paid_in = sound.paid_in;
+      last_after = grind (arith, ints);
+      last_in = day_in;
+      outstanding_in = omega arith;
+      outstanding_when = idle_when PaidUp p.outstanding refl none;
+    })
+
 awaiting_when : (awaits : Bool) → not awaits ≡ false → awaits ≡ true
 awaiting_when true e = refl
 awaiting_when false e = absurd (cc)
@@ -208,14 +229,15 @@ sound_after p after (Reinstate id day amount) sound valid e = sound_reinstate p 
 sound_after p after (Claim id day) sound valid e = sound_claim p after id day sound valid.1 e
 sound_after p after (Settle id day amount) sound valid e = sound_settle p after id amount day sound valid.1 e
 sound_after p after (Mature id day) sound valid e = sound_mature p after id day sound valid.1 e
+sound_after p after (MakePaidUp id day amount) sound valid e = sound_paid_up p after id amount day sound valid.1 valid.2 e
+sound_after p after Upgrade sound valid e = absurd (cc)
 
 pub next-sound : (before : Option Policy) (command : Command) → IsValid command → IfSome before IsSound → IfOk (next before command) IsSound
-next-sound None (Issue id day plan age years amount premium) valid sound = sound_issue id age years amount premium day plan valid
-next-sound None (Premium id day amount) valid sound = tt
-next-sound None (Alter id day amount premium) valid sound = tt
-next-sound None (Lapse id day) valid sound = tt
-next-sound None (Reinstate id day amount) valid sound = tt
-next-sound None (Claim id day) valid sound = tt
-next-sound None (Settle id day amount) valid sound = tt
-next-sound None (Mature id day) valid sound = tt
+next-sound None command valid sound = by_kind (issue_or_other command)
+  where
+    by_kind : IsIssueHere command ⊎ NeedsPolicy command → IfOk (next None command) IsSound
+    by_kind (inl c) =
+        subst (λ (this : Command). IfOk (next None this) IsSound) (sym c.is)
+        (sound_issue c.id c.age c.years c.amount c.premium c.day c.plan (subst IsValid c.is valid))
+    by_kind (inr other) = subst (λ (decision : Result Policy Refusal). IfOk decision IsSound) (sym other.refused) tt
 next-sound (Some p) command valid sound = if_ok (next (Some p) command) (λ after e. sound_after p after command sound valid e)

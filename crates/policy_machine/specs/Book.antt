@@ -1,11 +1,12 @@
 -- The book: the policies that a list of accepted commands leaves
-use Rattle.std.specs.Prelude.{◌≡◌, ℕ, ◌==◌, List, [], ◌∷◌, ◌++◌, Some, None, Option, Ok, Err, Result, IsOk}
+use Rattle.std.specs.Prelude.{◌≡◌, ℕ, ◌+◌, ◌==◌, if◌then◌else◌, List, [], ◌∷◌, ◌++◌, Some, None, Option, Ok, Err, Result}
 use Rattle.std.specs.List.{filter, filter_map, fold}
 use Rattle.policy_types.specs.declared.command.Command.{Command}
-use Rattle.policy_types.specs.declared.command.Command.TheVariants.{Issue}
+use Rattle.policy_types.specs.declared.command.Command.TheVariants.{Issue, PaidUp, Upgrade}
 use Rattle.policy_types.specs.declared.policy.Policy.{Policy}
 use Rattle.policy_types.specs.declared.refusal.Refusal.{Refusal}
-use Rattle.policy_types.specs.Valid.{id_of}
+use Rattle.policy_types.specs.declared.refusal.Refusal.TheVariants.{NotUpgraded, Upgraded}
+use Rattle.policy_types.specs.Valid.{id_of, is_upgrade}
 use Rattle.policy_machine.specs.Rules.{next}
 
 -- the commands of a list that name a policy's number
@@ -30,11 +31,45 @@ issue_id _ = None
 abbrev pub book : List Command → List Policy
 book commands = filter_map (policy_of commands) (filter_map issue_id commands)
 
+-- the place of the first upgrade, where the first of the commands has this place; 0 where there is none
+abbrev pub upgrade_from : ℕ → List Command → ℕ
+upgrade_from place [] = 0
+upgrade_from place (command ∷ rest) = if is_upgrade command then place else upgrade_from (place + 1) rest
+
+-- the place of the first upgrade, counted from 1; 0 where there is none
+abbrev pub upgrade_of : List Command → ℕ
+upgrade_of commands = upgrade_from 1 commands
+
+-- the policy that an accepted command left, or the rule's refusal
+abbrev pub left_by : Result Policy Refusal → Result (Option Policy) Refusal
+left_by (Ok after) = Ok (Some after)
+left_by (Err refusal) = Err refusal
+
+-- What the rules make of a command, by the place of the upgrade before it, or 0, and by the policy that it names: the
+-- refusal that is due, or the policy that it leaves, and none where it is an upgrade. A second upgrade is refused with the
+-- place of the first, and before the first no policy is made paid up.
+abbrev pub judged : ℕ → Option Policy → Command → Result (Option Policy) Refusal
+judged upgrade policy Upgrade = if upgrade == 0 then Ok None else Err (Upgraded upgrade)
+judged upgrade policy (PaidUp id day amount) =
+    if upgrade == 0 then Err NotUpgraded else left_by (next policy (PaidUp id day amount))
+judged upgrade policy command = left_by (next policy command)
+
+-- what the rules make of a command after these commands
+abbrev pub judged_after : List Command → Command → Result (Option Policy) Refusal
+judged_after before command = judged (upgrade_of before) (policy_of before (id_of command)) command
+
+abbrev pub refusal_in : Result (Option Policy) Refusal → Option Refusal
+refusal_in (Err refusal) = Some refusal
+refusal_in (Ok after) = None
+
+-- why the rules refuse a command after these commands, if they do
+abbrev pub judge : List Command → Command → Option Refusal
+judge before command = refusal_in (judged_after before command)
+
 -- the rules accept each command of rest after the commands before it
 abbrev pub IsAcceptedAfter : List Command → List Command → Type 0
 IsAcceptedAfter before [] = Unit {0}
-IsAcceptedAfter before (command ∷ rest) =
-    IsOk (next (policy_of before (id_of command)) command) × IsAcceptedAfter (before ++ command ∷ []) rest
+IsAcceptedAfter before (command ∷ rest) = (judge before command ≡ None) × IsAcceptedAfter (before ++ command ∷ []) rest
 
 abbrev pub IsAccepted : List Command → Type 0
 IsAccepted commands = IsAcceptedAfter [] commands

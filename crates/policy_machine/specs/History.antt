@@ -1,9 +1,8 @@
 -- The histories of the office that are legal: every reply is the one due after the turns before it
-use Rattle.std.specs.Prelude.{◌≡◌, ℕ, ◌+◌, ◌-◌, ◌^◌, ◌<◌, ◌≤◌, min, Bool, true, not, ◌==◌, if◌then◌else◌, List, [], ◌∷◌, ◌++◌, length, take, drop, slice_get, Some, None, Option, Ok, Err, Result}
+use Rattle.std.specs.Prelude.{◌≡◌, ℕ, ◌+◌, ◌-◌, ◌^◌, ◌<◌, ◌≤◌, min, Bool, true, not, ◌==◌, if◌then◌else◌, List, [], ◌∷◌, ◌++◌, length, take, drop, slice_get, Some, None, Option}
 use Rattle.std.specs.List.{AllByRecursion, filter_map, list_any, last_or, range_with_len}
 use Rattle.std.specs.Option.{unwrap_or}
 use Rattle.policy_types.specs.declared.command.Command.{Command}
-use Rattle.policy_types.specs.declared.policy.Policy.{Policy}
 use Rattle.policy_types.specs.declared.refusal.Refusal.{Refusal}
 use Rattle.policy_types.specs.declared.refusal.Refusal.TheVariants.{Full}
 use Rattle.policy_types.specs.declared.entry.Call.{Call}
@@ -13,9 +12,8 @@ use Rattle.policy_types.specs.declared.entry.Reply.TheVariants.{Accepted, Refuse
 use Rattle.policy_types.specs.declared.entry.PinRefusal.TheVariants.{Ahead, Trimmed, PinsFull}
 use Rattle.policy_types.specs.declared.entry.Entry.{Entry}
 use Rattle.policy_types.specs.Limits.{most_commands}
-use Rattle.policy_types.specs.Valid.{IsValid, id_of}
-use Rattle.policy_machine.specs.Rules.{next}
-use Rattle.policy_machine.specs.Book.{policy_of, book, IsAccepted}
+use Rattle.policy_types.specs.Valid.{IsValid}
+use Rattle.policy_machine.specs.Book.{book, judge, IsAccepted}
 
 -- what an office was opened on: the commands of its journal, and the disk's count of faults then
 pub record Opening : Type 0 where
@@ -109,11 +107,11 @@ policies_per_read = 256
 
 -- why a command can't be posted after these, if there is a reason: a rule's refusal, or a full journal
 abbrev pub refusal_due : List Command → Command → Option Refusal
-refusal_due commands command = refusal_in (next (policy_of commands (id_of command)) command)
+refusal_due commands command = or_full (judge commands command)
   where
-    refusal_in : Result Policy Refusal → Option Refusal
-    refusal_in (Err refusal) = Some refusal
-    refusal_in (Ok policy) = if length commands == most_commands then Some Full else None
+    or_full : Option Refusal → Option Refusal
+    or_full (Some refusal) = Some refusal
+    or_full None = if length commands == most_commands then Some Full else None
 
 -- the reply is the one due to a caller's call after the turns before
 abbrev pub IsDue : Opening → List Entry → ℕ → Call → Reply → Type 0

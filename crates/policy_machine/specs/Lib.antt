@@ -3,5 +3,7 @@ pub mod Book
 pub mod Accounts
 pub mod History
 pub mod Merge
+pub mod PaidUp
+pub mod Before
 pub mod Worked
 pub mod inside

@@ -2,12 +2,12 @@
 use Rattle.std.specs.Prelude.{ℕ, ◌+◌, ◌-◌, ◌*◌, ◌<◌, ◌≤◌, ◌↔◌, Bool, true, not, ◌&&◌, ◌==◌, nat_lt, nat_le, int_lt, int_le, if◌then◌else◌, List, [], ◌∷◌, ℤ, pos, ◌+ℤ◌, ◌-ℤ◌, ◌≤ℤ◌, IsTrue, Some, None, Option, Ok, Err, Result}
 use Rattle.std.specs.List.{count_by, range_with_len}
 use Rattle.policy_types.specs.declared.command.Command.{Command}
-use Rattle.policy_types.specs.declared.command.Command.TheVariants.{Issue, Premium, Alter, Lapse, Reinstate, Claim, Settle, Mature}
+use Rattle.policy_types.specs.declared.command.Command.TheVariants.{Issue, Premium, Alter, Lapse, Reinstate, Claim, Settle, Mature, PaidUp as MakePaidUp, Upgrade}
 use Rattle.policy_types.specs.declared.command.Plan.{Plan}
 use Rattle.policy_types.specs.declared.command.Plan.TheVariants.{Term, Whole, Endowment, Limited}
 use Rattle.policy_types.specs.declared.policy.Policy.{Policy}
 use Rattle.policy_types.specs.declared.policy.Status.{Status}
-use Rattle.policy_types.specs.declared.policy.Status.TheVariants.{InForce, Lapsed, Claimed, Matured, Expired, Settled}
+use Rattle.policy_types.specs.declared.policy.Status.TheVariants.{InForce, Lapsed, Claimed, Matured, Expired, Settled, PaidUp}
 use Rattle.policy_types.specs.declared.refusal.Refusal.{Refusal}
 use Rattle.policy_types.specs.declared.refusal.Refusal.TheVariants.{Taken, Unknown, BeforeLast, WrongStatus, TermOver, NothingDue, TooEarly, GraceOver, NotInArrears, TooLate, WrongAmount, NotAReduction, NotMatured, OverSettled}
 use Rattle.policy_types.specs.Valid.{IsIssue, IsCommandDay}
@@ -37,9 +37,13 @@ payments_of p = payments_in p.plan p.age p.years
 abbrev pub end_of : Policy → ℤ
 end_of p = anniversary_of p.issued (years_of p)
 
--- a further premium falls due
+abbrev pub is_paid_up : Status → Bool
+is_paid_up PaidUp = true
+is_paid_up _ = not true
+
+-- a further premium falls due, which it does no more once the policy is paid up
 abbrev pub has_due : Policy → Bool
-has_due p = nat_lt p.paid (payments_of p)
+has_due p = not (is_paid_up p.status) && nat_lt p.paid (payments_of p)
 
 -- the day on which the next premium falls due, while one does
 abbrev pub due_of : Policy → ℤ
@@ -65,6 +69,12 @@ reinstatement_sum p day = premiums_missed p day * p.premium
 abbrev pub is_in_force : Status → Bool
 is_in_force InForce = true
 is_in_force _ = not true
+
+-- a death is covered
+abbrev pub is_insured : Status → Bool
+is_insured InForce = true
+is_insured PaidUp = true
+is_insured _ = not true
 
 abbrev pub is_lapsed : Status → Bool
 is_lapsed Lapsed = true
@@ -94,6 +104,9 @@ day_before_last p day = refuse (int_lt day p.last) (BeforeLast p.last)
 
 abbrev pub not_in_force : Policy → Check
 not_in_force p = refuse (not (is_in_force p.status)) (WrongStatus p.status)
+
+abbrev pub not_insured : Policy → Check
+not_insured p = refuse (not (is_insured p.status)) (WrongStatus p.status)
 
 abbrev pub term_over : Policy → ℤ → Check
 term_over p day = refuse (int_le (end_of p) day) (TermOver (end_of p))
@@ -125,14 +138,19 @@ checks_of p (Reinstate id day amount) =
     ∷ refuse (int_lt (reinstatement_end_of p) day) (TooLate (reinstatement_end_of p))
     ∷ refuse (not (amount == reinstatement_sum p day)) (WrongAmount (reinstatement_sum p day)) ∷ []
 checks_of p (Claim id day) =
-    day_before_last p day ∷ not_in_force p ∷ term_over p day ∷ grace_over p day ∷ []
+    day_before_last p day ∷ not_insured p ∷ term_over p day ∷ grace_over p day ∷ []
 checks_of p (Settle id day amount) =
     day_before_last p day
     ∷ refuse (not (awaits_settlement p.status)) (WrongStatus p.status)
     ∷ refuse (nat_lt p.outstanding amount) (OverSettled p.outstanding) ∷ []
 checks_of p (Mature id day) =
-    day_before_last p day ∷ not_in_force p ∷ grace_over p day
+    day_before_last p day ∷ not_insured p ∷ grace_over p day
     ∷ refuse (int_lt day (end_of p)) (NotMatured (end_of p)) ∷ []
+checks_of p (MakePaidUp id day amount) =
+    day_before_last p day ∷ not_in_force p ∷ term_over p day ∷ nothing_due p ∷ grace_over p day
+    ∷ refuse (nat_le p.amount amount) (NotAReduction p.amount) ∷ []
+-- an upgrade names no policy
+checks_of p Upgrade = refuse true Unknown ∷ []
 
 -- a policy at the end of its term, by its plan
 abbrev pub matured : Plan → Policy → Policy
@@ -151,6 +169,8 @@ changed p (Claim id day) = record p { last = day; status = Claimed; outstanding 
 changed p (Settle id day amount) =
     record p { last = day; outstanding = p.outstanding - amount; status = if amount == p.outstanding then Settled else p.status }
 changed p (Mature id day) = matured p.plan (record p { last = day })
+changed p (MakePaidUp id day amount) = record p { last = day; status = PaidUp; amount = amount }
+changed p Upgrade = p
 
 -- a policy as it is issued
 abbrev pub issued : ℕ → ℤ → Plan → ℕ → ℕ → ℕ → ℕ → Policy

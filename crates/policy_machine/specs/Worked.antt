@@ -6,6 +6,7 @@ pub mod Alterations
 pub mod Lapses
 pub mod Claims
 pub mod Maturities
+pub mod PaidUps
 pub mod Balances
 pub mod Soundness
 pub mod Postings

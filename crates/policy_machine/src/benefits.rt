@@ -3,7 +3,7 @@ ghost use Rattle.std.specs.Prelude.{◌≡◌, Some};
 ghost use Rattle.policy_types.specs.declared.command.Command.TheVariants.{Claim, Settle, Mature};
 ghost use Rattle.policy_machine.specs.Rules.{IsSound, next};
 
-use crate::checks::{in_force, not_before_last, within_grace, within_term};
+use crate::checks::{insured, not_before_last, within_grace, within_term};
 use crate::terms::end;
 use policy_types::{Plan, Policy, Refusal, Status};
 
@@ -12,7 +12,7 @@ pub fn claim(policy: Policy, day: i32) -> Result<Policy, Refusal>
     ensures { result ≡ next (Some policy) (Claim policy.id day) }
 {
     not_before_last(policy, day)?;
-    in_force(policy)?;
+    insured(policy)?;
     within_term(policy, day)?;
     within_grace(policy, day)?;
     Ok(Policy {
@@ -51,7 +51,7 @@ pub fn mature(policy: Policy, day: i32) -> Result<Policy, Refusal>
     ensures { result ≡ next (Some policy) (Mature policy.id day) }
 {
     not_before_last(policy, day)?;
-    in_force(policy)?;
+    insured(policy)?;
     within_grace(policy, day)?;
     let end = end(policy);
     if day < end {

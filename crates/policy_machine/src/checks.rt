@@ -1,8 +1,8 @@
 // The checks that several commands make.
-ghost use Rattle.policy_machine.specs.Rules.{IsSound, day_before_last, not_in_force, term_over, grace_over, nothing_due};
+ghost use Rattle.policy_machine.specs.Rules.{IsSound, day_before_last, not_in_force, not_insured, term_over, grace_over, nothing_due};
 ghost use Rattle.policy_machine.specs.inside.Passing.{IsAnswerOf};
 
-use crate::terms::{due, end, payments};
+use crate::terms::{due, end, has_due, payments};
 use policy_types::{Policy, Refusal, Status};
 
 pub const DAYS_OF_GRACE: i32 = 31;
@@ -20,6 +20,15 @@ pub fn in_force(policy: Policy) -> Result<(), Refusal>
     ensures { IsAnswerOf (not_in_force policy) result }
 {
     if policy.status != Status::InForce {
+        return Err(Refusal::WrongStatus(policy.status));
+    }
+    Ok(())
+}
+
+pub fn insured(policy: Policy) -> Result<(), Refusal>
+    ensures { IsAnswerOf (not_insured policy) result }
+{
+    if policy.status != Status::InForce && policy.status != Status::PaidUp {
         return Err(Refusal::WrongStatus(policy.status));
     }
     Ok(())
@@ -51,7 +60,7 @@ pub fn within_grace(policy: Policy, day: i32) -> Result<(), Refusal>
     ensures { IsAnswerOf (grace_over policy day) result }
 {
     let due = due(policy);
-    if policy.paid < payments(policy) && due + DAYS_OF_GRACE < day {
+    if has_due(policy) && due + DAYS_OF_GRACE < day {
         return Err(Refusal::GraceOver(due));
     }
     Ok(())

@@ -1,17 +1,19 @@
-ghost use Rattle.std.specs.Prelude.{◌≡◌, IfSome, IfOk};
+ghost use Rattle.std.specs.Prelude.{◌≡◌, false, IfSome, IfOk};
 ghost use Rattle.std.specs.Option.{option_copied};
-ghost use Rattle.policy_types.specs.Valid.{IsValid, id_of};
+ghost use Rattle.policy_types.specs.Valid.{IsValid, id_of, is_upgrade};
 ghost use Rattle.policy_machine.specs.Rules.{IsSound, next};
 
 use crate::benefits::{claim, mature, settle};
 use crate::contract::{alter, issue};
 use crate::premiums::{lapse, pay, reinstate};
+use crate::reduction::paid_up;
 use policy_types::{Command, Policy, Refusal};
 
 /// What a command makes of the policy of its number, or why it is refused: the first of its checks that applies. With
-/// no policy of the number all but an issue is `Unknown`.
+/// no policy of the number all but an issue is `Unknown`. An upgrade names no policy: see `judge`.
 pub fn decide(policy: Option<&Policy>, command: &Command) -> Result<Policy, Refusal>
     requires valid { IsValid command.now }
+    requires named { is_upgrade command.now ≡ false }
     requires own { IfSome (option_copied policy) (λ p. p.id ≡ id_of command.now) }
     requires sound { IfSome (option_copied policy) IsSound }
     ensures decided { result ≡ next (option_copied policy.entry) command.now }
@@ -60,5 +62,7 @@ fn change(policy: Policy, command: Command) -> Result<Policy, Refusal>
         Command::Claim { day, .. } => claim(policy, day),
         Command::Settle { day, amount, .. } => settle(policy, day, amount),
         Command::Mature { day, .. } => mature(policy, day),
+        Command::PaidUp { day, amount, .. } => paid_up(policy, day, amount),
+        Command::Upgrade => Err(Refusal::Unknown),
     }
 }

@@ -13,7 +13,7 @@ pub fn contracts_are_kept()
     ensures same { (before after : Policy) (command : Command) → next (Some before) command ≡ Ok after
         → IsSameContract before after }
     ensures last { (before : Option Policy) (after : Policy) (command : Command) → next before command ≡ Ok after
-        → after.last ≡ day_of command }
+        → day_of command ≡ Some after.last }
 {}
 
 /// Valid commands leave sound policies, and each under its own number.

@@ -6,12 +6,19 @@ mod benefits;
 mod checks;
 mod contract;
 mod decision;
+mod judging;
 mod laws;
 mod ledgers;
 mod premiums;
+mod reduction;
 mod terms;
+mod upgrading;
 pub mod worked;
 
 pub use decision::decide;
+pub use judging::{judge, upgrade_place};
 pub use laws::{books_are_sound, contracts_are_kept};
 pub use ledgers::{ledgers_add_up, ledgers_grow_by_a_booking, ledgers_stay_within};
+pub use upgrading::{
+    cover_never_rises, old_journals_mean_the_same, upgrades_change_nothing, upgrades_come_once,
+};

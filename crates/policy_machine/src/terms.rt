@@ -1,10 +1,10 @@
 // What the plan and the days of a policy decide.
 ghost use Rattle.std.specs.Prelude.{◌≡◌, ◌≤◌, ◌+◌, ◌≤ℤ◌};
 ghost use Rattle.life_dates.specs.Calendar.{IsTermDay};
-ghost use Rattle.policy_machine.specs.Rules.{IsSound, years_of, payments_of, end_of, due_of, premiums_missed, reinstatement_end_of};
+ghost use Rattle.policy_machine.specs.Rules.{IsSound, years_of, payments_of, end_of, has_due as is_due, due_of, premiums_missed, reinstatement_end_of};
 
 use life_dates::{anniversary, completed};
-use policy_types::{END_AGE, Plan, Policy};
+use policy_types::{END_AGE, Plan, Policy, Status};
 
 // The number of years of insurance.
 fn years(policy: Policy) -> u8
@@ -37,6 +37,14 @@ pub fn end(policy: Policy) -> i32
     ensures range { IsTermDay result }
 {
     anniversary(policy.issued, years(policy))
+}
+
+// Whether a further premium falls due.
+pub fn has_due(policy: Policy) -> bool
+    requires { IsSound policy }
+    ensures { result ≡ is_due policy }
+{
+    policy.status != Status::PaidUp && policy.paid < payments(policy)
 }
 
 // The day on which the next premium falls due, while one does.

@@ -8,6 +8,7 @@ pub mod issues;
 pub mod lapses;
 pub mod maturities;
 pub mod merges;
+pub mod paid_ups;
 pub mod pins;
 pub mod postings;
 pub mod premiums;

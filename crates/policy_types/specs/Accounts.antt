@@ -1,7 +1,7 @@
 -- What an accepted command books on the four accounts, in cents. Every booking adds up to 0
 use Rattle.std.specs.Prelude.{ℕ, ℤ, pos, ◌+ℤ◌, ◌-ℤ◌, ◌≤ℤ◌}
 use Rattle.policy_types.specs.declared.command.Command.{Command}
-use Rattle.policy_types.specs.declared.command.Command.TheVariants.{Issue, Premium, Alter, Lapse, Reinstate, Claim, Settle, Mature}
+use Rattle.policy_types.specs.declared.command.Command.TheVariants.{Issue, Premium, Alter, Lapse, Reinstate, Claim, Settle, Mature, PaidUp, Upgrade}
 use Rattle.policy_types.specs.declared.policy.Policy.{Policy}
 use Rattle.policy_types.specs.declared.policy.Status.{Status}
 use Rattle.policy_types.specs.declared.policy.Status.TheVariants.{Matured}
@@ -47,6 +47,8 @@ booking_of (Reinstate id day amount) after = premium_received amount
 booking_of (Claim id day) after = benefit_incurred after.amount
 booking_of (Settle id day amount) after = benefit_paid amount
 booking_of (Mature id day) after = booked_at_term after.status after.amount
+booking_of (PaidUp id day amount) after = nothing_booked
+booking_of Upgrade after = nothing_booked
 
 -- two bookings added up, account by account
 abbrev pub added : Booking → Booking → Booking

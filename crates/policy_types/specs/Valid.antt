@@ -1,11 +1,11 @@
 -- Which commands are valid: every field within the limits of the office
-use Rattle.std.specs.Prelude.{◌≡◌, ℕ, ◌≤◌, ◌+◌, pos, negsuc, ◌≤ℤ◌, ℤ}
+use Rattle.std.specs.Prelude.{◌≡◌, ℕ, ◌≤◌, ◌+◌, pos, negsuc, ◌≤ℤ◌, ℤ, Bool, true, false, Some, None, Option}
 use Rattle.policy_types.specs.declared.command.Command.{Command}
-use Rattle.policy_types.specs.declared.command.Command.TheVariants.{Issue, Premium, Alter, Lapse, Reinstate, Claim, Settle, Mature}
+use Rattle.policy_types.specs.declared.command.Command.TheVariants.{Issue, Premium, Alter, Lapse, Reinstate, Claim, Settle, Mature, PaidUp, Upgrade}
 use Rattle.policy_types.specs.declared.command.Plan.{Plan}
 use Rattle.policy_types.specs.declared.command.Plan.TheVariants.{Whole}
 
--- the number of the policy that a command names
+-- the number of the policy that a command names; an upgrade names none, and has 0, which is no policy's number
 abbrev pub id_of : Command → ℕ
 id_of (Issue id day plan age years amount premium) = id
 id_of (Premium id day amount) = id
@@ -15,17 +15,25 @@ id_of (Reinstate id day amount) = id
 id_of (Claim id day) = id
 id_of (Settle id day amount) = id
 id_of (Mature id day) = id
+id_of (PaidUp id day amount) = id
+id_of Upgrade = 0
 
--- the day on which a command takes effect
-abbrev pub day_of : Command → ℤ
-day_of (Issue id day plan age years amount premium) = day
-day_of (Premium id day amount) = day
-day_of (Alter id day amount premium) = day
-day_of (Lapse id day) = day
-day_of (Reinstate id day amount) = day
-day_of (Claim id day) = day
-day_of (Settle id day amount) = day
-day_of (Mature id day) = day
+abbrev pub is_upgrade : Command → Bool
+is_upgrade Upgrade = true
+is_upgrade _ = false
+
+-- the day on which a command takes effect; an upgrade has none
+abbrev pub day_of : Command → Option ℤ
+day_of (Issue id day plan age years amount premium) = Some day
+day_of (Premium id day amount) = Some day
+day_of (Alter id day amount premium) = Some day
+day_of (Lapse id day) = Some day
+day_of (Reinstate id day amount) = Some day
+day_of (Claim id day) = Some day
+day_of (Settle id day amount) = Some day
+day_of (Mature id day) = Some day
+day_of (PaidUp id day amount) = Some day
+day_of Upgrade = None
 
 -- a policy's number
 abbrev pub IsId : ℕ → Type 0
@@ -69,3 +77,5 @@ IsValid (Reinstate id day amount) = IsId id × IsCommandDay day × IsReinstateme
 IsValid (Claim id day) = IsId id × IsCommandDay day
 IsValid (Settle id day amount) = IsId id × IsCommandDay day × IsAmount amount
 IsValid (Mature id day) = IsId id × IsCommandDay day
+IsValid (PaidUp id day amount) = IsId id × IsCommandDay day × IsAmount amount
+IsValid Upgrade = Unit {0}

@@ -1,11 +1,11 @@
 -- The words of scripts, transcripts and statements
 use Rattle.std.specs.Prelude.{ℕ, List, codes}
 use Rattle.policy_types.specs.declared.command.Command.{Command}
-use Rattle.policy_types.specs.declared.command.Command.TheVariants.{Issue, Premium, Alter, Lapse, Reinstate, Claim, Settle, Mature}
+use Rattle.policy_types.specs.declared.command.Command.TheVariants.{Issue, Premium, Alter, Lapse, Reinstate, Claim, Settle, Mature, PaidUp, Upgrade}
 use Rattle.policy_types.specs.declared.command.Plan.{Plan}
 use Rattle.policy_types.specs.declared.command.Plan.TheVariants.{Term, Whole, Endowment, Limited}
 use Rattle.policy_types.specs.declared.policy.Status.{Status}
-use Rattle.policy_types.specs.declared.policy.Status.TheVariants.{InForce, Lapsed, Claimed, Matured, Expired, Settled}
+use Rattle.policy_types.specs.declared.policy.Status.TheVariants.{InForce, Lapsed, Claimed, Matured, Expired, Settled, PaidUp as PaidUpStatus}
 
 -- a command's kind
 abbrev pub kind_word : Command → List ℕ
@@ -17,6 +17,8 @@ kind_word (Reinstate id day amount) = codes "reinstate"
 kind_word (Claim id day) = codes "claim"
 kind_word (Settle id day amount) = codes "settle"
 kind_word (Mature id day) = codes "mature"
+kind_word (PaidUp id day amount) = codes "paidup"
+kind_word Upgrade = codes "upgrade"
 
 -- a plan's name
 abbrev pub plan_word : Plan → List ℕ
@@ -32,3 +34,4 @@ status_word Claimed = codes "claimed"
 status_word Matured = codes "matured"
 status_word Expired = codes "expired"
 status_word Settled = codes "settled"
+status_word PaidUpStatus = codes "paidup"

@@ -15,7 +15,7 @@ pub const MOST_CENTS: u64 = 10_000_000_000;
 pub const MOST_REINSTATEMENT_CENTS: u64 = 40_000_000_000;
 
 /// The four plans of insurance, all with level annual premiums.
-#[derive(Clone, Copy, PartialEq, Eq, Debug)]
+#[derive(Clone, Copy, PartialEq, Eq, Hash, Debug)]
 pub enum Plan {
     /// Pays a death within `years` years.
     Term,
@@ -80,10 +80,18 @@ pub enum Command {
         id: u32,
         day: i32,
     },
+    /// No more premiums are paid, for a lower amount of insurance.
+    PaidUp {
+        id: u32,
+        day: i32,
+        amount: u64,
+    },
+    /// From here on policies may be made paid up. It names no policy and has no day.
+    Upgrade,
 }
 
 impl Command {
-    ghost use Rattle.policy_types.specs.Valid.{IsValid, id_of, day_of};
+    ghost use Rattle.policy_types.specs.Valid.{IsValid, id_of, day_of, is_upgrade};
 
     /// Whether every field lies within the limits of the office.
     pub fn is_valid(&self) -> bool
@@ -126,10 +134,24 @@ impl Command {
                 names_policy(id, day) && is_payment(amount, MOST_CENTS)
             }
             Command::Mature { id, day } => names_policy(id, day),
+            Command::PaidUp { id, day, amount } => {
+                names_policy(id, day) && is_payment(amount, MOST_CENTS)
+            }
+            Command::Upgrade => true,
         }
     }
 
-    /// The number of the policy that the command names.
+    /// Whether the command is an upgrade, which names no policy.
+    pub fn is_upgrade(&self) -> bool
+        ensures { result ≡ is_upgrade self.now }
+    {
+        match *self {
+            Command::Upgrade => true,
+            _ => false,
+        }
+    }
+
+    /// The number of the policy that the command names; 0 of an upgrade, which names none.
     pub fn id(&self) -> u32
         ensures { result ≡ id_of self.now }
     {
@@ -142,22 +164,26 @@ impl Command {
             Command::Claim { id, .. } => id,
             Command::Settle { id, .. } => id,
             Command::Mature { id, .. } => id,
+            Command::PaidUp { id, .. } => id,
+            Command::Upgrade => 0,
         }
     }
 
-    /// The day on which it takes effect; of a claim, the day of death.
-    pub fn day(&self) -> i32
+    /// The day on which it takes effect; of a claim, the day of death. An upgrade has none.
+    pub fn day(&self) -> Option<i32>
         ensures { result ≡ day_of self.now }
     {
         match *self {
-            Command::Issue { day, .. } => day,
-            Command::Premium { day, .. } => day,
-            Command::Alter { day, .. } => day,
-            Command::Lapse { day, .. } => day,
-            Command::Reinstate { day, .. } => day,
-            Command::Claim { day, .. } => day,
-            Command::Settle { day, .. } => day,
-            Command::Mature { day, .. } => day,
+            Command::Issue { day, .. } => Some(day),
+            Command::Premium { day, .. } => Some(day),
+            Command::Alter { day, .. } => Some(day),
+            Command::Lapse { day, .. } => Some(day),
+            Command::Reinstate { day, .. } => Some(day),
+            Command::Claim { day, .. } => Some(day),
+            Command::Settle { day, .. } => Some(day),
+            Command::Mature { day, .. } => Some(day),
+            Command::PaidUp { day, .. } => Some(day),
+            Command::Upgrade => None,
         }
     }
 }

@@ -9,6 +9,8 @@ pub enum Status {
     Matured,
     Expired,
     Settled,
+    /// In force for a lower amount, and no more premiums fall due.
+    PaidUp,
 }
 
 /// A policy as the accepted commands left it.

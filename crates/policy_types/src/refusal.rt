@@ -33,4 +33,8 @@ pub enum Refusal {
     OverSettled(u64),
     /// The journal holds as many commands as it may.
     Full,
+    /// The journal isn't upgraded yet.
+    NotUpgraded,
+    /// The journal was upgraded by the command of this number.
+    Upgraded(u32),
 }

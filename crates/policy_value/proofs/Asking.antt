@@ -1,10 +1,9 @@
 -- The keys of a cache after one of them was asked for.
-use Rattle.std.proofs.Common.{rules, true≢false, subst, ◌≡◌, ℕ, ◌-◌, Bool, true, false, List, [], ◌∷◌, map, take, Contains, Result, Ok, Err, OnOk, OnErr, Option, Some, None, is_some, refl, sym, ap, ◌∙◌, inl, inr}
+use Rattle.std.proofs.Common.{rules, true≢false, subst, ◌≡◌, ℕ, ◌-◌, Bool, true, false, List, [], ◌∷◌, Contains, Result, Ok, Err, OnOk, OnErr, Option, Some, None, is_some, refl, sym, ap, ◌∙◌, inl, inr}
 use Rattle.std.proofs.lemmas.List.{take-map}
 use Rattle.std.specs.Cmp.Rules.{comparing, hashing}
 use Rattle.std.specs.Map.{keys_of, lookup, lookup_entry, remove_entry}
 use Rattle.std.specs.Set.{remove_key}
-use Rattle.std.specs.Option.{option_map_or}
 use Rattle.lru.specs.LruCache.{LruCache, lru_cache, promoted, put_entries}
 use Rattle.lru.proofs.Splits.{Contains-nil, Contains-cons, Contains-head, Contains-tail}
 use Rattle.policy_value.specs.Caches.{HasAsked}

@@ -1,6 +1,7 @@
 -- What a row does to the cache that it is handed.
 use Rattle.std.specs.Prelude.{◌≡◌, ℕ, List, All, ℤ, ◌<ℤ◌, Result, Ok, Err}
 use Rattle.policy_types.specs.declared.policy.Policy.{Policy}
+use Rattle.policy_types.specs.declared.policy.Status.TheVariants.{PaidUp}
 use Rattle.rate_table.specs.declared.shape.Shape.{Shape}
 use Rattle.plan_benefits.specs.Shapes.{shape_of}
 use Rattle.plan_benefits.specs.declared.fault.NotValued.{NotValued}
@@ -14,9 +15,14 @@ use Rattle.policy_value.specs.Caches.{HasAsked, kept_keys}
 abbrev pub key_of : Policy → ℕ → CacheKey
 key_of policy place = record { basis_row = place; plan = policy.plan; age = policy.age; years = policy.years }
 
--- by a table: a policy with a shape is asked for by its key, and one without leaves the cache as it is
+-- a policy in force is asked for by its key; a paid-up one has no premium, and leaves the keys as they are
+pub record AsksByStatus (policy : Policy) (place : ℕ) (old new : ColumnCache) : Type 0 where
+  pub paid_up : policy.status ≡ PaidUp → kept_keys new ≡ kept_keys old
+  pub other : (policy.status ≡ PaidUp → ⊥) → HasAsked (key_of policy place) old.premiums.cap (kept_keys old) (kept_keys new)
+
+-- by a table: a policy without a shape leaves the cache as it is
 abbrev pub AsksByShape : Policy → ℕ → Result Shape NotValued → ColumnCache → ColumnCache → Type 0
-AsksByShape policy place (Ok shape) old new = HasAsked (key_of policy place) old.premiums.cap (kept_keys old) (kept_keys new)
+AsksByShape policy place (Ok shape) old new = AsksByStatus policy place old new
 AsksByShape policy place (Err word) old new = new ≡ old
 
 -- of an insured policy: by the last entry of the basis that had begun on its day of issue

@@ -3,7 +3,7 @@ ghost use Rattle.rate_table.specs.Rates.{AreRates};
 ghost use Rattle.plan_benefits.specs.Shapes.{shape_of};
 ghost use Rattle.present_value.specs.Sums.{cover_of};
 ghost use Rattle.present_value.specs.Premium.{cap_of, cap_shape};
-ghost use Rattle.crvm_reserve.specs.Made.{CanReserve, IsMadeFor, premium_of};
+ghost use Rattle.crvm_reserve.specs.Made.{CanReserve, IsMadeFor, IsPaidUpFor, premium_of};
 ghost use Rattle.basis_book.specs.Dated.{Dated};
 ghost use Rattle.policy_value.specs.Caches.{HasAsked, IsMissing, IsRightFor, IsRightPremium, IsRightStore, IsRowOf, kept_keys};
 
@@ -84,6 +84,28 @@ impl ColumnCache {
             .columns
             .values(basis, key.basis_row, table, bp, shape, t);
         (values, premium)
+    }
+
+    /// The values of a shape at year `t`, by a row of the basis.
+    pub fn valued(
+        &mut self,
+        basis: &Basis,
+        basis_row: u16,
+        table: &RateTable,
+        bp: u16,
+        shape: &Shape,
+        t: u8,
+    ) -> Values
+        requires right { IsRightFor basis.now self.old }
+        requires row { IsRowOf basis.now basis_row table.now bp }
+        requires can { CanReserve table.now shape.now bp }
+        requires year { t ≤ shape.now.n }
+        ensures made { IsPaidUpFor (cover_of table.now shape.now bp) t result }
+        ensures right { IsRightFor basis.now self.new }
+        ensures keys { kept_keys self.new ≡ kept_keys self.old }
+    {
+        let _ = shape_of_cap(table, shape.age);
+        self.columns.values(basis, basis_row, table, bp, shape, t)
     }
 
     /// The premium of a key, which is the last used from now on.

@@ -1,22 +1,24 @@
 -- The keys that were set by a position, and their values there
-use Rattle.std.proofs.Common.{◌≡◌, ℕ, zero, suc, ◌<◌, ◌≤◌, Bool, true, false, ◌||◌, nat_eq, List, [], ◌∷◌, ◌++◌, length, take, slice_get, get_or, Some, None, Option, is_some, Ok, refl, sym, ap, ◌∙◌, subst, if◌then◌else◌, ◌⊎◌, inl, inr, append-nil, filter_map, arith}
+use Rattle.std.proofs.Common.{◌≡◌, ℕ, zero, suc, ◌<◌, ◌≤◌, Bool, true, false, ◌||◌, nat_eq, List, [], ◌∷◌, ◌++◌, length, take, slice_get, get_or, Some, None, Option, is_some, Ok, Err, refl, sym, ap, ◌∙◌, subst, if◌then◌else◌, ◌⊎◌, inl, inr, append-nil, filter_map, arith}
 use Rattle.std.specs.List.{cons_option, list_any}
 use Rattle.std.proofs.lemmas.Bool.{cases_lt, eq-eqb, eqb-true}
 use Rattle.std.proofs.lemmas.List.{length_push, take-append-le, take_all}
 use Rattle.std.proofs.lemmas.List.Elements.{filter_map-append}
 use Rattle.std.proofs.lemmas.Option.{slice_get-get_or}
 use Rattle.policy_types.specs.declared.command.Command.{Command}
-use Rattle.policy_types.specs.declared.command.Command.TheVariants.{Issue, Premium, Alter, Lapse, Reinstate, Claim, Settle, Mature}
+use Rattle.policy_types.specs.declared.command.Command.TheVariants.{Upgrade}
 use Rattle.policy_types.specs.declared.policy.Policy.{Policy}
+use Rattle.policy_types.specs.declared.refusal.Refusal.TheVariants.{Taken}
 use Rattle.policy_types.specs.Valid.{id_of}
 use Rattle.policy_machine.specs.Rules.{next}
 use Rattle.policy_machine.specs.Book.{issue_id, policy_of, IsAccepted}
+use Rattle.policy_machine.proofs.AcceptedLemmas.{IsIssueHere, NeedsPolicy, issue_or_other}
 use Rattle.versioned_book.specs.Versions.{newest_of, or_else, value_at}
 use Rattle.versioned_book.specs.Settings.{Setting, keys_after, keys_of, own, until, with_key}
 use Rattle.versioned_book.proofs.SettingSteps.{keys_of-new, keys_of-old, until_all, until_past}
 use Rattle.policy_versions.specs.Commands.{sets_of}
 use Rattle.policy_versions.specs.Places.{BookAtLaw, IndexLaw, KeyCountLaw, KeysLaw, UntilLaw}
-use Rattle.policy_versions.proofs.SetSteps.{by_accepted, by_each, setting_to, sets_of-accepted, sets_of-refused, sets_of-rise}
+use Rattle.policy_versions.proofs.SetSteps.{by_accepted, by_each, setting_to, sets_of-accepted, sets_of-refused, sets_of-rise, sets_of-upgrade}
 use Rattle.policy_versions.proofs.PolicyValues.{newest_of-sets_of, value_at-sets_of}
 use Rattle.policy_versions.proofs.Fronts.{accepted-take, book_get, issued_front, length-book}
 
@@ -109,22 +111,14 @@ key_known commands id = any-after id [] (sets_of commands) ∙ ap is_some (newes
 -- a policy's first accepted command issues it, and no later one does
 issued_by : (found : Option Policy) (command : Command) (policy : Policy) → next found command ≡ Ok policy
     → issue_id command ≡ (if is_some found then None else Some (id_of command))
-issued_by None (Issue id day plan age years amount premium) policy e = refl
-issued_by None (Premium id day amount) policy e = grind arith
-issued_by None (Alter id day amount premium) policy e = grind arith
-issued_by None (Lapse id day) policy e = grind arith
-issued_by None (Reinstate id day amount) policy e = grind arith
-issued_by None (Claim id day) policy e = grind arith
-issued_by None (Settle id day amount) policy e = grind arith
-issued_by None (Mature id day) policy e = grind arith
-issued_by (Some p) (Issue id day plan age years amount premium) policy e = grind arith
-issued_by (Some p) (Premium id day amount) policy e = refl
-issued_by (Some p) (Alter id day amount premium) policy e = refl
-issued_by (Some p) (Lapse id day) policy e = refl
-issued_by (Some p) (Reinstate id day amount) policy e = refl
-issued_by (Some p) (Claim id day) policy e = refl
-issued_by (Some p) (Settle id day amount) policy e = refl
-issued_by (Some p) (Mature id day) policy e = refl
+issued_by found command policy e = by_kind found e (issue_or_other command)
+  where
+    by_kind : (found : Option Policy) → next found command ≡ Ok policy → IsIssueHere command ⊎ NeedsPolicy command
+        → issue_id command ≡ (if is_some found then None else Some (id_of command))
+    by_kind None made (inl c) = ap issue_id c.is ∙ ap Some (sym (ap id_of c.is))
+    by_kind None made (inr other) = let refused = other.refused in absurd (cc)
+    by_kind (Some p) made (inl c) = let refused : next (Some p) command ≡ Err Taken = ap (next (Some p)) c.is in absurd (cc)
+    by_kind (Some p) made (inr other) = other.none
 
 pub keys_of-sets_of : (commands : List Command) → IsAccepted commands → keys_of (sets_of commands) ≡ filter_map issue_id commands
 keys_of-sets_of = by_accepted (λ commands. keys_of (sets_of commands) ≡ filter_map issue_id commands) refl
@@ -132,6 +126,9 @@ keys_of-sets_of = by_accepted (λ commands. keys_of (sets_of commands) ≡ filte
     ap keys_of (sets_of-accepted commands command policy e)
     ∙ more commands command policy e here (is_some (policy_of commands (id_of command))) refl
     ∙ sym (filter_map-append issue_id commands (command ∷ []) ∙ ap (λ o. filter_map issue_id commands ++ cons_option o []) (issued_by (policy_of commands (id_of command)) command policy e)))
+    (λ commands accepted here.
+    ap keys_of (sets_of-upgrade commands) ∙ here
+    ∙ sym (filter_map-append issue_id commands (Upgrade ∷ []) ∙ append-nil (filter_map issue_id commands)))
   where
     more : (commands : List Command) (command : Command) (policy : Policy) → next (policy_of commands (id_of command)) command ≡ Ok policy
         → keys_of (sets_of commands) ≡ filter_map issue_id commands → (b : Bool) → is_some (policy_of commands (id_of command)) ≡ b

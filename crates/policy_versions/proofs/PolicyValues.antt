@@ -4,9 +4,10 @@ use Rattle.std.proofs.lemmas.Bool.{cases_lt, eq-eqb, eqb-true}
 use Rattle.std.proofs.lemmas.List.{length_push, take-append-le, take_all}
 use Rattle.std.proofs.lemmas.Option.{slice_get_within}
 use Rattle.policy_types.specs.declared.command.Command.{Command}
+use Rattle.policy_types.specs.declared.command.Command.TheVariants.{Upgrade}
 use Rattle.policy_types.specs.declared.policy.Policy.{Policy}
 use Rattle.policy_types.specs.declared.refusal.Refusal.{Refusal}
-use Rattle.policy_types.specs.Valid.{id_of}
+use Rattle.policy_types.specs.Valid.{id_of, is_upgrade}
 use Rattle.policy_machine.specs.Rules.{next}
 use Rattle.policy_machine.specs.Book.{kept, policy_of, IsAccepted}
 use Rattle.policy_machine.proofs.BookLemmas.{policy_of-push_own, policy_of-push_other}
@@ -16,7 +17,7 @@ use Rattle.versioned_book.proofs.SettingSteps.{own-other, own-push}
 use Rattle.versioned_book.proofs.VersionSteps.{newest_of-push, value_at-past, value_at-within}
 use Rattle.policy_versions.specs.Commands.{sets_of}
 use Rattle.policy_versions.specs.Policies.{EachSetLaw, IsSetBy, NewestPolicyLaw, PolicyAtLaw}
-use Rattle.policy_versions.proofs.SetSteps.{by_accepted, by_each, length-sets_of, setting_to, sets_of-accepted, sets_of-refused}
+use Rattle.policy_versions.proofs.SetSteps.{by_accepted, by_each, setting_to, sets_of-accepted, sets_of-refused, sets_of-upgrade}
 
 -- a setting behind a position changes no value there
 value_past : (p key : ℕ) (sets : List (Setting Policy)) (s : Setting Policy) → p < s.position → value_at p (own key (sets ++ s ∷ [])) ≡ value_at p (own key sets)
@@ -130,30 +131,47 @@ get_end [] y = refl
 get_end (x ∷ xs) y = get_end xs y
 
 pub each_set : EachSetLaw
-each_set commands place command accepted at =
-    by_accepted (λ commands. (place : ℕ) (command : Command) → slice_get commands place ≡ Some command → IsSetBy commands place command)
-    (λ place command at. grind arith)
-    (λ before last policy ok e here place command at. one_more before last policy ok e here place command (get_last before last command place at))
-    commands accepted place command at
+each_set commands place command accepted other at =
+    by_accepted (λ commands. (place : ℕ) (command : Command) → is_upgrade command ≡ false → slice_get commands place ≡ Some command → IsSetBy commands place command)
+    (λ place command other at. grind arith)
+    (λ before last policy ok e here place command other at. one_more before last policy e here place command other (get_last before last command place at))
+    (λ before ok here place command other at. upgraded before here place command other (get_last before Upgrade command place at))
+    commands accepted place command other at
   where
-    one_more : (before : List Command) (last : Command) (policy : Policy) → IsAccepted before → next (policy_of before (id_of last)) last ≡ Ok policy
-        → ((place : ℕ) (command : Command) → slice_get before place ≡ Some command → IsSetBy before place command)
-        → (place : ℕ) (command : Command) → (slice_get before place ≡ Some command) ⊎ ((place ≡ length before) × (last ≡ command))
+    upgraded : (before : List Command)
+        → ((place : ℕ) (command : Command) → is_upgrade command ≡ false → slice_get before place ≡ Some command → IsSetBy before place command)
+        → (place : ℕ) (command : Command) → is_upgrade command ≡ false → (slice_get before place ≡ Some command) ⊎ ((place ≡ length before) × (Upgrade ≡ command))
+        → IsSetBy (before ++ Upgrade ∷ []) place command
+    upgraded before here place command other (inl old) =
+        let was = here place command other old in
+        record {
+          policy = was.policy;
+          after = ap (λ c. policy_of c (id_of command)) (take-append-le (place + 1) before (Upgrade ∷ []) (omega (arith, slice_get_within before place command old))) ∙ was.after;
+          at = was.at;
+          set = ap (λ sets. slice_get sets was.at) (sets_of-upgrade before) ∙ was.set;
+        }
+    upgraded before here place command other (inr new) =
+        let is : is_upgrade command ≡ true = ap is_upgrade (sym new.1) in absurd (cc)
+
+    one_more : (before : List Command) (last : Command) (policy : Policy) → next (policy_of before (id_of last)) last ≡ Ok policy
+        → ((place : ℕ) (command : Command) → is_upgrade command ≡ false → slice_get before place ≡ Some command → IsSetBy before place command)
+        → (place : ℕ) (command : Command) → is_upgrade command ≡ false → (slice_get before place ≡ Some command) ⊎ ((place ≡ length before) × (last ≡ command))
         → IsSetBy (before ++ last ∷ []) place command
-    one_more before last policy ok e here place command (inl old) =
-        let was = here place command old in
+    one_more before last policy e here place command other (inl old) =
+        let was = here place command other old in
         record {
           policy = was.policy;
           after = ap (λ c. policy_of c (id_of command)) (take-append-le (place + 1) before (last ∷ []) (omega (arith, slice_get_within before place command old))) ∙ was.after;
-          set = ap (λ sets. slice_get sets place) (sets_of-accepted before last policy e) ∙ get_still (sets_of before) (setting_to before last policy) _ place was.set;
+          at = was.at;
+          set = ap (λ sets. slice_get sets was.at) (sets_of-accepted before last policy e) ∙ get_still (sets_of before) (setting_to before last policy) _ was.at was.set;
         }
-    one_more before last policy ok e here place command (inr new) =
+    one_more before last policy e here place command other (inr new) =
         subst (λ c. IsSetBy (before ++ last ∷ []) place c) new.1 (record {
           policy = policy;
           after = ap (λ c. policy_of c (id_of last)) (take_all (place + 1) (before ++ last ∷ []) (omega (arith, new.0, length_push before last))) ∙ policy_now before last policy e;
+          at = length (sets_of before);
           set =
-              ap (λ sets. slice_get sets place) (sets_of-accepted before last policy e)
-              ∙ (ap (slice_get (sets_of before ++ setting_to before last policy ∷ [])) (new.0 ∙ sym (length-sets_of before ok))
-              ∙ get_end (sets_of before) (setting_to before last policy))
+              ap (λ sets. slice_get sets (length (sets_of before))) (sets_of-accepted before last policy e)
+              ∙ get_end (sets_of before) (setting_to before last policy)
               ∙ ap (λ n. Some (record { key = id_of last; position = n + 1; value = policy })) (sym new.0);
         })

@@ -1,19 +1,22 @@
 -- One more command, and the settings
-use Rattle.std.proofs.Common.{◌≡◌, ℕ, ◌+◌, ◌-◌, ◌<◌, ◌≤◌, Bool, true, false, cond, nat_lt, List, [], ◌∷◌, ◌++◌, length, Some, None, Option, Ok, Err, Result, IsOk, refl, sym, ap, ◌∙◌, subst, append_assoc, append-nil, arith}
-use Rattle.std.specs.List.{cons_option}
-use Rattle.std.proofs.lemmas.List.{length_push}
+use Rattle.std.proofs.Common.{◌≡◌, ℕ, ◌+◌, ◌-◌, ◌<◌, ◌≤◌, Bool, true, false, cond, nat_lt, List, [], ◌∷◌, ◌++◌, length, Some, None, Option, Ok, Err, Result, ◌⊎◌, inl, inr, refl, sym, ap, ◌∙◌, subst, append_assoc, append-nil, arith}
+use Rattle.std.specs.List.{cons_option, filter}
+use Rattle.std.proofs.lemmas.List.{length-append, length_push}
 use Rattle.std.proofs.lemmas.List.Elements.{filter-append}
 use Rattle.policy_types.specs.declared.command.Command.{Command}
+use Rattle.policy_types.specs.declared.command.Command.TheVariants.{Upgrade}
 use Rattle.policy_types.specs.declared.policy.Policy.{Policy}
 use Rattle.policy_types.specs.declared.refusal.Refusal.{Refusal}
-use Rattle.policy_types.specs.Valid.{id_of}
+use Rattle.policy_types.specs.declared.refusal.Refusal.TheVariants.{Unknown}
+use Rattle.policy_types.specs.Valid.{id_of, is_upgrade}
 use Rattle.policy_machine.specs.Rules.{next}
-use Rattle.policy_machine.specs.Book.{policy_of, IsAccepted, IsAcceptedAfter}
+use Rattle.policy_machine.specs.Book.{policy_of, judge, IsAccepted, IsAcceptedAfter}
+use Rattle.policy_machine.proofs.JudgeLemmas.{accepted_next, next-no_upgrade, next-upgrade}
 use Rattle.versioned_book.specs.Versions.{IsRisingTo}
 use Rattle.versioned_book.specs.Settings.{Setting, positions, settings_after}
 use Rattle.versioned_book.proofs.SettingSteps.{positions_rise, rising-longer}
 use Rattle.policy_versions.specs.Commands.{setting_by, setting_of, sets_after, sets_of}
-use Rattle.policy_versions.specs.Steps.{AcceptedSetLaw, RefusedSetLaw, RisingLaw, SetCountLaw, SetsAfterLaw}
+use Rattle.policy_versions.specs.Steps.{AcceptedSetLaw, RefusedSetLaw, RisingLaw, SetCountLaw, SetsAfterLaw, UpgradeSetLaw}
 
 cons_option-append : {X : Type 0} (o : Option X) (xs ys : List X) → cons_option o (xs ++ ys) ≡ cons_option o xs ++ ys
 cons_option-append None xs ys = refl
@@ -63,27 +66,37 @@ by_each P none accepted refused commands = grown P more [] commands none
         by (Ok policy) e = accepted commands command policy e here
         by (Err refusal) e = refused commands command refusal e here
 
+-- an upgrade sets nothing
+pub sets_of-upgrade : UpgradeSetLaw
+sets_of-upgrade commands = sets_of-refused commands Upgrade Unknown (next-upgrade (policy_of commands 0))
+
 accepted_behind : (before rest : List Command) (command : Command) → IsAcceptedAfter before (rest ++ command ∷ [])
-    → IsAcceptedAfter before rest × IsOk (next (policy_of (before ++ rest) (id_of command)) command)
+    → IsAcceptedAfter before rest × (judge (before ++ rest) command ≡ None)
 accepted_behind before [] command accepted =
-    (tt, subst (λ commands. IsOk (next (policy_of commands (id_of command)) command)) (sym (append-nil before)) accepted.0)
+    (tt, subst (λ commands. judge commands command ≡ None) (sym (append-nil before)) accepted.0)
 accepted_behind before (first ∷ rest) command accepted =
     let behind = accepted_behind (before ++ first ∷ []) rest command accepted.1 in (
       (accepted.0, behind.0),
-      subst (λ commands. IsOk (next (policy_of commands (id_of command)) command)) (append_assoc before (first ∷ []) rest) behind.1,
+      subst (λ commands. judge commands command ≡ None) (append_assoc before (first ∷ []) rest) behind.1,
     )
 
-not_both : (decision : Result Policy Refusal) (refusal : Refusal) → IsOk decision → decision ≡ Err refusal → ⊥
-not_both (Ok policy) refusal ok e = grind arith
-not_both (Err other) refusal ok e = grind arith
-
--- the same over accepted lists, where each command is accepted
+-- the same over accepted lists, where each command makes a policy or is an upgrade
 pub by_accepted : (P : List Command → Type 0) → P []
     → ((commands : List Command) (command : Command) (policy : Policy) → IsAccepted commands → next (policy_of commands (id_of command)) command ≡ Ok policy → P commands → P (commands ++ command ∷ []))
+    → ((commands : List Command) → IsAccepted commands → P commands → P (commands ++ Upgrade ∷ []))
     → (commands : List Command) → IsAccepted commands → P commands
-by_accepted P none more = by_each (λ commands. IsAccepted commands → P commands) (λ accepted. none)
+by_accepted P none more upgraded = by_each (λ commands. IsAccepted commands → P commands) (λ accepted. none)
     (λ commands command policy e here accepted. let behind = accepted_behind [] commands command accepted in more commands command policy behind.0 e (here behind.0))
-    (λ commands command refusal e here accepted. absurd (not_both (next (policy_of commands (id_of command)) command) refusal (accepted_behind [] commands command accepted).1 e))
+    (λ commands command refusal e here accepted.
+    let behind = accepted_behind [] commands command accepted in
+    by_kind commands command refusal e behind.0 (here behind.0) (accepted_next commands command behind.1))
+  where
+    by_kind : (commands : List Command) (command : Command) (refusal : Refusal) → next (policy_of commands (id_of command)) command ≡ Err refusal
+        → IsAccepted commands → P commands
+        → (command ≡ Upgrade) ⊎ ((policy : Policy) × (next (policy_of commands (id_of command)) command ≡ Ok policy)) → P (commands ++ command ∷ [])
+    by_kind commands command refusal e accepted here (inl upgrade) =
+        subst (λ this. P (commands ++ this ∷ [])) (sym upgrade) (upgraded commands accepted here)
+    by_kind commands command refusal e accepted here (inr made) = let is_made = made.1 in absurd (cc)
 
 pub sets_of-rise : RisingLaw
 sets_of-rise = by_each (λ commands. IsRisingTo 0 (positions (sets_of commands)) (length commands)) (omega arith)
@@ -96,10 +109,15 @@ sets_of-rise = by_each (λ commands. IsRisingTo 0 (positions (sets_of commands))
     (rising-longer 0 (positions (sets_of commands)) (length commands) (length (commands ++ command ∷ [])) here (omega (arith, length_push commands command))))
 
 pub length-sets_of : SetCountLaw
-length-sets_of = by_accepted (λ commands. length (sets_of commands) ≡ length commands) refl
+length-sets_of = by_accepted (λ commands. length (sets_of commands) + length (filter is_upgrade commands) ≡ length commands) refl
     (λ commands command policy accepted e here.
-    ap length (sets_of-accepted commands command policy e) ∙ length_push (sets_of commands) (setting_to commands command policy)
-    ∙ ap (λ n. n + 1) here ∙ sym (length_push commands command))
+    let more = ap length (sets_of-accepted commands command policy e) in
+    let upgrades = ap length (filter-append is_upgrade commands (command ∷ []) ∙ ap (λ b. filter is_upgrade commands ++ cond b (command ∷ []) []) (next-no_upgrade (policy_of commands (id_of command)) command policy e)) in
+    omega (arith, here, more, upgrades, length_push (sets_of commands) (setting_to commands command policy), length_push commands command, length-append (filter is_upgrade commands) []))
+    (λ commands accepted here.
+    let same = ap length (sets_of-upgrade commands) in
+    let upgrades = ap length (filter-append is_upgrade commands (Upgrade ∷ [])) in
+    omega (arith, here, same, upgrades, length_push commands Upgrade, length_push (filter is_upgrade commands) Upgrade))
 
 after_push : (floor : ℕ) (sets : List (Setting Policy)) (s : Setting Policy) → length (settings_after floor (sets ++ s ∷ [])) ≤ length (settings_after floor sets) + 1
 after_push floor sets s = by (nat_lt floor s.position) refl

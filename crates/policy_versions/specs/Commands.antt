@@ -1,4 +1,4 @@
--- The settings that a list of commands makes: each command that the rules accept gives its policy a new version
+-- The settings that a list of commands makes: each command of which the rules make a policy gives it a new version
 use Rattle.std.specs.Prelude.{ℕ, ◌+◌, List, [], ◌∷◌, ◌++◌, length, Some, None, Option, Ok, Err, Result}
 use Rattle.std.specs.List.{cons_option}
 use Rattle.policy_types.specs.declared.command.Command.{Command}

@@ -1,9 +1,11 @@
 -- What one more command sets, and how many settings there are
 use Rattle.std.specs.Prelude.{◌≡◌, ℕ, ◌+◌, ◌-◌, ◌≤◌, List, [], ◌∷◌, ◌++◌, length, Ok, Err}
+use Rattle.std.specs.List.{filter}
 use Rattle.policy_types.specs.declared.command.Command.{Command}
+use Rattle.policy_types.specs.declared.command.Command.TheVariants.{Upgrade}
 use Rattle.policy_types.specs.declared.policy.Policy.{Policy}
 use Rattle.policy_types.specs.declared.refusal.Refusal.{Refusal}
-use Rattle.policy_types.specs.Valid.{id_of}
+use Rattle.policy_types.specs.Valid.{id_of, is_upgrade}
 use Rattle.policy_machine.specs.Rules.{next}
 use Rattle.policy_machine.specs.Book.{policy_of, IsAccepted}
 use Rattle.versioned_book.specs.Versions.{IsRisingTo}
@@ -27,9 +29,14 @@ RefusedSetLaw = (commands : List Command) (command : Command) (refusal : Refusal
 abbrev pub RisingLaw : Type 0
 RisingLaw = (commands : List Command) → IsRisingTo 0 (positions (sets_of commands)) (length commands)
 
--- accepted commands make one setting each
+-- accepted commands make one setting each, but for an upgrade, which makes none
 abbrev pub SetCountLaw : Type 0
-SetCountLaw = (commands : List Command) → IsAccepted commands → length (sets_of commands) ≡ length commands
+SetCountLaw = (commands : List Command) → IsAccepted commands
+    → length (sets_of commands) + length (filter is_upgrade commands) ≡ length commands
+
+-- an upgrade sets nothing
+abbrev pub UpgradeSetLaw : Type 0
+UpgradeSetLaw = (commands : List Command) → sets_of (commands ++ Upgrade ∷ []) ≡ sets_of commands
 
 -- there are no more settings after a floor than commands
 abbrev pub SetsAfterLaw : Type 0

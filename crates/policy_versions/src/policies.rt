@@ -6,7 +6,7 @@ pub fn policy_law()
     ensures newest { NewestPolicyLaw }
 {}
 
-/// Each of accepted commands sets its policy once: at its own place, to what the policy then is.
+/// Each of accepted commands but an upgrade sets its policy once: at its own place, to what the policy then is.
 pub fn each_set_law()
     ensures { EachSetLaw }
 {}

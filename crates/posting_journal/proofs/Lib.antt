@@ -5,4 +5,5 @@ pub mod Parts
 pub mod Staging
 pub mod Unique
 pub mod Written
+pub mod Either
 pub mod WorkedFiles

@@ -6,3 +6,4 @@ pub mod ReadOnlySteps
 pub mod BasisSteps
 pub mod BlockSteps
 pub mod StatusSteps
+pub mod WorkedEndings

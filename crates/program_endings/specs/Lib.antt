@@ -5,3 +5,4 @@ pub mod Refusals
 pub mod WithoutBasis
 pub mod Texts
 pub mod Blocks
+pub mod Worked

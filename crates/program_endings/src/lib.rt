@@ -6,8 +6,10 @@ mod ending;
 mod finished;
 mod refusing;
 mod saying;
+mod worked;
 
 pub use ending::Ending;
 pub use finished::Finished;
 pub use refusing::{refuse_basis, refuse_journal};
 pub use saying::{add, end, lack_memory, say, write_text};
+pub use worked::{lines_that_were_written, replies_of_a_few_turns, statuses_of_endings};

@@ -26,7 +26,7 @@ const FIELDS: [u8; 28] = [
     1, 3, 0, 3, 0, 0, 0x1b, 0x59, 0, 0, 0x47, 0x56, 0, 0, 0, 0, 0, 1, 0x86, 0xa0, 0, 0, 0, 0, 0, 0,
     0x9c, 0x40,
 ];
-// The same with the kind 9, which is none.
+// The same with the kind 9, which has no fields.
 const NO_KIND: [u8; 28] = [
     9, 3, 0, 3, 0, 0, 0x1b, 0x59, 0, 0, 0x47, 0x56, 0, 0, 0, 0, 0, 1, 0x86, 0xa0, 0, 0, 0, 0, 0, 0,
     0x9c, 0x40,
@@ -47,11 +47,23 @@ const OLD_FIELDS: [u8; 28] = [
     1,
 ];
 
+// The kind 9 alone.
+const UPGRADE: [u8; 28] = [
+    9, 0, 0, 0, 0, 0, 0, 0, 0, 0, 0, 0, 0, 0, 0, 0, 0, 0, 0, 0, 0, 0, 0, 0, 0, 0, 0, 0,
+];
+// The kind 10; the id 7001; the day 18597; 30,000 cents.
+const MADE_PAID_UP: [u8; 28] = [
+    10, 0, 0, 0, 0, 0, 0x1b, 0x59, 0, 0, 0x48, 0xa5, 0, 0, 0, 0, 0, 0, 0x75, 0x30, 0, 0, 0, 0, 0, 0,
+    0, 0,
+];
+
 const NOTHING: File = &[];
 
 const NO_RECORD: File = &[&[1], &HEAD, &[0]];
 
 const ONE_RECORD: File = &[&[1], &HEAD, &[1], &FIELDS, &ZEROS, &[0]];
+
+const UPGRADED: File = &[&[1], &HEAD, &[1], &UPGRADE, &ZEROS, &[0]];
 
 const TWO_RECORDS: File = &[
     &[1],
@@ -235,7 +247,40 @@ fn files_are_opened_or_refused(rt: HostRuntime) -> Result<(), AllocError> {
             file: &[&[2], &HEAD, &[7]],
             ..run_of(&[], 0, "", NO_RECORD)
         },
-        // The kind 9, the id 0, the day 200000, a byte behind the fields, the same policy twice.
+        // A second upgrade, and a policy made paid up before the first.
+        Case {
+            file: &[&[1], &HEAD, &[1], &UPGRADE, &ZEROS, &[0]],
+            ..run_of(&[], 0, "", UPGRADED)
+        },
+        refused(
+            &[
+                &[1],
+                &HEAD,
+                &[1],
+                &UPGRADE,
+                &ZEROS,
+                &[1],
+                &UPGRADE,
+                &ZEROS,
+                &[0],
+            ],
+            "badjournal,badrecord,1\n",
+        ),
+        refused(
+            &[
+                &[1],
+                &HEAD,
+                &[1],
+                &FIELDS,
+                &ZEROS,
+                &[1],
+                &MADE_PAID_UP,
+                &ZEROS,
+                &[0],
+            ],
+            "badjournal,badrecord,1\n",
+        ),
+        // The kind 9 with fields, the id 0, the day 200000, a byte behind the fields, the same policy twice.
         refused(
             &[&[1], &HEAD, &[1], &NO_KIND, &ZEROS, &[0]],
             "badjournal,badrecord,0\n",

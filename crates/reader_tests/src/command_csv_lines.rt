@@ -18,6 +18,8 @@ fn lines_are_read_as_they_are_written(rt: HostRuntime) -> Result<(), Fail> {
 1,claim,7001,2022-12-31
 1,settle,7001,2023-01-15,0.01
 1,mature,4294967295,2199-12-31
+1,paidup,7001,2020-12-01,300.00
+1,upgrade
 1,value,2020-01-01,now,64
 1,trim
 1,value,2022-02-02,4000000,1
@@ -60,6 +62,12 @@ fn lines_are_read_as_they_are_written(rt: HostRuntime) -> Result<(), Fail> {
             id: 4_294_967_295,
             day: 84_005,
         },
+        Command::PaidUp {
+            id,
+            day: 18_597,
+            amount: 30_000,
+        },
+        Command::Upgrade,
     ];
     let others = [
         Line::Value {

@@ -26,7 +26,7 @@ fn answer(alloc: Global, script: &[u8]) -> Result<(u64, u64), Fail>
 
 #[test]
 fn bad_fields(rt: HostRuntime) -> Result<(), Fail> {
-    let cases: [(&[u8], (u64, u64)); 84] = [
+    let cases: [(&[u8], (u64, u64)); 92] = [
         (b"1,issue,0,2020-01-01,term,30,10,1.00,1.00", (1, 3)),
         (b"9,lapse,1,2020-01-01", (1, 1)),
         (b"1,lapse,1", (1, 4)),
@@ -112,6 +112,14 @@ fn bad_fields(rt: HostRuntime) -> Result<(), Fail> {
         (b"1,settle,1,2020-01-01,100000000.01", (1, 5)),
         (b"1,settle,1,2020-01-01,-1.00", (1, 5)),
         (b"1,mature,1,2020-01-01,", (1, 5)),
+        (b"1,paidup,1,2020-01-01", (1, 5)),
+        (b"1,paidup,1,2020-01-01,0.00", (1, 5)),
+        (b"1,paidup,1,2020-01-01,100000000.01", (1, 5)),
+        (b"1,paidup,1,2020-01-01,1.00,", (1, 6)),
+        (b"1,upgrade,", (1, 3)),
+        (b"1,upgrade,7", (1, 3)),
+        (b"0,upgrade", (1, 1)),
+        (b"1,upgrades", (1, 2)),
         (b"1,lapse,1,x\n9,lapse,1,2020-01-01", (1, 4)),
         (b"8,lapse,1,2020-01-01\n1,trim\n9,trim\n3,trim", (3, 1)),
     ];

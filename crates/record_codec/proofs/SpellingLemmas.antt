@@ -4,7 +4,7 @@ use Rattle.std.specs.Int.{w32, w64, from_be_bytes, to_be_bytes, cast_signed, cas
 use Rattle.std.proofs.lemmas.Int.{ints}
 use Rattle.std.proofs.lemmas.Nat.{from_be_bytes-to_be_bytes_4, from_be_bytes-to_be_bytes_8}
 use Rattle.policy_types.specs.declared.command.Command.{Command}
-use Rattle.policy_types.specs.declared.command.Command.TheVariants.{Issue, Premium, Alter, Lapse, Reinstate, Claim, Settle, Mature}
+use Rattle.policy_types.specs.declared.command.Command.TheVariants.{Issue, Premium, Alter, Lapse, Reinstate, Claim, Settle, Mature, PaidUp, Upgrade}
 use Rattle.policy_types.specs.declared.command.Plan.TheVariants.{Term, Whole, Endowment, Limited}
 use Rattle.policy_types.specs.Valid.{IsValid}
 use Rattle.record_codec.specs.declared.fields.Fields.{Fields}
@@ -59,6 +59,8 @@ command_at-fields_of (Reinstate id day amount) = refl
 command_at-fields_of (Claim id day) = refl
 command_at-fields_of (Settle id day amount) = refl
 command_at-fields_of (Mature id day) = refl
+command_at-fields_of (PaidUp id day amount) = refl
+command_at-fields_of Upgrade = refl
 
 -- a valid command's fields fit their bytes
 pub AreInRange-valid : (c : Command) → IsValid c → AreInRange (fields_of c)
@@ -69,6 +71,8 @@ AreInRange-valid (Lapse id day) h = record { id_in = omega arith; day_in = omega
 AreInRange-valid (Reinstate id day amount) h = record { id_in = omega arith; day_in = omega (arith, ints); amount_in = omega arith; premium_in = omega arith }
 AreInRange-valid (Claim id day) h = record { id_in = omega arith; day_in = omega (arith, ints); amount_in = omega arith; premium_in = omega arith }
 AreInRange-valid (Settle id day amount) h = record { id_in = omega arith; day_in = omega (arith, ints); amount_in = omega arith; premium_in = omega arith }
+AreInRange-valid (PaidUp id day amount) h = record { id_in = omega arith; day_in = omega (arith, ints); amount_in = omega arith; premium_in = omega arith }
+AreInRange-valid Upgrade h = record { id_in = omega arith; day_in = omega (arith, ints); amount_in = omega arith; premium_in = omega arith }
 AreInRange-valid (Mature id day) h = record { id_in = omega arith; day_in = omega (arith, ints); amount_in = omega arith; premium_in = omega arith }
 
 -- the fields that stand in the body of a command are the command's

@@ -1,7 +1,7 @@
 -- The fields of a command in a record, each 0 where its kind has none
-use Rattle.std.specs.Prelude.{ℕ, ℤ}
+use Rattle.std.specs.Prelude.{ℕ, ℤ, pos}
 use Rattle.policy_types.specs.declared.command.Command.{Command}
-use Rattle.policy_types.specs.declared.command.Command.TheVariants.{Issue, Premium, Alter, Lapse, Reinstate, Claim, Settle, Mature}
+use Rattle.policy_types.specs.declared.command.Command.TheVariants.{Issue, Premium, Alter, Lapse, Reinstate, Claim, Settle, Mature, PaidUp, Upgrade}
 use Rattle.policy_types.specs.declared.command.Plan.{Plan}
 use Rattle.policy_types.specs.declared.command.Plan.TheVariants.{Term, Whole, Endowment, Limited}
 use Rattle.record_codec.specs.declared.fields.Fields.{Fields}
@@ -44,3 +44,5 @@ fields_of (Reinstate id day amount) = short_fields 5 id day amount 0
 fields_of (Claim id day) = short_fields 6 id day 0 0
 fields_of (Settle id day amount) = short_fields 7 id day amount 0
 fields_of (Mature id day) = short_fields 8 id day 0 0
+fields_of Upgrade = short_fields 9 0 (pos 0) 0 0
+fields_of (PaidUp id day amount) = short_fields 10 id day amount 0

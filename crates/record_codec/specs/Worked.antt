@@ -1,7 +1,7 @@
 -- Worked bodies, computed from the definitions alone; the bytes were packed by hand from the table of the format
 use Rattle.std.specs.Prelude.{◌≡◌, ◌++◌, List, [], ◌∷◌, ℕ, pos, negsuc, replicate}
 use Rattle.policy_types.specs.declared.command.Command.{Command}
-use Rattle.policy_types.specs.declared.command.Command.TheVariants.{Issue, Premium, Alter, Lapse, Reinstate, Claim, Settle, Mature}
+use Rattle.policy_types.specs.declared.command.Command.TheVariants.{Issue, Premium, Alter, Lapse, Reinstate, Claim, Settle, Mature, PaidUp, Upgrade}
 use Rattle.policy_types.specs.declared.command.Plan.TheVariants.{Endowment}
 use Rattle.record_codec.specs.Spelling.{spelling_of, IsSpelling}
 
@@ -82,6 +82,19 @@ MaturedOnTheLastDay = IsSpelledBy (Mature 7001 (pos 84005))
     0x00 ∷ 0x00 ∷ 0x1b ∷ 0x59 ∷
     0x00 ∷ 0x01 ∷ 0x48 ∷ 0x25 ∷
     0x00 ∷ 0x00 ∷ 0x00 ∷ 0x00 ∷ 0x00 ∷ 0x00 ∷ 0x00 ∷ 0x00 ∷
+    0x00 ∷ 0x00 ∷ 0x00 ∷ 0x00 ∷ 0x00 ∷ 0x00 ∷ 0x00 ∷ 0x00 ∷ [])
+
+-- nothing but its kind
+abbrev pub SpelledUpgrade : Type 0
+SpelledUpgrade = IsSpelledBy Upgrade (0x09 ∷ replicate 27 0x00)
+
+-- for 300.00 on 2020-12-01
+abbrev pub SpelledPaidUp : Type 0
+SpelledPaidUp = IsSpelledBy (PaidUp 7001 (pos 18597) 30000)
+    (0x0a ∷ 0x00 ∷ 0x00 ∷ 0x00 ∷
+    0x00 ∷ 0x00 ∷ 0x1b ∷ 0x59 ∷
+    0x00 ∷ 0x00 ∷ 0x48 ∷ 0xa5 ∷
+    0x00 ∷ 0x00 ∷ 0x00 ∷ 0x00 ∷ 0x00 ∷ 0x00 ∷ 0x75 ∷ 0x30 ∷
     0x00 ∷ 0x00 ∷ 0x00 ∷ 0x00 ∷ 0x00 ∷ 0x00 ∷ 0x00 ∷ 0x00 ∷ [])
 
 -- the body of the first issue with a one in its last byte spells no command

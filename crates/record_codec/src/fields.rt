@@ -52,6 +52,8 @@ pub fn fields_with(command: &Command) -> Fields
         Command::Claim { id, day } => short(6, id, day, 0, 0),
         Command::Settle { id, day, amount } => short(7, id, day, amount, 0),
         Command::Mature { id, day } => short(8, id, day, 0, 0),
+        Command::Upgrade => short(9, 0, 0, 0, 0),
+        Command::PaidUp { id, day, amount } => short(10, id, day, amount, 0),
     }
 }
 
@@ -90,6 +92,8 @@ pub fn command_with(fields: Fields) -> Option<Command>
         6 => Some(Command::Claim { id, day }),
         7 => Some(Command::Settle { id, day, amount }),
         8 => Some(Command::Mature { id, day }),
+        9 => Some(Command::Upgrade),
+        10 => Some(Command::PaidUp { id, day, amount }),
         _ => None,
     }
 }

@@ -1,6 +1,6 @@
 -- Small valuations, worked outside of this repository
 use Rattle.std.specs.Prelude.{◌≡◌, [], ◌∷◌, ◌++◌, codes, pos}
-use Rattle.policy_types.specs.declared.policy.Status.TheVariants.{InForce, Lapsed}
+use Rattle.policy_types.specs.declared.policy.Status.TheVariants.{InForce, Lapsed, PaidUp}
 use Rattle.plan_benefits.specs.declared.fault.NotValued.TheVariants.{PastTable}
 use Rattle.policy_value.specs.declared.worth.Row.{Row}
 use Rattle.policy_value.specs.declared.worth.Worth.TheVariants.{Bounds, Word}
@@ -17,6 +17,12 @@ past_the_table = record { id = 7002; status = InForce; t = 0; worth = Word PastT
 -- a lapsed policy
 abbrev pub lapsed : Row
 lapsed = record { id = 7003; status = Lapsed; t = 0; worth = Bounds 0 0 }
+
+-- paid-up policies of 300.00 after a year: an endowment without interest, and a term at 5 percent, whose exact value is
+-- 49200/441
+abbrev pub PaidUpRows : Type 0
+PaidUpRows = (row_text (record { id = 7001; status = PaidUp; t = 1; worth = Bounds 30000 30000 }) ≡ codes "row,7001,paidup,1,300.00,300.00" ++ 10 ∷ [])
+    × (row_text (record { id = 7001; status = PaidUp; t = 1; worth = Bounds 11156 11157 }) ≡ codes "row,7001,paidup,1,111.56,111.57" ++ 10 ∷ [])
 
 -- the row of each
 abbrev pub WorkedRows : Type 0

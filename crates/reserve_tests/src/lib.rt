@@ -8,6 +8,8 @@ mod parallel_value_tests;
 #[cfg(test)]
 mod plan_benefits_tests;
 #[cfg(test)]
+mod policy_cache_tests;
+#[cfg(test)]
 mod policy_value_tests;
 #[cfg(test)]
 mod present_value_tests;

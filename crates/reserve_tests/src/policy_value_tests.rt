@@ -7,13 +7,13 @@ use std::alloc::Global;
 use std::test::Fail;
 
 /// 2020-01-01, on which all the policies are issued.
-const ISSUED: i32 = 18_262;
+pub const ISSUED: i32 = 18_262;
 /// The day before the first anniversary, and the first three.
 const DAY_BEFORE: i32 = 18_627;
 
-const ONE_YEAR: i32 = 18_628;
+pub const ONE_YEAR: i32 = 18_628;
 
-const TWO_YEARS: i32 = 18_993;
+pub const TWO_YEARS: i32 = 18_993;
 
 const THREE_YEARS: i32 = 19_358;
 
@@ -34,7 +34,7 @@ fn table(alloc: Global, first_age: u8, fourth: u32) -> Result<RateTable, Fail> {
 
 /// A basis with the tables `q.xml`, `high.xml`, in which the rate at age 3 is above one half, and `late.xml`,
 /// which begins at age 1.
-fn basis(alloc: Global, file: &[u8]) -> Result<Basis, Fail> {
+pub fn basis(alloc: Global, file: &[u8]) -> Result<Basis, Fail> {
     if file.len() > LONGEST_FILE {
         return Err("a short file".into());
     }
@@ -58,7 +58,7 @@ fn basis(alloc: Global, file: &[u8]) -> Result<Basis, Fail> {
 }
 
 /// A policy of 1000.00 in force.
-fn policy(plan: Plan, age: u8, years: u8) -> Policy {
+pub fn policy(plan: Plan, age: u8, years: u8) -> Policy {
     Policy {
         id: 7001,
         plan,
@@ -95,7 +95,7 @@ fn row_by(alloc: Global, file: &[u8], policy: &Policy, on: i32) -> Result<Row, F
     Ok(row(policy, &basis, on, &mut cache))
 }
 
-const FLAT: &[u8] = b"1900-01-01,q.xml,0";
+pub const FLAT: &[u8] = b"1900-01-01,q.xml,0";
 
 const AT_FIVE: &[u8] = b"1900-01-01,q.xml,500";
 /// The table changes after the day of issue.
@@ -182,6 +182,38 @@ fn reserves(rt: HostRuntime) -> Result<(), Fail> {
     Ok(())
 }
 
+// Of a paid-up policy of 300.00 the benefits alone, by hand: at 5 percent 300 * (0.2 / 1.05 + 0.2 / 1.1025) = 49200 / 441.
+#[test]
+fn paid_up_reserves(rt: HostRuntime) -> Result<(), Fail> {
+    for (name, file, plan, years, on, expected) in [
+        ("endowment", FLAT, Plan::Endowment, 3, DAY_BEFORE, (0, 30_000, 30_000)),
+        ("endowment", FLAT, Plan::Endowment, 3, ONE_YEAR, (1, 30_000, 30_000)),
+        ("endowment, after its end", FLAT, Plan::Endowment, 3, 84_005, (3, 30_000, 30_000)),
+        ("term", FLAT, Plan::Term, 3, ONE_YEAR, (1, 12_000, 12_000)),
+        ("term at 5 percent", AT_FIVE, Plan::Term, 3, ONE_YEAR, (1, 11_156, 11_157)),
+        ("term, at its end", FLAT, Plan::Term, 3, THREE_YEARS, (3, 0, 0)),
+        ("limited", FLAT, Plan::Limited, 2, ONE_YEAR, (1, 30_000, 30_000)),
+    ] {
+        let mut policy = policy(plan, 0, years);
+        policy.amount = 30_000;
+        policy.status = Status::PaidUp;
+        let (t, lo, hi) = expected;
+        let found = row_by(rt.alloc(), file, &policy, on)?;
+        let expected = Row {
+            id: 7001,
+            status: Status::PaidUp,
+            t,
+            worth: Worth::Bounds { lo, hi },
+        };
+        assert_eq!(rt; found, expected, "{name} on {on}");
+    }
+    let mut old = policy(Plan::Whole, 4, 0);
+    old.status = Status::PaidUp;
+    let found = row_by(rt.alloc(), FLAT, &old, TWO_YEARS)?;
+    assert_eq!(rt; found.worth, Worth::Word(NotValued::PastTable));
+    Ok(())
+}
+
 #[test]
 fn words(rt: HostRuntime) -> Result<(), Fail> {
     for (name, file, plan, age, years, word) in [
@@ -264,6 +296,7 @@ fn nothing_insured(rt: HostRuntime) -> Result<(), Fail> {
         (Status::Expired, TWO_YEARS),
         (Status::Settled, TWO_YEARS),
         (Status::InForce, ISSUED - 1),
+        (Status::PaidUp, ISSUED - 1),
     ] {
         // One has a reserve while it is insured, and the other a word.
         for age in [0, 4] {

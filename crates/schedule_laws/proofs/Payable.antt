@@ -1,23 +1,26 @@
 -- What is payable and what is outstanding change together
-use Rattle.std.proofs.Common.{◌≡◌, ℕ, ◌+◌, ◌-◌, ◌≤◌, ◌==◌, nat_lt, Bool, true, false, not, if◌then◌else◌, List, [], ◌∷◌, ◌++◌, ℤ, pos, ◌+ℤ◌, ◌-ℤ◌, refl, sym, ap, ◌∙◌, subst, append_assoc, append-nil, None, Some, Option, Ok, IsOk, eqb-true, arith}
+use Rattle.std.proofs.Common.{◌≡◌, ℕ, ◌+◌, ◌-◌, ◌≤◌, ◌==◌, nat_lt, Bool, true, false, not, if◌then◌else◌, List, [], ◌∷◌, ◌++◌, ℤ, pos, ◌+ℤ◌, ◌-ℤ◌, refl, sym, ap, ◌∙◌, subst, append_assoc, append-nil, None, Some, Option, Ok, eqb-true, ◌⊎◌, inl, inr, arith}
 use Rattle.std.proofs.lemmas.Int.{ints}
 use Rattle.std.proofs.lemmas.List.Sums.{sum_by-append, sum_by-cons, sum_by_push}
 use Rattle.policy_types.specs.declared.command.Command.{Command}
-use Rattle.policy_types.specs.declared.command.Command.TheVariants.{Issue, Premium, Alter, Lapse, Reinstate, Claim, Settle, Mature}
+use Rattle.policy_types.specs.declared.command.Command.TheVariants.{Issue, Premium, Alter, Lapse, Reinstate, Claim, Settle, Mature, PaidUp as MakePaidUp, Upgrade}
 use Rattle.policy_types.specs.declared.command.Plan.{Plan}
 use Rattle.policy_types.specs.declared.command.Plan.TheVariants.{Term, Whole, Endowment, Limited}
 use Rattle.policy_types.specs.declared.policy.Policy.{Policy}
 use Rattle.policy_types.specs.declared.policy.Status.{Status}
-use Rattle.policy_types.specs.declared.policy.Status.TheVariants.{InForce, Lapsed, Claimed, Matured, Expired, Settled}
+use Rattle.policy_types.specs.declared.policy.Status.TheVariants.{InForce, Lapsed, Claimed, Matured, Expired, Settled, PaidUp}
 use Rattle.policy_types.specs.declared.refusal.Refusal.{Refusal}
+use Rattle.policy_types.specs.declared.refusal.Refusal.TheVariants.{Taken}
 use Rattle.policy_types.specs.Accounts.{Booking, against, booking_of}
 use Rattle.policy_types.specs.Valid.{id_of}
-use Rattle.policy_machine.specs.Rules.{next, decided, changed, matured, checks_of, first_refusal, is_in_force, is_lapsed, awaits_settlement}
-use Rattle.policy_machine.specs.Book.{book, kept, policy_of, issue_id, IsAccepted, IsAcceptedAfter}
+use Rattle.policy_machine.specs.Rules.{next, decided, changed, matured, checks_of, first_refusal, issued, is_in_force, is_insured, is_lapsed, awaits_settlement}
+use Rattle.policy_machine.specs.Book.{book, kept, policy_of, issue_id, judge, IsAccepted, IsAcceptedAfter}
 use Rattle.policy_machine.specs.Accounts.{ledger_of}
-use Rattle.policy_machine.proofs.BookLemmas.{policy_of-push_own, policy_of-push_other, IsAccepted-push}
-use Rattle.policy_machine.proofs.BookGrowth.{book-push_issue, book-push_change, accepted_policy}
-use Rattle.policy_machine.proofs.LedgerLemmas.{ledger_of-push}
+use Rattle.policy_machine.proofs.AcceptedLemmas.{IsIssueHere, NeedsPolicy, issue_or_other}
+use Rattle.policy_machine.proofs.BookLemmas.{policy_of-push_own, policy_of-push_other, policy_of-upgrade, book-upgrade, IsAccepted-push}
+use Rattle.policy_machine.proofs.BookGrowth.{book-push_issue, book-push_change}
+use Rattle.policy_machine.proofs.JudgeLemmas.{accepted_next}
+use Rattle.policy_machine.proofs.LedgerLemmas.{ledger_of-push, ledger_of-upgrade}
 use Rattle.schedule_laws.specs.Balances.{outstanding_in}
 
 -- a policy that awaits no settlement has nothing outstanding
@@ -46,6 +49,16 @@ quiet_in_force Claimed in_force = grind arith
 quiet_in_force Matured in_force = grind arith
 quiet_in_force Expired in_force = grind arith
 quiet_in_force Settled in_force = grind arith
+quiet_in_force PaidUp in_force = refl
+
+quiet_insured : (status : Status) → not (is_insured status) ≡ false → awaits_settlement status ≡ false
+quiet_insured InForce insured = refl
+quiet_insured Lapsed insured = grind arith
+quiet_insured Claimed insured = grind arith
+quiet_insured Matured insured = grind arith
+quiet_insured Expired insured = grind arith
+quiet_insured Settled insured = grind arith
+quiet_insured PaidUp insured = refl
 
 quiet_lapsed : (status : Status) → not (is_lapsed status) ≡ false → awaits_settlement status ≡ false
 quiet_lapsed Lapsed lapsed = refl
@@ -54,6 +67,7 @@ quiet_lapsed Claimed lapsed = grind arith
 quiet_lapsed Matured lapsed = grind arith
 quiet_lapsed Expired lapsed = grind arith
 quiet_lapsed Settled lapsed = grind arith
+quiet_lapsed PaidUp lapsed = grind arith
 
 -- what a command books as payable is by how much less is outstanding
 record Moves (command : Command) (before after : Policy) : Type 0 where
@@ -107,8 +121,8 @@ moves (Reinstate id day amount) p owes accepted =
     record { booked = nothing_moved p.outstanding; owes = λ quiet. owes (quiet_lapsed p.status lapsed) }
 moves (Claim id day) p owes accepted =
     let from_second = (passes _ _ _ accepted).1 in
-    let in_force = (passes (not (is_in_force p.status)) _ _ from_second).0 in
-    record { booked = incurred p.outstanding p.amount (owes (quiet_in_force p.status in_force)); owes = λ quiet. absurd (never quiet) }
+    let insured = (passes (not (is_insured p.status)) _ _ from_second).0 in
+    record { booked = incurred p.outstanding p.amount (owes (quiet_insured p.status insured)); owes = λ quiet. absurd (never quiet) }
 moves (Settle id day amount) p owes accepted =
     let from_second = (passes _ _ _ accepted).1 in
     let awaits = passes (not (awaits_settlement p.status)) _ _ from_second in
@@ -116,9 +130,14 @@ moves (Settle id day amount) p owes accepted =
     record { booked = paid_out p.outstanding amount enough; owes = settled_owes p.outstanding amount p.status enough awaits.0 }
 moves (Mature id day) p owes accepted =
     let from_second = (passes _ _ _ accepted).1 in
-    let in_force = (passes (not (is_in_force p.status)) _ _ from_second).0 in
-    let ended = at_term id day p.plan (record p { last = day }) (owes (quiet_in_force p.status in_force)) in
+    let insured = (passes (not (is_insured p.status)) _ _ from_second).0 in
+    let ended = at_term id day p.plan (record p { last = day }) (owes (quiet_insured p.status insured)) in
     record { booked = ended.booked; owes = ended.owes }
+moves (MakePaidUp id day amount) p owes accepted =
+    let from_second = (passes _ _ _ accepted).1 in
+    let in_force = (passes (not (is_in_force p.status)) _ _ from_second).0 in
+    record { booked = nothing_moved p.outstanding; owes = λ quiet. owes (quiet_in_force p.status in_force) }
+moves Upgrade p owes accepted = grind arith
 
 -- an accepted command on no policy is an issue
 record Fresh (command : Command) (after : Policy) : Type 0 where
@@ -127,25 +146,27 @@ record Fresh (command : Command) (after : Policy) : Type 0 where
   pub none : after.outstanding ≡ 0
 
 fresh : (command : Command) (after : Policy) → next None command ≡ Ok after → Fresh command after
-fresh (Issue id day plan age years amount premium) after ok =
-    let same = (decided_ok None _ after ok).1 in record { issue = refl; booked = refl; none = ap (λ p. p.outstanding) (sym same) }
-fresh (Premium id day amount) after ok = grind arith
-fresh (Alter id day amount premium) after ok = grind arith
-fresh (Lapse id day) after ok = grind arith
-fresh (Reinstate id day amount) after ok = grind arith
-fresh (Claim id day) after ok = grind arith
-fresh (Settle id day amount) after ok = grind arith
-fresh (Mature id day) after ok = grind arith
+fresh command after ok = by_kind (issue_or_other command)
+  where
+    by_kind : IsIssueHere command ⊎ NeedsPolicy command → Fresh command after
+    by_kind (inl c) =
+        let made : next None command ≡ Ok (issued c.id c.day c.plan c.age c.years c.amount c.premium) = ap (next None) c.is in
+        let same : issued c.id c.day c.plan c.age c.years c.amount c.premium ≡ after = grind arith in
+        record {
+          issue = ap issue_id c.is ∙ ap Some (sym (ap id_of c.is));
+          booked = ap (λ (this : Command). (booking_of this after).payable) c.is;
+          none = ap (λ (p : Policy). p.outstanding) (sym same);
+        }
+    by_kind (inr other) = let refused = other.refused in grind arith
 
 no_issue : (command : Command) (p : Policy) → first_refusal (checks_of p command) ≡ None → issue_id command ≡ None
-no_issue (Issue id day plan age years amount premium) p accepted = grind arith
-no_issue (Premium id day amount) p accepted = refl
-no_issue (Alter id day amount premium) p accepted = refl
-no_issue (Lapse id day) p accepted = refl
-no_issue (Reinstate id day amount) p accepted = refl
-no_issue (Claim id day) p accepted = refl
-no_issue (Settle id day amount) p accepted = refl
-no_issue (Mature id day) p accepted = refl
+no_issue command p accepted = by_kind (issue_or_other command)
+  where
+    by_kind : IsIssueHere command ⊎ NeedsPolicy command → issue_id command ≡ None
+    by_kind (inl c) =
+        let refused : first_refusal (checks_of p command) ≡ Some Taken = ap (λ (this : Command). first_refusal (checks_of p this)) c.is in
+        grind arith
+    by_kind (inr other) = other.none
 
 -- what one more accepted command leaves
 record Balanced (commands : List Command) : Type 0 where
@@ -176,8 +197,8 @@ owes_more commands command after owes ok owes_after id = by_id (id_of command ==
         subst OwesIf (sym (policy_of-push_own commands command id same ∙ ap (kept (policy_of commands id)) accepted)) owes_after
 
 Balanced-push : (commands : List Command) (command : Command) → IsAccepted commands → Balanced commands
-    → IsOk (next (policy_of commands (id_of command)) command) → Balanced (commands ++ command ∷ [])
-Balanced-push commands command accepted balanced is_ok = by_policy (policy_of commands id) refl
+    → (after : Policy) → next (policy_of commands (id_of command)) command ≡ Ok after → Balanced (commands ++ command ∷ [])
+Balanced-push commands command accepted balanced after made = by_policy (policy_of commands id) refl
   where
     id : ℕ
     id = id_of command
@@ -185,16 +206,12 @@ Balanced-push commands command accepted balanced is_ok = by_policy (policy_of co
     more : List Command
     more = commands ++ command ∷ []
 
-    decision : (after : Policy) × (next (policy_of commands id) command ≡ Ok after)
-    decision = accepted_policy (next (policy_of commands id) command) is_ok
-
     by_policy : (o : Option Policy) → policy_of commands id ≡ o → Balanced more
     by_policy None none =
-        let after = decision.0 in
-        let new = fresh command after (ap (λ p. next p command) (sym none) ∙ decision.1) in
-        let ledger = ap (λ (b : Booking). b.payable) (ledger_of-push commands command after decision.1) in
+        let new = fresh command after (ap (λ p. next p command) (sym none) ∙ made) in
+        let ledger = ap (λ (b : Booking). b.payable) (ledger_of-push commands command after made) in
         let there : outstanding_in (book more) ≡ outstanding_in (book commands) + after.outstanding =
-        ap outstanding_in (book-push_issue commands command id after new.issue decision.1)
+        ap outstanding_in (book-push_issue commands command id after new.issue made)
         ∙ sum_by_push (λ q. q.outstanding) (book commands) after in
         record {
           payable =
@@ -202,19 +219,18 @@ Balanced-push commands command accepted balanced is_ok = by_policy (policy_of co
               ∙ ap (λ z. against (outstanding_in (book commands)) +ℤ z) new.booked
               ∙ no_change (outstanding_in (book commands)) after.outstanding new.none
               ∙ ap against (sym there);
-          owes = owes_more commands command after balanced.owes decision.1 (λ quiet. new.none);
+          owes = owes_more commands command after balanced.owes made (λ quiet. new.none);
         }
       where
         no_change : (was more_cents : ℕ) → more_cents ≡ 0 → against was +ℤ pos 0 ≡ against (was + more_cents)
         no_change was more_cents none_more = omega (arith, ints)
     by_policy (Some before) found =
-        let after = decision.0 in
-        let ok : next (Some before) command ≡ Ok after = ap (λ p. next p command) (sym found) ∙ decision.1 in
+        let ok : next (Some before) command ≡ Ok after = ap (λ p. next p command) (sym found) ∙ made in
         let parts = decided_ok (first_refusal (checks_of before command)) (changed before command) after ok in
         let moved : Moves command before after =
         subst (Moves command before) parts.1 (moves command before (subst OwesIf found (balanced.owes id)) parts.0) in
         let change = book-push_change commands command before after accepted (no_issue command before parts.0) found ok in
-        let ledger = ap (λ (b : Booking). b.payable) (ledger_of-push commands command after decision.1) in
+        let ledger = ap (λ (b : Booking). b.payable) (ledger_of-push commands command after made) in
         let was : outstanding_in (book commands) ≡ outstanding_in change.front + (before.outstanding + outstanding_in change.back) =
         ap outstanding_in change.was ∙ outstanding_around change.front change.back before in
         let now : outstanding_in (book more) ≡ outstanding_in change.front + (after.outstanding + outstanding_in change.back) =
@@ -225,15 +241,33 @@ Balanced-push commands command accepted balanced is_ok = by_policy (policy_of co
               ∙ ap (λ z. against (outstanding_in change.front + (before.outstanding + outstanding_in change.back)) +ℤ z) moved.booked
               ∙ against_moved (outstanding_in change.front) (outstanding_in change.back) before.outstanding after.outstanding
               ∙ ap against (sym now);
-          owes = owes_more commands command after balanced.owes decision.1 moved.owes;
+          owes = owes_more commands command after balanced.owes made moved.owes;
         }
+
+-- an upgrade leaves all of it
+Balanced-upgrade : (commands : List Command) → Balanced commands → Balanced (commands ++ Upgrade ∷ [])
+Balanced-upgrade commands balanced = record {
+  payable =
+      ap (λ (b : Booking). b.payable) (ledger_of-upgrade commands) ∙ balanced.payable
+      ∙ ap (λ policies. against (outstanding_in policies)) (sym (book-upgrade commands));
+  owes = λ id. subst OwesIf (sym (policy_of-upgrade commands id)) (balanced.owes id);
+}
+
+Balanced-more : (commands : List Command) (command : Command) → IsAccepted commands → Balanced commands → judge commands command ≡ None
+    → Balanced (commands ++ command ∷ [])
+Balanced-more commands command accepted balanced ok = by_kind (accepted_next commands command ok)
+  where
+    by_kind : (command ≡ Upgrade) ⊎ ((after : Policy) × (next (policy_of commands (id_of command)) command ≡ Ok after))
+        → Balanced (commands ++ command ∷ [])
+    by_kind (inl upgrade) = subst (λ this. Balanced (commands ++ this ∷ [])) (sym upgrade) (Balanced-upgrade commands balanced)
+    by_kind (inr made) = Balanced-push commands command accepted balanced made.0 made.1
 
 balanced_after : (before rest : List Command) → IsAccepted before → Balanced before → IsAcceptedAfter before rest → Balanced (before ++ rest)
 balanced_after before [] accepted balanced more = subst Balanced (sym (append-nil before)) balanced
 balanced_after before (command ∷ rest) accepted balanced more =
     subst Balanced (append_assoc before (command ∷ []) rest)
     (balanced_after (before ++ command ∷ []) rest (IsAccepted-push before command accepted more.0)
-    (Balanced-push before command accepted balanced more.0) more.1)
+    (Balanced-more before command accepted balanced more.0) more.1)
 
 pub payable-ledger : (commands : List Command) → IsAccepted commands
     → (ledger_of commands).payable ≡ against (outstanding_in (book commands))

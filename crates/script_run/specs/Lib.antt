@@ -1,4 +1,5 @@
 pub mod Script
 pub mod Outcome
 pub mod Running
+pub mod Worked
 pub mod inside

@@ -4,6 +4,8 @@
 mod intake;
 mod refusing;
 mod running;
+mod worked;
 
 pub use intake::Unread;
 pub use running::run;
+pub use worked::scripts_by_hand;

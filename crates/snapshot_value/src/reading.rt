@@ -21,7 +21,7 @@ use watcher_set::Watching;
 /// The policies that a read gives at most.
 const POLICIES_PER_READ: u32 = 256;
 
-/// TakesPolicy the memory that a valuation needs, then reads and values the policies of a pin.
+/// Takes the memory that a valuation needs, then reads and values the policies of a pin.
 pub fn rows_of<D: Disk, W: Watching, G: Gate, R: Threads + Wait + Sync>(
     rt: &R,
     alloc: Global,

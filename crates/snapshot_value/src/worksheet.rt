@@ -20,7 +20,7 @@ use std::thread::Threads;
 const POLICIES_TO_A_WORKER: usize = 8_192;
 
 /// The most policies that are read before they are valued.
-const POLICIES_TOGETHER: usize = 131_072;
+const POLICIES_TOGETHER: usize = 65_536;
 
 /// The columns of present values that all workers together keep, of some 2 kB each.
 const COLUMNS_KEPT: u32 = 8_192;
@@ -38,7 +38,7 @@ pub struct Worksheet<'a> {
 }
 
 impl<'a> Worksheet<'a> {
-    /// TakesPolicy the memory for the rows of so many policies. There are as many workers as are asked for, or fewer where each
+    /// Takes the memory for the rows of so many policies. There are as many workers as are asked for, or fewer where each
     /// would have too few policies.
     pub fn new(
         alloc: Global,
@@ -116,7 +116,7 @@ impl<'a> Worksheet<'a> {
 // How many policies so many workers value together.
 fn together(workers: usize) -> usize
     requires { workers ≤ 64 }
-    ensures { result ≡ min (8192 * workers) 131072 }
+    ensures { result ≡ min (8192 * workers) 65536 }
 {
     (POLICIES_TO_A_WORKER * workers).min(POLICIES_TOGETHER)
 }

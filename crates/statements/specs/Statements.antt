@@ -4,18 +4,16 @@ use Rattle.std.specs.List.{flat_map}
 use Rattle.policy_types.specs.declared.command.Command.{Command}
 use Rattle.policy_types.specs.declared.policy.Policy.{Policy}
 use Rattle.policy_types.specs.Accounts.{Booking}
-use Rattle.policy_types.specs.Valid.{day_of}
 use Rattle.life_dates.specs.DayText.{day_text}
 use Rattle.money_core.specs.CentsText.{cents_text, signed_cents_text}
 use Rattle.policy_types.specs.Words.{kind_word, status_word}
-use Rattle.text_lines.specs.Fields.{insurance_fields, term_fields}
+use Rattle.text_lines.specs.Fields.{entry_fields, insurance_fields}
 use Rattle.text_lines.specs.Lines.{line_of}
 
 -- the line of an accepted command, with its number among all of them
 unfoldable pub entry_text : ℕ → Command → List ℕ
 entry_text position command =
-    line_of (codes "entry")
-    (decimal position ∷ kind_word command ∷ day_text (day_of command) ∷ term_fields command)
+    line_of (codes "entry") (decimal position ∷ kind_word command ∷ entry_fields command)
 
 -- when a policy was issued, how many premiums were paid, and what is still to be paid out
 abbrev pub progress_fields : Policy → List (List ℕ)

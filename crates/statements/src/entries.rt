@@ -1,7 +1,7 @@
 // The lines of accepted commands.
 ghost use Rattle.std.specs.Prelude.{◌≡◌, ◌++◌, IfOk, OnOk};
-ghost use Rattle.policy_types.specs.Valid.{IsValid};
-ghost use Rattle.text_lines.specs.Fields.{term_fields};
+ghost use Rattle.policy_types.specs.Valid.{IsValid, day_of};
+ghost use Rattle.text_lines.specs.Fields.{day_fields, term_fields};
 ghost use Rattle.text_lines.specs.Lines.{behind_commas};
 ghost use Rattle.statements.specs.Statements.{entry_text};
 
@@ -28,9 +28,20 @@ pub fn write_entry(lines: &mut LineWriter, position: u32, command: &Command) -> 
     lines.first("entry")?;
     lines.number(position)?;
     lines.word(kind_word(command))?;
-    lines.day(command.day())?;
+    write_day(lines, command)?;
     write_terms(lines, command)?;
     lines.end()
+}
+
+// Adds a command's day, where it has one.
+fn write_day(lines: &mut LineWriter, command: &Command) -> Result<(), NoMemory>
+    requires { IsValid command.now }
+    ensures { OnOk result (lines.new ≡ lines.old ++ behind_commas (day_fields (day_of command.now))) }
+{
+    match command.day() {
+        Some(day) => lines.day(day),
+        None => Ok(()),
+    }
 }
 
 // Adds what a command holds beside its kind, its policy's number and its day.
@@ -57,7 +68,9 @@ fn write_terms(lines: &mut LineWriter, command: &Command) -> Result<(), NoMemory
         }
         Command::Premium { amount, .. }
         | Command::Reinstate { amount, .. }
-        | Command::Settle { amount, .. } => lines.cents(amount as i64),
-        Command::Lapse { .. } | Command::Claim { .. } | Command::Mature { .. } => Ok(()),
+        | Command::Settle { amount, .. }
+        | Command::PaidUp { amount, .. } => lines.cents(amount as i64),
+        Command::Lapse { .. } | Command::Claim { .. } | Command::Mature { .. } | Command::Upgrade =>
+            Ok(()),
     }
 }

@@ -1,9 +1,11 @@
 -- What a command holds, as fields of a line
-use Rattle.std.specs.Prelude.{ℕ, List, [], ◌∷◌, decimal}
+use Rattle.std.specs.Prelude.{ℕ, ℤ, List, [], ◌∷◌, ◌++◌, Some, None, Option, decimal}
 use Rattle.policy_types.specs.declared.command.Command.{Command}
-use Rattle.policy_types.specs.declared.command.Command.TheVariants.{Issue, Premium, Alter, Lapse, Reinstate, Claim, Settle, Mature}
+use Rattle.policy_types.specs.declared.command.Command.TheVariants.{Issue, Premium, Alter, Lapse, Reinstate, Claim, Settle, Mature, PaidUp, Upgrade}
 use Rattle.policy_types.specs.declared.command.Plan.{Plan}
+use Rattle.policy_types.specs.Valid.{day_of}
 use Rattle.policy_types.specs.Words.{plan_word}
+use Rattle.life_dates.specs.DayText.{day_text}
 use Rattle.money_core.specs.CentsText.{cents_text}
 
 -- the terms of a policy's insurance
@@ -21,3 +23,14 @@ term_fields (Reinstate id day amount) = cents_text amount ∷ []
 term_fields (Claim id day) = []
 term_fields (Settle id day amount) = cents_text amount ∷ []
 term_fields (Mature id day) = []
+term_fields (PaidUp id day amount) = cents_text amount ∷ []
+term_fields Upgrade = []
+
+-- the day, where there is one
+abbrev pub day_fields : Option ℤ → List (List ℕ)
+day_fields (Some day) = day_text day ∷ []
+day_fields None = []
+
+-- what a command holds beside its kind and its policy's number
+abbrev pub entry_fields : Command → List (List ℕ)
+entry_fields command = day_fields (day_of command) ++ term_fields command

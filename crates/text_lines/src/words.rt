@@ -17,6 +17,8 @@ pub fn kind_word(command: &Command) -> &'static str
         Command::Claim { .. } => "claim",
         Command::Settle { .. } => "settle",
         Command::Mature { .. } => "mature",
+        Command::PaidUp { .. } => "paidup",
+        Command::Upgrade => "upgrade",
     }
 }
 
@@ -43,5 +45,6 @@ pub fn status_word(status: Status) -> &'static str
         Status::Matured => "matured",
         Status::Expired => "expired",
         Status::Settled => "settled",
+        Status::PaidUp => "paidup",
     }
 }

@@ -1,23 +1,25 @@
 -- The day or amount of every refusal that is due can be written
-use Rattle.std.proofs.Common.{◌≡◌, ℕ, ◌+◌, ◌*◌, ◌≤◌, ◌<◌, ◌==◌, Bool, true, false, if◌then◌else◌, List, [], ◌∷◌, length, refl, subst, Result, Ok, Err, Some, None, Option, arith, ℤ}
+use Rattle.std.proofs.Common.{◌≡◌, ℕ, ◌+◌, ◌*◌, ◌≤◌, ◌<◌, ◌==◌, Bool, true, false, if◌then◌else◌, List, [], ◌∷◌, length, refl, ap, subst, ◌⊎◌, inl, inr, Ok, Err, Some, None, Option, arith, ℤ}
 use Rattle.std.specs.Prelude.{IfSome}
 use Rattle.std.specs.List.{AllByRecursion}
 use Rattle.policy_types.specs.declared.command.Command.{Command}
-use Rattle.policy_types.specs.declared.command.Command.TheVariants.{Issue, Premium, Alter, Lapse, Reinstate, Claim, Settle, Mature}
+use Rattle.policy_types.specs.declared.command.Command.TheVariants.{Issue, Premium, Alter, Lapse, Reinstate, Claim, Settle, Mature, PaidUp as MakePaidUp, Upgrade}
 use Rattle.policy_types.specs.declared.command.Plan.{Plan}
 use Rattle.policy_types.specs.declared.command.Plan.TheVariants.{Term, Whole, Endowment, Limited}
 use Rattle.policy_types.specs.declared.policy.Policy.{Policy}
 use Rattle.policy_types.specs.declared.refusal.Refusal.{Refusal}
-use Rattle.policy_types.specs.declared.refusal.Refusal.TheVariants.{Full, Unknown}
+use Rattle.policy_types.specs.declared.refusal.Refusal.TheVariants.{Full, NotUpgraded, Unknown, Upgraded}
 use Rattle.policy_types.specs.Limits.{most_commands}
 use Rattle.policy_types.specs.Valid.{AreYears, IsValid, id_of}
 use Rattle.life_dates.specs.Calendar.{IsTermDay}
 use Rattle.life_dates.proofs.AnniversaryLemmas.{anniversary_in}
 use Rattle.command_csv.proofs.FieldTexts.{term_day}
-use Rattle.policy_machine.specs.Book.{policy_of}
+use Rattle.policy_machine.specs.Book.{judge, policy_of, upgrade_of}
 use Rattle.policy_machine.specs.History.{refusal_due}
-use Rattle.policy_machine.specs.Rules.{Check, IsSound, changed, checks_of, decided, due_of, end_of, first_refusal, next, payments_in, payments_of, premiums_missed, reinstatement_end_of, reinstatement_sum, years_in, years_of}
+use Rattle.policy_machine.specs.Rules.{Check, IsSound, changed, checks_of, decided, due_of, end_of, first_refusal, issued, next, payments_in, payments_of, premiums_missed, reinstatement_end_of, reinstatement_sum, years_in, years_of}
+use Rattle.policy_machine.proofs.AcceptedLemmas.{IsIssueHere, NeedsPolicy, issue_or_other}
 use Rattle.policy_machine.proofs.BookLemmas.{policy_of-sound}
+use Rattle.policy_machine.proofs.JudgeLemmas.{judged_refusal}
 use Rattle.policy_machine.proofs.MissedLemmas.{premiums_missed-le}
 use Rattle.transcript_text.specs.Told.{IsPrintable}
 
@@ -71,6 +73,8 @@ module _ (p : Policy) (sound : IsSound p) where
   checks_printable (Claim id day) = (last_day, (tt, (end_day, (due_day, tt))))
   checks_printable (Settle id day amount) = (last_day, (tt, (omega (arith, sound.outstanding_in, sound.issue_in.amount_in), tt)))
   checks_printable (Mature id day) = (last_day, (tt, (due_day, (end_day, tt))))
+  checks_printable (MakePaidUp id day amount) = (last_day, (tt, (end_day, (tt, (due_day, (omega (arith, sound.issue_in.amount_in), tt))))))
+  checks_printable Upgrade = (tt, tt)
 
 -- the first that applies is one of them
 by_first : (applies : Bool) (first : Refusal) (others : Option Refusal) (after : Policy) (refusal : Refusal) → IsPrintable first
@@ -88,14 +92,12 @@ first_printable (check ∷ checks) after refusal each e =
 
 next_printable : (policy : Option Policy) (command : Command) (refusal : Refusal) → IfSome policy IsSound
     → next policy command ≡ Err refusal → IsPrintable refusal
-next_printable None (Issue id day plan age years amount premium) refusal sound e = absurd (cc)
-next_printable None (Premium id day amount) refusal sound e = let same : Unknown ≡ refusal = cc in subst IsPrintable same tt
-next_printable None (Alter id day amount premium) refusal sound e = let same : Unknown ≡ refusal = cc in subst IsPrintable same tt
-next_printable None (Lapse id day) refusal sound e = let same : Unknown ≡ refusal = cc in subst IsPrintable same tt
-next_printable None (Reinstate id day amount) refusal sound e = let same : Unknown ≡ refusal = cc in subst IsPrintable same tt
-next_printable None (Claim id day) refusal sound e = let same : Unknown ≡ refusal = cc in subst IsPrintable same tt
-next_printable None (Settle id day amount) refusal sound e = let same : Unknown ≡ refusal = cc in subst IsPrintable same tt
-next_printable None (Mature id day) refusal sound e = let same : Unknown ≡ refusal = cc in subst IsPrintable same tt
+next_printable None command refusal sound e = by_kind (issue_or_other command)
+  where
+    by_kind : IsIssueHere command ⊎ NeedsPolicy command → IsPrintable refusal
+    by_kind (inl c) =
+        let made : next None command ≡ Ok (issued c.id c.day c.plan c.age c.years c.amount c.premium) = ap (next None) c.is in absurd (cc)
+    by_kind (inr other) = let refused = other.refused in let same : Unknown ≡ refusal = cc in subst IsPrintable same tt
 next_printable (Some p) command refusal sound e =
     first_printable (checks_of p command) (changed p command) refusal (checks_printable p sound command) e
 
@@ -106,15 +108,22 @@ full_printable false refusal e = absurd (cc)
 -- why a command can't be posted after valid ones
 pub due_printable : (commands : List Command) (command : Command) (refusal : Refusal) → AllByRecursion IsValid commands
     → refusal_due commands command ≡ Some refusal → IsPrintable refusal
-due_printable commands command refusal valid e =
-    by (next (policy_of commands (id_of command)) command) refl e
+due_printable commands command refusal valid e = by (judge commands command) refl e
   where
-    by : (decision : Result Policy Refusal) → next (policy_of commands (id_of command)) command ≡ decision
-        → refusal_due commands command ≡ Some refusal → IsPrintable refusal
-    by (Err why) is e =
+    policy : Option Policy
+    policy = policy_of commands (id_of command)
+
+    of_rules : (why : Refusal)
+        → (Upgraded (upgrade_of commands) ≡ why) ⊎ ((NotUpgraded ≡ why) ⊎ (next policy command ≡ Err why)) → IsPrintable why
+    of_rules why (inl again) = subst IsPrintable again tt
+    of_rules why (inr (inl before)) = subst IsPrintable before tt
+    of_rules why (inr (inr refused)) = next_printable policy command why (policy_of-sound commands (id_of command) valid) refused
+
+    by : (judgement : Option Refusal) → judge commands command ≡ judgement → refusal_due commands command ≡ Some refusal → IsPrintable refusal
+    by (Some why) is e =
         let due : Some why ≡ Some refusal = rw is at e in
         let same : why ≡ refusal = cc in
-        subst IsPrintable same (next_printable (policy_of commands (id_of command)) command why (policy_of-sound commands (id_of command) valid) is)
-    by (Ok policy) is e =
+        subst IsPrintable same (of_rules why (judged_refusal (upgrade_of commands) policy command why is))
+    by None is e =
         let due : (if length commands == most_commands then Some Full else None) ≡ Some refusal = rw is at e in
         full_printable (length commands == most_commands) refusal due

@@ -2,7 +2,7 @@
 use Rattle.std.specs.Prelude.{◌<◌, ℕ, ◌^◌, Bool, true, false, List, [], ◌++◌}
 use Rattle.std.specs.List.{flat_map, list_any}
 use Rattle.policy_types.specs.declared.refusal.Refusal.{Refusal}
-use Rattle.policy_types.specs.declared.refusal.Refusal.TheVariants.{Taken, Unknown, BeforeLast, WrongStatus, TermOver, NothingDue, TooEarly, GraceOver, NotInArrears, TooLate, WrongAmount, NotAReduction, NotMatured, OverSettled, Full}
+use Rattle.policy_types.specs.declared.refusal.Refusal.TheVariants.{Taken, Unknown, BeforeLast, WrongStatus, TermOver, NothingDue, TooEarly, GraceOver, NotInArrears, TooLate, WrongAmount, NotAReduction, NotMatured, OverSettled, Full, NotUpgraded, Upgraded}
 use Rattle.policy_types.specs.declared.script.Line.{Line}
 use Rattle.policy_types.specs.declared.script.Line.TheVariants.{Post, Value, Trim}
 use Rattle.policy_types.specs.declared.watcher.Report.{Report}
@@ -34,6 +34,8 @@ IsPrintable (NotAReduction amount) = amount < 2 ^ 63
 IsPrintable (NotMatured end) = IsTermDay end
 IsPrintable (OverSettled outstanding) = outstanding < 2 ^ 63
 IsPrintable Full = Unit {0}
+IsPrintable NotUpgraded = Unit {0}
+IsPrintable (Upgraded position) = Unit {0}
 
 -- a refusal can be written
 abbrev pub IsToldAnswer : Answer → Type 0

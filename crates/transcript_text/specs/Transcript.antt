@@ -4,7 +4,7 @@ use Rattle.std.specs.List.{AllZip, Contains, enumerate_from, flat_map}
 use Rattle.basis_book.specs.Dated.{Dated}
 use Rattle.policy_types.specs.declared.command.Command.{Command}
 use Rattle.policy_types.specs.declared.refusal.Refusal.{Refusal}
-use Rattle.policy_types.specs.declared.refusal.Refusal.TheVariants.{Taken, Unknown, BeforeLast, WrongStatus, TermOver, NothingDue, TooEarly, GraceOver, NotInArrears, TooLate, WrongAmount, NotAReduction, NotMatured, OverSettled, Full}
+use Rattle.policy_types.specs.declared.refusal.Refusal.TheVariants.{Taken, Unknown, BeforeLast, WrongStatus, TermOver, NothingDue, TooEarly, GraceOver, NotInArrears, TooLate, WrongAmount, NotAReduction, NotMatured, OverSettled, Full, NotUpgraded, Upgraded}
 use Rattle.policy_types.specs.declared.entry.Reply.{Reply}
 use Rattle.policy_types.specs.declared.entry.Reply.TheVariants.{Accepted, Refused, Faulted, Pinned, PinRefused, Floor, Blank}
 use Rattle.policy_types.specs.declared.entry.PinRefusal.{PinRefusal}
@@ -42,6 +42,8 @@ refusal_fields (NotAReduction amount) = codes "notareduction" ∷ cents_text amo
 refusal_fields (NotMatured end) = codes "notmatured" ∷ day_text end ∷ []
 refusal_fields (OverSettled outstanding) = codes "oversettled" ∷ cents_text outstanding ∷ []
 refusal_fields Full = codes "full" ∷ codes "4000000" ∷ []
+refusal_fields NotUpgraded = codes "notupgraded" ∷ []
+refusal_fields (Upgraded position) = codes "upgraded" ∷ decimal position ∷ []
 
 -- what became of a posting
 abbrev pub reply_fields : Reply → List (List ℕ)
@@ -51,7 +53,7 @@ reply_fields (Faulted count) = codes "fault" ∷ []
 reply_fields Blank = codes "nomemory" ∷ []
 reply_fields _ = []
 
--- the line of a clerk's posting: the clerk, the kind, the policy and what became of it
+-- the line of a clerk's posting: the clerk, the kind, the policy, 0 where none is named, and what became of it
 abbrev pub posting_text : ℕ → Command → Reply → List ℕ
 posting_text clerk command reply =
     line_of (decimal clerk) (kind_word command ∷ decimal (id_of command) ∷ reply_fields reply)

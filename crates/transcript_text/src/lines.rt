@@ -196,6 +196,8 @@ fn write_refusal(text: &mut LineWriter, refusal: Refusal) -> Result<(), NoMemory
         Refusal::NotAReduction(cents) => write_cents(text, "notareduction", cents),
         Refusal::OverSettled(cents) => write_cents(text, "oversettled", cents),
         Refusal::Full => write_word(text, "full", "4000000"),
+        Refusal::NotUpgraded => text.word("notupgraded"),
+        Refusal::Upgraded(position) => write_number(text, "upgraded", position),
     }
 }
 

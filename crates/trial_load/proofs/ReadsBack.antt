@@ -1,6 +1,6 @@
 -- The generated text reads back as its rows, and these as the generated lanes
 use Rattle.std.proofs.Common.{◌≡◌, ℕ, zero, suc, ◌+◌, ◌*◌, ◌/◌, ◌-◌, ◌%◌, ◌^◌, ◌<◌, ◌≤◌, ◌==◌, ◌⊎◌, ℤ, Bool, true, false, List, [], ◌∷◌, ◌++◌, length, map, refl, ap, sym, ◌∙◌, subst, inl, inr, cond, arith, add-one, append-nil, append_assoc}
-use Rattle.std.specs.Prelude.{decimal, codes, Some, None}
+use Rattle.std.specs.Prelude.{decimal, codes, Some, None, Option}
 use Rattle.std.specs.List.{AllByRecursion, AllZip, filter, flat_map, list_any}
 use Rattle.std.proofs.lemmas.Bool.{cases_Bool, cases_lt, eq-eqb, ne_eqb}
 use Rattle.std.specs.Int.Digits.{digits_of}
@@ -16,11 +16,11 @@ use Rattle.life_dates.specs.Calendar.{Date, date_of}
 use Rattle.life_dates.specs.DayText.{date_text, day_text, two_digits}
 use Rattle.money_core.specs.CentsText.{cents_text, hundredths_text}
 use Rattle.text_lines.specs.Lines.{behind_commas, line_of}
-use Rattle.text_lines.specs.Fields.{term_fields}
+use Rattle.text_lines.specs.Fields.{day_fields, entry_fields, term_fields}
 use Rattle.policy_types.specs.Words.{kind_word, plan_word}
-use Rattle.policy_types.specs.Valid.{AreYears, IsValid, day_of, id_of}
+use Rattle.policy_types.specs.Valid.{AreYears, IsValid, day_of, id_of, is_upgrade}
 use Rattle.policy_types.specs.declared.command.Command.{Command}
-use Rattle.policy_types.specs.declared.command.Command.TheVariants.{Issue, Premium, Alter, Lapse, Reinstate, Claim, Settle, Mature}
+use Rattle.policy_types.specs.declared.command.Command.TheVariants.{Issue, Premium, Alter, Lapse, Reinstate, Claim, Settle, Mature, PaidUp, Upgrade}
 use Rattle.policy_types.specs.declared.command.Plan.{Plan}
 use Rattle.policy_types.specs.declared.command.Plan.TheVariants.{Term, Whole, Endowment, Limited}
 use Rattle.policy_types.specs.declared.script.Lane.{Lane}
@@ -99,7 +99,7 @@ plain_plan Limited = refl
 
 -- the text of a row is what the default writer writes of its fields
 abbrev fields_in : ScriptRow → List (List ℕ)
-fields_in row = kind_word row.command ∷ decimal (id_of row.command) ∷ day_text (day_of row.command) ∷ term_fields row.command
+fields_in row = kind_word row.command ∷ decimal (id_of row.command) ∷ entry_fields row.command
 
 written : (fields : List (List ℕ)) → AllByRecursion Plain fields → fields_text default_writer fields ≡ behind_commas fields
 unfolding fields_text
@@ -142,6 +142,12 @@ plain_terms (Reinstate id day amount) valid = (plain_amount amount (let most = v
 plain_terms (Claim id day) valid = tt
 plain_terms (Settle id day amount) valid = (plain_amount amount (let most = valid.2.1 in omega (arith, most)), tt)
 plain_terms (Mature id day) valid = tt
+plain_terms (PaidUp id day amount) valid = (plain_amount amount (let most = valid.2.1 in omega (arith, most)), tt)
+plain_terms Upgrade valid = tt
+
+plain_behind : (day : Option ℤ) (fields : List (List ℕ)) → AllByRecursion Plain fields → AllByRecursion Plain (day_fields day ++ fields)
+plain_behind (Some day) fields plain = (plain_day day, plain)
+plain_behind None fields plain = plain
 
 plain_kind : (command : Command) → Plain (kind_word command)
 plain_kind (Issue id day plan age years amount premium) = refl
@@ -152,6 +158,8 @@ plain_kind (Reinstate id day amount) = refl
 plain_kind (Claim id day) = refl
 plain_kind (Settle id day amount) = refl
 plain_kind (Mature id day) = refl
+plain_kind (PaidUp id day amount) = refl
+plain_kind Upgrade = refl
 
 small_id : (command : Command) → IsValid command → id_of command ≤ 4294967295
 small_id (Issue id day plan age years amount premium) valid = valid.id_in.1
@@ -162,13 +170,15 @@ small_id (Reinstate id day amount) valid = valid.0.1
 small_id (Claim id day) valid = valid.0.1
 small_id (Settle id day amount) valid = valid.0.1
 small_id (Mature id day) valid = valid.0.1
+small_id (PaidUp id day amount) valid = valid.0.1
+small_id Upgrade valid = omega arith
 
 plain_fields : (row : ScriptRow) → IsValid row.command → AllByRecursion Plain (fields_in row)
 plain_fields row valid = (
   plain_kind row.command,
   (
     plain_number (id_of row.command) (let small = small_id row.command valid in omega (arith, small)),
-    (plain_day (day_of row.command), plain_terms row.command valid),
+    plain_behind (day_of row.command) (term_fields row.command) (plain_terms row.command valid),
   ),
 )
 
@@ -176,22 +186,24 @@ plain_fields row valid = (
 abbrev entry_in : ScriptRow → ClerkLine
 entry_in row = record { clerk = row.lane; line = Post row.command }
 
-same_fields : (lane : ℕ) (command : Command)
+same_fields : (lane : ℕ) (command : Command) → is_upgrade command ≡ false
     → row_fields (record { clerk = lane; line = Post command }) ≡ decimal lane ∷ fields_in (record { lane = lane; command = command })
-same_fields lane (Issue id day plan age years amount premium) = refl
-same_fields lane (Premium id day amount) = refl
-same_fields lane (Alter id day amount premium) = refl
-same_fields lane (Lapse id day) = refl
-same_fields lane (Reinstate id day amount) = refl
-same_fields lane (Claim id day) = refl
-same_fields lane (Settle id day amount) = refl
-same_fields lane (Mature id day) = refl
+same_fields lane (Issue id day plan age years amount premium) named = refl
+same_fields lane (Premium id day amount) named = refl
+same_fields lane (Alter id day amount premium) named = refl
+same_fields lane (Lapse id day) named = refl
+same_fields lane (Reinstate id day amount) named = refl
+same_fields lane (Claim id day) named = refl
+same_fields lane (Settle id day amount) named = refl
+same_fields lane (Mature id day) named = refl
+same_fields lane (PaidUp id day amount) named = refl
+same_fields lane Upgrade named = cc
 
 row_is_written : (row : ScriptRow) → row.lane ≤ 8 → IsValid row.command
     → script_row_text row ≡ row_text default_writer (decimal row.lane ∷ fields_in row)
 unfolding script_row_text
 row_is_written row last valid =
-    sym (row_written (decimal row.lane) (kind_word row.command) (decimal (id_of row.command) ∷ day_text (day_of row.command) ∷ term_fields row.command)
+    sym (row_written (decimal row.lane) (kind_word row.command) (decimal (id_of row.command) ∷ entry_fields row.command)
     (plain_number row.lane (omega (arith, last))) (plain_fields row valid))
 
 -- a text of rows reads as their fields, with as many reads as there are rows, or more
@@ -206,7 +218,7 @@ rows_back lanes (row ∷ rows) (suc more) enough few right =
     let text = row_is_written row (omega (arith, last, few)) right.0.valid in
     rw (
       text,
-      read-write-many (decimal row.lane) (kind_word row.command) (decimal (id_of row.command) ∷ day_text (day_of row.command) ∷ term_fields row.command)
+      read-write-many (decimal row.lane) (kind_word row.command) (decimal (id_of row.command) ∷ entry_fields row.command)
           (flat_map script_row_text rows),
     )
     (ap (λ (later : List (List (List ℕ))). (decimal row.lane ∷ fields_in row) ∷ later) (rows_back lanes rows more (omega (arith, enough)) few right.1))
@@ -251,7 +263,7 @@ line_rows lanes (row ∷ rows) few right =
     let last = right.0.last in (
       record {
         allowed = record { clerk_in = (right.0.first, omega (arith, last, few)); right = right.0.valid };
-        spelled = sym (same_fields row.lane row.command);
+        spelled = sym (same_fields row.lane row.command right.0.named);
       },
       line_rows lanes rows few right.1,
     )

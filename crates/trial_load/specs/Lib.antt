@@ -1,3 +1,4 @@
 pub mod Generating
 pub mod Loading
+pub mod Worked
 pub mod inside

@@ -4,7 +4,9 @@
 mod generating;
 mod laws;
 mod loading;
+mod worked;
 
 pub use generating::generate;
 pub use laws::generated_text_reads;
 pub use loading::load;
+pub use worked::loads_by_hand;

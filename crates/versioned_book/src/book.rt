@@ -87,6 +87,15 @@ impl<V: Copy> VersionedBook<V> {
         }
     }
 
+    /// A position above all before at which no key is set: it counts as the last.
+    pub fn pass(&mut self, position: u32)
+        requires rising { self.old.last < position }
+        ensures book { (sets : List (Setting V)) → IsBookOf self.old sets → IsBookOf self.new sets }
+        ensures floor { (self.new.floor ≡ self.old.floor) × (self.new.last ≡ position) }
+    {
+        self.last = position;
+    }
+
     /// The newest value of a key.
     pub fn get(&self, key: u32) -> Option<V>
         ensures { (sets : List (Setting V)) → IsBookOf self.now sets → result ≡ newest_of (own key sets) }
@@ -132,7 +141,7 @@ impl<V: Copy> VersionedBook<V> {
         self.kept
     }
 
-    /// Drops what no position from the floor on needs. A floor above the last setting counts as the position of that.
+    /// Drops what no position from the floor on needs. A floor above the last position counts as that.
     pub fn trim(&mut self, floor: u32)
         requires rising { self.old.floor ≤ floor }
         requires stands { IsSomeBook self.old }

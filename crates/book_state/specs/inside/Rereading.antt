@@ -1,10 +1,11 @@
 -- What reading a journal's records again tells, for one policy
-use Rattle.std.specs.Prelude.{◌≡◌, ℕ, List, [], ◌∷◌, ◌++◌, ◌<◌, length, take, slice_index_or, IsOk, codes}
+use Rattle.std.specs.Prelude.{◌≡◌, ℕ, List, [], ◌∷◌, ◌++◌, ◌<◌, ◌⊎◌, length, take, slice_index_or, IsOk, codes}
 use Rattle.std.specs.List.{AllByRecursion}
 use Rattle.outside_io.specs.Faults.{Rose}
 use Rattle.outside_io.specs.Streams.{AppendsPart}
 use Rattle.outside_io.specs.declared.disks.Disk.{Ghosts}
 use Rattle.policy_types.specs.declared.command.Command.{Command}
+use Rattle.policy_types.specs.declared.command.Command.TheVariants.{Upgrade}
 use Rattle.policy_types.specs.Valid.{IsValid, id_of}
 use Rattle.policy_machine.specs.Book.{policy_of}
 use Rattle.policy_machine.specs.Rules.{next}
@@ -31,9 +32,9 @@ pub record IsAccount (account : Account) (commands : List Command) : Type 0 wher
   pub entries : account.entries.items ≡ policy_entries commands account.id
   pub policy : account.policy ≡ policy_of commands account.id
 
--- the rules accept the command after these
+-- the rules accept the command of its policy after these, or it is an upgrade
 abbrev pub CanBeNext : List Command → Command → Type 0
-CanBeNext commands command = IsOk (next (policy_of commands (id_of command)) command)
+CanBeNext commands command = (command ≡ Upgrade) ⊎ IsOk (next (policy_of commands (id_of command)) command)
 
 -- the command isn't added: the rules refuse it, or there was no memory
 abbrev pub IsUnadded : List Command → Command → ℕ → StartCause → Type 0

@@ -5,7 +5,7 @@ use Rattle.policy_types.specs.Valid.{IsId, IsCommandDay, IsAmount, IsReinstateme
 use Rattle.life_dates.specs.DayText.{day_text}
 use Rattle.money_core.specs.CentsText.{cents_text}
 use Rattle.command_csv.specs.declared.kind.Kind.{Kind}
-use Rattle.command_csv.specs.declared.kind.Kind.TheVariants.{Issue, Premium, Alter, Lapse, Reinstate, Claim, Settle, Mature, Value, Trim}
+use Rattle.command_csv.specs.declared.kind.Kind.TheVariants.{Issue, Premium, Alter, Lapse, Reinstate, Claim, Settle, Mature, PaidUp, Upgrade, Value, Trim}
 use Rattle.command_csv.specs.Reads.{IsClerk, IsPosition, AreWorkers, most_valuations}
 use Rattle.command_csv.specs.Spelling.{at_text}
 use Rattle.policy_types.specs.Words.{plan_word}
@@ -62,6 +62,8 @@ kind_spelling Reinstate = codes "reinstate"
 kind_spelling Claim = codes "claim"
 kind_spelling Settle = codes "settle"
 kind_spelling Mature = codes "mature"
+kind_spelling PaidUp = codes "paidup"
+kind_spelling Upgrade = codes "upgrade"
 kind_spelling Value = codes "value"
 kind_spelling Trim = codes "trim"
 
@@ -75,6 +77,8 @@ form_of Reinstate = PolicyAndDay Reinstatement
 form_of Claim = PolicyAndDay Ends
 form_of Settle = PolicyAndDay (Amount Ends)
 form_of Mature = PolicyAndDay Ends
+form_of PaidUp = PolicyAndDay (Amount Ends)
+form_of Upgrade = Ends
 form_of Value = ValuationOn
 form_of Trim = Ends
 

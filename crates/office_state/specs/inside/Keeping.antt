@@ -4,7 +4,7 @@ use Rattle.std.specs.Coded.{×_prop, Unit-prop}
 use Rattle.std.specs.List.{AllByRecursion}
 use Rattle.std.proofs.Props.{props}
 use Rattle.policy_types.specs.declared.command.Command.{Command}
-use Rattle.policy_types.specs.declared.command.Command.TheVariants.{Issue, Premium, Alter, Lapse, Reinstate, Claim, Settle, Mature}
+use Rattle.policy_types.specs.declared.command.Command.TheVariants.{Issue, Premium, Alter, Lapse, Reinstate, Claim, Settle, Mature, PaidUp, Upgrade}
 use Rattle.policy_types.specs.declared.command.Plan.TheVariants.{Term, Whole, Endowment, Limited}
 use Rattle.policy_types.specs.declared.policy.Policy.{Policy}
 use Rattle.policy_types.specs.Limits.{most_commands}
@@ -12,18 +12,19 @@ use Rattle.policy_types.specs.Valid.{IsValid}
 use Rattle.money_ledgers.specs.Balances.{balances}
 use Rattle.money_ledgers.specs.declared.ledger.Ledger.{Ledger}
 use Rattle.policy_machine.specs.Accounts.{ledger_of}
-use Rattle.policy_machine.specs.Book.{IsAccepted, IsAcceptedAfter}
+use Rattle.policy_machine.specs.Book.{IsAccepted, IsAcceptedAfter, upgrade_of}
 use Rattle.policy_versions.specs.Commands.{sets_of}
 use Rattle.versioned_book.specs.Books.{IsBookOf, IsBookOf-prop}
 use Rattle.versioned_book.specs.declared.book.VersionedBook.{VersionedBook}
 
--- The commands are accepted one after the other. Each of them set the version of its policy at its own number, from 1, the
--- last of them the last, and the balances are theirs.
-pub record Keeps (versions : VersionedBook Policy) (count : ℕ) (ledger : Ledger) (commands : List Command) : Type 0 where
+-- The commands are accepted one after the other. Each of them but an upgrade set the version of its policy at its own
+-- number, from 1, the last of them is the last that the versions saw, and the balances are theirs.
+pub record Keeps (versions : VersionedBook Policy) (count upgrade : ℕ) (ledger : Ledger) (commands : List Command) : Type 0 where
   pub valid : AllByRecursion IsValid commands
   pub accepted : IsAccepted commands
   pub few : length commands ≤ most_commands
   pub counted : count ≡ length commands
+  pub upgraded : upgrade ≡ upgrade_of commands
   pub set : IsBookOf versions (sets_of commands)
   pub last : versions.last ≡ length commands
   pub booked : balances ledger ≡ ledger_of commands
@@ -40,6 +41,8 @@ IsValid-prop (Reinstate id day amount) = Prim.hlevel props
 IsValid-prop (Claim id day) = Prim.hlevel props
 IsValid-prop (Settle id day amount) = Prim.hlevel props
 IsValid-prop (Mature id day) = Prim.hlevel props
+IsValid-prop (PaidUp id day amount) = Prim.hlevel props
+IsValid-prop Upgrade = Prim.hlevel props
 
 IsAcceptedAfter-prop : (before commands : List Command) → IsProp (IsAcceptedAfter before commands)
 IsAcceptedAfter-prop before [] = Unit-prop
@@ -49,6 +52,6 @@ set-prop : (versions : VersionedBook Policy) (commands : List Command) → IsPro
 set-prop versions commands = IsBookOf-prop (Prim.hlevel props) versions (sets_of commands)
 
 -- it has one proof at most
-pub Keeps-prop : (versions : VersionedBook Policy) (count : ℕ) (ledger : Ledger) (commands : List Command)
-    → IsProp (Keeps versions count ledger commands)
-Keeps-prop versions count ledger commands = Prim.hlevel (props, IsValid-prop, IsAcceptedAfter-prop, set-prop)
+pub Keeps-prop : (versions : VersionedBook Policy) (count upgrade : ℕ) (ledger : Ledger) (commands : List Command)
+    → IsProp (Keeps versions count upgrade ledger commands)
+Keeps-prop versions count upgrade ledger commands = Prim.hlevel (props, IsValid-prop, IsAcceptedAfter-prop, set-prop)

@@ -1,16 +1,13 @@
 -- Worked histories of postings: positions, faults, and what an office can be opened on
-use Rattle.std.specs.Prelude.{◌≡◌, ℕ, ◌-◌, ◌^◌, List, [], ◌∷◌, pos, Some, None, Ok, Err, length}
+use Rattle.std.specs.Prelude.{◌≡◌, ℕ, ◌-◌, ◌^◌, List, [], ◌∷◌, pos, Some, None, length}
 use Rattle.policy_types.specs.declared.command.Command.{Command}
 use Rattle.policy_types.specs.declared.command.Command.TheVariants.{Issue}
 use Rattle.policy_types.specs.declared.command.Plan.TheVariants.{Whole}
-use Rattle.policy_types.specs.declared.policy.Policy.{Policy}
 use Rattle.policy_types.specs.declared.refusal.Refusal.{Refusal}
 use Rattle.policy_types.specs.declared.refusal.Refusal.TheVariants.{Taken, Unknown, Full}
 use Rattle.policy_types.specs.declared.entry.Call.TheVariants.{Post}
 use Rattle.policy_types.specs.declared.entry.Reply.TheVariants.{Accepted, Refused, Faulted, Blank}
-use Rattle.policy_types.specs.Valid.{id_of}
-use Rattle.policy_machine.specs.Rules.{next}
-use Rattle.policy_machine.specs.Book.{policy_of}
+use Rattle.policy_machine.specs.Book.{judge}
 use Rattle.policy_machine.specs.History.{IsDue, IsLegalAfter, IsOpening, opened_on, refusal_due}
 use Rattle.policy_machine.specs.Worked.Cases.{policy_issue, premium_on, paid_once, empty_office, posting}
 
@@ -59,20 +56,18 @@ NoRefusal = (refusal : Refusal) → IsDue empty_office [] 1 (Post policy_issue) 
 
 -- 4,000,000 commands are accepted in all: then what the rules accept is refused as full
 abbrev pub FullAtTheLimit : Type 0
-FullAtTheLimit = (commands : List Command) (command : Command) (after : Policy)
-    → next (policy_of commands (id_of command)) command ≡ Ok after → length commands ≡ 4000000
+FullAtTheLimit = (commands : List Command) (command : Command) → judge commands command ≡ None → length commands ≡ 4000000
     → refusal_due commands command ≡ Some Full
 
 -- and before that it isn't
 abbrev pub NotFullBefore : Type 0
-NotFullBefore = (commands : List Command) (command : Command) (after : Policy)
-    → next (policy_of commands (id_of command)) command ≡ Ok after → (length commands ≡ 4000000 → ⊥)
+NotFullBefore = (commands : List Command) (command : Command) → judge commands command ≡ None → (length commands ≡ 4000000 → ⊥)
     → refusal_due commands command ≡ None
 
 -- a refusal of the rules comes first
 abbrev pub RulesBeforeFull : Type 0
 RulesBeforeFull = (commands : List Command) (command : Command) (refusal : Refusal)
-    → next (policy_of commands (id_of command)) command ≡ Err refusal
+    → judge commands command ≡ Some refusal
     → refusal_due commands command ≡ Some refusal
 
 -- an office can be opened on an issue and its first premium, and not on the premium alone

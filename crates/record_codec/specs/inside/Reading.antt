@@ -2,7 +2,7 @@
 use Rattle.std.specs.Prelude.{ℕ, ◌==◌, ◌<◌, ◌^◌, if◌then◌else◌, FitsSigned, Option, Some, None, option_map}
 use Rattle.std.specs.Int.{w32}
 use Rattle.policy_types.specs.declared.command.Command.{Command}
-use Rattle.policy_types.specs.declared.command.Command.TheVariants.{Issue, Premium, Alter, Lapse, Reinstate, Claim, Settle, Mature}
+use Rattle.policy_types.specs.declared.command.Command.TheVariants.{Issue, Premium, Alter, Lapse, Reinstate, Claim, Settle, Mature, PaidUp, Upgrade}
 use Rattle.policy_types.specs.declared.command.Plan.{Plan}
 use Rattle.policy_types.specs.declared.command.Plan.TheVariants.{Term, Whole, Endowment, Limited}
 use Rattle.record_codec.specs.declared.fields.Fields.{Fields}
@@ -30,4 +30,6 @@ command_at f =
     else if f.kind == 5 then Some (Reinstate f.id f.day f.amount)
     else if f.kind == 6 then Some (Claim f.id f.day)
     else if f.kind == 7 then Some (Settle f.id f.day f.amount)
-    else if f.kind == 8 then Some (Mature f.id f.day) else None
+    else if f.kind == 8 then Some (Mature f.id f.day)
+    else if f.kind == 9 then Some Upgrade
+    else if f.kind == 10 then Some (PaidUp f.id f.day f.amount) else None

@@ -50,3 +50,11 @@ returns-clause-value_at c = says_one _ _ refl ((omega (arith, ints), omega (arit
 pub returns-clause-trim : goal.returns-clause-trim
 unfolding csv_on_literals digits day_text date_of date_at year_of month_of days_before days_before_year days_of_months
 returns-clause-trim c = says_one _ _ refl tt
+
+pub returns-clause-paid_up : goal.returns-clause-paid_up
+unfolding csv_on_literals digits day_text date_of date_at year_of month_of days_before days_before_year days_of_months
+returns-clause-paid_up c = says_one _ _ refl ((lit≤ tt, lit≤ tt), (omega (arith, ints), omega (arith, ints)), (lit≤ tt, lit≤ tt))
+
+pub returns-clause-upgrade : goal.returns-clause-upgrade
+unfolding csv_on_literals digits day_text date_of date_at year_of month_of days_before days_before_year days_of_months
+returns-clause-upgrade c = says_one _ _ refl tt

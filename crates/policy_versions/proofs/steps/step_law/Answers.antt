@@ -1,4 +1,4 @@
-use Rattle.policy_versions.proofs.SetSteps.{sets_of-accepted, sets_of-refused}
+use Rattle.policy_versions.proofs.SetSteps.{sets_of-accepted, sets_of-refused, sets_of-upgrade}
 use Rattle.policy_versions.proofs.steps.step_law.Goals as goal
 
 pub returns-clause-accepted : goal.returns-clause-accepted
@@ -6,3 +6,6 @@ returns-clause-accepted c = sets_of-accepted
 
 pub returns-clause-refused : goal.returns-clause-refused
 returns-clause-refused c = sets_of-refused
+
+pub returns-clause-upgrade : goal.returns-clause-upgrade
+returns-clause-upgrade c = sets_of-upgrade

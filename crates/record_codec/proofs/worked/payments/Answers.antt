@@ -13,3 +13,7 @@ returns-clause-reinstatement c = refl
 pub returns-clause-settlement : goal.returns-clause-settlement
 unfolding spelling_of
 returns-clause-settlement c = refl
+
+pub returns-clause-paid_up : goal.returns-clause-paid_up
+unfolding spelling_of
+returns-clause-paid_up c = refl

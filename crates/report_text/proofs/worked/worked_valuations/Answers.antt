@@ -20,3 +20,7 @@ returns-clause-none c = refl
 pub returns-clause-two : goal.returns-clause-two
 unfolding heading_text row_text total_text day_text date_of date_at year_of month_of days_before_year days_of_months digits
 returns-clause-two c = refl
+
+pub returns-clause-paid_up : goal.returns-clause-paid_up
+unfolding row_text digits
+returns-clause-paid_up c = (refl, refl)

@@ -1,10 +1,11 @@
-use Rattle.std.proofs.Common.{◌≡◌, ℕ, ◌==◌, true, false, List, length, refl, ap, sym, ◌∙◌, subst, Option, Some, Ok}
+use Rattle.std.proofs.Common.{◌≡◌, ℕ, ◌==◌, true, false, List, length, refl, ap, sym, ◌∙◌, subst, Option, Some, Ok, arith}
 use Rattle.std.specs.Prelude.{IfSome}
 use Rattle.std.proofs.lemmas.Bool.{eq-eqb, ne_eqb}
 use Rattle.policy_types.specs.declared.command.Command.{Command}
 use Rattle.policy_types.specs.declared.policy.Policy.{Policy}
 use Rattle.policy_types.specs.Valid.{id_of}
 use Rattle.policy_machine.specs.Rules.{IsSound, next}
+use Rattle.policy_machine.proofs.JudgeLemmas.{named-no_upgrade}
 use Rattle.book_state.specs.inside.Rereading.{IsAccount}
 use Rattle.book_state.proofs.ReadingSteps.{account_other, account_own, account_own_policy, account_sound}
 use Rattle.book_state.proofs.rereading.Account.add.Goals as goal
@@ -14,6 +15,11 @@ returns-then-id-self-clause-added c = λ (commands : List Command) (holds : IsAc
     let other : (id_of c.args.command.now == c.args.self.now.id) ≡ false =
     ne_eqb (id_of c.args.command.now) c.args.self.now.id (λ h. c.if-id-self.true (c.id.ensures ∙ h)) in
     account_other c.args.self.now commands c.args.command.now holds c.requires.valid other
+
+pub decide-requires-clause-named : goal.decide-requires-clause-named
+decide-requires-clause-named c =
+    let own : id_of c.args.command.now ≡ c.args.self.now.id = sym c.id.ensures ∙ c.if-id-self.false in
+    named-no_upgrade c.args.command.now (omega (arith, own, c.requires.named))
 
 pub decide-requires-clause-own : goal.decide-requires-clause-own
 decide-requires-clause-own c =

@@ -1,34 +1,36 @@
--- The command makes its policy's newest version, at its own number.
-use Rattle.std.proofs.Common.{IfOk, subst}
+-- What was accepted made a policy, or is an upgrade.
+use Rattle.std.proofs.Common.{◌≡◌, Ok, Option, ap, ◌∙◌}
+use Rattle.policy_types.specs.declared.policy.Policy.{Policy}
 use Rattle.policy_types.specs.Valid.{id_of}
-use Rattle.policy_machine.specs.Book.{policy_of}
-use Rattle.policy_machine.specs.Rules.{IsSound}
-use Rattle.policy_machine.proofs.BookLemmas.{policy_of-sound}
-use Rattle.policy_machine.proofs.SoundLemmas.{next-sound}
-use Rattle.office_state.proofs.KeepingSteps.{has_room, keeps_more, some_book}
+use Rattle.policy_machine.specs.Book.{policy_of, refusal_in, upgrade_of}
+use Rattle.policy_machine.proofs.JudgeLemmas.{judged_none, judged_some, next-no_upgrade}
+use Rattle.office_state.specs.inside.Books.{commands_in}
 use Rattle.office_state.proofs.books.Books.keep.Goals as goal
 
-pub post-requires-clause-amount : goal.post-requires-clause-amount
-post-requires-clause-amount c =
-    let old = c.args.self.now in
-    let commands = old.accepted.commands in
+pub keep_policy-requires-clause-accepted : goal.keep_policy-requires-clause-accepted
+keep_policy-requires-clause-accepted c =
+    let commands = commands_in c.args.self.now in
     let command = c.args.command.now in
-    let sound = subst (λ r. IfOk r IsSound) c.requires.accepted
-    (next-sound (policy_of commands (id_of command)) command c.requires.valid (policy_of-sound commands (id_of command) old.kept.valid)) in
-    sound.issue_in.amount_in.1
+    judged_some (upgrade_of commands) (policy_of commands (id_of command)) command c.in-Some.policy
+    (c.requires.accepted ∙ ap (λ (left : Option Policy). Ok left) c.in-Some.is)
 
-pub post-requires-clause-room : goal.post-requires-clause-room
-post-requires-clause-room c =
-    let old = c.args.self.now in has_room old.versions old.count old.ledger old.accepted.commands old.kept
+pub keep_policy-requires-clause-judged : goal.keep_policy-requires-clause-judged
+keep_policy-requires-clause-judged c = ap refusal_in c.requires.accepted
 
-pub set-requires-clause-stands : goal.set-requires-clause-stands
-set-requires-clause-stands c =
-    let old = c.args.self.now in some_book old.versions old.count old.ledger old.accepted.commands old.kept
+pub keep_policy-requires-clause-named : goal.keep_policy-requires-clause-named
+keep_policy-requires-clause-named c =
+    let commands = commands_in c.args.self.now in
+    let command = c.args.command.now in
+    next-no_upgrade (policy_of commands (id_of command)) command c.in-Some.policy
+    (judged_some (upgrade_of commands) (policy_of commands (id_of command)) command c.in-Some.policy
+    (c.requires.accepted ∙ ap (λ (left : Option Policy). Ok left) c.in-Some.is))
 
-pub invariant_of-self : goal.invariant_of-self
-invariant_of-self c =
-    let old = c.args.self.now in
-    record {
-      kept = rw c.with-self.ensures (keeps_more old.versions c.set.new.self old.count old.ledger c.post.new.self old.accepted.commands c.args.command.now c.args.policy c.requires.valid
-          c.requires.few old.kept c.requires.accepted (rw c.id.ensures at c.set.ensures.book) c.set.ensures.floor.1 c.post.ensures);
-    }
+pub keep_upgrade-requires-clause-judged : goal.keep_upgrade-requires-clause-judged
+keep_upgrade-requires-clause-judged c = ap refusal_in c.requires.accepted
+
+pub keep_upgrade-requires-clause-upgrade : goal.keep_upgrade-requires-clause-upgrade
+keep_upgrade-requires-clause-upgrade c =
+    let commands = commands_in c.args.self.now in
+    let command = c.args.command.now in
+    judged_none (upgrade_of commands) (policy_of commands (id_of command)) command
+    (c.requires.accepted ∙ ap (λ (left : Option Policy). Ok left) c.in-None.is)

@@ -1,9 +1,7 @@
 use Rattle.std.proofs.Common.{◌≡◌, ℕ, List, refl, sym, ◌∙◌, Err, subst}
 use Rattle.policy_types.specs.declared.entry.Entry.{Entry}
 use Rattle.policy_types.specs.declared.entry.Reply.TheVariants.{Blank, Refused}
-use Rattle.policy_types.specs.Valid.{id_of}
-use Rattle.policy_machine.specs.Book.{policy_of}
-use Rattle.policy_machine.specs.Rules.{next}
+use Rattle.policy_machine.specs.Book.{judged_after}
 use Rattle.policy_machine.specs.History.{commands_after}
 use Rattle.office_state.specs.Standing.{StandsFor}
 use Rattle.office_state.specs.States.{opening_of}
@@ -27,9 +25,9 @@ returns-in-Err-clause-stands g c = λ (history : List Entry) (caller : ℕ) (sta
     let old = c.args.self.now in
     let command = c.args.command.now in
     let same : commands_in c.take_memory.new.books ≡ commands_after (opening_of old) history = c.take_memory.ensures.commands ∙ stands.listed in
-    let found : next (policy_of (commands_in c.take_memory.new.books) (id_of command)) command ≡ Err c.in-Err.refusal =
-    sym {b = next (policy_of (commands_in c.take_memory.new.books) (id_of command)) command} c.decision.ensures ∙ c.in-Err.is in
-    let decided = subst (λ cs. next (policy_of cs (id_of command)) command ≡ Err c.in-Err.refusal) same found in
+    let found : judged_after (commands_in c.take_memory.new.books) command ≡ Err c.in-Err.refusal =
+    sym {b = judged_after (commands_in c.take_memory.new.books) command} c.judgement.ensures ∙ c.in-Err.is in
+    let decided = subst (λ cs. judged_after cs command ≡ Err c.in-Err.refusal) same found in
     stands_still old history stands c.take_memory.new.books _ (posting caller command (Refused c.in-Err.refusal)) c.take_memory.ensures.commands
     refl refl (is_refused (commands_after (opening_of old) history) command c.in-Err.refusal decided)
     old.pins (stands.pins ∙ posted_pins history caller command (Refused c.in-Err.refusal) refl)

@@ -1,0 +1,20 @@
+-- Worked valuations of a journal without commands, and of positions
+use Rattle.std.specs.Prelude.{◌≡◌, ℕ, List, [], ◌∷◌, ◌++◌, codes, pos}
+use Rattle.policy_types.specs.declared.entry.At.TheVariants.{Now, Position}
+use Rattle.program_endings.specs.Worked.{output_with}
+use Rattle.book_value.specs.Valuing.{IsBeyond, IsValuation, position_of}
+
+abbrev pub PositionsAsked : Type 0
+PositionsAsked = (position_of Now 7 ≡ 7) × (position_of (Position 2) 7 ≡ 2) × (position_of (Position 9) 7 ≡ 9)
+
+-- nobody is valued, and there is no need of a basis for it
+abbrev pub NobodyValued : Type 0
+NobodyValued = IsValuation [] (pos 18628) Now [] (λ text.
+    text ≡ codes "0,value,2021-01-01,0,0" ++ (10 ∷ []) ++ codes "total,0.00,0.00,0" ++ 10 ∷ [])
+
+-- three commands are asked for of none
+abbrev pub AheadOfNone : Type 0
+AheadOfNone = IsBeyond [] (Position 3) (output_with 0 [] (codes "refused,ahead,0" ++ 10 ∷ []))
+    × (IsBeyond [] (Position 3) (output_with 0 [] (codes "refused,ahead,3" ++ 10 ∷ [])) → ⊥)
+    × (IsBeyond [] (Position 0) (output_with 0 [] (codes "refused,ahead,0" ++ 10 ∷ [])) → ⊥)
+    × (IsBeyond [] Now (output_with 0 [] (codes "refused,ahead,0" ++ 10 ∷ [])) → ⊥)

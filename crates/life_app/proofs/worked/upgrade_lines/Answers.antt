@@ -1,0 +1,9 @@
+use Rattle.std.specs.Fmt.{digits}
+use Rattle.std.proofs.Common.{refl}
+use Rattle.life_dates.specs.Calendar.{date_of, year_of, month_of, days_before, days_before_year, days_of_months}
+use Rattle.life_dates.specs.DayText.{day_text}
+use Rattle.life_app.proofs.worked.upgrade_lines.Goals as goal
+
+pub returns : goal.returns
+unfolding digits day_text date_of year_of month_of days_before days_before_year days_of_months
+returns c = (refl, refl, refl, refl, refl)

@@ -1,0 +1,125 @@
+-- What worked files of an office are told by.
+use Rattle.std.proofs.Common.{◌≡◌, ◌≤◌, ◌<◌, Option, Some, None, ◌++◌, ◌∷◌, ◌∙◌, ℕ, zero, suc, List, [], length, take, ap, sym, subst, refl, inl, inr, lit<, lit≤, length-append, arith, pos}
+use Rattle.std.specs.Prelude.{slice_index, replicate}
+use Rattle.std.specs.List.{AllByRecursion}
+use Rattle.std.proofs.lemmas.Int.{ints}
+use Rattle.life_dates.specs.Anniversary as dates
+use Rattle.policy_types.specs.declared.command.Command.{Command}
+use Rattle.policy_types.specs.declared.entry.Call.{Call}
+use Rattle.policy_types.specs.declared.entry.Call.TheVariants.{Post}
+use Rattle.policy_types.specs.declared.entry.Reply.{Reply}
+use Rattle.policy_types.specs.declared.entry.Reply.TheVariants.{Accepted, Faulted, Blank}
+use Rattle.policy_types.specs.declared.entry.Entry.{Entry}
+use Rattle.policy_types.specs.declared.refusal.Refusal.{Refusal}
+use Rattle.policy_types.specs.declared.refusal.Refusal.TheVariants.{Taken}
+use Rattle.policy_types.specs.Valid.{IsValid}
+use Rattle.policy_machine.specs.Book.{IsAccepted, judge}
+use Rattle.policy_machine.specs.History.{accepted_of}
+use Rattle.record_codec.specs.Spelling.{spelling_of}
+use Rattle.record_codec.proofs.SpellingLemmas.{one_command}
+use Rattle.posting_journal.specs.Files.{HasRecords, IsJournal}
+use Rattle.office_state.specs.Images.{HasFaultedBefore, IsPending}
+use Rattle.office_state.specs.Journals.{CanFollow, IsUnspelled, JournalBytes, bodies_of}
+use Rattle.office_state.specs.Worked.{hand_issue, hand_premium, issue_body, premium_body, issue_record, journal_of_two, premium_turn}
+
+pub valid_issue : IsValid hand_issue
+valid_issue = record {
+  id_in = (lit≤ tt, lit≤ tt);
+  day_in = (omega (arith, ints), omega (arith, ints));
+  age_in = lit≤ tt;
+  years_in = (lit≤ tt, lit≤ tt);
+  amount_in = (lit≤ tt, lit≤ tt);
+  premium_in = (lit≤ tt, lit≤ tt);
+}
+
+pub valid_premium : IsValid hand_premium
+valid_premium = ((lit≤ tt, lit≤ tt), (omega (arith, ints), omega (arith, ints)), (lit≤ tt, lit≤ tt))
+
+-- the record of the issue, whatever stands behind it
+one_record : (behind : List ℕ) → HasRecords (issue_record ++ behind) (bodies_of (hand_issue ∷ []))
+unfolding spelling_of
+one_record behind zero h = record { opened = refl; whole = refl }
+one_record behind (suc n) h = absurd (omega arith)
+
+two_records : HasRecords journal_of_two (bodies_of (hand_issue ∷ hand_premium ∷ []))
+unfolding spelling_of
+two_records zero h = record { opened = refl; whole = refl }
+two_records (suc zero) h = record { opened = refl; whole = refl }
+two_records (suc (suc n)) h = absurd (omega arith)
+
+longer : (front behind : List ℕ) → 82 ≤ length front → 82 < length (front ++ 0 ∷ behind)
+longer front behind long = omega (arith, long, length-append front (0 ∷ behind))
+
+-- the journal of the issue: a closed gate, and whatever behind it
+pub just_the_issue : (behind : List ℕ) → JournalBytes (issue_record ++ 0 ∷ behind) (hand_issue ∷ [])
+just_the_issue behind = record {
+  records = record {
+    made = record { finished = refl; header = refl };
+    records = one_record (0 ∷ behind);
+    end = record { there = there; closed = λ e. let no : 0 ≡ 1 = e in omega arith };
+    few = lit≤ tt;
+  };
+  valid = (valid_issue, tt);
+  accepted = (refl, tt);
+}
+  where
+    there : 82 < length (issue_record ++ 0 ∷ behind)
+    there = longer issue_record behind (lit≤ tt)
+
+pub both : JournalBytes journal_of_two (hand_issue ∷ hand_premium ∷ [])
+unfolding dates.anniversary_of
+both = record {
+  records = record {
+    made = record { finished = refl; header = refl };
+    records = two_records;
+    end = record { there = lit< tt; closed = λ e. let no : 0 ≡ 1 = e in omega arith };
+    few = lit≤ tt;
+  };
+  valid = (valid_issue, (valid_premium, tt));
+  accepted = (refl, (refl, tt));
+}
+
+-- the issue can't follow itself
+pub not_again : IsUnspelled issue_body (hand_issue ∷ [])
+unfolding spelling_of
+not_again command same follows =
+    let it : command ≡ hand_issue = one_command issue_body command hand_issue (record { valid = follows.valid; spelled = same }) (record { valid = valid_issue; spelled = refl }) in
+    let accepted : judge (hand_issue ∷ []) hand_issue ≡ None = subst (λ (c : Command). judge (hand_issue ∷ []) c ≡ None) it follows.accepted in
+    let taken : judge (hand_issue ∷ []) hand_issue ≡ Some Taken = refl in
+    let no : ◌≡◌ {A = Option Refusal} (Some Taken) None = sym taken ∙ accepted in
+    cc
+
+reply_of : List Entry → Reply
+reply_of [] = Blank
+reply_of (entry ∷ more) = entry.reply
+
+tail_of : List Entry → List Entry
+tail_of [] = []
+tail_of (entry ∷ more) = more
+
+-- of two turns the first faulted, and the second was accepted
+pub not_pending : (before after : List Entry) (caller count : ℕ) (command : Command)
+    → premium_turn (Faulted 4) ∷ premium_turn (Accepted 2) ∷ [] ≡ before ++ (record { caller = caller; call = Post command; reply = Faulted count }) ∷ after
+    → accepted_of after ≡ [] → ⊥
+unfolding tail_of reply_of
+not_pending [] after caller count command e none =
+    let rest : premium_turn (Accepted 2) ∷ [] ≡ after = ap tail_of e in
+    let no : hand_premium ∷ [] ≡ [] = ap (λ (xs : List Entry). accepted_of xs) rest ∙ none in
+    cc
+not_pending (first ∷ []) after caller count command e none =
+    let no : Accepted 2 ≡ Faulted count = ap (λ (xs : List Entry). reply_of (tail_of xs)) e in
+    cc
+not_pending (first ∷ second ∷ before) after caller count command e none =
+    let no : [] ≡ before ++ (record { caller = caller; call = Post command; reply = Faulted count }) ∷ after = ap (λ (xs : List Entry). tail_of (tail_of xs)) e in
+    empty_not before no
+  where
+    empty_not : (xs : List Entry) → [] ≡ xs ++ (record { caller = caller; call = Post command; reply = Faulted count }) ∷ after → ⊥
+    empty_not [] e = cc
+    empty_not (x ∷ xs) e = cc
+
+pub no_turns : (command : Command) → IsPending [] command → ⊥
+no_turns command pending = by pending.faulted.before pending.faulted.turns
+  where
+    by : (xs : List Entry) → [] ≡ xs ++ (record { caller = pending.faulted.caller; call = Post command; reply = Faulted pending.faulted.count }) ∷ pending.after → ⊥
+    by [] e = cc
+    by (x ∷ xs) e = cc

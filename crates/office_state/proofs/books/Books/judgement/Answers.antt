@@ -1,0 +1,33 @@
+-- The newest version of the number is its policy, and the place of the upgrade is kept.
+use Rattle.policy_types.specs.Valid.{id_of}
+use Rattle.std.proofs.Common.{◌≡◌, ap, subst, sym, ◌∙◌, IfSome}
+use Rattle.policy_machine.specs.Book.{judged, policy_of}
+use Rattle.policy_machine.specs.Rules.{IsSound}
+use Rattle.policy_machine.proofs.BookLemmas.{policy_of-own, policy_of-sound}
+use Rattle.policy_versions.specs.Commands.{sets_of}
+use Rattle.policy_versions.proofs.PolicyValues.{newest_of-sets_of}
+use Rattle.office_state.proofs.books.Books.judgement.Goals as goal
+
+pub judge-requires-clause-own : goal.judge-requires-clause-own
+judge-requires-clause-own c =
+    let books = c.args.self.now in
+    let commands = books.accepted.commands in
+    let id = id_of c.args.command.now in
+    let found = c.as_ref.ensures.value ∙ c.get-policy.ensures (sets_of commands) books.kept.set ∙ newest_of-sets_of commands c.id.result ∙ ap (policy_of commands) c.id.ensures in
+    subst (λ found. IfSome found (λ p. p.id ≡ id)) (sym found) (policy_of-own commands id)
+
+pub judge-requires-clause-sound : goal.judge-requires-clause-sound
+judge-requires-clause-sound c =
+    let books = c.args.self.now in
+    let commands = books.accepted.commands in
+    let id = id_of c.args.command.now in
+    let found = c.as_ref.ensures.value ∙ c.get-policy.ensures (sets_of commands) books.kept.set ∙ newest_of-sets_of commands c.id.result ∙ ap (policy_of commands) c.id.ensures in
+    subst (λ found. IfSome found IsSound) (sym found) (policy_of-sound commands id books.kept.valid)
+
+pub returns : goal.returns
+returns c =
+    let books = c.args.self.now in
+    let commands = books.accepted.commands in
+    let found = c.as_ref.ensures.value ∙ c.get-policy.ensures (sets_of commands) books.kept.set ∙ newest_of-sets_of commands c.id.result ∙ ap (policy_of commands) c.id.ensures in
+    c.judge.ensures.judged ∙ ap (λ found. judged books.upgrade found c.args.command.now) found
+    ∙ ap (λ place. judged place (policy_of commands (id_of c.args.command.now)) c.args.command.now) books.kept.upgraded

@@ -1,0 +1,58 @@
+use Rattle.std.proofs.Common.{◌≡◌, ◌≤◌, ◌<◌, ◌++◌, ℕ, zero, suc, [], ◌∷◌, List, ap, refl, inl, inr, lit<, lit≤, arith}
+use Rattle.std.specs.Prelude.{slice_index, replicate}
+use Rattle.record_codec.specs.Spelling.{spelling_of}
+use Rattle.posting_journal.specs.Files.{HasRecords}
+use Rattle.posting_journal.specs.Layout.{gate_place}
+use Rattle.posting_journal.proofs.WorkedFiles.{not_unfinished}
+use Rattle.office_state.specs.Journals.{bodies_of}
+use Rattle.office_state.specs.Worked.{hand_issue, issue_body, issue_record}
+use Rattle.office_state.proofs.WorkedOffices.{valid_issue, not_again}
+use Rattle.office_state.proofs.worked.shown_by_hand.Goals as goal
+
+abbrev twice : List ℕ
+twice = issue_record ++ 1 ∷ issue_body ++ 0 ∷ []
+
+twice_records : HasRecords twice (issue_body ∷ issue_body ∷ [])
+twice_records zero h = record { opened = refl; whole = refl }
+twice_records (suc zero) h = record { opened = refl; whole = refl }
+twice_records (suc (suc n)) h = absurd (omega arith)
+
+cut_gates : (k : ℕ) → k ≤ 0 → slice_index issue_record (gate_place k) ≡ 1
+cut_gates zero h = refl
+cut_gates (suc k) h = absurd (omega arith)
+
+pub returns-clause-alike : goal.returns-clause-alike
+returns-clause-alike c = ([], inr (refl, inl (lit≤ tt)), inr (refl, inr (inl record { some = lit< tt; short = lit≤ tt; unfinished = refl })))
+
+pub returns-clause-causes : goal.returns-clause-causes
+unfolding spelling_of
+returns-clause-causes c = (
+  record {
+    finished = not_unfinished _ (λ h. let no : 18 ≤ 1 = h in omega arith) (λ h. let no : 65 ≡ 0 = h.unfinished in omega arith)
+        (λ h. let no : 65 ≡ 76 = ap (λ (xs : List ℕ). slice_index xs 0) h.ready.header in omega arith);
+    other = inr (inl (λ e. let no : 65 ≡ 1 = e in omega arith));
+  },
+  inl record {
+    finished = not_unfinished _ (λ h. let no : 82 ≤ 1 = h in omega arith) (λ h. let no : 1 ≡ 0 = h.unfinished in omega arith) (λ h. h.not_made refl);
+    long = lit≤ tt;
+    made = record { finished = refl; header = refl };
+    gates = cut_gates;
+    before = λ k h other. omega arith;
+    here = inl (lit≤ tt);
+  },
+  inr record {
+    commands = hand_issue ∷ [];
+    body = issue_body;
+    rest = [];
+    counted = refl;
+    records = record {
+      made = record { finished = refl; header = refl };
+      records = twice_records;
+      end = record { there = lit< tt; closed = λ e. let no : 0 ≡ 1 = e in omega arith };
+      few = lit≤ tt;
+    };
+    valid = (valid_issue, tt);
+    accepted = (refl, tt);
+    none = not_again;
+  },
+)

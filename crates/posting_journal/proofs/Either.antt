@@ -1,0 +1,183 @@
+-- Each file opens to bodies, or shows why it doesn't
+use Rattle.std.proofs.Common.{◌≡◌, ◌≢◌, ◌⊎◌, inl, inr, ⊎_elim, ℕ, zero, suc, ◌+◌, ◌*◌, ◌<◌, ◌≤◌, Bool, true, false, List, [], ◌∷◌, ◌++◌, length, get_or, refl, sym, ap, ◌∙◌, subst, add-one, arith, bytes_eq, true≢false}
+use Rattle.std.specs.Prelude.{take, drop, slice_index, slice_index_or}
+use Rattle.std.proofs.lemmas.Bool.{cases_Bool, cases_lt}
+use Rattle.std.proofs.lemmas.Bool.Decides.{eqb_tells}
+use Rattle.std.proofs.lemmas.List.{get_or_append_left, get_or_push, length-append}
+use Rattle.std.proofs.lemmas.Slice.Eq.{bytes_eq-Decides}
+use Rattle.posting_journal.specs.Creation.{CannotStand, IsBadAt, IsForeign, IsUnfinished, OpensToBodies}
+use Rattle.posting_journal.specs.Files.{IsMade}
+use Rattle.posting_journal.specs.Layout.{body_place, gate_place, header, most_records}
+
+-- a byte is this one, or it isn't
+is_byte : (byte wanted : ℕ) → (byte ≡ wanted) ⊎ (byte ≢ wanted)
+is_byte byte wanted = elim (eqb_tells byte wanted) [
+  | inl same ↦ inl same.1
+  | inr other ↦ inr other.1
+]
+
+is_header : (bytes : List ℕ) → (take 16 (drop 1 bytes) ≡ header) ⊎ (take 16 (drop 1 bytes) ≢ header)
+is_header bytes = elim (cases_Bool (bytes_eq (take 16 (drop 1 bytes)) header)) [
+  | inl same ↦ inl ((bytes_eq-Decides (take 16 (drop 1 bytes)) header).0 same)
+  | inr other ↦ inr (λ same. true≢false (sym ((bytes_eq-Decides (take 16 (drop 1 bytes)) header).1 same) ∙ other))
+]
+
+-- ---- creations
+
+-- of 18 bytes, the first of which is neither 0 nor 1
+nearly : (bytes : List ℕ) → length bytes ≡ 18 → slice_index bytes 0 ≢ 0 → slice_index bytes 0 ≢ 1 → IsUnfinished bytes ⊎ (IsUnfinished bytes → ⊥)
+nearly bytes long not_begun not_made = elim (is_header bytes) [
+  | inr other ↦ inr (λ is. elim is [
+    | inl short ↦ omega (arith, long, short)
+    | inr (inl begun) ↦ not_begun begun.unfinished
+    | inr (inr near) ↦ other near.ready.header
+  ])
+  | inl same ↦ elim (is_byte (slice_index bytes 17) 1) [
+    | inl opened ↦ inr (λ is. elim is [
+      | inl short ↦ omega (arith, long, short)
+      | inr (inl begun) ↦ not_begun begun.unfinished
+      | inr (inr near) ↦ near.ready.closed opened
+    ])
+    | inr closed ↦ inl (inr (inr (record { ready = record { long = long; header = same; closed = closed }; not_begun = not_begun; not_made = not_made })))
+  ]
+]
+
+-- of more than one byte, the first of which isn't 0
+not_begun_yet : (bytes : List ℕ) → 1 < length bytes → slice_index bytes 0 ≢ 0 → IsUnfinished bytes ⊎ (IsUnfinished bytes → ⊥)
+not_begun_yet bytes some not_begun = elim (eqb_tells (length bytes) 18) [
+  | inr other ↦ inr (λ is. elim is [
+    | inl short ↦ omega (arith, some, short)
+    | inr (inl begun) ↦ not_begun begun.unfinished
+    | inr (inr near) ↦ other.1 near.ready.long
+  ])
+  | inl long ↦ elim (is_byte (slice_index bytes 0) 1) [
+    | inl made ↦ inr (λ is. elim is [
+      | inl short ↦ omega (arith, some, short)
+      | inr (inl begun) ↦ not_begun begun.unfinished
+      | inr (inr near) ↦ near.not_made made
+    ])
+    | inr not_made ↦ nearly bytes long.1 not_begun not_made
+  ]
+]
+
+unfinished : (bytes : List ℕ) → IsUnfinished bytes ⊎ (IsUnfinished bytes → ⊥)
+unfinished bytes = elim (cases_lt 1 (length bytes)) [
+  | inr short ↦ inl (inl short)
+  | inl some ↦ elim (is_byte (slice_index bytes 0) 0) [
+    | inr not_begun ↦ not_begun_yet bytes some not_begun
+    | inl begun ↦ elim (cases_lt 18 (length bytes)) [
+      | inr short ↦ inl (inr (inl (record { some = omega (arith, some); short = short; unfinished = begun })))
+      | inl long ↦ inr (λ is. elim is [
+        | inl short ↦ omega (arith, some, short)
+        | inr (inl is_begun) ↦ (let short = is_begun.short in omega (arith, long, short))
+        | inr (inr near) ↦ near.not_begun begun
+      ])
+    ]
+  ]
+]
+
+-- ---- records
+
+-- the bodies of the first so many records
+bodies_to : List ℕ → ℕ → List (List ℕ)
+bodies_to bytes zero = []
+bodies_to bytes (suc n) = bodies_to bytes n ++ take 64 (drop (body_place n) bytes) ∷ []
+
+length-bodies_to : (bytes : List ℕ) (n : ℕ) → length (bodies_to bytes n) ≡ n
+unfolding bodies_to
+length-bodies_to bytes zero = refl
+length-bodies_to bytes (suc n) =
+    length-append (bodies_to bytes n) (take 64 (drop (body_place n) bytes) ∷ []) ∙ (let so_far = length-bodies_to bytes n in omega (arith, so_far))
+
+body_at : (bytes : List ℕ) (n k : ℕ) → k < n → slice_index_or (bodies_to bytes n) k [] ≡ take 64 (drop (body_place k) bytes)
+unfolding bodies_to
+body_at bytes zero k low = absurd (omega (arith, low))
+body_at bytes (suc n) k low =
+    let long = length-bodies_to bytes n in
+    elim (cases_lt k n) [
+      | inl before ↦ get_or_append_left (bodies_to bytes n) (take 64 (drop (body_place n) bytes) ∷ []) [] k (omega (arith, before, long)) ∙ body_at bytes n k before
+      | inr last ↦
+          let same : n ≡ k = omega (arith, low, last) in
+          get_or_push (bodies_to bytes n) (take 64 (drop (body_place n) bytes)) [] k (long ∙ same) ∙ ap (λ (m : ℕ). take 64 (drop (body_place m) bytes)) same
+    ]
+
+-- what a file shows that isn't an unfinished creation
+abbrev Shows : List ℕ → Type 0
+Shows bytes = ((bodies : List (List ℕ)) × OpensToBodies bytes bodies) ⊎ IsForeign bytes ⊎ ((n : ℕ) × IsBadAt bytes n)
+
+module _ (bytes : List ℕ) (finished : ¬ IsUnfinished bytes) (long : 18 ≤ length bytes) (made : IsMade bytes) where
+  -- the gates up to that of record n are open
+  upto : (n : ℕ) → slice_index bytes (gate_place n) ≡ 1 → ((k : ℕ) → k < n → slice_index bytes (gate_place k) ≡ 1)
+      → (k : ℕ) → k ≤ n → slice_index bytes (gate_place k) ≡ 1
+  upto n opened gates k low = elim (cases_lt k n) [
+    | inl before ↦ gates k before
+    | inr last ↦ (let same : n ≡ k = omega (arith, low, last) in subst (λ (m : ℕ). slice_index bytes (gate_place m) ≡ 1) same opened)
+  ]
+
+  -- record n, where those before it are open and can stand; it goes on where its gate is open and it is whole
+  record_at : (n : ℕ) → n ≤ 4000000 → gate_place n < length bytes
+      → ((k : ℕ) → k < n → slice_index bytes (gate_place k) ≡ 1) → ((k : ℕ) → k < n → ¬ CannotStand bytes k)
+      → (slice_index bytes (gate_place n) ≡ 1 → gate_place (n + 1) < length bytes → Shows bytes) → Shows bytes
+  record_at n most there gates stand go_on = elim (is_byte (slice_index bytes (gate_place n)) 1) [
+    | inr closed ↦
+        let count = length-bodies_to bytes n in
+        inl (
+          bodies_to bytes n,
+          inl (record {
+            made = made;
+            records = λ k low. record {
+              opened = gates k (omega (arith, low, count));
+              whole = sym (body_at bytes n k (omega (arith, low, count)));
+            };
+            end = rw count (record { there = there; closed = closed });
+            few = omega (arith, count, most);
+          }),
+        )
+    | inl opened ↦ elim (cases_lt (gate_place (n + 1)) (length bytes)) [
+      | inr cut ↦ inr (inr (n, record { finished = finished; long = long; made = made; gates = upto n opened gates; before = stand; here = inl cut }))
+      | inl more ↦ go_on opened more
+    ]
+  ]
+
+  still_stands : (n : ℕ) → n < 4000000 → gate_place (n + 1) < length bytes → ((k : ℕ) → k < n → ¬ CannotStand bytes k)
+      → (k : ℕ) → k < n + 1 → ¬ CannotStand bytes k
+  still_stands n fewer more stand k low cannot = elim (cases_lt k n) [
+    | inl before ↦ stand k before cannot
+    | inr last ↦
+        let same : k ≡ n = omega (arith, low, last) in
+        ⊎_elim (λ cut. omega (arith, cut, more, same)) (λ full. omega (arith, full, fewer, same)) cannot
+  ]
+
+  -- so many more records there may be
+  scan : (left n : ℕ) → n + left ≡ 4000000 → gate_place n < length bytes
+      → ((k : ℕ) → k < n → slice_index bytes (gate_place k) ≡ 1) → ((k : ℕ) → k < n → ¬ CannotStand bytes k) → Shows bytes
+  scan zero n all there gates stand = record_at n (omega (arith, all)) there gates stand (λ opened more. inr (inr (
+    n,
+    record {
+      finished = finished;
+      long = long;
+      made = made;
+      gates = upto n opened gates;
+      before = stand;
+      here = inr (omega (arith, all));
+    },
+  )))
+  scan (suc left) n all there gates stand = record_at n (omega (arith, all)) there gates stand (λ opened more.
+      scan left (n + 1) (omega (arith, all)) more (λ k low. upto n opened gates k (omega (arith, low)))
+      (still_stands n (omega (arith, all)) more stand))
+
+pub bodies_or_shown : (bytes : List ℕ) → ((bodies : List (List ℕ)) × OpensToBodies bytes bodies) ⊎ IsForeign bytes ⊎ ((n : ℕ) × IsBadAt bytes n)
+bodies_or_shown bytes = elim (unfinished bytes) [
+  | inl creation ↦ inl ([], inr (refl, creation))
+  | inr finished ↦ elim (cases_lt (length bytes) 18) [
+    | inl short ↦ inr (inl (record { finished = finished; other = inl short }))
+    | inr long ↦ elim (is_byte (slice_index bytes 0) 1) [
+      | inr closed ↦ inr (inl (record { finished = finished; other = inr (inl closed) }))
+      | inl made ↦ elim (is_header bytes) [
+        | inr other ↦ inr (inl (record { finished = finished; other = inr (inr other) }))
+        | inl same ↦ scan bytes finished long (record { finished = made; header = same }) 4000000 0 refl (omega (arith, long))
+            (λ k low. absurd (omega (arith, low))) (λ k low. absurd (omega (arith, low)))
+      ]
+    ]
+  ]
+]

@@ -1,0 +1,35 @@
+use Rattle.std.proofs.Common.{◌≡◌, ◌<◌, ℕ, List, [], ◌∷◌, sym, subst, refl, inl, inr, pos, lit<, arith}
+use Rattle.policy_types.specs.declared.command.Command.TheVariants.{Lapse}
+use Rattle.policy_types.specs.declared.entry.Reply.TheVariants.{Accepted, Blank}
+use Rattle.policy_types.specs.declared.entry.Entry.{Entry}
+use Rattle.program_endings.specs.Replies.{IsPinned}
+use Rattle.program_endings.specs.Worked.{pinned_turn, lapse_turn}
+use Rattle.program_endings.proofs.WorkedEndings.{same_some, no_blank, no_faulted}
+use Rattle.program_endings.proofs.worked.replies_of_a_few_turns.Goals as goal
+
+pub returns-clause-answered : goal.returns-clause-answered
+returns-clause-answered c = (
+  ((tt, (tt, (tt, tt))), refl),
+  (λ h. let no : 0 ∷ [] ≡ [] = h.1 in cc),
+  (λ h. h.0.1.0),
+  (λ h. h.0.0),
+  ((pinned_turn, refl, tt), tt),
+  (λ h.
+      let same : lapse_turn (Accepted 6) ≡ h.0.0 = same_some (lapse_turn (Accepted 6)) h.0.0 h.0.1 in
+      subst (λ (it : Entry). IsPinned it.reply) (sym same) h.0.2),
+)
+
+pub returns-clause-wants : goal.returns-clause-wants
+returns-clause-wants c = (
+  (1, (lapse_turn Blank, refl, refl)),
+  (λ h. no_blank h.0 h.1.0 h.1.1 h.1.2),
+  ((tt, tt), inr (0, (0, lit< tt, refl))),
+  ((tt, tt), inl (0, (lapse_turn Blank, refl, refl))),
+  (λ h. elim h.1 [
+    | inl blank ↦ no_blank blank.0 blank.1.0 blank.1.1 blank.1.2
+    | inr dry ↦ let none : dry.1.0 < 0 = dry.1.1 in omega arith
+  ]),
+  (λ h. h.0.1.0),
+  (Lapse 7001 (pos 18262), ([], record { before = pinned_turn ∷ []; caller = 1; count = 4; turns = refl })),
+  (λ h. no_faulted h.1.1.before h.1.0 h.1.1.caller h.1.1.count h.0 h.1.1.turns),
+)

@@ -1,0 +1,21 @@
+//! Worked cases of endings, lines and replies, each a theorem over the definitions alone.
+
+ghost use Rattle.program_endings.specs.Worked.{AnsweredOrNot, GivenAndLeft, LinesAreWhole, LinesOfRefusals, StatusesOfEndings, WantsAndFaults};
+
+/// Each ending has its status.
+pub fn statuses_of_endings()
+    ensures { StatusesOfEndings }
+{}
+
+/// What is a line that was written, and what isn't.
+pub fn lines_that_were_written()
+    ensures whole { LinesAreWhole }
+    ensures refusals { LinesOfRefusals }
+    ensures input { GivenAndLeft }
+{}
+
+/// What the replies of a few turns say of how a run ends.
+pub fn replies_of_a_few_turns()
+    ensures answered { AnsweredOrNot }
+    ensures wants { WantsAndFaults }
+{}

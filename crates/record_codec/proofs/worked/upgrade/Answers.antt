@@ -1,0 +1,7 @@
+use Rattle.std.proofs.Common.{refl}
+use Rattle.record_codec.specs.Spelling.{spelling_of}
+use Rattle.record_codec.proofs.worked.upgrade.Goals as goal
+
+pub returns : goal.returns
+unfolding spelling_of
+returns c = refl

@@ -1,0 +1,44 @@
+-- Worked cases of scripts as an input gives them, and of how a run ends that read none
+use Rattle.std.specs.Prelude.{◌≡◌, ℕ, true, false, List, [], ◌∷◌, ◌++◌, Option, Some, None, codes, pos, length}
+use Rattle.policy_types.specs.declared.entry.At.TheVariants.{Now}
+use Rattle.policy_types.specs.declared.script.Line.TheVariants.{Value, Trim}
+use Rattle.program_endings.specs.declared.ending.Ending.TheVariants.{BadScript, ReadFault}
+use Rattle.program_endings.specs.Writing.{Input}
+use Rattle.program_endings.specs.Worked.{output_with}
+use Rattle.script_run.specs.Script.{EndsUnread, GaveTooMany, asks_for_values, bad_row_text}
+
+-- a valuation in the second lane, and none
+abbrev pub AskedForValues : Type 0
+AskedForValues = (asks_for_values ((record { number = 1; lines = Trim ∷ [] })
+    ∷ (record { number = 3; lines = Trim ∷ Value (pos 18262) Now 1 ∷ [] }) ∷ []) ≡ true)
+    × (asks_for_values ((record { number = 1; lines = Trim ∷ [] }) ∷ []) ≡ false)
+
+abbrev pub BadRowText : Type 0
+BadRowText = bad_row_text 17 2 ≡ codes "badscript,17,2"
+
+-- an input that gave these bytes, up to its end or not, with so many faults
+abbrev pub input_that_gave : List ℕ → Type 0 → ℕ → Input
+input_that_gave bytes Ended faults = record {
+  faults_before = 0;
+  faults_after = faults;
+  left_before = None;
+  left_after = None;
+  given_before = [];
+  given_after = bytes;
+  Ended = Ended;
+}
+
+-- 16777217 bytes are too many, and one fewer aren't
+abbrev pub OneByteTooMany : Type 0
+OneByteTooMany = ((bytes : List ℕ) → length bytes ≡ 16777217 → GaveTooMany (input_that_gave bytes ⊥ 0))
+    × ((bytes : List ℕ) → length bytes ≡ 16777216 → GaveTooMany (input_that_gave bytes ⊥ 0) → ⊥)
+
+-- there is no clerk 9
+abbrev pub RefusedRow : Type 0
+RefusedRow = EndsUnread (input_that_gave (codes "9,lapse,1,2020-01-01") (Unit {0}) 0)
+    (output_with 0 [] (codes "badscript,1,1" ++ 10 ∷ [])) BadScript
+
+-- a fault of the input, and none
+abbrev pub FailedInput : Type 0
+FailedInput = EndsUnread (input_that_gave (codes "1,tr") ⊥ 1) (output_with 0 [] (codes "readfault" ++ 10 ∷ [])) ReadFault
+    × (EndsUnread (input_that_gave (codes "1,tr") ⊥ 0) (output_with 0 [] (codes "readfault" ++ 10 ∷ [])) ReadFault → ⊥)

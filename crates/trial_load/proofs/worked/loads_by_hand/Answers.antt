@@ -1,0 +1,17 @@
+use Rattle.std.proofs.Common.{refl}
+use Rattle.std.specs.Fmt.{digits}
+use Rattle.life_dates.specs.Calendar.{date_of, date_at, year_of, month_of, days_before_year, days_of_months}
+use Rattle.life_dates.specs.DayText.{day_text}
+use Rattle.report_text.specs.Block.{total_text, heading_text}
+use Rattle.trial_load.proofs.worked.loads_by_hand.Goals as goal
+
+pub returns-clause-lines : goal.returns-clause-lines
+unfolding digits
+returns-clause-lines c = (refl, refl)
+
+pub returns-clause-day : goal.returns-clause-day
+unfolding heading_text total_text day_text date_of date_at year_of month_of days_before_year days_of_months digits
+returns-clause-day c = (refl, refl)
+
+pub returns-clause-refused : goal.returns-clause-refused
+returns-clause-refused c = refl

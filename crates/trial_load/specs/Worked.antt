@@ -1,0 +1,32 @@
+-- Worked lines of `load`, put down by hand from the format
+use Rattle.std.specs.Prelude.{◌≡◌, ℕ, List, [], ◌∷◌, ◌++◌, codes, pos}
+use Rattle.policy_types.specs.declared.command.Command.TheVariants.{Lapse}
+use Rattle.policy_types.specs.declared.entry.At.TheVariants.{Now}
+use Rattle.policy_types.specs.declared.entry.Call.TheVariants.{Post, Trim}
+use Rattle.policy_types.specs.declared.entry.Reply.{Reply}
+use Rattle.policy_types.specs.declared.entry.Reply.TheVariants.{Accepted, Refused, Faulted, Floor}
+use Rattle.policy_types.specs.declared.entry.Entry.{Entry}
+use Rattle.policy_types.specs.declared.refusal.Refusal.TheVariants.{Unknown}
+use Rattle.policy_types.specs.declared.script.Line.TheVariants.{Value}
+use Rattle.report_text.specs.Block.{block_text}
+use Rattle.report_text.specs.Worked.{valued, past_the_table, lapsed}
+use Rattle.trial_load.specs.Loading.{load_day, load_text, refused_in, valuation_lane}
+
+-- sums of 254.44 and 254.46 over four policies of which one has no bounds, and nothing at all
+abbrev pub LinesOfLoads : Type 0
+LinesOfLoads = (load_text 7 2 (valued ∷ past_the_table ∷ lapsed ∷ valued ∷ []) ≡ codes "load,7,2,4,254.44,254.46,1" ++ 10 ∷ [])
+    × (load_text 200000 0 [] ≡ codes "load,200000,0,0,0.00,0.00,0" ++ 10 ∷ [])
+
+-- the policies are valued on 2020-12-31, in lane 0, at the count
+abbrev pub DayOfLoads : Type 0
+DayOfLoads = (block_text 0 load_day 0 []
+    ≡ codes "0,value,2020-12-31,0,0" ++ (10 ∷ []) ++ codes "total,0.00,0.00,0" ++ 10 ∷ [])
+    × (valuation_lane 8 ≡ record { number = 0; lines = Value (pos 18627) Now 8 ∷ [] })
+
+abbrev pub lapse_with : Reply → Entry
+lapse_with reply = record { caller = 1; call = Post (Lapse 7001 (pos 18262)); reply = reply }
+
+-- two postings are refused, one is accepted, one meets a fault, and a trim is none
+abbrev pub RefusedOfFive : Type 0
+RefusedOfFive = refused_in (lapse_with (Refused Unknown) ∷ lapse_with (Accepted 1) ∷ lapse_with (Faulted 3)
+    ∷ (record { caller = 1; call = Trim; reply = Floor 1 }) ∷ lapse_with (Refused Unknown) ∷ []) ≡ 2
