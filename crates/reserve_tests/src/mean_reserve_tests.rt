@@ -255,11 +255,9 @@ fn bounds(
         return None;
     }
     let columns = columns(table, shape, bp);
+    let premium = basis_premium(table, shape, bp, &columns);
     match paid {
-        InForce => {
-            let premium = basis_premium(table, shape, bp, &columns);
-            Some(mean_bounds(&columns, &premium, amount, t))
-        }
+        InForce => Some(mean_bounds(&columns, &premium, amount, t)),
         PaidUp => Some(paid_up_mean_bounds(&columns, amount, t)),
     }
 }
