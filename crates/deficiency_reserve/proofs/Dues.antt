@@ -1,0 +1,37 @@
+-- What is due each year, as a sum over the years.
+use Rattle.std.proofs.Common.{◌≡◌, ℕ, zero, suc, ◌+◌, ◌-◌, ◌*◌, ◌^◌, ◌<◌, ap, arith}
+use Rattle.std.proofs.Math.Nat.{mul-pos}
+use Rattle.present_value.specs.Fractions.{Fraction, whole, plus, times}
+use Rattle.present_value.specs.Sums.{Cover, year, survivors, sum_below, ann}
+use Rattle.present_value.proofs.Enclosing.{power_pos}
+use Rattle.deficiency_reserve.specs.Minimum.{deferred, total_below, value_of_dues}
+use Rattle.deficiency_reserve.specs.MinimumLaws.{AreEqual}
+
+-- one more year
+one_more : (tn td d xn s f : ℕ) → tn * d ≡ xn * s * td → (tn * d + (xn * f) * td) * d ≡ xn * (s + f) * (td * d)
+one_more tn td d xn s f before = let spread = ap (λ n. n * d) before in omega arith
+
+total_level : (c : Cover) (x : Fraction) (t count : ℕ)
+    → (total_below (λ k. times x (deferred c t k)) count).num * (x.den * year c ^ (c.n - t))
+    ≡ x.num * sum_below (λ k. survivors c t k * year c ^ (c.n - t - k)) count * (total_below (λ k. times x (deferred c t k)) count).den
+unfolding total_below sum_below deferred plus times whole
+total_level c x t zero = omega arith
+total_level c x t (suc count) =
+    let total = total_below (λ k. times x (deferred c t k)) count in
+    one_more total.num total.den (x.den * year c ^ (c.n - t)) x.num
+    (sum_below (λ k. survivors c t k * year c ^ (c.n - t - k)) count) (survivors c t count * year c ^ (c.n - t - count))
+    (total_level c x t count)
+
+-- the same each year is worth as much as so much of the annuity
+pub level : (c : Cover) (x : Fraction) (t : ℕ) → AreEqual (value_of_dues c (λ k. x) t) (times x (ann c t))
+unfolding value_of_dues times ann
+level c x t = total_level c x t (c.h - t)
+
+total-proper : (c : Cover) (x : Fraction) (t count : ℕ) → 0 < x.den → 0 < (total_below (λ k. times x (deferred c t k)) count).den
+unfolding total_below deferred plus times whole
+total-proper c x t zero positive = omega arith
+total-proper c x t (suc count) positive = mul-pos (total-proper c x t count positive) (mul-pos positive (power_pos c (c.n - t)))
+
+pub dues-proper : (c : Cover) (x : Fraction) (t : ℕ) → 0 < x.den → 0 < (value_of_dues c (λ k. x) t).den
+unfolding value_of_dues
+dues-proper c x t positive = total-proper c x t (c.h - t) positive
