@@ -1,2 +1,4 @@
 pub mod Rounded
+pub mod RoundedMean
 pub mod Made
+pub mod MeanMade

@@ -44,7 +44,7 @@ pub fn bounds_by(values: &Values, premium: &Premium, amount: u64) -> (u64, u64)
 }
 
 /// The reserve per unit of amount, in units of 10^-16.
-fn unit_reserve(values: &Values, premium: &Premium) -> Pair
+pub fn unit_reserve(values: &Values, premium: &Premium) -> Pair
     requires made { IsMadeAt values.now premium.now }
     ensures lo { (c cap : Cover) → (t : ℕ) → IsMadeFor c cap t values.now premium.now → result.lo ≡ reserve_lo c cap t }
     ensures hi { (c cap : Cover) → (t : ℕ) → IsMadeFor c cap t values.now premium.now → result.hi ≡ reserve_hi c cap t }

@@ -2,6 +2,7 @@ pub mod Fractions
 pub mod Sums
 pub mod Premium
 pub mod Reserve
+pub mod Mean
 pub mod Rounding
 pub mod Recursion
 pub mod Values
