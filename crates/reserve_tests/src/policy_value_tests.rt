@@ -1,7 +1,7 @@
 use basis_book::{Basis, LONGEST_FILE, read_basis};
 use indexmap::IndexMap;
 use policy_types::{Command, Plan, Policy, Status};
-use policy_value::{ColumnCache, NotValued, Row, Worth, row};
+use policy_value::{ColumnCache, Measure, NotValued, Row, Worth, row};
 use rate_table::RateTable;
 use std::alloc::Global;
 use std::test::Fail;
@@ -92,7 +92,7 @@ fn row_by(alloc: Global, file: &[u8], policy: &Policy, on: i32) -> Result<Row, F
     let Ok(mut cache) = ColumnCache::new(alloc, 16) else {
         return Err("a cache".into());
     };
-    Ok(row(policy, &basis, on, &mut cache))
+    Ok(row(policy, &basis, on, Measure::Terminal, &mut cache))
 }
 
 pub const FLAT: &[u8] = b"1900-01-01,q.xml,0";
