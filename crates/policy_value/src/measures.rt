@@ -123,20 +123,20 @@ fn mean(
     }
     if policy.status != Status::PaidUp {
         let key = key_of(policy, basis_row);
-        let (now, premium) = cache.priced(basis, key, table, bp, shape, t);
-        let next = cache.valued(basis, basis_row, table, bp, shape, t + 1);
+        let (start, premium) = cache.priced(basis, key, table, bp, shape, t);
+        let end = cache.valued(basis, basis_row, table, bp, shape, t + 1);
         let parts = MeanParts {
             t,
             h: shape.h,
-            now,
-            next,
+            start,
+            end,
             premium,
         };
         return mean_by(parts, policy.amount);
     }
-    let now = cache.valued(basis, basis_row, table, bp, shape, t);
-    let next = cache.valued(basis, basis_row, table, bp, shape, t + 1);
-    paid_up_mean_by(&now, &next, policy.amount)
+    let start = cache.valued(basis, basis_row, table, bp, shape, t);
+    let end = cache.valued(basis, basis_row, table, bp, shape, t + 1);
+    paid_up_mean_by(&start, &end, policy.amount)
 }
 
 /// The bounds of the reserve and of the minimum reserve. Where no premium is due these are the same.
