@@ -1,5 +1,5 @@
 -- What is due each year, as a sum over the years.
-use Rattle.std.proofs.Common.{◌≡◌, ℕ, zero, suc, ◌+◌, ◌-◌, ◌*◌, ◌^◌, ◌<◌, ◌≤◌, refl, ap, arith}
+use Rattle.std.proofs.Common.{◌≡◌, ℕ, zero, suc, ◌+◌, ◌-◌, ◌*◌, ◌^◌, ◌<◌, ap, arith}
 use Rattle.std.proofs.Math.Nat.{mul-pos}
 use Rattle.present_value.specs.Fractions.{Fraction, whole, plus, times}
 use Rattle.present_value.specs.Sums.{Cover, year, survivors, sum_below, ann}

@@ -1,3 +1,5 @@
 pub mod Orders
 pub mod Dues
 pub mod Minima
+pub mod Bounds
+pub mod Tests

@@ -1,11 +1,12 @@
 -- The laws of the minimum reserve.
-use Rattle.std.proofs.Common.{◌≡◌, ℕ, ◌+◌, ◌-◌, ◌*◌, ◌<◌, ◌≤◌, refl, arith}
-use Rattle.std.proofs.Math.Nat.{mul-pos, mul-le-mul_right}
+use Rattle.std.proofs.Common.{◌≡◌, ℕ, ◌-◌, ◌*◌, ◌<◌, ◌≤◌, refl, sym, arith}
+use Rattle.std.proofs.Math.Nat.{mul-pos, mul-le-mul_right, zero-mul}
 use Rattle.present_value.specs.Fractions.{Fraction, whole, less, times, lesser}
 use Rattle.present_value.specs.Sums.{Cover, sum_below, ben, ann}
 use Rattle.present_value.specs.Premium.{beta}
-use Rattle.present_value.specs.Reserve.{reserve}
+use Rattle.present_value.specs.Reserve.{reserve, Encloses}
 use Rattle.present_value.proofs.Enclosing.{power_pos}
+use Rattle.present_value.proofs.Fractions.{equal-between}
 use Rattle.deficiency_reserve.specs.Minimum.{gross, counted_premium, total_below, value_of_dues, minimum}
 use Rattle.deficiency_reserve.specs.Premiums.{IsAtMost}
 use Rattle.deficiency_reserve.specs.MinimumLaws.{AreEqual}
@@ -13,7 +14,7 @@ use Rattle.deficiency_reserve.proofs.Orders.{at_most-trans, equal-at_most, less-
 use Rattle.deficiency_reserve.proofs.Dues.{level, dues-proper}
 
 -- what is counted, each year the same
-pub counted : Cover → Cover → ℕ → ℕ → Fraction
+abbrev pub counted : Cover → Cover → ℕ → ℕ → Fraction
 counted c cap amount premium = lesser (beta c cap) (gross amount premium)
 
 pub ben-proper : (c : Cover) (t : ℕ) → 0 < (ben c t).den
@@ -33,17 +34,16 @@ unfolding gross
 gross-proper amount premium positive = positive
 
 pub counted-proper : (c cap : Cover) (amount premium t : ℕ) → 0 < amount → 0 < (reserve c cap t).den → 0 < (counted c cap amount premium).den
-unfolding counted
 counted-proper c cap amount premium t some positive =
     lesser-proper (beta c cap) (gross amount premium) (beta-proper c cap t positive) (gross-proper amount premium some)
 
 -- the benefits less what is counted
-pub anew : Cover → Cover → ℕ → ℕ → ℕ → Fraction
+abbrev pub anew : Cover → Cover → ℕ → ℕ → ℕ → Fraction
 anew c cap amount premium t = less (ben c t) (value_of_dues c (counted_premium c cap amount premium) t)
 
 pub dues-level : (c cap : Cover) (amount premium t : ℕ)
     → AreEqual (value_of_dues c (counted_premium c cap amount premium) t) (times (counted c cap amount premium) (ann c t))
-unfolding counted_premium counted
+unfolding counted_premium
 dues-level c cap amount premium t = level c (lesser (beta c cap) (gross amount premium)) t
 
 pub dues_proper : (c cap : Cover) (amount premium t : ℕ) → 0 < amount → 0 < (reserve c cap t).den
@@ -53,7 +53,7 @@ dues_proper c cap amount premium t some positive =
     dues-proper c (lesser (beta c cap) (gross amount premium)) t (counted-proper c cap amount premium t some positive)
 
 pub anew-proper : (c cap : Cover) (amount premium t : ℕ) → 0 < amount → 0 < (reserve c cap t).den → 0 < (anew c cap amount premium t).den
-unfolding anew less
+unfolding less
 anew-proper c cap amount premium t some positive = mul-pos (ben-proper c t) (dues_proper c cap amount premium t some positive)
 
 pub minimum-proper : (c cap : Cover) (amount premium t : ℕ) → 0 < amount → 0 < (reserve c cap t).den → 0 < (minimum c cap amount premium t).den
@@ -68,21 +68,20 @@ never_below c cap amount premium t = greater-left (reserve c cap t) (anew c cap 
 -- where as much as a premium is counted, the reserve is that by the premium
 pub anew_by : (c cap : Cover) (amount premium t : ℕ) (by : Fraction) → counted c cap amount premium ≡ by
     → AreEqual (anew c cap amount premium t) (less (ben c t) (times by (ann c t)))
-unfolding anew
 anew_by c cap amount premium t by same =
     less-equal (ben c t) (value_of_dues c (counted_premium c cap amount premium) t) (times by (ann c t))
     (rw same at (dues-level c cap amount premium t))
 
 pub equal_where_enough : (c cap : Cover) (amount premium t : ℕ) → IsAtMost (beta c cap) (gross amount premium)
     → AreEqual (minimum c cap amount premium t) (reserve c cap t)
-unfolding minimum reserve counted
+unfolding minimum reserve
 equal_where_enough c cap amount premium t enough =
     greater-equal (reserve c cap t) (reserve c cap t) (anew c cap amount premium t) refl
     (anew_by c cap amount premium t (beta c cap) (lesser-first (beta c cap) (gross amount premium) enough))
 
 counted-rises : (c cap : Cover) (amount premium more : ℕ) → 0 < amount → premium ≤ more
     → IsAtMost (counted c cap amount premium) (counted c cap amount more)
-unfolding counted gross
+unfolding gross
 counted-rises c cap amount premium more some most =
     lesser-monotone (beta c cap) (gross amount premium) (gross amount more) some (mul-le-mul_right amount most)
 
@@ -100,26 +99,53 @@ dues-rise c cap amount premium more t some positive most =
     let above : IsAtMost (times many (ann c t)) greatest = omega (arith, same) in
     at_most-trans least (times many (ann c t)) greatest (mul-pos (counted-proper c cap amount more t some positive) (ann-proper c t))
     (at_most-trans least (times few (ann c t)) (times many (ann c t))
-        (mul-pos (counted-proper c cap amount premium t some positive) (ann-proper c t)) below between)
+    (mul-pos (counted-proper c cap amount premium t some positive) (ann-proper c t)) below between)
     above
 
 pub falls : (c cap : Cover) (amount premium more t : ℕ) → 0 < amount → 0 < (reserve c cap t).den → premium ≤ more
     → IsAtMost (minimum c cap amount more t) (minimum c cap amount premium t)
-unfolding minimum anew
+unfolding minimum
 falls c cap amount premium more t some positive most =
     greater-monotone (reserve c cap t) (anew c cap amount more t) (anew c cap amount premium t) (anew-proper c cap amount premium t some positive)
     (less-antitone (ben c t) (value_of_dues c (counted_premium c cap amount premium) t) (value_of_dues c (counted_premium c cap amount more) t)
-        (dues-rise c cap amount premium more t some positive most))
+    (dues-rise c cap amount premium more t some positive most))
 
 -- nothing is taken off
+nothing_off : (xn xd an ad : ℕ) → an ≡ 0 → (xn * ad - an * xd) * xd ≡ xn * (xd * ad)
+nothing_off xn xd an ad none =
+    let all : xn * ad - 0 ≡ xn * ad = omega arith in
+    rw (none, zero-mul xd, all) (omega arith)
+
 less_nothing : (x a : Fraction) → a.num ≡ 0 → AreEqual (less x a) x
 unfolding less
-less_nothing x a none = rw none (omega arith)
+less_nothing x a none = nothing_off x.num x.den a.num a.den none
+
+paid_reserve : (c cap : Cover) (t : ℕ) → c.h ≤ t → AreEqual (reserve c cap t) (ben c t)
+unfolding reserve times ann sum_below
+paid_reserve c cap t paid =
+    let none : c.h - t ≡ 0 = omega (arith, paid) in
+    less_nothing (ben c t) (times (beta c cap) (ann c t)) (rw none (omega arith))
+
+paid_anew : (c cap : Cover) (amount premium t : ℕ) → c.h ≤ t → AreEqual (anew c cap amount premium t) (ben c t)
+unfolding value_of_dues total_below whole
+paid_anew c cap amount premium t paid =
+    let none : c.h - t ≡ 0 = omega (arith, paid) in
+    less_nothing (ben c t) (value_of_dues c (counted_premium c cap amount premium) t) (rw none refl)
 
 pub once_paid : (c cap : Cover) (amount premium t : ℕ) → c.h ≤ t → AreEqual (minimum c cap amount premium t) (ben c t)
-unfolding minimum reserve value_of_dues total_below whole times ann sum_below
+unfolding minimum
 once_paid c cap amount premium t paid =
-    let none : c.h - t ≡ 0 = omega (arith, paid) in
-    greater-equal (ben c t) (reserve c cap t) (anew c cap amount premium t)
-    (less_nothing (ben c t) (times (beta c cap) (ann c t)) (rw none (omega arith)))
-    (less_nothing (ben c t) (value_of_dues c (counted_premium c cap amount premium) t) (rw none refl))
+    greater-equal (ben c t) (reserve c cap t) (anew c cap amount premium t) (paid_reserve c cap t paid)
+    (paid_anew c cap amount premium t paid)
+
+-- bounds of the ordinary reserve serve once all premiums are paid
+pub paid-encloses : (c cap : Cover) (amount premium t lo hi : ℕ) → 1 ≤ amount → c.h ≤ t → Encloses lo hi amount (reserve c cap t)
+    → Encloses lo hi amount (minimum c cap amount premium t)
+paid-encloses c cap amount premium t lo hi some paid encloses =
+    let ordinary = encloses.between in
+    let benefits = equal-between lo hi amount (reserve c cap t) (ben c t) (ben-proper c t) (paid_reserve c cap t paid) ordinary in
+    record {
+      between = equal-between lo hi amount (ben c t) (minimum c cap amount premium t)
+          (minimum-proper c cap amount premium t (omega (arith, some)) ordinary.proper) (sym (once_paid c cap amount premium t paid)) benefits;
+      narrow = encloses.narrow;
+    }

@@ -1,6 +1,6 @@
 -- Order and equality of fractions: of differences, of products, of the lesser and the greater of two.
-use Rattle.std.proofs.Common.{◌≡◌, ℕ, zero, suc, ◌+◌, ◌-◌, ◌*◌, ◌<◌, ◌≤◌, refl, sym, ap, inl, inr, arith}
-use Rattle.std.proofs.Math.Nat.{mul-le-mul_left, mul-le-mul_right, mul-sub, mul_comm, mul-zero, zero-mul, mul-pos, le_of_mul-le-mul_right}
+use Rattle.std.proofs.Common.{◌≡◌, ℕ, zero, suc, ◌-◌, ◌*◌, ◌<◌, ◌≤◌, refl, ap, false, nat_le, inl, inr, arith}
+use Rattle.std.proofs.Math.Nat.{mul-le-mul_left, mul-le-mul_right, mul-sub, mul_comm, mul-zero, zero-mul, le_of_mul-le-mul_right}
 use Rattle.std.proofs.lemmas.Bool.Decides.{leb_tells}
 use Rattle.present_value.specs.Fractions.{Fraction, less, times, lesser}
 use Rattle.deficiency_reserve.specs.Minimum.{greater}
@@ -56,6 +56,10 @@ lesser-first a b most = elim (leb_tells (a.num * b.den) (b.num * a.den)) [
   | inl h ↦ rw h.0 refl
   | inr h ↦ absurd (omega (arith, h.1, most))
 ]
+
+pub lesser-second : (a b : Fraction) → nat_le (a.num * b.den) (b.num * a.den) ≡ false → lesser a b ≡ b
+unfolding lesser
+lesser-second a b above = rw above refl
 
 pub lesser-proper : (a b : Fraction) → 0 < a.den → 0 < b.den → 0 < (lesser a b).den
 unfolding lesser

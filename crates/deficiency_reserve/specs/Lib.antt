@@ -3,3 +3,4 @@ pub mod RoundedMinimum
 pub mod Premiums
 pub mod Ordinary
 pub mod MinimumLaws
+pub mod WorkedMinimums

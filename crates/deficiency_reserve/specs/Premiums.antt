@@ -7,8 +7,8 @@ use Rattle.deficiency_reserve.specs.declared.answer.Adequacy.{Adequacy}
 use Rattle.deficiency_reserve.specs.declared.answer.Adequacy.TheVariants.{Short, Enough, Close}
 
 -- a < b and a ≤ b, by cross-multiplying
-abbrev pub IsBelow : Fraction → Fraction → Type 0
-IsBelow a b = a.num * b.den < b.num * a.den
+abbrev pub IsLess : Fraction → Fraction → Type 0
+IsLess a b = a.num * b.den < b.num * a.den
 
 abbrev pub IsAtMost : Fraction → Fraction → Type 0
 IsAtMost a b = a.num * b.den ≤ b.num * a.den
@@ -20,7 +20,7 @@ pub record IsWithinACent (net : Fraction) (amount premium : ℕ) : Type 0 where
 
 -- what an answer says of a net premium and of the premium that is charged
 abbrev pub Tells : Adequacy → Fraction → ℕ → ℕ → Type 0
-Tells Short net amount premium = IsBelow (gross amount premium) net
+Tells Short net amount premium = IsLess (gross amount premium) net
 Tells Enough net amount premium = IsAtMost net (gross amount premium)
 Tells Close net amount premium = IsWithinACent net amount premium
 

@@ -6,8 +6,10 @@ mod answer;
 mod gross;
 mod laws;
 mod minimum;
+mod worked;
 
 pub use answer::Adequacy;
 pub use gross::adequacy;
 pub use laws::minimum_laws;
 pub use minimum::{minimum_bounds, minimum_by};
+pub use worked::{minimums_by_hand, premiums_by_hand};

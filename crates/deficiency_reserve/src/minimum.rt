@@ -10,7 +10,13 @@ use present_value::{Columns, UNITS_IN_ONE, Values, quotient_down, quotient_up};
 
 /// A lower and an upper bound of the minimum reserve of an amount at year `t`, in cents, from the bounds of its ordinary
 /// reserve and the yearly premium that is charged, in cents.
-pub fn minimum_bounds(columns: &Columns, ordinary: (u64, u64), amount: u64, premium: u64, t: u8) -> (u64, u64)
+pub fn minimum_bounds(
+    columns: &Columns,
+    ordinary: (u64, u64),
+    amount: u64,
+    premium: u64,
+    t: u8,
+) -> (u64, u64)
     requires made { HaveOrdinary columns.now t ordinary amount }
     requires insured { 1 ≤ amount }
     requires amount { amount ≤ 10000000000 }
@@ -48,10 +54,12 @@ fn reserve_by_gross(values: &Values, amount: u64, premium: u64) -> (u64, u64)
     ensures lo { (c : Cover) → (t : ℕ) → IsPaidUpFor c t values.now → result.0 ≡ gross_lo c amount premium t }
     ensures hi { (c : Cover) → (t : ℕ) → IsPaidUpFor c t values.now → result.1 ≡ gross_hi c amount premium t }
 {
-    let least = (amount as u128 * values.ben.lo as u128)
-        .saturating_sub(premium as u128 * values.ann.hi as u128);
-    let most = (amount as u128 * values.ben.hi as u128)
-        .saturating_sub(premium as u128 * values.ann.lo as u128);
+    let least = (amount as u128 * values.ben.lo as u128).saturating_sub(
+        premium as u128 * values.ann.hi as u128,
+    );
+    let most = (amount as u128 * values.ben.hi as u128).saturating_sub(
+        premium as u128 * values.ann.lo as u128,
+    );
     (
         quotient_down(least, UNITS_IN_ONE as u128),
         quotient_up(most, UNITS_IN_ONE as u128),

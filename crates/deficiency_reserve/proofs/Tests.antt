@@ -1,0 +1,42 @@
+-- What a test by the bounds of a net premium tells of it.
+use Rattle.std.proofs.Common.{ℕ, ◌+◌, ◌*◌, ◌<◌, ◌≤◌, arith}
+use Rattle.std.proofs.Math.Nat.{mul-le-mul_left, mul-le-mul_right, le_of_mul-le-mul_right, lt_of_mul-lt-mul_right}
+use Rattle.present_value.specs.Fractions.{Fraction, Between}
+use Rattle.present_value.specs.Rounding.{UNIT}
+use Rattle.deficiency_reserve.specs.Minimum.{gross}
+use Rattle.deficiency_reserve.specs.Premiums.{IsLess, IsAtMost, IsWithinACent}
+
+pub is_short : (lo hi amount premium : ℕ) (net : Fraction) → Between lo hi UNIT net → premium * UNIT + 1 ≤ amount * lo
+    → IsLess (gross amount premium) net
+unfolding gross
+is_short lo hi amount premium net p test =
+    let test' = mul-le-mul_right net.den test in
+    let p' = mul-le-mul_left amount p.above in
+    let spread : (premium * net.den) * UNIT < (net.num * amount) * UNIT = omega (arith, p.proper) in
+    lt_of_mul-lt-mul_right UNIT spread
+
+pub is_enough : (lo hi amount premium : ℕ) (net : Fraction) → Between lo hi UNIT net → amount * hi ≤ premium * UNIT
+    → IsAtMost net (gross amount premium)
+unfolding gross
+is_enough lo hi amount premium net p test =
+    let test' = mul-le-mul_right net.den test in
+    let p' = mul-le-mul_left amount p.below in
+    let spread : (net.num * amount) * UNIT ≤ (premium * net.den) * UNIT = omega arith in
+    le_of_mul-le-mul_right spread (omega arith)
+
+pub is_close : (lo hi amount premium : ℕ) (net : Fraction) → amount ≤ 10000000000 → Between lo hi UNIT net → hi ≤ lo + 100000
+    → amount * lo ≤ premium * UNIT → premium * UNIT ≤ amount * hi → IsWithinACent net amount premium
+is_close lo hi amount premium net few p narrow least most =
+    let near = mul-le-mul_left amount narrow in
+    let least' = mul-le-mul_right net.den least in
+    let most' = mul-le-mul_right net.den most in
+    let near' = mul-le-mul_right net.den near in
+    let few' = mul-le-mul_right net.den few in
+    let above = mul-le-mul_left amount p.above in
+    let below = mul-le-mul_left amount p.below in
+    let under : (premium * net.den) * UNIT < (amount * net.num + net.den) * UNIT = omega (arith, p.proper) in
+    let over : (amount * net.num) * UNIT < (premium * net.den + net.den) * UNIT = omega (arith, p.proper) in
+    record {
+      under = lt_of_mul-lt-mul_right UNIT under;
+      over = lt_of_mul-lt-mul_right UNIT over;
+    }
