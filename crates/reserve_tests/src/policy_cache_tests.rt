@@ -100,6 +100,9 @@ fn rows_with_bounds(
         let bounded = row_is_same(alloc, basis, &policy_of(turn * 67 % BOOK), &mut cache)?;
         valued = valued.saturating_add(u32::from(bounded));
     }
+    if cache.unkept() != 0 {
+        return Err("a key wasn't kept".into());
+    }
     Ok(valued)
 }
 
