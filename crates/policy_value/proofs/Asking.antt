@@ -6,7 +6,7 @@ use Rattle.std.specs.Map.{keys_of, lookup, lookup_entry, remove_entry}
 use Rattle.std.specs.Set.{remove_key}
 use Rattle.lru.specs.LruCache.{LruCache, lru_cache, promoted, put_entries}
 use Rattle.lru.proofs.Splits.{Contains-nil, Contains-cons, Contains-head, Contains-tail}
-use Rattle.policy_value.specs.Caches.{HasAsked, KeepsKeys, MissesKey, TakesKey}
+use Rattle.policy_value.specs.Caches.{HasAsked, KeepsKeys}
 use Rattle.policy_value.specs.declared.cache.ColumnCache.{ColumnCache}
 use Rattle.policy_value.specs.declared.key.CacheKey.{CacheKey}
 use Rattle.policy_value.specs.contracts.key.CacheKeyPartialEq.TheImpl.{eq-value}
