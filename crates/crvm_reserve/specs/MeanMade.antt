@@ -13,8 +13,8 @@ pub record AreMeanPartsOf (c cap : Cover) (t : ℕ) (parts : MeanParts) : Type 0
   pub before : t < c.n
   pub year : parts.t ≡ t
   pub payments : parts.h ≡ c.h
-  pub now : AreValuesAt c t parts.now
-  pub next : AreValuesAt c (t + 1) parts.next
+  pub start : AreValuesAt c t parts.start
+  pub end : AreValuesAt c (t + 1) parts.end
   pub premium : parts.premium ≡ premium_of c cap
 
 pub record AreMeanParts (parts : MeanParts) : Type 0 where
@@ -24,14 +24,14 @@ pub record AreMeanParts (parts : MeanParts) : Type 0 where
   pub are : AreMeanPartsOf cover cap year parts
 
 -- values are those of a cover at year t and a year later, whose rates are at most 1
-pub record ArePaidUpMeanOf (c : Cover) (t : ℕ) (now next : Values) : Type 0 where
+pub record ArePaidUpMeanOf (c : Cover) (t : ℕ) (start end : Values) : Type 0 where
   pub before : t < c.n
   pub years : c.n ≤ 131
   pub rates : (k : ℕ) → k < c.n → c.rates k ≤ ONE
-  pub now_are : AreValuesAt c t now
-  pub next_are : AreValuesAt c (t + 1) next
+  pub start_are : AreValuesAt c t start
+  pub end_are : AreValuesAt c (t + 1) end
 
-pub record ArePaidUpMean (now next : Values) : Type 0 where
+pub record ArePaidUpMean (start end : Values) : Type 0 where
   pub cover : Cover
   pub year : ℕ
-  pub are : ArePaidUpMeanOf cover year now next
+  pub are : ArePaidUpMeanOf cover year start end

@@ -5,7 +5,7 @@ ghost use Rattle.present_value.specs.Reserve.{Encloses};
 ghost use Rattle.present_value.specs.Sums.{Cover};
 ghost use Rattle.crvm_reserve.specs.Made.{AreClose, AreMade, AreMadeFor, premium_of};
 ghost use Rattle.crvm_reserve.specs.MeanMade.{AreMeanParts, AreMeanPartsOf};
-ghost use Rattle.crvm_reserve.specs.RoundedMean.{net_lo, net_hi, rounded_mean};
+ghost use Rattle.crvm_reserve.specs.RoundedMean.{net_lo, net_hi, double_lo, double_hi, rounded_mean};
 
 use crate::bounds::{reserve_bounds, unit_reserve};
 use crate::premium::Premium;
@@ -18,10 +18,10 @@ pub struct MeanParts {
     pub t: u8,
     /// The years in which a premium is due.
     pub h: u8,
-    /// The values at year `t`.
-    pub now: Values,
-    /// The values a year later.
-    pub next: Values,
+    /// The values at the start of the year.
+    pub start: Values,
+    /// The values at its end.
+    pub end: Values,
     /// The modified net premium.
     pub premium: Premium,
 }
@@ -47,8 +47,8 @@ pub fn mean_bounds(columns: &Columns, premium: &Premium, amount: u64, t: u8) -> 
         MeanParts {
             t,
             h: columns.h,
-            now: columns.at(t),
-            next: columns.at(t + 1),
+            start: columns.at(t),
+            end: columns.at(t + 1),
             premium: *premium,
         },
         amount,
@@ -66,22 +66,35 @@ pub fn mean_by(parts: MeanParts, amount: u64) -> (u64, u64)
         → Encloses result.0 result.1 amount (mean_reserve c cap t) }
     ensures most { result.1 ≤ 2 * amount }
 {
-    let now = unit_reserve(&parts.now, &parts.premium);
+    half_of(double_mean(&parts), amount)
+}
+
+/// The terminal reserves at the start and at the end of the year and the net premium, added up, per unit of amount, in
+/// units of 10^-16.
+fn double_mean(parts: &MeanParts) -> Pair
+    requires { AreMeanParts parts.now }
+    ensures lo { (c cap : Cover) → (t : ℕ) → AreMeanPartsOf c cap t parts.now → result.lo ≡ double_lo c cap t }
+    ensures hi { (c cap : Cover) → (t : ℕ) → AreMeanPartsOf c cap t parts.now → result.hi ≡ double_hi c cap t }
+    ensures small_lo { result.lo ≤ 4 * UNIT }
+    ensures small_hi { result.hi ≤ 4 * UNIT }
+{
+    let start = unit_reserve(&parts.start, &parts.premium);
     let net = net_premium_of(&parts.premium, parts.t, parts.h);
-    let next = unit_reserve(&parts.next, &parts.premium);
-    half_of(
-        Pair {
-            lo: now.lo + net.lo + next.lo,
-            hi: now.hi + net.hi + next.hi,
-        },
-        amount,
-    )
+    let end = unit_reserve(&parts.end, &parts.premium);
+    Pair {
+        lo: start.lo + net.lo + end.lo,
+        hi: start.hi + net.hi + end.hi,
+    }
 }
 
 /// The net premium of year `t` per unit of amount, in units of 10^-16, where a premium is due in `h` years.
 fn net_premium_of(premium: &Premium, t: u8, h: u8) -> Pair
+    requires lo { premium.now.lo ≤ 2 * UNIT }
+    requires hi { premium.now.hi ≤ 2 * UNIT }
     ensures lo { (c cap : Cover) → premium.now ≡ premium_of c cap → h ≡ c.h → result.lo ≡ net_lo c cap t }
     ensures hi { (c cap : Cover) → premium.now ≡ premium_of c cap → h ≡ c.h → result.hi ≡ net_hi c cap t }
+    ensures small_lo { result.lo ≤ 2 * UNIT }
+    ensures small_hi { result.hi ≤ 2 * UNIT }
 {
     if t == 0 {
         return Pair {

@@ -29,19 +29,19 @@ pub fn paid_up_mean_bounds(columns: &Columns, amount: u64, t: u8) -> (u64, u64)
 }
 
 /// The same before the end of cover, by the values of a cover at the start and at the end of the year.
-pub fn paid_up_mean_by(now: &Values, next: &Values, amount: u64) -> (u64, u64)
-    requires made { ArePaidUpMean now.now next.now }
+pub fn paid_up_mean_by(start: &Values, end: &Values, amount: u64) -> (u64, u64)
+    requires made { ArePaidUpMean start.now end.now }
     requires amount { amount ≤ 10000000000 }
-    ensures rounded { (c : Cover) → (t : ℕ) → ArePaidUpMeanOf c t now.now next.now
+    ensures rounded { (c : Cover) → (t : ℕ) → ArePaidUpMeanOf c t start.now end.now
         → result ≡ rounded_paid_up_mean c amount t }
-    ensures exact { (c : Cover) → (t : ℕ) → ArePaidUpMeanOf c t now.now next.now
+    ensures exact { (c : Cover) → (t : ℕ) → ArePaidUpMeanOf c t start.now end.now
         → Encloses result.0 result.1 amount (paid_up_mean c t) }
     ensures most { result.1 ≤ amount }
 {
     half_of(
         Pair {
-            lo: now.ben.lo + next.ben.lo,
-            hi: now.ben.hi + next.ben.hi,
+            lo: start.ben.lo + end.ben.lo,
+            hi: start.ben.hi + end.ben.hi,
         },
         amount,
     )

@@ -3,6 +3,8 @@ pub mod Sums
 pub mod Premium
 pub mod Reserve
 pub mod Mean
+pub mod MeanLaws
+pub mod Worked
 pub mod Rounding
 pub mod Recursion
 pub mod Values
