@@ -1,10 +1,34 @@
 -- The reserves by the status of a policy, at the end of cover and where no premium is due
-use Rattle.std.proofs.Common.{◌≡◌, ℕ, ◌≤◌, ◌<◌, refl, sym}
+use Rattle.std.proofs.Common.{◌≡◌, ℕ, ◌≤◌, refl, sym}
 use Rattle.policy_types.specs.declared.policy.Status.{Status}
 use Rattle.policy_types.specs.declared.policy.Status.TheVariants.{InForce, Lapsed, Claimed, Matured, Expired, Settled, PaidUp}
 use Rattle.present_value.specs.Sums.{Cover}
+use Rattle.present_value.specs.Reserve.{Encloses}
+use Rattle.present_value.specs.Mean.{mean_reserve}
 use Rattle.crvm_reserve.proofs.MeanEnclosed.{mean_end, mean_reserve_end, paid_up_mean_end, paid_up_mean_reserve_end}
+use Rattle.deficiency_reserve.proofs.Minima.{paid-encloses}
 use Rattle.policy_value.specs.Measures.{exact_mean, exact_minimum, exact_reserve, rounded_mean_reserve, rounded_reserve}
+
+-- of a policy that isn't paid up
+pub mean-other : (status : Status) (c cap : Cover) (t : ℕ) → (status ≡ PaidUp → ⊥) → exact_mean status c cap t ≡ mean_reserve c cap t
+mean-other InForce c cap t other = refl
+mean-other Lapsed c cap t other = refl
+mean-other Claimed c cap t other = refl
+mean-other Matured c cap t other = refl
+mean-other Expired c cap t other = refl
+mean-other Settled c cap t other = refl
+mean-other PaidUp c cap t other = absurd (other refl)
+
+-- where no premium is due the bounds of the reserve serve for the minimum reserve
+pub least-other : (status : Status) (c cap : Cover) (amount premium t lo hi : ℕ) → 1 ≤ amount → (status ≡ InForce → c.h ≤ t)
+    → Encloses lo hi amount (exact_reserve status c cap t) → Encloses lo hi amount (exact_minimum status c cap amount premium t)
+least-other InForce c cap amount premium t lo hi some paid encloses = paid-encloses c cap amount premium t lo hi some (paid refl) encloses
+least-other Lapsed c cap amount premium t lo hi some paid encloses = encloses
+least-other Claimed c cap amount premium t lo hi some paid encloses = encloses
+least-other Matured c cap amount premium t lo hi some paid encloses = encloses
+least-other Expired c cap amount premium t lo hi some paid encloses = encloses
+least-other Settled c cap amount premium t lo hi some paid encloses = encloses
+least-other PaidUp c cap amount premium t lo hi some paid encloses = encloses
 
 -- at the end of cover the mean reserve is the terminal one
 pub exact-end : (status : Status) (c cap : Cover) (t : ℕ) → c.n ≤ t → exact_mean status c cap t ≡ exact_reserve status c cap t

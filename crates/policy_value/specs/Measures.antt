@@ -72,7 +72,7 @@ IsPaying policy c t = (policy.status ≡ InForce) × (t < c.h)
 pub record IsBothOf (policy : Policy) (c cap : Cover) (t : ℕ) (worth : Worth) : Type 0 where
   pub paying : IsPaying policy c t → let ordinary = rounded c cap policy.amount t in
       worth ≡ both_bounds ordinary (rounded_minimum c ordinary policy.amount policy.premium t)
-          (adequacy_by (beta_lo c cap) (beta_hi c cap) policy.amount policy.premium)
+      (adequacy_by (beta_lo c cap) (beta_hi c cap) policy.amount policy.premium)
   pub other : (IsPaying policy c t → ⊥) → let ordinary = rounded_reserve policy.status c cap policy.amount t in
       worth ≡ both_bounds ordinary ordinary Enough
 

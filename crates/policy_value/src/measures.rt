@@ -1,5 +1,5 @@
 // What an insured policy is worth at a year of its shape, by each measure.
-ghost use Rattle.std.specs.Prelude.{◌≡◌, ◌≤◌, ◌×◌, Ok};
+ghost use Rattle.std.specs.Prelude.{◌≡◌, ◌≤◌, ◌*◌, Ok};
 ghost use Rattle.present_value.specs.Premium.{cap_of};
 ghost use Rattle.present_value.specs.Reserve.{Encloses};
 ghost use Rattle.present_value.specs.Sums.{cover_of};
@@ -9,6 +9,7 @@ ghost use Rattle.plan_benefits.specs.Shapes.{shape_of};
 ghost use Rattle.policy_value.specs.Caches.{IsRightFor, IsRowOf};
 ghost use Rattle.policy_value.specs.Used.{AsksByStatus, key_of};
 ghost use Rattle.policy_value.specs.Measures.{IsBothOf, IsExactFor, IsWorthOf, exact_mean, exact_reserve, most_worth, rounded_mean_reserve, rounded_reserve};
+ghost use Rattle.policy_value.specs.declared.worth.Measure.TheVariants.{Deficiency};
 ghost use Rattle.policy_value.specs.Rows.{IsWithinAmount};
 
 use crate::cache::ColumnCache;
@@ -157,7 +158,7 @@ fn both(
     requires year { t ≤ shape.now.n }
     requires right { IsRightFor basis.now cache.old }
     ensures both { IsBothOf policy.now (cover_of table.now shape.now bp) (cap_of table.now shape.now.age bp) t result }
-    ensures exact { IsExactFor Measure::Deficiency policy.now (cover_of table.now shape.now bp)
+    ensures exact { IsExactFor Deficiency policy.now (cover_of table.now shape.now bp)
         (cap_of table.now shape.now.age bp) t result }
     ensures most { IsWithinAmount policy.now.amount result }
     ensures right { IsRightFor basis.now cache.new }

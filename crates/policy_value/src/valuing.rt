@@ -121,4 +121,3 @@ fn value_by_table(
         Err(word) => (0, Worth::Word(word)),
     }
 }
-

@@ -21,7 +21,10 @@ pub enum Measure {
 #[derive(Clone, Copy, PartialEq, Eq, Debug)]
 pub enum Worth {
     /// A lower and an upper bound of the reserve, in cents.
-    Bounds { lo: u64, hi: u64 },
+    Bounds {
+        lo: u64,
+        hi: u64,
+    },
     /// The same, and bounds of the minimum reserve, in cents; and how the premium that is charged lies to the net premium.
     Both {
         lo: u64,
