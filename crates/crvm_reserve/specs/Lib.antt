@@ -2,3 +2,4 @@ pub mod Rounded
 pub mod RoundedMean
 pub mod Made
 pub mod MeanMade
+pub mod Worked

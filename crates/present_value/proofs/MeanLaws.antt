@@ -1,5 +1,5 @@
 -- Why the mean reserve lies where it does.
-use Rattle.std.proofs.Common.{◌≡◌, ℕ, suc, ◌+◌, ◌*◌, ◌<◌, ◌≤◌, ◌⊎◌, refl, inl, inr, arith}
+use Rattle.std.proofs.Common.{◌≡◌, ℕ, suc, ◌+◌, ◌*◌, ◌<◌, ◌≤◌, refl, inl, inr, arith}
 use Rattle.std.proofs.Math.Nat.{mul-le-mul_left}
 use Rattle.std.proofs.lemmas.Bool.Decides.{leb_tells}
 use Rattle.present_value.specs.Fractions.{Fraction, plus}
@@ -75,8 +75,8 @@ unfolding half plus
 plain_between x y = elim (leb_tells (x.num * y.den) (y.num * x.den)) [
   | inl h ↦ inl (record { above = plain_above x.num x.den y.num y.den h.1; below = plain_below x.num x.den y.num y.den h.1 })
   | inr h ↦
-    let order : y.num * x.den ≤ x.num * y.den = omega (arith, h.1) in
-    inr (record { above = plain_falling_above x.num x.den y.num y.den order; below = plain_falling_below x.num x.den y.num y.den order })
+      let order : y.num * x.den ≤ x.num * y.den = omega (arith, h.1) in
+      inr (record { above = plain_falling_above x.num x.den y.num y.den order; below = plain_falling_below x.num x.den y.num y.den order })
 ]
 
 paid_up_between : (c : Cover) (t : ℕ) → t < c.n → LiesBetween (ben c t) (ben c (t + 1)) (paid_up_mean c t)

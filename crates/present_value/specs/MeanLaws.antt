@@ -17,7 +17,7 @@ LiesBetween a b value = IsWithin a b value ⊎ IsWithin b a value
 abbrev pub LiesBetweenLaw : Type 0
 LiesBetweenLaw = (c cap : Cover) → (t : ℕ) → t < c.n
     → LiesBetween (plus (reserve c cap t) (half (net_premium c cap t))) (plus (reserve c cap (t + 1)) (half (net_premium c cap t)))
-        (mean_reserve c cap t)
+    (mean_reserve c cap t)
 
 abbrev pub TerminalAtTheEndLaw : Type 0
 TerminalAtTheEndLaw = (c cap : Cover) → mean_reserve c cap c.n ≡ reserve c cap c.n
