@@ -7,7 +7,7 @@ use std::test::Fail;
 
 /// The tables of the cases.
 #[derive(Clone, Copy)]
-enum Rates {
+pub(crate) enum Rates {
     /// The ages 0 to 4, with the rates 0.1, 0.2, 0.25, 0.5 and 1.
     Q,
     /// The ages 0 to 120, with the rate 600 units of 10^-9 times the cube of the age, and at most 1.
@@ -181,7 +181,8 @@ const DRAWN: [Case; 100] = [
     (G, 33, 38, 38, true, 400, 1, 30, 0, 1),
 ];
 
-fn table_of(alloc: Global, table: Rates) -> Result<Option<RateTable>, AllocError> {
+/// The table, where there is memory for it.
+pub(crate) fn table_of(alloc: Global, table: Rates) -> Result<Option<RateTable>, AllocError> {
     let table = match table {
         Q => RateTable::new(0, Vec::from_array(alloc, Q_RATES)?),
         Survived => RateTable::new(0, Vec::from_array(alloc, SURVIVED_RATES)?),

@@ -4,6 +4,8 @@
 #[cfg(test)]
 mod crvm_reserve_tests;
 #[cfg(test)]
+mod deficiency_reserve_tests;
+#[cfg(test)]
 mod parallel_value_tests;
 #[cfg(test)]
 mod plan_benefits_tests;
