@@ -45,14 +45,7 @@ pub fn rows_of<D: Disk, W: Watching, G: Gate, R: Threads + Wait + Sync>(
     ensures pins { KeepsPins pass.old pass.new }
 {
     let mut batch = Batch::new(alloc)?;
-    let mut sheet = Worksheet::new(
-        alloc,
-        basis,
-        on,
-        measure,
-        workers,
-        pin.policies() as usize,
-    )?;
+    let mut sheet = Worksheet::new(alloc, basis, on, measure, workers, pin.policies() as usize)?;
     for k in 0..pin.policies().div_ceil(POLICIES_PER_READ) {
         read_part(rt, office, pass, pin, k, &mut batch);
         sheet.add(rt, alloc, batch.policies())?;
