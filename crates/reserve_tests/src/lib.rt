@@ -13,6 +13,8 @@ mod plan_benefits_tests;
 #[cfg(test)]
 mod policy_cache_tests;
 #[cfg(test)]
+mod policy_measure_tests;
+#[cfg(test)]
 mod policy_value_tests;
 #[cfg(test)]
 mod present_value_tests;
