@@ -4,8 +4,9 @@
 #[cfg(test)]
 mod crvm_reserve_tests;
 #[cfg(test)]
-mod mean_reserve_tests;
 mod deficiency_reserve_tests;
+#[cfg(test)]
+mod mean_reserve_tests;
 #[cfg(test)]
 mod parallel_value_tests;
 #[cfg(test)]
