@@ -5,15 +5,24 @@ use std::os::unix::fs::{FileExt, MetadataExt};
 use std::rt::Files;
 use std::{fs, io};
 
-// A file that was opened under a name: which file it is, how long it has been so far, and whether it was found to be cut,
-// or no longer there. From then on it is not written to.
+// A file that was opened under a name: which file it is, how long it has been so far, what was written since the last sync,
+// and whether it was found to be cut, or no longer there. From then on it is not written to.
 #[derive(Drop)]
 pub(crate) struct HeldFile {
     file: File,
     device: u64,
     inode: u64,
     length: u64,
+    written: Written,
     lost: bool,
+}
+
+// Where writes went: nowhere, all past what was then the end, or some over bytes that were there.
+#[derive(Clone, Copy)]
+enum Written {
+    Nothing,
+    Behind,
+    Over,
 }
 
 impl HeldFile {
@@ -37,6 +46,7 @@ impl HeldFile {
             device: told.dev(),
             inode: told.ino(),
             length: told.len(),
+            written: Written::Nothing,
             lost: false,
         })
     }
@@ -56,39 +66,51 @@ impl HeldFile {
         self.file.read_exact_at(buf, at)
     }
 
-    // A write past the end would hide that the file was cut, so before such a one it is looked for.
+    // A write past the end would hide that the file was cut, so before such a one the open file is looked at.
     pub(crate) fn put<R: Files<File = File>>(
         &mut self,
         files: &R,
-        name: &str,
         at: u64,
         bytes: &[u8],
     ) -> io::Result<()> {
         let end = at.saturating_add(bytes.len() as u64);
         if end > self.length || self.lost {
-            self.look_for(files, name)?;
+            self.look(files, None)?;
         }
+        self.written = match self.written {
+            Written::Nothing | Written::Behind if at >= self.length => Written::Behind,
+            _ => Written::Over,
+        };
         self.file.write_all_at(bytes, at)?;
         self.length = self.length.max(end);
         Ok(())
     }
 
-    // Nothing is safe in a file that is no longer under its name, so after a sync it is looked for.
+    // Nothing is safe in a file that is no longer under its name, so after a sync it is looked for. Not so after one of
+    // bytes past the end alone: they count for nothing before a byte in front of them is written over, and safe too.
     pub(crate) fn make_safe<R: Files<File = File>>(
         &mut self,
         files: &R,
         name: &str,
     ) -> io::Result<()> {
         self.file.sync_all()?;
-        self.look_for(files, name)
+        if self.lost || !matches!(self.written, Written::Behind) {
+            self.look(files, Some(name))?;
+        }
+        self.written = Written::Nothing;
+        Ok(())
     }
 
-    // Fails where the name stands for no file or for another, or the file was cut; and ever after.
-    fn look_for<R: Files<File = File>>(&mut self, files: &R, name: &str) -> io::Result<()> {
+    // Fails where the name stands for no file or for another, or the open file has no name or was cut; and ever after.
+    fn look<R: Files<File = File>>(&mut self, files: &R, name: Option<&str>) -> io::Result<()> {
         if self.lost {
             return Err(lost());
         }
-        let found = match ask(files, Asked::Named(name)) {
+        let asked = match name {
+            Some(name) => Asked::Named(name),
+            None => Asked::Open(&self.file),
+        };
+        let found = match ask(files, asked) {
             Ok(found) => found,
             Err(e) => {
                 self.lost = e.kind() == ErrorKind::NotFound;

@@ -115,7 +115,7 @@ fn put<R: Files<File = File> + AllocGlobal>(
     at: u64,
     bytes: &[u8],
 ) -> io::Result<()> {
-    opened(files, name, slot)?.put(files, name, at, bytes)
+    opened(files, name, slot)?.put(files, at, bytes)
 }
 
 fn make_safe<R: Files<File = File> + AllocGlobal>(

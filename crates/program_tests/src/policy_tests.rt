@@ -24,13 +24,17 @@ const PAID_UP: &str =
 
 // A script, and its transcript in two parts.
 #[derive(Drop)]
-struct Life {
+pub(crate) struct Life {
     script: &'static [&'static str],
     first: &'static str,
     then: &'static str,
 }
 
-fn life_of(script: &'static [&'static str], first: &'static str, then: &'static str) -> Life {
+pub(crate) fn life_of(
+    script: &'static [&'static str],
+    first: &'static str,
+    then: &'static str,
+) -> Life {
     Life {
         script,
         first,
@@ -209,7 +213,7 @@ fn lives_are_told_to_their_end(rt: HostRuntime) -> Result<(), AllocError> {
 }
 
 // Whether the script is answered so on an empty disk.
-fn is_lived<R: Threads + Wait + Sync>(
+pub(crate) fn is_lived<R: Threads + Wait + Sync>(
     rt: &R,
     alloc: Global,
     life: &Life,
