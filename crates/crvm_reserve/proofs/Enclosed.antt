@@ -91,7 +91,7 @@ cap-between : (cap : Cover) → IsCover cap → 0 < cap.h → Between (level_lo 
 unfolding level_premium
 cap-between cap is due = level-between cap 0 is due
 
-excess-between : (c cap : Cover) → IsReserved c cap → Between (excess_lo c cap) (excess_hi c cap) UNIT (excess c cap)
+pub excess-between : (c cap : Cover) → IsReserved c cap → Between (excess_lo c cap) (excess_hi c cap) UNIT (excess c cap)
 unfolding excess_lo excess_hi excess
 excess-between c cap r =
     let renewal = renewal-between c (level_lo c 1) (level_hi c 1) r.renewed r.covered r.first
@@ -99,7 +99,7 @@ excess-between c cap r =
     let limit = cap-between cap (cap_cover c cap r) (omega (arith, r.cap_paid)) in
     less-between UNIT _ _ _ _ _ _ (lesser-between UNIT _ _ _ _ _ _ renewal limit) (term-between c)
 
-excess-narrow : (c cap : Cover) → IsReserved c cap → excess_hi c cap ≤ excess_lo c cap + 265
+pub excess-narrow : (c cap : Cover) → IsReserved c cap → excess_hi c cap ≤ excess_lo c cap + 265
 unfolding excess_lo excess_hi
 excess-narrow c cap r =
     let renewal = level-narrow c 1 (own c cap r) (omega (arith, r.renewed)) in

@@ -3,3 +3,5 @@ pub mod Renewal
 pub mod Enclosed
 pub mod Tables
 pub mod PaidUp
+pub mod MeanEnclosed
+pub mod MeanValues

@@ -1,5 +1,5 @@
 -- The bounds of a paid-up amount enclose the value of its benefits.
-use Rattle.std.proofs.Common.{◌≡◌, ℕ, ◌+◌, ◌-◌, ◌*◌, ◌<◌, ◌≤◌, ap, arith}
+use Rattle.std.proofs.Common.{◌≡◌, ℕ, ◌+◌, ◌*◌, ◌<◌, ◌≤◌, ap, arith}
 use Rattle.std.proofs.Math.Nat.{mul-le-mul_left}
 use Rattle.present_value.specs.Reserve.{Encloses}
 use Rattle.present_value.specs.Rounding.{UNIT, down, up}

@@ -13,7 +13,7 @@ use Rattle.present_value.specs.declared.pair.Values.{Values}
 use Rattle.present_value.proofs.Quotients.{up-le}
 use Rattle.present_value.proofs.Steps.{ben_hi-most, ben_lo-most, ann_lo-least, ann_lo-most, ann_hi-most}
 use Rattle.crvm_reserve.specs.Rounded.{term_lo, term_hi, level_lo, level_hi, excess_lo, excess_hi, beta_lo, beta_hi, reserve_lo, reserve_hi, amount_lo, amount_hi}
-use Rattle.crvm_reserve.specs.Made.{CanReserve, IsReserved, ArePremiumPartsOf, IsMadeFor, AreMadeFor}
+use Rattle.crvm_reserve.specs.Made.{CanReserve, IsReserved, ArePremiumPartsOf, IsMadeFor, AreMadeFor, premium_of}
 use Rattle.crvm_reserve.specs.declared.premium.Premium.{Premium}
 use Rattle.crvm_reserve.specs.declared.premium.PremiumParts.{PremiumParts}
 use Rattle.crvm_reserve.proofs.Enclosed.{IsCover, own, cap_cover, ann-order, beta_lo-most, beta_hi-most}
@@ -113,11 +113,17 @@ pub beta_hi_is : (c cap : Cover) (values : Values) (more : ℕ) → AreValuesAt 
 unfolding beta_hi
 beta_hi_is c cap values more are p = rw (are.benefits, are.premiums, p) refl
 
-pub pair_is : (a b x y : ℕ) → a ≡ x → b ≡ y → (let p : Premium = record { lo = a; hi = b } in p) ≡ record { lo = x; hi = y }
-pair_is a b x y p q = cc
+-- a premium from its four parts
+pub premium_is : (c cap : Cover) (lo hi least most : ℕ) → lo ≡ beta_lo c cap → hi ≡ beta_hi c cap → least ≡ excess_lo c cap → most ≡ excess_hi c cap
+    → (let p : Premium = record { lo = lo; hi = hi; excess_lo = least; excess_hi = most } in p) ≡ premium_of c cap
+premium_is c cap lo hi least most p q r s = rw (p, q, r, s) refl
 
 -- how large the parts of a reserve are
 pub record AreSmall (values : Values) (premium : Premium) : Type 0 where
+  pub ben_lo : values.ben.lo ≤ UNIT
+  pub ben_hi : values.ben.hi ≤ UNIT
+  pub premium_lo : premium.lo ≤ 2 * UNIT
+  pub premium_hi : premium.hi ≤ 2 * UNIT
   pub lo : premium.lo * values.ann.lo ≤ 2 * UNIT * (131 * UNIT)
   pub hi : premium.hi * values.ann.hi ≤ 2 * UNIT * (131 * UNIT)
 
@@ -129,7 +135,14 @@ small c cap t values premium made =
     let hi : values.ann.hi ≤ 131 * UNIT = rw made.values_are.premiums (le_trans (ann_hi-most c t) few) in
     let premium_lo : premium.lo ≤ 2 * UNIT = rw made.premium_is (beta_lo-most c cap is) in
     let premium_hi : premium.hi ≤ 2 * UNIT = rw made.premium_is (beta_hi-most c cap is) in
-    record { lo = mul-le _ _ _ _ premium_lo lo; hi = mul-le _ _ _ _ premium_hi hi }
+    record {
+      ben_lo = rw made.values_are.benefits (ben_lo-most c t made.within is.rates);
+      ben_hi = rw made.values_are.benefits (ben_hi-most c t is.rates);
+      premium_lo = premium_lo;
+      premium_hi = premium_hi;
+      lo = mul-le _ _ _ _ premium_lo lo;
+      hi = mul-le _ _ _ _ premium_hi hi;
+    }
   where
     years_left : (c : Cover) (t : ℕ) → c.n ≤ 131 → c.n - t ≤ 131
     years_left c t years = omega arith

@@ -1,2 +1,5 @@
 pub mod Rounded
+pub mod RoundedMean
 pub mod Made
+pub mod MeanMade
+pub mod Worked

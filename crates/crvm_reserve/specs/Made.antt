@@ -8,7 +8,7 @@ use Rattle.present_value.specs.Values.{CanValue, AreColumns}
 use Rattle.present_value.specs.Ends.{AreValuesAt}
 use Rattle.present_value.specs.declared.pair.Columns.{Columns}
 use Rattle.present_value.specs.declared.pair.Values.{Values}
-use Rattle.crvm_reserve.specs.Rounded.{beta_lo, beta_hi}
+use Rattle.crvm_reserve.specs.Rounded.{excess_lo, excess_hi, beta_lo, beta_hi}
 use Rattle.crvm_reserve.specs.declared.premium.Premium.{Premium}
 use Rattle.crvm_reserve.specs.declared.premium.PremiumParts.{PremiumParts}
 
@@ -31,9 +31,14 @@ pub record IsReserved (c cap : Cover) : Type 0 where
   pub cap_years : cap.n ≤ 131
   pub cap_rates : (k : ℕ) → k < cap.n → cap.rates k ≤ ONE
 
--- the premium is that of a cover and its cap, rounded
+-- the premium is that of a cover and its cap, rounded, beside the excess that it rests on
 abbrev pub premium_of : Cover → Cover → Premium
-premium_of c cap = record { lo = beta_lo c cap; hi = beta_hi c cap }
+premium_of c cap = record {
+  lo = beta_lo c cap;
+  hi = beta_hi c cap;
+  excess_lo = excess_lo c cap;
+  excess_hi = excess_hi c cap;
+}
 
 -- the parts are those of a cover and its cap: the values at issue and a year later, and at issue of the cap
 pub record ArePremiumPartsOf (c cap : Cover) (parts : PremiumParts) : Type 0 where

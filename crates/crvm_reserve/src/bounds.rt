@@ -1,5 +1,6 @@
 ghost use Rattle.std.specs.Prelude.{◌≡◌, ◌+◌, ◌*◌, ◌-◌, ◌<◌, ◌≤◌, ℕ};
 ghost use Rattle.present_value.specs.Reserve.{reserve, Encloses};
+ghost use Rattle.present_value.specs.Rounding.{UNIT};
 ghost use Rattle.present_value.specs.Sums.{Cover};
 ghost use Rattle.crvm_reserve.specs.Rounded.{reserve_lo, reserve_hi, rounded};
 ghost use Rattle.crvm_reserve.specs.Made.{AreMade, AreMadeFor, AreClose, IsMadeAt, IsMadeFor};
@@ -44,10 +45,12 @@ pub fn bounds_by(values: &Values, premium: &Premium, amount: u64) -> (u64, u64)
 }
 
 /// The reserve per unit of amount, in units of 10^-16.
-fn unit_reserve(values: &Values, premium: &Premium) -> Pair
+pub fn unit_reserve(values: &Values, premium: &Premium) -> Pair
     requires made { IsMadeAt values.now premium.now }
     ensures lo { (c cap : Cover) → (t : ℕ) → IsMadeFor c cap t values.now premium.now → result.lo ≡ reserve_lo c cap t }
     ensures hi { (c cap : Cover) → (t : ℕ) → IsMadeFor c cap t values.now premium.now → result.hi ≡ reserve_hi c cap t }
+    ensures small_lo { result.lo ≤ UNIT }
+    ensures small_hi { result.hi ≤ UNIT }
 {
     let most = quotient_up(
         premium.hi as u128 * values.ann.hi as u128,

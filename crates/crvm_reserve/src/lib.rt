@@ -4,10 +4,16 @@
 
 mod basis;
 mod bounds;
+mod mean;
 mod paid_up;
+mod paid_up_mean;
 mod premium;
+mod worked;
 
 pub use basis::basis_premium;
 pub use bounds::{bounds_by, reserve_bounds};
+pub use mean::{MeanParts, mean_bounds, mean_by};
 pub use paid_up::{paid_up_bounds, paid_up_by};
+pub use paid_up_mean::{paid_up_mean_bounds, paid_up_mean_by};
 pub use premium::{Premium, PremiumParts, premium_by};
+pub use worked::{mean_rows_by_hand, paid_up_mean_rows_by_hand};

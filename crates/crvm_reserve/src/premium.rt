@@ -14,6 +14,10 @@ use present_value::{Pair, UNITS_IN_ONE, Values, quotient_down, quotient_up};
 pub struct Premium {
     pub lo: u64,
     pub hi: u64,
+    /// A lower bound of the excess that it rests on, by which the first year's net premium is less.
+    pub excess_lo: u64,
+    /// An upper bound of it.
+    pub excess_hi: u64,
 }
 
 /// What the modified net premium of a cover rests on.
@@ -48,6 +52,8 @@ pub fn premium_by(parts: PremiumParts) -> Premium
     Premium {
         lo: level.lo,
         hi: level.hi,
+        excess_lo: excess.lo,
+        excess_hi: excess.hi,
     }
 }
 

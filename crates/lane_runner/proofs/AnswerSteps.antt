@@ -21,6 +21,7 @@ use Rattle.office_state.specs.Posting.{turn_of}
 use Rattle.office_state.specs.Turning.{trim_turn}
 use Rattle.turn_lock.specs.Passes.{Holding, PassFacts, TakesTurn}
 use Rattle.shared_office.specs.Offices.{IsOfficeHistory, OfficeOpening}
+use Rattle.policy_value.specs.declared.worth.Measure.TheVariants.{Terminal}
 use Rattle.snapshot_value.specs.Growing.{Grows}
 use Rattle.snapshot_value.specs.Valuing.{HasValued, AnswersPin, dry_pins}
 use Rattle.snapshot_value.specs.declared.valuation.Valuation.{Valuation}
@@ -128,7 +129,7 @@ pub next_left : (asked : List Line) (i : ℕ) (d : Line) (left spent old : ℕ) 
 next_left asked i d left spent old below enough is few = omega (arith, needed_next asked i d below, enough, is, few)
 
 outcomes : (basis : List Dated) (commands : List Command) (on : ℤ) (at : At) (workers : ℕ) (reply : Reply) (answer : Result Valuation ValueFault)
-    → AnswersPin commands basis on reply answer → IsOutcome commands basis (Value on at workers) reply (outcome_of answer)
+    → AnswersPin commands basis on Terminal reply answer → IsOutcome commands basis (Value on at workers) reply (outcome_of answer)
 outcomes basis commands on at workers (PinRefused refusal) (Err (Pin why)) h = ap PinRefused (sym h)
 outcomes basis commands on at workers (PinRefused refusal) (Err NoMemory) h = absurd h
 outcomes basis commands on at workers (PinRefused refusal) (Ok valuation) h = absurd h
@@ -277,7 +278,7 @@ module _ {D W : Type 0} (basis : List Dated) (number : ℕ) where
   }
 
   pub answered_value : (on : ℤ) (at : At) (workers turn : ℕ) (answer : Result Valuation ValueFault) (old new : Holding (OfficeOpening D W))
-      → HasValued basis on at workers old new turn answer
+      → HasValued basis on Terminal at workers old new turn answer
       → HasAnswered basis number (Value on at workers ∷ []) old new (valued_line number on at workers turn answer ∷ [])
   answered_value on at workers turn answer old new v = record {
     answered = record { clerk = number; line = Value on at workers; first = v.pin; rest = v.later } ∷ [];

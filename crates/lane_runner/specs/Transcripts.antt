@@ -11,6 +11,7 @@ use Rattle.policy_types.specs.declared.script.Line.TheVariants.{Post, Value, Tri
 use Rattle.policy_types.specs.declared.script.Lane.{Lane}
 use Rattle.policy_machine.specs.History.{Opening, commands_after}
 use Rattle.policy_machine.specs.Merge.{AnswersLanes}
+use Rattle.policy_value.specs.declared.worth.Measure.TheVariants.{Terminal}
 use Rattle.office_state.specs.Posting.{reply_of}
 use Rattle.turn_lock.specs.History.{StartsWith, entries_of}
 use Rattle.turn_lock.specs.Passes.{Holding}
@@ -23,13 +24,13 @@ use Rattle.lane_runner.specs.declared.transcript.Transcript.{Transcript}
 use Rattle.lane_runner.specs.AnsweredLines.{AnsweredLine, AreLinesOf}
 
 -- what is told of a line is the reply of its first turn, and of a valuation that was pinned the snapshot of these commands
--- at that position, or that there was no memory
+-- at that position, with terminal reserves, or that there was no memory
 abbrev pub IsOutcome : List Command → List Dated → Line → Reply → Outcome → Type 0
 IsOutcome commands basis (Post command) reply (Posted answer) = reply ≡ reply_of answer
 IsOutcome commands basis Trim reply (Trimmed floor) = reply ≡ Floor floor
 IsOutcome commands basis (Value on at workers) reply (ValueRefused refusal) = reply ≡ PinRefused refusal
 IsOutcome commands basis (Value on at workers) reply (Valued valuation) =
-    (position : ℕ) × ((policies : ℕ) × (reply ≡ Pinned position policies) × IsSnapshot commands basis on position valuation)
+    (position : ℕ) × ((policies : ℕ) × (reply ≡ Pinned position policies) × IsSnapshot commands basis on Terminal position valuation)
 IsOutcome commands basis (Value on at workers) reply ValueNoMemory =
     (position : ℕ) × ((policies : ℕ) × (reply ≡ Pinned position policies))
 IsOutcome _ _ _ _ _ = ⊥

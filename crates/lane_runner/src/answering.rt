@@ -13,6 +13,7 @@ use crate::transcript::{Outcome, TranscriptLine};
 use basis_book::Basis;
 use outside_io::{Disk, Gate};
 use policy_types::{At, Command, Lane, Line};
+use policy_value::Measure;
 use shared_office::{Office, OfficeCalls, OfficePass};
 use snapshot_value::{Valuation, ValueFault, value};
 use std::alloc::Global;
@@ -169,7 +170,17 @@ fn answer_value<D: Disk, W: Watching, G: Gate, R: Threads + Wait + Sync>(
     ensures facts { PassFacts IsOfficeHistory pass.new }
 {
     let Turned { turn, answer } = value(
-        rt, alloc, office, pass, basis, on, at, workers, lane, gate,
+        rt,
+        alloc,
+        office,
+        pass,
+        basis,
+        on,
+        at,
+        Measure::Terminal,
+        workers,
+        lane,
+        gate,
     );
     TranscriptLine {
         lane,

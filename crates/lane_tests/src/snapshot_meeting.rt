@@ -8,6 +8,7 @@ use basis_book::Basis;
 use memory_disk::MemoryDisk;
 use outside_io::{Disk, Gate, OpenGate};
 use policy_types::{At, Command, Status};
+use policy_value::Measure;
 use shared_office::{Office, OfficeCalls, OfficePass, close};
 use snapshot_value::value;
 use std::alloc::Global;
@@ -66,6 +67,7 @@ fn value_issues<D: Disk, W: Watching, R: Threads + Wait + Sync>(
         basis,
         ONE_YEAR,
         At::Now,
+        Measure::Terminal,
         1,
         1,
         meeting,
@@ -158,6 +160,7 @@ fn at_last<D: Disk, W: Watching, R: Threads + Wait + Sync>(
         basis,
         ONE_YEAR,
         At::Now,
+        Measure::Terminal,
         1,
         1,
         &OpenGate,

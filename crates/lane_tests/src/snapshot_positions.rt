@@ -7,6 +7,7 @@ use basis_book::Basis;
 use memory_disk::MemoryDisk;
 use outside_io::{Disk, OpenGate};
 use policy_types::At;
+use policy_value::Measure;
 use shared_office::{Office, OfficeCalls, OfficePass, close};
 use snapshot_value::{Valuation, value};
 use std::alloc::Global;
@@ -50,7 +51,17 @@ fn valued<D: Disk, W: Watching, R: Threads + Wait + Sync>(
         return None;
     }
     let answer = value(
-        rt, alloc, office, pass, basis, TWO_YEARS, at, 4, 3, &OpenGate,
+        rt,
+        alloc,
+        office,
+        pass,
+        basis,
+        TWO_YEARS,
+        at,
+        Measure::Terminal,
+        4,
+        3,
+        &OpenGate,
     );
     answer.answer.ok()
 }

@@ -7,7 +7,7 @@ use basis_book::Basis;
 use memory_disk::MemoryDisk;
 use outside_io::{Disk, Gate, OpenGate};
 use policy_types::{At, Command, PinRefusal, Status};
-use policy_value::{Row, Worth};
+use policy_value::{Measure, Row, Worth};
 use shared_office::{Office, OfficeCalls, OfficePass, close};
 use snapshot_value::{Valuation, ValueFault, value};
 use std::alloc::Global;
@@ -95,7 +95,19 @@ pub(crate) fn first_wrong<D: Disk, W: Watching, R: Threads + Wait + Sync>(
         if pass.left() < 16_000 {
             return Some(index);
         }
-        let answer = value(rt, alloc, office, pass, basis, on, at, workers, 3, &steps);
+        let answer = value(
+            rt,
+            alloc,
+            office,
+            pass,
+            basis,
+            on,
+            at,
+            Measure::Terminal,
+            workers,
+            3,
+            &steps,
+        );
         let called = steps.in_order.get() && u64::from(steps.last.get()).saturating_add(2) == turns;
         if !called || !is_of(&answer, turn, position, policies, &row) {
             return Some(index);
@@ -127,6 +139,7 @@ fn now_and_ahead<D: Disk, W: Watching, R: Threads + Wait + Sync>(
         basis,
         ONE_YEAR,
         At::Now,
+        Measure::Terminal,
         1,
         3,
         &OpenGate,
@@ -139,6 +152,7 @@ fn now_and_ahead<D: Disk, W: Watching, R: Threads + Wait + Sync>(
         basis,
         ONE_YEAR,
         At::Position(302),
+        Measure::Terminal,
         64,
         3,
         &OpenGate,

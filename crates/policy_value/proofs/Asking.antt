@@ -1,12 +1,13 @@
 -- The keys of a cache after one of them was asked for.
-use Rattle.std.proofs.Common.{rules, true≢false, subst, ◌≡◌, ℕ, ◌-◌, Bool, true, false, List, [], ◌∷◌, Contains, Result, Ok, Err, OnOk, OnErr, Option, Some, None, is_some, refl, sym, ap, ◌∙◌, inl, inr}
+use Rattle.std.proofs.Common.{rules, true≢false, subst, ◌≡◌, ℕ, ◌+◌, ◌-◌, ◌^◌, min, Bool, true, false, List, [], ◌∷◌, Contains, Option, Some, None, is_some, refl, sym, ap, ◌∙◌, inl, inr}
 use Rattle.std.proofs.lemmas.List.{take-map}
 use Rattle.std.specs.Cmp.Rules.{comparing, hashing}
 use Rattle.std.specs.Map.{keys_of, lookup, lookup_entry, remove_entry}
 use Rattle.std.specs.Set.{remove_key}
 use Rattle.lru.specs.LruCache.{LruCache, lru_cache, promoted, put_entries}
 use Rattle.lru.proofs.Splits.{Contains-nil, Contains-cons, Contains-head, Contains-tail}
-use Rattle.policy_value.specs.Caches.{HasAsked}
+use Rattle.policy_value.specs.Caches.{HasAsked, KeepsKeys}
+use Rattle.policy_value.specs.declared.cache.ColumnCache.{ColumnCache}
 use Rattle.policy_value.specs.declared.key.CacheKey.{CacheKey}
 use Rattle.policy_value.specs.contracts.key.CacheKeyPartialEq.TheImpl.{eq-value}
 use Rattle.policy_value.proofs.Keeping.{same_key}
@@ -49,14 +50,19 @@ itself : (key : CacheKey) → eq-value.it key key ≡ true
 itself key = search (comparing, hashing, rules)
 
 -- a key that is found goes to the front
-pub asked_hit : (key : CacheKey) (most : ℕ) (es new : List (CacheKey × Premium)) (v : Premium) → lookup (eq-value.it key) es ≡ Some v → new ≡ promoted (eq-value.it key) es
-    → HasAsked key most (keys_of es) (keys_of new)
-asked_hit key most es new v found is =
+pub asked_hit : (key : CacheKey) (old new : ColumnCache) (v : Premium) → lookup (eq-value.it key) old.premiums.entries ≡ Some v
+    → new.premiums ≡ lru_cache (promoted (eq-value.it key) old.premiums.entries) old.premiums.cap → new.unkept ≡ old.unkept → HasAsked key old new
+asked_hit key old new v found is unkept =
+    let es = old.premiums.entries in
     let entry = entry_found (eq-value.it key) es v found in
     let same = same_key key entry.0.0 entry.2 in
     record {
-      hit = λ at. rw (is, entry.1) (ap (λ (k : CacheKey). k ∷ keys_of (remove_entry (eq-value.it key) es)) (sym same)
-          ∙ ap (λ (ks : List CacheKey). key ∷ ks) (keys_removed (eq-value.it key) es));
+      most = ap (λ (l : LruCache CacheKey Premium). l.cap) is;
+      hit = λ at. (
+        rw (is, entry.1) (ap (λ (k : CacheKey). k ∷ keys_of (remove_entry (eq-value.it key) es)) (sym same)
+            ∙ ap (λ (ks : List CacheKey). key ∷ ks) (keys_removed (eq-value.it key) es)),
+        unkept,
+      );
       miss = λ absent. absurd (absent (subst (λ (k : CacheKey). Contains (keys_of es) k) (sym same) entry.3));
     }
 
@@ -67,15 +73,38 @@ missing key es none at =
     let yes = itself key in
     true≢false (sym yes ∙ no)
 
-pub asked_miss : {X E : Type 0} (key : CacheKey) (c new : LruCache CacheKey Premium) (v : Premium) (r : Result X E) → lookup (eq-value.it key) c.entries ≡ None
-    → OnOk r (new ≡ lru_cache (put_entries eq-value.it c key v) c.cap) → OnErr r (new ≡ c) → HasAsked key c.cap (keys_of c.entries) (keys_of new.entries)
-asked_miss key c new v (Ok x) none put stays = record {
-  hit = λ at. absurd (missing key c.entries none at);
-  miss = λ absent. inl (rw (put, (none_found (eq-value.it key) c.entries none).0) (ap (λ (ks : List CacheKey). key ∷ ks) (sym (take-map (λ (e : CacheKey × Premium). e.0) (c.cap - 1) c.entries))));
+pub asked_kept : (key : CacheKey) (old new : ColumnCache) (v : Premium) → lookup (eq-value.it key) old.premiums.entries ≡ None
+    → new.premiums ≡ lru_cache (put_entries eq-value.it old.premiums key v) old.premiums.cap → new.unkept ≡ old.unkept → HasAsked key old new
+asked_kept key old new v none put unkept =
+    let es = old.premiums.entries in
+    record {
+      most = ap (λ (l : LruCache CacheKey Premium). l.cap) put;
+      hit = λ at. absurd (missing key es none at);
+      miss = λ absent. inl (record {
+        keys = rw (put, (none_found (eq-value.it key) es none).0)
+            (ap (λ (ks : List CacheKey). key ∷ ks) (sym (take-map (λ (e : CacheKey × Premium). e.0) (old.premiums.cap - 1) es)));
+        unkept = unkept;
+      });
+    }
+
+pub asked_unkept : (key : CacheKey) (old new : ColumnCache) → lookup (eq-value.it key) old.premiums.entries ≡ None → new.premiums ≡ old.premiums
+    → new.unkept ≡ min (old.unkept + 1) (2 ^ 64 - 1) → HasAsked key old new
+asked_unkept key old new none stays unkept = record {
+  most = ap (λ (l : LruCache CacheKey Premium). l.cap) stays;
+  hit = λ at. absurd (missing key old.premiums.entries none at);
+  miss = λ absent. inr (record { keys = ap (λ (l : LruCache CacheKey Premium). keys_of l.entries) stays; unkept = unkept });
 }
-asked_miss key c new v (Err e) none put stays = record {
-  hit = λ at. absurd (missing key c.entries none at);
-  miss = λ absent. inr (ap (λ (l : LruCache CacheKey Premium). keys_of l.entries) stays);
+
+-- the same of a cache with the same keys
+pub asked_from : (key : CacheKey) (older old new : ColumnCache) → old.premiums ≡ older.premiums → old.unkept ≡ older.unkept → HasAsked key old new
+    → HasAsked key older new
+asked_from key older old new premiums unkept asked = record {
+  most = asked.most ∙ ap (λ (l : LruCache CacheKey Premium). l.cap) premiums;
+  hit = λ at. rw (← premiums, ← unkept) (asked.hit (rw premiums at));
+  miss = λ absent. elim (asked.miss (λ at. absent (rw (← premiums) at))) [
+    | inl taken ↦ inl (record { keys = rw (← premiums) taken.keys; unkept = taken.unkept ∙ unkept })
+    | inr missed ↦ inr (record { keys = rw (← premiums) missed.keys; unkept = missed.unkept ∙ ap (λ (n : ℕ). min (n + 1) (2 ^ 64 - 1)) unkept })
+  ];
 }
 
 -- nothing moves where nothing is found
@@ -96,3 +125,22 @@ pub found_again : (key : CacheKey) (es : List (CacheKey × Premium)) (v : Premiu
 found_again key es v found =
     let entry = entry_found (eq-value.it key) es v found in
     (entry.0.1, rw (entry.1, entry.2) refl)
+
+-- the keys stay twice
+pub kept_twice : (old mid new : ColumnCache) → KeepsKeys old mid → KeepsKeys mid new → KeepsKeys old new
+kept_twice old mid new first then = record {
+  most = then.most ∙ first.most;
+  keys = then.keys ∙ first.keys;
+  unkept = then.unkept ∙ first.unkept;
+}
+
+-- a key was asked for, and then the keys stay
+pub asked_then_kept : (key : CacheKey) (old mid new : ColumnCache) → HasAsked key old mid → KeepsKeys mid new → HasAsked key old new
+asked_then_kept key old mid new asked kept = record {
+  most = kept.most ∙ asked.most;
+  hit = λ at. let was = asked.hit at in (kept.keys ∙ was.0, kept.unkept ∙ was.1);
+  miss = λ absent. elim (asked.miss absent) [
+    | inl taken ↦ inl (record { keys = kept.keys ∙ taken.keys; unkept = kept.unkept ∙ taken.unkept })
+    | inr missed ↦ inr (record { keys = kept.keys ∙ missed.keys; unkept = kept.unkept ∙ missed.unkept })
+  ];
+}

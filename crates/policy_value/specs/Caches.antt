@@ -1,5 +1,5 @@
 -- What a cache holds, and when that is right.
-use Rattle.std.specs.Prelude.{◌≡◌, ℕ, ◌<◌, ◌≤◌, List, length, None, slice_get, All, Some, Ok, vec_capacity, Contains, take, ◌-◌, ◌∷◌, ◌⊎◌}
+use Rattle.std.specs.Prelude.{◌≡◌, ℕ, ◌+◌, ◌^◌, min, ◌<◌, ◌≤◌, List, length, None, slice_get, All, Some, Ok, vec_capacity, Contains, take, ◌-◌, ◌∷◌, ◌⊎◌}
 use Rattle.std.specs.Map.{keys_of, lookup}
 use Rattle.std.specs.Set.{remove_key}
 use Rattle.policy_value.specs.contracts.key.CacheKeyPartialEq.TheImpl.{eq-value}
@@ -48,15 +48,37 @@ pub record IsRightFor (basis : List Dated) (cache : ColumnCache) : Type 0 where
   pub premiums : All (IsRightPremium basis) cache.premiums.entries
   pub columns : IsRightStore basis cache.columns
 
--- a key was asked for. It is in front where it was among the keys. Where it wasn't, it was put in front, and of as many
--- keys as the cache holds the last left it; or for want of memory the keys are as before.
-pub record HasAsked (key : CacheKey) (most : ℕ) (old new : List CacheKey) : Type 0 where
-  pub hit : Contains old key → new ≡ key ∷ remove_key (eq-value.it key) old
-  pub miss : (Contains old key → ⊥) → (new ≡ key ∷ take (most - 1) old) ⊎ (new ≡ old)
-
 -- the keys of the policies, the last used first
 abbrev pub kept_keys : ColumnCache → List CacheKey
 kept_keys cache = keys_of cache.premiums.entries
+
+-- how many keys a cache keeps at most
+abbrev pub most_keys : ColumnCache → ℕ
+most_keys cache = cache.premiums.cap
+
+-- all stays of the keys: which they are, how many there may be, and how many weren't kept
+pub record KeepsKeys (old new : ColumnCache) : Type 0 where
+  pub most : most_keys new ≡ most_keys old
+  pub keys : kept_keys new ≡ kept_keys old
+  pub unkept : new.unkept ≡ old.unkept
+
+-- a key is in front, and of as many keys as there may be the last has left
+pub record TakesKey (key : CacheKey) (old new : ColumnCache) : Type 0 where
+  pub keys : kept_keys new ≡ key ∷ take (most_keys old - 1) (kept_keys old)
+  pub unkept : new.unkept ≡ old.unkept
+
+-- memory was refused for a key: it is counted, up to the most that is counted, and the keys are as before
+pub record MissesKey (old new : ColumnCache) : Type 0 where
+  pub keys : kept_keys new ≡ kept_keys old
+  pub unkept : new.unkept ≡ min (old.unkept + 1) (2 ^ 64 - 1)
+
+-- a key was asked for. It is in front where it was among the keys. Where it wasn't, it was put in front, or memory was
+-- refused for it.
+pub record HasAsked (key : CacheKey) (old new : ColumnCache) : Type 0 where
+  pub most : most_keys new ≡ most_keys old
+  pub hit : Contains (kept_keys old) key
+      → (kept_keys new ≡ key ∷ remove_key (eq-value.it key) (kept_keys old)) × (new.unkept ≡ old.unkept)
+  pub miss : (Contains (kept_keys old) key → ⊥) → TakesKey key old new ⊎ MissesKey old new
 
 -- no premium is kept for a key
 abbrev pub IsMissing : CacheKey → ColumnCache → Type 0

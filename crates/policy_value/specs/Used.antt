@@ -9,7 +9,7 @@ use Rattle.basis_book.specs.Dated.{Dated, IsPicked}
 use Rattle.policy_value.specs.declared.cache.ColumnCache.{ColumnCache}
 use Rattle.policy_value.specs.declared.key.CacheKey.{CacheKey}
 use Rattle.policy_value.specs.Rows.{IsInsured}
-use Rattle.policy_value.specs.Caches.{HasAsked, kept_keys}
+use Rattle.policy_value.specs.Caches.{HasAsked, KeepsKeys}
 
 -- the key of a policy by the row of the basis at a place
 abbrev pub key_of : Policy → ℕ → CacheKey
@@ -17,8 +17,8 @@ key_of policy place = record { basis_row = place; plan = policy.plan; age = poli
 
 -- a policy in force is asked for by its key; a paid-up one has no premium, and leaves the keys as they are
 pub record AsksByStatus (policy : Policy) (place : ℕ) (old new : ColumnCache) : Type 0 where
-  pub paid_up : policy.status ≡ PaidUp → kept_keys new ≡ kept_keys old
-  pub other : (policy.status ≡ PaidUp → ⊥) → HasAsked (key_of policy place) old.premiums.cap (kept_keys old) (kept_keys new)
+  pub paid_up : policy.status ≡ PaidUp → KeepsKeys old new
+  pub other : (policy.status ≡ PaidUp → ⊥) → HasAsked (key_of policy place) old new
 
 -- by a table: a policy without a shape leaves the cache as it is
 abbrev pub AsksByShape : Policy → ℕ → Result Shape NotValued → ColumnCache → ColumnCache → Type 0

@@ -1,11 +1,11 @@
-ghost use Rattle.std.specs.Prelude.{◌≡◌, ◌≤◌, ◌+◌, [], List, All, IfSome, IfNone, IsSome, IfOk, Ok, length, min};
+ghost use Rattle.std.specs.Prelude.{◌≡◌, ◌≤◌, ◌+◌, ◌*◌, [], List, All, IfSome, IfNone, IsSome, IfOk, Ok, length, min};
 ghost use Rattle.rate_table.specs.Rates.{AreRates};
 ghost use Rattle.plan_benefits.specs.Shapes.{shape_of};
 ghost use Rattle.present_value.specs.Sums.{cover_of};
 ghost use Rattle.present_value.specs.Premium.{cap_of, cap_shape};
 ghost use Rattle.crvm_reserve.specs.Made.{CanReserve, IsMadeFor, IsPaidUpFor, premium_of};
 ghost use Rattle.basis_book.specs.Dated.{Dated};
-ghost use Rattle.policy_value.specs.Caches.{HasAsked, IsMissing, IsRightFor, IsRightPremium, IsRightStore, IsRowOf, kept_keys};
+ghost use Rattle.policy_value.specs.Caches.{HasAsked, IsMissing, IsRightFor, IsRightPremium, IsRightStore, IsRowOf, KeepsKeys, kept_keys, most_keys};
 
 use crate::columns::ColumnStore;
 use crate::key::CacheKey;
@@ -24,6 +24,8 @@ use std::num::NonZeroUsize;
 pub struct ColumnCache {
     premiums: LruCache<CacheKey, Premium>,
     columns: ColumnStore,
+    /// How many keys weren't kept.
+    unkept: u64,
 }
 
 impl ColumnCache {
@@ -31,7 +33,8 @@ impl ColumnCache {
     pub fn new(alloc: Global, capacity: u8) -> Result<ColumnCache, NoMemory>
         requires { 1 ≤ capacity }
         ensures right { IfOk result (λ cache. (basis : List Dated) → IsRightFor basis cache) }
-        ensures empty { IfOk result (λ cache. kept_keys cache ≡ []) }
+        ensures empty { IfOk result (λ cache. (kept_keys cache ≡ []) × (cache.unkept ≡ 0)) }
+        ensures room { IfOk result (λ cache. (most_keys cache ≡ capacity) × (cache.columns.most ≡ 4 * capacity)) }
     {
         ColumnCache::with_room(alloc, 4 * capacity as u32, capacity as u32)
     }
@@ -41,12 +44,17 @@ impl ColumnCache {
         requires columns { (1 ≤ columns) × (columns ≤ 65535) }
         requires premiums { 1 ≤ premiums }
         ensures right { IfOk result (λ cache. (basis : List Dated) → IsRightFor basis cache) }
-        ensures empty { IfOk result (λ cache. kept_keys cache ≡ []) }
+        ensures empty { IfOk result (λ cache. (kept_keys cache ≡ []) × (cache.unkept ≡ 0)) }
+        ensures room { IfOk result (λ cache. (most_keys cache ≡ premiums) × (cache.columns.most ≡ columns)) }
     {
         let columns = ColumnStore::new(alloc, columns)?;
         let most = NonZeroUsize::new(premiums as usize).unwrap();
         match LruCache::sparse(alloc, most) {
-            Ok(premiums) => Ok(ColumnCache { premiums, columns }),
+            Ok(premiums) => Ok(ColumnCache {
+                premiums,
+                columns,
+                unkept: 0,
+            }),
             Err(_) => Err(NoMemory),
         }
     }
@@ -56,6 +64,13 @@ impl ColumnCache {
         ensures { result ≡ min (length (kept_keys self.now)) 255 }
     {
         self.premiums.len().min(255) as u8
+    }
+
+    /// How many keys were asked for and not kept, for want of memory.
+    pub fn unkept(&self) -> u64
+        ensures { result ≡ self.now.unkept }
+    {
+        self.unkept
     }
 
     /// The values of a shape at year `t` and its modified net premium, by a row of the basis.
@@ -76,7 +91,7 @@ impl ColumnCache {
         ensures made { IsMadeFor (cover_of table.now shape.now bp) (cap_of table.now shape.now.age bp) t
             result.0 result.1 }
         ensures right { IsRightFor basis.now self.new }
-        ensures keys { HasAsked key self.old.premiums.cap (kept_keys self.old) (kept_keys self.new) }
+        ensures keys { HasAsked key self.old self.new }
     {
         let cap = shape_of_cap(table, shape.age);
         let premium = self.premium(basis, key, table, bp, shape, &cap);
@@ -102,7 +117,7 @@ impl ColumnCache {
         requires year { t ≤ shape.now.n }
         ensures made { IsPaidUpFor (cover_of table.now shape.now bp) t result }
         ensures right { IsRightFor basis.now self.new }
-        ensures keys { kept_keys self.new ≡ kept_keys self.old }
+        ensures keys { KeepsKeys self.old self.new }
     {
         let _ = shape_of_cap(table, shape.age);
         self.columns.values(basis, basis_row, table, bp, shape, t)
@@ -126,7 +141,7 @@ impl ColumnCache {
         requires ages { AreRates table.now }
         ensures premium { result ≡ premium_of (cover_of table.now shape.now bp) (cap_of table.now shape.now.age bp) }
         ensures right { IsRightFor basis.now self.new }
-        ensures keys { HasAsked key self.old.premiums.cap (kept_keys self.old) (kept_keys self.new) }
+        ensures keys { HasAsked key self.old self.new }
     {
         if let Some(premium) = self.find(key) {
             return premium;
@@ -134,8 +149,22 @@ impl ColumnCache {
         let premium = self
             .columns
             .premium(basis, key.basis_row, table, bp, shape, cap);
-        let _ = self.premiums.put(key, premium);
+        self.keep(key, premium);
         premium
+    }
+
+    /// Keeps the premium of a key that isn't kept, which is now the last used, or counts it where there is no memory.
+    fn keep(&mut self, key: CacheKey, premium: Premium)
+        requires missing { IsMissing key self.old }
+        ensures columns { self.new.columns ≡ self.old.columns }
+        ensures right { (basis : List Dated) → IsRightPremium basis (key, premium)
+            → All (IsRightPremium basis) self.old.premiums.entries → All (IsRightPremium basis) self.new.premiums.entries }
+        ensures keys { HasAsked key self.old self.new }
+    {
+        match self.premiums.put(key, premium) {
+            Ok(_) => {}
+            Err(_) => self.unkept = self.unkept.saturating_add(1),
+        }
     }
 
     /// The premium of a key that is kept, which is now the last used.
@@ -145,8 +174,9 @@ impl ColumnCache {
             → All (IsRightPremium basis) self.new.premiums.entries }
         ensures found { (basis : List Dated) → All (IsRightPremium basis) self.old.premiums.entries
             → IfSome result (λ premium. IsRightPremium basis (key, premium)) }
-        ensures hit { IsSome result → HasAsked key self.old.premiums.cap (kept_keys self.old) (kept_keys self.new) }
+        ensures hit { IsSome result → HasAsked key self.old self.new }
         ensures miss { IfNone result ((self.new.premiums ≡ self.old.premiums) × IsMissing key self.old) }
+        ensures unkept { self.new.unkept ≡ self.old.unkept }
     {
         if self.premiums.promote(&key) {
             self.premiums.peek(&key).copied()

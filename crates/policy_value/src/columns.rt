@@ -77,7 +77,8 @@ impl ColumnStore {
     /// A store of at most so many columns.
     pub fn new(alloc: Global, most: u32) -> Result<ColumnStore, NoMemory>
         requires { (1 ≤ most) × (most ≤ 65535) }
-        ensures { IfOk result (λ store. (basis : List Dated) → IsRightStore basis store) }
+        ensures right { IfOk result (λ store. (basis : List Dated) → IsRightStore basis store) }
+        ensures most { IfOk result (λ store. store.most ≡ most) }
     {
         let most = most as usize;
         let Ok(kept) = Vec::with_capacity(alloc, most) else {

@@ -1,14 +1,16 @@
-//! What a policy is worth on a day by a basis: its row in a valuation.
+//! What a policy is worth on a day by a basis and a measure: its row in a valuation.
 #![tactic(auto)]
 
 mod cache;
 mod columns;
 mod key;
+mod measures;
 mod valuing;
 mod worth;
 
 pub use cache::ColumnCache;
+pub use deficiency_reserve::Adequacy;
 pub use key::CacheKey;
 pub use plan_benefits::NotValued;
 pub use valuing::row;
-pub use worth::{Row, Rows, Worth};
+pub use worth::{Measure, Row, Rows, Worth};

@@ -1,14 +1,58 @@
+ghost use Rattle.std.specs.Prelude.{◌≡◌};
+ghost use Rattle.policy_value.specs.Measures.{no_reserve};
+
+use deficiency_reserve::Adequacy;
 use plan_benefits::NotValued;
 use policy_types::Status;
 use std::marker::Model;
+
+/// Which reserve is asked for.
+#[derive(Clone, Copy, PartialEq, Eq, Debug)]
+pub enum Measure {
+    /// The one at the end of the last completed policy year.
+    Terminal,
+    /// The mean of those around the policy year and its net premium.
+    Mean,
+    /// The terminal one, beside the minimum reserve where the premium that is charged is short.
+    Deficiency,
+}
 
 /// What a policy's future benefits are worth above its future premiums.
 #[derive(Clone, Copy, PartialEq, Eq, Debug)]
 pub enum Worth {
     /// A lower and an upper bound of the reserve, in cents.
-    Bounds { lo: u64, hi: u64 },
+    Bounds {
+        lo: u64,
+        hi: u64,
+    },
+    /// The same, and bounds of the minimum reserve, in cents; and how the premium that is charged lies to the net premium.
+    Both {
+        lo: u64,
+        hi: u64,
+        min_lo: u64,
+        min_hi: u64,
+        test: Adequacy,
+    },
     /// Why there is none.
     Word(NotValued),
+}
+
+impl Worth {
+    /// What a policy is worth that isn't insured.
+    pub(crate) fn nothing(measure: Measure) -> Worth
+        ensures { result ≡ no_reserve measure }
+    {
+        match measure {
+            Measure::Terminal | Measure::Mean => Worth::Bounds { lo: 0, hi: 0 },
+            Measure::Deficiency => Worth::Both {
+                lo: 0,
+                hi: 0,
+                min_lo: 0,
+                min_hi: 0,
+                test: Adequacy::Enough,
+            },
+        }
+    }
 }
 
 /// A policy in a valuation.

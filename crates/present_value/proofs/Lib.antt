@@ -7,3 +7,4 @@ pub mod Places
 pub mod Reciprocals
 pub mod Ends
 pub mod Ageing
+pub mod MeanLaws

@@ -2,6 +2,9 @@ pub mod Fractions
 pub mod Sums
 pub mod Premium
 pub mod Reserve
+pub mod Mean
+pub mod MeanLaws
+pub mod Worked
 pub mod Rounding
 pub mod Recursion
 pub mod Values

@@ -6,11 +6,15 @@ mod crvm_reserve_tests;
 #[cfg(test)]
 mod deficiency_reserve_tests;
 #[cfg(test)]
+mod mean_reserve_tests;
+#[cfg(test)]
 mod parallel_value_tests;
 #[cfg(test)]
 mod plan_benefits_tests;
 #[cfg(test)]
 mod policy_cache_tests;
+#[cfg(test)]
+mod policy_measure_tests;
 #[cfg(test)]
 mod policy_value_tests;
 #[cfg(test)]

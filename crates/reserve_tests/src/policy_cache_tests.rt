@@ -6,7 +6,7 @@ use basis_book::Basis;
 use crvm_reserve::{basis_premium, reserve_bounds};
 use plan_benefits::shape;
 use policy_types::{Command, Plan, Policy, Status};
-use policy_value::{ColumnCache, Row, Worth, row};
+use policy_value::{ColumnCache, Measure, Row, Worth, row};
 use present_value::columns;
 use std::alloc::Global;
 use std::test::Fail;
@@ -63,7 +63,7 @@ fn row_with(policy: &Policy, basis: &Basis, on: i32, cache: &mut ColumnCache) ->
     if !issue.is_valid() {
         return Err("a valid issue".into());
     }
-    Ok(row(&policy, basis, on, cache))
+    Ok(row(&policy, basis, on, Measure::Terminal, cache))
 }
 
 /// The bounds of a policy at year `t` by the columns of its own shape and of its cap.
@@ -99,6 +99,9 @@ fn rows_with_bounds(
     for turn in 0..2 * BOOK {
         let bounded = row_is_same(alloc, basis, &policy_of(turn * 67 % BOOK), &mut cache)?;
         valued = valued.saturating_add(u32::from(bounded));
+    }
+    if cache.unkept() != 0 {
+        return Err("a key wasn't kept".into());
     }
     Ok(valued)
 }

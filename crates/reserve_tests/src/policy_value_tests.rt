@@ -1,7 +1,7 @@
 use basis_book::{Basis, LONGEST_FILE, read_basis};
 use indexmap::IndexMap;
 use policy_types::{Command, Plan, Policy, Status};
-use policy_value::{ColumnCache, NotValued, Row, Worth, row};
+use policy_value::{ColumnCache, Measure, NotValued, Row, Worth, row};
 use rate_table::RateTable;
 use std::alloc::Global;
 use std::test::Fail;
@@ -9,13 +9,13 @@ use std::test::Fail;
 /// 2020-01-01, on which all the policies are issued.
 pub const ISSUED: i32 = 18_262;
 /// The day before the first anniversary, and the first three.
-const DAY_BEFORE: i32 = 18_627;
+pub const DAY_BEFORE: i32 = 18_627;
 
 pub const ONE_YEAR: i32 = 18_628;
 
 pub const TWO_YEARS: i32 = 18_993;
 
-const THREE_YEARS: i32 = 19_358;
+pub const THREE_YEARS: i32 = 19_358;
 
 /// The rates 0.1, 0.2, 0.25, `fourth` and 1 of the ages 0 to 4, in units of 10^-9.
 fn table(alloc: Global, first_age: u8, fourth: u32) -> Result<RateTable, Fail> {
@@ -74,8 +74,19 @@ pub fn policy(plan: Plan, age: u8, years: u8) -> Policy {
     }
 }
 
-/// The row of a policy by the basis of a file.
+/// The terminal row of a policy by the basis of a file.
 fn row_by(alloc: Global, file: &[u8], policy: &Policy, on: i32) -> Result<Row, Fail> {
+    row_measured(alloc, file, policy, on, Measure::Terminal)
+}
+
+/// The row of a policy by the basis of a file and a measure.
+pub fn row_measured(
+    alloc: Global,
+    file: &[u8],
+    policy: &Policy,
+    on: i32,
+    measure: Measure,
+) -> Result<Row, Fail> {
     let issue = Command::Issue {
         id: policy.id,
         day: policy.issued,
@@ -92,12 +103,12 @@ fn row_by(alloc: Global, file: &[u8], policy: &Policy, on: i32) -> Result<Row, F
     let Ok(mut cache) = ColumnCache::new(alloc, 16) else {
         return Err("a cache".into());
     };
-    Ok(row(policy, &basis, on, &mut cache))
+    Ok(row(policy, &basis, on, measure, &mut cache))
 }
 
 pub const FLAT: &[u8] = b"1900-01-01,q.xml,0";
 
-const AT_FIVE: &[u8] = b"1900-01-01,q.xml,500";
+pub const AT_FIVE: &[u8] = b"1900-01-01,q.xml,500";
 /// The table changes after the day of issue.
 const CHANGED: &[u8] = b"1900-01-01,q.xml,0\n2020-01-02,q.xml,500";
 

@@ -13,7 +13,9 @@ use Rattle.policy_types.specs.declared.watcher.NoMemory.{NoMemory as Lack}
 use Rattle.policy_machine.specs.History.{policies_per_read}
 use Rattle.policy_machine.specs.Merge.{Placed, reads_of}
 use Rattle.policy_machine.specs.Rules.{IsSound}
+use Rattle.policy_value.specs.Measures.{most_worth}
 use Rattle.policy_value.specs.Rows.{IsWithinAmount}
+use Rattle.policy_value.specs.declared.worth.Measure.{Measure}
 use Rattle.policy_value.specs.declared.worth.Row.{Row}
 use Rattle.office_state.specs.declared.held.Held.{Held}
 use Rattle.turn_lock.specs.Passes.{Holding}
@@ -68,13 +70,13 @@ module _ {D W : Type 0} where
   some_none pin pass = record { reads = []; grows = grows_none pass; many = 0; calls = refl }
 
   -- they are what there is where memory was wanting
-  pub rows_lacking : (basis : List Dated) (on : ℤ) (pin : Held) (old new : Holding (OfficeOpening D W)) (result : Result (List Row) Lack)
-      → HasReadSome pin old new → IsErr result → HasReadRows basis on pin old new result
-  rows_lacking basis on pin old new (Ok rows) some failed = let no : false ≡ true = failed in absurd (cc)
-  rows_lacking basis on pin old new (Err lack) some failed = some
+  pub rows_lacking : (basis : List Dated) (on : ℤ) (measure : Measure) (pin : Held) (old new : Holding (OfficeOpening D W)) (result : Result (List Row) Lack)
+      → HasReadSome pin old new → IsErr result → HasReadRows basis on measure pin old new result
+  rows_lacking basis on measure pin old new (Ok rows) some failed = let no : false ≡ true = failed in absurd (cc)
+  rows_lacking basis on measure pin old new (Err lack) some failed = some
 
-module _ {D W : Type 0} (basis : List Dated) (on : ℤ) (pin : Held) where
-  pub parts_none : (pass : Holding (OfficeOpening D W)) (sheet : Worksheet) → HasMade basis on [] sheet → HasReadParts basis on pin 0 sheet pass pass
+module _ {D W : Type 0} (basis : List Dated) (on : ℤ) (measure : Measure) (pin : Held) where
+  pub parts_none : (pass : Holding (OfficeOpening D W)) (sheet : Worksheet) → HasMade basis on measure [] sheet → HasReadParts basis on measure pin 0 sheet pass pass
   parts_none pass sheet made = record {
     reads = [];
     grows = grows_none pass;
@@ -84,7 +86,7 @@ module _ {D W : Type 0} (basis : List Dated) (on : ℤ) (pin : Held) where
   }
 
   module _ (k : ℕ) (old mid : Holding (OfficeOpening D W)) (sheet : Worksheet) (is : IsKnown old pin)
-      (so_far : HasReadParts basis on pin k sheet old mid) where
+      (so_far : HasReadParts basis on measure pin k sheet old mid) where
     -- turns are left for the next
     pub turns_left : k < reads_needed pin.policies → 15999 ≤ old.left → 1 ≤ mid.left
     turns_left low left =
@@ -117,15 +119,15 @@ module _ {D W : Type 0} (basis : List Dated) (on : ℤ) (pin : Held) where
         some_more = record { reads = so_far.reads ++ one.read ∷ []; grows = grew; many = k + 1; calls = called }
 
         pub parts_more : (next : Worksheet)
-            → HasMade basis on (take (policies_per_read * k) (policies_at old pin.position) ++ part) next
-            → HasReadParts basis on pin (k + 1) next old new
+            → HasMade basis on measure (take (policies_per_read * k) (policies_at old pin.position) ++ part) next
+            → HasReadParts basis on measure pin (k + 1) next old new
         parts_more next made = record {
           reads = so_far.reads ++ one.read ∷ [];
           grows = grew;
           calls = called;
           stays = one.stays ∙ so_far.stays;
           made =
-              subst (λ policies. HasMade basis on policies next)
+              subst (λ policies. HasMade basis on measure policies next)
               (ap (λ p. take (policies_per_read * k) (policies_at old pin.position) ++ p) part_is
               ∙ sym (next_part k (policies_at old pin.position))) made;
         }
@@ -135,8 +137,8 @@ module _ {D W : Type 0} (basis : List Dated) (on : ℤ) (pin : Held) where
       pub some_all : HasReadSome pin old mid
       some_all = record { reads = so_far.reads; grows = so_far.grows; many = k; calls = so_far.calls }
 
-      pub parts_all : (last : Worksheet) → HasMade basis on (take (policies_per_read * k) (policies_at old pin.position)) last
-          → last.read.items ≡ [] → HasReadAll basis on pin last.rows.items old mid
+      pub parts_all : (last : Worksheet) → HasMade basis on measure (take (policies_per_read * k) (policies_at old pin.position)) last
+          → last.read.items ≡ [] → HasReadAll basis on measure pin last.rows.items old mid
       parts_all last made unread = record {
         reads = so_far.reads;
         grows = so_far.grows;
@@ -145,16 +147,16 @@ module _ {D W : Type 0} (basis : List Dated) (on : ℤ) (pin : Held) where
             ∙ take_all k (reads_of pin.number pin.policies) (omega (arith, enough, length-reads_of pin.number pin.policies));
         all = record {
           each = rows.each;
-          few = omega (arith, rows_length basis on policies last.rows.items rows, is.counted, is.few);
-          within = All-from_recursion (λ (row : Row). IsWithinAmount most_amount row.worth) last.rows.items rows.within;
+          few = omega (arith, rows_length basis on measure policies last.rows.items rows, is.counted, is.few);
+          within = All-from_recursion (λ (row : Row). IsWithinAmount (most_worth measure most_amount) row.worth) last.rows.items rows.within;
         };
       }
         where
           policies : List Policy
           policies = policies_at old pin.position
 
-          rows : AreSmallRows basis on policies last.rows.items
+          rows : AreSmallRows basis on measure policies last.rows.items
           rows =
-              subst (λ ps. AreSmallRows basis on ps last.rows.items)
+              subst (λ ps. AreSmallRows basis on measure ps last.rows.items)
               (take_all (policies_per_read * k) policies (omega (arith, enough, is.counted)))
-              (made_all basis on _ last made unread)
+              (made_all basis on measure _ last made unread)

@@ -8,6 +8,7 @@ use Rattle.basis_book.specs.Dated.{Dated}
 use Rattle.parallel_value.specs.Pieces.{AreAsBefore, IsAsBefore}
 use Rattle.policy_types.specs.declared.policy.Policy.{Policy}
 use Rattle.policy_machine.specs.Rules.{IsSound}
+use Rattle.policy_value.specs.declared.worth.Measure.{Measure}
 use Rattle.policy_value.specs.declared.worth.Row.{Row}
 use Rattle.snapshot_value.specs.declared.worker.Worker.{Worker}
 use Rattle.snapshot_value.specs.declared.worksheet.Worksheet.{Worksheet}
@@ -36,23 +37,23 @@ can_valued old new can still unread =
       sound = all_none IsSound new.read.items unread;
     }
 
-module _ (basis : List Dated) (on : ℤ) where
+module _ (basis : List Dated) (on : ℤ) (measure : Measure) where
   -- nothing yet
   pub made_none : (sheet : Worksheet) → 1 ≤ length sheet.workers.items → length sheet.workers.items ≤ 64
-      → AllByRecursion IsReadyWorker sheet.workers.items → AllByRecursion (ValuesBy basis on) sheet.workers.items
-      → sheet.read.items ≡ [] → sheet.rows.items ≡ [] → HasMade basis on [] sheet
+      → AllByRecursion IsReadyWorker sheet.workers.items → AllByRecursion (ValuesBy basis on measure) sheet.workers.items
+      → sheet.read.items ≡ [] → sheet.rows.items ≡ [] → HasMade basis on measure [] sheet
   made_none sheet some few ready by unread unmade = record {
     can = record { some = some; few = few; ready = ready; sound = all_none IsSound sheet.read.items unread };
     by = by;
     valued = [];
     all = sym unread;
-    rows = subst (AreSmallRows basis on []) (sym unmade) (rows_none basis on);
+    rows = subst (AreSmallRows basis on measure []) (sym unmade) (rows_none basis on measure);
   }
 
-  module _ (policies : List Policy) (old new : Worksheet) (made : HasMade basis on policies old) where
+  module _ (policies : List Policy) (old new : Worksheet) (made : HasMade basis on measure policies old) where
     -- more was read
     pub made_put : (part : List Policy) → AllByRecursion IsSound part → new.workers.items ≡ old.workers.items → new.rows.items ≡ old.rows.items
-        → new.read.items ≡ old.read.items ++ part → HasMade basis on (policies ++ part) new
+        → new.read.items ≡ old.read.items ++ part → HasMade basis on measure (policies ++ part) new
     made_put part sound same rows longer = record {
       can = record {
         some = subst (λ (ws : List Worker). 1 ≤ length ws) (sym same) made.can.some;
@@ -60,31 +61,31 @@ module _ (basis : List Dated) (on : ℤ) where
         ready = subst (AllByRecursion IsReadyWorker) (sym same) made.can.ready;
         sound = subst (AllByRecursion IsSound) (sym longer) (all_append IsSound old.read.items part made.can.sound sound);
       };
-      by = subst (AllByRecursion (ValuesBy basis on)) (sym same) made.by;
+      by = subst (AllByRecursion (ValuesBy basis on measure)) (sym same) made.by;
       valued = made.valued;
       all =
           ap (λ (ps : List Policy). ps ++ part) made.all ∙ append_assoc made.valued old.read.items part
           ∙ ap (λ read. made.valued ++ read) (sym longer);
-      rows = subst (AreSmallRows basis on made.valued) (sym rows) made.rows;
+      rows = subst (AreSmallRows basis on measure made.valued) (sym rows) made.rows;
     }
 
     -- what was read is valued
-    pub made_valued : (values : List Row) → AreAsBefore TakesPolicy GivesRow old.workers.items new.workers.items → AreSmallRows basis on old.read.items values
-        → new.read.items ≡ [] → new.rows.items ≡ old.rows.items ++ values → HasMade basis on policies new
+    pub made_valued : (values : List Row) → AreAsBefore TakesPolicy GivesRow old.workers.items new.workers.items → AreSmallRows basis on measure old.read.items values
+        → new.read.items ≡ [] → new.rows.items ≡ old.rows.items ++ values → HasMade basis on measure policies new
     made_valued values still are unread longer = record {
       can = can_valued old new made.can still unread;
-      by = by_still basis on old.workers.items new.workers.items still made.by;
+      by = by_still basis on measure old.workers.items new.workers.items still made.by;
       valued = policies;
       all = sym (ap (λ read. policies ++ read) unread ∙ append-nil policies);
       rows =
-          subst (AreSmallRows basis on policies) (sym longer)
-          (subst (λ ps. AreSmallRows basis on ps (old.rows.items ++ values)) (sym made.all)
-          (rows_more basis on made.valued old.read.items old.rows.items values made.rows are));
+          subst (AreSmallRows basis on measure policies) (sym longer)
+          (subst (λ ps. AreSmallRows basis on measure ps (old.rows.items ++ values)) (sym made.all)
+          (rows_more basis on measure made.valued old.read.items old.rows.items values made.rows are));
     }
 
   -- all that was read has its row
-  pub made_all : (policies : List Policy) (sheet : Worksheet) → HasMade basis on policies sheet → sheet.read.items ≡ []
-      → AreSmallRows basis on policies sheet.rows.items
+  pub made_all : (policies : List Policy) (sheet : Worksheet) → HasMade basis on measure policies sheet → sheet.read.items ≡ []
+      → AreSmallRows basis on measure policies sheet.rows.items
   made_all policies sheet made unread =
-      subst (λ ps. AreSmallRows basis on ps sheet.rows.items)
+      subst (λ ps. AreSmallRows basis on measure ps sheet.rows.items)
       (sym (made.all ∙ ap (λ read. made.valued ++ read) unread ∙ append-nil made.valued)) made.rows

@@ -15,6 +15,7 @@ use Rattle.policy_machine.specs.Book.{book}
 use Rattle.policy_machine.specs.History.{accepted_of, commands_after}
 use Rattle.policy_machine.specs.Merge.{FollowsPin, Placed, pin_call, reads_of}
 use Rattle.policy_machine.proofs.HistoryGrowth.{commands_after-append}
+use Rattle.policy_value.specs.declared.worth.Measure.{Measure}
 use Rattle.policy_value.specs.declared.worth.Row.{Row}
 use Rattle.office_state.specs.Turning.{unpin_turn}
 use Rattle.office_state.specs.declared.held.Held.{Held}
@@ -31,9 +32,9 @@ use Rattle.snapshot_value.proofs.Growth.{grows_more, grows_one}
 use Rattle.snapshot_value.proofs.PartSteps.{length-reads_of}
 use Rattle.snapshot_value.proofs.PinSteps.{IsKnown, known, policies_by}
 
-module _ {D W : Type 0} (basis : List Dated) (on : ℤ) (pin : Held) where
+module _ {D W : Type 0} (basis : List Dated) (on : ℤ) (measure : Measure) (pin : Held) where
   -- the reads of a pin are so few
-  few_reads : (old mid : Holding (OfficeOpening D W)) (rows : List Row) → IsKnown old pin → (read : HasReadAll basis on pin rows old mid)
+  few_reads : (old mid : Holding (OfficeOpening D W)) (rows : List Row) → IsKnown old pin → (read : HasReadAll basis on measure pin rows old mid)
       → length read.reads ≤ 15625
   few_reads old mid rows is read =
       let calls : length (calls_of read.reads) ≡ length read.reads = length-map read.reads (λ (turn : Placed). turn.1.call) in
@@ -41,7 +42,7 @@ module _ {D W : Type 0} (basis : List Dated) (on : ℤ) (pin : Held) where
       omega (arith, calls, same, length-reads_of pin.number pin.policies, is.few)
 
   -- so a turn is left to give it up
-  left_after : (old mid : Holding (OfficeOpening D W)) (rows : List Row) → IsKnown old pin → HasReadAll basis on pin rows old mid
+  left_after : (old mid : Holding (OfficeOpening D W)) (rows : List Row) → IsKnown old pin → HasReadAll basis on measure pin rows old mid
       → 15999 ≤ old.left → 1 ≤ mid.left
   left_after old mid rows is read left = omega (arith, few_reads old mid rows is read, read.grows.left, left)
 
@@ -63,15 +64,15 @@ module _ {D W : Type 0} (basis : List Dated) (on : ℤ) (pin : Held) where
   left_after_some old mid is read left = omega (arith, few_some old mid is read, read.grows.left, left)
 
   pub turn_left : (old mid : Holding (OfficeOpening D W)) (read : Result (List Row) Lack) → PassFacts IsOfficeHistory old → HoldsPin old pin
-      → HasReadRows basis on pin old mid read → 15999 ≤ old.left → 1 ≤ mid.left
+      → HasReadRows basis on measure pin old mid read → 15999 ≤ old.left → 1 ≤ mid.left
   turn_left old mid (Ok rows) facts holds read left = left_after old mid rows (known old pin facts holds) read left
   turn_left old mid (Err lack) facts holds read left = left_after_some old mid (known old pin facts holds) read left
 
   -- it is given up after all reads
   pub given_up : (turn : ℕ) (old mid new : Holding (OfficeOpening D W)) (rows : List Row) (valuation : Valuation)
-      → PassFacts IsOfficeHistory old → HoldsPin old pin → 15999 ≤ old.left → HasReadAll basis on pin rows old mid → TakesTurn turn (unpin_turn mid.caller pin.number) mid new
-      → valuation.position ≡ pin.position → valuation.on ≡ on → valuation.rows ≡ rows → HasValuedPin basis on pin old new (Ok valuation)
-  given_up turn old mid new rows valuation facts holds left read takes position day same = record {
+      → PassFacts IsOfficeHistory old → HoldsPin old pin → 15999 ≤ old.left → HasReadAll basis on measure pin rows old mid → TakesTurn turn (unpin_turn mid.caller pin.number) mid new
+      → valuation.position ≡ pin.position → valuation.on ≡ on → valuation.measure ≡ measure → valuation.rows ≡ rows → HasValuedPin basis on measure pin old new (Ok valuation)
+  given_up turn old mid new rows valuation facts holds left read takes position day measured same = record {
     later = read.reads ++ last ∷ [];
     grows = grows_more old mid new read.reads (last ∷ []) read.grows (grows_one turn (last.1) mid new (left_after old mid rows is read left) takes);
     few = omega (arith, few_reads old mid rows is read, length-append read.reads (last ∷ []));
@@ -80,7 +81,8 @@ module _ {D W : Type 0} (basis : List Dated) (on : ℤ) (pin : Held) where
           ∙ ap (λ (calls : List Call). calls ++ Unpin pin.number ∷ []) read.calls,
       position,
       day,
-      subst (AreValuedRows basis on (policies_at old pin.position)) (sym same) read.all,
+      measured,
+      subst (AreValuedRows basis on measure (policies_at old pin.position)) (sym same) read.all,
     );
   }
     where
@@ -93,7 +95,7 @@ module _ {D W : Type 0} (basis : List Dated) (on : ℤ) (pin : Held) where
   -- or after some
   pub given_up_before : (turn : ℕ) (old mid new : Holding (OfficeOpening D W)) → PassFacts IsOfficeHistory old → HoldsPin old pin
       → 15999 ≤ old.left → HasReadSome pin old mid → TakesTurn turn (unpin_turn mid.caller pin.number) mid new
-      → HasValuedPin basis on pin old new (Err NoMemory)
+      → HasValuedPin basis on measure pin old new (Err NoMemory)
   given_up_before turn old mid new facts holds left read takes = record {
     later = read.reads ++ last ∷ [];
     grows = grows_more old mid new read.reads (last ∷ []) read.grows (grows_one turn last.1 mid new (left_after_some old mid is read left) takes);
@@ -122,11 +124,11 @@ nothing_posted caller (Position p) (Err refusal) = refl
 take_front : {X : Type 0} (n : ℕ) (front back : List X) → n ≡ length front → take n (front ++ back) ≡ front
 take_front n front back is = take-append-le n front back (omega (arith, is)) ∙ take_all n front (omega (arith, is))
 
-module _ {D W : Type 0} (basis : List Dated) (on : ℤ) (at : At) (workers turn : ℕ) (old : Holding (OfficeOpening D W)) where
+module _ {D W : Type 0} (basis : List Dated) (on : ℤ) (measure : Measure) (at : At) (workers turn : ℕ) (old : Holding (OfficeOpening D W)) where
   -- the position couldn't be pinned
   pub refused : (new : Holding (OfficeOpening D W)) (refusal : PinRefusal) → 1 ≤ old.left
       → TakesTurn turn (pinning_turn old.caller (pin_call at) (Err refusal)) old new → PassFacts IsOfficeHistory new
-      → HasValued basis on at workers old new turn (Err (Pin refusal))
+      → HasValued basis on measure at workers old new turn (Err (Pin refusal))
   refused new refusal left takes facts = record {
     pin = (turn, pinning_turn old.caller (pin_call at) (Err refusal));
     later = [];
@@ -145,7 +147,7 @@ module _ {D W : Type 0} (basis : List Dated) (on : ℤ) (at : At) (workers turn 
     entry = pinning_turn old.caller (pin_call at) (Ok pin)
 
     -- the reads follow, and the pin is given up
-    follow : (calls : List Call) (answer : Result Valuation ValueFault) → FollowsPinned basis on pin mid calls answer
+    follow : (calls : List Call) (answer : Result Valuation ValueFault) → FollowsPinned basis on measure pin mid calls answer
         → FollowsPin (dry_pins turn answer) turn (Pinned pin.position pin.policies) calls
     follow calls (Ok valuation) follows =
         let all : take (reads_needed pin.policies) (reads_of turn pin.policies) ≡ reads_of turn pin.policies =
@@ -188,19 +190,20 @@ module _ {D W : Type 0} (basis : List Dated) (on : ℤ) (at : At) (workers turn 
           policies_by mid is.opened pin.position is.opening
           ∙ ap (λ commands. book (take pin.position commands)) commands_stay
 
-      answered_by : (calls : List Call) (answer : Result Valuation ValueFault) → FollowsPinned basis on pin mid calls answer
-          → AnswersPin (commands_after is.opened.opening (take turn new.seen)) basis on (Pinned pin.position pin.policies) answer
+      answered_by : (calls : List Call) (answer : Result Valuation ValueFault) → FollowsPinned basis on measure pin mid calls answer
+          → AnswersPin (commands_after is.opened.opening (take turn new.seen)) basis on measure (Pinned pin.position pin.policies) answer
       answered_by calls (Ok valuation) follows = record {
         pinned = follows.1;
         day = follows.2;
-        rows = subst (λ policies. AreValuedRows basis on policies valuation.rows) same_policies follows.3;
+        measured = follows.3;
+        rows = subst (λ policies. AreValuedRows basis on measure policies valuation.rows) same_policies follows.4;
       }
       answered_by calls (Err NoMemory) follows = tt
       answered_by calls (Err (Pin refusal)) follows = absurd follows
 
     -- the position was pinned
     pub pinned : (answer : Result Valuation ValueFault) → PassFacts IsOfficeHistory mid → HoldsPin mid pin
-        → HasValuedPin basis on pin mid new answer → HasValued basis on at workers old new turn answer
+        → HasValuedPin basis on measure pin mid new answer → HasValued basis on measure at workers old new turn answer
     pinned answer facts holds valued =
         let is = known mid pin facts holds in record {
           pin = (turn, entry);

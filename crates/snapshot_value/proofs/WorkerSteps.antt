@@ -6,6 +6,7 @@ use Rattle.parallel_value.specs.Pieces.{AreAsBefore, AreValues, MayGive, TakeAll
 use Rattle.parallel_value.proofs.PieceSteps.{all_more, zip_more}
 use Rattle.policy_types.specs.declared.policy.Policy.{Policy}
 use Rattle.policy_machine.specs.Rules.{IsSound}
+use Rattle.policy_value.specs.declared.worth.Measure.{Measure}
 use Rattle.policy_value.specs.declared.worth.Row.{Row}
 use Rattle.snapshot_value.specs.declared.worker.Worker.{Worker}
 use Rattle.snapshot_value.specs.inside.Sheets.{AreSmallRows}
@@ -27,9 +28,9 @@ ready_still (v ∷ old) [] all ready = absurd all
 ready_still (v ∷ old) (w ∷ new) all ready =
     (λ policy sound. all.0.takes_still policy (ready.0 policy sound), ready_still old new all.1 ready.1)
 
-module _ (basis : List Dated) (on : ℤ) where
-  pub by_still : (old new : List Worker) → AreAsBefore TakesPolicy GivesRow old new → AllByRecursion (ValuesBy basis on) old
-      → AllByRecursion (ValuesBy basis on) new
+module _ (basis : List Dated) (on : ℤ) (measure : Measure) where
+  pub by_still : (old new : List Worker) → AreAsBefore TakesPolicy GivesRow old new → AllByRecursion (ValuesBy basis on measure) old
+      → AllByRecursion (ValuesBy basis on measure) new
   by_still [] [] all by = tt
   by_still [] (w ∷ new) all by = absurd all
   by_still (v ∷ old) [] all by = absurd all
@@ -37,13 +38,13 @@ module _ (basis : List Dated) (on : ℤ) where
       (λ policy row given. by.0 policy row (all.0.gives_only policy row given), by_still old new all.1 by.1)
 
   -- what one of them gives is the policy's row
-  may_value : (workers : List Worker) → AllByRecursion (ValuesBy basis on) workers → (policy : Policy) (row : Row)
-      → MayGive GivesRow workers policy row → IsSmallRow basis on policy row
+  may_value : (workers : List Worker) → AllByRecursion (ValuesBy basis on measure) workers → (policy : Policy) (row : Row)
+      → MayGive GivesRow workers policy row → IsSmallRow basis on measure policy row
   may_value [] by policy row may = absurd may
   may_value (w ∷ workers) by policy row (inl given) = by.0 policy row given
   may_value (w ∷ workers) by policy row (inr may) = may_value workers by.1 policy row may
 
-  pub given_rows : (workers : List Worker) (policies : List Policy) (rows : List Row) → AllByRecursion (ValuesBy basis on) workers
-      → AreValues GivesRow workers policies rows → AreSmallRows basis on policies rows
+  pub given_rows : (workers : List Worker) (policies : List Policy) (rows : List Row) → AllByRecursion (ValuesBy basis on measure) workers
+      → AreValues GivesRow workers policies rows → AreSmallRows basis on measure policies rows
   given_rows workers policies rows by given =
-      rows_each basis on policies rows (zip_more (MayGive GivesRow workers) (IsSmallRow basis on) policies rows (may_value workers by) given)
+      rows_each basis on measure policies rows (zip_more (MayGive GivesRow workers) (IsSmallRow basis on measure) policies rows (may_value workers by) given)

@@ -12,7 +12,9 @@ use Rattle.policy_types.specs.declared.script.Line.TheVariants.{Value}
 use Rattle.policy_machine.specs.Book.{book}
 use Rattle.policy_machine.specs.History.{commands_after}
 use Rattle.policy_machine.specs.Merge.{AnswersLine, Placed}
+use Rattle.policy_value.specs.Measures.{most_worth}
 use Rattle.policy_value.specs.Rows.{IsExact, IsInsured, IsWithinAmount, RowOf}
+use Rattle.policy_value.specs.declared.worth.Measure.{Measure}
 use Rattle.policy_value.specs.declared.worth.Row.{Row}
 use Rattle.turn_lock.specs.Passes.{Holding}
 use Rattle.shared_office.specs.Offices.{OfficeOpening}
@@ -29,33 +31,34 @@ most_turns = 16000
 abbrev pub most_amount : ℕ
 most_amount = 10000000000
 
--- the policy's row on the day by the basis; where the policy is insured then, its bounds enclose the exact reserve
-pub record IsValuedRow (basis : List Dated) (on : ℤ) (policy : Policy) (row : Row) : Type 0 where
-  pub valued : RowOf policy basis on row
+-- the policy's row on the day by the basis and the measure; where the policy is insured then, its bounds enclose the exact reserve
+pub record IsValuedRow (basis : List Dated) (on : ℤ) (measure : Measure) (policy : Policy) (row : Row) : Type 0 where
+  pub valued : RowOf policy basis on measure row
   pub exact : IsInsured policy on → (index : ℕ) → (entry : Dated) → IsPicked basis policy.issued index entry
-      → IsExact policy entry.table entry.bp row.t row.worth
+      → IsExact measure policy entry.table entry.bp row.t row.worth
 
 -- the rows of the policies, one for each and in their order; they are not more than policies may be, and no bound is
 -- above what a policy may insure
-pub record AreValuedRows (basis : List Dated) (on : ℤ) (policies : List Policy) (rows : List Row) : Type 0 where
-  pub each : AllZip (IsValuedRow basis on) policies rows
+pub record AreValuedRows (basis : List Dated) (on : ℤ) (measure : Measure) (policies : List Policy) (rows : List Row) : Type 0 where
+  pub each : AllZip (IsValuedRow basis on measure) policies rows
   pub few : length rows ≤ most_commands
-  pub within : All (λ (row : Row). IsWithinAmount most_amount row.worth) rows
+  pub within : All (λ (row : Row). IsWithinAmount (most_worth measure most_amount) row.worth) rows
 
 -- the position was pinned, and the rows are those of the policies that the first so many commands leave
-pub record IsSnapshot (commands : List Command) (basis : List Dated) (on : ℤ) (position : ℕ) (valuation : Valuation)
+pub record IsSnapshot (commands : List Command) (basis : List Dated) (on : ℤ) (measure : Measure) (position : ℕ) (valuation : Valuation)
     : Type 0 where
   pub pinned : valuation.position ≡ position
   pub day : valuation.on ≡ on
-  pub rows : AreValuedRows basis on (book (take position commands)) valuation.rows
+  pub measured : valuation.measure ≡ measure
+  pub rows : AreValuedRows basis on measure (book (take position commands)) valuation.rows
 
 -- what is answered after the pin's reply: its own refusal and no other; or where it was pinned, after these commands,
 -- the valuation or want of memory
-abbrev pub AnswersPin : List Command → List Dated → ℤ → Reply → Result Valuation ValueFault → Type 0
-AnswersPin commands basis on (PinRefused refusal) (Err (Pin why)) = why ≡ refusal
-AnswersPin commands basis on (Pinned position policies) (Ok valuation) = IsSnapshot commands basis on position valuation
-AnswersPin commands basis on (Pinned position policies) (Err NoMemory) = Unit {0}
-AnswersPin _ _ _ _ _ = ⊥
+abbrev pub AnswersPin : List Command → List Dated → ℤ → Measure → Reply → Result Valuation ValueFault → Type 0
+AnswersPin commands basis on measure (PinRefused refusal) (Err (Pin why)) = why ≡ refusal
+AnswersPin commands basis on measure (Pinned position policies) (Ok valuation) = IsSnapshot commands basis on measure position valuation
+AnswersPin commands basis on measure (Pinned position policies) (Err NoMemory) = Unit {0}
+AnswersPin _ _ _ _ _ _ = ⊥
 
 -- the pins whose valuation found no memory: the one that was taken in this turn, or none
 abbrev pub dry_pins : ℕ → Result Valuation ValueFault → List ℕ
@@ -64,7 +67,7 @@ dry_pins turn _ = []
 
 -- A caller's valuation. Its turns are the pin's, then those of the reads and of giving the pin up; they answer a
 -- script's line that asks for this valuation, and the answer is of the position that was pinned.
-pub record HasValued {D W : Type 0} (basis : List Dated) (on : ℤ) (at : At) (workers : ℕ)
+pub record HasValued {D W : Type 0} (basis : List Dated) (on : ℤ) (measure : Measure) (at : At) (workers : ℕ)
     (old new : Holding (OfficeOpening D W)) (turn : ℕ) (answer : Result Valuation ValueFault) : Type 0 where
   pub pin : Placed
   pub later : List Placed
@@ -74,4 +77,4 @@ pub record HasValued {D W : Type 0} (basis : List Dated) (on : ℤ) (at : At) (w
   pub answers : AnswersLine (dry_pins turn answer) (Value on at workers) (pin ∷ later)
   pub opened : OfficeOpening D W
   pub opening : new.opening ≡ Some opened
-  pub answered : AnswersPin (commands_after opened.opening (take turn new.seen)) basis on pin.1.reply answer
+  pub answered : AnswersPin (commands_after opened.opening (take turn new.seen)) basis on measure pin.1.reply answer

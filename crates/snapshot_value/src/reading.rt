@@ -11,7 +11,7 @@ use crate::worksheet::Worksheet;
 use basis_book::Basis;
 use outside_io::{Disk, Gate};
 use policy_types::NoMemory;
-use policy_value::Rows;
+use policy_value::{Measure, Rows};
 use shared_office::{Batch, Office, OfficeCalls, OfficePass, Pin};
 use std::alloc::Global;
 use std::sync::Wait;
@@ -30,6 +30,7 @@ pub fn rows_of<D: Disk, W: Watching, G: Gate, R: Threads + Wait + Sync>(
     pin: &Pin,
     basis: &Basis,
     on: i32,
+    measure: Measure,
     workers: u8,
     lane: u8,
     gate: &G,
@@ -39,12 +40,12 @@ pub fn rows_of<D: Disk, W: Watching, G: Gate, R: Threads + Wait + Sync>(
     requires left { most_turns ≤ pass.old.left + 1 }
     requires facts { PassFacts IsOfficeHistory pass.old }
     requires held { HoldsPin pass.old pin.now }
-    ensures read { HasReadRows basis.now on pin.now pass.old pass.new result }
+    ensures read { HasReadRows basis.now on measure pin.now pass.old pass.new result }
     ensures facts { PassFacts IsOfficeHistory pass.new }
     ensures pins { KeepsPins pass.old pass.new }
 {
     let mut batch = Batch::new(alloc)?;
-    let mut sheet = Worksheet::new(alloc, basis, on, workers, pin.policies() as usize)?;
+    let mut sheet = Worksheet::new(alloc, basis, on, measure, workers, pin.policies() as usize)?;
     for k in 0..pin.policies().div_ceil(POLICIES_PER_READ) {
         read_part(rt, office, pass, pin, k, &mut batch);
         sheet.add(rt, alloc, batch.policies())?;

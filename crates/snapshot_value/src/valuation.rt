@@ -1,5 +1,5 @@
 use policy_types::PinRefusal;
-use policy_value::Rows;
+use policy_value::{Measure, Rows};
 
 /// The rows of the policies after so many commands, in order of issue.
 #[derive(Drop)]
@@ -8,6 +8,8 @@ pub struct Valuation {
     pub position: u32,
     /// The day on which they are valued, in days since 1970-01-01.
     pub on: i32,
+    /// Which reserve they have.
+    pub measure: Measure,
     pub rows: Rows,
 }
 

@@ -12,6 +12,7 @@ use crate::valuation::{Valuation, ValueFault};
 use basis_book::Basis;
 use outside_io::{Disk, Gate};
 use policy_types::{At, PinRefusal};
+use policy_value::Measure;
 use shared_office::{Office, OfficeCalls, OfficePass, Pin};
 use std::alloc::Global;
 use std::sync::Wait;
@@ -19,7 +20,7 @@ use std::thread::Threads;
 use turn_lock::Turned;
 use watcher_set::Watching;
 
-/// Values the policies at a position on a day, in days since 1970-01-01, and gives the turn of the pin.
+/// Values the policies at a position on a day, in days since 1970-01-01, by a measure, and gives the turn of the pin.
 ///
 /// The position is pinned, and the memory taken; then batches of 256 policies are read, and the gate is called with the
 /// lane's number and `k` after the `k`-th of them. What was read is valued by the workers at the same time, when there
@@ -32,6 +33,7 @@ pub fn value<D: Disk, W: Watching, G: Gate, R: Threads + Wait + Sync>(
     basis: &Basis,
     on: i32,
     at: At,
+    measure: Measure,
     workers: u8,
     lane: u8,
     gate: &G,
@@ -39,7 +41,7 @@ pub fn value<D: Disk, W: Watching, G: Gate, R: Threads + Wait + Sync>(
     requires ours { pass.old.turnstile ≡ office.now }
     requires workers { (1 ≤ workers) × (workers ≤ 64) }
     requires left { most_turns ≤ pass.old.left }
-    ensures valued { HasValued basis.now on at workers pass.old pass.new result.turn result.answer }
+    ensures valued { HasValued basis.now on measure at workers pass.old pass.new result.turn result.answer }
     ensures facts { PassFacts IsOfficeHistory pass.new }
     ensures pins { KeepsPins pass.old pass.new }
 {
@@ -47,7 +49,9 @@ pub fn value<D: Disk, W: Watching, G: Gate, R: Threads + Wait + Sync>(
     match answer {
         Ok(pin) => Turned {
             turn,
-            answer: value_pin(rt, alloc, office, pass, pin, basis, on, workers, lane, gate),
+            answer: value_pin(
+                rt, alloc, office, pass, pin, basis, on, measure, workers, lane, gate,
+            ),
         },
         Err(refusal) => Turned {
             turn,
@@ -85,6 +89,7 @@ fn value_pin<D: Disk, W: Watching, G: Gate, R: Threads + Wait + Sync>(
     pin: Pin,
     basis: &Basis,
     on: i32,
+    measure: Measure,
     workers: u8,
     lane: u8,
     gate: &G,
@@ -94,17 +99,22 @@ fn value_pin<D: Disk, W: Watching, G: Gate, R: Threads + Wait + Sync>(
     requires left { most_turns ≤ pass.old.left + 1 }
     requires facts { PassFacts IsOfficeHistory pass.old }
     requires held { HoldsPin pass.old pin }
-    ensures valued { HasValuedPin basis.now on pin pass.old pass.new result }
+    ensures valued { HasValuedPin basis.now on measure pin pass.old pass.new result }
     ensures facts { PassFacts IsOfficeHistory pass.new }
     ensures pins { KeepsOtherPins pin.number pass.old pass.new }
 {
     let position = pin.position();
     let read = rows_of(
-        rt, alloc, office, pass, &pin, basis, on, workers, lane, gate,
+        rt, alloc, office, pass, &pin, basis, on, measure, workers, lane, gate,
     );
     office.unpin(rt, pass, pin);
     match read {
-        Ok(rows) => Ok(Valuation { position, on, rows }),
+        Ok(rows) => Ok(Valuation {
+            position,
+            on,
+            measure,
+            rows,
+        }),
         Err(_) => Err(ValueFault::NoMemory),
     }
 }

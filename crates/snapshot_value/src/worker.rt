@@ -5,13 +5,14 @@ ghost use Rattle.snapshot_value.specs.inside.Workers.{TakesPolicy, GivesRow};
 use basis_book::Basis;
 use parallel_value::Piece;
 use policy_types::Policy;
-use policy_value::{ColumnCache, Row, row};
+use policy_value::{ColumnCache, Measure, Row, row};
 
-/// It values one policy after another by a basis on a day, and keeps present values from one to the next.
+/// It values one policy after another by a basis on a day and a measure, and keeps present values from one to the next.
 #[derive(Drop)]
 pub struct Worker<'a> {
     pub basis: &'a Basis,
     pub on: i32,
+    pub measure: Measure,
     pub cache: ColumnCache,
 }
 
@@ -21,6 +22,6 @@ impl Piece<Policy, Row> for Worker<'_> {
     ghost gives = { λ worker policy row. GivesRow worker policy row };
 
     fn one(&mut self, policy: &Policy) -> Row {
-        row(policy, self.basis, self.on, &mut self.cache)
+        row(policy, self.basis, self.on, self.measure, &mut self.cache)
     }
 }

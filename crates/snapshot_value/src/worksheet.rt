@@ -5,6 +5,7 @@ ghost use Rattle.basis_book.specs.Dated.{Dated};
 ghost use Rattle.parallel_value.specs.Pieces.{AreAsBefore};
 ghost use Rattle.policy_machine.specs.Rules.{IsSound};
 ghost use Rattle.policy_types.specs.declared.policy.Policy.{Policy as APolicy};
+ghost use Rattle.policy_value.specs.declared.worth.Measure.{Measure as AMeasure};
 ghost use Rattle.snapshot_value.specs.inside.Sheets.{AreSmallRows, IsSheetReady, HasMade};
 ghost use Rattle.snapshot_value.specs.inside.Workers.{GivesRow, IsReadyWorker, TakesPolicy, ValuesBy};
 
@@ -12,7 +13,7 @@ use crate::worker::Worker;
 use basis_book::Basis;
 use parallel_value::map_in;
 use policy_types::{NoMemory, Policy};
-use policy_value::{ColumnCache, Row};
+use policy_value::{ColumnCache, Measure, Row};
 use std::alloc::Global;
 use std::thread::Threads;
 
@@ -44,14 +45,15 @@ impl<'a> Worksheet<'a> {
         alloc: Global,
         basis: &'a Basis,
         on: i32,
+        measure: Measure,
         workers: u8,
         policies: usize,
     ) -> Result<Worksheet<'a>, NoMemory>
         requires { (1 ≤ workers) × (workers ≤ 64) }
-        ensures { IfOk result (λ sheet. HasMade basis.now on [] sheet) }
+        ensures { IfOk result (λ sheet. HasMade basis.now on measure [] sheet) }
     {
         let many = (policies / POLICIES_TO_A_WORKER).clamp(1, usize::from(workers));
-        let workers = workers_for(alloc, basis, on, many)?;
+        let workers = workers_for(alloc, basis, on, measure, many)?;
         let read = Vec::with_capacity(alloc, together(many).min(policies)).map_err(|_| NoMemory)?;
         let rows = Vec::with_capacity(alloc, policies).map_err(|_| NoMemory)?;
         Ok(Worksheet {
@@ -70,8 +72,9 @@ impl<'a> Worksheet<'a> {
     ) -> Result<(), NoMemory>
         requires can { IsSheetReady self.old }
         requires sound { AllByRecursion IsSound part.now }
-        ensures made { (basis : List Dated) (on : ℤ) (policies : List APolicy) → HasMade basis on policies self.old
-            → OnOk result (HasMade basis on (policies ++ part.now) self.new) }
+        ensures made { (basis : List Dated) (on : ℤ) (measure : AMeasure) (policies : List APolicy)
+            → HasMade basis on measure policies self.old
+            → OnOk result (HasMade basis on measure (policies ++ part.now) self.new) }
     {
         if together(self.workers.len()) <= self.read.len() {
             self.value_read(rt, alloc)?;
@@ -84,8 +87,9 @@ impl<'a> Worksheet<'a> {
         requires can { IsSheetReady self.old }
         ensures can { OnOk result (IsSheetReady self.new) }
         ensures none { OnOk result (self.new.read.items ≡ []) }
-        ensures made { (basis : List Dated) (on : ℤ) (policies : List APolicy) → HasMade basis on policies self.old
-            → OnOk result (HasMade basis on policies self.new) }
+        ensures made { (basis : List Dated) (on : ℤ) (measure : AMeasure) (policies : List APolicy)
+            → HasMade basis on measure policies self.old
+            → OnOk result (HasMade basis on measure policies self.new) }
     {
         let mut values = value_all(rt, alloc, self.workers.as_mut_slice(), self.read.as_slice())?;
         self.read.clear();
@@ -98,8 +102,9 @@ impl<'a> Worksheet<'a> {
     // Puts policies behind those that were read.
     fn put(&mut self, part: &[Policy]) -> Result<(), NoMemory>
         requires sound { AllByRecursion IsSound part.now }
-        ensures made { (basis : List Dated) (on : ℤ) (policies : List APolicy) → HasMade basis on policies self.old
-            → OnOk result (HasMade basis on (policies ++ part.now) self.new) }
+        ensures made { (basis : List Dated) (on : ℤ) (measure : AMeasure) (policies : List APolicy)
+            → HasMade basis on measure policies self.old
+            → OnOk result (HasMade basis on measure (policies ++ part.now) self.new) }
     {
         self.read.extend_from_slice(part).map_err(|_| NoMemory)
     }
@@ -126,18 +131,24 @@ fn workers_for<'a>(
     alloc: Global,
     basis: &'a Basis,
     on: i32,
+    measure: Measure,
     many: usize,
 ) -> Result<Vec<Worker<'a>>, NoMemory>
     requires { (1 ≤ many) × (many ≤ 64) }
     ensures many { IfOk result (λ workers. length workers.items ≡ many) }
     ensures ready { IfOk result (λ workers. AllByRecursion IsReadyWorker workers.items) }
-    ensures by { IfOk result (λ workers. AllByRecursion (ValuesBy basis.now on) workers.items) }
+    ensures by { IfOk result (λ workers. AllByRecursion (ValuesBy basis.now on measure) workers.items) }
 {
     let share = many as u32;
     let mut workers = Vec::with_capacity(alloc, many).map_err(|_| NoMemory)?;
     for _ in 0..many {
         let cache = ColumnCache::with_room(alloc, COLUMNS_KEPT / share, PREMIUMS_KEPT / share)?;
-        workers.push_reserved(Worker { basis, on, cache });
+        workers.push_reserved(Worker {
+            basis,
+            on,
+            measure,
+            cache,
+        });
     }
     Ok(workers)
 }
@@ -153,8 +164,8 @@ fn value_all<R: Threads + Sync>(
     requires few { length workers.old ≤ 64 }
     requires ready { AllByRecursion IsReadyWorker workers.old }
     requires sound { AllByRecursion IsSound policies.now }
-    ensures rows { (basis : List Dated) (on : ℤ) → AllByRecursion (ValuesBy basis on) workers.old
-        → IfOk result (λ rows. AreSmallRows basis on policies.now rows.items) }
+    ensures rows { (basis : List Dated) (on : ℤ) (measure : AMeasure) → AllByRecursion (ValuesBy basis on measure) workers.old
+        → IfOk result (λ rows. AreSmallRows basis on measure policies.now rows.items) }
     ensures workers { AreAsBefore TakesPolicy GivesRow workers.old workers.new }
 {
     match map_in(rt, alloc, workers, policies) {

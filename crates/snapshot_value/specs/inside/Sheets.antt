@@ -4,16 +4,18 @@ use Rattle.std.specs.List.{AllByRecursion, AllZip}
 use Rattle.basis_book.specs.Dated.{Dated}
 use Rattle.policy_types.specs.declared.policy.Policy.{Policy}
 use Rattle.policy_machine.specs.Rules.{IsSound}
+use Rattle.policy_value.specs.Measures.{most_worth}
 use Rattle.policy_value.specs.Rows.{IsWithinAmount}
+use Rattle.policy_value.specs.declared.worth.Measure.{Measure}
 use Rattle.policy_value.specs.declared.worth.Row.{Row}
 use Rattle.snapshot_value.specs.Valuing.{IsValuedRow, most_amount}
 use Rattle.snapshot_value.specs.declared.worksheet.Worksheet.{Worksheet}
 use Rattle.snapshot_value.specs.inside.Workers.{IsReadyWorker, ValuesBy}
 
 -- the rows of the policies, one for each and in their order, each within what a policy may insure
-pub record AreSmallRows (basis : List Dated) (on : ℤ) (policies : List Policy) (rows : List Row) : Type 0 where
-  pub each : AllZip (IsValuedRow basis on) policies rows
-  pub within : AllByRecursion (λ (row : Row). IsWithinAmount most_amount row.worth) rows
+pub record AreSmallRows (basis : List Dated) (on : ℤ) (measure : Measure) (policies : List Policy) (rows : List Row) : Type 0 where
+  pub each : AllZip (IsValuedRow basis on measure) policies rows
+  pub within : AllByRecursion (λ (row : Row). IsWithinAmount (most_worth measure most_amount) row.worth) rows
 
 -- the policies that were read can be valued
 pub record IsSheetReady (sheet : Worksheet) : Type 0 where
@@ -22,10 +24,11 @@ pub record IsSheetReady (sheet : Worksheet) : Type 0 where
   pub ready : AllByRecursion IsReadyWorker sheet.workers.items
   pub sound : AllByRecursion IsSound sheet.read.items
 
--- Of the policies, in order, the first have their rows by this basis on this day, and the others were read and are at hand.
-pub record HasMade (basis : List Dated) (on : ℤ) (policies : List Policy) (sheet : Worksheet) : Type 0 where
+-- Of the policies, in order, the first have their rows by this basis on this day by this measure, and the others were read
+-- and are at hand.
+pub record HasMade (basis : List Dated) (on : ℤ) (measure : Measure) (policies : List Policy) (sheet : Worksheet) : Type 0 where
   pub can : IsSheetReady sheet
-  pub by : AllByRecursion (ValuesBy basis on) sheet.workers.items
+  pub by : AllByRecursion (ValuesBy basis on measure) sheet.workers.items
   pub valued : List Policy
   pub all : policies ≡ valued ++ sheet.read.items
-  pub rows : AreSmallRows basis on valued sheet.rows.items
+  pub rows : AreSmallRows basis on measure valued sheet.rows.items

@@ -4,14 +4,16 @@ use Rattle.basis_book.specs.Dated.{Dated}
 use Rattle.policy_types.specs.declared.policy.Policy.{Policy}
 use Rattle.policy_machine.specs.Rules.{IsSound}
 use Rattle.policy_value.specs.Caches.{IsRightFor}
+use Rattle.policy_value.specs.Measures.{most_worth}
 use Rattle.policy_value.specs.Rows.{IsWithinAmount}
+use Rattle.policy_value.specs.declared.worth.Measure.{Measure}
 use Rattle.policy_value.specs.declared.worth.Row.{Row}
 use Rattle.snapshot_value.specs.Valuing.{IsValuedRow, most_amount}
 use Rattle.snapshot_value.specs.declared.worker.Worker.{Worker}
 
 -- the policy's row, whose bounds are within what a policy may insure
-abbrev pub IsSmallRow : List Dated → ℤ → Policy → Row → Type 0
-IsSmallRow basis on policy row = IsValuedRow basis on policy row × IsWithinAmount most_amount row.worth
+abbrev pub IsSmallRow : List Dated → ℤ → Measure → Policy → Row → Type 0
+IsSmallRow basis on measure policy row = IsValuedRow basis on measure policy row × IsWithinAmount (most_worth measure most_amount) row.worth
 
 -- what it takes, where its cache is right for its basis
 abbrev pub TakesPolicy : Worker → Policy → Type 0
@@ -19,12 +21,12 @@ TakesPolicy worker policy = IsRightFor worker.basis.now worker.cache × IsSound 
 
 -- and what it gives of it
 abbrev pub GivesRow : Worker → Policy → Row → Type 0
-GivesRow worker policy row = IsSmallRow worker.basis.now worker.on policy row
+GivesRow worker policy row = IsSmallRow worker.basis.now worker.on worker.measure policy row
 
 -- it takes each sound policy
 abbrev pub IsReadyWorker : Worker → Type 0
 IsReadyWorker worker = (policy : Policy) → IsSound policy → TakesPolicy worker policy
 
--- what it gives is the row by this basis on this day
-abbrev pub ValuesBy : List Dated → ℤ → Worker → Type 0
-ValuesBy basis on worker = (policy : Policy) (row : Row) → GivesRow worker policy row → IsSmallRow basis on policy row
+-- what it gives is the row by this basis on this day by this measure
+abbrev pub ValuesBy : List Dated → ℤ → Measure → Worker → Type 0
+ValuesBy basis on measure worker = (policy : Policy) (row : Row) → GivesRow worker policy row → IsSmallRow basis on measure policy row

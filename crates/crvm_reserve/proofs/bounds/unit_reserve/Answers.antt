@@ -21,3 +21,13 @@ pub returns-clause-hi : goal.returns-clause-hi
 returns-clause-hi c = λ cover cap t made.
     c.saturating_sub-2.ensures ∙ ap (λ k. c.args.values.now.ben.hi - k) c.quotient_down-least.ensures
     ∙ reserve_hi_is cover cap t c.args.values.now c.args.premium.now made
+
+pub returns-clause-small_lo : goal.returns-clause-small_lo
+returns-clause-small_lo c =
+    let are = small c.requires.made.cover c.requires.made.cap c.requires.made.year c.args.values.now c.args.premium.now c.requires.made.made in
+    omega (arith, c.saturating_sub.ensures, are.ben_lo)
+
+pub returns-clause-small_hi : goal.returns-clause-small_hi
+returns-clause-small_hi c =
+    let are = small c.requires.made.cover c.requires.made.cap c.requires.made.year c.args.values.now c.args.premium.now c.requires.made.made in
+    omega (arith, c.saturating_sub-2.ensures, are.ben_hi)

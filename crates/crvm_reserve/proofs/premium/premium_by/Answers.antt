@@ -1,6 +1,6 @@
 use Rattle.std.proofs.Common.{arith, ◌∙◌}
 use Rattle.crvm_reserve.proofs.Enclosed.{excess_lo-most, excess_hi-most, beta-between, beta-narrow}
-use Rattle.crvm_reserve.proofs.Tables.{issue_due, beta_lo_is, beta_hi_is, pair_is}
+use Rattle.crvm_reserve.proofs.Tables.{issue_due, beta_lo_is, beta_hi_is, premium_is}
 use Rattle.crvm_reserve.proofs.premium.premium_by.Goals as goal
 
 pub overflow_add-charged : goal.overflow_add-charged
@@ -41,7 +41,7 @@ pub returns-clause-rounded : goal.returns-clause-rounded
 returns-clause-rounded c = λ cover cap are.
     let lo = c.level_premium-level.ensures.lo ∙ beta_lo_is cover cap c.args.parts.issue c.excess_premium-excess.result.lo are.issue (c.excess_premium-excess.ensures.lo cover cap are) in
     let hi = c.level_premium-level.ensures.hi ∙ beta_hi_is cover cap c.args.parts.issue c.excess_premium-excess.result.hi are.issue (c.excess_premium-excess.ensures.hi cover cap are) in
-    pair_is _ _ _ _ lo hi
+    premium_is cover cap _ _ _ _ lo hi (c.excess_premium-excess.ensures.lo cover cap are) (c.excess_premium-excess.ensures.hi cover cap are)
 
 pub returns-clause-exact : goal.returns-clause-exact
 returns-clause-exact c = λ cover cap are.

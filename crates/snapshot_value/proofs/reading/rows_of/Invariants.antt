@@ -8,5 +8,5 @@ abbrev pub invariant-loop-k : goal.invariant-loop-k
 invariant-loop-k g l = record {
   facts : PassFacts IsOfficeHistory l.pass;
   pins : KeepsPins l.fn.pass l.pass;
-  read : HasReadParts l.basis l.on l.pin l.k l.sheet l.fn.pass l.pass;
+  read : HasReadParts l.basis l.on l.fn.measure l.pin l.k l.sheet l.fn.pass l.pass;
 }

@@ -5,4 +5,4 @@ pub map_in-requires-clause-taken : goal.map_in-requires-clause-taken
 map_in-requires-clause-taken g c κs within = ready_take c.args.workers.now c.args.policies.now c.requires.ready c.requires.sound
 
 pub returns-in-Ok-clause-rows : goal.returns-in-Ok-clause-rows
-returns-in-Ok-clause-rows g c = λ basis on by. given_rows basis on c.args.workers.now c.args.policies.now c.in-Ok.rows.items by c.in-Ok.ensures.values
+returns-in-Ok-clause-rows g c = λ basis on measure by. given_rows basis on measure c.args.workers.now c.args.policies.now c.in-Ok.rows.items by c.in-Ok.ensures.values

@@ -12,6 +12,6 @@ loop-preserved c = record {
       ap length c.push_reserved.ensures.items ∙ length-append c.loop.workers.items _ in omega (arith, c.loop.invariant.many, longer);
   ready = subst (AllByRecursion IsReadyWorker) (sym c.push_reserved.ensures.items)
       (all_append IsReadyWorker c.loop.workers.items _ c.loop.invariant.ready ((λ policy sound. (c.in_ok-cache.ensures.right _, sound)), tt));
-  by = subst (AllByRecursion (ValuesBy c.args.basis.now _)) (sym c.push_reserved.ensures.items)
-      (all_append (ValuesBy c.args.basis.now _) c.loop.workers.items _ c.loop.invariant.by ((λ policy row given. given), tt));
+  by = subst (AllByRecursion (ValuesBy c.args.basis.now _ c.args.measure)) (sym c.push_reserved.ensures.items)
+      (all_append (ValuesBy c.args.basis.now _ c.args.measure) c.loop.workers.items _ c.loop.invariant.by ((λ policy row given. given), tt));
 }

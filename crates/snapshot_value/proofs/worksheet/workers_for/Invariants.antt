@@ -8,5 +8,5 @@ invariant-loop l = record {
   room : l.fn.many ≤ vec_capacity l.workers;
   many : length l.workers.items ≡ l.counter;
   ready : AllByRecursion IsReadyWorker l.workers.items;
-  by : AllByRecursion (ValuesBy l.basis l.on) l.workers.items;
+  by : AllByRecursion (ValuesBy l.basis l.on l.measure) l.workers.items;
 }

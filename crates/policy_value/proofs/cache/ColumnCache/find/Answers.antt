@@ -1,4 +1,4 @@
-use Rattle.std.proofs.Common.{sym, ap, ◌∙◌}
+use Rattle.std.proofs.Common.{refl, sym, ap, ◌∙◌}
 use Rattle.std.specs.Map.{lookup}
 use Rattle.lru.specs.LruCache.{LruCache}
 use Rattle.crvm_reserve.specs.declared.premium.Premium.{Premium}
@@ -24,8 +24,7 @@ pub returns-then-promote-clause-hit : goal.returns-then-promote-clause-hit
 returns-then-promote-clause-hit c = λ some.
     let es = c.args.self.now.premiums.entries in
     let found = some_value (lookup (eq-value.it c.args.key) es) (sym c.promote.ensures.value ∙ c.if-promote.true) in
-    asked_hit c.args.key c.args.self.now.premiums.cap es c.promote.new.self.entries found.0 found.1
-    (ap (λ (l : LruCache CacheKey Premium). l.entries) c.promote.ensures.entries)
+    asked_hit c.args.key c.args.self.now (record c.args.self.now { premiums = c.promote.new.self }) found.0 found.1 c.promote.ensures.entries refl
 
 pub returns-then-promote-clause-miss : goal.returns-then-promote-clause-miss
 returns-then-promote-clause-miss c =

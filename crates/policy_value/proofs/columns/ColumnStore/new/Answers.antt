@@ -3,8 +3,8 @@ use Rattle.std.proofs.lemmas.List.Elements.{All-nil}
 use Rattle.policy_value.specs.Caches.{IsRightColumn}
 use Rattle.policy_value.proofs.columns.ColumnStore.new.Goals as goal
 
-pub returns : goal.returns
-returns c = λ basis. record {
+pub returns-clause-right : goal.returns-clause-right
+returns-clause-right c = λ basis. record {
   store = record { slots = search rules; most = search rules; few = search rules; room = search rules; oldest = search rules };
   columns = rw c.in-Ok.ensures.items (All-nil (IsRightColumn basis));
 }

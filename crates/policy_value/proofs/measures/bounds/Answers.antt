@@ -2,8 +2,8 @@ use Rattle.std.proofs.Common.{rules, ◌≡◌}
 use Rattle.present_value.specs.Premium.{cap_of}
 use Rattle.present_value.specs.Reserve.{reserve}
 use Rattle.present_value.specs.Sums.{cover_of}
-use Rattle.policy_value.specs.Rows.{exact_reserve}
-use Rattle.policy_value.proofs.valuing.bounds.Goals as goal
+use Rattle.policy_value.specs.Measures.{exact_reserve}
+use Rattle.policy_value.proofs.measures.bounds.Goals as goal
 
 pub returns-clause-exact : goal.returns-clause-exact
 returns-clause-exact c =

@@ -1,0 +1,102 @@
+use Rattle.std.proofs.Common.{rules, ◌≡◌, ◌≤◌, ◌+◌, ◌<◌, ℕ, sym, ap, ◌∙◌, subst, arith}
+use Rattle.policy_types.specs.declared.policy.Status.{Status}
+use Rattle.policy_types.specs.declared.policy.Status.TheVariants.{InForce}
+use Rattle.present_value.specs.Fractions.{Between}
+use Rattle.present_value.specs.Premium.{beta, cap_of}
+use Rattle.present_value.specs.Reserve.{Encloses}
+use Rattle.present_value.specs.Rounding.{UNIT}
+use Rattle.present_value.specs.Sums.{cover_of}
+use Rattle.present_value.proofs.Steps.{ordered}
+use Rattle.crvm_reserve.specs.Rounded.{beta_lo, beta_hi}
+use Rattle.crvm_reserve.specs.declared.premium.Premium.{Premium}
+use Rattle.crvm_reserve.proofs.Enclosed.{beta-between, beta-narrow}
+use Rattle.deficiency_reserve.specs.Premiums.{adequacy_by}
+use Rattle.deficiency_reserve.specs.RoundedMinimum.{rounded_minimum}
+use Rattle.deficiency_reserve.specs.declared.answer.Adequacy.{Adequacy}
+use Rattle.deficiency_reserve.proofs.Bounds.{has_ordinary}
+use Rattle.policy_value.specs.Measures.{both_bounds, exact_minimum, exact_reserve}
+use Rattle.policy_value.proofs.Statuses.{least-other}
+use Rattle.policy_value.proofs.measures.both.Goals as goal
+use Rattle.policy_value.proofs.measures.both.Goals.{then-ne-via-then-ne, then-ne-via-else-ne+then-t-shape}
+
+pub returns-then-ne-clause-exact : goal.returns-then-ne-clause-exact
+returns-then-ne-clause-exact c =
+    let policy = c.args.policy.now in
+    let cover = cover_of c.args.table.now c.args.shape.now c.args.bp in
+    let cap = cap_of c.args.table.now c.args.shape.now.age c.args.bp in
+    let paid : policy.status ≡ InForce → c.args.shape.now.h ≤ c.args.t = elim c.then-ne.branch [
+      | then-ne-via-then-ne w ↦ search rules
+      | then-ne-via-else-ne+then-t-shape w ↦ λ is. omega (arith, w.if-t-shape.true)
+    ] in
+    record {
+      encloses = c.bounds-lo.ensures.exact;
+      minimum_too = least-other policy.status cover cap policy.amount policy.premium c.args.t c.bounds-lo.result.0 c.bounds-lo.result.1
+          c.requires.amounts.0.0 paid c.bounds-lo.ensures.exact;
+      tells = λ due. absurd (omega (arith, paid due.0, due.1));
+    }
+
+pub minimum_by-min_lo-requires-clause-made : goal.minimum_by-min_lo-requires-clause-made
+minimum_by-min_lo-requires-clause-made c =
+    let cover = cover_of c.args.table.now c.args.shape.now c.args.bp in
+    let cap = cap_of c.args.table.now c.args.shape.now.age c.args.bp in
+    let made = c.priced.ensures.made in
+    record {
+      cover = cover;
+      cap = cap;
+      year = c.args.t;
+      has = has_ordinary cover cap c.args.t c.priced.result.0 c.priced.result.1 c.bounds_by-lo.result c.args.policy.now.amount made
+          (c.bounds_by-lo.ensures.exact cover cap c.args.t made);
+    }
+
+pub returns-clause-both : goal.returns-clause-both
+returns-clause-both c =
+    let policy = c.args.policy.now in
+    let cover = cover_of c.args.table.now c.args.shape.now c.args.bp in
+    let cap = cap_of c.args.table.now c.args.shape.now.age c.args.bp in
+    let made = c.priced.ensures.made in
+    let in_force : policy.status ≡ InForce = search rules in
+    let due : c.args.t < c.args.shape.now.h = omega (arith, c.if-t-shape.false) in
+    let ordinary = c.bounds_by-lo.result in
+    let has = has_ordinary cover cap c.args.t c.priced.result.0 c.priced.result.1 ordinary policy.amount made (c.bounds_by-lo.ensures.exact cover cap c.args.t made) in
+    record {
+      paying = λ paying.
+          ap (λ (least : ℕ × ℕ). both_bounds ordinary least c.adequacy.result) (c.minimum_by-min_lo.ensures.rounded cover c.args.t has.values_are)
+          ∙ ap (λ (test : Adequacy). both_bounds ordinary (rounded_minimum cover ordinary policy.amount policy.premium c.args.t) test) c.adequacy.ensures.rounded
+          ∙ ap (λ (p : Premium). both_bounds ordinary (rounded_minimum cover ordinary policy.amount policy.premium c.args.t) (adequacy_by p.lo p.hi policy.amount policy.premium)) made.premium_is
+          ∙ ap (λ (o : ℕ × ℕ). both_bounds o (rounded_minimum cover o policy.amount policy.premium c.args.t) (adequacy_by (beta_lo cover cap) (beta_hi cover cap) policy.amount policy.premium))
+          (c.bounds_by-lo.ensures.rounded cover cap c.args.t made);
+      other = λ none. absurd (none (in_force, due));
+    }
+
+pub returns-clause-exact : goal.returns-clause-exact
+returns-clause-exact c =
+    let policy = c.args.policy.now in
+    let cover = cover_of c.args.table.now c.args.shape.now c.args.bp in
+    let cap = cap_of c.args.table.now c.args.shape.now.age c.args.bp in
+    let made = c.priced.ensures.made in
+    let in_force : policy.status ≡ InForce = search rules in
+    let ordinary = c.bounds_by-lo.result in
+    let least = c.minimum_by-min_lo.result in
+    let encloses = c.bounds_by-lo.ensures.exact cover cap c.args.t made in
+    let has = has_ordinary cover cap c.args.t c.priced.result.0 c.priced.result.1 ordinary policy.amount made encloses in
+    let between : Between c.priced.result.1.lo c.priced.result.1.hi UNIT (beta cover cap) = rw made.premium_is (beta-between cover cap made.reserved) in
+    let narrow : c.priced.result.1.hi ≤ c.priced.result.1.lo + 100000 = rw made.premium_is (omega (arith, beta-narrow cover cap made.reserved)) in
+    record {
+      encloses = subst (λ (status : Status). Encloses ordinary.0 ordinary.1 policy.amount (exact_reserve status cover cap c.args.t)) (sym in_force) encloses;
+      minimum_too = subst (λ (status : Status). Encloses least.0 least.1 policy.amount (exact_minimum status cover cap policy.amount policy.premium c.args.t))
+          (sym in_force) (c.minimum_by-min_lo.ensures.exact cover cap c.args.t has);
+      tells = λ due. c.adequacy.ensures.means cover cap between narrow;
+    }
+
+pub returns-clause-most : goal.returns-clause-most
+returns-clause-most c =
+    let cover = cover_of c.args.table.now c.args.shape.now c.args.bp in
+    let cap = cap_of c.args.table.now c.args.shape.now.age c.args.bp in
+    let made = c.priced.ensures.made in
+    let encloses = c.bounds_by-lo.ensures.exact cover cap c.args.t made in
+    let has = has_ordinary cover cap c.args.t c.priced.result.0 c.priced.result.1 c.bounds_by-lo.result c.args.policy.now.amount made encloses in (
+      ordered _ _ _ _ encloses.between,
+      c.bounds_by-lo.ensures.most,
+      ordered _ _ _ _ (c.minimum_by-min_lo.ensures.exact cover cap c.args.t has).between,
+      omega (arith, c.minimum_by-min_lo.ensures.most, c.bounds_by-lo.ensures.most),
+    )

@@ -1,0 +1,16 @@
+use Rattle.std.proofs.Common.{lit<, lit≤}
+use Rattle.present_value.specs.Fractions.{whole, plus, less, over, lesser}
+use Rattle.present_value.specs.Sums.{survivors, sum_below, ben, ann}
+use Rattle.present_value.specs.Premium.{term_premium, renewal_premium, level_premium, excess, beta}
+use Rattle.present_value.specs.Mean.{net_premium}
+use Rattle.present_value.proofs.worked.net_premiums_by_hand.Goals as goal
+
+pub returns : goal.returns
+unfolding whole plus less over lesser survivors sum_below ben ann term_premium renewal_premium level_premium excess beta net_premium
+returns c = record {
+  first = record { proper = lit< tt; above = lit≤ tt; below = lit≤ tt };
+  second = record { proper = lit< tt; above = lit≤ tt; below = lit≤ tt };
+  third = record { proper = lit< tt; above = lit≤ tt; below = lit≤ tt };
+  last = record { proper = lit< tt; above = lit≤ tt; below = lit≤ tt };
+  after = record { proper = lit< tt; above = lit≤ tt; below = lit≤ tt };
+}

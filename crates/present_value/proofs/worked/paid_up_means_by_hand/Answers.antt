@@ -1,0 +1,14 @@
+use Rattle.std.proofs.Common.{lit<, lit≤}
+use Rattle.present_value.specs.Fractions.{plus}
+use Rattle.present_value.specs.Sums.{survivors, sum_below, ben}
+use Rattle.present_value.specs.Mean.{half, paid_up_mean}
+use Rattle.present_value.proofs.worked.paid_up_means_by_hand.Goals as goal
+
+pub returns : goal.returns
+unfolding plus survivors sum_below ben half paid_up_mean
+returns c = record {
+  first = record { proper = lit< tt; above = lit≤ tt; below = lit≤ tt };
+  second = record { proper = lit< tt; above = lit≤ tt; below = lit≤ tt };
+  third = record { proper = lit< tt; above = lit≤ tt; below = lit≤ tt };
+  end = record { proper = lit< tt; above = lit≤ tt; below = lit≤ tt };
+}
