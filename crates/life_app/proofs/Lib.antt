@@ -4,3 +4,4 @@ pub mod RunLaws
 pub mod LeftLaws
 pub mod ProgramSteps
 pub mod ReasonSteps
+pub mod NamedPolicy
