@@ -74,9 +74,9 @@ DeficiencyTotals = (total_text Deficiency (short_of ∷ []) ≡ codes "total,127
 -- a mean reserve at a year's end, and a minimum reserve
 abbrev pub BlocksByMeasure : Type 0
 BlocksByMeasure = (block_text 0 (pos 18627) 1 Mean (record { id = 7001; status = InForce; t = 0; worth = Bounds 17086 17087 } ∷ [])
-        ≡ codes "0,value,2020-12-31,1,1,mean" ++ (10 ∷ []) ++ codes "row,7001,inforce,0,170.86,170.87" ++ (10 ∷ [])
-        ++ codes "total,170.86,170.87,0" ++ 10 ∷ [])
+    ≡ codes "0,value,2020-12-31,1,1,mean" ++ (10 ∷ []) ++ codes "row,7001,inforce,0,170.86,170.87" ++ (10 ∷ [])
+    ++ codes "total,170.86,170.87,0" ++ 10 ∷ [])
     × (block_text 0 (pos 18628) 1 Deficiency (short_of ∷ [])
-        ≡ codes "0,value,2021-01-01,1,1,deficiency" ++ (10 ∷ [])
-        ++ codes "row,7001,inforce,1,127.22,127.23,280.00,280.00,short" ++ (10 ∷ [])
-        ++ codes "total,127.22,127.23,280.00,280.00,0" ++ 10 ∷ [])
+    ≡ codes "0,value,2021-01-01,1,1,deficiency" ++ (10 ∷ [])
+    ++ codes "row,7001,inforce,1,127.22,127.23,280.00,280.00,short" ++ (10 ∷ [])
+    ++ codes "total,127.22,127.23,280.00,280.00,0" ++ 10 ∷ [])

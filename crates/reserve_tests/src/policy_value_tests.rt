@@ -197,13 +197,55 @@ fn reserves(rt: HostRuntime) -> Result<(), Fail> {
 #[test]
 fn paid_up_reserves(rt: HostRuntime) -> Result<(), Fail> {
     for (name, file, plan, years, on, expected) in [
-        ("endowment", FLAT, Plan::Endowment, 3, DAY_BEFORE, (0, 30_000, 30_000)),
-        ("endowment", FLAT, Plan::Endowment, 3, ONE_YEAR, (1, 30_000, 30_000)),
-        ("endowment, after its end", FLAT, Plan::Endowment, 3, 84_005, (3, 30_000, 30_000)),
+        (
+            "endowment",
+            FLAT,
+            Plan::Endowment,
+            3,
+            DAY_BEFORE,
+            (0, 30_000, 30_000),
+        ),
+        (
+            "endowment",
+            FLAT,
+            Plan::Endowment,
+            3,
+            ONE_YEAR,
+            (1, 30_000, 30_000),
+        ),
+        (
+            "endowment, after its end",
+            FLAT,
+            Plan::Endowment,
+            3,
+            84_005,
+            (3, 30_000, 30_000),
+        ),
         ("term", FLAT, Plan::Term, 3, ONE_YEAR, (1, 12_000, 12_000)),
-        ("term at 5 percent", AT_FIVE, Plan::Term, 3, ONE_YEAR, (1, 11_156, 11_157)),
-        ("term, at its end", FLAT, Plan::Term, 3, THREE_YEARS, (3, 0, 0)),
-        ("limited", FLAT, Plan::Limited, 2, ONE_YEAR, (1, 30_000, 30_000)),
+        (
+            "term at 5 percent",
+            AT_FIVE,
+            Plan::Term,
+            3,
+            ONE_YEAR,
+            (1, 11_156, 11_157),
+        ),
+        (
+            "term, at its end",
+            FLAT,
+            Plan::Term,
+            3,
+            THREE_YEARS,
+            (3, 0, 0),
+        ),
+        (
+            "limited",
+            FLAT,
+            Plan::Limited,
+            2,
+            ONE_YEAR,
+            (1, 30_000, 30_000),
+        ),
     ] {
         let mut policy = policy(plan, 0, years);
         policy.amount = 30_000;
