@@ -47,20 +47,21 @@ def check_row(row: list[str], policy: Policy, wanted: tuple, totals: Totals) -> 
 
 
 def check_block(rows: list[list[str]], policies: Sequence[Policy], basis: Sequence[BasisRow], known: Known) -> None:
-    """Checks the lines of a valuation, by the policies at its position."""
+    """Checks the lines of a valuation, by the policies at its position and the measure that its first line names."""
     head, *middle, total = rows
-    is_whole = head[4:] == [str(len(policies))] and len(middle) == len(policies)
+    measure = head[5] if len(head) > 5 else "terminal"
+    is_whole = head[4] == str(len(policies)) and len(middle) == len(policies)
     demand(is_whole, f"{','.join(head)}: there are {len(policies)} policies")
     on, totals = day_in(head[2]), Totals()
     for row, policy in zip(middle, policies):
-        check_row(row, policy, worth(policy, basis, on, known), totals)
+        check_row(row, policy, worth(policy, basis, on, known, measure), totals)
     demand(total == totals.line(), f"{','.join(total)} isn't {','.join(totals.line())}")
 
 
 def check(journal: str, basis: str, valuation: str) -> int:
     """Checks a valuation that `life value` printed by the files of these paths, and gives the number of its rows."""
     rows = printed_rows(bytes_of(valuation).decode("ascii", "replace"))
-    is_valuation = len(rows) >= 2 and len(rows[0]) == 5 and rows[0][:2] == ["0", "value"]
+    is_valuation = len(rows) >= 2 and rows[0][:2] == ["0", "value"] and (len(rows[0]) == 5 or rows[0][5:] == ["mean"])
     demand(is_valuation, f"{valuation} is no valuation that life value prints")
     commands = journal_at(journal).commands
     position = number_of(rows[0][3], 0, len(commands))

@@ -39,18 +39,50 @@ class Cover:
         return benefits + (alive if self.matures else 0), annuity
 
 
-def reserve(table: Table, cover: Cover, age: int, discount: Fraction, year: int) -> Fraction:
-    """The exact reserve at a year of an amount of 1."""
-    benefits, annuity = cover.values_at(0, discount)
-    first_year = discount * cover.rates[0]
-    renewal = (benefits - first_year) / (annuity - 1)
-    # the level premium may not be above that of whole life at an age one year higher
-    left = table.last - age
-    whole_benefits, whole_annuity = Cover(table, age + 1, left, min(RENEWAL_PREMIUMS, left), True).values_at(0, discount)
-    excess = max(min(renewal, whole_benefits / whole_annuity) - first_year, Fraction(0))
-    modified = (benefits + excess) / annuity
-    benefits, annuity = cover.values_at(year, discount)
-    return max(benefits - modified * annuity, Fraction(0))
+class InForce:
+    """A policy's cover with its premiums: the modified net premium, the excess that it rests on, and the reserves of 1."""
+
+    def __init__(self, table: Table, cover: Cover, age: int, discount: Fraction) -> None:
+        self.cover, self.discount = cover, discount
+        benefits, annuity = cover.values_at(0, discount)
+        first_year = discount * cover.rates[0]
+        renewal = (benefits - first_year) / (annuity - 1)
+        # the level premium may not be above that of whole life at an age one year higher
+        left = table.last - age
+        limit = Cover(table, age + 1, left, min(RENEWAL_PREMIUMS, left), True)
+        whole_benefits, whole_annuity = limit.values_at(0, discount)
+        self.excess = max(min(renewal, whole_benefits / whole_annuity) - first_year, Fraction(0))
+        self.modified = (benefits + self.excess) / annuity
+
+    def terminal(self, year: int) -> Fraction:
+        benefits, annuity = self.cover.values_at(year, self.discount)
+        return max(benefits - self.modified * annuity, Fraction(0))
+
+    def net_premium(self, year: int) -> Fraction:
+        """The net premium of a year: of the first without the excess, and none after the last premium."""
+        if year == 0:
+            return self.modified - self.excess
+        return self.modified if year < self.cover.payments else Fraction(0)
+
+
+class PaidUp:
+    """A paid-up policy's cover: no premium is taken off."""
+
+    def __init__(self, cover: Cover, discount: Fraction) -> None:
+        self.cover, self.discount = cover, discount
+
+    def terminal(self, year: int) -> Fraction:
+        return self.cover.values_at(year, self.discount)[0]
+
+    def net_premium(self, year: int) -> Fraction:
+        return Fraction(0)
+
+
+def exact_value(policy: Union[InForce, PaidUp], year: int, measure: str) -> Fraction:
+    """The exact reserve of 1 by a measure: `terminal`, or `mean`, which is the terminal one at the end of cover."""
+    if measure == "terminal" or year == policy.cover.years:
+        return policy.terminal(year)
+    return (policy.terminal(year) + policy.net_premium(year) + policy.terminal(year + 1)) / 2
 
 
 def row_for(basis: Sequence[BasisRow], day: datetime.date) -> BasisRow | None:
@@ -58,8 +90,13 @@ def row_for(basis: Sequence[BasisRow], day: datetime.date) -> BasisRow | None:
     return next((row for row in reversed(basis) if row.day <= day), None)
 
 
-def worth(policy: Policy, basis: Sequence[BasisRow], on: datetime.date, known: Known | None = None) -> Worth:
-    """The year, and the exact value in cents or a word. `known` keeps exact reserves for further policies of the basis."""
+def worth(
+    policy: Policy, basis: Sequence[BasisRow], on: datetime.date, known: Known | None = None, measure: str = "terminal"
+) -> Worth:
+    """The year, and the exact value in cents by a measure or a word.
+
+    `known` keeps exact reserves for further policies of the basis.
+    """
     if policy.status not in ("inforce", "paidup") or policy.issued > on:
         return 0, Fraction(0)
     row = row_for(basis, policy.issued)
@@ -78,10 +115,9 @@ def worth(policy: Policy, basis: Sequence[BasisRow], on: datetime.date, known: K
     year = min(completed(policy.issued, on), years)
     known = {} if known is None else known
     is_paid_up = policy.status == "paidup"
-    case = row.day, age, years, payments, policy.plan != "term", is_paid_up, year
+    case = row.day, age, years, payments, policy.plan != "term", is_paid_up, year, measure
     if case not in known:
         cover = Cover(table, age, years, payments, policy.plan != "term")
-        benefits, _ = cover.values_at(year, row.discount)
-        # of a paid-up policy no premium is taken off
-        known[case] = benefits if is_paid_up else reserve(table, cover, age, row.discount, year)
+        valued = PaidUp(cover, row.discount) if is_paid_up else InForce(table, cover, age, row.discount)
+        known[case] = exact_value(valued, year, measure)
     return year, policy.amount * known[case]

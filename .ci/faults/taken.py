@@ -21,10 +21,10 @@ from tables import read_basis
 AT_ONCE = 4
 # a call is held up for so long, in microseconds; the deed is done once the file has stood still for so long, in seconds
 HELD_UP, STILL = 800_000, 0.2
-# The calls of the journal that are held up: the first sync and the question behind it; of the second posting both syncs
-# and each question. The opening makes one sync and asks four times; a posting makes two, and asks before it writes and
-# behind each of them.
-HELD = [("fsync", 1), ("statx", 3), ("fsync", 4), ("fsync", 5), ("statx", 8), ("statx", 9), ("statx", 10)]
+# The calls of the journal that are held up: the first sync and the question behind it; of the second posting the question
+# before it, both syncs and the question behind the second; and the last sync of all and the question behind it. The opening
+# makes one sync and asks four times; a posting makes two, and asks before its first write and behind its last sync.
+HELD = [("fsync", 1), ("statx", 3), ("statx", 7), ("fsync", 4), ("fsync", 5), ("statx", 8), ("fsync", 9), ("statx", 12)]
 
 
 def remove(desk):

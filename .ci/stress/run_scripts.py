@@ -19,7 +19,8 @@ from formats import Wrong, printed_rows
 from journals import file_of, read_journal
 from tables import read_basis
 
-REASONS = 14
+# all but `full`
+REASONS = 16
 MANY = 1200
 
 
@@ -62,6 +63,7 @@ def count(text, accepted, seen):
     """What there was to be seen in a transcript."""
     changes, last = 0, None
     for line in printed_rows(text):
+        seen["paid-up rows"] += line[0] == "row" and line[2] == "paidup"
         if line[0] in ("row", "total", "watcher"):
             continue
         seen["lines"] += 1
@@ -86,12 +88,12 @@ def main():
         place = os.path.join(quick if pair % 4 else folder, f"pair-{pair}")
         run_pair(program, root, place, first + pair, known, seen)
     reasons = [what for what in seen if what.startswith("refused ")]
-    if len(reasons) < REASONS or not seen["valuations"] or not seen["trims"]:
+    if len(reasons) < REASONS or not seen["valuations"] or not seen["trims"] or not seen["paid-up rows"]:
         sys.exit(f"stress: too little was tried: {dict(seen)}")
     refused = sum(seen[what] for what in reasons)
     print(f"stress: {scripts} scripts of eight clerks, {seen['lines']} lines: {seen['accepted']} accepted, {refused} refused for "
-          f"{len(reasons)} reasons, {seen['valuations']} valuations, {seen['trims']} trims of which {seen['trims below the count']} "
-          f"below the count; the clerk changes {seen['changes of clerk']} times")
+          f"{len(reasons)} reasons, {seen['valuations']} valuations with {seen['paid-up rows']} paid-up rows, {seen['trims']} "
+          f"trims of which {seen['trims below the count']} below the count; the clerk changes {seen['changes of clerk']} times")
 
 
 if __name__ == "__main__":

@@ -107,7 +107,7 @@ accepted_can before command accepted = by_kind (accepted_next before command acc
   where
     by_kind : (command ≡ Upgrade) ⊎ ((after : Policy) × (next (policy_of before (id_of command)) command ≡ Ok after)) → CanBeNext before command
     by_kind (inl upgraded) = inl upgraded
-    by_kind (inr made) = inr (subst (λ (r : Result Policy Refusal). IsOk r) (sym made.1) tt)
+    by_kind (inr made) = inr (subst (λ (r : Result Policy Refusal). IsOk r) (sym made.1) refl)
 
 -- a body that spells a command spells no other
 pub spells_no_next : (body : List ℕ) (commands : List Command) (command : Command) → IsValid command → body ≡ spelling_of command

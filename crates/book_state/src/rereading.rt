@@ -1,8 +1,9 @@
-// The records of a journal are read again, for one policy.
+// The records of a journal are read again, by pieces, for one policy.
 ghost use Rattle.std.specs.Prelude.{◌≡◌, ◌+◌, ◌<◌, ◌≤◌, ◌++◌, [], ◌∷◌, List, length, take, IfOk, IfErr, MatchResult};
 ghost use Rattle.policy_types.specs.declared.command.Command.{Command as ACommand};
 ghost use Rattle.policy_types.specs.Limits.{most_commands};
 ghost use Rattle.policy_types.specs.Valid.{IsValid};
+ghost use Rattle.posting_journal.specs.Pieces.{IsPartOf};
 ghost use Rattle.posting_journal.specs.States.{count_of, disk_of};
 ghost use Rattle.office_state.specs.inside.Replays.{StaysAs, as_cause};
 ghost use Rattle.book_state.specs.inside.Rereading.{AreRead, HasRead, HasNotRead, HasStoppedReading, IsAccount, IsNext, IsReadFrom, IsStoppedFrom, StopsReading, IsUnadded};
@@ -11,7 +12,7 @@ use office_state::{StartCause, StartFault};
 use outside_io::Disk;
 use policy_machine::decide;
 use policy_types::{Command, Policy};
-use posting_journal::{Journal, JournalCause};
+use posting_journal::{Journal, JournalCause, Piece};
 use record_codec::decode;
 use std::alloc::Global;
 
@@ -122,8 +123,9 @@ fn read_records<D: Disk>(journal: &mut Journal<D>, account: &mut Account) -> Res
         (λ u. AreRead journal.old journal.new account.new (count_of journal.old))
         (λ cause. HasStoppedReading journal.old (disk_of journal.new) cause) }
 {
+    let mut piece = Piece::new();
     for n in 0..journal.count() {
-        read_record(journal, n, account)?;
+        read_record(journal, n, &mut piece, account)?;
     }
     Ok(())
 }
@@ -132,20 +134,23 @@ fn read_records<D: Disk>(journal: &mut Journal<D>, account: &mut Account) -> Res
 fn read_record<D: Disk>(
     journal: &mut Journal<D>,
     n: u32,
+    piece: &mut Piece,
     account: &mut Account,
 ) -> Result<(), StartCause>
     requires named { 1 ≤ account.old.id }
     requires within { n < count_of journal.old }
     requires few { n < most_commands }
     requires holds { (commands : List ACommand) × IsAccount account.old commands × (length commands ≡ n) }
+    requires part { D.honest (disk_of journal.old) → IsPartOf piece.old (D.reads (disk_of journal.old)) }
     ensures stays { StaysAs journal.old journal.new }
     ensures id { account.new.id ≡ account.old.id }
     ensures read { (commands : List ACommand) → IsAccount account.old commands → length commands ≡ n
         → MatchResult result
         (λ u. IsNext journal.old journal.new account.new n commands)
         (λ cause. StopsReading journal.old journal.new n commands cause) }
+    ensures part { D.honest (disk_of journal.new) → IsPartOf piece.new (D.reads (disk_of journal.new)) }
 {
-    let body = match journal.body(n) {
+    let body = match journal.body_from(n, piece) {
         Ok(body) => body,
         Err(fault) => return Err(StartCause::DiskFault(fault.count)),
     };

@@ -12,7 +12,7 @@ use Rattle.present_value.specs.Reserve.{reserve}
 unfoldable pub gross : ℕ → ℕ → Fraction
 gross amount premium = record { num = premium; den = amount }
 
--- what a year is counted_premium to bring in: the net premium, and no more than is charged
+-- what a year is counted to bring in: the net premium, and no more than is charged
 unfoldable pub counted_premium : Cover → Cover → ℕ → ℕ → ℕ → Fraction
 counted_premium c cap amount premium k = lesser (beta c cap) (gross amount premium)
 

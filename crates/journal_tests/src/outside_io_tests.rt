@@ -86,7 +86,8 @@ fn read_back<D: Disk>(rt: &impl Abort, disk: &mut D, at: u64) -> Result<[u8; 7],
     Ok(part)
 }
 
-// A file that is cut by someone else gives fewer bytes than it told of: such a read fails.
+// A file that is cut by someone else gives fewer bytes than it told of: such a read fails, and a write past its end, which
+// leaves no hole.
 #[test]
 fn a_file_that_was_cut_fails(rt: HostRuntime) -> Result<(), Fail> {
     let name = "outside_io_cut.test";
@@ -99,6 +100,9 @@ fn a_file_that_was_cut_fails(rt: HostRuntime) -> Result<(), Fail> {
     file.set_len(8)?;
     let cut = disk.read(5, &mut [0; 7]);
     assert!(rt; (cut, disk.faults()) == (Err(Failed), 1));
+    let past = disk.write_at(12, b"a gate");
+    assert!(rt; (past, disk.faults()) == (Err(Failed), 2));
+    assert!(rt; fs::metadata(&rt, name)?.len() == 8);
     fs::remove_file(&rt, name)?;
     Ok(())
 }

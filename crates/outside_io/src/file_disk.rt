@@ -12,8 +12,9 @@ use std::rt::Files;
 
 /// The file with a name in the folder in which the program runs. It is opened, or made, at the
 /// first call; nothing of it is cut off. It is locked against other processes that do the same, until
-/// it is dropped; where one of them has it, the call fails and counts. So does a write past the end and a sync
-/// where the file was removed, renamed, replaced or cut.
+/// it is dropped; where one of them has it, the call fails and counts. So does a write past the end where the
+/// file was removed or cut, and a sync where it was removed, renamed, replaced or cut; but for a sync of bytes
+/// past the end alone, behind which a write within and its sync have to follow.
 #[derive(Drop)]
 pub struct FileDisk<R: Files<File = File> + AllocGlobal, F: FoundFile> {
     file: NotedFile<R>,

@@ -94,7 +94,7 @@ impl HeldFile {
         name: &str,
     ) -> io::Result<()> {
         self.file.sync_all()?;
-        if !matches!(self.written, Written::Behind) {
+        if self.lost || !matches!(self.written, Written::Behind) {
             self.look(files, Some(name))?;
         }
         self.written = Written::Nothing;

@@ -6,7 +6,7 @@ use Rattle.present_value.specs.Fractions.{Fraction, plus}
 use Rattle.present_value.specs.Sums.{Cover, survivors, ben}
 use Rattle.present_value.specs.Reserve.{reserve}
 use Rattle.present_value.specs.Mean.{half, net_premium, mean_reserve, paid_up_mean}
-use Rattle.present_value.specs.MeanLaws.{IsWithin, LiesBetween, LiesBetweenLaw, NoPremiumLaw, paying}
+use Rattle.present_value.specs.MeanLaws.{LiesWithin, LiesBetween, LiesBetweenLaw, NoPremiumLaw, paying}
 
 -- half of a sum of three, x over p and y over q around n over d, where x over p is the lesser: as numbers
 above : (x p n d y q : ℕ) → x * q ≤ y * p → (x * (2 * d) + n * p) * (2 * (p * d * q)) ≤ ((x * d + n * p) * q + y * (p * d)) * (p * (2 * d))
@@ -15,7 +15,7 @@ above x p n d y q order = let wide = mul-le-mul_left (2 * p * d * d) order in om
 below : (x p n d y q : ℕ) → x * q ≤ y * p → ((x * d + n * p) * q + y * (p * d)) * (q * (2 * d)) ≤ (y * (2 * d) + n * q) * (2 * (p * d * q))
 below x p n d y q order = let wide = mul-le-mul_left (2 * d * d * q) order in omega arith
 
-half_within : (x net y : Fraction) → x.num * y.den ≤ y.num * x.den → IsWithin (plus x (half net)) (plus y (half net)) (half (plus (plus x net) y))
+half_within : (x net y : Fraction) → x.num * y.den ≤ y.num * x.den → LiesWithin (plus x (half net)) (plus y (half net)) (half (plus (plus x net) y))
 unfolding half plus
 half_within x net y order = record {
   above = above x.num x.den net.num net.den y.num y.den order;
@@ -29,7 +29,7 @@ falling_above x p n d y q order = let wide = mul-le-mul_left (2 * d * d * q) ord
 falling_below : (x p n d y q : ℕ) → y * p ≤ x * q → ((x * d + n * p) * q + y * (p * d)) * (p * (2 * d)) ≤ (x * (2 * d) + n * p) * (2 * (p * d * q))
 falling_below x p n d y q order = let wide = mul-le-mul_left (2 * p * d * d) order in omega arith
 
-half_within_falling : (x net y : Fraction) → y.num * x.den ≤ x.num * y.den → IsWithin (plus y (half net)) (plus x (half net)) (half (plus (plus x net) y))
+half_within_falling : (x net y : Fraction) → y.num * x.den ≤ x.num * y.den → LiesWithin (plus y (half net)) (plus x (half net)) (half (plus (plus x net) y))
 unfolding half plus
 half_within_falling x net y order = record {
   above = falling_above x.num x.den net.num net.den y.num y.den order;

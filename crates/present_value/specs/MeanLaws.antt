@@ -6,13 +6,13 @@ use Rattle.present_value.specs.Reserve.{reserve}
 use Rattle.present_value.specs.Mean.{half, net_premium, mean_reserve, paid_up_mean}
 
 -- a value lies between two others, by cross-multiplying
-pub record IsWithin (low high value : Fraction) : Type 0 where
+pub record LiesWithin (low high value : Fraction) : Type 0 where
   pub above : low.num * value.den ≤ value.num * low.den
   pub below : value.num * high.den ≤ high.num * value.den
 
 -- between two values, in the one order or the other
 abbrev pub LiesBetween : Fraction → Fraction → Fraction → Type 0
-LiesBetween a b value = IsWithin a b value ⊎ IsWithin b a value
+LiesBetween a b value = LiesWithin a b value ⊎ LiesWithin b a value
 
 abbrev pub LiesBetweenLaw : Type 0
 LiesBetweenLaw = (c cap : Cover) → (t : ℕ) → t < c.n

@@ -6,6 +6,8 @@ mod crvm_reserve_tests;
 #[cfg(test)]
 mod deficiency_reserve_tests;
 #[cfg(test)]
+mod mean_reserve_tests;
+#[cfg(test)]
 mod parallel_value_tests;
 #[cfg(test)]
 mod plan_benefits_tests;
