@@ -33,6 +33,11 @@ the_cap_at_the_issue_age        crvm_reserve/cap_at_the_issue_age
 the_net_level_premium           crvm_reserve/net_level_beta
 bounds_rounded_inward           crvm_reserve/inward_bounds crvm_reserve/one_beta_for_both_bounds
 trivial_bounds                  crvm_reserve/trivial_bounds
+the_greater_premium_counted     deficiency_reserve/greater_premium_counted
+premiums_after_the_last         deficiency_reserve/premium_counted_after_the_last
+the_minimum_without_its_floor   deficiency_reserve/no_ordinary_floor
+short_and_enough_swapped        deficiency_reserve/short_and_enough_swapped
+close_for_everything            deficiency_reserve/close_for_everything
 an_early_Ok                     posting_journal/ok_before_the_second_sync
 a_closed_record_kept            posting_journal/closed_record_kept
 a_line_posted_twice_or_left_out lane_runner/posted_twice lane_runner/line_left_out
