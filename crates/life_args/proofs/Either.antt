@@ -1,6 +1,6 @@
 -- Words ask for one mode, or for nothing: each part of them says something, or nothing
-use Rattle.std.proofs.Common.{◌≡◌, ℕ, zero, suc, ◌+◌, ◌<◌, ◌≤◌, ◌⊎◌, ℤ, pos, negsuc, Bool, true, false, List, [], ◌∷◌, length, map, string_bytes, String, Option, Some, None, refl, sym, ap, ◌∙◌, subst, inl, inr, bytes_eq, codes, decimal, arith, true≢false}
-use Rattle.std.specs.Prelude.{All, slice_index, ◌≤ℤ◌}
+use Rattle.std.proofs.Common.{◌≡◌, ℕ, zero, suc, ◌+◌, ◌<◌, ◌≤◌, ◌⊎◌, ℤ, pos, negsuc, false, List, [], ◌∷◌, length, map, string_bytes, String, Option, Some, None, refl, sym, ◌∙◌, subst, inl, inr, bytes_eq, codes, decimal, arith, true≢false}
+use Rattle.std.specs.Prelude.{All, slice_index}
 use Rattle.std.specs.Global.{Global}
 use Rattle.std.specs.Char.{IsAsciiAlphanumeric}
 use Rattle.std.proofs.lemmas.Bool.{cases_Bool, cases_lt}
@@ -25,7 +25,7 @@ use Rattle.life_args.specs.Words.{AreWords, AskFor, AskForNothing}
 use Rattle.life_args.specs.inside.Lines.{Spelling, alone_id, has_odd, line_app, values_of}
 use Rattle.life_args.specs.inside.Verbs.{AreDraws, JustOne, SaysMode, options_of, verb_of, verb_word}
 use Rattle.life_args.proofs.Lines.{spelled_taken, taken_spelled}
-use Rattle.life_args.proofs.Asking.{Asked, asked, asking, good, same_verb}
+use Rattle.life_args.proofs.Asking.{asked, asking, good}
 use Rattle.life_args.proofs.Answering.{asked_of, odd_refused}
 
 -- it is so, or it isn't

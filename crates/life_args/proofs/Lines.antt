@@ -6,7 +6,7 @@ use Rattle.clap.specs.Simple.{App, built, entered, matches_of}
 use Rattle.clap.specs.Takes.{is_given}
 use Rattle.clap.specs.Kinds.{Kinds, or_else, check_kinds}
 use Rattle.clap.specs.Faults.{built_fault, fault_of, walk_fault, settle_fault, defaults_fault, check_fault, entered_fault, given_default_fault}
-use Rattle.life_args.specs.Pieces.{WordPiece, bare, apart, joined, flag, spelled, bare_values, option_values, value_under, IsAmong, HasOnly}
+use Rattle.life_args.specs.Pieces.{WordPiece, bare, apart, joined, flag, spelled, bare_values, option_values, value_under, HasOnly}
 use Rattle.life_args.specs.inside.Lines.{ArePlain, IsPlainText, Names, Spelling, alone_id, has_odd, is_odd, line_app, values_of}
 use Rattle.life_args.proofs.Lexing.{IsOptionName}
 use Rattle.life_args.proofs.Rules.{AreGood, IsGood, add, filled_alone, filled_flag, filled_option, filled_options, own, rules, same}

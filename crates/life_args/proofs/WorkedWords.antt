@@ -1,13 +1,12 @@
 -- What worked words are told by.
-use Rattle.std.proofs.Common.{◌≡◌, ◌++◌, ℕ, List, [], ◌∷◌, All, map, refl, sym, ap, subst, inl, inr, codes, lit≤, arith}
-use Rattle.std.specs.Prelude.{string_bytes, String, slice_index}
-use Rattle.std.specs.Global.{Global}
+use Rattle.std.proofs.Common.{◌≡◌, ◌∙◌, ◌++◌, ℕ, List, [], ◌∷◌, All, refl, sym, ap, subst, inl, inr, codes, lit≤, arith}
+use Rattle.std.specs.Prelude.{slice_index}
 use Rattle.std.proofs.lemmas.List.Elements.{All-nil, All-cons}
 use Rattle.basis_book.specs.Name.{IsName, IsNameByte}
 use Rattle.life_args.specs.declared.mode.Mode.{Mode}
 use Rattle.life_args.specs.declared.mode.Mode.TheVariants.{Run, Value, State, Generate, Load}
 use Rattle.life_args.specs.Pieces.{WordPiece, bare, apart, joined, flag, spelled, bare_values}
-use Rattle.life_args.specs.Words.{AreWords, IsRun, IsValue}
+use Rattle.life_args.specs.Words.{AreWords}
 use Rattle.life_args.specs.Worked.{Ask, AskNothing}
 use Rattle.life_args.specs.declared.verb.Verb.{Verb}
 use Rattle.life_args.specs.declared.verb.Verb.TheVariants as verb

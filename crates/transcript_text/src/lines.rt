@@ -18,6 +18,7 @@ use office_state::Answer;
 use policy_types::{Command, Line, NoMemory, PinRefusal, Refusal, Report};
 use program_endings::add;
 use report_text::print_block;
+use snapshot_value::Valuation;
 use std::alloc::Global;
 use text_lines::{LineWriter, Text, kind_word, status_word};
 
@@ -112,7 +113,8 @@ fn value_text(alloc: Global, clerk: u8, on: i32, outcome: &Outcome) -> Result<Te
 {
     match outcome {
         Outcome::Valued(valuation) => {
-            print_block(alloc, clerk, on, valuation.position, &valuation.rows)
+            let Valuation { position, measure, rows, .. } = valuation;
+            print_block(alloc, clerk, on, *position, *measure, rows)
         }
         Outcome::ValueRefused(refusal) => unpinned(alloc, clerk, on, *refusal),
         Outcome::ValueNoMemory => unvalued(alloc, clerk, on),

@@ -3,7 +3,7 @@ use Rattle.std.proofs.lemmas.Result.{IfOk-weaker}
 use Rattle.clap.specs.Words.{AddsArg, App, Rule, Text, app_of, rule_of, with_rule}
 use Rattle.clap.specs.declared.builder.arg.Arg.{Arg}
 use Rattle.clap.specs.declared.builder.command.Command.{Command}
-use Rattle.life_args.specs.inside.Lines.{Names, flag_rule, line_app, no_names, option_rule}
+use Rattle.life_args.specs.inside.Lines.{flag_rule, line_app, no_names, option_rule}
 use Rattle.life_args.specs.inside.Verbs.{options_of}
 use Rattle.life_args.proofs.line.command_of.Goals as goal
 

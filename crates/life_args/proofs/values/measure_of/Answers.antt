@@ -8,7 +8,7 @@ pub returns-in_err-mean : goal.returns-in_err-mean
 returns-in_err-mean c =
     let means = texts_of c.args.mean in
     let deficiencies = texts_of c.args.deficiency in
-    handed_on c.from_residual-in_err-mean.result c.in_err-mean.field-0.0 (IsMeasureBy means deficiencies) c.from_residual-in_err-mean.ensures.1 (λ usage one asks.
+    handed_on c.from_residual.result c.in_err-mean.field-0.0 (IsMeasureBy means deficiencies) c.from_residual.ensures.1 (λ usage one asks.
         let uses = a_measure means deficiencies one asks in
         refusal (IsLone means) c.in_err-mean.field-0.0 c.in_err-mean.ensures usage uses.0.0 uses.0.1)
 

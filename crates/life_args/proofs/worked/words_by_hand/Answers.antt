@@ -1,16 +1,9 @@
-use Rattle.std.proofs.Common.{◌≡◌, ℕ, List, [], ◌∷◌, map, refl, sym, subst, inl, inr, None, Some, pos, codes, lit≤, arith}
-use Rattle.std.specs.Prelude.{string_bytes, String}
-use Rattle.std.specs.Global.{Global}
+use Rattle.std.proofs.Common.{[], ◌∷◌, refl, inl, inr, codes, lit≤, arith}
 use Rattle.std.specs.Fmt.{digits}
 use Rattle.std.proofs.lemmas.Int.{ints}
 use Rattle.life_dates.specs.Calendar.{date_of, date_at, year_of, month_of, days_before, days_before_year, days_of_months}
 use Rattle.life_dates.specs.DayText.{day_text}
-use Rattle.policy_types.specs.declared.entry.At.TheVariants.{Now, Position}
-use Rattle.life_args.specs.declared.mode.Mode.{Mode}
-use Rattle.life_args.specs.declared.mode.Mode.TheVariants.{Run, Value, State, Generate, Load}
 use Rattle.life_args.specs.Pieces.{bare, apart, joined, flag}
-use Rattle.life_args.specs.Words.{AreWords}
-use Rattle.life_args.specs.Worked.{Ask, AskNothing}
 use Rattle.life_args.proofs.WorkedWords.{asks, asks_nothing, b2_name, none_of_both, none_of_flag_as_value, none_of_none, none_of_help, none_of_now, none_of_no_day, none_of_state_flag, none_of_twice, none_of_two, none_of_valued_flag}
 use Rattle.life_args.proofs.worked.words_by_hand.Goals as goal
 
