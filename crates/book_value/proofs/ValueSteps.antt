@@ -1,5 +1,5 @@
 -- How `value` ends, by what its parts did
-use Rattle.std.proofs.Common.{◌≡◌, ℕ, ◌≤◌, ◌<◌, ℤ, List, [], length, take, refl, ap, ap₂, sym, ◌∙◌, subst, inl, inr, Result, Ok, Err, arith}
+use Rattle.std.proofs.Common.{◌≡◌, ℕ, ◌≤◌, ◌<◌, ℤ, List, [], length, take, refl, ap₂, sym, ◌∙◌, subst, inl, inr, Result, Ok, Err, arith}
 use Rattle.std.specs.List.{AllZip}
 use Rattle.outside_io.specs.Streams.{AppendsPart}
 use Rattle.outside_io.specs.declared.disks.Disk.{Ghosts}
