@@ -4,4 +4,3 @@ pub mod RunLaws
 pub mod LeftLaws
 pub mod ProgramSteps
 pub mod ReasonSteps
-pub mod NamedPolicy
