@@ -51,7 +51,9 @@ pub fn value<R: Threads + Wait + Sync, K: Sink, H: Shelf, D: Disk, G: Gate>(
     ensures files { H.files shelf.new ≡ H.files shelf.old }
 {
     match fetch_basis(alloc, basis, shelf) {
-        Ok(basis) => value_by(rt, alloc, on, at, measure, workers, &basis, output, disk, gate),
+        Ok(basis) => value_by(
+            rt, alloc, on, at, measure, workers, &basis, output, disk, gate,
+        ),
         Err(cause) => Finished {
             ending: refuse_basis(alloc, cause, output),
             disk,
@@ -146,7 +148,14 @@ fn write_values<K: Sink>(alloc: Global, on: i32, valuation: &Valuation, output: 
     requires writable { IsWritableBlock valuation.now }
     ensures ends { EndsAnswer on (Ok valuation.now) (between K.faults K.written output.old output.new) result }
 {
-    let text = print_block(alloc, NO_LANE, on, valuation.position, valuation.measure, &valuation.rows);
+    let text = print_block(
+        alloc,
+        NO_LANE,
+        on,
+        valuation.position,
+        valuation.measure,
+        &valuation.rows,
+    );
     write_text(text.map(|text| text.into_vec()), output)
 }
 

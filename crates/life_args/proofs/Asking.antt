@@ -13,7 +13,7 @@ use Rattle.life_args.specs.declared.verb.Verb.TheVariants.{Run, Value, State, Ge
 use Rattle.life_args.specs.Pieces.{WordPiece, bare, apart, joined, flag, spelled, bare_values, option_values, value_under, IsAmong, HasOnly, AtMostOne}
 use Rattle.life_args.specs.Values.{IsPositionOr, AreWorkersOr, IsBasisOr, IsPolicyOr}
 use Rattle.life_args.specs.Words.{AreWords}
-use Rattle.life_args.specs.inside.Lines.{ArePlain, IsPlainText, Names, Spelling, alone_id, line_app, values_of}
+use Rattle.life_args.specs.inside.Lines.{ArePlain, IsPlainText, OptionNames, Spelling, alone_id, line_app, values_of}
 use Rattle.life_args.specs.inside.Verbs.{SaysMode, options_of, verb_of, verb_word}
 use Rattle.life_args.proofs.Rules.{AreGood, IsGood, filled_option, own}
 use Rattle.life_args.proofs.Lines.{differ}
@@ -113,7 +113,7 @@ rest_plain name one value values plain = go (bytes_eq one name) plain
 own_plain : (name value : Text) (values : List Text) → EachPlain (value_under name name value values) → IsPlainText value
 own_plain name value values plain = (subst (λ (t : Bool). EachPlain (cond t (value ∷ values) values)) (own name) plain).0
 
-are_plain : (names : Names) (pieces : List WordPiece) → HasOnly names.valued names.flags pieces → EachPlain (bare_values pieces)
+are_plain : (names : OptionNames) (pieces : List WordPiece) → HasOnly names.valued names.flags pieces → EachPlain (bare_values pieces)
     → ((name : Text) → IsAmong names.valued name → EachPlain (option_values name pieces)) → ArePlain pieces
 are_plain names [] only alone options = tt
 are_plain names (bare value ∷ pieces) only alone options = (alone.0, are_plain names pieces only alone.1 options)
@@ -126,7 +126,7 @@ are_plain names (joined one value ∷ pieces) only alone options =
 are_plain names (flag one ∷ pieces) only alone options =
     are_plain names pieces only.1 alone (λ name among. rest_plain name one [] (option_values name pieces) (options name among))
 
-spelling_of : (names : Names) (words : List Text) (pieces : List WordPiece) → words ≡ spelled pieces → HasOnly names.valued names.flags pieces → EachPlain (bare_values pieces)
+spelling_of : (names : OptionNames) (words : List Text) (pieces : List WordPiece) → words ≡ spelled pieces → HasOnly names.valued names.flags pieces → EachPlain (bare_values pieces)
     → AllOf (λ name. EachPlain (option_values name pieces)) names.valued → Spelling names words pieces
 spelling_of names words pieces spells only alone options =
     record { spells = spells; only = only; plain = are_plain names pieces only alone (each (λ name. EachPlain (option_values name pieces)) names.valued options) }

@@ -7,7 +7,7 @@ use Rattle.clap.specs.Takes.{is_given}
 use Rattle.clap.specs.Kinds.{Kinds, or_else, check_kinds}
 use Rattle.clap.specs.Faults.{built_fault, fault_of, walk_fault, settle_fault, defaults_fault, check_fault, entered_fault, given_default_fault}
 use Rattle.life_args.specs.Pieces.{WordPiece, bare, apart, joined, flag, spelled, bare_values, option_values, value_under, HasOnly}
-use Rattle.life_args.specs.inside.Lines.{ArePlain, IsPlainText, Names, Spelling, alone_id, has_odd, is_odd, line_app, values_of}
+use Rattle.life_args.specs.inside.Lines.{ArePlain, IsPlainText, OptionNames, Spelling, alone_id, has_odd, is_odd, line_app, values_of}
 use Rattle.life_args.proofs.Lexing.{IsOptionName}
 use Rattle.life_args.proofs.Rules.{AreGood, IsGood, add, filled_alone, filled_flag, filled_option, filled_options, own, rules, same}
 use Rattle.life_args.proofs.Steps.{leaf, settles, stand}
@@ -102,7 +102,7 @@ no_defaults [] flags rows = no_flag_defaults flags rows
 no_defaults (name ∷ valued) flags rows =
     ap (λ (r : List Row). fold with_default r (map filled_option valued ++ map filled_flag flags)) (same_either (has_row name rows) rows) ∙ no_defaults valued flags rows
 
-pub all_finished : (names : Names) (rows : List Row) → fold with_default rows (rules names) ≡ rows
+pub all_finished : (names : OptionNames) (rows : List Row) → fold with_default rows (rules names) ≡ rows
 all_finished names rows =
     ap (λ (r : List Row). fold with_default r (map filled_option names.valued ++ map filled_flag names.flags)) (same_either (has_row alone_id rows) rows)
     ∙ no_defaults names.valued names.flags rows
@@ -120,7 +120,7 @@ unfolding defaults_fault
 defaults_fit [] flags rows = flag_defaults_fit flags rows
 defaults_fit (name ∷ valued) flags rows = ap₂ or_else (default_fits (filled_option name) (has_row name rows)) (defaults_fit valued flags (with_default rows (filled_option name)))
 
-all_fit : (names : Names) (rows : List Row) → defaults_fault rows (rules names) ≡ []
+all_fit : (names : OptionNames) (rows : List Row) → defaults_fault rows (rules names) ≡ []
 unfolding defaults_fault
 all_fit names rows = ap₂ or_else (default_fits filled_alone (has_row alone_id rows)) (defaults_fit names.valued names.flags (with_default rows filled_alone))
 
@@ -135,7 +135,7 @@ none_required (name ∷ valued) flags rows = none_required valued flags rows
 
 -- ---- the whole
 
-module _ (names : Names) (good : AreGood names) where
+module _ (names : OptionNames) (good : AreGood names) where
   abbrev app : App
   app = record { top = leaf (rules names); subs = [] }
 

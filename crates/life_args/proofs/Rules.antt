@@ -10,7 +10,7 @@ use Rattle.clap.specs.declared.builder.value_parser.Reading.TheVariants.{AsWritt
 use Rattle.clap.specs.declared.error.kind.ErrorKind.TheVariants.{InvalidValue}
 use Rattle.clap.specs.declared.parser.matches.ValueSource.TheVariants.{CommandLine}
 use Rattle.life_args.specs.Pieces.{IsAmong}
-use Rattle.life_args.specs.inside.Lines.{Names, alone_id, alone_rule, flag_rule, option_rule}
+use Rattle.life_args.specs.inside.Lines.{OptionNames, alone_id, alone_rule, flag_rule, option_rule}
 use Rattle.life_args.proofs.Lexing.{IsOptionName}
 
 abbrev pub filled_alone : Rule
@@ -22,7 +22,7 @@ filled_option name = filled (option_rule name)
 abbrev pub filled_flag : Text → Rule
 filled_flag name = filled (flag_rule name)
 
-abbrev pub rules : Names → List Rule
+abbrev pub rules : OptionNames → List Rule
 rules names = filled_alone ∷ (map filled_option names.valued ++ map filled_flag names.flags)
 
 -- options take no place
@@ -40,7 +40,7 @@ pub record IsGood (name : Text) : Type 0 where
   pub other : bytes_eq alone_id name ≡ false
 
 -- so are all names, and no option that has a value has a flag's name
-pub record AreGood (names : Names) : Type 0 where
+pub record AreGood (names : OptionNames) : Type 0 where
   pub valued : (name : Text) → IsAmong names.valued name → IsGood name
   pub flags : (name : Text) → IsAmong names.flags name → IsGood name
   pub apart : (name : Text) → IsAmong names.flags name → arg_by_long (map filled_option names.valued) name ≡ None
@@ -58,7 +58,7 @@ abbrev pub add : Text → Text → List Row → List Row
 add id value rows = with_values id AsWritten CommandLine (value ∷ []) rows
 
 -- an id of the command, and what its uses come to
-pub record IsKnown (names : Names) (id : Text) : Type 0 where
+pub record IsKnown (names : OptionNames) (id : Text) : Type 0 where
   pub argument : Rule
   pub found : arg_by_id (rules names) id ≡ Some argument
   pub is : argument.id ≡ id
@@ -67,7 +67,7 @@ pub record IsKnown (names : Names) (id : Text) : Type 0 where
   pub fits : (value : Text) (rows : List Row) → use_fault false argument (value ∷ []) rows ≡ []
   pub wants : (rows : List Row) → use_fault false argument [] rows ≡ InvalidValue ∷ []
 
-pub alone_known : (names : Names) → IsKnown names alone_id
+pub alone_known : (names : OptionNames) → IsKnown names alone_id
 alone_known names = record { argument = filled_alone; found = refl; is = refl; one = refl; adds = λ value rows. refl; fits = λ value rows. refl; wants = λ rows. refl }
 
 -- the flag of a name is found by it, where there is one
@@ -99,7 +99,7 @@ longs (one ∷ valued) flags name = go (bytes_eq one name) refl (longs valued fl
     go false e (inr (inl h)) = inr (inl (rw e h.0, h.1))
     go false e (inr (inr h)) = inr (inr (rw e h))
 
-pub long_found : (names : Names) (name : Text)
+pub long_found : (names : OptionNames) (name : Text)
     → ((arg_by_long (rules names) name ≡ Some (filled_option name)) × IsAmong names.valued name)
     ⊎ (((arg_by_long (rules names) name ≡ Some (filled_flag name)) × IsAmong names.flags name) ⊎ (arg_by_long (rules names) name ≡ None))
 long_found names name = longs names.valued names.flags name
@@ -115,7 +115,7 @@ long_in rest (one ∷ valued) name among = go (bytes_eq one name) refl among (lo
     go false e (inl is) more = absurd (true≢false (sym (own name) ∙ ap (λ (n : Text). bytes_eq n name) is ∙ e))
     go false e (inr others) more = rw e (more others)
 
-pub long_is : (names : Names) (name : Text) → IsAmong names.valued name → arg_by_long (rules names) name ≡ Some (filled_option name)
+pub long_is : (names : OptionNames) (name : Text) → IsAmong names.valued name → arg_by_long (rules names) name ≡ Some (filled_option name)
 long_is names name among = long_in (map filled_flag names.flags) names.valued name among
 
 -- and the flag of each name
@@ -129,7 +129,7 @@ flag_in (one ∷ flags) name among = go (bytes_eq one name) refl among (flag_in 
     go false e (inl is) more = absurd (true≢false (sym (own name) ∙ ap (λ (n : Text). bytes_eq n name) is ∙ e))
     go false e (inr others) more = rw e (more others)
 
-pub flag_is : (names : Names) (name : Text) → AreGood names → IsAmong names.flags name → arg_by_long (rules names) name ≡ Some (filled_flag name)
+pub flag_is : (names : OptionNames) (name : Text) → AreGood names → IsAmong names.flags name → arg_by_long (rules names) name ≡ Some (filled_flag name)
 flag_is names name good among =
     find-append _ (map filled_option names.valued) (map filled_flag names.flags) ∙ ap₂ option_or (good.apart name among) (flag_in names.flags name among)
 
@@ -143,6 +143,6 @@ option_is rest (one ∷ valued) name among = go (bytes_eq one name) refl among (
     go false e (inl is) more = absurd (true≢false (sym (own name) ∙ ap (λ (n : Text). bytes_eq n name) is ∙ e))
     go false e (inr others) more = rw e (more others)
 
-pub option_known : (names : Names) (name : Text) → bytes_eq alone_id name ≡ false → IsAmong names.valued name → IsKnown names name
+pub option_known : (names : OptionNames) (name : Text) → bytes_eq alone_id name ≡ false → IsAmong names.valued name → IsKnown names name
 option_known names name other among =
     record { argument = filled_option name; found = rw other (option_is (map filled_flag names.flags) names.valued name among); is = refl; one = refl; adds = λ value rows. refl; fits = λ value rows. refl; wants = λ rows. refl }

@@ -29,7 +29,7 @@ pub measure_refused : (means others deficiencies more : List Text) (found : Foun
 measure_refused means others deficiencies more found r fault is same alike none said = handed_on r fault (AsksFor Value found) is (λ usage one asks.
     let answer = said one asks in
     refusal (IsMeasureBy means deficiencies) fault none usage answer.0
-        (subst (λ vs. IsMeasureBy vs deficiencies answer.0) (sym same) (subst (λ vs. IsMeasureBy others vs answer.0) (sym alike) answer.1)))
+    (subst (λ vs. IsMeasureBy vs deficiencies answer.0) (sym same) (subst (λ vs. IsMeasureBy others vs answer.0) (sym alike) answer.1)))
 
 pub draws_refused : (a b c : Text) (verb : Verb) (found : Found) (r : Result Mode WordsFault) (fault : WordsFault) → IsErrAnd r (λ y. y ≡ fault)
     → GivesAsked (AreDrawn a b c) (Err fault) → ((one : Mode) → AsksFor verb found one → (drawn : ℕ × ℕ × ℕ) × AreDrawn a b c drawn) → GivesAsked (AsksFor verb found) r

@@ -9,7 +9,7 @@ use Rattle.clap.specs.Faults.{settle_fault, turn_fault, use_fault, word_fault, o
 use Rattle.clap.specs.Kinds.{Kinds, or_else}
 use Rattle.clap.specs.declared.error.kind.ErrorKind.{ErrorKind}
 use Rattle.clap.specs.declared.error.kind.ErrorKind.TheVariants.{InvalidValue, TooManyValues, UnknownArgument}
-use Rattle.life_args.specs.inside.Lines.{Names, alone_id}
+use Rattle.life_args.specs.inside.Lines.{OptionNames, alone_id}
 use Rattle.life_args.proofs.Lexing.{IsValueWord, IsNamed}
 use Rattle.life_args.proofs.Rules.{IsKnown, add, filled_alone, filled_flag, filled_option, own, rules}
 
@@ -66,7 +66,7 @@ no_subcommand idle word = refl
 no_subcommand (option id) word = refl
 no_subcommand positional word = refl
 
-module _ (names : Names) where
+module _ (names : OptionNames) where
   abbrev pub c : List Rule
   c = rules names
 

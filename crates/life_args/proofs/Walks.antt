@@ -5,7 +5,7 @@ use Rattle.clap.specs.Faults.{settle_fault, walk_fault}
 use Rattle.clap.specs.Kinds.{Kinds, or_else}
 use Rattle.life_args.specs.Pieces.{WordPiece, bare, flag, spelled, IsAmong, HasOnly}
 use Rattle.life_args.specs.Pieces.{apart as apart_piece, joined as joined_piece}
-use Rattle.life_args.specs.inside.Lines.{ArePlain, Names, Spelling, alone_id, has_odd, is_odd}
+use Rattle.life_args.specs.inside.Lines.{ArePlain, OptionNames, Spelling, alone_id, has_odd, is_odd}
 use Rattle.life_args.proofs.Lexing.{IsNamed, Seen, alone, apart, joined, seen, plain_word, apart_named, joined_named}
 use Rattle.life_args.proofs.Rules.{AreGood, IsKnown, add, alone_known, filled_flag, flag_is, long_found, long_is, option_known}
 use Rattle.life_args.proofs.Steps.{Goes, IsFaulty, IsFree, IsUse, Use, all_rows, c, s, stand, want, no_owing, alone_goes, name_goes, value_goes, joined_goes, flag_goes, unknown_faulty, valued_flag_faulty, wanting_faulty, wanting_flag_faulty, unfilled}
@@ -26,7 +26,7 @@ pub none_first : (a b : Kinds) → or_else a b ≡ [] → a ≡ []
 none_first [] b e = refl
 none_first (k ∷ ks) b e = e
 
-module _ (names : Names) (good : AreGood names) where
+module _ (names : OptionNames) (good : AreGood names) where
   abbrev pub ends : Walk → List Text → Walk
   ends w words = fold (walked (c names) []) w words
 

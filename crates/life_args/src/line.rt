@@ -2,7 +2,7 @@
 ghost use Rattle.std.specs.Prelude.{◌≡◌, [], true, IfOk, false, map, string_bytes};
 ghost use Rattle.clap.specs.Words.{app_of, is_simple_and_free, rule_of};
 ghost use Rattle.life_args.specs.inside.Lines as lines;
-ghost use Rattle.life_args.specs.inside.Lines.{ReadsLine, TakesWords, flag_rule, line_app, no_names, option_rule};
+ghost use Rattle.life_args.specs.inside.Lines.{ReadsLine, TakesWords, flag_rule, line_app, no_option_names, option_rule};
 ghost use Rattle.life_args.specs.inside.Verbs.{options_of};
 
 use crate::fault::WordsFault;
@@ -69,7 +69,7 @@ fn command_of<'a>(alloc: Global, verb: Verb) -> Result<Command<'a>, AllocError>
 }
 
 fn optionless<'a>(alloc: Global) -> Result<Command<'a>, AllocError>
-    ensures { IfOk result (λ command. app_of command ≡ line_app no_names) }
+    ensures { IfOk result (λ command. app_of command ≡ line_app no_option_names) }
 {
     let values = Arg::new(alloc, "values").action(ArgAction::Append);
     Command::new(alloc, "life")

@@ -6,7 +6,8 @@ ghost use Rattle.life_args.specs.inside.Verbs.{AreDrawn, AsksFor};
 use crate::fault::WordsFault;
 use crate::mode::Mode;
 use crate::values::{
-    basis_of, day_of, four, is_empty, measure_of, number_of, one, policy_of, position_of, three, workers_of,
+    basis_of, day_of, four, is_empty, measure_of, number_of, one, policy_of, position_of, three,
+    workers_of,
 };
 use crate::verb::Verb;
 use clap::ArgMatches;

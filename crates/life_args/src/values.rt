@@ -42,10 +42,7 @@ pub fn basis_of(alloc: Global, values: Option<&[&str]>) -> Result<Name, WordsFau
 }
 
 /// The reserve that is asked for, by the uses of `--mean` and those of `--deficiency`: of both flags one at most, once.
-pub fn measure_of(
-    mean: Option<&[&str]>,
-    deficiency: Option<&[&str]>,
-) -> Result<Measure, WordsFault>
+pub fn measure_of(mean: Option<&[&str]>, deficiency: Option<&[&str]>) -> Result<Measure, WordsFault>
     ensures { GivesAsked (IsMeasureBy (texts_of mean.entry) (texts_of deficiency.entry)) result }
 {
     let mean = lone(mean)?;

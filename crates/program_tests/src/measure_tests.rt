@@ -115,13 +115,27 @@ fn measures_stand_beside_options(rt: HostRuntime) -> Result<(), AllocError> {
         valued(
             &[ENDOWMENT, NEXT_YEAR],
             FLAT,
-            &["value", "--at", "1", "--mean", "--workers", "64", "2021-01-01"],
+            &[
+                "value",
+                "--at",
+                "1",
+                "--mean",
+                "--workers",
+                "64",
+                "2021-01-01",
+            ],
             "0,value,2021-01-01,1,1,mean\nrow,7001,inforce,1,563.61,563.62\ntotal,563.61,563.62,0\n",
         ),
         valued(
             &[ENDOWMENT, NEXT_YEAR],
             FLAT,
-            &["value", "2021-01-01", "--basis=basis.csv", "--deficiency", "--at=1"],
+            &[
+                "value",
+                "2021-01-01",
+                "--basis=basis.csv",
+                "--deficiency",
+                "--at=1",
+            ],
             "0,value,2021-01-01,1,1,deficiency\nrow,7001,inforce,1,127.22,127.23,280.00,280.00,short\n\
             total,127.22,127.23,280.00,280.00,0\n",
         ),

@@ -37,7 +37,14 @@ fn asked(alloc: Global, line: &str) -> Result<String, Fail> {
                 Measure::Mean => " mean",
                 Measure::Deficiency => " deficiency",
             };
-            Ok(format!(in alloc; "value {} {} {} {}{}", on, place, workers, basis.text(), flag)?)
+            Ok(format!(in alloc;
+                "value {} {} {} {}{}",
+                on,
+                place,
+                workers,
+                basis.text(),
+                flag
+            )?)
         }
         Ok(Mode::State { id: None }) => Ok(format!(in alloc; "state")?),
         Ok(Mode::State { id: Some(id) }) => Ok(format!(in alloc; "state {}", id)?),

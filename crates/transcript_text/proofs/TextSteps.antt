@@ -11,7 +11,6 @@ use Rattle.policy_types.specs.declared.entry.Reply.{Reply}
 use Rattle.policy_types.specs.declared.script.Line.{Line}
 use Rattle.policy_types.specs.declared.script.Line.TheVariants.{Post, Value, Trim}
 use Rattle.policy_machine.specs.History.{Opening, commands_after}
-use Rattle.policy_value.specs.declared.worth.Measure.TheVariants.{Terminal}
 use Rattle.report_text.specs.Block.{block_text}
 use Rattle.lane_runner.specs.AnsweredLines.{AnsweredLine}
 use Rattle.lane_runner.specs.Transcripts.{AreDry, IsOutcome, IsTold as IsToldOf, lacked_memory}

@@ -38,15 +38,15 @@ ArePlain (joined name value ∷ pieces) = ArePlain pieces
 ArePlain (flag name ∷ pieces) = ArePlain pieces
 
 -- the names of a command's options that have a value, and of its flags
-pub record Names : Type 0 where
+pub record OptionNames : Type 0 where
   pub valued : List Text
   pub flags : List Text
 
-abbrev pub no_names : Names
-no_names = record { valued = []; flags = [] }
+abbrev pub no_option_names : OptionNames
+no_option_names = record { valued = []; flags = [] }
 
 -- the pieces spell the words, and each option has one of these names
-pub record Spelling (names : Names) (words : List Text) (pieces : List WordPiece) : Type 0 where
+pub record Spelling (names : OptionNames) (words : List Text) (pieces : List WordPiece) : Type 0 where
   pub spells : words ≡ spelled pieces
   pub only : HasOnly names.valued names.flags pieces
   pub plain : ArePlain pieces
@@ -69,7 +69,7 @@ abbrev pub alone_rule : Rule
 alone_rule = record (new_rule alone_id) { action = Some Append }
 
 -- a command with neither a name before its words nor a help flag, that takes values alone and these options
-abbrev pub line_app : Names → App
+abbrev pub line_app : OptionNames → App
 line_app names = let app = new_app (codes "life") in record app {
   top = record app.top {
     rules = alone_rule ∷ (map option_rule names.valued ++ map flag_rule names.flags);
@@ -95,12 +95,12 @@ abbrev pub values_of : List WordPiece → Text → List Text
 values_of pieces id = cond (bytes_eq alone_id id) (bare_values pieces) (option_values id pieces)
 
 -- the words are spelled by pieces; and whatever pieces spell them, what was found is theirs
-pub record IsLine (names : Names) (words : List Text) (line : ArgMatches) : Type 0 where
+pub record IsLine (names : OptionNames) (words : List Text) (line : ArgMatches) : Type 0 where
   pub pieces : List WordPiece
   pub spelling : Spelling names words pieces
   pub every : (others : List WordPiece) → Spelling names words others → (id : Text) → values_named (found_of line) id ≡ values_of others id
 
-abbrev pub ReadsLine : Names → List Text → Result ArgMatches WordsFault → Type 0
+abbrev pub ReadsLine : OptionNames → List Text → Result ArgMatches WordsFault → Type 0
 ReadsLine names words (Ok line) = IsLine names words line
 ReadsLine names words (Err Usage) = (pieces : List WordPiece) → Spelling names words pieces → ⊥
 ReadsLine names words (Err NoMemory) = ⊤

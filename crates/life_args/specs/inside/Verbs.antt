@@ -9,7 +9,7 @@ use Rattle.life_args.specs.declared.verb.Verb.{Verb}
 use Rattle.life_args.specs.declared.verb.Verb.TheVariants.{Run, Value, State, Generate, Load}
 use Rattle.life_args.specs.Pieces.{AtMostOne}
 use Rattle.life_args.specs.Values.{IsDayValue, IsPositionOr, AreWorkersOr, IsBasisOr, IsMeasureBy, IsPolicyOr, IsSeed, IsPolicyCount, IsLaneCount, IsWorkerCount}
-use Rattle.life_args.specs.inside.Lines.{GivesAsked, Names, alone_id, no_names, values_named}
+use Rattle.life_args.specs.inside.Lines.{GivesAsked, OptionNames, alone_id, no_option_names, values_named}
 
 abbrev pub verb_word : Verb → List ℕ
 verb_word Run = codes "run"
@@ -26,15 +26,15 @@ verb_of (mode.Generate seed count lanes) = Generate
 verb_of (mode.Load seed count lanes workers) = Load
 
 -- the names of a verb's options
-abbrev pub options_of : Verb → Names
+abbrev pub options_of : Verb → OptionNames
 options_of Run = record { valued = codes "basis" ∷ []; flags = [] }
 options_of Value = record {
   valued = codes "at" ∷ codes "workers" ∷ codes "basis" ∷ [];
   flags = codes "mean" ∷ codes "deficiency" ∷ [];
 }
-options_of State = no_names
-options_of Generate = no_names
-options_of Load = no_names
+options_of State = no_option_names
+options_of Generate = no_option_names
+options_of Load = no_option_names
 
 -- there is just one value, of which this holds
 abbrev pub JustOne : List (List ℕ) → (List ℕ → Type 0) → Type 0

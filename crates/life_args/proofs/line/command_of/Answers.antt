@@ -3,7 +3,7 @@ use Rattle.std.proofs.lemmas.Result.{IfOk-weaker}
 use Rattle.clap.specs.Words.{AddsArg, App, Rule, Text, app_of, rule_of, with_rule}
 use Rattle.clap.specs.declared.builder.arg.Arg.{Arg}
 use Rattle.clap.specs.declared.builder.command.Command.{Command}
-use Rattle.life_args.specs.inside.Lines.{flag_rule, line_app, no_names, option_rule}
+use Rattle.life_args.specs.inside.Lines.{flag_rule, line_app, no_option_names, option_rule}
 use Rattle.life_args.specs.inside.Verbs.{options_of}
 use Rattle.life_args.proofs.line.command_of.Goals as goal
 
@@ -16,7 +16,7 @@ with_options valued flags = line_app (record { valued = valued; flags = flags })
 
 pub returns-in_ok-arg-in-Value-4 : goal.returns-in_ok-arg-in-Value-4
 returns-in_ok-arg-in-Value-4 c =
-    let at_is = adds c.in_ok-command.command c.in_ok-arg-in-Value.field-0 c.option-in-Value.result (line_app no_names) (option_rule (codes "at")) c.in_ok-arg-in-Value.ensures
+    let at_is = adds c.in_ok-command.command c.in_ok-arg-in-Value.field-0 c.option-in-Value.result (line_app no_option_names) (option_rule (codes "at")) c.in_ok-arg-in-Value.ensures
     c.option-in-Value.ensures.local c.in_ok-command.ensures c.option-in-Value.ensures.rule in
     let workers_are = adds c.in_ok-arg-in-Value.field-0 c.in_ok-arg-in-Value-2.field-0 c.option-in-Value-2.result (with_options (codes "at" ∷ []) []) (option_rule (codes "workers")) c.in_ok-arg-in-Value-2.ensures
     c.option-in-Value-2.ensures.local at_is c.option-in-Value-2.ensures.rule in
