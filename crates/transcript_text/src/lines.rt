@@ -18,7 +18,6 @@ use office_state::Answer;
 use policy_types::{Command, Line, NoMemory, PinRefusal, Refusal, Report};
 use program_endings::add;
 use report_text::print_block;
-use snapshot_value::Valuation;
 use std::alloc::Global;
 use text_lines::{LineWriter, Text, kind_word, status_word};
 
@@ -112,9 +111,8 @@ fn value_text(alloc: Global, clerk: u8, on: i32, outcome: &Outcome) -> Result<Te
     ensures { (at : AnAt) (workers : ℕ) → IfOk result (λ text. text ≡ outcome_text clerk (ValueLine on at workers) outcome.now) }
 {
     match outcome {
-        Outcome::Valued(valuation) => {
-            let Valuation { position, measure, rows, .. } = valuation;
-            print_block(alloc, clerk, on, *position, *measure, rows)
+        Outcome::Valued(found) => {
+            print_block(alloc, clerk, on, found.position, found.measure, &found.rows)
         }
         Outcome::ValueRefused(refusal) => unpinned(alloc, clerk, on, *refusal),
         Outcome::ValueNoMemory => unvalued(alloc, clerk, on),
