@@ -1,6 +1,6 @@
 #!/bin/sh
-# Times what opens a journal of 100,000 and of 1,000,000 issues: a run of an empty script, `state`, and `state` of one
-# policy. Prints seconds (medians of three), peak memory and the bytes written. The journal is written in one go by this
+# Times what opens a journal of 100,000, of 1,000,000 and of 4,000,000 issues: a run of an empty script, `state`, and
+# `state` of one policy. Prints seconds (medians of three), peak memory and the bytes written. The journal is written in one go by this
 # script and lies in the system's cache.
 # usage: sh bench/measure_state.sh   (needs python3 and GNU time)
 root=$(cd "$(dirname "$0")/.." && pwd) || exit 2
@@ -20,7 +20,7 @@ def make_journal(count):
         made += (100000).to_bytes(8, "big") + (40000).to_bytes(8, "big") + bytes(36)
     open("journal.life", "wb").write(made + b"\x00")
 
-for count in (100000, 1000000):
+for count in (100000, 1000000, 4000000):
     make_journal(count)
     for words in (["run"], ["state"], ["state", "77"]):
         seconds, peak = [], 0

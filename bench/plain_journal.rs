@@ -1,6 +1,7 @@
 //! The writes and syncs of a run of `life` that makes a journal and posts so many records, and nothing else: no
 //! script, no decisions, no answers. This is what the disk allows, to time beside `life run`. Nothing here is proved.
-//! usage: plain_journal POSTINGS   (the file plain.life of the current folder is written anew)
+//! usage: plain_journal POSTINGS [asked]   (the file plain.life of the current folder is written anew)
+//! With `asked` it also asks what the program asks: for each posting the open file first, the file under the name last.
 use std::fs::{File, OpenOptions};
 use std::io::Result;
 use std::os::unix::fs::FileExt;
@@ -24,13 +25,20 @@ fn create() -> Result<File> {
 
 fn main() -> Result<()> {
     let count: u32 = std::env::args().nth(1).and_then(|word| word.parse().ok()).unwrap_or(20_000);
+    let is_asked = std::env::args().nth(2).is_some_and(|word| word == "asked");
     let file = create()?;
     let mut record = [0; 65];
     record[..4].copy_from_slice(&[1, 3, 0, 3]);
     for n in 0..count {
         record[4..8].copy_from_slice(&(n + 1).to_be_bytes());
+        if is_asked {
+            file.metadata()?;
+        }
         put(&file, 18 + 65 * u64::from(n), &record)?;
         put(&file, 17 + 65 * u64::from(n), &[1])?;
+        if is_asked {
+            std::fs::metadata("plain.life")?;
+        }
     }
     Ok(())
 }

@@ -78,7 +78,8 @@ judge("fresh", HELD + OPENED + created + posted + ENDED)
 judge("again", HELD + OPENED + ENDED)
 PY
 
-# A journal of 20,000 records is read by pieces, twice: for its gates, and for its bodies.
+# A journal of 20,000 records is read by pieces, twice: for its gates, and for its bodies. For the account of one policy
+# all that is done twice.
 begin "a long journal"
 python3 - "$root" <<'PY' || exit 1
 import sys
@@ -91,4 +92,8 @@ strace -f -o reads -e trace=pread64 "$program" state </dev/null >out || complain
 reads=$(grep -c 'pread64(' reads)
 [ "$reads" -le $(($(wc -c <journal.life) / 32768 + 40)) ] || complain "it is opened by $reads reads"
 [ "$(tail -n 1 out)" = count,20000 ] || complain "another number of records"
+strace -f -o reads -e trace=pread64 "$program" state 7 </dev/null >out || complain "its policy isn't written"
+reads=$(grep -c 'pread64(' reads)
+[ "$reads" -le $((2 * ($(wc -c <journal.life) / 32768 + 40))) ] || complain "it is opened and read again by $reads reads"
+[ "$(wc -l <out)" = 2 ] || complain "another account"
 end "the program syncs each write before the next, and its records before its transcript; it reads a journal by pieces"

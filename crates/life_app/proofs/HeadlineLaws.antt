@@ -1,15 +1,13 @@
 -- What is promised of a script's run follows from what the program does
 use Rattle.std.proofs.Common.{◌≡◌, ℕ, ℤ, ◌⊎◌, List, [], ◌∷◌, ◌++◌, length, map, string_bytes, refl, ap, sym, ◌∙◌, subst, inl, inr, append-nil, le_refl, Result, Ok, Err, String, Global}
-use Rattle.std.specs.Prelude.{◌≢◌, take, codes, true, false}
+use Rattle.std.specs.Prelude.{take}
 use Rattle.std.specs.Io.KnownBytes.{Appends}
 use Rattle.std.specs.List.{AllZip, flat_map}
 use Rattle.std.proofs.lemmas.Bool.{false≢true}
 use Rattle.std.proofs.lemmas.List.{take_all}
 use Rattle.std.proofs.lemmas.List.Elements.{filter_map-append}
 use Rattle.basis_book.specs.Dated.{Dated}
-use Rattle.basis_shelf.specs.Bases.{IsBasis}
 use Rattle.basis_shelf.proofs.OneBasis.{one_basis}
-use Rattle.outside_io.specs.Shelves.{Files}
 use Rattle.outside_io.specs.declared.disks.Disk.{Ghosts}
 use Rattle.command_csv.specs.Reads.{Reads}
 use Rattle.command_csv.proofs.OneReading.{one_reading}
@@ -47,7 +45,7 @@ use Rattle.office_state.specs.declared.faults.StartCause.{StartCause}
 use Rattle.office_state.specs.declared.faults.StartCause.TheVariants.{NotAJournal, BadRecord}
 use Rattle.script_run.specs.Outcome.{EndsScript, IsRunOf}
 use Rattle.script_run.specs.Running.{EndsLanes, EndsRun}
-use Rattle.script_run.specs.Script.{EndsUnread, IsReadAs, asks_for_values}
+use Rattle.script_run.specs.Script.{EndsUnread, IsReadAs}
 use Rattle.script_run.proofs.ScriptStatus.{one_whole}
 use Rattle.life_args.proofs.Answering.{ask_once}
 use Rattle.life_args.specs.declared.mode.Mode.{Mode}

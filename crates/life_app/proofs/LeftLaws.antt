@@ -1,7 +1,6 @@
 -- How each mode leaves the disk: by the turns of an office, alone, or untouched
-use Rattle.std.proofs.Common.{◌≡◌, ℕ, ℤ, ◌⊎◌, List, [], refl, inl, inr, None, Some, String, Global}
+use Rattle.std.proofs.Common.{◌≡◌, ℕ, ℤ, List, [], refl, inl, inr, None, Some, String, Global}
 use Rattle.outside_io.specs.declared.disks.Disk.{Ghosts}
-use Rattle.policy_types.specs.declared.command.Command.{Command}
 use Rattle.policy_types.specs.declared.entry.At.{At}
 use Rattle.policy_types.specs.declared.entry.Entry.{Entry}
 use Rattle.policy_types.specs.declared.script.Lane.{Lane}

@@ -1,5 +1,5 @@
 -- What the exit status tells of the words, the script, the basis and the file
-use Rattle.std.proofs.Common.{◌≡◌, ℕ, ◌≤◌, ◌<◌, ◌⊎◌, ℤ, List, length, map, string_bytes, ⊎_elim, refl, ap, subst, inl, inr, None, Some, String, Global, codes, arith}
+use Rattle.std.proofs.Common.{◌≡◌, ℕ, ◌≤◌, ◌<◌, ◌⊎◌, ℤ, List, length, map, string_bytes, ⊎_elim, refl, ap, subst, inl, inr, None, Some, String, Global, codes}
 use Rattle.std.specs.Prelude.{true}
 use Rattle.outside_io.specs.declared.disks.Disk.{Ghosts}
 use Rattle.outside_io.specs.Faults.{Rose}
@@ -7,7 +7,7 @@ use Rattle.outside_io.specs.Shelves.{Files}
 use Rattle.outside_io.specs.Streams.{GivesMore}
 use Rattle.policy_types.specs.declared.command.Command.{Command}
 use Rattle.policy_types.specs.declared.entry.At.{At}
-use Rattle.policy_types.specs.declared.entry.At.TheVariants.{Now, Position}
+use Rattle.policy_types.specs.declared.entry.At.TheVariants.{Position}
 use Rattle.policy_types.specs.declared.script.Lane.{Lane}
 use Rattle.watcher_set.specs.Noted.{Auditor}
 use Rattle.basis_book.specs.Dated.{Dated}
@@ -25,15 +25,14 @@ use Rattle.program_endings.specs.declared.ending.Ending.TheVariants.{Done, Usage
 use Rattle.program_endings.specs.Status.{status_of}
 use Rattle.program_endings.specs.WithoutBasis.{SaysBadFile}
 use Rattle.program_endings.specs.Writing.{Input, IsWholeInput, Shelving, Stream}
-use Rattle.program_endings.proofs.StatusSteps.{ending_at}
 use Rattle.script_run.specs.Running.{EndsRun, HasItsBasis}
 use Rattle.script_run.specs.Script.{IsUnreadable, asks_for_values}
-use Rattle.script_run.proofs.RunStatus.{run_ahead, run_as_before, run_bad_file, run_refused, run_to_end, run_too_long, run_unfit, run_unreadable, run_usage}
+use Rattle.script_run.proofs.RunStatus.{run_as_before, run_refused, run_to_end, run_too_long, run_unfit, run_unreadable}
 use Rattle.book_state.specs.Books.{books_text, policy_account}
 use Rattle.book_state.proofs.StateStatus.{state_as_before, state_refused, state_to_end}
-use Rattle.book_value.specs.Valuing.{EndsValue, IsAhead, position_of}
-use Rattle.book_value.proofs.ValueStatus.{value_ahead, value_as_before, value_bad_file, value_beyond, value_refused, value_to_end, value_unfit, value_usage}
-use Rattle.trial_load.proofs.LoadStatus.{generate_to_end, load_ahead, load_as_before, load_bad_file, load_refused, load_to_end, load_unfit, load_usage}
+use Rattle.book_value.specs.Valuing.{EndsValue, position_of}
+use Rattle.book_value.proofs.ValueStatus.{value_as_before, value_beyond, value_refused, value_to_end, value_unfit}
+use Rattle.trial_load.proofs.LoadStatus.{generate_to_end, load_as_before, load_refused, load_to_end, load_unfit}
 use Rattle.life_app.specs.Needs.{filing_between}
 use Rattle.life_app.specs.Due.{HasBasis, HasItsJournal, HasItsNeeds, HasNoScript, IsDueEnding, IsHeld, LacksItsBasis, LacksItsJournal}
 use Rattle.life_app.specs.Obeys.{Does, EndsMode, SaysUnasked}

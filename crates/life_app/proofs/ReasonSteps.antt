@@ -1,5 +1,5 @@
 -- Each ending of a mode has its reason
-use Rattle.std.proofs.Common.{◌≡◌, ℕ, ℤ, ◌⊎◌, List, refl, sym, subst, inl, inr, None, Some, String, Global, codes, arith}
+use Rattle.std.proofs.Common.{◌≡◌, ℕ, ℤ, List, refl, sym, subst, inl, inr, None, Some, String, Global, codes, arith}
 use Rattle.std.specs.Prelude.{true}
 use Rattle.outside_io.specs.declared.disks.Disk.{Ghosts}
 use Rattle.policy_types.specs.declared.entry.At.{At}
@@ -11,13 +11,13 @@ use Rattle.life_args.specs.Words.{AskFor}
 use Rattle.life_args.specs.declared.mode.Mode.{Mode}
 use Rattle.life_args.specs.declared.mode.Mode.TheVariants.{Run, Value, State, Generate, Load}
 use Rattle.program_endings.specs.declared.ending.Ending.{Ending}
-use Rattle.program_endings.specs.declared.ending.Ending.TheVariants.{Done, Usage, BadScript, BadBasis, BadJournal, ReadFault, WriteFault, DiskFault, NoMemory, Ahead}
+use Rattle.program_endings.specs.declared.ending.Ending.TheVariants.{Done, Usage, BadScript, BadBasis, BadJournal, ReadFault, WriteFault, DiskFault, NoMemory}
 use Rattle.program_endings.specs.Refusals.{IsRefusedJournal}
 use Rattle.program_endings.specs.Texts.{EndsReadOnly}
 use Rattle.program_endings.specs.WithoutBasis.{EndsNoBasis}
 use Rattle.program_endings.specs.Writing.{Input, Shelving, Stream}
 use Rattle.script_run.specs.Outcome.{EndsScript}
-use Rattle.script_run.specs.Running.{EndsLanes, EndsRun, ReadsForValues}
+use Rattle.script_run.specs.Running.{EndsLanes, EndsRun}
 use Rattle.script_run.specs.Script.{EndsUnread, asks_for_values}
 use Rattle.book_state.specs.Books.{books_text, policy_account}
 use Rattle.book_state.specs.Stating.{IsStated}

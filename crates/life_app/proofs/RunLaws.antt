@@ -5,12 +5,12 @@ use Rattle.std.proofs.lemmas.List.Elements.{filter_map-append}
 use Rattle.outside_io.specs.declared.disks.Disk.{Ghosts}
 use Rattle.policy_types.specs.declared.command.Command.{Command}
 use Rattle.policy_types.specs.declared.entry.Entry.{Entry}
-use Rattle.policy_machine.specs.History.{Opening, accepted_by, accepted_of, commands_after}
+use Rattle.policy_machine.specs.History.{accepted_by, accepted_of, commands_after}
 use Rattle.posting_journal.specs.Runs.{IsSafe}
-use Rattle.office_state.specs.Images.{HoldsNow, HoldsOnce, IsLeftAlone, IsLeftBy, IsOneMore, OpensAlike}
+use Rattle.office_state.specs.Images.{HoldsOnce, IsLeftAlone, IsLeftBy, IsOneMore}
 use Rattle.office_state.specs.Journals.{Opens}
 use Rattle.office_state.proofs.JournalLaws.{opens_to_one}
-use Rattle.life_app.specs.Runs.{AddsCommands, AreLeft, AreRuns, HasAnsweredSome, HasReturned, IsLeftSo, IsRunOn, OneRun, WasCut}
+use Rattle.life_app.specs.Runs.{AddsCommands, AreLeft, AreRuns, HasReturned, IsLeftSo, OneRun, WasCut}
 use Rattle.life_app.proofs.HeadlineLaws.{faulted_last}
 
 -- Each image that a disk may leave opens to commands with P: these, or these and one more.

@@ -22,12 +22,12 @@ use Rattle.policy_types.specs.declared.script.Line.TheVariants.{Post, Value, Tri
 use Rattle.policy_types.specs.declared.script.Lane.{Lane}
 use Rattle.policy_machine.specs.Book.{book}
 use Rattle.policy_machine.specs.History.{IsLegal, accepted_of, opened_on}
-use Rattle.policy_value.specs.Rows.{IsInsured, IsYear}
+use Rattle.policy_value.specs.Rows.{IsInsured, IsYear, exact_reserve}
 use Rattle.policy_value.specs.declared.worth.Row.{Row}
 use Rattle.policy_value.specs.declared.worth.Worth.{Worth}
 use Rattle.policy_value.specs.declared.worth.Worth.TheVariants.{Bounds, Word}
 use Rattle.present_value.specs.Premium.{cap_of}
-use Rattle.present_value.specs.Reserve.{Encloses, reserve}
+use Rattle.present_value.specs.Reserve.{Encloses}
 use Rattle.present_value.specs.Sums.{cover_of}
 use Rattle.rate_table.specs.declared.shape.Shape.{Shape}
 use Rattle.lane_runner.specs.AnsweredLines.{AnsweredLine, AreLinesOf}
@@ -41,12 +41,13 @@ use Rattle.script_run.specs.Script.{asks_for_values}
 abbrev pub IsWorthBy : Policy → Dated → ℤ → Result Shape NotValued → ℕ → Worth → Type 0
 IsWorthBy policy entry on (Ok shape) t (Bounds lo hi) =
     IsYear policy.issued on shape.n t
-    × Encloses lo hi policy.amount (reserve (cover_of entry.table shape entry.bp) (cap_of entry.table shape.age entry.bp) t)
+    × Encloses lo hi policy.amount
+    (exact_reserve policy.status (cover_of entry.table shape entry.bp) (cap_of entry.table shape.age entry.bp) t)
 IsWorthBy policy entry on (Err word) t (Word why) = why ≡ word
 IsWorthBy _ _ _ _ _ _ = ⊥
 
--- The row of a policy on a day. One that is in force, and issued by then, is worth what the last entry says that had begun
--- on its day of issue; any other is worth nothing.
+-- The row of a policy on a day. One that is in force or paid up, and issued by then, is worth what the last entry says that
+-- had begun on its day of issue; any other is worth nothing.
 pub record IsEnclosingRow (basis : List Dated) (on : ℤ) (policy : Policy) (row : Row) : Type 0 where
   pub id : row.id ≡ policy.id
   pub status : row.status ≡ policy.status

@@ -1,18 +1,20 @@
 // The whole text of a valuation.
 ghost use Rattle.std.specs.Prelude.{◌≡◌, ◌≤◌, ◌++◌, length, IfOk, OnOk};
 ghost use Rattle.life_dates.specs.Calendar.{IsDay};
-ghost use Rattle.report_text.specs.Block.{heading_text, block_text, AreSummable};
+ghost use Rattle.text_lines.specs.Lines.{behind_commas};
+ghost use Rattle.report_text.specs.Block.{heading_text, measure_fields, block_text, AreSummable};
 
 use crate::rows::write_row;
 use crate::totals::write_total;
 use itoa::Buffer;
 use policy_types::NoMemory;
-use policy_value::Rows;
+use policy_value::{Measure, Rows};
 use std::alloc::Global;
 use text_lines::{LineWriter, Text};
 
 /// The whole of a valuation: a line like `1,value,2021-01-01,300,25`, with the lane that asked for it, its day,
-/// the position of the journal that is valued and the number of policies; then their rows and the total.
+/// the position of the journal that is valued and the number of policies, and `mean` or `deficiency` where that is the
+/// measure; then their rows and the total.
 ///
 /// A valuation that no lane asked for has the lane 0.
 pub fn print_block(
@@ -20,19 +22,21 @@ pub fn print_block(
     lane: u8,
     on: i32,
     position: u32,
+    measure: Measure,
     rows: &Rows,
 ) -> Result<Text, NoMemory>
     requires on { IsDay on }
     requires few { length rows.now ≤ 4000000 }
     requires bounded { AreSummable rows.now }
-    ensures { IfOk result (λ text. text ≡ block_text lane on position rows.now) }
+    ensures { IfOk result (λ text. text ≡ block_text lane on position measure rows.now) }
 {
     let mut lines = LineWriter::new(alloc);
-    write_heading(&mut lines, lane, on, position, rows.as_slice().len() as u32)?;
+    let policies = rows.as_slice().len() as u32;
+    write_heading(&mut lines, lane, on, position, policies, measure)?;
     for row in rows.as_slice() {
         write_row(&mut lines, row)?;
     }
-    write_total(&mut lines, rows)?;
+    write_total(&mut lines, rows, measure)?;
     Ok(lines.into_text())
 }
 
@@ -44,9 +48,10 @@ fn write_heading(
     on: i32,
     position: u32,
     policies: u32,
+    measure: Measure,
 ) -> Result<(), NoMemory>
     requires { IsDay on }
-    ensures { OnOk result (lines.new ≡ lines.old ++ heading_text lane on position policies) }
+    ensures { OnOk result (lines.new ≡ lines.old ++ heading_text lane on position policies measure) }
 {
     let mut buffer = Buffer::new();
     lines.first(buffer.format(lane))?;
@@ -54,5 +59,17 @@ fn write_heading(
     lines.day(on)?;
     lines.number(position)?;
     lines.number(policies)?;
+    write_measure(lines, measure)?;
     lines.end()
+}
+
+// Adds the measure, where it isn't the terminal reserve.
+fn write_measure(lines: &mut LineWriter, measure: Measure) -> Result<(), NoMemory>
+    ensures { OnOk result (lines.new ≡ lines.old ++ behind_commas (measure_fields measure)) }
+{
+    match measure {
+        Measure::Terminal => Ok(()),
+        Measure::Mean => lines.word("mean"),
+        Measure::Deficiency => lines.word("deficiency"),
+    }
 }

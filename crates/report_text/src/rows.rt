@@ -5,11 +5,12 @@ ghost use Rattle.report_text.specs.Block as spec;
 ghost use Rattle.report_text.specs.Block.{row_text, worth_fields, IsSummable};
 
 use policy_types::NoMemory;
-use policy_value::{NotValued, Row, Worth};
+use policy_value::{Adequacy, NotValued, Row, Worth};
 use std::alloc::Global;
 use text_lines::{LineWriter, Text, status_word};
 
-/// The row of a policy, as `row,7001,inforce,1,127.22,127.23`, or with a word for why it has no value, as
+/// The row of a policy, as `row,7001,inforce,1,127.22,127.23`, with the minimum reserve as
+/// `row,7001,inforce,1,127.22,127.23,280.00,280.00,short`, or with a word for why it has no value, as
 /// `row,7001,inforce,0,pasttable`. It ends with a line feed.
 pub fn print_row(alloc: Global, row: &Row) -> Result<Text, NoMemory>
     requires { IsSummable row.now.worth }
@@ -34,7 +35,7 @@ pub fn write_row(lines: &mut LineWriter, row: &Row) -> Result<(), NoMemory>
     lines.end()
 }
 
-// Adds the bounds, or the word.
+// Adds the bounds, and those of the minimum reserve, or the word.
 fn write_worth(lines: &mut LineWriter, worth: Worth) -> Result<(), NoMemory>
     requires { IsSummable worth }
     ensures { OnOk result (lines.new ≡ lines.old ++ behind_commas (worth_fields worth)) }
@@ -44,7 +45,31 @@ fn write_worth(lines: &mut LineWriter, worth: Worth) -> Result<(), NoMemory>
             lines.cents(lo as i64)?;
             lines.cents(hi as i64)
         }
+        Worth::Both {
+            lo,
+            hi,
+            min_lo,
+            min_hi,
+            test,
+        } => {
+            lines.cents(lo as i64)?;
+            lines.cents(hi as i64)?;
+            lines.cents(min_lo as i64)?;
+            lines.cents(min_hi as i64)?;
+            lines.word(adequacy_word(test))
+        }
         Worth::Word(reason) => lines.word(reason_word(reason)),
+    }
+}
+
+// The word for how a premium lies to the net premium.
+fn adequacy_word(test: Adequacy) -> &'static str
+    ensures { result.now ≡ spec.adequacy_word test }
+{
+    match test {
+        Adequacy::Short => "short",
+        Adequacy::Enough => "enough",
+        Adequacy::Close => "close",
     }
 }
 

@@ -2,7 +2,7 @@ ghost use Rattle.std.specs.Prelude.{IsTrue, length, ◌≤◌};
 ghost use Rattle.report_text.specs.Block.{IsSummable, AreSummable};
 
 use policy_types::Status;
-use policy_value::{NotValued, Row, Rows, Worth};
+use policy_value::{Adequacy, Measure, NotValued, Row, Rows, Worth};
 use report_text::{Totals, print_block, print_row, print_total};
 use std::alloc::Global;
 use std::test::Fail;
@@ -29,11 +29,32 @@ fn valued(t: u8, lo: u64, hi: u64) -> Row {
     row(t, Worth::Bounds { lo, hi })
 }
 
+/// A row with bounds of the minimum reserve, too.
+fn both(t: u8, lo: u64, hi: u64, min_lo: u64, min_hi: u64, test: Adequacy) -> Row {
+    row(
+        t,
+        Worth::Both {
+            lo,
+            hi,
+            min_lo,
+            min_hi,
+            test,
+        },
+    )
+}
+
 fn is_summable(worth: Worth) -> bool
     ensures { IsTrue result → IsSummable worth }
 {
     match worth {
         Worth::Bounds { lo, hi } => lo <= GREATEST && hi <= GREATEST,
+        Worth::Both {
+            lo,
+            hi,
+            min_lo,
+            min_hi,
+            test: _,
+        } => lo <= GREATEST && hi <= GREATEST && min_lo <= GREATEST && min_hi <= GREATEST,
         Worth::Word(_) => true,
     }
 }
@@ -105,6 +126,19 @@ fn rows(rt: HostRuntime) -> Result<(), Fail> {
         (matured, "row,7001,matured,0,0.00,0.00\n"),
         (expired, "row,7001,expired,0,0.00,0.00\n"),
         (settled, "row,7001,settled,0,0.00,0.00\n"),
+        // the minimum reserve, too: a premium that is short, one that is enough, one of which the bounds don't tell
+        (
+            both(1, 12_722, 12_723, 28_000, 28_000, Adequacy::Short),
+            "row,7001,inforce,1,127.22,127.23,280.00,280.00,short\n",
+        ),
+        (
+            both(1, 12_722, 12_723, 12_722, 12_723, Adequacy::Enough),
+            "row,7001,inforce,1,127.22,127.23,127.22,127.23,enough\n",
+        ),
+        (
+            both(131, GREATEST, GREATEST, GREATEST, GREATEST, Adequacy::Close),
+            "row,7001,inforce,131,200000000.00,200000000.00,200000000.00,200000000.00,close\n",
+        ),
         (
             last,
             "row,4294967295,inforce,131,200000000.00,200000000.00\n",
@@ -122,33 +156,67 @@ fn rows(rt: HostRuntime) -> Result<(), Fail> {
 // The totals of none, of 300 policies, of policies without a value, and at the limits.
 #[test]
 fn totals(rt: HostRuntime) -> Result<(), Fail> {
-    for (count, row, expected) in [
-        (0, valued(1, 12_722, 12_723), "total,0.00,0.00,0\n"),
-        (1, valued(0, 0, 0), "total,0.00,0.00,0\n"),
+    for (count, row, measure, expected) in [
+        (
+            0,
+            valued(1, 12_722, 12_723),
+            Measure::Terminal,
+            "total,0.00,0.00,0\n",
+        ),
+        (1, valued(0, 0, 0), Measure::Terminal, "total,0.00,0.00,0\n"),
         (
             1,
             row(0, Worth::Word(NotValued::PastTable)),
+            Measure::Terminal,
             "total,0.00,0.00,1\n",
         ),
         (
             300,
             valued(1, 12_722, 12_723),
+            Measure::Terminal,
             "total,38166.00,38169.00,0\n",
         ),
         (
             MOST_ROWS,
             valued(131, GREATEST - 1, GREATEST),
+            Measure::Terminal,
             "total,799999999960000.00,800000000000000.00,0\n",
         ),
         (
             MOST_ROWS,
             row(0, Worth::Word(NotValued::NoBasis)),
+            Measure::Terminal,
             "total,0.00,0.00,4000000\n",
+        ),
+        // by the measure of deficiency with the minimum reserves, which rows without bounds don't show
+        (
+            1,
+            row(0, Worth::Word(NotValued::PastTable)),
+            Measure::Deficiency,
+            "total,0.00,0.00,0.00,0.00,1\n",
+        ),
+        (
+            1,
+            row(0, Worth::Word(NotValued::PastTable)),
+            Measure::Mean,
+            "total,0.00,0.00,1\n",
+        ),
+        (
+            300,
+            both(1, 12_722, 12_723, 28_000, 28_001, Adequacy::Short),
+            Measure::Deficiency,
+            "total,38166.00,38169.00,84000.00,84003.00,0\n",
+        ),
+        (
+            MOST_ROWS,
+            both(131, 0, 1, GREATEST - 1, GREATEST, Adequacy::Short),
+            Measure::Deficiency,
+            "total,0.00,40000.00,799999999960000.00,800000000000000.00,0\n",
         ),
     ] {
         let rows = copies(rt.alloc(), count, row)?;
         assert!(rt; are_summable(&rows));
-        let Ok(text) = print_total(rt.alloc(), &rows) else {
+        let Ok(text) = print_total(rt.alloc(), &rows, measure) else {
             return Err("memory for a total".into());
         };
         assert_eq!(rt; text.as_slice(), expected.as_bytes());
@@ -158,23 +226,26 @@ fn totals(rt: HostRuntime) -> Result<(), Fail> {
     let expected = Totals {
         lower: 3_816_600,
         upper: 3_816_900,
+        lower_minimum: 3_816_600,
+        upper_minimum: 3_816_900,
         unvalued: 0,
     };
     assert_eq!(rt; Totals::of(&rows), expected);
     Ok(())
 }
 
-// Whole valuations: of no policy, of one, and of some of which one has no value.
+// Whole valuations: of no policy, of one, of some of which one has no value, and by each measure.
 #[test]
 fn blocks(rt: HostRuntime) -> Result<(), Fail> {
     let endowment = valued(1, 12_722, 12_723);
     let mut past_the_table = row(0, Worth::Word(NotValued::PastTable));
     past_the_table.id = 7002;
-    for (lane, on, position, rows, expected) in [
+    for (lane, on, position, measure, rows, expected) in [
         (
             0,
             ON,
             0,
+            Measure::Terminal,
             [].as_slice(),
             "0,value,2021-01-01,0,0\ntotal,0.00,0.00,0\n",
         ),
@@ -182,6 +253,7 @@ fn blocks(rt: HostRuntime) -> Result<(), Fail> {
             1,
             ON,
             1,
+            Measure::Terminal,
             [endowment].as_slice(),
             "1,value,2021-01-01,1,1\nrow,7001,inforce,1,127.22,127.23\ntotal,127.22,127.23,0\n",
         ),
@@ -189,14 +261,40 @@ fn blocks(rt: HostRuntime) -> Result<(), Fail> {
             8,
             84_005,
             4_000_000,
+            Measure::Terminal,
             [endowment, past_the_table, endowment].as_slice(),
             "8,value,2199-12-31,4000000,3\nrow,7001,inforce,1,127.22,127.23\nrow,7002,inforce,0,pasttable\n\
                 row,7001,inforce,1,127.22,127.23\ntotal,254.44,254.46,1\n",
         ),
+        (
+            0,
+            ON - 1,
+            1,
+            Measure::Mean,
+            [valued(0, 17_086, 17_087)].as_slice(),
+            "0,value,2020-12-31,1,1,mean\nrow,7001,inforce,0,170.86,170.87\ntotal,170.86,170.87,0\n",
+        ),
+        (
+            0,
+            ON,
+            1,
+            Measure::Deficiency,
+            [both(1, 12_722, 12_723, 28_000, 28_000, Adequacy::Short)].as_slice(),
+            "0,value,2021-01-01,1,1,deficiency\nrow,7001,inforce,1,127.22,127.23,280.00,280.00,short\n\
+                total,127.22,127.23,280.00,280.00,0\n",
+        ),
+        (
+            0,
+            ON,
+            0,
+            Measure::Deficiency,
+            [].as_slice(),
+            "0,value,2021-01-01,0,0,deficiency\ntotal,0.00,0.00,0.00,0.00,0\n",
+        ),
     ] {
         let rows = Rows::new(rows.to_vec(rt.alloc())?);
         assert!(rt; are_summable(&rows));
-        let Ok(text) = print_block(rt.alloc(), lane, on, position, &rows) else {
+        let Ok(text) = print_block(rt.alloc(), lane, on, position, measure, &rows) else {
             return Err("memory for a block".into());
         };
         assert_eq!(rt; text.as_slice(), expected.as_bytes());
@@ -210,7 +308,7 @@ fn blocks(rt: HostRuntime) -> Result<(), Fail> {
 fn most_policies(rt: HostRuntime) -> Result<(), Fail> {
     let rows = copies(rt.alloc(), MOST_ROWS, valued(1, GREATEST, GREATEST))?;
     assert!(rt; are_summable(&rows));
-    let Ok(text) = print_block(rt.alloc(), 8, -25_567, MOST_ROWS, &rows) else {
+    let Ok(text) = print_block(rt.alloc(), 8, -25_567, MOST_ROWS, Measure::Terminal, &rows) else {
         return Err("memory for the longest block".into());
     };
     let start =

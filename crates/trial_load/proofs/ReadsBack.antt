@@ -1,19 +1,19 @@
 -- The generated text reads back as its rows, and these as the generated lanes
-use Rattle.std.proofs.Common.{◌≡◌, ℕ, zero, suc, ◌+◌, ◌*◌, ◌/◌, ◌-◌, ◌%◌, ◌^◌, ◌<◌, ◌≤◌, ◌==◌, ◌⊎◌, ℤ, Bool, true, false, List, [], ◌∷◌, ◌++◌, length, map, refl, ap, sym, ◌∙◌, subst, inl, inr, cond, arith, add-one, append-nil, append_assoc}
-use Rattle.std.specs.Prelude.{decimal, codes, Some, None, Option}
-use Rattle.std.specs.List.{AllByRecursion, AllZip, filter, flat_map, list_any}
-use Rattle.std.proofs.lemmas.Bool.{cases_Bool, cases_lt, eq-eqb, ne_eqb}
+use Rattle.std.proofs.Common.{◌≡◌, ℕ, zero, suc, ◌+◌, ◌/◌, ◌%◌, ◌^◌, ◌<◌, ◌≤◌, ◌==◌, ℤ, false, List, [], ◌∷◌, ◌++◌, length, map, refl, ap, sym, ◌∙◌, subst, inl, inr, arith, add-one, append-nil}
+use Rattle.std.specs.Prelude.{decimal, Some, None, Option}
+use Rattle.std.specs.List.{AllByRecursion, AllZip, flat_map, list_any}
+use Rattle.std.proofs.lemmas.Bool.{cases_Bool, cases_lt, ne_eqb}
 use Rattle.std.specs.Int.Digits.{digits_of}
 use Rattle.std.proofs.lemmas.Fmt.{decimal_digit, decimal-digits_of}
 use Rattle.std.proofs.lemmas.List.{length-append}
 use Rattle.std.proofs.lemmas.List.Folds.{list_any-append}
 use Rattle.csv.specs.Machine.{next_record}
-use Rattle.csv.specs.Reading.{default_config, records, records_from, strip_bom}
-use Rattle.csv.specs.Writing.{default_writer, field_text, fields_text, is_blank, needs_byte, row_text}
+use Rattle.csv.specs.Reading.{default_config, records_from, strip_bom}
+use Rattle.csv.specs.Writing.{default_writer, fields_text, is_blank, needs_byte, row_text}
 use Rattle.csv.specs.declared.parser.State.TheVariants as st
 use Rattle.csv.proofs.RoundTrip.{read-write-many}
 use Rattle.life_dates.specs.Calendar.{Date, date_of}
-use Rattle.life_dates.specs.DayText.{date_text, day_text, two_digits}
+use Rattle.life_dates.specs.DayText.{date_text, day_text}
 use Rattle.money_core.specs.CentsText.{cents_text, hundredths_text}
 use Rattle.text_lines.specs.Lines.{behind_commas, line_of}
 use Rattle.text_lines.specs.Fields.{day_fields, entry_fields, term_fields}
@@ -27,7 +27,7 @@ use Rattle.policy_types.specs.declared.script.Lane.{Lane}
 use Rattle.policy_types.specs.declared.script.Line.{Line}
 use Rattle.policy_types.specs.declared.script.Line.TheVariants.{Post}
 use Rattle.command_csv.specs.declared.row.ClerkLine.{ClerkLine}
-use Rattle.command_csv.specs.Reads.{IsLineRow, Reads, all_lines, lane_of, lanes_of, lanes_up_to, lines_of, valuations_in}
+use Rattle.command_csv.specs.Reads.{IsLineRow, Reads, all_lines, lane_of, lanes_up_to, lines_of, valuations_in}
 use Rattle.command_csv.specs.Rows.{rows_of}
 use Rattle.command_csv.specs.Spelling.{row_fields}
 use Rattle.load_maker.specs.GeneratedLanes.{dealt_lanes, dealt_lines, generated_lanes, lane_with}

@@ -6,4 +6,4 @@ use Rattle.report_text.proofs.block.print_block.Given as goal
 abbrev pub invariant-loop-row : goal.invariant-loop-row
 invariant-loop-row l =
     l.lines
-    ≡ heading_text l.lane l.on l.position (length l.rows) ++ flat_map row_text (take l.row-index l.rows)
+    ≡ heading_text l.lane l.on l.position (length l.rows) l.measure ++ flat_map row_text (take l.row-index l.rows)

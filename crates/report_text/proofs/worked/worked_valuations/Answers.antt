@@ -24,3 +24,15 @@ returns-clause-two c = refl
 pub returns-clause-paid_up : goal.returns-clause-paid_up
 unfolding row_text digits
 returns-clause-paid_up c = (refl, refl)
+
+pub returns-clause-deficiency_rows : goal.returns-clause-deficiency_rows
+unfolding row_text digits
+returns-clause-deficiency_rows c = (refl, refl, refl)
+
+pub returns-clause-deficiency_totals : goal.returns-clause-deficiency_totals
+unfolding total_text digits
+returns-clause-deficiency_totals c = (refl, refl, refl, refl)
+
+pub returns-clause-measures : goal.returns-clause-measures
+unfolding heading_text row_text total_text day_text date_of date_at year_of month_of days_before_year days_of_months digits
+returns-clause-measures c = (refl, refl)
