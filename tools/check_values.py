@@ -1,73 +1,107 @@
 #!/usr/bin/env python3
 """Works out anew, in exact fractions, every row of a valuation that `life value` printed, and compares.
 
-The basis file's tables are read from its folder. Written from docs/FORMATS.md and from the public standards alone, so
-that the program can be checked without it. It ends with status 1 and says where a row or the total isn't as it must be.
+The first line names the measure: mean, deficiency, or none where the reserves are terminal. The basis file's tables are
+read from its folder. Written from docs/FORMATS.md and from the public standards alone, so that the program can be
+checked without it. It ends with status 1 and says where a row or the total isn't as it must be.
 """
 from __future__ import annotations
 
 import argparse
+import datetime
+from fractions import Fraction
 from typing import Sequence
 
-from formats import Wrong, bytes_of, complain, day_in, demand, money, number_of, printed_cents, printed_rows
+from formats import Wrong, bytes_of, complain, day_in, demand, measure_of, money, number_of, printed_cents, printed_rows
 from journals import journal_at
-from reserves import Known, worth
+from reserves import Known, minimum_worth, worth
 from rules import Book, Policy
 from tables import BasisRow, read_basis
 
 # a lower and an upper bound lie at most so many cents apart
 WIDEST = 2
+# and those of a net premium of 1 so much
+WIDEST_PREMIUM = Fraction(100_000, 10**16)
 
 
 class Totals:
     """The sums of the bounds of the rows so far, and the number of rows with a word."""
 
-    def __init__(self) -> None:
-        self.lower = self.upper = self.words = 0
+    def __init__(self, measure: str) -> None:
+        self.sums = [0] * (4 if measure == "deficiency" else 2)
+        self.words = 0
+
+    def add(self, bounds: Sequence[int]) -> None:
+        self.sums = [one + other for one, other in zip(self.sums, bounds)]
 
     def line(self) -> list[str]:
-        return ["total", money(self.lower), money(self.upper), str(self.words)]
+        return ["total", *(money(cents) for cents in self.sums), str(self.words)]
 
 
-def check_row(row: list[str], policy: Policy, wanted: tuple, totals: Totals) -> None:
-    """Demands that a printed row is the policy's, by its year and its exact value in cents or the word."""
-    year, exact = wanted
+def demand_encloses(lower: int, upper: int, exact: Fraction, row: list[str]) -> None:
+    demand(lower <= exact <= upper <= lower + WIDEST,
+           f"{','.join(row)} doesn't enclose the exact value, which is {float(exact / 100):.6f}")
+
+
+def check_minimum(row: list[str], bounds: Sequence[int], minimum: tuple[Fraction, Fraction] | None, policy: Policy) -> None:
+    """Demands that the minimum bounds and the last word are those of a policy's premium."""
+    word = row[-1]
+    if minimum is None:
+        is_right = word == "enough" and bounds[:2] == bounds[2:]
+        demand(is_right, f"{','.join(row)}: no premium of policy {policy.number} is to come")
+        return
+    exact, above = minimum
+    demand_encloses(bounds[2], bounds[3], exact, row)
+    demand(bounds[0] <= bounds[2] and bounds[1] <= bounds[3], f"{','.join(row)}: the minimum is below the ordinary reserve")
+    tests = {"short": above < 0, "enough": above >= 0, "close": abs(above) <= policy.amount * WIDEST_PREMIUM}
+    demand(tests.get(word), f"{','.join(row)}: the premium is above the net premium by {float(above / 100):.13f}")
+
+
+def check_row(row: list[str], policy: Policy, basis: Sequence[BasisRow], on: datetime.date, measure: str,
+              known: Known) -> list[int]:
+    """Demands that a printed row is the policy's, by its year and its exact values in cents or the word; and gives the
+    bounds in cents, or none where there is a word."""
+    year, exact = worth(policy, basis, on, known, measure)
     is_policy = row[:4] == ["row", str(policy.number), policy.status, str(year)]
-    shown = exact if isinstance(exact, str) else f"{float(exact / 100):.6f}"
     demand(is_policy, f"{','.join(row)} isn't that of policy {policy.number}, {policy.status}, year {year}")
     if isinstance(exact, str):
         demand(row[4:] == [exact], f"{','.join(row)}: policy {policy.number} has the word {exact}")
-        totals.words += 1
-        return
-    demand(len(row) == 6, f"{','.join(row)}: policy {policy.number} has a value, which is {shown}")
-    lower, upper = printed_cents(row[4]), printed_cents(row[5])
-    demand(lower <= exact <= upper <= lower + WIDEST, f"{','.join(row)} doesn't enclose the exact value, which is {shown}")
-    totals.lower += lower
-    totals.upper += upper
+        return []
+    fields = 9 if measure == "deficiency" else 6
+    demand(len(row) == fields, f"{','.join(row)}: policy {policy.number} has a value, which is {float(exact / 100):.6f}")
+    bounds = [printed_cents(field) for field in row[4:8]]
+    demand_encloses(bounds[0], bounds[1], exact, row)
+    if measure == "deficiency":
+        check_minimum(row, bounds, minimum_worth(policy, basis, on, known), policy)
+    return bounds
 
 
-def check_block(rows: list[list[str]], policies: Sequence[Policy], basis: Sequence[BasisRow], known: Known) -> None:
-    """Checks the lines of a valuation, by the policies at its position and the measure that its first line names."""
+def check_block(rows: list[list[str]], policies: Sequence[Policy], basis: Sequence[BasisRow], known: Known,
+                measure: str = "terminal") -> None:
+    """Checks the lines of a valuation by a measure, by the policies at its position."""
     head, *middle, total = rows
-    measure = head[5] if len(head) > 5 else "terminal"
+    demand(measure_of(head) == measure, f"{','.join(head)} isn't of the measure {measure}")
     is_whole = head[4] == str(len(policies)) and len(middle) == len(policies)
     demand(is_whole, f"{','.join(head)}: there are {len(policies)} policies")
-    on, totals = day_in(head[2]), Totals()
+    on, totals = day_in(head[2]), Totals(measure)
     for row, policy in zip(middle, policies):
-        check_row(row, policy, worth(policy, basis, on, known, measure), totals)
+        bounds = check_row(row, policy, basis, on, measure, known)
+        totals.words += not bounds
+        totals.add(bounds or [0] * 4)
     demand(total == totals.line(), f"{','.join(total)} isn't {','.join(totals.line())}")
 
 
 def check(journal: str, basis: str, valuation: str) -> int:
     """Checks a valuation that `life value` printed by the files of these paths, and gives the number of its rows."""
     rows = printed_rows(bytes_of(valuation).decode("ascii", "replace"))
-    is_valuation = len(rows) >= 2 and rows[0][:2] == ["0", "value"] and (len(rows[0]) == 5 or rows[0][5:] == ["mean"])
-    demand(is_valuation, f"{valuation} is no valuation that life value prints")
+    measure = measure_of(rows[0]) if len(rows) >= 2 and rows[0][0] == "0" else None
+    if measure is None:
+        raise Wrong(f"{valuation} is no valuation that life value prints")
     commands = journal_at(journal).commands
     position = number_of(rows[0][3], 0, len(commands))
     if position is None:
         raise Wrong(f"{rows[0][3]} is no position of {journal}, which has {len(commands)} commands")
-    check_block(rows, list(Book(commands[:position]).policies.values()), read_basis(basis), {})
+    check_block(rows, list(Book(commands[:position]).policies.values()), read_basis(basis), {}, measure)
     return len(rows) - 2
 
 

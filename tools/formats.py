@@ -27,6 +27,8 @@ MOST_LANES = 8
 PLANS = {1: "term", 2: "whole", 3: "endowment", 4: "limited"}
 KINDS = {1: "issue", 2: "premium", 3: "alter", 4: "lapse", 5: "reinstate", 6: "claim", 7: "settle", 8: "mature", 9: "upgrade",
          10: "paidup"}
+# what a valuation may show; the first line says it, but of the first one
+MEASURES = ("terminal", "mean", "deficiency")
 # what a posting has behind its day
 FIELDS = {
     "issue": ("plan", "age", "years", "amount", "premium"),
@@ -172,6 +174,14 @@ def rows_in(data: bytes) -> list[Row]:
         rows.append(Row(len(rows) + 1, line, tuple(fields), text[start:at]))
         line += len(LINE_END.findall(text, start, at))
     return rows
+
+
+def measure_of(head: list[str]) -> str | None:
+    """The measure of a valuation by the fields of its first line, or none where they are of no valuation."""
+    if len(head) not in (5, 6) or head[1] != "value":
+        return None
+    named = head[5] if len(head) == 6 else MEASURES[0]
+    return named if named in MEASURES and (len(head) == 6) == (named != MEASURES[0]) else None
 
 
 def printed_rows(text: str) -> list[list[str]]:

@@ -1,9 +1,9 @@
 #!/usr/bin/env python3
 """Draws printed valuations as SVG, on standard output: the total of each over its day, or single policies' reserves.
 
-A file may have one valuation or several, as `life value` or `life run` printed them. What is drawn are the upper
-bounds, which are never below the exact reserves. Of a total it is told on standard error how many policies have a word
-in place of bounds: they are in no sum.
+A file may have one valuation or several, as `life value` or `life run` printed them, all of one measure. What is drawn
+are the upper bounds, which are never below the exact reserves: of deficiency those of the minimum reserves. Of a total
+it is told on standard error how many policies have a word in place of bounds: they are in no sum.
 """
 from __future__ import annotations
 
@@ -12,34 +12,41 @@ import datetime
 from dataclasses import dataclass, field
 
 from drawing import lines_over_days
-from formats import MOST_NUMBER, Wrong, bytes_of, complain, day_in, demand, number_of, printed_cents, printed_rows, remark
+from formats import (MOST_NUMBER, Wrong, bytes_of, complain, day_in, demand, measure_of, number_of, printed_cents,
+                     printed_rows, remark)
+
+# of a measure: the words over the drawing, and the fields of a row and of a total
+SHOWN = {"terminal": ("reserves", 6, 4), "mean": ("mean reserves", 6, 4), "deficiency": ("minimum reserves", 9, 6)}
 
 
 @dataclass
 class Valuation:
-    """A printed valuation: its day, position, the upper bounds by policy, the upper sum and the rows with a word."""
+    """A printed valuation: its day, position and measure, the upper bounds by policy, the upper sum, the rows with a word."""
 
     day: datetime.date
     position: str
+    measure: str
     upper: dict[int, int] = field(default_factory=dict)
     total: int = 0
     words: int = -1
 
 
 def add_row(valuation: Valuation, row: list[str]) -> None:
-    number = number_of(row[1], 1, MOST_NUMBER) if len(row) in (5, 6) else None
+    _, fields, _ = SHOWN[valuation.measure]
+    number = number_of(row[1], 1, MOST_NUMBER) if len(row) in (5, fields) else None
     if number is None:
         raise Wrong(f"{','.join(row)} is no row of a valuation")
-    if len(row) == 6:
-        valuation.upper[number] = printed_cents(row[5])
+    if len(row) == fields:
+        valuation.upper[number] = printed_cents(row[7 if valuation.measure == "deficiency" else 5])
 
 
 def close(valuation: Valuation, row: list[str]) -> None:
-    words = number_of(row[3], 0, MOST_NUMBER) if len(row) == 4 else None
+    _, _, fields = SHOWN[valuation.measure]
+    words = number_of(row[-1], 0, MOST_NUMBER) if len(row) == fields else None
     if words is None:
         raise Wrong(f"{','.join(row)} is no total of a valuation")
-    valuation.total, valuation.words = printed_cents(row[2]), words
-    demand(sum(valuation.upper.values()) == valuation.total, f"the rows on {valuation.day} add up to another total than {row[2]}")
+    valuation.total, valuation.words = printed_cents(row[-2]), words
+    demand(sum(valuation.upper.values()) == valuation.total, f"the rows on {valuation.day} add up to another total than {row[-2]}")
 
 
 def valuations_in(text: str) -> list[Valuation]:
@@ -52,8 +59,9 @@ def valuations_in(text: str) -> list[Valuation]:
             (add_row if row[0] == "row" else close)(found[-1], row)
         else:
             demand(not is_open, f"the valuation on {found[-1].day if found else ''} has no total")
-            if len(row) == 5 and row[1] == "value":
-                found.append(Valuation(day_in(row[2]), row[3]))
+            measure = measure_of(row)
+            if measure:
+                found.append(Valuation(day_in(row[2]), row[3], measure))
     demand(not found or found[-1].words >= 0, f"the valuation on {found[-1].day if found else ''} has no total")
     return found
 
@@ -80,11 +88,12 @@ def main() -> None:
     try:
         found = [valuation for path in words.files for valuation in valuations_in(bytes_of(path).decode("ascii", "replace"))]
         demand(found, "there is no valuation in these files")
+        demand(len({valuation.measure for valuation in found}) == 1, "the valuations are of several measures")
         series = series_of(found, words.policy)
     except Wrong as wrong:
         complain(wrong)
     days = sorted(valuation.day for valuation in found)
-    print(lines_over_days(f"reserves, upper bounds, {days[0]} to {days[-1]}", series), end="")
+    print(lines_over_days(f"{SHOWN[found[0].measure][0]}, upper bounds, {days[0]} to {days[-1]}", series), end="")
 
 
 if __name__ == "__main__":

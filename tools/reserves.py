@@ -1,7 +1,7 @@
 """The exact reserve of a policy on a day, in fractions, from the public standards alone.
 
-The Commissioners Reserve Valuation Method of NAIC Model 820, and the sums of Dickson, Hardy and Waters
-(docs/VALUATION.md).
+The Commissioners Reserve Valuation Method and the minimum reserves of NAIC Model 820, and the sums of Dickson, Hardy
+and Waters (docs/VALUATION.md).
 """
 from __future__ import annotations
 
@@ -16,47 +16,59 @@ RENEWAL_PREMIUMS = 19
 HIGHEST_FIRST_RATE = Fraction(1, 2)
 # the year of the reserve, and its exact value in cents or the word why there is none
 Worth = Tuple[int, Union[Fraction, str]]
-# exact reserves of 1 that were worked out, by the basis row's day and what of the policy matters
-Known = Dict[tuple, Fraction]
 
 
 class Cover:
     """What is insured by a table: from the age on for so many years, with so many yearly premiums."""
 
-    def __init__(self, table: Table, age: int, years: int, payments: int, matures: bool) -> None:
+    def __init__(self, table: Table, age: int, years: int, payments: int, matures: bool, discount: Fraction) -> None:
         self.rates: Sequence[Fraction] = table.rates[age - table.first:]
-        self.years, self.payments, self.matures = years, payments, matures
+        self.years, self.payments, self.matures, self.discount = years, payments, matures, discount
+        self.known: Dict[int, tuple[Fraction, Fraction]] = {}
 
-    def values_at(self, year: int, discount: Fraction) -> tuple[Fraction, Fraction]:
+    def values_at(self, year: int) -> tuple[Fraction, Fraction]:
         """At a year: of 1 at the end of the year of death or of the cover, and of 1 at the start of each premium year."""
+        if year not in self.known:
+            self.known[year] = self.summed(year)
+        return self.known[year]
+
+    def summed(self, year: int) -> tuple[Fraction, Fraction]:
         benefits = annuity = Fraction(0)
         alive = Fraction(1)
         for k in range(self.years - year):
             if year + k < self.payments:
                 annuity += alive
-            benefits += alive * discount * self.rates[year + k]
-            alive *= discount * (1 - self.rates[year + k])
+            benefits += alive * self.discount * self.rates[year + k]
+            alive *= self.discount * (1 - self.rates[year + k])
         return benefits + (alive if self.matures else 0), annuity
 
 
 class InForce:
     """A policy's cover with its premiums: the modified net premium, the excess that it rests on, and the reserves of 1."""
 
-    def __init__(self, table: Table, cover: Cover, age: int, discount: Fraction) -> None:
-        self.cover, self.discount = cover, discount
-        benefits, annuity = cover.values_at(0, discount)
-        first_year = discount * cover.rates[0]
+    def __init__(self, table: Table, cover: Cover, age: int) -> None:
+        self.cover = cover
+        benefits, annuity = cover.values_at(0)
+        first_year = cover.discount * cover.rates[0]
         renewal = (benefits - first_year) / (annuity - 1)
         # the level premium may not be above that of whole life at an age one year higher
         left = table.last - age
-        limit = Cover(table, age + 1, left, min(RENEWAL_PREMIUMS, left), True)
-        whole_benefits, whole_annuity = limit.values_at(0, discount)
+        limit = Cover(table, age + 1, left, min(RENEWAL_PREMIUMS, left), True, cover.discount)
+        whole_benefits, whole_annuity = limit.values_at(0)
         self.excess = max(min(renewal, whole_benefits / whole_annuity) - first_year, Fraction(0))
         self.modified = (benefits + self.excess) / annuity
 
+    def counting_on(self, premium: Fraction, year: int) -> Fraction:
+        """The reserve where so much comes in at the start of each premium year."""
+        benefits, annuity = self.cover.values_at(year)
+        return max(benefits - premium * annuity, Fraction(0))
+
     def terminal(self, year: int) -> Fraction:
-        benefits, annuity = self.cover.values_at(year, self.discount)
-        return max(benefits - self.modified * annuity, Fraction(0))
+        return self.counting_on(self.modified, year)
+
+    def minimum(self, gross: Fraction, year: int) -> Fraction:
+        """The minimum reserve, which counts on no more than is charged, and isn't below the terminal one."""
+        return max(self.terminal(year), self.counting_on(min(self.modified, gross), year))
 
     def net_premium(self, year: int) -> Fraction:
         """The net premium of a year: of the first without the excess, and none after the last premium."""
@@ -66,23 +78,28 @@ class InForce:
 
 
 class PaidUp:
-    """A paid-up policy's cover: no premium is taken off."""
+    """A paid-up policy's cover: no premium is taken off, nor is any charged."""
 
-    def __init__(self, cover: Cover, discount: Fraction) -> None:
-        self.cover, self.discount = cover, discount
+    def __init__(self, cover: Cover) -> None:
+        self.cover = cover
 
     def terminal(self, year: int) -> Fraction:
-        return self.cover.values_at(year, self.discount)[0]
+        return self.cover.values_at(year)[0]
 
     def net_premium(self, year: int) -> Fraction:
         return Fraction(0)
 
 
-def exact_value(policy: Union[InForce, PaidUp], year: int, measure: str) -> Fraction:
+Insured = Union[InForce, PaidUp]
+# what was worked out of 1, by the basis row's day and what of the policy matters
+Known = Dict[tuple, Insured]
+
+
+def exact_value(insured: Insured, year: int, measure: str) -> Fraction:
     """The exact reserve of 1 by a measure: `terminal`, or `mean`, which is the terminal one at the end of cover."""
-    if measure == "terminal" or year == policy.cover.years:
-        return policy.terminal(year)
-    return (policy.terminal(year) + policy.net_premium(year) + policy.terminal(year + 1)) / 2
+    if measure != "mean" or year == insured.cover.years:
+        return insured.terminal(year)
+    return (insured.terminal(year) + insured.net_premium(year) + insured.terminal(year + 1)) / 2
 
 
 def row_for(basis: Sequence[BasisRow], day: datetime.date) -> BasisRow | None:
@@ -90,15 +107,10 @@ def row_for(basis: Sequence[BasisRow], day: datetime.date) -> BasisRow | None:
     return next((row for row in reversed(basis) if row.day <= day), None)
 
 
-def worth(
-    policy: Policy, basis: Sequence[BasisRow], on: datetime.date, known: Known | None = None, measure: str = "terminal"
-) -> Worth:
-    """The year, and the exact value in cents by a measure or a word.
-
-    `known` keeps exact reserves for further policies of the basis.
-    """
+def insured_on(policy: Policy, basis: Sequence[BasisRow], on: datetime.date, known: Known) -> tuple[int, Insured | str | None]:
+    """The year, and what the policy's reserve of 1 is worked out from, or the word why there is none, or none at all."""
     if policy.status not in ("inforce", "paidup") or policy.issued > on:
-        return 0, Fraction(0)
+        return 0, None
     row = row_for(basis, policy.issued)
     if row is None:
         return 0, "nobasis"
@@ -112,12 +124,36 @@ def worth(
         return 0, "pasttable"
     if table.rates[age - table.first] > HIGHEST_FIRST_RATE:
         return 0, "ratehigh"
-    year = min(completed(policy.issued, on), years)
-    known = {} if known is None else known
-    is_paid_up = policy.status == "paidup"
-    case = row.day, age, years, payments, policy.plan != "term", is_paid_up, year, measure
+    matures, is_paid_up = policy.plan != "term", policy.status == "paidup"
+    case = row.day, age, years, payments, matures, is_paid_up
     if case not in known:
-        cover = Cover(table, age, years, payments, policy.plan != "term")
-        valued = PaidUp(cover, row.discount) if is_paid_up else InForce(table, cover, age, row.discount)
-        known[case] = exact_value(valued, year, measure)
-    return year, policy.amount * known[case]
+        cover = Cover(table, age, years, payments, matures, row.discount)
+        known[case] = PaidUp(cover) if is_paid_up else InForce(table, cover, age)
+    return min(completed(policy.issued, on), years), known[case]
+
+
+def worth(
+    policy: Policy, basis: Sequence[BasisRow], on: datetime.date, known: Known | None = None, measure: str = "terminal"
+) -> Worth:
+    """The year, and the exact value in cents by a measure or a word. By `deficiency` it is the ordinary one, the terminal.
+
+    `known` keeps what was worked out for further policies of the basis.
+    """
+    year, insured = insured_on(policy, basis, on, {} if known is None else known)
+    if insured is None:
+        return year, Fraction(0)
+    return year, insured if isinstance(insured, str) else policy.amount * exact_value(insured, year, measure)
+
+
+def minimum_worth(
+    policy: Policy, basis: Sequence[BasisRow], on: datetime.date, known: Known | None = None
+) -> tuple[Fraction, Fraction] | None:
+    """The exact minimum reserve in cents, and the cents by which the premium that is charged is above the net premium.
+
+    There is neither of a policy of which no premium is to come, or that has no value: the ordinary one is the minimum.
+    """
+    year, insured = insured_on(policy, basis, on, {} if known is None else known)
+    if not isinstance(insured, InForce) or year >= insured.cover.payments:
+        return None
+    gross = Fraction(policy.premium, policy.amount)
+    return policy.amount * insured.minimum(gross, year), policy.premium - policy.amount * insured.modified

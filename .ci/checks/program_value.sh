@@ -1,6 +1,6 @@
 #!/bin/sh
-# Valuations: a row that was worked out by hand, positions, each way in which a basis or a table is refused, and every row
-# of a book worked out anew in exact fractions without the program.
+# Valuations: rows that were worked out by hand, by each measure; positions; words that are no valuation's; each way in
+# which a basis or a table is refused; and every row of a book worked out anew in exact fractions without the program.
 . "$(dirname "$0")/../common.sh"
 
 begin_with_basis "value"
@@ -27,6 +27,57 @@ go_on "value on a full device"
 "$life" value 2021-01-01 </dev/null >/dev/full
 judge $? 7 "$nothing"
 
+# a day of policy 7001, with the words behind it, its row and its total: both by hand (docs/VALUATION.md)
+values_7001() {
+    printf '0,value,%s,1,1,%s\nrow,7001,inforce,%s\ntotal,%s\n' "$1" "${2#--}" "$3" "$4" >wanted
+    # shellcheck disable=SC2086
+    "$life" value "$1" $2 </dev/null >out
+    judge $? 0 wanted
+}
+
+go_on "mean reserves by hand"
+values_7001 2020-12-31 --mean 0,170.86,170.87 170.86,170.87,0
+values_7001 2021-01-01 --mean 1,563.61,563.62 563.61,563.62,0
+values_7001 2022-01-01 --mean 2,999.99,1000.01 999.99,1000.01,0
+values_7001 2023-01-01 --mean 3,1000.00,1000.00 1000.00,1000.00,0
+leaves before
+
+go_on "minimum reserves by hand"
+values_7001 2021-01-01 --deficiency 1,127.22,127.23,280.00,280.00,short 127.22,127.23,280.00,280.00,0
+values_7001 2023-01-01 --deficiency 3,1000.00,1000.00,1000.00,1000.00,enough 1000.00,1000.00,1000.00,1000.00,0
+leaves before
+begin_with_basis "a premium that is enough"
+echo "${policy%400.00}500.00" | "$life" run >out
+values_7001 2021-01-01 --deficiency 1,127.22,127.23,127.22,127.23,enough 127.22,127.23,127.22,127.23,0
+
+# of 35.37 the net premium is 17.15, which isn't a whole number of the units in which it is computed
+begin_with_basis "a premium that is close"
+for premium in 17.14 17.15 17.16; do echo "1,issue,${premium#*.},2020-01-01,endowment,0,3,35.37,$premium"; done | "$life" run >out
+"$life" value 2021-01-01 --deficiency </dev/null >block || complain "value ended with $?"
+[ "$(sed -n 's/^row,\(..\),.*,/\1 /p' block | tr '\n' ' ')" = "14 short 15 close 16 enough " ] || complain "$(cat block)"
+python3 "$tools/check_values.py" journal.life basis.csv block >out || complain "$(cat out)"
+
+begin_with_examples "short premium"
+"$life" run <"$examples/short-premium.csv" >out
+grep -q refused out && complain "a row of the example is refused"
+"$life" value 2023-12-31 --deficiency </dev/null >out
+judge $? 0 "$examples/short-premium.deficiency"
+python3 "$tools/check_values.py" journal.life basis.csv out >verdict || complain "$(cat verdict)"
+
+begin_with_basis "the words of a measure, wherever they stand"
+echo "$policy" | "$life" run >out
+printf '0,value,2021-01-01,1,1,mean\nrow,7001,inforce,1,563.61,563.62\ntotal,563.61,563.62,0\n' >by-mean
+printf '0,value,2021-01-01,1,1,deficiency\nrow,7001,inforce,1,%s,short\ntotal,%s,0\n' 127.22,127.23,280.00,280.00 \
+    127.22,127.23,280.00,280.00 >by-deficiency
+for words in "2021-01-01 --mean --at 1 --workers 2" "--mean --at 1 2021-01-01 --workers 2" "--workers 2 2021-01-01 --mean --at=1" \
+    "--at 1 --mean --workers=2 --basis basis.csv 2021-01-01"; do
+    for measure in mean deficiency; do
+        # shellcheck disable=SC2086
+        "$life" value $(echo "$words" | sed "s/--mean/--$measure/") </dev/null >out
+        judge $? 0 "by-$measure"
+    done
+done
+
 begin_with_basis "position ahead of a new journal"
 echo "refused,ahead,0" >wanted
 "$life" value 2021-01-01 --at 1 </dev/null >out
@@ -36,7 +87,13 @@ leaves "$empty"
 begin_with_basis "words of no valuation"
 for words in "value" "value 2021-02-29" "value 2021-01-01 --workers 0" "value 2021-01-01 --workers 65" \
     "value 2021-01-01 --at 4000001" "value 2021-01-01 --at 5 --at 5" "value --on 2021-01-01" \
-    "value 2021-01-01 --basis ../basis.csv" "run --at 1"; do
+    "value 2021-01-01 --basis ../basis.csv" "run --at 1" "value --mean" "value 2021-01-01 --mean --mean" \
+    "value --mean 2021-01-01 --mean" "value 2021-01-01 --deficiency --deficiency" "value 2021-01-01 --mean --deficiency" \
+    "value 2021-01-01 --deficiency --mean" "value --deficiency 2021-01-01 --mean" "value 2021-01-01 --mean=1" \
+    "value 2021-01-01 --deficiency=" "value 2021-01-01 mean" "value 2021-01-01 -mean" "value 2021-01-01 --Mean" \
+    "value 2021-01-01 --defi" "value 2021-01-01 --mean 1" "value 2021-01-01 --at --mean" "value 2021-01-01 --basis --deficiency" \
+    "--mean value 2021-01-01" "run --mean" "run --deficiency" "state --mean" "state 1 --deficiency" "generate 1 1 1 --mean" \
+    "load 1 1 1 1 --mean" "load 1 1 1 1 --deficiency"; do
     # shellcheck disable=SC2086
     ends_before_the_journal 2 usage $words
 done
@@ -97,12 +154,54 @@ judge $? 8 wanted
 begin_with_examples "values of the small office"
 "$life" run <"$examples/small-office.csv" >out
 for day in 2021-01-19 2022-01-20 2023-03-15 2024-03-03 2024-03-12 2060-01-01; do
-    "$life" value "$day" </dev/null >block || complain "value on $day ended with $?"
-    python3 "$tools/check_values.py" journal.life basis.csv block >out || complain "on $day: $(cat out)"
+    for measure in "" --mean --deficiency; do
+        # shellcheck disable=SC2086
+        "$life" value "$day" $measure </dev/null >block || complain "value on $day $measure ended with $?"
+        python3 "$tools/check_values.py" journal.life basis.csv block >out 2>&1 || complain "on $day $measure: $(cat out)"
+    done
 done
 for position in 0 1 7 19 27; do
     "$life" value 2024-06-30 --at "$position" </dev/null >block || complain "value at $position ended with $?"
     python3 "$tools/check_values.py" journal.life basis.csv block >out || complain "at $position: $(cat out)"
 done
+
+# a whole generated book by each measure, whose premiums are a fiftieth of the amounts, and so short for most of them
+begin_with_examples "values of a generated book"
+"$life" generate 7 300 1 </dev/null | "$life" run >out || complain "the run ended with $?"
+for day in 2000-06-01 2005-12-31 2009-12-31 2020-12-31 2190-01-01; do
+    for measure in "" --mean --deficiency; do
+        # shellcheck disable=SC2086
+        "$life" value "$day" $measure </dev/null >block || complain "value on $day $measure ended with $?"
+        python3 "$tools/check_values.py" journal.life basis.csv block >out 2>&1 || complain "on $day $measure: $(cat out)"
+    done
+done
+"$life" value 2005-12-31 --deficiency </dev/null >block
+for word in short enough; do grep -q "^row,.*,$word\$" block || complain "no premium of the generated book is $word"; done
+
+# premiums around the net premium to the cent, of each plan: two that are below it, and two that aren't
+begin_with_examples "premiums around the net premium"
+python3 - "$tools" <<'PY' >script || complain "no premiums were made"
+import sys
+sys.path.insert(0, sys.argv[1])
+from formats import day_in, money
+from reserves import insured_on
+from rules import Policy
+from tables import read_basis
+basis, known, day, amount, number = read_basis("basis.csv"), {}, day_in("2021-03-01"), 1234567, 0
+for plan in ("term", "whole", "endowment", "limited"):
+    for age in (20, 41, 67):
+        for years in (0,) if plan == "whole" else (2, 11, 25):
+            _, insured = insured_on(Policy(1, plan, age, years, amount, 1, day, day), basis, day, known)
+            for premium in range(int(amount * insured.modified) - 1, int(amount * insured.modified) + 3):
+                number += 1
+                print(f"1,issue,{number},{day},{plan},{age},{years},{money(amount)},{money(premium)}")
+PY
+"$life" run <script >out || complain "the run ended with $?"
+for day in 2021-03-01 2022-03-01 2023-03-01 2031-12-31 2046-03-01; do
+    "$life" value "$day" --deficiency </dev/null >block || complain "value on $day ended with $?"
+    python3 "$tools/check_values.py" journal.life basis.csv block >out 2>&1 || complain "on $day: $(cat out)"
+    [ "$day" != 2022-03-01 ] || sed -n 's/^row,.*,//p' block >tests
+done
+awk '{ print NR % 4 == 1 || NR % 4 == 2 ? "short" : "enough" }' script | cmp -s - tests || complain "another test: $(paste -sd ' ' tests)"
 
 end "valuations and their refusals are as docs/FORMATS.md says"

@@ -119,6 +119,29 @@ refuses "has a value" check_values journal.life basis.csv wrong
 sed 's/^\(total,.*\),0$/\1,1/' block >wrong
 refuses "isn't total" check_values journal.life basis.csv wrong
 cp plain.xml g.xml
+# by the other measures, each of which another's first line doesn't fit
+"$life" value 2024-03-12 </dev/null >block
+for measure in mean deficiency; do
+    "$life" value 2024-03-12 --$measure </dev/null >"by-$measure" || complain "value by $measure ended with $?"
+    says check_values journal.life basis.csv "by-$measure"
+    sed "1s/,$measure\$//" "by-$measure" >wrong
+    refuses "wrong: row," check_values journal.life basis.csv wrong
+    sed "1s/\$/,$measure/" block >wrong
+    refuses "wrong: row," check_values journal.life basis.csv wrong
+done
+sed '1s/,mean$/,terminal/' by-mean >wrong
+refuses "is no valuation" check_values journal.life basis.csv wrong
+# a minimum that is off, a short premium that is called enough or close, a sum of the minimum, an ordinary row without one
+sed 's/^\(row,12,.*\),[0-9.]*,\([a-z]*\)$/\1,9999.99,\2/' by-deficiency >wrong
+refuses "doesn't enclose" check_values journal.life basis.csv wrong
+for words in "short/enough" "short/close" "enough/short" "enough/close"; do
+    sed "s/^\(row,1[0-9],inforce,.*\),${words%/*}\$/\1,${words#*/}/" by-deficiency >wrong
+    cmp -s wrong by-deficiency || refuses "above the net premium" check_values journal.life basis.csv wrong
+done
+sed 's/^\(row,13,.*,\)enough$/\1short/' by-deficiency >wrong
+refuses "no premium of policy 13 is to come" check_values journal.life basis.csv wrong
+sed 's/^\(total,.*\),[0-9.]*,0$/\1,9999.99,0/' by-deficiency >wrong
+refuses "isn't total" check_values journal.life basis.csv wrong
 
 go_on "transcripts"
 says check_transcript small-office.csv transcript /dev/null journal.life basis.csv
@@ -159,6 +182,11 @@ assert sorted(heights, reverse=True) == [y for _, y in sorted(zip(map(float, tot
 assert max(totals, key=float) in [it.firstChild.data for it in drawn.getElementsByTagName("text")]
 PY
 says plot_reserves --policy 14 --policy 12 valuations
+says plot_reserves by-deficiency
+grep -q "minimum reserves, upper bounds" out && grep -q "$(sed -n 's/^total,.*,\([0-9.]*\),0$/\1/p' by-deficiency)" out ||
+    complain "the drawing isn't that of the minimum reserves"
+says plot_reserves --policy 12 by-mean
+refuses "of several measures" plot_reserves by-mean by-deficiency
 refuses "policy 99 has bounds in none" plot_reserves --policy 99 valuations
 grep -v '^row,14,' valuations >wrong
 refuses "add up to another total" plot_reserves wrong

@@ -21,6 +21,9 @@ from tables import read_basis
 SIGNALS = [signal.SIGTERM, signal.SIGINT, signal.SIGKILL]
 RUNS, OPENINGS = 24, 12
 BEFORE, EACH, LARGE = 150, 12, 20000
+# what opens a journal and may not change it
+OPENING = [["state"], ["state", "7"], ["value", "2021-01-01"], ["value", "2021-01-01", "--mean"],
+           ["value", "--deficiency", "2021-01-01"], ["run"]]
 
 
 def span_of(desk, words):
@@ -75,7 +78,7 @@ class Openings:
         self.amid = 0
 
     def try_one(self, draw):
-        number, words = draw.choice(SIGNALS), draw.choice([["state"], ["state", "7"], ["value", "2021-01-01"], ["run"]])
+        number, words = draw.choice(SIGNALS), draw.choice(OPENING)
         ended = stop(self.desk, words, draw.uniform(0, self.span), number)
         demand(ended.status in (0, -number), f"status {ended.status} after signal {number}")
         demand(ended.after == self.before, f"{' '.join(words)} changed the file")
@@ -104,7 +107,9 @@ def try_closed_pipes(desk):
     judge_unanswered(script, before, desk.journal(), True)
     desk.judge_reopening()
     desk.lay(before)
-    for words, first in ((["value", "2021-01-01"], "0,value,2021-01-01,4000,4000\n"), (["state"], "policy,1,")):
+    for words, first in ((["value", "2021-01-01"], "0,value,2021-01-01,4000,4000\n"), (["state"], "policy,1,"),
+                         (["value", "2021-01-01", "--mean"], "0,value,2021-01-01,4000,4000,mean\n"),
+                         (["value", "2021-01-01", "--deficiency"], "0,value,2021-01-01,4000,4000,deficiency\n")):
         status, line = read_a_line(desk, words)
         demand(status == 7 and line.startswith(first), f"{' '.join(words)}: status {status}, and the first line is {line!r}")
         demand(desk.journal() == before, f"{' '.join(words)} changed the file")

@@ -3,11 +3,13 @@ import re
 from dataclasses import dataclass
 from typing import Callable
 
-from formats import MOST_COMMANDS, MOST_LANES, MOST_NUMBER, MOST_WORKERS, day_of, number_of, printed_rows
+from formats import MOST_COMMANDS, MOST_LANES, MOST_NUMBER, MOST_WORKERS, day_of, measure_of, number_of, printed_rows
 from script_lines import Fault, read_script
 from tables import NAME
 
 OPTIONS = {"run": ("--basis",), "value": ("--at", "--workers", "--basis"), "state": (), "generate": (), "load": ()}
+# which stand alone; of two such words there is none that fits
+FLAGS = {"value": ("--mean", "--deficiency")}
 PLACES = {"run": [], "value": ["day"], "state": ["id"], "generate": ["seed", "count", "lanes"],
           "load": ["seed", "count", "lanes", "workers"]}
 LIMITS = {"id": (1, MOST_NUMBER), "seed": (0, 2**31 - 1), "count": (1, 100_000), "lanes": (1, MOST_LANES),
@@ -17,11 +19,13 @@ AMOUNT = r"(0|[1-9][0-9]*)\.[0-9]{2}"
 
 @dataclass
 class Meaning:
-    """What is asked, `usage` where nothing is; whether an answer, status and text, is of its shape; the policy's number."""
+    """What is asked, `usage` where nothing is; whether an answer, status and text, is of its shape; the policy's number, and
+    the measure of a valuation."""
 
     mode: str
     fits: Callable[[tuple], bool]
     number: int = 0
+    measure: str = "terminal"
 
 
 def usage():
@@ -30,6 +34,8 @@ def usage():
 
 def value_of(name, text):
     """What a word says at its place or for its option, or none."""
+    if name == "measure":
+        return text
     if name == "day":
         return day_of(text)
     if name == "--basis":
@@ -38,12 +44,17 @@ def value_of(name, text):
 
 
 def split(words, mode):
-    """The words that are no options, and the options with their words; or none where they don't fit."""
+    """The words that are no options, and the options with their words, a flag with its own; or none where they don't fit."""
     plain, options, left = [], {}, list(words)
     while left:
         word = left.pop(0)
         if not word.startswith("-"):
             plain.append(word)
+            continue
+        if word in FLAGS.get(mode, ()):
+            if "measure" in options:
+                return None
+            options["measure"] = word.lstrip("-")
             continue
         name, equals, value = word.partition("=")
         if name not in OPTIONS[mode] or name in options or not (equals or left):
@@ -89,6 +100,7 @@ def is_state(values, _, count):
 
 def is_value(values, asked, count):
     position, name = asked.get("--at", count), asked.get("--basis", "basis.csv")
+    measure = asked.get("measure", "terminal")
 
     def fits(found):
         if name != "basis.csv":
@@ -96,8 +108,9 @@ def is_value(values, asked, count):
         if position > count:
             return found == (10, f"refused,ahead,{count}\n")
         rows = printed_rows(found[1])
-        return found[0] == 0 and rows[0][:4] == ["0", "value", str(values[0]), str(position)] and rows[-1][0] == "total"
-    return Meaning("value", fits)
+        is_block = rows[0][:4] == ["0", "value", str(values[0]), str(position)] and rows[-1][0] == "total"
+        return found[0] == 0 and is_block and measure_of(rows[0]) == measure
+    return Meaning("value", fits, measure=measure)
 
 
 def is_generate(values, _, __):

@@ -7,13 +7,14 @@ changed, or no answer within a time that no such case needs.
 import os
 import subprocess
 import sys
+import zlib
 
 ROOT = os.path.abspath(os.path.join(os.path.dirname(os.path.abspath(__file__)), "..", ".."))
 sys.path[:0] = [os.path.join(ROOT, "tools"), os.path.join(ROOT, ".ci", "stress")]
 
 from check_transcript import asks_for_values, check
 from check_values import check_block
-from formats import MOST_BASIS_BYTES, Wrong, day_in, demand, money, printed_rows
+from formats import MEASURES, MOST_BASIS_BYTES, Wrong, day_in, demand, money, printed_rows
 from journals import EMPTY, Journal, file_of, gate_of, read_journal
 from plain_tables import read_plain_table
 from plain_words import meaning_of
@@ -139,15 +140,17 @@ def judge_script(trial, data):
 
 # --- bases and tables ---
 
-def judge_values(trial, basis, book, wanted):
-    """The valuation of the book by a basis, or the line of the bad file where there is none."""
-    status, text = trial.run("value", ON)
+def judge_values(trial, basis, book, wanted, data):
+    """The valuation of the book by a basis, or the line of the bad file where there is none. The measure is drawn from the
+    bytes of the file."""
+    measure = MEASURES[zlib.crc32(data) % len(MEASURES)]
+    status, text = trial.run("value", ON, *([] if measure == "terminal" else ["--" + measure]))
     if wanted:
         demand_answer((status, text), 4, wanted + "\n", "value")
         return
     rows = printed_rows(text)
     demand(status == 0 and rows[0][:4] == ["0", "value", ON, str(len(book.commands))], f"value: the answer is {status}, {text[:300]!r}")
-    check_block(rows, list(book.policies.values()), basis, {})
+    check_block(rows, list(book.policies.values()), basis, {}, measure)
 
 
 def judge_basis(trial, data, book):
@@ -159,7 +162,7 @@ def judge_basis(trial, data, book):
         basis = trial.basis()
     except Wrong as wrong:
         wanted = str(wrong)
-    judge_values(trial, basis, book, wanted)
+    judge_values(trial, basis, book, wanted, data)
     return wanted.rsplit(",", 1)[-1] or "taken"
 
 
@@ -176,7 +179,7 @@ def judge_table(trial, data, book):
     except Wrong as wrong:
         wanted = str(wrong)
     demand_parsers_agree(data, table, wanted)
-    judge_values(trial, [BasisRow(day_in("1900-01-01"), "t.xml", table, 250)], book, wanted)
+    judge_values(trial, [BasisRow(day_in("1900-01-01"), "t.xml", table, 250)], book, wanted, data)
     return wanted.rsplit(",", 1)[-1] or "taken"
 
 
@@ -206,5 +209,9 @@ def judge_words(trial, words, script, book):
     if meaning.mode == "state" and not meaning.number:
         demand_answer(found, 0, state_of(book), words)
     demand(meaning.fits(found), f"{words}: the answer is {found[0]}, {found[1][-300:]!r}, and the words are {meaning.mode}")
+    rows = printed_rows(found[1]) if meaning.mode == "value" and found[0] == 0 else []
+    if rows:
+        policies = Book(book.commands[:int(rows[0][3])]).policies
+        check_block(rows, list(policies.values()), trial.basis(), trial.known, meaning.measure)
     demand(after == file_of(book.commands), f"{words}: journal.life was changed")
-    return meaning.mode
+    return meaning.mode if meaning.measure == "terminal" else f"{meaning.mode} by {meaning.measure}"

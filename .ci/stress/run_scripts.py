@@ -2,7 +2,7 @@
 
 usage: python3 run_scripts.py PROGRAM ROOT FOLDER QUICK SCRIPTS [FIRST_SEED]
 
-Two scripts run in each new folder, the second on the journal of the first; in one of four the first has a book of many
+Two scripts run in each new folder, the second on the journal of the first, and what they leave is valued by each measure; in one of four the first has a book of many
 policies, so that a valuation takes several reads and others post and trim between them. One folder of four is made in
 FOLDER, on a real disk, where a posting takes long and the others wait; three are made in QUICK. Where a run isn't right,
 its files are left.
@@ -13,9 +13,10 @@ import shutil
 import subprocess
 import sys
 
-from scripts import draws, folder_for, make_book, make_script
+from scripts import draws, folder_for, make_book, make_script, value_words, valued_on
 from check_transcript import check
-from formats import Wrong, printed_rows
+from check_values import check_block
+from formats import MEASURES, Wrong, printed_rows
 from journals import file_of, read_journal
 from tables import read_basis
 
@@ -56,7 +57,27 @@ def run_pair(program, root, folder, seed, known, seen):
         except Wrong as wrong:
             sys.exit(f"stress: script {number} of seed {seed} in {folder}: {wrong}")
         count(text, len(before) // 65, seen)
+    value_by_each(program, folder, draw, basis, known, seen)
     shutil.rmtree(folder)
+
+
+def value_by_each(program, folder, draw, basis, known, seen):
+    """Values what the scripts left, on a drawn day, by each measure."""
+    policies = list(read_journal(bytes_of(os.path.join(folder, "journal.life"))).book.policies.values())
+    on = valued_on(draw)
+    for measure in MEASURES:
+        words = value_words(draw, on, measure)
+        ended = subprocess.run([program, *words], cwd=folder, stdin=subprocess.DEVNULL, stdout=subprocess.PIPE)
+        rows = printed_rows(ended.stdout.decode("ascii"))
+        try:
+            if ended.returncode != 0 or rows[0][:3] != ["0", "value", str(on)]:
+                raise Wrong(f"status {ended.returncode}, printed {ended.stdout[:200]!r}")
+            check_block(rows, policies, basis, known, measure)
+        except Wrong as wrong:
+            sys.exit(f"stress: {' '.join(words)} in {folder}: {wrong}")
+        for row in rows[1:-1]:
+            seen[f"rows {row[-1]}"] += len(row) == 9
+            seen[f"rows by {measure}"] += 1
 
 
 def count(text, accepted, seen):
@@ -88,12 +109,13 @@ def main():
         place = os.path.join(quick if pair % 4 else folder, f"pair-{pair}")
         run_pair(program, root, place, first + pair, known, seen)
     reasons = [what for what in seen if what.startswith("refused ")]
-    if len(reasons) < REASONS or not seen["valuations"] or not seen["trims"] or not seen["paid-up rows"]:
+    if len(reasons) < REASONS or not seen["valuations"] or not seen["trims"] or not seen["paid-up rows"] or not seen["rows short"]:
         sys.exit(f"stress: too little was tried: {dict(seen)}")
     refused = sum(seen[what] for what in reasons)
     print(f"stress: {scripts} scripts of eight clerks, {seen['lines']} lines: {seen['accepted']} accepted, {refused} refused for "
           f"{len(reasons)} reasons, {seen['valuations']} valuations with {seen['paid-up rows']} paid-up rows, {seen['trims']} "
-          f"trims of which {seen['trims below the count']} below the count; the clerk changes {seen['changes of clerk']} times")
+          f"trims of which {seen['trims below the count']} below the count; the clerk changes {seen['changes of clerk']} times; "
+          f"{seen['rows by deficiency']} rows by each measure, of which {seen['rows short']} have a short premium")
 
 
 if __name__ == "__main__":

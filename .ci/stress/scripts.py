@@ -94,6 +94,18 @@ def row_of(lane, command):
     return ",".join([str(lane), *words_of(command)])
 
 
+def valued_on(draw):
+    """A day on which policies of each table have begun, and not all have ended."""
+    return datetime.date(draw.choice([2003, 2006, 2007, 2013, 2014, 2017, 2019]), draw.randrange(1, 13), 28)
+
+
+def value_words(draw, on, measure):
+    """The words of a valuation by a measure, with the number of workers, in a drawn order."""
+    words = [[str(on)], ["--workers", draw.choice(["1", "2", "64"])], [] if measure == "terminal" else ["--" + measure]]
+    draw.shuffle(words)
+    return ["value", *(word for part in words for word in part)]
+
+
 def make_script(draw, book):
     """A script of 50 to 300 rows for the book, which is then the one that the rows would leave in their order."""
     rows, asked, size = [], 0, draw.randrange(50, 301)
@@ -104,7 +116,7 @@ def make_script(draw, book):
             asked += 1
             near = max(len(book.commands) + draw.randrange(-20, 8), 0)
             at = draw.choice(["now", "now", near, draw.randrange(near + 1)])
-            on = datetime.date(draw.choice([2003, 2006, 2007, 2013, 2014, 2017, 2019]), draw.randrange(1, 13), 28)
+            on = valued_on(draw)
             rows.append(f"{lane},value,{on},{at},{draw.choice([1, 2, 8, 64])}")
         elif what < 0.08:
             rows.append(f"{lane},trim")

@@ -51,6 +51,7 @@ LINES = [
     ("a position one too high", r",accepted,", -1, more(1)),
     ("a position one too low", r",accepted,", -1, more(-1)),
     ("a valued position one off", r"^\d,value,[-\d]+,\d", 3, more(1)),
+    ("a measure named in a run", r"^\d,value,[-\d]+,\d", 4, lambda policies: policies + ",mean"),
     ("a policy more in a valuation", r"^\d,value,[-\d]+,\d", 4, more(1)),
     ("another day valued", r"^\d,value,", 2, lambda day: day[:-1] + "7"),
     ("a floor above the count", r",trim,", 2, more(10**4)),
