@@ -1,5 +1,5 @@
 -- Worked cases of scripts as an input gives them, and of how a run ends that read none
-use Rattle.std.specs.Prelude.{◌≡◌, ℕ, true, false, List, [], ◌∷◌, ◌++◌, Option, Some, None, codes, pos, length}
+use Rattle.std.specs.Prelude.{◌≡◌, ℕ, true, false, List, [], ◌∷◌, ◌++◌, None, codes, pos, length}
 use Rattle.policy_types.specs.declared.entry.At.TheVariants.{Now}
 use Rattle.policy_types.specs.declared.script.Line.TheVariants.{Value, Trim}
 use Rattle.program_endings.specs.declared.ending.Ending.TheVariants.{BadScript, ReadFault}
