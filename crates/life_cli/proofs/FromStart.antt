@@ -1,5 +1,5 @@
 -- What the top call promises of devices between two moments, said of devices from their start.
-use Rattle.std.proofs.Common.{◌≡◌, inl, inr, ℕ, List, [], ◌∷◌, ◌++◌, map, refl, Option, Some, None, String, arith}
+use Rattle.std.proofs.Common.{◌≡◌, inl, inr, ℕ, List, [], ◌∷◌, ◌++◌, map, refl, Option, Some, None, String}
 use Rattle.std.specs.Global.{Global}
 use Rattle.outside_io.specs.Shelves.{Files, Answer, Agrees}
 use Rattle.outside_io.specs.declared.disks.Disk.{Ghosts}
