@@ -44,6 +44,14 @@ a_line_posted_twice_or_left_out lane_runner/posted_twice lane_runner/line_left_o
 an_invented_reply               shared_office/invented_reply
 a_reinstatement_unpaid          policy_machine/reinstated_unpaid
 half_a_settlement               money_ledgers/half_settlement
+paid_up_without_an_upgrade      policy_machine/paid_up_before_the_upgrade
+an_upgrade_counted_from_0       policy_machine/upgrade_counted_from_0
+a_second_upgrade                policy_machine/second_upgrade_accepted
+paid_up_for_the_old_amount      policy_machine/paid_up_for_the_old_amount policy_machine/paid_up_claim_of_another_amount
+grace_of_a_paid_up_policy       policy_machine/grace_asked_of_a_paid_up_policy policy_machine/premium_taken_after_paid_up
+a_paid_up_term_matured          policy_machine/paid_up_term_matured
+premiums_off_a_paid_up_reserve  policy_value/paid_up_reserve_less_premiums
+paid_up_read_as_an_upgrade      record_codec/paid_up_read_as_an_upgrade
 watchers_told_of_refusals       office_state/told_of_refused_commands watcher_set/a_done_watcher_is_kept
 EDITS
 

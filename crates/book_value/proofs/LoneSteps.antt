@@ -23,6 +23,7 @@ use Rattle.shared_office.specs.Offices.{IsOfficeHistory, OfficeOpening}
 use Rattle.shared_office.specs.Starting.{HasClosed, HasStartedOffice}
 use Rattle.watcher_set.specs.declared.watching.Watching.{Ghosts as WatcherGhosts}
 use Rattle.turn_lock.specs.Passes.{Holding, PassFacts, callers}
+use Rattle.policy_value.specs.declared.worth.Measure.{Measure}
 use Rattle.snapshot_value.specs.Valuing.{HasValued, AnswersPin as IsValueAnswer}
 use Rattle.snapshot_value.specs.declared.valuation.Valuation.{Valuation}
 use Rattle.snapshot_value.specs.declared.valuation.ValueFault.{ValueFault}
@@ -123,11 +124,11 @@ first_turn (entry ∷ seen) pin later same =
       ap (λ (p : Placed). p.1 ∷ seen) first ∙ ap (λ more. pin.1 ∷ more) (sym (entries_in 1 seen) ∙ ap (map (λ (turn : Placed). turn.1)) rest),
     )
 
-module _ {D W : Type 0} (g : Ghosts D) (w : WatcherGhosts W) (old disk : D) (watchers : W) (on : ℤ) (at : At) (workers turn : ℕ) (basis : List Dated)
+module _ {D W : Type 0} (g : Ghosts D) (w : WatcherGhosts W) (old disk : D) (watchers : W) (on : ℤ) (measure : Measure) (at : At) (workers turn : ℕ) (basis : List Dated)
     (first closing : Holding (OfficeOpening D W)) (balances : Booking) (reports : List Report) (answer : Result Valuation ValueFault)
     (started : HasStartedOffice g old watchers first) (facts : PassFacts IsOfficeHistory closing)
     (closed : HasClosed g w closing disk balances reports)
-    (valued : HasValued basis on at workers first closing turn answer) where
+    (valued : HasValued basis on measure at workers first closing turn answer) where
   abbrev opened : OfficeOpening D W
   opened = record { opening = started.opening; begun = old; watchers = watchers }
 
@@ -175,16 +176,16 @@ module _ {D W : Type 0} (g : Ghosts D) (w : WatcherGhosts W) (old disk : D) (wat
       let legal = subst (IsLegalAfter started.opening []) lone.1 is_history.legal.due in
       subst (λ (c : Call). IsDue started.opening [] valued.pin.1.caller c valued.pin.1.reply) valued.answers.0 legal.0
 
-  answered : IsValueAnswer (commands_after started.opening []) basis on valued.pin.1.reply answer
+  answered : IsValueAnswer (commands_after started.opening []) basis on measure valued.pin.1.reply answer
   answered =
       let same : valued.opened ≡ opened = same_opened valued.opened opened (sym valued.opening ∙ closing_opened) in
       let zeroth : turn ≡ 0 = sym valued.place ∙ lone.0 in
-      subst (λ n. IsValueAnswer (commands_after started.opening (take n closing.seen)) basis on valued.pin.1.reply answer) zeroth
-      (subst (λ (o : OfficeOpening D W). IsValueAnswer (commands_after o.opening (take turn closing.seen)) basis on valued.pin.1.reply answer) same valued.answered)
+      subst (λ n. IsValueAnswer (commands_after started.opening (take n closing.seen)) basis on measure valued.pin.1.reply answer) zeroth
+      (subst (λ (o : OfficeOpening D W). IsValueAnswer (commands_after o.opening (take turn closing.seen)) basis on measure valued.pin.1.reply answer) same valued.answered)
 
   -- the answer is one of an office that nobody else called
   pub is_lone : IsLoneAnswer answer
-  is_lone = lone_answer started.opening valued.pin.1.caller on basis at valued.pin.1.reply answer due answered
+  is_lone = lone_answer started.opening valued.pin.1.caller on measure basis at valued.pin.1.reply answer due answered
 
   left : IsLeftBy g old disk (opened_on started.opening.commands (g.faults old)) []
   left =
@@ -195,8 +196,8 @@ module _ {D W : Type 0} (g : Ghosts D) (w : WatcherGhosts W) (old disk : D) (wat
       (quiet_left g old disk started.opening closing.seen is_history.legal.due postless whole)
 
   -- and `value` ends by it
-  pub ends_lone : (output : Stream) (ending : Ending) → EndsAnswer on answer output ending → EndsValuing g old disk on at basis output ending
+  pub ends_lone : (output : Stream) (ending : Ending) → EndsAnswer on answer output ending → EndsValuing g old disk on at measure basis output ending
   ends_lone output ending ends =
-      ends_valued g old disk on at basis output started.opening.commands ending left
-      (subst (λ (cs : List Command). EndsValued cs on at basis output ending) (append-nil started.opening.commands)
-      (lone_ends started.opening valued.pin.1.caller on basis output at valued.pin.1.reply answer ending due answered ends))
+      ends_valued g old disk on at measure basis output started.opening.commands ending left
+      (subst (λ (cs : List Command). EndsValued cs on at measure basis output ending) (append-nil started.opening.commands)
+      (lone_ends started.opening valued.pin.1.caller on measure basis output at valued.pin.1.reply answer ending due answered ends))

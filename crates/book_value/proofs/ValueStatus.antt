@@ -8,6 +8,7 @@ use Rattle.policy_types.specs.declared.command.Command.{Command}
 use Rattle.policy_types.specs.declared.entry.At.{At}
 use Rattle.basis_book.specs.Dated.{Dated}
 use Rattle.basis_shelf.specs.Bases.{IsBasis}
+use Rattle.policy_value.specs.declared.worth.Measure.{Measure}
 use Rattle.basis_shelf.specs.FirstBad.{IsFirstBadFile}
 use Rattle.basis_shelf.specs.declared.fault.BadBasis.{BadBasis as ABadBasis}
 use Rattle.basis_shelf.proofs.OneBasis.{basis_or_bad}
@@ -23,42 +24,42 @@ use Rattle.program_endings.proofs.BasisSteps.{bad_refused, basis_refused}
 use Rattle.program_endings.proofs.ReadOnlySteps.{opens_to_none, read_as_before, read_refused, read_to_end}
 use Rattle.book_value.specs.Valuing.{EndsValue, EndsValuing, IsAhead, IsValued, position_of}
 
-module _ {D : Type 0} (g : Ghosts D) (old new : D) (on : ℤ) (at : At) (output : Stream) where
+module _ {D : Type 0} (g : Ghosts D) (old new : D) (on : ℤ) (at : At) (measure : Measure) (output : Stream) where
   -- nothing is valued of a file that opens to no commands
   never_valued : (basis : List Dated) → g.honest new → OpensToNone (g.reads old)
-      → (Wrote : List ℕ → Type 0) → IsValued g old new on at basis Wrote → ⊥
+      → (Wrote : List ℕ → Type 0) → IsValued g old new on at measure basis Wrote → ⊥
   never_valued basis honest none Wrote valued = none valued.commands (valued.opened honest)
 
   -- nor where fewer commands than are asked for are there
   never_beyond : (basis : List Dated) (commands : List Command) → g.honest new → Opens (g.reads old) commands
-      → length commands < position_of at (length commands) → (Wrote : List ℕ → Type 0) → IsValued g old new on at basis Wrote → ⊥
+      → length commands < position_of at (length commands) → (Wrote : List ℕ → Type 0) → IsValued g old new on at measure basis Wrote → ⊥
   never_beyond basis commands honest opens past Wrote valued =
       let same : commands ≡ valued.commands = opens_to_one (g.reads old) commands valued.commands opens (valued.opened honest) in
       let past_too : length valued.commands < position_of at (length valued.commands) =
       subst (λ (cs : List Command). length cs < position_of at (length cs)) same past in
       omega (arith, past_too, valued.valuation.reached)
 
-  valuing_as_before : (basis : List Dated) (ending : Ending) → EndsValuing g old new on at basis output ending
+  valuing_as_before : (basis : List Dated) (ending : Ending) → EndsValuing g old new on at measure basis output ending
       → g.honest new → OpensToNone (g.reads old) → g.reads new ≡ g.reads old
   valuing_as_before basis ending ends honest none = elim ends [
-    | inl read ↦ read_as_before g old new (IsValued g old new on at basis) output ending read (never_valued basis honest none) honest none
+    | inl read ↦ read_as_before g old new (IsValued g old new on at measure basis) output ending read (never_valued basis honest none) honest none
     | inr ahead ↦ absurd (none ahead.1.commands (ahead.1.opened honest))
   ]
 
-  valuing_refused : (basis : List Dated) (ending : Ending) → EndsValuing g old new on at basis output ending
+  valuing_refused : (basis : List Dated) (ending : Ending) → EndsValuing g old new on at measure basis output ending
       → g.honest new → OpensToNone (g.reads old) → (Rose (g.faults old) (g.faults new) → ⊥)
       → (status_of ending ≡ 5) ⊎ (status_of ending ≡ 9)
   valuing_refused basis ending ends honest none disk_held = elim ends [
-    | inl read ↦ read_refused g old new (IsValued g old new on at basis) output ending read (never_valued basis honest none) disk_held
+    | inl read ↦ read_refused g old new (IsValued g old new on at measure basis) output ending read (never_valued basis honest none) disk_held
     | inr ahead ↦ absurd (none ahead.1.commands (ahead.1.opened honest))
   ]
 
-  valuing_to_end : (basis : List Dated) (ending : Ending) (commands : List Command) → EndsValuing g old new on at basis output ending
+  valuing_to_end : (basis : List Dated) (ending : Ending) (commands : List Command) → EndsValuing g old new on at measure basis output ending
       → g.honest new → Opens (g.reads old) commands → position_of at (length commands) ≤ length commands
       → (Rose output.faults_before output.faults_after → ⊥) → (Rose (g.faults old) (g.faults new) → ⊥)
       → (status_of ending ≡ 0) ⊎ (status_of ending ≡ 9)
   valuing_to_end basis ending commands ends honest opens reached output_held disk_held = elim ends [
-    | inl read ↦ read_to_end g old new (IsValued g old new on at basis) output ending commands read honest opens output_held disk_held
+    | inl read ↦ read_to_end g old new (IsValued g old new on at measure basis) output ending commands read honest opens output_held disk_held
     | inr ahead ↦
         let same : commands ≡ ahead.1.commands = opens_to_one (g.reads old) commands ahead.1.commands opens (ahead.1.opened honest) in
         let reached_too : position_of at (length ahead.1.commands) ≤ length ahead.1.commands =
@@ -66,7 +67,7 @@ module _ {D : Type 0} (g : Ghosts D) (old new : D) (on : ℤ) (at : At) (output 
         absurd (omega (arith, reached_too, ahead.1.beyond.ahead))
   ]
 
-  read_beyond : (basis : List Dated) (ending : Ending) (commands : List Command) → EndsReadOnly g old new (IsValued g old new on at basis) output ending
+  read_beyond : (basis : List Dated) (ending : Ending) (commands : List Command) → EndsReadOnly g old new (IsValued g old new on at measure basis) output ending
       → g.honest new → Opens (g.reads old) commands → length commands < position_of at (length commands)
       → (Rose (g.faults old) (g.faults new) → ⊥) → status_of ending ≡ 9
   read_beyond basis NoMemory commands read honest opens past disk_held = refl
@@ -77,7 +78,7 @@ module _ {D : Type 0} (g : Ghosts D) (old new : D) (on : ℤ) (at : At) (output 
   read_beyond basis DiskFault commands read honest opens past disk_held = absurd (disk_held read.0)
   read_beyond basis _ commands read honest opens past disk_held = absurd read
 
-  valuing_beyond : (basis : List Dated) (ending : Ending) (commands : List Command) → EndsValuing g old new on at basis output ending
+  valuing_beyond : (basis : List Dated) (ending : Ending) (commands : List Command) → EndsValuing g old new on at measure basis output ending
       → g.honest new → Opens (g.reads old) commands → length commands < position_of at (length commands)
       → (Rose (g.faults old) (g.faults new) → ⊥) → (status_of ending ≡ 10) ⊎ (status_of ending ≡ 9)
   valuing_beyond basis ending commands ends honest opens past disk_held = elim ends [
@@ -86,7 +87,7 @@ module _ {D : Type 0} (g : Ghosts D) (old new : D) (on : ℤ) (at : At) (output 
   ]
 
   module _ (name : List ℕ) (shelf : Shelving) where
-    pub value_as_before : (ending : Ending) → EndsValue g old new on at name shelf output ending
+    pub value_as_before : (ending : Ending) → EndsValue g old new on at measure name shelf output ending
         → g.honest new → OpensToNone (g.reads old) → g.reads new ≡ g.reads old
     value_as_before ending ends honest none = elim ends [
       | inl by ↦ valuing_as_before by.basis ending by.ends honest none
@@ -94,7 +95,7 @@ module _ {D : Type 0} (g : Ghosts D) (old new : D) (on : ℤ) (at : At) (output 
     ]
 
     -- no valuation ends as words of no command do
-    pub value_usage : EndsValue g old new on at name shelf output Usage → ⊥
+    pub value_usage : EndsValue g old new on at measure name shelf output Usage → ⊥
     value_usage ends = elim ends [
       | inl by ↦ elim by.ends [
         | inl read ↦ read
@@ -103,7 +104,7 @@ module _ {D : Type 0} (g : Ghosts D) (old new : D) (on : ℤ) (at : At) (output 
       | inr none ↦ none.1
     ]
 
-    pub value_bad_file : EndsValue g old new on at name shelf output BadBasis → EndsNoBasis name shelf output BadBasis
+    pub value_bad_file : EndsValue g old new on at measure name shelf output BadBasis → EndsNoBasis name shelf output BadBasis
     value_bad_file ends = elim ends [
       | inl by ↦ elim by.ends [
         | inl read ↦ absurd read
@@ -112,7 +113,7 @@ module _ {D : Type 0} (g : Ghosts D) (old new : D) (on : ℤ) (at : At) (output 
       | inr none ↦ none.1
     ]
 
-    pub value_ahead : EndsValue g old new on at name shelf output Ahead → IsAhead g old new at output
+    pub value_ahead : EndsValue g old new on at measure name shelf output Ahead → IsAhead g old new at output
     value_ahead ends = elim ends [
       | inl by ↦ elim by.ends [
         | inl read ↦ absurd read
@@ -122,7 +123,7 @@ module _ {D : Type 0} (g : Ghosts D) (old new : D) (on : ℤ) (at : At) (output 
     ]
 
     module _ (files : Files) (agrees : shelf.Agrees files) where
-      pub value_unfit : (ending : Ending) (bad : ABadBasis) → EndsValue g old new on at name shelf output ending
+      pub value_unfit : (ending : Ending) (bad : ABadBasis) → EndsValue g old new on at measure name shelf output ending
           → IsFirstBadFile files name bad → (Rose shelf.faults_before shelf.faults_after → ⊥)
           → SaysBadFile bad output (status_of ending) ⊎ (status_of ending ≡ 9)
       value_unfit ending bad ends first shelf_held = elim ends [
@@ -132,14 +133,14 @@ module _ {D : Type 0} (g : Ghosts D) (old new : D) (on : ℤ) (at : At) (output 
 
       module _ (basis : List Dated) (is : IsBasis files name basis) (shelf_held : Rose shelf.faults_before shelf.faults_after → ⊥)
           (honest : g.honest new) (disk_held : Rose (g.faults old) (g.faults new) → ⊥) where
-        pub value_refused : (ending : Ending) → EndsValue g old new on at name shelf output ending → OpensToNone (g.reads old)
+        pub value_refused : (ending : Ending) → EndsValue g old new on at measure name shelf output ending → OpensToNone (g.reads old)
             → (status_of ending ≡ 5) ⊎ (status_of ending ≡ 9)
         value_refused ending ends none = elim ends [
           | inl by ↦ valuing_refused by.basis ending by.ends honest none disk_held
           | inr without ↦ inr (basis_refused output name shelf files agrees shelf_held ending basis is without.1)
         ]
 
-        pub value_to_end : (ending : Ending) (commands : List Command) → EndsValue g old new on at name shelf output ending
+        pub value_to_end : (ending : Ending) (commands : List Command) → EndsValue g old new on at measure name shelf output ending
             → Opens (g.reads old) commands → position_of at (length commands) ≤ length commands
             → (Rose output.faults_before output.faults_after → ⊥) → (status_of ending ≡ 0) ⊎ (status_of ending ≡ 9)
         value_to_end ending commands ends opens reached output_held = elim ends [
@@ -147,7 +148,7 @@ module _ {D : Type 0} (g : Ghosts D) (old new : D) (on : ℤ) (at : At) (output 
           | inr without ↦ inr (basis_refused output name shelf files agrees shelf_held ending basis is without.1)
         ]
 
-        pub value_beyond : (ending : Ending) (commands : List Command) → EndsValue g old new on at name shelf output ending
+        pub value_beyond : (ending : Ending) (commands : List Command) → EndsValue g old new on at measure name shelf output ending
             → Opens (g.reads old) commands → length commands < position_of at (length commands)
             → (status_of ending ≡ 10) ⊎ (status_of ending ≡ 9)
         value_beyond ending commands ends opens past = elim ends [

@@ -1,5 +1,5 @@
 -- How `value` ends, by what its parts did
-use Rattle.std.proofs.Common.{◌≡◌, ℕ, ◌≤◌, ◌<◌, ℤ, List, [], length, take, refl, ap, sym, ◌∙◌, subst, inl, inr, Result, Ok, Err, arith}
+use Rattle.std.proofs.Common.{◌≡◌, ℕ, ◌≤◌, ◌<◌, ℤ, List, [], length, take, refl, ap₂, sym, ◌∙◌, subst, inl, inr, Result, Ok, Err, arith}
 use Rattle.std.specs.List.{AllZip}
 use Rattle.outside_io.specs.Streams.{AppendsPart}
 use Rattle.outside_io.specs.declared.disks.Disk.{Ghosts}
@@ -14,6 +14,7 @@ use Rattle.policy_types.specs.declared.entry.Reply.TheVariants.{Accepted, Refuse
 use Rattle.policy_machine.specs.Book.{book}
 use Rattle.policy_machine.specs.History.{Opening, IsDue, commands_after, opened_on}
 use Rattle.policy_machine.specs.Merge.{pin_call}
+use Rattle.policy_value.specs.declared.worth.Measure.{Measure}
 use Rattle.report_text.specs.Block.{block_text}
 use Rattle.office_state.specs.Images.{IsLeftBy}
 use Rattle.snapshot_value.specs.Valuing.{AnswersPin, IsValuedRow, IsSnapshot}
@@ -28,20 +29,20 @@ use Rattle.book_value.specs.Valuing.{EndsValuing, IsValuation, position_of}
 use Rattle.book_value.specs.inside.Valued.{EndsAnswer, EndsValued, IsLoneAnswer, SaysAhead}
 
 -- an office was opened, and its values were written
-pub ends_valued : {D : Type 0} (g : Ghosts D) (old disk : D) (on : ℤ) (at : At) (basis : List Dated) (output : Stream)
+pub ends_valued : {D : Type 0} (g : Ghosts D) (old disk : D) (on : ℤ) (at : At) (measure : Measure) (basis : List Dated) (output : Stream)
     (commands : List Command) (ending : Ending) → IsLeftBy g old disk (opened_on commands (g.faults old)) []
-    → EndsValued commands on at basis output ending → EndsValuing g old disk on at basis output ending
-ends_valued g old disk on at basis output commands Done left ends =
+    → EndsValued commands on at measure basis output ending → EndsValuing g old disk on at measure basis output ending
+ends_valued g old disk on at measure basis output commands Done left ends =
     inl (record { commands = commands; opened = left.opened; valuation = ends; disk = left })
-ends_valued g old disk on at basis output commands WriteFault left ends =
+ends_valued g old disk on at measure basis output commands WriteFault left ends =
     inl (ends.0, record { commands = commands; opened = left.opened; valuation = ends.1; disk = left })
-ends_valued g old disk on at basis output commands Ahead left ends =
+ends_valued g old disk on at measure basis output commands Ahead left ends =
     inr (refl, record { commands = commands; opened = left.opened; beyond = ends; disk = left })
-ends_valued g old disk on at basis output commands NoMemory left ends = inl (ends, left.alone tt, left.faults)
-ends_valued g old disk on at basis output commands _ left ends = absurd ends
+ends_valued g old disk on at measure basis output commands NoMemory left ends = inl (ends, left.alone tt, left.faults)
+ends_valued g old disk on at measure basis output commands _ left ends = absurd ends
 
 -- The answer of an office at which nobody turned before.
-module _ (opening : Opening) (caller : ℕ) (on : ℤ) (basis : List Dated) where
+module _ (opening : Opening) (caller : ℕ) (on : ℤ) (measure : Measure) (basis : List Dated) where
   abbrev commands : List Command
   commands = commands_after opening []
 
@@ -53,8 +54,8 @@ module _ (opening : Opening) (caller : ℕ) (on : ℤ) (basis : List Dated) wher
   lone_refusal (Position p) PinsFull due = absurd (let full : 16 ≤ 0 = due.2 in omega (arith, full))
 
   pub lone_answer : (at : At) (reply : Reply) (answer : Result Valuation ValueFault) → IsDue opening [] caller (pin_call at) reply
-      → AnswersPin commands basis on reply answer → IsLoneAnswer answer
-  lone_answer at (Pinned position policies) (Ok valuation) due is = block_writable commands basis on position valuation is
+      → AnswersPin commands basis on measure reply answer → IsLoneAnswer answer
+  lone_answer at (Pinned position policies) (Ok valuation) due is = block_writable commands basis on measure position valuation is
   lone_answer at (Pinned position policies) (Err (Pin why)) due is = absurd is
   lone_answer at (Pinned position policies) (Err NoValues) due is = tt
   lone_answer at (PinRefused refusal) (Ok valuation) due is = absurd is
@@ -76,32 +77,32 @@ module _ (opening : Opening) (caller : ℕ) (on : ℤ) (basis : List Dated) wher
     pinned_place (Position p) position policies due = (due.3, due.0)
 
     valuation_of : (at : At) (position policies : ℕ) (valuation : Valuation) (Wrote : List ℕ → Type 0)
-        → IsDue opening [] caller (pin_call at) (Pinned position policies) → IsSnapshot commands basis on position valuation
-        → Wrote (block_text 0 on valuation.position valuation.rows) → IsValuation commands on at basis Wrote
+        → IsDue opening [] caller (pin_call at) (Pinned position policies) → IsSnapshot commands basis on measure position valuation
+        → Wrote (block_text 0 on valuation.position valuation.measure valuation.rows) → IsValuation commands on at measure basis Wrote
     valuation_of at position policies valuation Wrote due snapshot wrote =
         let place = pinned_place at position policies due in
         record {
           reached = place.1;
           rows = valuation.rows;
-          each = subst (λ p. AllZip (IsValuedRow basis on) (book (take p commands)) valuation.rows) place.0 snapshot.rows.each;
-          wrote = subst Wrote (ap (λ p. block_text 0 on p valuation.rows) (snapshot.pinned ∙ place.0)) wrote;
+          each = subst (λ p. AllZip (IsValuedRow basis on measure) (book (take p commands)) valuation.rows) place.0 snapshot.rows.each;
+          wrote = subst Wrote (ap₂ (λ p m. block_text 0 on p m valuation.rows) (snapshot.pinned ∙ place.0) snapshot.measured) wrote;
         }
 
     ends_ahead : (at : At) (count : ℕ) (ending : Ending) → IsDue opening [] caller (pin_call at) (PinRefused (PastTheEnd count))
-        → SaysAhead count output ending → EndsValued commands on at basis output ending
+        → SaysAhead count output ending → EndsValued commands on at measure basis output ending
     ends_ahead Now count ending due says = absurd due
     ends_ahead (Position p) count Ahead due says = record { ahead = due.0; line = rw (sym due.1) says }
     ends_ahead (Position p) count NoMemory due says = says
     ends_ahead (Position p) count _ due says = absurd says
 
     ends_refused_pin : (at : At) (refusal : PinRefusal) (ending : Ending) → IsDue opening [] caller (pin_call at) (PinRefused refusal)
-        → EndsAnswer on (Err (Pin refusal)) output ending → EndsValued commands on at basis output ending
+        → EndsAnswer on (Err (Pin refusal)) output ending → EndsValued commands on at measure basis output ending
     ends_refused_pin at (PastTheEnd count) ending due ends = ends_ahead at count ending due ends
     ends_refused_pin at (Trimmed floor) ending due ends = absurd ends
     ends_refused_pin at PinsFull ending due ends = absurd ends
 
     pub lone_ends : (at : At) (reply : Reply) (answer : Result Valuation ValueFault) (ending : Ending) → IsDue opening [] caller (pin_call at) reply
-        → AnswersPin commands basis on reply answer → EndsAnswer on answer output ending → EndsValued commands on at basis output ending
+        → AnswersPin commands basis on measure reply answer → EndsAnswer on answer output ending → EndsValued commands on at measure basis output ending
     lone_ends at (Pinned position policies) (Ok valuation) Done due is ends = valuation_of at position policies valuation (WroteAll output) due is ends
     lone_ends at (Pinned position policies) (Ok valuation) WriteFault due is ends =
         (ends.0, valuation_of at position policies valuation (AppendsPart output.before output.after) due is ends.1)

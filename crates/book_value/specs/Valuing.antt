@@ -10,6 +10,7 @@ use Rattle.policy_machine.specs.Book.{book}
 use Rattle.policy_machine.specs.History.{opened_on}
 use Rattle.basis_book.specs.Dated.{Dated}
 use Rattle.basis_shelf.specs.Bases.{IsBasis}
+use Rattle.policy_value.specs.declared.worth.Measure.{Measure}
 use Rattle.policy_value.specs.declared.worth.Row.{Row}
 use Rattle.report_text.specs.Block.{block_text}
 use Rattle.snapshot_value.specs.Valuing.{IsValuedRow}
@@ -26,21 +27,21 @@ abbrev pub position_of : At → ℕ → ℕ
 position_of Now count = count
 position_of (Position p) count = p
 
--- there are as many commands as are asked for, and of the policies that these leave, each with its row, the text was
--- written
-pub record IsValuation (commands : List Command) (on : ℤ) (at : At) (basis : List Dated) (Wrote : List ℕ → Type 0)
-    : Type 0 where
+-- there are as many commands as are asked for, and of the policies that these leave, each with its row by the measure,
+-- the text was written
+pub record IsValuation (commands : List Command) (on : ℤ) (at : At) (measure : Measure) (basis : List Dated)
+    (Wrote : List ℕ → Type 0) : Type 0 where
   pub reached : position_of at (length commands) ≤ length commands
   pub rows : List Row
-  pub each : AllZip (IsValuedRow basis on) (book (take (position_of at (length commands)) commands)) rows
-  pub wrote : Wrote (block_text 0 on (position_of at (length commands)) rows)
+  pub each : AllZip (IsValuedRow basis on measure) (book (take (position_of at (length commands)) commands)) rows
+  pub wrote : Wrote (block_text 0 on (position_of at (length commands)) measure rows)
 
 -- the policies of the disk's file were valued, and the disk holds its commands still
-pub record IsValued {D : Type 0} (g : Ghosts D) (old new : D) (on : ℤ) (at : At) (basis : List Dated)
+pub record IsValued {D : Type 0} (g : Ghosts D) (old new : D) (on : ℤ) (at : At) (measure : Measure) (basis : List Dated)
     (Wrote : List ℕ → Type 0) : Type 0 where
   pub commands : List Command
   pub opened : g.honest new → Opens (g.reads old) commands
-  pub valuation : IsValuation commands on at basis Wrote
+  pub valuation : IsValuation commands on at measure basis Wrote
   pub disk : IsLeftBy g old new (opened_on commands (g.faults old)) []
 
 -- more commands are asked for than there are, and how many there are was written
@@ -56,19 +57,19 @@ pub record IsAhead {D : Type 0} (g : Ghosts D) (old new : D) (at : At) (output :
   pub disk : IsLeftBy g old new (opened_on commands (g.faults old)) []
 
 -- how `value` ends by a basis
-abbrev pub EndsValuing : {D : Type 0} → Ghosts D → D → D → ℤ → At → List Dated → Stream → Ending → Type 0
-EndsValuing g old new on at basis output ending =
-    EndsReadOnly g old new (IsValued g old new on at basis) output ending
+abbrev pub EndsValuing : {D : Type 0} → Ghosts D → D → D → ℤ → At → Measure → List Dated → Stream → Ending → Type 0
+EndsValuing g old new on at measure basis output ending =
+    EndsReadOnly g old new (IsValued g old new on at measure basis) output ending
     ⊎ ((ending ≡ Ahead) × IsAhead g old new at output)
 
 -- the shelf has this basis under the name, and `value` ended so by it
-pub record EndsByBasis {D : Type 0} (g : Ghosts D) (old new : D) (on : ℤ) (at : At) (name : List ℕ) (shelf : Shelving)
-    (output : Stream) (ending : Ending) : Type 0 where
+pub record EndsByBasis {D : Type 0} (g : Ghosts D) (old new : D) (on : ℤ) (at : At) (measure : Measure) (name : List ℕ)
+    (shelf : Shelving) (output : Stream) (ending : Ending) : Type 0 where
   pub basis : List Dated
   pub is : (files : Files) → shelf.Agrees files → IsBasis files name basis
-  pub ends : EndsValuing g old new on at basis output ending
+  pub ends : EndsValuing g old new on at measure basis output ending
 
 -- how `value` ends; without a basis the disk isn't touched
-abbrev pub EndsValue : {D : Type 0} → Ghosts D → D → D → ℤ → At → List ℕ → Shelving → Stream → Ending → Type 0
-EndsValue g old new on at name shelf output ending =
-    EndsByBasis g old new on at name shelf output ending ⊎ ((new ≡ old) × EndsNoBasis name shelf output ending)
+abbrev pub EndsValue : {D : Type 0} → Ghosts D → D → D → ℤ → At → Measure → List ℕ → Shelving → Stream → Ending → Type 0
+EndsValue g old new on at measure name shelf output ending =
+    EndsByBasis g old new on at measure name shelf output ending ⊎ ((new ≡ old) × EndsNoBasis name shelf output ending)

@@ -1,6 +1,7 @@
 -- Worked valuations of a journal without commands, and of positions
-use Rattle.std.specs.Prelude.{◌≡◌, ℕ, List, [], ◌∷◌, ◌++◌, codes, pos}
+use Rattle.std.specs.Prelude.{◌≡◌, [], ◌∷◌, ◌++◌, codes, pos}
 use Rattle.policy_types.specs.declared.entry.At.TheVariants.{Now, Position}
+use Rattle.policy_value.specs.declared.worth.Measure.TheVariants.{Terminal, Mean, Deficiency}
 use Rattle.program_endings.specs.Worked.{output_with}
 use Rattle.book_value.specs.Valuing.{IsBeyond, IsValuation, position_of}
 
@@ -9,8 +10,12 @@ PositionsAsked = (position_of Now 7 ≡ 7) × (position_of (Position 2) 7 ≡ 2)
 
 -- nobody is valued, and there is no need of a basis for it
 abbrev pub NobodyValued : Type 0
-NobodyValued = IsValuation [] (pos 18628) Now [] (λ text.
+NobodyValued = IsValuation [] (pos 18628) Now Terminal [] (λ text.
     text ≡ codes "0,value,2021-01-01,0,0" ++ (10 ∷ []) ++ codes "total,0.00,0.00,0" ++ 10 ∷ [])
+    × IsValuation [] (pos 18628) Now Mean [] (λ text.
+    text ≡ codes "0,value,2021-01-01,0,0,mean" ++ (10 ∷ []) ++ codes "total,0.00,0.00,0" ++ 10 ∷ [])
+    × IsValuation [] (pos 18628) Now Deficiency [] (λ text.
+    text ≡ codes "0,value,2021-01-01,0,0,deficiency" ++ (10 ∷ []) ++ codes "total,0.00,0.00,0.00,0.00,0" ++ 10 ∷ [])
 
 -- three commands are asked for of none
 abbrev pub AheadOfNone : Type 0

@@ -13,6 +13,7 @@ use basis_book::{Basis, Name};
 use basis_shelf::fetch_basis;
 use outside_io::{Disk, Gate, Shelf, Sink};
 use policy_types::{At, PinRefusal};
+use policy_value::Measure;
 use program_endings::{
     Ending, Finished, end, lack_memory, refuse_basis, refuse_journal, write_text,
 };
@@ -27,13 +28,14 @@ use watcher_set::{NoWatchers, Watching};
 /// A valuation that no lane of a script asks for.
 const NO_LANE: u8 = 0;
 
-/// Writes what each policy is worth on a day, in days since 1970-01-01, after as many commands as are asked for. The
-/// basis is fetched before the disk is touched.
+/// Writes what each policy is worth on a day, in days since 1970-01-01, by a measure, after as many commands as are asked
+/// for. The basis is fetched before the disk is touched.
 pub fn value<R: Threads + Wait + Sync, K: Sink, H: Shelf, D: Disk, G: Gate>(
     rt: &R,
     alloc: Global,
     on: i32,
     at: At,
+    measure: Measure,
     workers: u8,
     basis: &Name,
     shelf: &mut H,
@@ -43,13 +45,15 @@ pub fn value<R: Threads + Wait + Sync, K: Sink, H: Shelf, D: Disk, G: Gate>(
 ) -> Finished<D>
     requires day { IsDay on }
     requires workers { (1 ≤ workers) × (workers ≤ 64) }
-    ensures ends { EndsValue D.Disk disk result.disk on at basis.now
+    ensures ends { EndsValue D.Disk disk result.disk on at measure basis.now
         (shelf_between H.faults H.agrees shelf.old shelf.new)
         (between K.faults K.written output.old output.new) result.ending }
     ensures files { H.files shelf.new ≡ H.files shelf.old }
 {
     match fetch_basis(alloc, basis, shelf) {
-        Ok(basis) => value_by(rt, alloc, on, at, workers, &basis, output, disk, gate),
+        Ok(basis) => value_by(
+            rt, alloc, on, at, measure, workers, &basis, output, disk, gate,
+        ),
         Err(cause) => Finished {
             ending: refuse_basis(alloc, cause, output),
             disk,
@@ -63,6 +67,7 @@ fn value_by<R: Threads + Wait + Sync, K: Sink, D: Disk, G: Gate>(
     alloc: Global,
     on: i32,
     at: At,
+    measure: Measure,
     workers: u8,
     basis: &Basis,
     output: &mut K,
@@ -71,13 +76,13 @@ fn value_by<R: Threads + Wait + Sync, K: Sink, D: Disk, G: Gate>(
 ) -> Finished<D>
     requires day { IsDay on }
     requires workers { (1 ≤ workers) × (workers ≤ 64) }
-    ensures { EndsValuing D.Disk disk result.disk on at basis.now
+    ensures { EndsValuing D.Disk disk result.disk on at measure basis.now
         (between K.faults K.written output.old output.new) result.ending }
 {
     match Office::start(alloc, disk, NoWatchers) {
         Ok((office, pass)) => {
             value_office(
-                rt, alloc, on, at, workers, basis, office, pass, output, gate,
+                rt, alloc, on, at, measure, workers, basis, office, pass, output, gate,
             )
         }
         Err(fault) => Finished {
@@ -93,6 +98,7 @@ fn value_office<R: Threads + Wait + Sync, K: Sink, D: Disk, W: Watching, G: Gate
     alloc: Global,
     on: i32,
     at: At,
+    measure: Measure,
     workers: u8,
     basis: &Basis,
     office: Office<D, W>,
@@ -106,12 +112,12 @@ fn value_office<R: Threads + Wait + Sync, K: Sink, D: Disk, W: Watching, G: Gate
     requires started { (old : D) × ((watchers : W) × HasStartedOffice D.Disk old watchers pass) }
     requires facts { PassFacts IsOfficeHistory pass }
     ensures ends { (old : D) (watchers : W) → HasStartedOffice D.Disk old watchers pass
-        → EndsValuing D.Disk old result.disk on at basis.now
+        → EndsValuing D.Disk old result.disk on at measure basis.now
         (between K.faults K.written output.old output.new) result.ending }
 {
     let mut pass = pass;
     let valued = snapshot_value::value(
-        rt, alloc, &office, &mut pass, basis, on, at, workers, NO_LANE, gate,
+        rt, alloc, &office, &mut pass, basis, on, at, measure, workers, NO_LANE, gate,
     );
     let (disk, _, _) = close(office, pass);
     let ending = write_answer(alloc, on, valued.answer, output);
@@ -142,7 +148,14 @@ fn write_values<K: Sink>(alloc: Global, on: i32, valuation: &Valuation, output: 
     requires writable { IsWritableBlock valuation.now }
     ensures ends { EndsAnswer on (Ok valuation.now) (between K.faults K.written output.old output.new) result }
 {
-    let text = print_block(alloc, NO_LANE, on, valuation.position, &valuation.rows);
+    let text = print_block(
+        alloc,
+        NO_LANE,
+        on,
+        valuation.position,
+        valuation.measure,
+        &valuation.rows,
+    );
     write_text(text.map(|text| text.into_vec()), output)
 }
 

@@ -24,9 +24,10 @@ use Rattle.policy_types.specs.declared.script.Lane.{Lane}
 use Rattle.policy_machine.specs.Book.{book}
 use Rattle.policy_machine.specs.History.{Opening, accepted_by, accepted_of, commands_after, opened_on}
 use Rattle.policy_value.specs.Rows.{IsExact, IsReserveOf}
+use Rattle.policy_value.specs.declared.worth.Measure.TheVariants.{Terminal}
 use Rattle.policy_value.specs.declared.worth.Row.{Row}
 use Rattle.policy_value.specs.declared.worth.Worth.{Worth}
-use Rattle.policy_value.specs.declared.worth.Worth.TheVariants.{Bounds, Word}
+use Rattle.policy_value.specs.declared.worth.Worth.TheVariants.{Bounds, Both, Word}
 use Rattle.rate_table.specs.declared.shape.Shape.{Shape}
 use Rattle.lane_runner.specs.AnsweredLines.{AnsweredLine}
 use Rattle.snapshot_value.specs.Valuing.{IsValuedRow}
@@ -56,14 +57,16 @@ use Rattle.life_app.specs.Headline.{IsEnclosingRow, IsGivenBasis, IsPromised, Is
 
 -- the rounded bounds of a row are bounds of the exact reserve
 worth_by : (policy : Policy) (entry : Dated) (on : ℤ) (shape : Result Shape NotValued) (t : ℕ) (worth : Worth)
-    → shape_of policy.plan policy.age policy.years entry.table ≡ shape → IsReserveOf policy entry.table entry.bp on shape t worth
-    → IsExact policy entry.table entry.bp t worth → IsWorthBy policy entry on shape t worth
+    → shape_of policy.plan policy.age policy.years entry.table ≡ shape → IsReserveOf policy entry.table entry.bp on Terminal shape t worth
+    → IsExact Terminal policy entry.table entry.bp t worth → IsWorthBy policy entry on shape t worth
 worth_by policy entry on (Ok shape) t (Bounds lo hi) is value exact = (value.0, exact shape is)
 worth_by policy entry on (Ok shape) t (Word why) is value exact = let never = value.1 in cc
+worth_by policy entry on (Ok shape) t (Both lo hi min_lo min_hi test) is value exact = let never = value.1 in cc
 worth_by policy entry on (Err word) t (Bounds lo hi) is value exact = let never = value.1 in cc
+worth_by policy entry on (Err word) t (Both lo hi min_lo min_hi test) is value exact = let never = value.1 in cc
 worth_by policy entry on (Err word) t (Word why) is value exact = let same = value.1 in cc
 
-enclosing : (basis : List Dated) (on : ℤ) (policy : Policy) (row : Row) → IsValuedRow basis on policy row → IsEnclosingRow basis on policy row
+enclosing : (basis : List Dated) (on : ℤ) (policy : Policy) (row : Row) → IsValuedRow basis on Terminal policy row → IsEnclosingRow basis on policy row
 enclosing basis on policy row is = record {
   id = is.valued.id;
   status = is.valued.status;
@@ -91,7 +94,7 @@ told_text clerk (Value on at workers) (Pinned position policies) commands basis 
     rows.0,
     (
       rows.1.0,
-      each_pair (IsValuedRow basis on) (IsEnclosingRow basis on) (enclosing basis on) (book (take position commands)) rows.1.0 rows.1.1,
+      each_pair (IsValuedRow basis on Terminal) (IsEnclosingRow basis on) (enclosing basis on) (book (take position commands)) rows.1.0 rows.1.1,
       rows.1.2,
     ),
   )

@@ -7,6 +7,7 @@ use Rattle.policy_types.specs.declared.script.Lane.{Lane}
 use Rattle.policy_machine.specs.History.{Opening, opened_on}
 use Rattle.watcher_set.specs.Noted.{Auditor}
 use Rattle.basis_book.specs.Dated.{Dated}
+use Rattle.policy_value.specs.declared.worth.Measure.{Measure}
 use Rattle.life_args.specs.declared.mode.Mode.{Mode}
 use Rattle.life_args.specs.declared.mode.Mode.TheVariants.{Run, Value, State, Generate, Load}
 use Rattle.office_state.specs.Images.{IsLeftAlone, IsLeftBy}
@@ -81,12 +82,12 @@ module _ {D : Type 0} (g : Ghosts D) (old new : D) where
   read_only Tells output NoMemory told ends = all_alone ends.1
   read_only Tells output _ told ends = absurd ends
 
-  value_left : (on : ℤ) (at : At) (name : List ℕ) (shelf : Shelving) (output : Stream) (ending : Ending)
-      → EndsValue g old new on at name shelf output ending → Left
-  value_left on at name shelf output ending ends = elim ends [
+  value_left : (on : ℤ) (at : At) (measure : Measure) (name : List ℕ) (shelf : Shelving) (output : Stream) (ending : Ending)
+      → EndsValue g old new on at measure name shelf output ending → Left
+  value_left on at measure name shelf output ending ends = elim ends [
     | inl by ↦ elim by.ends [
       | inl valued ↦
-          read_only (IsValued g old new on at by.basis) output ending (λ Wrote is. by_turns (opened_on is.commands (g.faults old)) [] is.disk) valued
+          read_only (IsValued g old new on at measure by.basis) output ending (λ Wrote is. by_turns (opened_on is.commands (g.faults old)) [] is.disk) valued
       | inr (same, ahead) ↦ by_turns (opened_on ahead.commands (g.faults old)) [] ahead.disk
     ]
     | inr none ↦ untouched none.0
@@ -124,7 +125,7 @@ module _ {D : Type 0} (g : Ghosts D) (old new : D) where
   module _ (auditors : List Auditor) (input : Input) (output : Stream) (shelf : Shelving) (InputStays ShelfStays : Type 0) where
     mode_left : (mode : Mode) (ending : Ending) → EndsMode g old new mode auditors input output shelf InputStays ShelfStays ending → Left
     mode_left (Run name) ending ends = run_left name auditors input output shelf ShelfStays ending ends
-    mode_left (Value on at workers name) ending ends = value_left on at name shelf output ending ends.1
+    mode_left (Value on at workers name measure) ending ends = value_left on at measure name shelf output ending ends.1
     mode_left (State None) ending ends =
         read_only (IsStated g old new books_text) output ending (λ Wrote is. by_turns (opened_on is.commands (g.faults old)) [] is.disk) ends.2
     mode_left (State (Some id)) ending ends =

@@ -11,6 +11,7 @@ use Rattle.policy_types.specs.declared.entry.At.TheVariants.{Position}
 use Rattle.policy_types.specs.declared.script.Lane.{Lane}
 use Rattle.watcher_set.specs.Noted.{Auditor}
 use Rattle.basis_book.specs.Dated.{Dated}
+use Rattle.policy_value.specs.declared.worth.Measure.{Measure}
 use Rattle.basis_shelf.specs.Bases.{IsBasis}
 use Rattle.basis_shelf.specs.FirstBad.{IsFirstBadFile}
 use Rattle.basis_shelf.specs.declared.fault.BadBasis.{BadBasis as ABadBasis}
@@ -86,8 +87,8 @@ module _ {D : Type 0} (g : Ghosts D) (old new : D) (auditors : List Auditor) whe
     mode_as_before : (mode : Mode) (ending : Ending) → EndsMode g old new mode auditors input output shelf InputStays ShelfStays ending
         → g.honest new → OpensToNone (g.reads old) → g.reads new ≡ g.reads old
     mode_as_before (Run name) ending ends honest none = run_as_before g old new auditors name input output shelf ShelfStays ending ends honest none
-    mode_as_before (Value on at workers name) ending ends honest none =
-        value_as_before g old new on at output name shelf ending ends.1 honest none
+    mode_as_before (Value on at workers name measure) ending ends honest none =
+        value_as_before g old new on at measure output name shelf ending ends.1 honest none
     mode_as_before (State None) ending ends honest none =
         state_as_before g old new books_text output ending ends.2 honest none
     mode_as_before (State (Some id)) ending ends honest none =
@@ -108,9 +109,9 @@ module _ {D : Type 0} (g : Ghosts D) (old new : D) (auditors : List Auditor) whe
 
       -- the words ask for a valuation, which ended so, or there was no memory to read them
       valued_so : (on : ℤ) (at : At) (name : List ℕ) → AskForValue words on at name
-          → EndsValue g old new on at name shelf output ending ⊎ (status_of ending ≡ 9)
-      valued_so on at name asked = elim (as_asked ending does (Value on at asked.0 name) asked.1) [
-        | inl ends ↦ inl ends.1
+          → ((measure : Measure) × EndsValue g old new on at measure name shelf output ending) ⊎ (status_of ending ≡ 9)
+      valued_so on at name asked = elim (as_asked ending does (Value on at asked.0 name asked.1.0) asked.1.1) [
+        | inl ends ↦ inl (asked.1.0, ends.1)
         | inr none ↦ inr none
       ]
 
@@ -118,7 +119,7 @@ module _ {D : Type 0} (g : Ghosts D) (old new : D) (auditors : List Auditor) whe
           → shelf.Agrees files → IsFirstBadFile files name bad → (Rose shelf.faults_before shelf.faults_after → ⊥)
           → SaysBadFile bad output (status_of ending) ⊎ (status_of ending ≡ 9)
       unfit on at name bad files asked told first shelf_held = elim (valued_so on at name asked) [
-        | inl ends ↦ value_unfit g old new on at output name shelf files told ending bad ends first shelf_held
+        | inl ends ↦ value_unfit g old new on at ends.0 output name shelf files told ending bad ends.1 first shelf_held
         | inr none ↦ inr none
       ]
 
@@ -129,7 +130,7 @@ module _ {D : Type 0} (g : Ghosts D) (old new : D) (auditors : List Auditor) whe
           → (Rose (g.faults old) (g.faults new) → ⊥) → (status_of ending ≡ 0) ⊎ (status_of ending ≡ 9)
       valued on at name files basis commands asked told is honest opens reached shelf_held output_held disk_held =
           elim (valued_so on at name asked) [
-            | inl ends ↦ value_to_end g old new on at output name shelf files told basis is shelf_held honest disk_held ending commands ends opens
+            | inl ends ↦ value_to_end g old new on at ends.0 output name shelf files told basis is shelf_held honest disk_held ending commands ends.1 opens
                 reached output_held
             | inr none ↦ inr none
           ]
@@ -141,8 +142,8 @@ module _ {D : Type 0} (g : Ghosts D) (old new : D) (auditors : List Auditor) whe
           → (status_of ending ≡ 10) ⊎ (status_of ending ≡ 9)
       ahead on p name files basis commands asked told is honest opens past shelf_held disk_held =
           elim (valued_so on (Position p) name asked) [
-            | inl ends ↦ value_beyond g old new on (Position p) output name shelf files told basis is shelf_held honest disk_held ending commands
-                ends opens past
+            | inl ends ↦ value_beyond g old new on (Position p) ends.0 output name shelf files told basis is shelf_held honest disk_held ending commands
+                ends.1 opens past
             | inr none ↦ inr none
           ]
 
@@ -152,7 +153,7 @@ module _ {D : Type 0} (g : Ghosts D) (old new : D) (auditors : List Auditor) whe
           → (Rose shelf.faults_before shelf.faults_after → ⊥) → (Rose (g.faults old) (g.faults new) → ⊥)
           → (status_of ending ≡ 5) ⊎ (status_of ending ≡ 9)
       unvalued on at name files basis asked told is honest none shelf_held disk_held = elim (valued_so on at name asked) [
-        | inl ends ↦ value_refused g old new on at output name shelf files told basis is shelf_held honest disk_held ending ends none
+        | inl ends ↦ value_refused g old new on at ends.0 output name shelf files told basis is shelf_held honest disk_held ending ends.1 none
         | inr without ↦ inr without
       ]
 
@@ -281,7 +282,7 @@ module _ {D : Type 0} (g : Ghosts D) (old new : D) (auditors : List Auditor) whe
           let none = lacks.3 in
           said output none.bad
           (unfit_run script.bytes name lacks.0 none.bad none.files asked script.whole script.read.0 script.read.1 lacks.2 none.agree none.first script.held none.held)
-      bad_basis (Value on at workers name) asked none = said output none.bad (unfit on at name none.bad none.files (workers, asked) none.agree none.first none.held)
+      bad_basis (Value on at workers name measure) asked none = said output none.bad (unfit on at name none.bad none.files (workers, (measure, asked)) none.agree none.first none.held)
       bad_basis (Load seed count lanes workers) asked none =
           said output none.bad (unfit_load none.bad none.files (seed, (count, (lanes, (workers, asked)))) none.agree none.first none.held)
       bad_basis _ asked lacks = absurd lacks
@@ -292,8 +293,8 @@ module _ {D : Type 0} (g : Ghosts D) (old new : D) (auditors : List Auditor) whe
           let script = has.1 in
           refused_exactly script.bytes name has.0 asked script.whole script.read.0 script.read.1 (basis_for has.0 name has.2) (held_for has.0 name has.2)
           none.honest none.none script.held none.held
-      bad_journal (Value on at workers name) asked has none =
-          unvalued on at name has.files has.basis (workers, asked) has.agree has.is none.honest none.none has.held none.held
+      bad_journal (Value on at workers name measure) asked has none =
+          unvalued on at name has.files has.basis (workers, (measure, asked)) has.agree has.is none.honest none.none has.held none.held
       bad_journal (State id) asked has none = unstated (id, asked) none.honest none.none none.held
       bad_journal (Load seed count lanes workers) asked has none =
           unloaded has.files has.basis (seed, (count, (lanes, (workers, asked)))) has.agree has.is none.honest none.none has.held none.held
@@ -306,9 +307,9 @@ module _ {D : Type 0} (g : Ghosts D) (old new : D) (auditors : List Auditor) whe
           let file = journal.1 in
           complete script.bytes name has.0 journal.0 asked script.whole script.read.0 script.read.1 (basis_for has.0 name has.2)
           (held_for has.0 name has.2) file.honest file.opens script.held output_held file.held
-      done (Value on at workers name) asked has journal output_held =
+      done (Value on at workers name measure) asked has journal output_held =
           let file = journal.1 in
-          valued on at name has.files has.basis journal.0 (workers, asked) has.agree has.is file.honest file.opens journal.2 has.held output_held file.held
+          valued on at name has.files has.basis journal.0 (workers, (measure, asked)) has.agree has.is file.honest file.opens journal.2 has.held output_held file.held
       done (State id) asked has journal output_held = (let file = journal.1 in stated journal.0 (id, asked) file.honest file.opens output_held file.held)
       done (Generate seed count lanes) asked has journal output_held = generated (seed, (count, (lanes, asked))) output_held
       done (Load seed count lanes workers) asked has journal output_held =
@@ -322,6 +323,6 @@ module _ {D : Type 0} (g : Ghosts D) (old new : D) (auditors : List Auditor) whe
       due BadBasis is = bad_basis is.0 is.1 is.2
       due BadJournal is = bad_journal is.0 is.1 is.2 is.3
       due Done is = done is.0 is.1 is.2 is.3 is.4
-      due Ahead (on, (p, (workers, (name, asked, has, (commands, file, past))))) =
-          ahead on p name has.files has.basis commands (workers, asked) has.agree has.is file.honest file.opens past has.held file.held
+      due Ahead (on, (p, (name, asked, has, (commands, file, past)))) =
+          ahead on p name has.files has.basis commands asked has.agree has.is file.honest file.opens past has.held file.held
       due _ is = absurd is

@@ -6,6 +6,7 @@ use Rattle.policy_types.specs.declared.entry.At.{At}
 use Rattle.policy_types.specs.declared.entry.At.TheVariants.{Now, Position}
 use Rattle.policy_types.specs.declared.script.Lane.{Lane}
 use Rattle.basis_book.specs.Dated.{Dated}
+use Rattle.policy_value.specs.declared.worth.Measure.{Measure}
 use Rattle.watcher_set.specs.Noted.{Auditor}
 use Rattle.life_args.specs.Words.{AskFor}
 use Rattle.life_args.specs.declared.mode.Mode.{Mode}
@@ -93,14 +94,14 @@ module _ {D : Type 0} (g : Ghosts D) (old new : D) (words : List (String Global)
   past_the_end on (Position p) name asked ahead =
       (on, (p, (name, asked, λ honest. (ahead.commands, ahead.opened honest, ahead.beyond.ahead))))
 
-  value_reason : (on : ℤ) (at : At) (workers : ℕ) (name : List ℕ) (ending : Ending) → AskFor words (Value on at workers name)
-      → EndsValue g old new on at name shelf output ending → Reason ending
-  value_reason on at workers name ending asked ends = elim ends [
+  value_reason : (on : ℤ) (at : At) (workers : ℕ) (name : List ℕ) (measure : Measure) (ending : Ending) → AskFor words (Value on at workers name measure)
+      → EndsValue g old new on at measure name shelf output ending → Reason ending
+  value_reason on at workers name measure ending asked ends = elim ends [
     | inl by ↦ elim by.ends [
-      | inl valued ↦ read_only (IsValued g old new on at by.basis) ending valued
-      | inr (same, ahead) ↦ subst (λ (e : Ending). Reason e) (sym same) (past_the_end on at name (workers, asked) ahead)
+      | inl valued ↦ read_only (IsValued g old new on at measure by.basis) ending valued
+      | inr (same, ahead) ↦ subst (λ (e : Ending). Reason e) (sym same) (past_the_end on at name (workers, (measure, asked)) ahead)
     ]
-    | inr none ↦ no_basis name ending (inl (on, (at, (workers, asked)))) none.1
+    | inr none ↦ no_basis name ending (inl (on, (at, (workers, (measure, asked))))) none.1
   ]
 
   generate_reason : (seed count lanes : ℕ) (ending : Ending) → EndsGenerate seed count lanes output ending → Reason ending
@@ -131,7 +132,7 @@ module _ {D : Type 0} (g : Ghosts D) (old new : D) (words : List (String Global)
   mode_reason : (mode : Mode) (auditors : List Auditor) (InputStays ShelfStays : Type 0) (ending : Ending) → AskFor words mode
       → EndsMode g old new mode auditors input output shelf InputStays ShelfStays ending → Reason ending
   mode_reason (Run name) auditors InputStays ShelfStays ending asked ends = run_reason name auditors ShelfStays ending asked ends
-  mode_reason (Value on at workers name) auditors InputStays ShelfStays ending asked ends = value_reason on at workers name ending asked ends.1
+  mode_reason (Value on at workers name measure) auditors InputStays ShelfStays ending asked ends = value_reason on at workers name measure ending asked ends.1
   mode_reason (State None) auditors InputStays ShelfStays ending asked ends = read_only (IsStated g old new books_text) ending ends.2
   mode_reason (State (Some id)) auditors InputStays ShelfStays ending asked ends = read_only (IsStated g old new (policy_account id)) ending ends.2
   mode_reason (Generate seed count lanes) auditors InputStays ShelfStays ending asked ends = generate_reason seed count lanes ending ends.3

@@ -21,7 +21,7 @@ use Rattle.program_endings.specs.declared.ending.Ending.TheVariants.{Done, Usage
 use Rattle.script_run.specs.Script.{IsReadAs, IsUnreadable, asks_for_values, most_script_bytes}
 use Rattle.book_value.specs.Valuing.{position_of}
 use Rattle.life_app.specs.Needs.{Filing}
-use Rattle.life_app.specs.Words.{AskForRun}
+use Rattle.life_app.specs.Words.{AskForRun, AskForValue}
 
 -- the count of faults didn't rise
 abbrev pub IsHeld : ℕ → ℕ → Type 0
@@ -72,7 +72,7 @@ pub record HasNoJournal (disk : Filing) : Type 0 where
 abbrev pub HasItsNeeds : Mode → Input → Shelving → Type 0
 HasItsNeeds (Run name) input shelf =
     (lanes : List Lane) × HasScript input lanes × (asks_for_values lanes ≡ true → HasBasis shelf name)
-HasItsNeeds (Value on at workers name) input shelf = HasBasis shelf name
+HasItsNeeds (Value on at workers name measure) input shelf = HasBasis shelf name
 HasItsNeeds (State id) input shelf = Unit {0}
 HasItsNeeds (Generate seed count lanes) input shelf = Unit {0}
 HasItsNeeds (Load seed count lanes workers) input shelf = HasBasis shelf (codes "basis.csv")
@@ -81,14 +81,14 @@ HasItsNeeds (Load seed count lanes workers) input shelf = HasBasis shelf (codes 
 abbrev pub LacksItsBasis : Mode → Input → Shelving → Type 0
 LacksItsBasis (Run name) input shelf =
     (lanes : List Lane) × HasScript input lanes × (asks_for_values lanes ≡ true) × HasNoBasis shelf name
-LacksItsBasis (Value on at workers name) input shelf = HasNoBasis shelf name
+LacksItsBasis (Value on at workers name measure) input shelf = HasNoBasis shelf name
 LacksItsBasis (Load seed count lanes workers) input shelf = HasNoBasis shelf (codes "basis.csv")
 LacksItsBasis _ _ _ = ⊥
 
 -- it has the journal that it needs, with as many commands as are asked for; `generate` needs none
 abbrev pub HasItsJournal : Mode → Filing → Type 0
 HasItsJournal (Run name) disk = (commands : List Command) × HasJournal disk commands
-HasItsJournal (Value on at workers name) disk =
+HasItsJournal (Value on at workers name measure) disk =
     (commands : List Command) × HasJournal disk commands × (position_of at (length commands) ≤ length commands)
 HasItsJournal (State id) disk = (commands : List Command) × HasJournal disk commands
 HasItsJournal (Generate seed count lanes) disk = Unit {0}
@@ -108,8 +108,8 @@ IsDueEnding words input output shelf disk BadBasis = (mode : Mode) × AskFor wor
 IsDueEnding words input output shelf disk BadJournal =
     (mode : Mode) × AskFor words mode × HasItsNeeds mode input shelf × LacksItsJournal mode disk
 IsDueEnding words input output shelf disk Ahead =
-    (on : ℤ) × ((p : ℕ) × ((workers : ℕ) × ((name : List ℕ) × AskFor words (Value on (Position p) workers name)
-    × HasBasis shelf name × ((commands : List Command) × HasJournal disk commands × (length commands < p)))))
+    (on : ℤ) × ((p : ℕ) × ((name : List ℕ) × AskForValue words on (Position p) name
+    × HasBasis shelf name × ((commands : List Command) × HasJournal disk commands × (length commands < p))))
 IsDueEnding words input output shelf disk Done =
     (mode : Mode) × AskFor words mode × HasItsNeeds mode input shelf × HasItsJournal mode disk
     × IsHeld output.faults_before output.faults_after

@@ -22,7 +22,9 @@ use Rattle.policy_types.specs.declared.script.Line.TheVariants.{Post, Value, Tri
 use Rattle.policy_types.specs.declared.script.Lane.{Lane}
 use Rattle.policy_machine.specs.Book.{book}
 use Rattle.policy_machine.specs.History.{IsLegal, accepted_of, opened_on}
-use Rattle.policy_value.specs.Rows.{IsInsured, IsYear, exact_reserve}
+use Rattle.policy_value.specs.Measures.{exact_reserve}
+use Rattle.policy_value.specs.Rows.{IsInsured, IsYear}
+use Rattle.policy_value.specs.declared.worth.Measure.TheVariants.{Terminal}
 use Rattle.policy_value.specs.declared.worth.Row.{Row}
 use Rattle.policy_value.specs.declared.worth.Worth.{Worth}
 use Rattle.policy_value.specs.declared.worth.Worth.TheVariants.{Bounds, Word}
@@ -60,7 +62,7 @@ pub record IsEnclosingRow (basis : List Dated) (on : ℤ) (policy : Policy) (row
 abbrev pub IsEnclosingText : ℕ → ℤ → List Command → List Dated → ℕ → List ℕ → Type 0
 IsEnclosingText clerk on commands basis position text =
     (rows : List Row) × AllZip (IsEnclosingRow basis on) (book (take position commands)) rows
-    × (text ≡ block_text clerk on position rows)
+    × (text ≡ block_text clerk on position Terminal rows)
 
 -- the text of a clerk's line, by the reply to its first turn, before which these commands were accepted
 abbrev pub IsToldText : ℕ → Line → Reply → List Command → List Dated → (IsDry : Type 0) → List ℕ → Type 0

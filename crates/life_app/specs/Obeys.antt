@@ -23,8 +23,8 @@ abbrev pub EndsMode : {D : Type 0} → Ghosts D → D → D → Mode → List Au
     → (InputStays ShelfStays : Type 0) → Ending → Type 0
 EndsMode g old new (Run basis) auditors input output shelf InputStays ShelfStays ending =
     EndsRun g old new basis auditors input output shelf ShelfStays ending
-EndsMode g old new (Value on at workers basis) auditors input output shelf InputStays ShelfStays ending =
-    InputStays × EndsValue g old new on at basis shelf output ending
+EndsMode g old new (Value on at workers basis measure) auditors input output shelf InputStays ShelfStays ending =
+    InputStays × EndsValue g old new on at measure basis shelf output ending
 EndsMode g old new (State None) auditors input output shelf InputStays ShelfStays ending =
     InputStays × ShelfStays × EndsState g old new books_text output ending
 EndsMode g old new (State (Some id)) auditors input output shelf InputStays ShelfStays ending =

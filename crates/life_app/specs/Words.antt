@@ -2,6 +2,7 @@
 use Rattle.std.specs.Prelude.{ℕ, ℤ, List, Option, String}
 use Rattle.std.specs.Global.{Global}
 use Rattle.policy_types.specs.declared.entry.At.{At}
+use Rattle.policy_value.specs.declared.worth.Measure.{Measure}
 use Rattle.life_args.specs.Words.{AskFor}
 use Rattle.life_args.specs.declared.mode.Mode.TheVariants.{Run, Value, State, Generate, Load}
 
@@ -13,9 +14,9 @@ AskForRun words name = AskFor words (Run name)
 abbrev pub AskForState : List (String Global) → Type 0
 AskForState words = (id : Option ℕ) × AskFor words (State id)
 
--- the words ask for the values on a day, at a position, by the basis of this name
+-- the words ask for the values on a day, at a position, by the basis of this name, and by some measure
 abbrev pub AskForValue : List (String Global) → ℤ → At → List ℕ → Type 0
-AskForValue words on at name = (workers : ℕ) × AskFor words (Value on at workers name)
+AskForValue words on at name = (workers : ℕ) × ((measure : Measure) × AskFor words (Value on at workers name measure))
 
 -- the words ask to write a generated script
 abbrev pub AskForGenerate : List (String Global) → Type 0

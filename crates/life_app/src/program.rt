@@ -115,9 +115,10 @@ fn obey<
                 at,
                 workers,
                 basis,
+                measure,
             },
         ) => value(
-            rt, alloc, on, at, workers, &basis, shelf, output, disk, gate,
+            rt, alloc, on, at, measure, workers, &basis, shelf, output, disk, gate,
         ),
         Ok(Mode::State { id: None }) => state(alloc, output, disk),
         Ok(Mode::State { id: Some(id) }) => account(alloc, id, output, disk),

@@ -4,7 +4,6 @@ use Rattle.std.specs.Global.{Global}
 use Rattle.std.proofs.lemmas.List.{take_all}
 use Rattle.clap.specs.Words.{Text, found_of}
 use Rattle.clap.specs.declared.parser.matches.ArgMatches.{ArgMatches}
-use Rattle.clap.specs.declared.parser.matches.Found.{Found}
 use Rattle.clap.proofs.WalkLemmas.{raw_values-rows}
 use Rattle.life_args.specs.declared.fault.WordsFault.{WordsFault}
 use Rattle.life_args.specs.declared.fault.WordsFault.TheVariants.{Usage, NoMemory}
@@ -20,7 +19,8 @@ use Rattle.life_args.proofs.Once.{same_mode}
 use Rattle.life_args.proofs.Texts.{day_of_text, text_of_day}
 use Rattle.life_dates.specs.Calendar.{IsDay}
 use Rattle.life_dates.specs.DayText.{IsDayText}
-use Rattle.life_args.specs.Values.{IsDayValue}
+use Rattle.life_args.specs.Values.{IsDayValue, IsMeasureBy}
+use Rattle.policy_value.specs.declared.worth.Measure.{Measure}
 
 -- ---- a fault
 
@@ -50,6 +50,16 @@ pub lone_gives : {T : Type 0} (values : List Text) (given : Option Text) (P : Op
     → GivesAsked (λ answer. AtMostOne values (λ o. P o answer)) r
 lone_gives values None P r is gives = subst (λ vs. GivesAsked (λ answer. AtMostOne vs (λ o. P o answer)) r) (sym is) gives
 lone_gives values (Some value) P r is gives = subst (λ vs. GivesAsked (λ answer. AtMostOne vs (λ o. P o answer)) r) (sym is) gives
+
+-- ---- a measure
+
+-- each flag stands once at most
+pub a_measure : (means deficiencies : List Text) (one : Measure) → IsMeasureBy means deficiencies one
+    → ((mean : Option Text) × IsLone means mean) × ((deficiency : Option Text) × IsLone deficiencies deficiency)
+a_measure [] [] one asks = ((None, refl), (None, refl))
+a_measure (mean ∷ []) [] one asks = ((Some mean, refl), (None, refl))
+a_measure [] (deficiency ∷ []) one asks = ((None, refl), (Some deficiency, refl))
+a_measure means deficiencies one asks = absurd asks
 
 -- ---- a day
 

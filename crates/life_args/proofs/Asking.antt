@@ -1,8 +1,8 @@
 -- The words of a mode, as pieces whose values say the mode
-use Rattle.std.proofs.Common.{◌≡◌, ◌≤◌, ◌<◌, ◌^◌, ◌⊎◌, ℕ, Bool, true, false, cond, List, [], ◌∷◌, Option, Some, None, refl, sym, ap, ◌∙◌, subst, arith, inl, inr, bytes_eq, codes, decimal, length}
+use Rattle.std.proofs.Common.{◌≡◌, ◌≤◌, ◌<◌, ◌^◌, ℕ, Bool, true, false, cond, List, [], ◌∷◌, Option, Some, None, refl, sym, ap, ◌∙◌, subst, arith, inl, inr, bytes_eq, codes, decimal, length, map}
 use Rattle.std.specs.Prelude.{⊤}
 use Rattle.clap.specs.Lexer.{has_byte}
-use Rattle.clap.specs.Walk.{Text}
+use Rattle.clap.specs.Walk.{Text, arg_by_long}
 use Rattle.clap.specs.Faults.{is_simple_and_free}
 use Rattle.policy_types.specs.declared.entry.At.{At}
 use Rattle.policy_types.specs.declared.entry.At.TheVariants.{Now, Position}
@@ -10,12 +10,12 @@ use Rattle.life_args.specs.declared.mode.Mode.{Mode}
 use Rattle.life_args.specs.declared.mode.Mode.TheVariants as mode
 use Rattle.life_args.specs.declared.verb.Verb.{Verb}
 use Rattle.life_args.specs.declared.verb.Verb.TheVariants.{Run, Value, State, Generate, Load}
-use Rattle.life_args.specs.Pieces.{WordPiece, bare, apart, joined, spelled, bare_values, option_values, value_under, IsAmong, HasOnly, AtMostOne}
+use Rattle.life_args.specs.Pieces.{WordPiece, bare, apart, joined, flag, spelled, bare_values, option_values, value_under, IsAmong, HasOnly, AtMostOne}
 use Rattle.life_args.specs.Values.{IsPositionOr, AreWorkersOr, IsBasisOr, IsPolicyOr}
 use Rattle.life_args.specs.Words.{AreWords}
-use Rattle.life_args.specs.inside.Lines.{ArePlain, IsPlainText, Spelling, alone_id, line_app, values_of}
+use Rattle.life_args.specs.inside.Lines.{ArePlain, IsPlainText, OptionNames, Spelling, alone_id, line_app, values_of}
 use Rattle.life_args.specs.inside.Verbs.{SaysMode, options_of, verb_of, verb_word}
-use Rattle.life_args.proofs.Rules.{IsGood, own}
+use Rattle.life_args.proofs.Rules.{AreGood, IsGood, filled_option, own}
 use Rattle.life_args.proofs.Lines.{differ}
 use Rattle.life_args.proofs.Texts.{plain_day, plain_decimal, plain_name}
 
@@ -50,15 +50,30 @@ each P (one ∷ names) all name (inr more) = each P names all.1 name more
 a_good : (name : Text) → 0 < length name → has_byte 61 name ≡ false → bytes_eq alone_id name ≡ false → IsGood name
 a_good name some lacks other = record { named = record { some = some; lacks = lacks }; other = other }
 
-all_good : (verb : Verb) → AllOf IsGood (options_of verb)
+all_good : (verb : Verb) → AllOf IsGood (options_of verb).valued
 all_good Run = (a_good (codes "basis") (omega arith) refl refl, tt)
 all_good Value = (a_good (codes "at") (omega arith) refl refl, (a_good (codes "workers") (omega arith) refl refl, (a_good (codes "basis") (omega arith) refl refl, tt)))
 all_good State = tt
 all_good Generate = tt
 all_good Load = tt
 
-pub good : (verb : Verb) (name : Text) → IsAmong (options_of verb) name → IsGood name
-good verb = each IsGood (options_of verb) (all_good verb)
+-- a flag's name is good, and no option's
+abbrev IsGoodFlag : Verb → Text → Type 0
+IsGoodFlag verb name = IsGood name × (arg_by_long (map filled_option (options_of verb).valued) name ≡ None)
+
+all_flags_good : (verb : Verb) → AllOf (IsGoodFlag verb) (options_of verb).flags
+all_flags_good Run = tt
+all_flags_good Value = ((a_good (codes "mean") (omega arith) refl refl, refl), ((a_good (codes "deficiency") (omega arith) refl refl, refl), tt))
+all_flags_good State = tt
+all_flags_good Generate = tt
+all_flags_good Load = tt
+
+pub good : (verb : Verb) → AreGood (options_of verb)
+good verb = record {
+  valued = each IsGood (options_of verb).valued (all_good verb);
+  flags = λ name among. (each (IsGoodFlag verb) (options_of verb).flags (all_flags_good verb) name among).0;
+  apart = λ name among. (each (IsGoodFlag verb) (options_of verb).flags (all_flags_good verb) name among).1;
+}
 
 -- ---- values are plain
 
@@ -98,7 +113,8 @@ rest_plain name one value values plain = go (bytes_eq one name) plain
 own_plain : (name value : Text) (values : List Text) → EachPlain (value_under name name value values) → IsPlainText value
 own_plain name value values plain = (subst (λ (t : Bool). EachPlain (cond t (value ∷ values) values)) (own name) plain).0
 
-are_plain : (names : List Text) (pieces : List WordPiece) → HasOnly names pieces → EachPlain (bare_values pieces) → ((name : Text) → IsAmong names name → EachPlain (option_values name pieces)) → ArePlain pieces
+are_plain : (names : OptionNames) (pieces : List WordPiece) → HasOnly names.valued names.flags pieces → EachPlain (bare_values pieces)
+    → ((name : Text) → IsAmong names.valued name → EachPlain (option_values name pieces)) → ArePlain pieces
 are_plain names [] only alone options = tt
 are_plain names (bare value ∷ pieces) only alone options = (alone.0, are_plain names pieces only alone.1 options)
 are_plain names (apart one value ∷ pieces) only alone options = (
@@ -107,11 +123,13 @@ are_plain names (apart one value ∷ pieces) only alone options = (
 )
 are_plain names (joined one value ∷ pieces) only alone options =
     are_plain names pieces only.1 alone (λ name among. rest_plain name one value (option_values name pieces) (options name among))
+are_plain names (flag one ∷ pieces) only alone options =
+    are_plain names pieces only.1 alone (λ name among. rest_plain name one [] (option_values name pieces) (options name among))
 
-spelling_of : (names words : List Text) (pieces : List WordPiece) → words ≡ spelled pieces → HasOnly names pieces → EachPlain (bare_values pieces) → AllOf (λ name. EachPlain (option_values name pieces)) names
-    → Spelling names words pieces
+spelling_of : (names : OptionNames) (words : List Text) (pieces : List WordPiece) → words ≡ spelled pieces → HasOnly names.valued names.flags pieces → EachPlain (bare_values pieces)
+    → AllOf (λ name. EachPlain (option_values name pieces)) names.valued → Spelling names words pieces
 spelling_of names words pieces spells only alone options =
-    record { spells = spells; only = only; plain = are_plain names pieces only alone (each (λ name. EachPlain (option_values name pieces)) names options) }
+    record { spells = spells; only = only; plain = are_plain names pieces only alone (each (λ name. EachPlain (option_values name pieces)) names.valued options) }
 
 -- ---- the words of a mode
 
@@ -130,7 +148,7 @@ asked word words (mode.Run basis) are =
         says = (is.alone, is.basis_is);
       },
     )
-asked word words (mode.Value on position workers basis) are =
+asked word words (mode.Value on position workers basis measure) are =
     let is = are.1 in (
       are.0,
       record {
@@ -139,7 +157,7 @@ asked word words (mode.Value on position workers basis) are =
           plain_lone _ (λ given. IsPositionOr given position) is.position_is (plain_position position),
           (plain_lone _ (λ given. AreWorkersOr given workers) is.workers_are (plain_workers workers), (plain_lone _ (λ given. IsBasisOr given basis) is.basis_is (plain_basis basis), tt)),
         );
-        says = ((is.day, is.alone, is.day_is), is.position_is, is.workers_are, is.basis_is);
+        says = ((is.day, is.alone, is.day_is), is.position_is, is.workers_are, is.basis_is, is.measure_is);
       },
     )
 asked word words (mode.State id) are =
@@ -147,7 +165,7 @@ asked word words (mode.State id) are =
       are.0,
       record {
         pieces = is.pieces;
-        spelling = spelling_of [] words is.pieces is.spells is.only (plain_lone _ (λ given. IsPolicyOr given id) is.id_is (plain_policy id)) tt;
+        spelling = spelling_of (options_of State) words is.pieces is.spells is.only (plain_lone _ (λ given. IsPolicyOr given id) is.id_is (plain_policy id)) tt;
         says = is.id_is;
       },
     )
@@ -181,15 +199,16 @@ asked word words (mode.Load seed count lanes workers) are =
     )
 
 -- without options each piece is a word
-all_bare : (pieces : List WordPiece) → HasOnly [] pieces → spelled pieces ≡ bare_values pieces
+all_bare : (pieces : List WordPiece) → HasOnly [] [] pieces → spelled pieces ≡ bare_values pieces
 all_bare [] only = refl
 all_bare (bare value ∷ pieces) only = ap (λ (ws : List Text). value ∷ ws) (all_bare pieces only)
 all_bare (apart name value ∷ pieces) only = absurd only.0
 all_bare (joined name value ∷ pieces) only = absurd only.0
+all_bare (flag name ∷ pieces) only = absurd only.0
 
 pub asking : (words : List Text) (one : Mode) → Asked one words → AreWords (verb_word (verb_of one) ∷ words) one
 asking words (mode.Run basis) is = (refl, record { pieces = is.pieces; spells = is.spelling.spells; only = is.spelling.only; alone = is.says.0; basis_is = is.says.1 })
-asking words (mode.Value on position workers basis) is = (
+asking words (mode.Value on position workers basis measure) is = (
   refl,
   record {
     pieces = is.pieces;
@@ -201,6 +220,7 @@ asking words (mode.Value on position workers basis) is = (
     position_is = is.says.1;
     workers_are = is.says.2;
     basis_is = is.says.3;
+    measure_is = is.says.4;
   },
 )
 asking words (mode.State id) is = (refl, record { pieces = is.pieces; spells = is.spelling.spells; only = is.spelling.only; id_is = is.says })

@@ -1,6 +1,6 @@
 -- Words ask for one mode, or for nothing: each part of them says something, or nothing
-use Rattle.std.proofs.Common.{◌≡◌, ℕ, zero, suc, ◌+◌, ◌<◌, ◌≤◌, ◌⊎◌, ℤ, pos, negsuc, Bool, true, false, List, [], ◌∷◌, length, map, string_bytes, String, Option, Some, None, refl, sym, ap, ◌∙◌, subst, inl, inr, bytes_eq, codes, decimal, arith, true≢false}
-use Rattle.std.specs.Prelude.{All, slice_index, ◌≤ℤ◌}
+use Rattle.std.proofs.Common.{◌≡◌, ℕ, zero, suc, ◌+◌, ◌<◌, ◌≤◌, ◌⊎◌, ℤ, pos, negsuc, false, List, [], ◌∷◌, length, map, string_bytes, String, Option, Some, None, refl, sym, ◌∙◌, subst, inl, inr, bytes_eq, codes, decimal, arith, true≢false}
+use Rattle.std.specs.Prelude.{All, slice_index}
 use Rattle.std.specs.Global.{Global}
 use Rattle.std.specs.Char.{IsAsciiAlphanumeric}
 use Rattle.std.proofs.lemmas.Bool.{cases_Bool, cases_lt}
@@ -12,18 +12,20 @@ use Rattle.basis_book.specs.Name.{IsName, IsNameByte}
 use Rattle.life_dates.specs.Calendar.{IsDay}
 use Rattle.life_dates.specs.DayText.{day_text}
 use Rattle.policy_types.specs.declared.entry.At.{At}
+use Rattle.policy_value.specs.declared.worth.Measure.{Measure}
+use Rattle.policy_value.specs.declared.worth.Measure.TheVariants.{Terminal, Mean, Deficiency}
 use Rattle.policy_types.specs.declared.entry.At.TheVariants.{Now, Position}
 use Rattle.life_args.specs.declared.mode.Mode.{Mode}
 use Rattle.life_args.specs.declared.mode.Mode.TheVariants as mode
 use Rattle.life_args.specs.declared.verb.Verb.{Verb}
 use Rattle.life_args.specs.declared.verb.Verb.TheVariants.{Run, Value, State, Generate, Load}
 use Rattle.life_args.specs.Pieces.{WordPiece, AtMostOne}
-use Rattle.life_args.specs.Values.{IsDayValue, IsPositionOr, AreWorkersOr, IsBasisOr, IsPolicyOr, IsWorkerCount}
+use Rattle.life_args.specs.Values.{IsDayValue, IsPositionOr, AreWorkersOr, IsBasisOr, IsMeasureBy, IsPolicyOr, IsWorkerCount}
 use Rattle.life_args.specs.Words.{AreWords, AskFor, AskForNothing}
 use Rattle.life_args.specs.inside.Lines.{Spelling, alone_id, has_odd, line_app, values_of}
 use Rattle.life_args.specs.inside.Verbs.{AreDraws, JustOne, SaysMode, options_of, verb_of, verb_word}
 use Rattle.life_args.proofs.Lines.{spelled_taken, taken_spelled}
-use Rattle.life_args.proofs.Asking.{Asked, asked, asking, good, same_verb}
+use Rattle.life_args.proofs.Asking.{asked, asking, good}
 use Rattle.life_args.proofs.Answering.{asked_of, odd_refused}
 
 -- it is so, or it isn't
@@ -162,6 +164,12 @@ workers values = lone AreWorkersOr (inl (1, refl)) (λ text. elim (number 1 64 t
   | inr none ↦ inr (λ many is. none many is.0 is.1 is.2)
 ]) values
 
+measure : (means deficiencies : List Text) → ((one : Measure) × IsMeasureBy means deficiencies one) ⊎ ((one : Measure) → IsMeasureBy means deficiencies one → ⊥)
+measure [] [] = inl (Terminal, refl)
+measure (mean ∷ []) [] = inl (Mean, refl)
+measure [] (deficiency ∷ []) = inl (Deficiency, refl)
+measure means deficiencies = inr (λ one never. never)
+
 policy : (values : List Text) → ((id : Option ℕ) × AtMostOne values (λ v. IsPolicyOr v id)) ⊎ ((id : Option ℕ) → AtMostOne values (λ v. IsPolicyOr v id) → ⊥)
 policy values = lone IsPolicyOr (inl (None, refl)) (λ text. elim (number 1 4294967295 text) [
   | inl n ↦ inl (Some n.0, ((n.1, n.2), n.3))
@@ -229,21 +237,21 @@ loaded (a ∷ b ∷ c ∷ d ∷ f ∷ values) = inr (λ is. let e = is.1.1.1.1 i
 -- what the values of each id have to say for a verb
 abbrev Said : Verb → (Text → List Text) → Type 0
 Said Run values = (given : Text) × SaysMode values (mode.Run given)
-Said Value values = (on : ℤ) × ((at : At) × ((many : ℕ) × ((given : Text) × SaysMode values (mode.Value on at many given))))
+Said Value values = (on : ℤ) × ((at : At) × ((many : ℕ) × ((given : Text) × ((one : Measure) × SaysMode values (mode.Value on at many given one)))))
 Said State values = (id : Option ℕ) × SaysMode values (mode.State id)
 Said Generate values = Drawn (values alone_id)
 Said Load values = Loaded (values alone_id)
 
 of_mode : (values : Text → List Text) (one : Mode) → SaysMode values one → Said (verb_of one) values
 of_mode values (mode.Run given) says = (given, says)
-of_mode values (mode.Value on at many given) says = (on, (at, (many, (given, says))))
+of_mode values (mode.Value on at many given one) says = (on, (at, (many, (given, (one, says)))))
 of_mode values (mode.State id) says = (id, says)
 of_mode values (mode.Generate seed count lanes) says = (seed, (count, (lanes, says.0, says.1)))
 of_mode values (mode.Load seed count lanes many) says = (seed, (count, (lanes, (many, says.0, says.1, says.2))))
 
 a_mode : (values : Text → List Text) (verb : Verb) → Said verb values → (one : Mode) × (verb_of one ≡ verb) × SaysMode values one
 a_mode values Run said = (mode.Run said.0, refl, said.1)
-a_mode values Value said = (mode.Value said.0 said.1.0 said.1.1.0 said.1.1.1.0, refl, said.1.1.1.1)
+a_mode values Value said = (mode.Value said.0 said.1.0 said.1.1.0 said.1.1.1.0 said.1.1.1.1.0, refl, said.1.1.1.1.1)
 a_mode values State said = (mode.State said.0, refl, said.1)
 a_mode values Generate said = (mode.Generate said.0 said.1.0 said.1.1.0, refl, (said.1.1.1, said.1.1.2))
 a_mode values Load said = (mode.Load said.0 said.1.0 said.1.1.0 said.1.1.1.0, refl, (said.1.1.1.1, said.1.1.1.2, said.1.1.1.3))
@@ -257,14 +265,17 @@ said values Run = elim (nothing_in (values alone_id)) [
   ]
 ]
 said values Value = elim (just_day (values alone_id)) [
-  | inr none ↦ inr (λ is. none is.0 is.1.1.1.1.0)
+  | inr none ↦ inr (λ is. none is.0 is.1.1.1.1.1.0)
   | inl on ↦ elim (position (values (codes "at"))) [
-    | inr none ↦ inr (λ is. none is.1.0 is.1.1.1.1.1)
+    | inr none ↦ inr (λ is. none is.1.0 is.1.1.1.1.1.1)
     | inl at ↦ elim (workers (values (codes "workers"))) [
-      | inr none ↦ inr (λ is. none is.1.1.0 is.1.1.1.1.2)
+      | inr none ↦ inr (λ is. none is.1.1.0 is.1.1.1.1.1.2)
       | inl many ↦ elim (basis (values (codes "basis"))) [
-        | inr none ↦ inr (λ is. none is.1.1.1.0 is.1.1.1.1.3)
-        | inl given ↦ inl (on.0, (at.0, (many.0, (given.0, (on.1, at.1, many.1, given.1)))))
+        | inr none ↦ inr (λ is. none is.1.1.1.0 is.1.1.1.1.1.3)
+        | inl given ↦ elim (measure (values (codes "mean")) (values (codes "deficiency"))) [
+          | inr none ↦ inr (λ is. none is.1.1.1.1.0 is.1.1.1.1.1.4)
+          | inl one ↦ inl (on.0, (at.0, (many.0, (given.0, (one.0, (on.1, at.1, many.1, given.1, one.1))))))
+        ]
       ]
     ]
   ]

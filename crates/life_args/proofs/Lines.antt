@@ -6,10 +6,10 @@ use Rattle.clap.specs.Simple.{App, built, entered, matches_of}
 use Rattle.clap.specs.Takes.{is_given}
 use Rattle.clap.specs.Kinds.{Kinds, or_else, check_kinds}
 use Rattle.clap.specs.Faults.{built_fault, fault_of, walk_fault, settle_fault, defaults_fault, check_fault, entered_fault, given_default_fault}
-use Rattle.life_args.specs.Pieces.{WordPiece, bare, apart, joined, spelled, bare_values, option_values, value_under, IsAmong, HasOnly}
-use Rattle.life_args.specs.inside.Lines.{ArePlain, IsPlainText, Spelling, alone_id, has_odd, is_odd, line_app, values_of}
+use Rattle.life_args.specs.Pieces.{WordPiece, bare, apart, joined, flag, spelled, bare_values, option_values, value_under, HasOnly}
+use Rattle.life_args.specs.inside.Lines.{ArePlain, IsPlainText, OptionNames, Spelling, alone_id, has_odd, is_odd, line_app, values_of}
 use Rattle.life_args.proofs.Lexing.{IsOptionName}
-use Rattle.life_args.proofs.Rules.{IsGood, add, filled_alone, filled_option, filled_options, own, rules, same}
+use Rattle.life_args.proofs.Rules.{AreGood, IsGood, add, filled_alone, filled_flag, filled_option, filled_options, own, rules, same}
 use Rattle.life_args.proofs.Steps.{leaf, settles, stand}
 use Rattle.life_args.proofs.Walks.{ends, none_first, none_second, pieces_of, put, reads}
 
@@ -52,6 +52,7 @@ picked id [] = []
 picked id (bare value ∷ pieces) = value_under id alone_id value (picked id pieces)
 picked id (apart name value ∷ pieces) = value_under id name value (picked id pieces)
 picked id (joined name value ∷ pieces) = value_under id name value (picked id pieces)
+picked id (flag name ∷ pieces) = value_under id name [] (picked id pieces)
 
 one_more : (t : Bool) (value : Text) (values more : List Text) → (values ++ cond t (value ∷ []) []) ++ more ≡ values ++ cond t (value ∷ more) more
 one_more true value values more = append_assoc values (value ∷ []) more
@@ -68,6 +69,9 @@ put_values id (apart name value ∷ pieces) rows =
 put_values id (joined name value ∷ pieces) rows =
     put_values id pieces (add name value rows) ∙ ap (λ vs. vs ++ picked id pieces) (values_added id name value rows)
     ∙ one_more (bytes_eq name id) value (values_in id rows) (picked id pieces)
+put_values id (flag name ∷ pieces) rows =
+    put_values id pieces (add name [] rows) ∙ ap (λ vs. vs ++ picked id pieces) (values_added id name [] rows)
+    ∙ one_more (bytes_eq name id) [] (values_in id rows) (picked id pieces)
 
 passed : (id name value : Text) (values : List Text) → bytes_eq name id ≡ false → value_under id name value values ≡ values
 passed id name value values other = ap (λ (t : Bool). cond t (value ∷ values) values) other
@@ -77,6 +81,7 @@ option_picked name other [] = refl
 option_picked name other (bare value ∷ pieces) = passed name alone_id value (picked name pieces) other ∙ option_picked name other pieces
 option_picked name other (apart one value ∷ pieces) = ap (value_under name one value) (option_picked name other pieces)
 option_picked name other (joined one value ∷ pieces) = ap (value_under name one value) (option_picked name other pieces)
+option_picked name other (flag one ∷ pieces) = ap (value_under name one []) (option_picked name other pieces)
 
 -- ---- no argument has a default, and none must be given
 
@@ -88,37 +93,54 @@ or_true : (t : Bool) → (t || true) ≡ true
 or_true true = refl
 or_true false = refl
 
-no_defaults : (names : List Text) (rows : List Row) → fold with_default rows (map filled_option names) ≡ rows
-no_defaults [] rows = refl
-no_defaults (name ∷ names) rows = ap (λ (r : List Row). fold with_default r (map filled_option names)) (same_either (has_row name rows) rows) ∙ no_defaults names rows
+no_flag_defaults : (flags : List Text) (rows : List Row) → fold with_default rows (map filled_flag flags) ≡ rows
+no_flag_defaults [] rows = refl
+no_flag_defaults (name ∷ flags) rows = ap (λ (r : List Row). fold with_default r (map filled_flag flags)) (same_either (has_row name rows) rows) ∙ no_flag_defaults flags rows
 
-pub all_finished : (names : List Text) (rows : List Row) → fold with_default rows (rules names) ≡ rows
-all_finished names rows = ap (λ (r : List Row). fold with_default r (map filled_option names)) (same_either (has_row alone_id rows) rows) ∙ no_defaults names rows
+no_defaults : (valued flags : List Text) (rows : List Row) → fold with_default rows (map filled_option valued ++ map filled_flag flags) ≡ rows
+no_defaults [] flags rows = no_flag_defaults flags rows
+no_defaults (name ∷ valued) flags rows =
+    ap (λ (r : List Row). fold with_default r (map filled_option valued ++ map filled_flag flags)) (same_either (has_row name rows) rows) ∙ no_defaults valued flags rows
+
+pub all_finished : (names : OptionNames) (rows : List Row) → fold with_default rows (rules names) ≡ rows
+all_finished names rows =
+    ap (λ (r : List Row). fold with_default r (map filled_option names.valued ++ map filled_flag names.flags)) (same_either (has_row alone_id rows) rows)
+    ∙ no_defaults names.valued names.flags rows
 
 default_fits : (argument : Rule) (t : Bool) → cond (t || true) [] (given_default_fault argument []) ≡ []
 default_fits argument t = ap (λ (b : Bool). cond b [] (given_default_fault argument [])) (or_true t)
 
-defaults_fit : (names : List Text) (rows : List Row) → defaults_fault rows (map filled_option names) ≡ []
+flag_defaults_fit : (flags : List Text) (rows : List Row) → defaults_fault rows (map filled_flag flags) ≡ []
 unfolding defaults_fault
-defaults_fit [] rows = refl
-defaults_fit (name ∷ names) rows = ap₂ or_else (default_fits (filled_option name) (has_row name rows)) (defaults_fit names (with_default rows (filled_option name)))
+flag_defaults_fit [] rows = refl
+flag_defaults_fit (name ∷ flags) rows = ap₂ or_else (default_fits (filled_flag name) (has_row name rows)) (flag_defaults_fit flags (with_default rows (filled_flag name)))
 
-all_fit : (names : List Text) (rows : List Row) → defaults_fault rows (rules names) ≡ []
+defaults_fit : (valued flags : List Text) (rows : List Row) → defaults_fault rows (map filled_option valued ++ map filled_flag flags) ≡ []
 unfolding defaults_fault
-all_fit names rows = ap₂ or_else (default_fits filled_alone (has_row alone_id rows)) (defaults_fit names (with_default rows filled_alone))
+defaults_fit [] flags rows = flag_defaults_fit flags rows
+defaults_fit (name ∷ valued) flags rows = ap₂ or_else (default_fits (filled_option name) (has_row name rows)) (defaults_fit valued flags (with_default rows (filled_option name)))
 
-none_required : (names : List Text) (rows : List Row) → list_any (λ (a : Rule). a.required && not (is_given a.id rows)) (map filled_option names) ≡ false
-none_required [] rows = refl
-none_required (name ∷ names) rows = none_required names rows
+all_fit : (names : OptionNames) (rows : List Row) → defaults_fault rows (rules names) ≡ []
+unfolding defaults_fault
+all_fit names rows = ap₂ or_else (default_fits filled_alone (has_row alone_id rows)) (defaults_fit names.valued names.flags (with_default rows filled_alone))
+
+no_flag_required : (flags : List Text) (rows : List Row) → list_any (λ (a : Rule). a.required && not (is_given a.id rows)) (map filled_flag flags) ≡ false
+no_flag_required [] rows = refl
+no_flag_required (name ∷ flags) rows = no_flag_required flags rows
+
+none_required : (valued flags : List Text) (rows : List Row)
+    → list_any (λ (a : Rule). a.required && not (is_given a.id rows)) (map filled_option valued ++ map filled_flag flags) ≡ false
+none_required [] flags rows = no_flag_required flags rows
+none_required (name ∷ valued) flags rows = none_required valued flags rows
 
 -- ---- the whole
 
-module _ (names : List Text) (good : (name : Text) → IsAmong names name → IsGood name) where
+module _ (names : OptionNames) (good : AreGood names) where
   abbrev app : App
   app = record { top = leaf (rules names); subs = [] }
 
   built_is : built (line_app names) ≡ app
-  built_is = ap (λ (rest : List Rule). record { top = leaf (filled_alone ∷ rest); subs = [] }) (filled_options 2 names)
+  built_is = ap (λ (rest : List Rule). record { top = leaf (filled_alone ∷ rest); subs = [] }) (filled_options 2 names.valued names.flags)
 
   abbrev start : Walk
   start = stand [] None idle
@@ -146,16 +168,17 @@ module _ (names : List Text) (good : (name : Text) → IsAmong names name → Is
       pieces_of names good words even (ap₂ or_else walk settle)
 
   -- the values that stand alone, and those of each id
-  other_id : (name : Text) → IsAmong names name → bytes_eq name alone_id ≡ false
-  other_id name among = apart_names name alone_id (λ is. differ alone_id name (good name among).other (sym is))
+  other_id : (name : Text) → IsGood name → bytes_eq name alone_id ≡ false
+  other_id name is = apart_names name alone_id (λ same. differ alone_id name is.other (sym same))
 
-  alone_picked : (pieces : List WordPiece) → HasOnly names pieces → picked alone_id pieces ≡ bare_values pieces
+  alone_picked : (pieces : List WordPiece) → HasOnly names.valued names.flags pieces → picked alone_id pieces ≡ bare_values pieces
   alone_picked [] only = refl
   alone_picked (bare value ∷ pieces) only = ap (λ vs. value ∷ vs) (alone_picked pieces only)
-  alone_picked (apart name value ∷ pieces) only = passed alone_id name value (picked alone_id pieces) (other_id name only.0) ∙ alone_picked pieces only.1
-  alone_picked (joined name value ∷ pieces) only = passed alone_id name value (picked alone_id pieces) (other_id name only.0) ∙ alone_picked pieces only.1
+  alone_picked (apart name value ∷ pieces) only = passed alone_id name value (picked alone_id pieces) (other_id name (good.valued name only.0)) ∙ alone_picked pieces only.1
+  alone_picked (joined name value ∷ pieces) only = passed alone_id name value (picked alone_id pieces) (other_id name (good.valued name only.0)) ∙ alone_picked pieces only.1
+  alone_picked (flag name ∷ pieces) only = passed alone_id name [] (picked alone_id pieces) (other_id name (good.flags name only.0)) ∙ alone_picked pieces only.1
 
-  all_picked : (pieces : List WordPiece) → HasOnly names pieces → (id : Text) → picked id pieces ≡ values_of pieces id
+  all_picked : (pieces : List WordPiece) → HasOnly names.valued names.flags pieces → (id : Text) → picked id pieces ≡ values_of pieces id
   all_picked pieces only id = go (bytes_eq alone_id id) refl
     where
       go : (t : Bool) → bytes_eq alone_id id ≡ t → picked id pieces ≡ values_of pieces id
@@ -170,7 +193,7 @@ module _ (names : List Text) (good : (name : Text) → IsAmong names name → Is
       let walk = none_first (walk_fault (leaf (rules names)) [] start (spelled pieces)) _ read.fault in
       let settle : settle_fault (rules names) false (ends names good start (spelled pieces)).held ≡ [] = none_second (walk_fault (leaf (rules names)) [] start (spelled pieces)) _ read.fault in
       let check : check_fault (leaf (rules names)) (finished (rules names) (stand read.before read.last read.waiting).held) false ≡ [] =
-      ap (λ (t : Bool). check_kinds false false t) (none_required names (finished (rules names) (stand read.before read.last read.waiting).held)) in
+      ap (λ (t : Bool). check_kinds false false t) (none_required names.valued names.flags (finished (rules names) (stand read.before read.last read.waiting).held)) in
       let settled_is = subst (λ (w : Walk). settle_fault (rules names) false w.held ≡ []) read.at_end settle in
       let fits = all_fit names (settled (rules names) (stand read.before read.last read.waiting).held).rows in
       let rows : finished (rules names) (stand read.before read.last read.waiting).held ≡ put pieces [] =
@@ -191,13 +214,15 @@ module _ (names : List Text) (good : (name : Text) → IsAmong names name → Is
   named_even [] rest is = absurd (omega (arith, is.some))
   named_even (x ∷ xs) rest is = refl
 
-  even : (pieces : List WordPiece) → HasOnly names pieces → ArePlain pieces → has_odd (spelled pieces) ≡ false
+  even : (pieces : List WordPiece) → HasOnly names.valued names.flags pieces → ArePlain pieces → has_odd (spelled pieces) ≡ false
   even [] only plain = refl
   even (bare value ∷ pieces) only plain = ap₂ ◌||◌ (plain_even value plain.0) (even pieces only plain.1)
   even (apart name value ∷ pieces) only plain =
-      ap₂ ◌||◌ (subst (λ (n : Text). is_odd (45 ∷ 45 ∷ n) ≡ false) (append-nil name) (named_even name [] (good name only.0).named))
+      ap₂ ◌||◌ (subst (λ (n : Text). is_odd (45 ∷ 45 ∷ n) ≡ false) (append-nil name) (named_even name [] (good.valued name only.0).named))
       (ap₂ ◌||◌ (plain_even value plain.0) (even pieces only.1 plain.1))
-  even (joined name value ∷ pieces) only plain = ap₂ ◌||◌ (named_even name (61 ∷ value) (good name only.0).named) (even pieces only.1 plain)
+  even (joined name value ∷ pieces) only plain = ap₂ ◌||◌ (named_even name (61 ∷ value) (good.valued name only.0).named) (even pieces only.1 plain)
+  even (flag name ∷ pieces) only plain =
+      ap₂ ◌||◌ (subst (λ (n : Text). is_odd (45 ∷ 45 ∷ n) ≡ false) (append-nil name) (named_even name [] (good.flags name only.0).named)) (even pieces only.1 plain)
 
   pub spelled_even : (words : List Text) (pieces : List WordPiece) → Spelling names words pieces → has_odd words ≡ false
   spelled_even words pieces spelling = ap has_odd spelling.spells ∙ even pieces spelling.only spelling.plain

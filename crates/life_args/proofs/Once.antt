@@ -5,13 +5,14 @@ use Rattle.std.proofs.lemmas.Fmt.{decimal_injective}
 use Rattle.clap.specs.Walk.{Text}
 use Rattle.policy_types.specs.declared.entry.At.{At}
 use Rattle.policy_types.specs.declared.entry.At.TheVariants.{Now, Position}
+use Rattle.policy_value.specs.declared.worth.Measure.{Measure}
 use Rattle.life_dates.specs.Calendar.{IsDay, days_in_month, is_leap_year, day_number}
 use Rattle.life_dates.specs.DayText.{day_text}
 use Rattle.life_dates.proofs.TextLemmas.{read_exact}
 use Rattle.life_args.specs.declared.mode.Mode.{Mode}
 use Rattle.life_args.specs.declared.mode.Mode.TheVariants as mode
 use Rattle.life_args.specs.Pieces.{AtMostOne}
-use Rattle.life_args.specs.Values.{IsPositionOr, AreWorkersOr, IsBasisOr, IsPolicyOr}
+use Rattle.life_args.specs.Values.{IsPositionOr, AreWorkersOr, IsBasisOr, IsMeasureBy, IsPolicyOr}
 use Rattle.life_args.specs.inside.Lines.{alone_id}
 use Rattle.life_args.specs.inside.Verbs.{AreDraws, SaysMode, verb_of}
 use Rattle.life_args.proofs.Texts.{text_of_day}
@@ -61,6 +62,12 @@ one_policy (Some value) None b first other = absurd first
 one_policy (Some value) (Some m) None first other = absurd other
 one_policy (Some value) (Some m) (Some n) first other = ap Some (decimal_injective m n (omega (arith, first.0.1)) (omega (arith, other.0.1)) (sym first.1 ∙ other.1))
 
+one_measure : (means deficiencies : List Text) (a b : Measure) → IsMeasureBy means deficiencies a → IsMeasureBy means deficiencies b → a ≡ b
+one_measure [] [] a b first other = first ∙ sym other
+one_measure (mean ∷ []) [] a b first other = first ∙ sym other
+one_measure [] (deficiency ∷ []) a b first other = first ∙ sym other
+one_measure means deficiencies a b first other = absurd first
+
 one_lone : {T : Type 0} (values : List Text) (P : Option Text → T → Type 0) (a b : T) → ((o : Option Text) → P o a → P o b → a ≡ b)
     → AtMostOne values (λ given. P given a) → AtMostOne values (λ given. P given b) → a ≡ b
 one_lone [] P a b one first other = one None first other
@@ -84,14 +91,15 @@ three_draws a b c x y z rest more e first other =
 
 pub same_mode : (values : Text → List Text) (one two : Mode) → verb_of one ≡ verb_of two → SaysMode values one → SaysMode values two → one ≡ two
 same_mode values (mode.Run a) (mode.Run b) e first other = ap mode.Run (one_lone (values (codes "basis")) IsBasisOr a b (λ o. one_basis o a b) first.1 other.1)
-same_mode values (mode.Value on position workers basis) (mode.Value day place crew file) e first other =
+same_mode values (mode.Value on position workers basis measure) (mode.Value day place crew file kind) e first other =
     let lists : first.0.0 ∷ [] ≡ other.0.0 ∷ [] = sym first.0.1 ∙ other.0.1 in
     let value : first.0.0 ≡ other.0.0 = cc in
     let days = same_day on day first.0.2.0 other.0.2.0 (sym first.0.2.1 ∙ value ∙ other.0.2.1) in
     let places = one_lone (values (codes "at")) IsPositionOr position place (λ o. one_position o position place) first.1 other.1 in
     let crews = one_lone (values (codes "workers")) AreWorkersOr workers crew (λ o. one_crew o workers crew) first.2 other.2 in
     let files = one_lone (values (codes "basis")) IsBasisOr basis file (λ o. one_basis o basis file) first.3 other.3 in
-    λ i. mode.Value (days i) (places i) (crews i) (files i)
+    let kinds = one_measure (values (codes "mean")) (values (codes "deficiency")) measure kind first.4 other.4 in
+    λ i. mode.Value (days i) (places i) (crews i) (files i) (kinds i)
 same_mode values (mode.State a) (mode.State b) e first other = ap mode.State (one_lone (values alone_id) IsPolicyOr a b (λ o. one_policy o a b) first other)
 same_mode values (mode.Generate a b c) (mode.Generate x y z) e first other =
     let all = three_draws a b c x y z [] [] (sym first.0 ∙ other.0) first.1 other.1 in

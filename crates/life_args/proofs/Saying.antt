@@ -3,13 +3,14 @@ use Rattle.std.proofs.Common.{◌≡◌, ◌∙◌, ℕ, arith, codes, decimal, 
 use Rattle.clap.specs.Words.{Text}
 use Rattle.clap.specs.declared.parser.matches.Found.{Found}
 use Rattle.policy_types.specs.declared.entry.At.{At}
+use Rattle.policy_value.specs.declared.worth.Measure.{Measure}
 use Rattle.life_args.specs.declared.fault.WordsFault.{WordsFault}
 use Rattle.life_args.specs.declared.mode.Mode.{Mode}
 use Rattle.life_args.specs.declared.mode.Mode.TheVariants as mode
 use Rattle.life_args.specs.declared.verb.Verb.{Verb}
 use Rattle.life_args.specs.declared.verb.Verb.TheVariants.{Run, Value, State, Generate, Load}
 use Rattle.life_args.specs.Pieces.{AtMostOne}
-use Rattle.life_args.specs.Values.{IsPositionOr, AreWorkersOr, IsBasisOr, IsPolicyOr}
+use Rattle.life_args.specs.Values.{IsPositionOr, AreWorkersOr, IsBasisOr, IsMeasureBy, IsPolicyOr}
 use Rattle.life_args.specs.inside.Lines.{GivesAsked, alone_id, values_named}
 use Rattle.life_args.specs.inside.Verbs.{AreDrawn, AreDraws, AsksFor}
 use Rattle.life_args.proofs.Answering.{handed_on, refusal}
@@ -21,6 +22,14 @@ pub option_refused : {T : Type 0} (values others : List Text) (P : Option Text �
 option_refused values others P verb found r fault is same none said = handed_on r fault (AsksFor verb found) is (λ usage one asks.
     let answer = said one asks in
     refusal (λ a. AtMostOne values (λ o. P o a)) fault none usage answer.0 (subst (λ vs. AtMostOne vs (λ o. P o answer.0)) (sym same) answer.1))
+
+pub measure_refused : (means others deficiencies more : List Text) (found : Found) (r : Result Mode WordsFault) (fault : WordsFault) → IsErrAnd r (λ y. y ≡ fault)
+    → means ≡ others → deficiencies ≡ more → GivesAsked (IsMeasureBy means deficiencies) (Err fault)
+    → ((one : Mode) → AsksFor Value found one → (measure : Measure) × IsMeasureBy others more measure) → GivesAsked (AsksFor Value found) r
+measure_refused means others deficiencies more found r fault is same alike none said = handed_on r fault (AsksFor Value found) is (λ usage one asks.
+    let answer = said one asks in
+    refusal (IsMeasureBy means deficiencies) fault none usage answer.0
+    (subst (λ vs. IsMeasureBy vs deficiencies answer.0) (sym same) (subst (λ vs. IsMeasureBy others vs answer.0) (sym alike) answer.1)))
 
 pub draws_refused : (a b c : Text) (verb : Verb) (found : Found) (r : Result Mode WordsFault) (fault : WordsFault) → IsErrAnd r (λ y. y ≡ fault)
     → GivesAsked (AreDrawn a b c) (Err fault) → ((one : Mode) → AsksFor verb found one → (drawn : ℕ × ℕ × ℕ) × AreDrawn a b c drawn) → GivesAsked (AsksFor verb found) r
@@ -47,16 +56,20 @@ module _ (found : Found) where
   run_basis one asks = let e = asks.is in absurd (cc)
 
   pub value_position : (one : Mode) → AsksFor Value found one → (position : At) × AtMostOne (values_named found (codes "at")) (λ o. IsPositionOr o position)
-  value_position (mode.Value on position workers basis) asks = (position, asks.says.1)
+  value_position (mode.Value on position workers basis measure) asks = (position, asks.says.1)
   value_position one asks = let e = asks.is in absurd (cc)
 
   pub value_workers : (one : Mode) → AsksFor Value found one → (workers : ℕ) × AtMostOne (values_named found (codes "workers")) (λ o. AreWorkersOr o workers)
-  value_workers (mode.Value on position workers basis) asks = (workers, asks.says.2)
+  value_workers (mode.Value on position workers basis measure) asks = (workers, asks.says.2)
   value_workers one asks = let e = asks.is in absurd (cc)
 
   pub value_basis : (one : Mode) → AsksFor Value found one → (basis : Text) × AtMostOne (values_named found (codes "basis")) (λ o. IsBasisOr o basis)
-  value_basis (mode.Value on position workers basis) asks = (basis, asks.says.3)
+  value_basis (mode.Value on position workers basis measure) asks = (basis, asks.says.3)
   value_basis one asks = let e = asks.is in absurd (cc)
+
+  pub value_measure : (one : Mode) → AsksFor Value found one → (measure : Measure) × IsMeasureBy (values_named found (codes "mean")) (values_named found (codes "deficiency")) measure
+  value_measure (mode.Value on position workers basis measure) asks = (measure, asks.says.4)
+  value_measure one asks = let e = asks.is in absurd (cc)
 
   pub state_policy : (one : Mode) → AsksFor State found one → (id : Option ℕ) × AtMostOne (values_named found alone_id) (λ o. IsPolicyOr o id)
   state_policy (mode.State id) asks = (id, asks.says)

@@ -8,10 +8,10 @@ use Rattle.clap.specs.Simple.{Shape, new_shape}
 use Rattle.clap.specs.Faults.{settle_fault, turn_fault, use_fault, word_fault, other_fault, step_fault, flag_word_fault, bundle_fault, long_fault}
 use Rattle.clap.specs.Kinds.{Kinds, or_else}
 use Rattle.clap.specs.declared.error.kind.ErrorKind.{ErrorKind}
-use Rattle.clap.specs.declared.error.kind.ErrorKind.TheVariants.{InvalidValue, UnknownArgument}
-use Rattle.life_args.specs.inside.Lines.{alone_id}
+use Rattle.clap.specs.declared.error.kind.ErrorKind.TheVariants.{InvalidValue, TooManyValues, UnknownArgument}
+use Rattle.life_args.specs.inside.Lines.{OptionNames, alone_id}
 use Rattle.life_args.proofs.Lexing.{IsValueWord, IsNamed}
-use Rattle.life_args.proofs.Rules.{IsKnown, add, filled_alone, filled_option, own, rules}
+use Rattle.life_args.proofs.Rules.{IsKnown, add, filled_alone, filled_flag, filled_option, own, rules}
 
 -- a built command without subcommands
 abbrev pub leaf : List Rule → Shape
@@ -66,7 +66,7 @@ no_subcommand idle word = refl
 no_subcommand (option id) word = refl
 no_subcommand positional word = refl
 
-module _ (names : List Text) where
+module _ (names : OptionNames) where
   abbrev pub c : List Rule
   c = rules names
 
@@ -194,6 +194,19 @@ module _ (names : List Text) where
         walk = turn.1 ∙ ap (λ (k : Held). stand (add name given k.rows) None idle) (settles rows last known);
       }
 
+  -- a flag
+  pub flag_goes : (rows : List Row) (last : Option Use) (waiting : Waiting) (word name : Text) → IsUse last → IsNamed word name None
+      → arg_by_long c name ≡ Some (filled_flag name) → Goes (stand rows last waiting) word (stand (add name [] (all_rows rows last)) None idle)
+  flag_goes rows last waiting word name known is found =
+      let h : Held = held rows last in
+      let turn = turn_is rows h.pending waiting word ((long_met c (Some (filled_flag name)) None h).0, next idle) []
+      (named_met waiting word name None h is ∙ ap (λ o. after_flag c waiting word (long_met c o None h).0 (long_met c o None h).1) found)
+      (named_fault waiting word name None h is ∙ ap (λ o. long_fault c false o None h) found ∙ ap₂ or_else (no_owing rows last known) refl) in
+      record {
+        fault = turn.0;
+        walk = turn.1 ∙ ap (λ (k : Held). stand (add name [] k.rows) None idle) (settles rows last known);
+      }
+
   -- ---- faults
 
   abbrev pub IsFaulty : Walk → Text → Type 0
@@ -222,3 +235,16 @@ module _ (names : List Text) where
       both : (o : Option Text) → long_fault c false (Some (filled_option name)) o (want rows other).held ≡ InvalidValue ∷ []
       both None = unfilled rows other known
       both (Some v) = ap (λ k. or_else k (use_fault false (filled_option name) (v ∷ []) (settled c (want rows other).held).rows)) (unfilled rows other known)
+
+  -- where a flag has a value, and where it stands in the place of one
+  pub valued_flag_faulty : (rows : List Row) (pending : Option (Text × List Text)) (waiting : Waiting) (word name given : Text) → IsNamed word name (Some given)
+      → arg_by_long c name ≡ Some (filled_flag name) → IsFaulty (at_walk rows pending waiting) word
+  valued_flag_faulty rows pending waiting word name given is found =
+      faulty rows pending waiting word name (Some given) TooManyValues is (ap (λ o. long_fault c false o (Some given) (at rows pending)) found)
+
+  pub wanting_flag_faulty : (rows : List Row) (word other name : Text) → IsKnown names other → IsNamed word name None
+      → arg_by_long c name ≡ Some (filled_flag name) → IsFaulty (want rows other) word
+  wanting_flag_faulty rows word other name known is found =
+      faulty rows (Some (other, [])) (option other) word name None InvalidValue is
+      (ap (λ o. long_fault c false o None (want rows other).held) found
+      ∙ ap (λ k. or_else k (use_fault false (filled_flag name) [] (settled c (want rows other).held).rows)) (unfilled rows other known))

@@ -1,14 +1,14 @@
 -- `clap`'s walk over the words that pieces spell, and the pieces of the words that it takes
 use Rattle.std.proofs.Common.{◌≡◌, ◌||◌, Bool, true, false, fold, List, [], ◌∷◌, ◌++◌, Option, Some, None, refl, sym, ap, ap₂, ◌∙◌, inl, inr, true≢false}
-use Rattle.clap.specs.Walk.{Row, Text, Waiting, Walk, idle, positional, walked}
+use Rattle.clap.specs.Walk.{Row, Text, Waiting, Walk, arg_by_long, idle, positional, walked}
 use Rattle.clap.specs.Faults.{settle_fault, walk_fault}
 use Rattle.clap.specs.Kinds.{Kinds, or_else}
-use Rattle.life_args.specs.Pieces.{WordPiece, bare, spelled, IsAmong, HasOnly}
+use Rattle.life_args.specs.Pieces.{WordPiece, bare, flag, spelled, IsAmong, HasOnly}
 use Rattle.life_args.specs.Pieces.{apart as apart_piece, joined as joined_piece}
-use Rattle.life_args.specs.inside.Lines.{ArePlain, Spelling, alone_id, has_odd, is_odd}
+use Rattle.life_args.specs.inside.Lines.{ArePlain, OptionNames, Spelling, alone_id, has_odd, is_odd}
 use Rattle.life_args.proofs.Lexing.{IsNamed, Seen, alone, apart, joined, seen, plain_word, apart_named, joined_named}
-use Rattle.life_args.proofs.Rules.{IsGood, IsKnown, add, alone_known, long_found, long_is, option_known}
-use Rattle.life_args.proofs.Steps.{Goes, IsFaulty, IsFree, IsUse, Use, all_rows, c, s, stand, want, no_owing, alone_goes, name_goes, value_goes, joined_goes, unknown_faulty, wanting_faulty, unfilled}
+use Rattle.life_args.proofs.Rules.{AreGood, IsKnown, add, alone_known, filled_flag, flag_is, long_found, long_is, option_known}
+use Rattle.life_args.proofs.Steps.{Goes, IsFaulty, IsFree, IsUse, Use, all_rows, c, s, stand, want, no_owing, alone_goes, name_goes, value_goes, joined_goes, flag_goes, unknown_faulty, valued_flag_faulty, wanting_faulty, wanting_flag_faulty, unfilled}
 
 -- the rows after the uses of pieces
 abbrev pub put : List WordPiece → List Row → List Row
@@ -16,6 +16,7 @@ put [] rows = rows
 put (bare value ∷ pieces) rows = put pieces (add alone_id value rows)
 put (apart_piece name value ∷ pieces) rows = put pieces (add name value rows)
 put (joined_piece name value ∷ pieces) rows = put pieces (add name value rows)
+put (flag name ∷ pieces) rows = put pieces (add name [] rows)
 
 pub none_second : (a b : Kinds) → or_else a b ≡ [] → b ≡ []
 none_second [] b e = e
@@ -25,7 +26,7 @@ pub none_first : (a b : Kinds) → or_else a b ≡ [] → a ≡ []
 none_first [] b e = refl
 none_first (k ∷ ks) b e = e
 
-module _ (names : List Text) (good : (name : Text) → IsAmong names name → IsGood name) where
+module _ (names : OptionNames) (good : AreGood names) where
   abbrev pub ends : Walk → List Text → Walk
   ends w words = fold (walked (c names) []) w words
 
@@ -44,8 +45,8 @@ module _ (names : List Text) (good : (name : Text) → IsAmong names name → Is
       let none : fault.0 ∷ fault.1 ≡ [] = sym fault.2 ∙ none_first _ _ (none_first _ _ taken) in
       cc
 
-  known : (name : Text) → IsAmong names name → IsKnown names name
-  known name among = option_known names name (good name among).other among
+  known : (name : Text) → IsAmong names.valued name → IsKnown names name
+  known name among = option_known names name (good.valued name among).other among
 
   -- ---- the words of pieces
 
@@ -70,7 +71,7 @@ module _ (names : List Text) (good : (name : Text) → IsAmong names name → Is
     all = reads.all;
   }
 
-  pub reads : (pieces : List WordPiece) (rows : List Row) (last : Option Use) (waiting : Waiting) → IsFree waiting → IsUse names last → HasOnly names pieces → ArePlain pieces
+  pub reads : (pieces : List WordPiece) (rows : List Row) (last : Option Use) (waiting : Waiting) → IsFree waiting → IsUse names last → HasOnly names.valued names.flags pieces → ArePlain pieces
       → Reads (stand rows last waiting) (spelled pieces) (put pieces (all_rows rows last))
   unfolding walk_fault
   reads [] rows last waiting free use_is only plain =
@@ -80,13 +81,17 @@ module _ (names : List Text) (good : (name : Text) → IsAmong names name → Is
       (reads pieces (all_rows rows last) (Some (alone_id, value)) positional tt (alone_known names) only plain.1)
   reads (apart_piece name value ∷ pieces) rows last waiting free use_is only plain =
       on (stand rows last waiting) _ (45 ∷ 45 ∷ name) (value ∷ spelled pieces) _
-      (name_goes names rows last waiting (45 ∷ 45 ∷ name) name use_is (apart_named name (good name only.0).named) (long_is names name only.0))
+      (name_goes names rows last waiting (45 ∷ 45 ∷ name) name use_is (apart_named name (good.valued name only.0).named) (long_is names name only.0))
       (on (want (all_rows rows last) name) _ value (spelled pieces) _ (value_goes names (all_rows rows last) name value (known name only.0) (plain_word value plain.0))
       (reads pieces (all_rows rows last) (Some (name, value)) idle tt (known name only.0) only.1 plain.1))
   reads (joined_piece name value ∷ pieces) rows last waiting free use_is only plain =
       on (stand rows last waiting) _ (45 ∷ 45 ∷ (name ++ 61 ∷ value)) (spelled pieces) _
-      (joined_goes names rows last waiting (45 ∷ 45 ∷ (name ++ 61 ∷ value)) name value use_is (joined_named name value (good name only.0).named) (long_is names name only.0))
+      (joined_goes names rows last waiting (45 ∷ 45 ∷ (name ++ 61 ∷ value)) name value use_is (joined_named name value (good.valued name only.0).named) (long_is names name only.0))
       (reads pieces (add name value (all_rows rows last)) None idle tt tt only.1 plain)
+  reads (flag name ∷ pieces) rows last waiting free use_is only plain =
+      on (stand rows last waiting) _ (45 ∷ 45 ∷ name) (spelled pieces) _
+      (flag_goes names rows last waiting (45 ∷ 45 ∷ name) name use_is (apart_named name (good.flags name only.0).named) (flag_is names name good only.0))
+      (reads pieces (add name [] (all_rows rows last)) None idle tt tt only.1 plain)
 
   -- ---- the pieces of words
 
@@ -95,7 +100,7 @@ module _ (names : List Text) (good : (name : Text) → IsAmong names name → Is
       → (pieces : List WordPiece) × Spelling names words pieces
 
   abbrev Wanting : List Text → Type 0
-  Wanting words = (rows : List Row) (name : Text) → IsAmong names name → total (want rows name) words ≡ []
+  Wanting words = (rows : List Row) (name : Text) → IsAmong names.valued name → total (want rows name) words ≡ []
       → (pieces : List WordPiece) × Spelling names ((45 ∷ 45 ∷ name) ∷ words) pieces
 
   idle_word : (word : Text) (words : List Text) → is_odd word ≡ false → Idle words → Wanting words → Idle (word ∷ words)
@@ -107,14 +112,19 @@ module _ (names : List Text) (good : (name : Text) → IsAmong names name → Is
           let more = rest (all_rows rows last) (Some (alone_id, word)) positional tt (alone_known names) (sym (goes_on (stand rows last waiting) _ word words goes) ∙ taken) in
           (bare word ∷ more.0, record { spells = ap (λ ws. word ∷ ws) more.1.spells; only = more.1.only; plain = (plain, more.1.plain) })
       go (apart name same is) = elim (long_found names name) [
-        | inr none ↦ absurd (stops (stand rows last waiting) word words (unknown_faulty names rows (stand rows last waiting).held.pending waiting word name None is none) taken)
+        | inr (inr none) ↦ absurd (stops (stand rows last waiting) word words (unknown_faulty names rows (stand rows last waiting).held.pending waiting word name None is none) taken)
+        | inr (inl its) ↦
+            let goes = flag_goes names rows last waiting word name use_is is its.0 in
+            let more = rest (add name [] (all_rows rows last)) None idle tt tt (sym (goes_on (stand rows last waiting) _ word words goes) ∙ taken) in
+            (flag name ∷ more.0, record { spells = ap₂ (λ w ws. w ∷ ws) same more.1.spells; only = (its.1, more.1.only); plain = more.1.plain })
         | inl long ↦
             let goes = name_goes names rows last waiting word name use_is is long.0 in
             let more = waits (all_rows rows last) name long.1 (sym (goes_on (stand rows last waiting) _ word words goes) ∙ taken) in
             (more.0, record { spells = ap (λ w. w ∷ words) same ∙ more.1.spells; only = more.1.only; plain = more.1.plain })
       ]
       go (joined name value same is) = elim (long_found names name) [
-        | inr none ↦ absurd (stops (stand rows last waiting) word words (unknown_faulty names rows (stand rows last waiting).held.pending waiting word name (Some value) is none) taken)
+        | inr (inr none) ↦ absurd (stops (stand rows last waiting) word words (unknown_faulty names rows (stand rows last waiting).held.pending waiting word name (Some value) is none) taken)
+        | inr (inl its) ↦ absurd (stops (stand rows last waiting) word words (valued_flag_faulty names rows (stand rows last waiting).held.pending waiting word name value is its.0) taken)
         | inl long ↦
             let goes = joined_goes names rows last waiting word name value use_is is long.0 in
             let more = rest (add name value (all_rows rows last)) None idle tt tt (sym (goes_on (stand rows last waiting) _ word words goes) ∙ taken) in
@@ -124,9 +134,14 @@ module _ (names : List Text) (good : (name : Text) → IsAmong names name → Is
   wanting_word : (word : Text) (words : List Text) → is_odd word ≡ false → Idle words → Wanting (word ∷ words)
   wanting_word word words even rest rows one among taken = go (seen word even)
     where
+      flagged : (name : Text) (given : Option Text) → IsNamed word name given → arg_by_long (c names) name ≡ Some (filled_flag name) → IsFaulty names (want rows one) word
+      flagged name None is found = wanting_flag_faulty names rows word one name (known one among) is found
+      flagged name (Some value) is found = valued_flag_faulty names rows (Some (one, [])) (want rows one).waiting word name value is found
+
       wrong : (name : Text) (given : Option Text) → IsNamed word name given → IsFaulty names (want rows one) word
       wrong name given is = elim (long_found names name) [
-        | inr none ↦ unknown_faulty names rows (Some (one, [])) (want rows one).waiting word name given is none
+        | inr (inr none) ↦ unknown_faulty names rows (Some (one, [])) (want rows one).waiting word name given is none
+        | inr (inl its) ↦ flagged name given is its.0
         | inl long ↦ wanting_faulty names rows word one name given (known one among) is long.0
       ]
 

@@ -1,14 +1,26 @@
 -- What worked words are told by.
-use Rattle.std.proofs.Common.{◌≡◌, ◌++◌, ℕ, List, [], ◌∷◌, All, map, refl, sym, ap, subst, inl, inr, codes, lit≤, arith}
-use Rattle.std.specs.Prelude.{string_bytes, String, slice_index}
-use Rattle.std.specs.Global.{Global}
+use Rattle.std.proofs.Common.{◌≡◌, ◌∙◌, ◌++◌, ℕ, List, [], ◌∷◌, All, refl, sym, ap, subst, inl, inr, codes, lit≤, arith}
+use Rattle.std.specs.Prelude.{slice_index}
 use Rattle.std.proofs.lemmas.List.Elements.{All-nil, All-cons}
 use Rattle.basis_book.specs.Name.{IsName, IsNameByte}
 use Rattle.life_args.specs.declared.mode.Mode.{Mode}
 use Rattle.life_args.specs.declared.mode.Mode.TheVariants.{Run, Value, State, Generate, Load}
-use Rattle.life_args.specs.Pieces.{WordPiece, bare, apart, joined, spelled, bare_values}
-use Rattle.life_args.specs.Words.{AreWords, IsRun, IsValue}
+use Rattle.life_args.specs.Pieces.{WordPiece, bare, apart, joined, flag, spelled, bare_values}
+use Rattle.life_args.specs.Words.{AreWords}
 use Rattle.life_args.specs.Worked.{Ask, AskNothing}
+use Rattle.life_args.specs.declared.verb.Verb.{Verb}
+use Rattle.life_args.specs.declared.verb.Verb.TheVariants as verb
+use Rattle.life_args.specs.Pieces.{option_values}
+use Rattle.life_args.specs.Values.{IsMeasureBy}
+use Rattle.life_args.specs.inside.Lines.{Spelling, line_app, values_of}
+use Rattle.life_args.specs.inside.Verbs.{SaysMode, options_of, verb_of, verb_word}
+use Rattle.life_args.proofs.Answering.{asked_of}
+use Rattle.life_args.proofs.Asking.{good}
+use Rattle.life_args.proofs.Lines.{spelled_taken}
+use Rattle.policy_value.specs.declared.worth.Measure.{Measure}
+use Rattle.clap.specs.Faults.{defaults_fault, fault_of, walk_fault}
+use Rattle.clap.specs.Walk.{walked}
+use Rattle.clap.specs.declared.error.kind.ErrorKind.TheVariants.{InvalidValue, TooManyValues, UnknownArgument}
 
 pub asks : (typed : List (List ℕ)) (mode : Mode) → AreWords typed mode → Ask typed mode
 asks typed mode are words same = subst (λ ws. AreWords ws mode) (sym same) are
@@ -51,7 +63,7 @@ none_of_none mode are = are
 -- `help` begins as no command does
 pub none_of_help : (mode : Mode) → AreWords (codes "help" ∷ []) mode → ⊥
 none_of_help (Run basis) are = differ _ _ (λ e. let no : 104 ≡ 114 = e in omega arith) are.0
-none_of_help (Value on position workers basis) are = differ _ _ (λ e. let no : 104 ≡ 118 = e in omega arith) are.0
+none_of_help (Value on position workers basis measure) are = differ _ _ (λ e. let no : 104 ≡ 118 = e in omega arith) are.0
 none_of_help (State id) are = differ _ _ (λ e. let no : 104 ≡ 115 = e in omega arith) are.0
 none_of_help (Generate seed count lanes) are = differ _ _ (λ e. let no : 104 ≡ 103 = e in omega arith) are.0
 none_of_help (Load seed count lanes workers) are = differ _ _ (λ e. let no : 104 ≡ 108 = e in omega arith) are.0
@@ -70,10 +82,13 @@ one_word (apart name value ∷ pieces) e none =
 one_word (joined name value ∷ pieces) e none =
     let first : codes "now" ≡ codes "--" ++ (name ++ (codes "=" ++ value)) = ap (λ (ws : List (List ℕ)). head_of ws) e in
     differ _ _ (λ f. let no : 110 ≡ 45 = f in omega arith) first
+one_word (flag name ∷ pieces) e none =
+    let first : codes "now" ≡ codes "--" ++ name = ap (λ (ws : List (List ℕ)). head_of ws) e in
+    differ _ _ (λ f. let no : 110 ≡ 45 = f in omega arith) first
 
 pub none_of_now : (mode : Mode) → AreWords (codes "run" ∷ codes "now" ∷ []) mode → ⊥
 none_of_now (Run basis) are = one_word are.1.pieces are.1.spells are.1.alone
-none_of_now (Value on position workers basis) are = differ _ _ (λ e. let no : 114 ≡ 118 = e in omega arith) are.0
+none_of_now (Value on position workers basis measure) are = differ _ _ (λ e. let no : 114 ≡ 118 = e in omega arith) are.0
 none_of_now (State id) are = differ _ _ (λ e. let no : 114 ≡ 115 = e in omega arith) are.0
 none_of_now (Generate seed count lanes) are = differ _ _ (λ e. let no : 114 ≡ 103 = e in omega arith) are.0
 none_of_now (Load seed count lanes workers) are = differ _ _ (λ e. let no : 114 ≡ 108 = e in omega arith) are.0
@@ -84,17 +99,60 @@ no_word [] day e is = let no : [] ≡ day ∷ [] = is in cc
 no_word (bare value ∷ pieces) day e is = let no : [] ≡ value ∷ spelled pieces = e in cc
 no_word (apart name value ∷ pieces) day e is = let no : [] ≡ (codes "--" ++ name) ∷ value ∷ spelled pieces = e in cc
 no_word (joined name value ∷ pieces) day e is = let no : [] ≡ (codes "--" ++ (name ++ (codes "=" ++ value))) ∷ spelled pieces = e in cc
+no_word (flag name ∷ pieces) day e is = let no : [] ≡ (codes "--" ++ name) ∷ spelled pieces = e in cc
 
 pub none_of_no_day : (mode : Mode) → AreWords (codes "value" ∷ []) mode → ⊥
 none_of_no_day (Run basis) are = differ _ _ (λ e. let no : 118 ≡ 114 = e in omega arith) are.0
-none_of_no_day (Value on position workers basis) are = no_word are.1.pieces are.1.day are.1.spells are.1.alone
+none_of_no_day (Value on position workers basis measure) are = no_word are.1.pieces are.1.day are.1.spells are.1.alone
 none_of_no_day (State id) are = differ _ _ (λ e. let no : 118 ≡ 115 = e in omega arith) are.0
 none_of_no_day (Generate seed count lanes) are = differ _ _ (λ e. let no : 118 ≡ 103 = e in omega arith) are.0
 none_of_no_day (Load seed count lanes workers) are = differ _ _ (λ e. let no : 118 ≡ 108 = e in omega arith) are.0
 
 pub none_of_two : (mode : Mode) → AreWords (codes "generate" ∷ codes "1" ∷ codes "1" ∷ []) mode → ⊥
 none_of_two (Run basis) are = differ _ _ (λ e. let no : 103 ≡ 114 = e in omega arith) are.0
-none_of_two (Value on position workers basis) are = differ _ _ (λ e. let no : 103 ≡ 118 = e in omega arith) are.0
+none_of_two (Value on position workers basis measure) are = differ _ _ (λ e. let no : 103 ≡ 118 = e in omega arith) are.0
 none_of_two (State id) are = differ _ _ (λ e. let no : 103 ≡ 115 = e in omega arith) are.0
 none_of_two (Generate seed count lanes) are = let e = are.1.spells in cc
 none_of_two (Load seed count lanes workers) are = differ _ _ (λ e. let no : 103 ≡ 108 = e in omega arith) are.0
+
+-- ---- flags
+
+-- pieces that spell the words and ask for no measure
+spelled_so : (words : List (List ℕ)) (pieces : List WordPiece) → Spelling (options_of verb.Value) words pieces
+    → ((measure : Measure) → IsMeasureBy (option_values (codes "mean") pieces) (option_values (codes "deficiency") pieces) measure → ⊥)
+    → (mode : Mode) → AreWords (codes "value" ∷ words) mode → ⊥
+spelled_so words pieces spelling none mode are =
+    let asks = asked_of verb.Value words mode are in
+    let these = (spelled_taken (options_of verb.Value) (good verb.Value) words pieces spelling).1 in
+    let those = (spelled_taken (options_of verb.Value) (good verb.Value) words asks.1.0 asks.1.1).1 in
+    by_measure mode asks.0 (subst (λ (v : List ℕ → List (List ℕ)). SaysMode v mode) (λ i id. (sym (those id) ∙ these id) i) asks.1.2)
+  where
+    by_measure : (one : Mode) → verb_of one ≡ verb.Value → SaysMode (values_of pieces) one → ⊥
+    by_measure (Value on position workers basis measure) e says = none measure says.4
+    by_measure one e says = absurd (cc)
+
+-- words that `clap` refuses
+refused : (verb : Verb) (words : List (List ℕ)) → (fault_of (line_app (options_of verb)) words ≡ [] → ⊥) → (mode : Mode) → AreWords (verb_word verb ∷ words) mode → ⊥
+refused verb words faulty mode are =
+    let asks = asked_of verb words mode are in
+    faulty (spelled_taken (options_of verb) (good verb) words asks.1.0 asks.1.1).0
+
+pub none_of_both : (mode : Mode) → AreWords (codes "value" ∷ codes "--mean" ∷ codes "2021-01-01" ∷ codes "--deficiency" ∷ []) mode → ⊥
+none_of_both = spelled_so _ (flag (codes "mean") ∷ bare (codes "2021-01-01") ∷ flag (codes "deficiency") ∷ [])
+    (record { spells = refl; only = (inl refl, (inr (inl refl), tt)); plain = (refl, tt) }) (λ measure never. never)
+
+pub none_of_twice : (mode : Mode) → AreWords (codes "value" ∷ codes "--mean" ∷ codes "2021-01-01" ∷ codes "--mean" ∷ []) mode → ⊥
+none_of_twice = spelled_so _ (flag (codes "mean") ∷ bare (codes "2021-01-01") ∷ flag (codes "mean") ∷ [])
+    (record { spells = refl; only = (inl refl, (inl refl, tt)); plain = (refl, tt) }) (λ measure never. never)
+
+pub none_of_valued_flag : (mode : Mode) → AreWords (codes "value" ∷ codes "--mean=" ∷ codes "2021-01-01" ∷ []) mode → ⊥
+unfolding walk_fault walked defaults_fault
+none_of_valued_flag = refused verb.Value (codes "--mean=" ∷ codes "2021-01-01" ∷ []) (λ none. let no : TooManyValues ∷ [] ≡ [] = none in cc)
+
+pub none_of_flag_as_value : (mode : Mode) → AreWords (codes "value" ∷ codes "2021-01-01" ∷ codes "--at" ∷ codes "--mean" ∷ []) mode → ⊥
+unfolding walk_fault walked defaults_fault
+none_of_flag_as_value = refused verb.Value (codes "2021-01-01" ∷ codes "--at" ∷ codes "--mean" ∷ []) (λ none. let no : InvalidValue ∷ [] ≡ [] = none in cc)
+
+pub none_of_state_flag : (mode : Mode) → AreWords (codes "state" ∷ codes "--mean" ∷ []) mode → ⊥
+unfolding walk_fault walked defaults_fault
+none_of_state_flag = refused verb.State (codes "--mean" ∷ []) (λ none. let no : UnknownArgument ∷ [] ≡ [] = none in cc)

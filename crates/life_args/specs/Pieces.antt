@@ -8,12 +8,15 @@ pub data WordPiece : Type 0 where
   apart : List ℕ → List ℕ → WordPiece
   -- an option's name and value in one word, `--name=value`
   joined : List ℕ → List ℕ → WordPiece
+  -- a flag, which is an option's name alone, `--name`
+  flag : List ℕ → WordPiece
 
 -- the words of a piece
 abbrev pub piece_words : WordPiece → List (List ℕ)
 piece_words (bare value) = value ∷ []
 piece_words (apart name value) = (codes "--" ++ name) ∷ value ∷ []
 piece_words (joined name value) = (codes "--" ++ (name ++ (codes "=" ++ value))) ∷ []
+piece_words (flag name) = (codes "--" ++ name) ∷ []
 
 -- the words that the pieces spell
 abbrev pub spelled : List WordPiece → List (List ℕ)
@@ -26,29 +29,32 @@ bare_values [] = []
 bare_values (bare value ∷ pieces) = value ∷ bare_values pieces
 bare_values (apart name value ∷ pieces) = bare_values pieces
 bare_values (joined name value ∷ pieces) = bare_values pieces
+bare_values (flag name ∷ pieces) = bare_values pieces
 
 -- the values that an option of one name gets here, where it has the other name
 abbrev pub value_under : List ℕ → List ℕ → List ℕ → List (List ℕ) → List (List ℕ)
 value_under name other value values = cond (bytes_eq other name) (value ∷ values) values
 
--- the values of the option of this name
+-- the values of the option of this name. Each use of a flag has the empty text.
 abbrev pub option_values : List ℕ → List WordPiece → List (List ℕ)
 option_values name [] = []
 option_values name (bare value ∷ pieces) = option_values name pieces
 option_values name (apart other value ∷ pieces) = value_under name other value (option_values name pieces)
 option_values name (joined other value ∷ pieces) = value_under name other value (option_values name pieces)
+option_values name (flag other ∷ pieces) = value_under name other [] (option_values name pieces)
 
 -- the name is one of these
 abbrev pub IsAmong : List (List ℕ) → List ℕ → Type 0
 IsAmong [] name = ⊥
 IsAmong (one ∷ names) name = (name ≡ one) ⊎ IsAmong names name
 
--- each option has one of these names
-abbrev pub HasOnly : List (List ℕ) → List WordPiece → Type 0
-HasOnly names [] = ⊤
-HasOnly names (bare value ∷ pieces) = HasOnly names pieces
-HasOnly names (apart name value ∷ pieces) = IsAmong names name × HasOnly names pieces
-HasOnly names (joined name value ∷ pieces) = IsAmong names name × HasOnly names pieces
+-- each option that has a value has one of these names, and each flag one of those
+abbrev pub HasOnly : List (List ℕ) → List (List ℕ) → List WordPiece → Type 0
+HasOnly names flags [] = ⊤
+HasOnly names flags (bare value ∷ pieces) = HasOnly names flags pieces
+HasOnly names flags (apart name value ∷ pieces) = IsAmong names name × HasOnly names flags pieces
+HasOnly names flags (joined name value ∷ pieces) = IsAmong names name × HasOnly names flags pieces
+HasOnly names flags (flag name ∷ pieces) = IsAmong flags name × HasOnly names flags pieces
 
 -- there is one value at most, and what is asked of it, or of none, holds
 abbrev pub AtMostOne : List (List ℕ) → (Option (List ℕ) → Type 0) → Type 0

@@ -1,10 +1,12 @@
 -- What the values of a command line say. Numbers are decimal digits without a sign and without leading zeros.
-use Rattle.std.specs.Prelude.{◌≡◌, ℕ, ◌≤◌, List, codes, decimal, Option, Some, None, ℤ}
+use Rattle.std.specs.Prelude.{◌≡◌, ℕ, ◌≤◌, List, [], ◌∷◌, codes, decimal, Option, Some, None, ℤ}
 use Rattle.policy_types.specs.declared.entry.At.{At}
 use Rattle.policy_types.specs.declared.entry.At.TheVariants.{Now, Position}
 use Rattle.life_dates.specs.Calendar.{IsDay}
 use Rattle.life_dates.specs.DayText.{day_text}
 use Rattle.basis_book.specs.Name.{IsName}
+use Rattle.policy_value.specs.declared.worth.Measure.{Measure}
+use Rattle.policy_value.specs.declared.worth.Measure.TheVariants.{Terminal, Mean, Deficiency}
 
 -- a day from 1900-01-01 to 2199-12-31, as YYYY-MM-DD
 abbrev pub IsDayValue : List ℕ → ℤ → Type 0
@@ -25,6 +27,13 @@ AreWorkersOr (Some value) workers = (1 ≤ workers) × (workers ≤ 64) × (valu
 abbrev pub IsBasisOr : Option (List ℕ) → List ℕ → Type 0
 IsBasisOr None name = name ≡ codes "basis.csv"
 IsBasisOr (Some value) name = IsName value × (name ≡ value)
+
+-- the reserve that is asked for, by the uses of `--mean` and those of `--deficiency`: one flag at most, and once
+abbrev pub IsMeasureBy : List (List ℕ) → List (List ℕ) → Measure → Type 0
+IsMeasureBy [] [] measure = measure ≡ Terminal
+IsMeasureBy (use_of_mean ∷ []) [] measure = measure ≡ Mean
+IsMeasureBy [] (use_of_deficiency ∷ []) measure = measure ≡ Deficiency
+IsMeasureBy means deficiencies measure = ⊥
 
 -- a policy's number
 abbrev pub IsNumber : ℕ → Type 0

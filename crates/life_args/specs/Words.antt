@@ -2,38 +2,41 @@
 use Rattle.std.specs.Prelude.{◌≡◌, ℕ, ⊤, List, [], ◌∷◌, map, codes, decimal, string_bytes, String, Option, ℤ}
 use Rattle.std.specs.Global.{Global}
 use Rattle.policy_types.specs.declared.entry.At.{At}
+use Rattle.policy_value.specs.declared.worth.Measure.{Measure}
 use Rattle.life_args.specs.declared.fault.WordsFault.{WordsFault}
 use Rattle.life_args.specs.declared.fault.WordsFault.TheVariants.{Usage, NoMemory}
 use Rattle.life_args.specs.declared.mode.Mode.{Mode}
 use Rattle.life_args.specs.declared.mode.Mode.TheVariants.{Run, Value, State, Generate, Load}
 use Rattle.life_args.specs.Pieces.{WordPiece, spelled, bare_values, option_values, HasOnly, AtMostOne}
-use Rattle.life_args.specs.Values.{IsDayValue, IsPositionOr, AreWorkersOr, IsBasisOr, IsPolicyOr, IsSeed, IsPolicyCount, IsLaneCount, IsWorkerCount}
+use Rattle.life_args.specs.Values.{IsDayValue, IsPositionOr, AreWorkersOr, IsBasisOr, IsMeasureBy, IsPolicyOr, IsSeed, IsPolicyCount, IsLaneCount, IsWorkerCount}
 
 -- `run [--basis NAME]`: the words behind `run`
 pub record IsRun (words : List (List ℕ)) (basis : List ℕ) : Type 0 where
   pub pieces : List WordPiece
   pub spells : words ≡ spelled pieces
-  pub only : HasOnly (codes "basis" ∷ []) pieces
+  pub only : HasOnly (codes "basis" ∷ []) [] pieces
   pub alone : bare_values pieces ≡ []
   pub basis_is : AtMostOne (option_values (codes "basis") pieces) (λ given. IsBasisOr given basis)
 
--- `value ON [--at P] [--workers N] [--basis NAME]`: the words behind `value`, options anywhere among them
-pub record IsValue (words : List (List ℕ)) (on : ℤ) (position : At) (workers : ℕ) (basis : List ℕ) : Type 0 where
+-- `value ON [--at P] [--workers N] [--basis NAME] [--mean | --deficiency]`: the words behind `value`, options anywhere
+-- among them
+pub record IsValue (words : List (List ℕ)) (on : ℤ) (position : At) (workers : ℕ) (basis : List ℕ) (measure : Measure) : Type 0 where
   pub pieces : List WordPiece
   pub spells : words ≡ spelled pieces
-  pub only : HasOnly (codes "at" ∷ codes "workers" ∷ codes "basis" ∷ []) pieces
+  pub only : HasOnly (codes "at" ∷ codes "workers" ∷ codes "basis" ∷ []) (codes "mean" ∷ codes "deficiency" ∷ []) pieces
   pub day : List ℕ
   pub alone : bare_values pieces ≡ day ∷ []
   pub day_is : IsDayValue day on
   pub position_is : AtMostOne (option_values (codes "at") pieces) (λ given. IsPositionOr given position)
   pub workers_are : AtMostOne (option_values (codes "workers") pieces) (λ given. AreWorkersOr given workers)
   pub basis_is : AtMostOne (option_values (codes "basis") pieces) (λ given. IsBasisOr given basis)
+  pub measure_is : IsMeasureBy (option_values (codes "mean") pieces) (option_values (codes "deficiency") pieces) measure
 
 -- `state [ID]`: the words behind `state`
 pub record IsState (words : List (List ℕ)) (id : Option ℕ) : Type 0 where
   pub pieces : List WordPiece
   pub spells : words ≡ spelled pieces
-  pub only : HasOnly [] pieces
+  pub only : HasOnly [] [] pieces
   pub id_is : AtMostOne (bare_values pieces) (λ given. IsPolicyOr given id)
 
 -- `generate SEED COUNT LANES`: the words behind `generate`
@@ -55,7 +58,8 @@ pub record IsLoad (words : List (List ℕ)) (seed count lanes workers : ℕ) : T
 abbrev pub AreWords : List (List ℕ) → Mode → Type 0
 AreWords [] mode = ⊥
 AreWords (word ∷ words) (Run basis) = (word ≡ codes "run") × IsRun words basis
-AreWords (word ∷ words) (Value on position workers basis) = (word ≡ codes "value") × IsValue words on position workers basis
+AreWords (word ∷ words) (Value on position workers basis measure) =
+    (word ≡ codes "value") × IsValue words on position workers basis measure
 AreWords (word ∷ words) (State id) = (word ≡ codes "state") × IsState words id
 AreWords (word ∷ words) (Generate seed count lanes) = (word ≡ codes "generate") × IsGenerate words seed count lanes
 AreWords (word ∷ words) (Load seed count lanes workers) = (word ≡ codes "load") × IsLoad words seed count lanes workers

@@ -2,6 +2,7 @@
 use Rattle.std.specs.Prelude.{◌≡◌, ℕ, List, [], ◌∷◌, map, codes, string_bytes, String, Some, None, pos}
 use Rattle.std.specs.Global.{Global}
 use Rattle.policy_types.specs.declared.entry.At.TheVariants.{Now, Position}
+use Rattle.policy_value.specs.declared.worth.Measure.TheVariants.{Terminal, Mean, Deficiency}
 use Rattle.life_args.specs.declared.mode.Mode.{Mode}
 use Rattle.life_args.specs.declared.mode.Mode.TheVariants.{Run, Value, State, Generate, Load}
 use Rattle.life_args.specs.Words.{AskFor, AskForNothing}
@@ -20,9 +21,24 @@ RunWords = Ask (codes "run" ∷ []) (Run (codes "basis.csv"))
 
 -- options before and behind the day, in two words or in one
 abbrev pub ValueWords : Type 0
-ValueWords = Ask (codes "value" ∷ codes "2021-01-01" ∷ []) (Value (pos 18628) Now 1 (codes "basis.csv"))
+ValueWords = Ask (codes "value" ∷ codes "2021-01-01" ∷ []) (Value (pos 18628) Now 1 (codes "basis.csv") Terminal)
     × Ask (codes "value" ∷ codes "--at=5" ∷ codes "2021-01-01" ∷ codes "--workers" ∷ codes "64" ∷ [])
-    (Value (pos 18628) (Position 5) 64 (codes "basis.csv"))
+    (Value (pos 18628) (Position 5) 64 (codes "basis.csv") Terminal)
+
+-- a flag before the day and behind it, beside an option and in its midst
+abbrev pub MeasureWords : Type 0
+MeasureWords = Ask (codes "value" ∷ codes "--mean" ∷ codes "2021-01-01" ∷ [])
+    (Value (pos 18628) Now 1 (codes "basis.csv") Mean)
+    × Ask (codes "value" ∷ codes "2021-01-01" ∷ codes "--at" ∷ codes "5" ∷ codes "--deficiency" ∷ [])
+    (Value (pos 18628) (Position 5) 1 (codes "basis.csv") Deficiency)
+
+-- both flags, one of them twice, a flag with a value, in the place of one, and with `state`
+abbrev pub MeasureNearWords : Type 0
+MeasureNearWords = AskNothing (codes "value" ∷ codes "--mean" ∷ codes "2021-01-01" ∷ codes "--deficiency" ∷ [])
+    × AskNothing (codes "value" ∷ codes "--mean" ∷ codes "2021-01-01" ∷ codes "--mean" ∷ [])
+    × AskNothing (codes "value" ∷ codes "--mean=" ∷ codes "2021-01-01" ∷ [])
+    × AskNothing (codes "value" ∷ codes "2021-01-01" ∷ codes "--at" ∷ codes "--mean" ∷ [])
+    × AskNothing (codes "state" ∷ codes "--mean" ∷ [])
 
 abbrev pub StateWords : Type 0
 StateWords = Ask (codes "state" ∷ []) (State None) × Ask (codes "state" ∷ codes "7001" ∷ []) (State (Some 7001))

@@ -2,7 +2,7 @@
 ghost use Rattle.std.specs.Prelude.{◌≡◌, [], true, IfOk, false, map, string_bytes};
 ghost use Rattle.clap.specs.Words.{app_of, is_simple_and_free, rule_of};
 ghost use Rattle.life_args.specs.inside.Lines as lines;
-ghost use Rattle.life_args.specs.inside.Lines.{ReadsLine, TakesWords, line_app, option_rule};
+ghost use Rattle.life_args.specs.inside.Lines.{ReadsLine, TakesWords, flag_rule, line_app, no_option_names, option_rule};
 ghost use Rattle.life_args.specs.inside.Verbs.{options_of};
 
 use crate::fault::WordsFault;
@@ -61,13 +61,15 @@ fn command_of<'a>(alloc: Global, verb: Verb) -> Result<Command<'a>, AllocError>
         Verb::Value => command
             .arg(option(alloc, "at"))?
             .arg(option(alloc, "workers"))?
-            .arg(option(alloc, "basis")),
+            .arg(option(alloc, "basis"))?
+            .arg(flag(alloc, "mean"))?
+            .arg(flag(alloc, "deficiency")),
         Verb::State | Verb::Generate | Verb::Load => Ok(command),
     }
 }
 
 fn optionless<'a>(alloc: Global) -> Result<Command<'a>, AllocError>
-    ensures { IfOk result (λ command. app_of command ≡ line_app []) }
+    ensures { IfOk result (λ command. app_of command ≡ line_app no_option_names) }
 {
     let values = Arg::new(alloc, "values").action(ArgAction::Append);
     Command::new(alloc, "life")
@@ -82,6 +84,14 @@ fn option<'a>(alloc: Global, name: &'a str) -> Arg<'a>
     ensures local { result.global ≡ false }
 {
     Arg::new(alloc, name).long(name).action(ArgAction::Append)
+}
+
+// An option without a value. Each use is noted, so that repeated ones are judged with the other values.
+fn flag<'a>(alloc: Global, name: &'a str) -> Arg<'a>
+    ensures rule { rule_of result ≡ flag_rule name.entry.now }
+    ensures local { result.global ≡ false }
+{
+    option(alloc, name).num_args(0).default_missing_value("")
 }
 
 // What a command makes of words.

@@ -1,5 +1,6 @@
 use basis_book::Name;
 use policy_types::At;
+use policy_value::Measure;
 
 /// What the words ask for.
 #[derive(Drop)]
@@ -18,6 +19,8 @@ pub enum Mode {
         workers: u8,
         /// The name of the basis file.
         basis: Name,
+        /// The reserve that is asked for.
+        measure: Measure,
     },
     /// To write all policies and the balances, or the entries of the policy of this number.
     State {

@@ -6,7 +6,8 @@ ghost use Rattle.life_args.specs.inside.Verbs.{AreDrawn, AsksFor};
 use crate::fault::WordsFault;
 use crate::mode::Mode;
 use crate::values::{
-    basis_of, day_of, four, is_empty, number_of, one, policy_of, position_of, three, workers_of,
+    basis_of, day_of, four, is_empty, measure_of, number_of, one, policy_of, position_of, three,
+    workers_of,
 };
 use crate::verb::Verb;
 use clap::ArgMatches;
@@ -44,12 +45,14 @@ fn value_of(alloc: Global, line: &ArgMatches) -> Result<Mode, WordsFault>
     let on = day_of(on)?;
     let at = position_of(line.get_strs("at"))?;
     let workers = workers_of(line.get_strs("workers"))?;
+    let measure = measure_of(line.get_strs("mean"), line.get_strs("deficiency"))?;
     let basis = basis_of(alloc, line.get_strs("basis"))?;
     Ok(Mode::Value {
         on,
         at,
         workers,
         basis,
+        measure,
     })
 }
 

@@ -1,7 +1,7 @@
 // What the values of a command line say.
 ghost use Rattle.std.specs.Prelude.{◌≡◌, ◌≢◌, ◌≤◌, ◌↔◌, ℕ, [], ◌∷◌, length, IsTrue, IfSome, IfNone, decimal, option_map};
 ghost use Rattle.life_args.specs.Pieces.{AtMostOne};
-ghost use Rattle.life_args.specs.Values.{IsDayValue, IsPositionOr, AreWorkersOr, IsBasisOr, IsPolicyOr};
+ghost use Rattle.life_args.specs.Values.{IsDayValue, IsPositionOr, AreWorkersOr, IsBasisOr, IsMeasureBy, IsPolicyOr};
 ghost use Rattle.life_args.specs.inside.Lines.{GivesAsked};
 ghost use Rattle.life_args.specs.inside.Verbs.{GivesLone, IsNumberValue, texts_of};
 
@@ -10,6 +10,7 @@ use basis_book::Name;
 use life_dates::parse_day;
 use money_core::parse_number;
 use policy_types::{At, NoMemory};
+use policy_value::Measure;
 use std::alloc::Global;
 
 /// The day of a valuation, in days since 1970-01-01.
@@ -38,6 +39,20 @@ pub fn basis_of(alloc: Global, values: Option<&[&str]>) -> Result<Name, WordsFau
     ensures { GivesAsked (λ basis. AtMostOne (texts_of values.entry) (λ given. IsBasisOr given basis)) result }
 {
     basis_or(alloc, lone(values)?)
+}
+
+/// The reserve that is asked for, by the uses of `--mean` and those of `--deficiency`: of both flags one at most, once.
+pub fn measure_of(mean: Option<&[&str]>, deficiency: Option<&[&str]>) -> Result<Measure, WordsFault>
+    ensures { GivesAsked (IsMeasureBy (texts_of mean.entry) (texts_of deficiency.entry)) result }
+{
+    let mean = lone(mean)?;
+    let deficiency = lone(deficiency)?;
+    match (mean, deficiency) {
+        (None, None) => Ok(Measure::Terminal),
+        (Some(_), None) => Ok(Measure::Mean),
+        (None, Some(_)) => Ok(Measure::Deficiency),
+        (Some(_), Some(_)) => Err(WordsFault::Usage),
+    }
 }
 
 /// The number of the policy whose entries are asked for, if one is given.

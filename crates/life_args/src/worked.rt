@@ -1,11 +1,13 @@
 //! Worked words, each a theorem over the definitions alone.
 
-ghost use Rattle.life_args.specs.Worked.{LoadWords, NearWords, RunWords, StateWords, ValueWords};
+ghost use Rattle.life_args.specs.Worked.{LoadWords, MeasureNearWords, MeasureWords, NearWords, RunWords, StateWords, ValueWords};
 
 /// The words of each command, and words that are nearly one.
 pub fn words_by_hand()
     ensures run { RunWords }
     ensures value { ValueWords }
+    ensures measure { MeasureWords }
+    ensures measure_near { MeasureNearWords }
     ensures state { StateWords }
     ensures load { LoadWords }
     ensures near { NearWords }

@@ -39,7 +39,7 @@ module _ {D : Type 0} (g : Ghosts D) (old new : D) (words : List (String Global)
   mode_still : (mode : Mode) (ending : Ending) → EndsMode g old new mode auditors input output shelf A B ending
       → EndsMode g old new mode auditors input output shelf A' B' ending
   mode_still (Run basis) ending ends = run_still basis ending ends
-  mode_still (Value on at workers basis) ending ends = (f (ends.0), ends.1)
+  mode_still (Value on at workers basis measure) ending ends = (f (ends.0), ends.1)
   mode_still (State None) ending ends = (f (ends.0), h (ends.1), ends.2)
   mode_still (State (Some id)) ending ends = (f (ends.0), h (ends.1), ends.2)
   mode_still (Generate seed count lanes) ending ends = (f (ends.0), h (ends.1), ends.2, ends.3)

@@ -1,6 +1,5 @@
 -- Worked cases of endings, lines and replies. What was written is compared with what the lines have to be, byte by byte
-use Rattle.std.specs.Prelude.{◌+◌, ◌≡◌, ℕ, List, [], ◌∷◌, ◌++◌, Option, Some, None, codes, pos, Ok, Err}
-use Rattle.policy_types.specs.declared.command.Command.{Command}
+use Rattle.std.specs.Prelude.{◌+◌, ◌≡◌, ℕ, List, [], ◌∷◌, ◌++◌, Option, Some, None, codes, pos}
 use Rattle.policy_types.specs.declared.command.Command.TheVariants.{Lapse}
 use Rattle.policy_types.specs.declared.entry.Call.TheVariants.{Post, Pin}
 use Rattle.policy_types.specs.declared.entry.Reply.{Reply}
@@ -8,14 +7,13 @@ use Rattle.policy_types.specs.declared.entry.Reply.TheVariants.{Accepted, Refuse
 use Rattle.policy_types.specs.declared.entry.Entry.{Entry}
 use Rattle.policy_types.specs.declared.refusal.Refusal.TheVariants.{Unknown}
 use Rattle.office_state.specs.declared.faults.StartCause.TheVariants.{NotAJournal, BadRecord}
-use Rattle.basis_shelf.specs.declared.fault.BadBasis.{BadBasis}
 use Rattle.basis_shelf.specs.declared.fault.BasisWord.TheVariants.{AgeGap}
 use Rattle.program_endings.specs.declared.ending.Ending.TheVariants.{Done, Usage, BadScript, BadBasis as BadBasisFile, BadJournal, ReadFault, WriteFault, DiskFault, NoMemory, Ahead}
 use Rattle.program_endings.specs.Status.{status_of}
 use Rattle.program_endings.specs.Refusals.{SaysWhy}
 use Rattle.program_endings.specs.Replies.{AreAnswered, ArePins, HasBlank, HaveAFault, LackMemory}
 use Rattle.program_endings.specs.WithoutBasis.{SaysBadFile}
-use Rattle.program_endings.specs.Writing.{GaveAll, Input, Stream, WroteAll, WroteLine, WroteNothing, WrotePart}
+use Rattle.program_endings.specs.Writing.{GaveAll, Input, Stream, WroteLine, WroteNothing, WrotePart}
 
 -- no status is 1, and each ending has its own
 abbrev pub StatusesOfEndings : Type 0

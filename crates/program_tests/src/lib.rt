@@ -18,6 +18,8 @@ mod lying_disk;
 #[cfg(test)]
 mod lying_disk_tests;
 #[cfg(test)]
+mod measure_tests;
+#[cfg(test)]
 mod paid_up_tests;
 #[cfg(test)]
 mod policy_tests;

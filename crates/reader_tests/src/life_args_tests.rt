@@ -1,5 +1,6 @@
 use life_args::{Mode, WordsFault, read_words};
 use policy_types::At;
+use policy_value::Measure;
 use std::alloc::Global;
 use std::test::Fail;
 
@@ -24,13 +25,26 @@ fn asked(alloc: Global, line: &str) -> Result<String, Fail> {
                 at,
                 workers,
                 basis,
+                measure,
             },
         ) => {
             let place = match at {
                 At::Now => -1,
                 At::Position(position) => position as i64,
             };
-            Ok(format!(in alloc; "value {} {} {} {}", on, place, workers, basis.text())?)
+            let flag = match measure {
+                Measure::Terminal => "",
+                Measure::Mean => " mean",
+                Measure::Deficiency => " deficiency",
+            };
+            Ok(format!(in alloc;
+                "value {} {} {} {}{}",
+                on,
+                place,
+                workers,
+                basis.text(),
+                flag
+            )?)
         }
         Ok(Mode::State { id: None }) => Ok(format!(in alloc; "state")?),
         Ok(Mode::State { id: Some(id) }) => Ok(format!(in alloc; "state {}", id)?),
@@ -73,6 +87,40 @@ fn forms_and_mixtures(rt: HostRuntime) -> Result<(), Fail> {
         (
             "value 2199-12-31 --workers=2 --at 1",
             "value 84005 1 2 basis.csv",
+        ),
+        ("value 1970-01-01 --mean", "value 0 -1 1 basis.csv mean"),
+        ("value --mean 1970-01-01", "value 0 -1 1 basis.csv mean"),
+        (
+            "value 1970-01-01 --deficiency",
+            "value 0 -1 1 basis.csv deficiency",
+        ),
+        (
+            "value --deficiency 1970-01-01",
+            "value 0 -1 1 basis.csv deficiency",
+        ),
+        (
+            "value --mean --at 5 --workers 2 1970-01-01",
+            "value 0 5 2 basis.csv mean",
+        ),
+        (
+            "value --at 5 --mean --workers 2 1970-01-01",
+            "value 0 5 2 basis.csv mean",
+        ),
+        (
+            "value --at=5 --workers=2 --mean --basis=b 1970-01-01",
+            "value 0 5 2 b mean",
+        ),
+        (
+            "value --workers 2 1970-01-01 --deficiency --at 5",
+            "value 0 5 2 basis.csv deficiency",
+        ),
+        (
+            "value --deficiency --basis b 1970-01-01 --at=5 --workers=2",
+            "value 0 5 2 b deficiency",
+        ),
+        (
+            "value 1970-01-01 --at 5 --workers 2 --deficiency",
+            "value 0 5 2 basis.csv deficiency",
         ),
         ("state", "state"),
         ("state 1", "state 1"),
@@ -174,6 +222,37 @@ fn words_of_no_command(rt: HostRuntime) -> Result<(), Fail> {
         "value 1970-01-01 --workers 01",
         "value 1970-01-01 --workers 1 --workers 1",
         "value 1970-01-01 --basis b --workers",
+        "value --mean",
+        "value --mean --deficiency",
+        "value 1970-01-01 --mean --mean",
+        "value --mean 1970-01-01 --mean",
+        "value --deficiency --deficiency 1970-01-01",
+        "value --deficiency 1970-01-01 --at 5 --deficiency",
+        "value 1970-01-01 --mean --deficiency",
+        "value 1970-01-01 --deficiency --mean",
+        "value --deficiency 1970-01-01 --mean",
+        "value 1970-01-01 --mean=",
+        "value 1970-01-01 --mean=1",
+        "value 1970-01-01 --mean 1",
+        "value 1970-01-01 --deficiency=mean",
+        "value 1970-01-01 --mea",
+        "value 1970-01-01 --MEAN",
+        "value 1970-01-01 -mean",
+        "value 1970-01-01 mean",
+        "value 1970-01-01 --terminal",
+        "value 1970-01-01 --at --mean",
+        "value 1970-01-01 --at --mean 5",
+        "value 1970-01-01 --at=--mean",
+        "value 1970-01-01 --basis --deficiency b",
+        "--mean value 1970-01-01",
+        "run --mean",
+        "run --deficiency --basis b",
+        "run --basis --mean",
+        "state --mean",
+        "state 1 --deficiency",
+        "generate 1 1 1 --mean",
+        "load 1 1 1 1 --mean",
+        "load --deficiency 1 1 1 1",
         "state 0",
         "state 4294967296",
         "state 01",

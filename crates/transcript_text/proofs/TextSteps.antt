@@ -1,5 +1,5 @@
 -- The text of what is told of answered lines is that of the lines
-use Rattle.std.proofs.Common.{◌≡◌, ◌↔◌, ℕ, ℤ, true, List, [], ◌∷◌, take, refl, ap, sym, ◌∙◌, subst, inl, inr}
+use Rattle.std.proofs.Common.{◌≡◌, ◌↔◌, ℕ, ℤ, true, List, [], ◌∷◌, take, refl, ap, ap₂, sym, ◌∙◌, subst, inl, inr}
 use Rattle.std.specs.List.{AllZip, Contains}
 use Rattle.std.proofs.lemmas.Bool.{false≢true}
 use Rattle.basis_book.specs.Dated.{Dated}
@@ -37,12 +37,12 @@ reply_text clerk Trim reply (Trimmed floor) commands basis IsDry told dry =
 reply_text clerk (Value on at workers) reply (ValueRefused refusal) commands basis IsDry told dry =
     subst (λ (r : Reply). IsReplyText clerk (Value on at workers) r commands basis IsDry (unpinned_text clerk on refusal)) (sym told) refl
 reply_text clerk (Value on at workers) reply (Valued valuation) commands basis IsDry (position, (policies, pinned, snapshot)) dry =
-    let valued : IsValuedText clerk on commands basis position IsDry (block_text clerk on valuation.position valuation.rows) =
+    let valued : IsValuedText clerk on commands basis position IsDry (block_text clerk on valuation.position valuation.measure valuation.rows) =
     inr (
       λ is. absurd (false≢true (dry.0 is)),
-      (valuation.rows, snapshot.rows.each, ap (λ p. block_text clerk on p valuation.rows) snapshot.pinned),
+      (valuation.rows, snapshot.rows.each, ap₂ (λ p m. block_text clerk on p m valuation.rows) snapshot.pinned snapshot.measured),
     ) in
-    subst (λ (r : Reply). IsReplyText clerk (Value on at workers) r commands basis IsDry (block_text clerk on valuation.position valuation.rows)) (sym pinned) valued
+    subst (λ (r : Reply). IsReplyText clerk (Value on at workers) r commands basis IsDry (block_text clerk on valuation.position valuation.measure valuation.rows)) (sym pinned) valued
 reply_text clerk (Value on at workers) reply ValueNoMemory commands basis IsDry (position, (policies, pinned)) dry =
     subst (λ (r : Reply). IsReplyText clerk (Value on at workers) r commands basis IsDry (unvalued_text clerk on)) (sym pinned) (inl (dry.1 refl, refl))
 reply_text clerk (Post command) reply (Trimmed floor) commands basis IsDry told dry = absurd told

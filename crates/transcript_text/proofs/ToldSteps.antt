@@ -28,6 +28,7 @@ use Rattle.lane_runner.specs.declared.transcript.Outcome.{Outcome}
 use Rattle.lane_runner.specs.declared.transcript.Outcome.TheVariants.{Posted, Trimmed, Valued, ValueRefused, ValueNoMemory}
 use Rattle.program_endings.specs.Replies.{IsAnswered, IsPinned, IsUnfaulted}
 use Rattle.program_endings.proofs.ListSteps.{Has, front_back, has_enumerate, has_filter, has_flat_map, has_left, has_map, has_right, of_filter, of_flat_map}
+use Rattle.policy_value.specs.declared.worth.Measure.TheVariants.{Terminal}
 use Rattle.program_endings.proofs.BlockSteps.{block_writable}
 use Rattle.transcript_text.specs.Told.{IsToldAnswer, IsWritableOutcome, has_faulted, is_faulted, lacks_memory}
 
@@ -102,7 +103,7 @@ outcome_writable (Post command) reply (Posted answer) commands basis told right 
 outcome_writable Trim reply (Trimmed floor) commands basis told right can = tt
 outcome_writable (Value on at workers) reply (ValueRefused refusal) commands basis told right can = right.0
 outcome_writable (Value on at workers) reply (Valued valuation) commands basis (position, (policies, pinned, snapshot)) right can =
-    (right.0, block_writable commands basis on position valuation snapshot)
+    (right.0, block_writable commands basis on Terminal position valuation snapshot)
 outcome_writable (Value on at workers) reply ValueNoMemory commands basis told right can = right.0
 outcome_writable (Post command) reply (Trimmed floor) commands basis told right can = absurd told
 outcome_writable (Post command) reply (Valued valuation) commands basis told right can = absurd told

@@ -58,7 +58,8 @@ IsWritable told = IsWritableOutcome told.line told.outcome
 abbrev pub outcome_text : ℕ → Line → Outcome → List ℕ
 outcome_text clerk (Post command) (Posted answer) = posting_text clerk command (reply_of answer)
 outcome_text clerk Trim (Trimmed floor) = trim_text clerk floor
-outcome_text clerk (Value on at workers) (Valued valuation) = block_text clerk on valuation.position valuation.rows
+outcome_text clerk (Value on at workers) (Valued valuation) =
+    block_text clerk on valuation.position valuation.measure valuation.rows
 outcome_text clerk (Value on at workers) (ValueRefused refusal) = unpinned_text clerk on refusal
 outcome_text clerk (Value on at workers) ValueNoMemory = unvalued_text clerk on
 outcome_text clerk _ _ = []

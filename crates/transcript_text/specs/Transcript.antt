@@ -16,6 +16,7 @@ use Rattle.policy_types.specs.declared.watcher.Report.{Report}
 use Rattle.policy_types.specs.Valid.{id_of}
 use Rattle.policy_machine.specs.Book.{book}
 use Rattle.policy_machine.specs.History.{Opening, commands_after}
+use Rattle.policy_value.specs.declared.worth.Measure.TheVariants.{Terminal}
 use Rattle.policy_value.specs.declared.worth.Row.{Row}
 use Rattle.report_text.specs.Block.{block_text}
 use Rattle.snapshot_value.specs.Valuing.{IsValuedRow}
@@ -78,13 +79,13 @@ abbrev pub unvalued_text : ℕ → ℤ → List ℕ
 unvalued_text clerk on = line_of (decimal clerk) (codes "value" ∷ day_text on ∷ codes "nomemory" ∷ [])
 
 -- The text of a valuation that was pinned at a position after these commands: the block of the rows of the policies that
--- the first so many of them leave, each row with bounds that enclose the exact reserve. Where the pin is dry, it is the
+-- the first so many of them leave, each row with bounds that enclose the exact terminal reserve. Where the pin is dry, it is the
 -- line that there was no memory.
 abbrev pub IsValuedText : ℕ → ℤ → List Command → List Dated → ℕ → (IsDry : Type 0) → List ℕ → Type 0
 IsValuedText clerk on commands basis position IsDry text =
     (IsDry × (text ≡ unvalued_text clerk on))
-    ⊎ ((IsDry → ⊥) × ((rows : List Row) × AllZip (IsValuedRow basis on) (book (take position commands)) rows
-    × (text ≡ block_text clerk on position rows)))
+    ⊎ ((IsDry → ⊥) × ((rows : List Row) × AllZip (IsValuedRow basis on Terminal) (book (take position commands)) rows
+    × (text ≡ block_text clerk on position Terminal rows)))
 
 -- the text of a clerk's line by the reply to its first turn, before which these commands were accepted
 abbrev pub IsReplyText : ℕ → Line → Reply → List Command → List Dated → (IsDry : Type 0) → List ℕ → Type 0

@@ -111,8 +111,8 @@ fn value_text(alloc: Global, clerk: u8, on: i32, outcome: &Outcome) -> Result<Te
     ensures { (at : AnAt) (workers : ℕ) → IfOk result (λ text. text ≡ outcome_text clerk (ValueLine on at workers) outcome.now) }
 {
     match outcome {
-        Outcome::Valued(valuation) => {
-            print_block(alloc, clerk, on, valuation.position, &valuation.rows)
+        Outcome::Valued(found) => {
+            print_block(alloc, clerk, on, found.position, found.measure, &found.rows)
         }
         Outcome::ValueRefused(refusal) => unpinned(alloc, clerk, on, *refusal),
         Outcome::ValueNoMemory => unvalued(alloc, clerk, on),

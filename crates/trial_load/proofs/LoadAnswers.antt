@@ -16,6 +16,7 @@ use Rattle.policy_types.specs.declared.entry.Reply.TheVariants.{Accepted, Refuse
 use Rattle.policy_types.specs.declared.script.Line.TheVariants.{Post}
 use Rattle.policy_machine.specs.Book.{book}
 use Rattle.policy_machine.specs.History.{Opening, IsDue, IsLegalAfter, commands_after}
+use Rattle.policy_value.specs.declared.worth.Measure.TheVariants.{Terminal}
 use Rattle.snapshot_value.specs.Valuing.{AnswersPin as IsValueAnswer, IsValuedRow}
 use Rattle.snapshot_value.specs.declared.valuation.Valuation.{Valuation}
 use Rattle.snapshot_value.specs.declared.valuation.ValueFault.TheVariants.{Pin as NoPin, NoMemory as NoValues}
@@ -70,7 +71,7 @@ in_front (x ∷ xs) ys zero entry there = there
 in_front (x ∷ xs) ys (suc n) entry there = in_front xs ys n entry there
 
 -- a valuation that found no memory was pinned
-pub pinned_if_dry : (commands : List Command) (basis : List Dated) (reply : Reply) → IsValueAnswer commands basis load_day reply (Err NoValues) → IsPinned reply
+pub pinned_if_dry : (commands : List Command) (basis : List Dated) (reply : Reply) → IsValueAnswer commands basis load_day Terminal reply (Err NoValues) → IsPinned reply
 pinned_if_dry commands basis (Pinned position policies) is = tt
 pinned_if_dry commands basis (PinRefused refusal) is = absurd is
 pinned_if_dry commands basis (Accepted position) is = absurd is
@@ -82,7 +83,7 @@ pinned_if_dry commands basis (Floor floor) is = absurd is
 pinned_if_dry commands basis Blank is = absurd is
 
 -- one whose pin was refused
-pub refused_pin : (commands : List Command) (basis : List Dated) (reply : Reply) (why : PinRefusal) → IsValueAnswer commands basis load_day reply (Err (NoPin why))
+pub refused_pin : (commands : List Command) (basis : List Dated) (reply : Reply) (why : PinRefusal) → IsValueAnswer commands basis load_day Terminal reply (Err (NoPin why))
     → (refusal : PinRefusal) × (reply ≡ PinRefused refusal)
 refused_pin commands basis (PinRefused refusal) why is = (refusal, refl)
 refused_pin commands basis (Pinned position policies) why is = absurd is
@@ -97,16 +98,16 @@ refused_pin commands basis Blank why is = absurd is
 -- what is known of the rows of a valuation of all commands
 pub record AreLastRows (commands : List Command) (basis : List Dated) (valuation : Valuation) : Type 0 where
   pub writable : IsWritableBlock valuation
-  pub each : AllZip (IsValuedRow basis load_day) (book commands) valuation.rows
+  pub each : AllZip (IsValuedRow basis load_day Terminal) (book commands) valuation.rows
 
 pub last_rows : (opening : Opening) (before : List Entry) (caller : ℕ) (basis : List Dated) (reply : Reply) (valuation : Valuation)
-    → IsDue opening before caller PinCall reply → IsValueAnswer (commands_after opening before) basis load_day reply (Ok valuation)
+    → IsDue opening before caller PinCall reply → IsValueAnswer (commands_after opening before) basis load_day Terminal reply (Ok valuation)
     → AreLastRows (commands_after opening before) basis valuation
 last_rows opening before caller basis (Pinned position policies) valuation due is =
     let all = take_all position (commands_after opening before) (omega (arith, due.1)) in
     record {
-      writable = block_writable (commands_after opening before) basis load_day position valuation is;
-      each = subst (λ (cs : List Command). AllZip (IsValuedRow basis load_day) (book cs) valuation.rows) all is.rows.each;
+      writable = block_writable (commands_after opening before) basis load_day Terminal position valuation is;
+      each = subst (λ (cs : List Command). AllZip (IsValuedRow basis load_day Terminal) (book cs) valuation.rows) all is.rows.each;
     }
 last_rows opening before caller basis (PinRefused refusal) valuation due is = absurd is
 last_rows opening before caller basis (Accepted position) valuation due is = absurd is

@@ -28,6 +28,7 @@ use Rattle.office_state.specs.Images.{HasFaulted, IsLeftBy}
 use Rattle.office_state.specs.Opening.{HasNotOpened}
 use Rattle.shared_office.specs.Offices.{IsOfficeHistory, OfficeOpening}
 use Rattle.shared_office.specs.Starting.{HasClosed, HasStartedOffice}
+use Rattle.policy_value.specs.declared.worth.Measure.TheVariants.{Terminal}
 use Rattle.snapshot_value.specs.Valuing.{HasValued, AnswersPin as IsValueAnswer, IsValuedRow, dry_pins}
 use Rattle.snapshot_value.specs.declared.valuation.Valuation.{Valuation}
 use Rattle.snapshot_value.specs.declared.valuation.ValueFault.{ValueFault}
@@ -63,7 +64,7 @@ use Rattle.trial_load.proofs.LoadAnswers.{legal_back, legal_front, answered_turn
 module _ {D W : Type 0} (g : Ghosts D) (w : WatcherGhosts W) (old disk : D) (lanes : List Lane) (workers turn : ℕ) (basis : List Dated) (watchers : W)
     (first mid closing : Holding (OfficeOpening D W)) (balances : Booking) (reports : List Report) (transcript : Transcript)
     (answer : Result Valuation ValueFault) (started : HasStartedOffice g old watchers first) (ran : HasAnsweredLanes basis lanes first mid transcript)
-    (before : PassFacts IsOfficeHistory mid) (valued : HasValued basis load_day Now workers mid closing turn answer)
+    (before : PassFacts IsOfficeHistory mid) (valued : HasValued basis load_day Terminal Now workers mid closing turn answer)
     (facts : PassFacts IsOfficeHistory closing) (closed : HasClosed g w closing disk balances reports) (right : AreLoadLanes lanes) where
   abbrev opened : OfficeOpening D W
   opened = record { opening = started.opening; begun = old; watchers = watchers }
@@ -144,7 +145,7 @@ module _ {D W : Type 0} (g : Ghosts D) (w : WatcherGhosts W) (old disk : D) (lan
   pins : ArePins closing.seen (dry_pins turn answer)
   pins = by answer behind.answered
     where
-      by : (given : Result Valuation ValueFault) → IsValueAnswer (commands_after opened.opening mid.seen) basis load_day behind.pin.reply given
+      by : (given : Result Valuation ValueFault) → IsValueAnswer (commands_after opened.opening mid.seen) basis load_day Terminal behind.pin.reply given
           → ArePins closing.seen (dry_pins turn given)
       by (Ok valuation) is = tt
       by (Err (NoPin refusal)) is = tt
@@ -247,14 +248,14 @@ module _ {D W : Type 0} (g : Ghosts D) (w : WatcherGhosts W) (old disk : D) (lan
   module _ (valuation : Valuation) (found : answer ≡ Ok valuation) where
     last : AreLastRows (commands_after opened.opening mid.seen) basis valuation
     last = last_rows opened.opening mid.seen behind.pin.caller basis behind.pin.reply valuation behind.due
-        (subst (IsValueAnswer (commands_after opened.opening mid.seen) basis load_day behind.pin.reply) found behind.answered)
+        (subst (IsValueAnswer (commands_after opened.opening mid.seen) basis load_day Terminal behind.pin.reply) found behind.answered)
 
     line_of : (Wrote : List ℕ → Type 0) (Replies : List Entry → List ℕ → Type 0)
         → Wrote (load_text (accepted_lines transcript.lines) (refused_lines transcript.lines) valuation.rows)
         → Replies closing.seen (dry_pins turn answer) → IsLoadOf g old disk lanes workers (HasLine basis Wrote Replies)
     line_of Wrote Replies wrote replies = load_of (HasLine basis Wrote Replies) (record {
       rows = valuation.rows;
-      each = subst (λ (cs : List Command). AllZip (IsValuedRow basis load_day) (book (started.opening.commands ++ cs)) valuation.rows) (sym same_accepted) last.each;
+      each = subst (λ (cs : List Command). AllZip (IsValuedRow basis load_day Terminal) (book (started.opening.commands ++ cs)) valuation.rows) (sym same_accepted) last.each;
       wrote = subst Wrote (text_is valuation.rows) wrote;
       found = ap (dry_pins turn) found;
       replies = replies;
@@ -283,7 +284,7 @@ module _ {D W : Type 0} (g : Ghosts D) (w : WatcherGhosts W) (old disk : D) (lan
       by (Ok valuation) is = (last valuation is).writable
       by (Err NoValues) is = tt
       by (Err (NoPin refusal)) is =
-          let said = subst (IsValueAnswer (commands_after opened.opening mid.seen) basis load_day behind.pin.reply) is behind.answered in
+          let said = subst (IsValueAnswer (commands_after opened.opening mid.seen) basis load_day Terminal behind.pin.reply) is behind.answered in
           let refused = refused_pin (commands_after opened.opening mid.seen) basis behind.pin.reply refusal said in
           not_full started.opening mid.seen behind.pin.caller refused.0 mid_legal
           (λ entry has. entries_post (dry_of transcript.lines) mid.seen lanes transcript.callers right.postings ran.answers entry has (theirs entry has))

@@ -18,6 +18,7 @@ use Rattle.policy_machine.specs.Merge.{AnswersLanes, AnswersLine, AnswersLines, 
 use Rattle.turn_lock.specs.History.{entries_of}
 use Rattle.turn_lock.specs.Passes.{Holding, OwnsAll, Page, PassFacts, callers as numbers_of}
 use Rattle.shared_office.specs.Offices.{IsOfficeHistory, OfficeOpening}
+use Rattle.policy_value.specs.declared.worth.Measure.TheVariants.{Terminal}
 use Rattle.snapshot_value.specs.Valuing.{HasValued, AnswersPin, dry_pins}
 use Rattle.snapshot_value.specs.declared.valuation.Valuation.{Valuation}
 use Rattle.snapshot_value.specs.declared.valuation.ValueFault.{ValueFault}
@@ -113,11 +114,11 @@ pub record IsBehind {D W : Type 0} (basis : List Dated) (workers turn : ℕ) (mi
   pub pin : Entry
   pub pin_there : slice_get closing.seen turn ≡ Some pin
   pub due : IsDue opened.opening mid.seen pin.caller Pin pin.reply
-  pub answered : AnswersPin (commands_after opened.opening mid.seen) basis load_day pin.reply answer
+  pub answered : AnswersPin (commands_after opened.opening mid.seen) basis load_day Terminal pin.reply answer
 
 -- A valuation's turns, behind those of lanes.
 module _ {D W : Type 0} (basis : List Dated) (workers turn : ℕ) (mid closing : Holding (OfficeOpening D W)) (answer : Result Valuation ValueFault)
-    (callers : List ℕ) (opened : OfficeOpening D W) (valued : HasValued basis load_day Now workers mid closing turn answer)
+    (callers : List ℕ) (opened : OfficeOpening D W) (valued : HasValued basis load_day Terminal Now workers mid closing turn answer)
     (is_opened : mid.opening ≡ Some opened) (own : mid.caller ≡ 0) (numbers : numbers_of mid ≡ 0 ∷ callers) (before : PassFacts IsOfficeHistory mid)
     (facts : PassFacts IsOfficeHistory closing) (whole : OwnsAll closing) (unturned : entries_of mid.seen 0 ≡ []) where
   abbrev rest : List Entry
@@ -251,11 +252,11 @@ module _ {D W : Type 0} (basis : List Dated) (workers turn : ℕ) (mid closing :
       let here = subst (λ (h : List Entry). IsDue opened.opening h valued.pin.1.caller valued.pin.1.call valued.pin.1.reply) taken there in
       subst (λ (c : Call). IsDue opened.opening mid.seen valued.pin.1.caller c valued.pin.1.reply) valued.answers.0 here
 
-  answered : AnswersPin (commands_after opened.opening mid.seen) basis load_day valued.pin.1.reply answer
+  answered : AnswersPin (commands_after opened.opening mid.seen) basis load_day Terminal valued.pin.1.reply answer
   answered =
       let same : valued.opened ≡ opened = same_opened valued.opened opened (sym valued.opening ∙ closing_opened) in
-      subst (λ (h : List Entry). AnswersPin (commands_after opened.opening h) basis load_day valued.pin.1.reply answer) taken
-      (subst (λ (o : OfficeOpening D W). AnswersPin (commands_after o.opening (take turn closing.seen)) basis load_day valued.pin.1.reply answer) same valued.answered)
+      subst (λ (h : List Entry). AnswersPin (commands_after opened.opening h) basis load_day Terminal valued.pin.1.reply answer) taken
+      (subst (λ (o : OfficeOpening D W). AnswersPin (commands_after o.opening (take turn closing.seen)) basis load_day Terminal valued.pin.1.reply answer) same valued.answered)
 
   pub is_behind : IsBehind basis workers turn mid closing answer callers opened
   is_behind = record {

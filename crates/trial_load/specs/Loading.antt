@@ -20,6 +20,7 @@ use Rattle.policy_machine.specs.History.{Opening, IsLegal, accepted_of, commands
 use Rattle.policy_machine.specs.Merge.{IsMerge}
 use Rattle.basis_book.specs.Dated.{Dated}
 use Rattle.basis_shelf.specs.Bases.{IsBasis}
+use Rattle.policy_value.specs.declared.worth.Measure.TheVariants.{Terminal}
 use Rattle.policy_value.specs.declared.worth.Row.{Row}
 use Rattle.report_text.specs.Block.{lower_sum, unvalued_count, upper_sum}
 use Rattle.snapshot_value.specs.Valuing.{IsValuedRow}
@@ -81,11 +82,11 @@ pub record IsLoadOf {D : Type 0} (g : Ghosts D) (old new : D) (lanes : List Lane
   pub disk : IsLeftBy g old new (opened_on commands (g.faults old)) (postings ++ valuation)
 
 -- the line was written of the history, and of the rows of the policies that all its commands leave, each of which
--- encloses the exact reserve; the valuation found memory
+-- encloses the exact terminal reserve; the valuation found memory
 pub record HasLine (basis : List Dated) (Wrote : List ℕ → Type 0) (Replies : List Entry → List ℕ → Type 0)
     (opening : Opening) (history : List Entry) (dry : List ℕ) : Type 0 where
   pub rows : List Row
-  pub each : AllZip (IsValuedRow basis load_day) (book (commands_after opening history)) rows
+  pub each : AllZip (IsValuedRow basis load_day Terminal) (book (commands_after opening history)) rows
   pub wrote : Wrote (load_text (length (accepted_of history)) (refused_in history) rows)
   pub found : dry ≡ []
   pub replies : Replies history dry

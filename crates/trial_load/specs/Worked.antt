@@ -8,6 +8,7 @@ use Rattle.policy_types.specs.declared.entry.Reply.TheVariants.{Accepted, Refuse
 use Rattle.policy_types.specs.declared.entry.Entry.{Entry}
 use Rattle.policy_types.specs.declared.refusal.Refusal.TheVariants.{Unknown}
 use Rattle.policy_types.specs.declared.script.Line.TheVariants.{Value}
+use Rattle.policy_value.specs.declared.worth.Measure.TheVariants.{Terminal}
 use Rattle.report_text.specs.Block.{block_text}
 use Rattle.report_text.specs.Worked.{valued, past_the_table, lapsed}
 use Rattle.trial_load.specs.Loading.{load_day, load_text, refused_in, valuation_lane}
@@ -19,7 +20,7 @@ LinesOfLoads = (load_text 7 2 (valued ∷ past_the_table ∷ lapsed ∷ valued �
 
 -- the policies are valued on 2020-12-31, in lane 0, at the count
 abbrev pub DayOfLoads : Type 0
-DayOfLoads = (block_text 0 load_day 0 []
+DayOfLoads = (block_text 0 load_day 0 Terminal []
     ≡ codes "0,value,2020-12-31,0,0" ++ (10 ∷ []) ++ codes "total,0.00,0.00,0" ++ 10 ∷ [])
     × (valuation_lane 8 ≡ record { number = 0; lines = Value (pos 18627) Now 8 ∷ [] })
 

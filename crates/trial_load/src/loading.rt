@@ -16,7 +16,7 @@ use lane_runner::{Outcome, TranscriptLine, run_lanes};
 use load_maker::make_lanes;
 use outside_io::{Disk, Gate, Shelf, Sink, write_all};
 use policy_types::{At, Lane, NoMemory};
-use policy_value::Rows;
+use policy_value::{Measure, Rows};
 use program_endings::{Ending, Finished, lack_memory, refuse_basis, refuse_journal};
 use report_text::Totals;
 use shared_office::{Answer, Office, OfficeCalls, OfficePass, close};
@@ -169,6 +169,7 @@ fn load_office<
         basis,
         LOAD_DAY,
         At::Now,
+        Measure::Terminal,
         workers,
         NO_LANE,
         gate,

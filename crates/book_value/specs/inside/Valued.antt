@@ -6,6 +6,7 @@ use Rattle.policy_types.specs.declared.command.Command.{Command}
 use Rattle.policy_types.specs.declared.entry.At.{At}
 use Rattle.basis_book.specs.Dated.{Dated}
 use Rattle.policy_types.specs.declared.entry.PinRefusal.TheVariants.{Ahead as PastTheEnd, Trimmed, PinsFull}
+use Rattle.policy_value.specs.declared.worth.Measure.{Measure}
 use Rattle.report_text.specs.Block.{block_text}
 use Rattle.snapshot_value.specs.declared.valuation.Valuation.{Valuation}
 use Rattle.snapshot_value.specs.declared.valuation.ValueFault.{ValueFault}
@@ -23,14 +24,14 @@ SaysAhead count output NoMemory = WroteLine output (codes "nomemory")
 SaysAhead count output _ = ⊥
 
 -- how the values of these commands' policies are written
-abbrev pub EndsValued : List Command → ℤ → At → List Dated → Stream → Ending → Type 0
-EndsValued commands on at basis output Done = IsValuation commands on at basis (WroteAll output)
-EndsValued commands on at basis output WriteFault =
+abbrev pub EndsValued : List Command → ℤ → At → Measure → List Dated → Stream → Ending → Type 0
+EndsValued commands on at measure basis output Done = IsValuation commands on at measure basis (WroteAll output)
+EndsValued commands on at measure basis output WriteFault =
     Rose output.faults_before output.faults_after
-    × IsValuation commands on at basis (AppendsPart output.before output.after)
-EndsValued commands on at basis output Ahead = IsBeyond commands at output
-EndsValued commands on at basis output NoMemory = WroteLine output (codes "nomemory")
-EndsValued commands on at basis output _ = ⊥
+    × IsValuation commands on at measure basis (AppendsPart output.before output.after)
+EndsValued commands on at measure basis output Ahead = IsBeyond commands at output
+EndsValued commands on at measure basis output NoMemory = WroteLine output (codes "nomemory")
+EndsValued commands on at measure basis output _ = ⊥
 
 -- the only answers of an office that nobody else calls: the values, which can be written, or that there are fewer commands
 -- than are asked for, or want of memory
@@ -43,10 +44,10 @@ IsLoneAnswer (Err NoValues) = Unit {0}
 
 -- how the answer is written
 abbrev pub EndsAnswer : ℤ → Result Valuation ValueFault → Stream → Ending → Type 0
-EndsAnswer on (Ok valuation) output Done = WroteAll output (block_text 0 on valuation.position valuation.rows)
+EndsAnswer on (Ok valuation) output Done = WroteAll output (block_text 0 on valuation.position valuation.measure valuation.rows)
 EndsAnswer on (Ok valuation) output WriteFault =
     Rose output.faults_before output.faults_after
-    × AppendsPart output.before output.after (block_text 0 on valuation.position valuation.rows)
+    × AppendsPart output.before output.after (block_text 0 on valuation.position valuation.measure valuation.rows)
 EndsAnswer on (Ok valuation) output NoMemory = WroteLine output (codes "nomemory")
 EndsAnswer on (Err (Pin (PastTheEnd count))) output ending = SaysAhead count output ending
 EndsAnswer on (Err NoValues) output NoMemory = WroteLine output (codes "nomemory")

@@ -1,5 +1,5 @@
 -- How `clap` reads the words behind a verb, and what private calls answer
-use Rattle.std.specs.Prelude.{◌≡◌, ◌≢◌, ◌==◌, ◌&&◌, ⊤, Bool, true, false, not, List, [], ◌∷◌, map, bytes_eq, codes, cond, Some, Result, Ok, Err, option_map, unwrap_or}
+use Rattle.std.specs.Prelude.{◌≡◌, ◌≢◌, ◌==◌, ◌&&◌, ⊤, Bool, true, false, not, List, [], ◌∷◌, ◌++◌, map, bytes_eq, codes, cond, Some, Result, Ok, Err, option_map, unwrap_or}
 use Rattle.std.specs.List.{list_any}
 use Rattle.clap.specs.Words.{App, Rule, Text, fault_of, found_of, matched_of, matches_of, new_app, new_rule, raw_values, rows_of}
 use Rattle.clap.specs.declared.builder.action.ArgAction.TheVariants.{Append}
@@ -7,7 +7,7 @@ use Rattle.clap.specs.declared.parser.matches.ArgMatches.{ArgMatches}
 use Rattle.clap.specs.declared.parser.matches.Found.{Found}
 use Rattle.life_args.specs.declared.fault.WordsFault.{WordsFault}
 use Rattle.life_args.specs.declared.fault.WordsFault.TheVariants.{Usage, NoMemory}
-use Rattle.life_args.specs.Pieces.{WordPiece, bare, apart, joined, spelled, bare_values, option_values, HasOnly}
+use Rattle.life_args.specs.Pieces.{WordPiece, bare, apart, joined, flag, spelled, bare_values, option_values, HasOnly}
 
 -- ---- the words
 
@@ -35,11 +35,20 @@ ArePlain [] = ⊤
 ArePlain (bare value ∷ pieces) = IsPlainText value × ArePlain pieces
 ArePlain (apart name value ∷ pieces) = IsPlainText value × ArePlain pieces
 ArePlain (joined name value ∷ pieces) = ArePlain pieces
+ArePlain (flag name ∷ pieces) = ArePlain pieces
+
+-- the names of a command's options that have a value, and of its flags
+pub record OptionNames : Type 0 where
+  pub valued : List Text
+  pub flags : List Text
+
+abbrev pub no_option_names : OptionNames
+no_option_names = record { valued = []; flags = [] }
 
 -- the pieces spell the words, and each option has one of these names
-pub record Spelling (names words : List Text) (pieces : List WordPiece) : Type 0 where
+pub record Spelling (names : OptionNames) (words : List Text) (pieces : List WordPiece) : Type 0 where
   pub spells : words ≡ spelled pieces
-  pub only : HasOnly names pieces
+  pub only : HasOnly names.valued names.flags pieces
   pub plain : ArePlain pieces
 
 -- ---- the command
@@ -47,6 +56,10 @@ pub record Spelling (names words : List Text) (pieces : List WordPiece) : Type 0
 -- an option, which may have a value each time that it is used
 abbrev pub option_rule : Text → Rule
 option_rule name = record (new_rule name) { long = Some name; action = Some Append }
+
+-- a flag, each use of which is noted by an empty value
+abbrev pub flag_rule : Text → Rule
+flag_rule name = record (option_rule name) { range = Some (record { start_inclusive = 0; end_inclusive = 0 }); missing = [] ∷ [] }
 
 -- the id of the values that stand alone
 abbrev pub alone_id : Text
@@ -56,9 +69,13 @@ abbrev pub alone_rule : Rule
 alone_rule = record (new_rule alone_id) { action = Some Append }
 
 -- a command with neither a name before its words nor a help flag, that takes values alone and these options
-abbrev pub line_app : List Text → App
+abbrev pub line_app : OptionNames → App
 line_app names = let app = new_app (codes "life") in record app {
-  top = record app.top { rules = alone_rule ∷ map option_rule names; no_binary_name = true; disable_help_flag = true };
+  top = record app.top {
+    rules = alone_rule ∷ (map option_rule names.valued ++ map flag_rule names.flags);
+    no_binary_name = true;
+    disable_help_flag = true;
+  };
 }
 
 -- the command takes the words and these are its matches, or it doesn't take them
@@ -78,12 +95,12 @@ abbrev pub values_of : List WordPiece → Text → List Text
 values_of pieces id = cond (bytes_eq alone_id id) (bare_values pieces) (option_values id pieces)
 
 -- the words are spelled by pieces; and whatever pieces spell them, what was found is theirs
-pub record IsLine (names words : List Text) (line : ArgMatches) : Type 0 where
+pub record IsLine (names : OptionNames) (words : List Text) (line : ArgMatches) : Type 0 where
   pub pieces : List WordPiece
   pub spelling : Spelling names words pieces
   pub every : (others : List WordPiece) → Spelling names words others → (id : Text) → values_named (found_of line) id ≡ values_of others id
 
-abbrev pub ReadsLine : List Text → List Text → Result ArgMatches WordsFault → Type 0
+abbrev pub ReadsLine : OptionNames → List Text → Result ArgMatches WordsFault → Type 0
 ReadsLine names words (Ok line) = IsLine names words line
 ReadsLine names words (Err Usage) = (pieces : List WordPiece) → Spelling names words pieces → ⊥
 ReadsLine names words (Err NoMemory) = ⊤

@@ -8,8 +8,8 @@ use Rattle.life_args.specs.declared.mode.Mode.TheVariants as mode
 use Rattle.life_args.specs.declared.verb.Verb.{Verb}
 use Rattle.life_args.specs.declared.verb.Verb.TheVariants.{Run, Value, State, Generate, Load}
 use Rattle.life_args.specs.Pieces.{AtMostOne}
-use Rattle.life_args.specs.Values.{IsDayValue, IsPositionOr, AreWorkersOr, IsBasisOr, IsPolicyOr, IsSeed, IsPolicyCount, IsLaneCount, IsWorkerCount}
-use Rattle.life_args.specs.inside.Lines.{GivesAsked, alone_id, values_named}
+use Rattle.life_args.specs.Values.{IsDayValue, IsPositionOr, AreWorkersOr, IsBasisOr, IsMeasureBy, IsPolicyOr, IsSeed, IsPolicyCount, IsLaneCount, IsWorkerCount}
+use Rattle.life_args.specs.inside.Lines.{GivesAsked, OptionNames, alone_id, no_option_names, values_named}
 
 abbrev pub verb_word : Verb → List ℕ
 verb_word Run = codes "run"
@@ -20,18 +20,21 @@ verb_word Load = codes "load"
 
 abbrev pub verb_of : Mode → Verb
 verb_of (mode.Run basis) = Run
-verb_of (mode.Value on position workers basis) = Value
+verb_of (mode.Value on position workers basis measure) = Value
 verb_of (mode.State id) = State
 verb_of (mode.Generate seed count lanes) = Generate
 verb_of (mode.Load seed count lanes workers) = Load
 
 -- the names of a verb's options
-abbrev pub options_of : Verb → List (List ℕ)
-options_of Run = codes "basis" ∷ []
-options_of Value = codes "at" ∷ codes "workers" ∷ codes "basis" ∷ []
-options_of State = []
-options_of Generate = []
-options_of Load = []
+abbrev pub options_of : Verb → OptionNames
+options_of Run = record { valued = codes "basis" ∷ []; flags = [] }
+options_of Value = record {
+  valued = codes "at" ∷ codes "workers" ∷ codes "basis" ∷ [];
+  flags = codes "mean" ∷ codes "deficiency" ∷ [];
+}
+options_of State = no_option_names
+options_of Generate = no_option_names
+options_of Load = no_option_names
 
 -- there is just one value, of which this holds
 abbrev pub JustOne : List (List ℕ) → (List ℕ → Type 0) → Type 0
@@ -69,11 +72,12 @@ AreDraws seed count lanes = IsSeed seed × IsPolicyCount count × IsLaneCount la
 abbrev pub SaysMode : (List ℕ → List (List ℕ)) → Mode → Type 0
 SaysMode values (mode.Run basis) =
     (values alone_id ≡ []) × AtMostOne (values (codes "basis")) (λ given. IsBasisOr given basis)
-SaysMode values (mode.Value on position workers basis) =
+SaysMode values (mode.Value on position workers basis measure) =
     JustOne (values alone_id) (λ value. IsDayValue value on)
     × AtMostOne (values (codes "at")) (λ given. IsPositionOr given position)
     × AtMostOne (values (codes "workers")) (λ given. AreWorkersOr given workers)
     × AtMostOne (values (codes "basis")) (λ given. IsBasisOr given basis)
+    × IsMeasureBy (values (codes "mean")) (values (codes "deficiency")) measure
 SaysMode values (mode.State id) = AtMostOne (values alone_id) (λ given. IsPolicyOr given id)
 SaysMode values (mode.Generate seed count lanes) =
     (values alone_id ≡ decimal seed ∷ decimal count ∷ decimal lanes ∷ []) × AreDraws seed count lanes

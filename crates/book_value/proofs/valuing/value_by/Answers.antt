@@ -13,5 +13,5 @@ pub returns-in-Err : goal.returns-in-Err
 returns-in-Err g c =
     inl
     (ends_refused g.D.Disk c.args.disk c.in-Err.fault.disk
-    (IsValued g.D.Disk c.args.disk c.in-Err.fault.disk c.args.on c.args.at c.args.basis.now) _ c.in-Err.fault.cause c.refuse_journal.result
+    (IsValued g.D.Disk c.args.disk c.in-Err.fault.disk c.args.on c.args.at c.args.measure c.args.basis.now) _ c.in-Err.fault.cause c.refuse_journal.result
     c.in-Err.ensures.refused c.refuse_journal.ensures.says)

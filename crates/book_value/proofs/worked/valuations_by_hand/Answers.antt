@@ -12,7 +12,11 @@ returns-clause-positions c = (refl, refl, refl)
 
 pub returns-clause-nobody : goal.returns-clause-nobody
 unfolding heading_text total_text day_text date_of date_at year_of month_of days_before_year days_of_months digits
-returns-clause-nobody c = record { reached = lit≤ tt; rows = []; each = tt; wrote = refl }
+returns-clause-nobody c = (
+  record { reached = lit≤ tt; rows = []; each = tt; wrote = refl },
+  record { reached = lit≤ tt; rows = []; each = tt; wrote = refl },
+  record { reached = lit≤ tt; rows = []; each = tt; wrote = refl },
+)
 
 pub returns-clause-ahead : goal.returns-clause-ahead
 unfolding digits

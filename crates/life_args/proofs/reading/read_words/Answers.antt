@@ -1,4 +1,4 @@
-use Rattle.std.proofs.Common.{◌∙◌, map, refl, string_bytes, sym}
+use Rattle.std.proofs.Common.{◌∙◌, map, string_bytes, sym}
 use Rattle.life_args.proofs.Answering.{answered, behind, line_refused, mode_given, split_words, unnamed}
 use Rattle.life_args.proofs.reading.read_words.Goals as goal
 

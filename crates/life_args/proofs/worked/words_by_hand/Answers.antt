@@ -1,17 +1,10 @@
-use Rattle.std.proofs.Common.{◌≡◌, ℕ, List, [], ◌∷◌, map, refl, sym, subst, inl, inr, None, Some, pos, codes, lit≤, arith}
-use Rattle.std.specs.Prelude.{string_bytes, String}
-use Rattle.std.specs.Global.{Global}
+use Rattle.std.proofs.Common.{[], ◌∷◌, refl, inl, inr, codes, lit≤, arith}
 use Rattle.std.specs.Fmt.{digits}
 use Rattle.std.proofs.lemmas.Int.{ints}
 use Rattle.life_dates.specs.Calendar.{date_of, date_at, year_of, month_of, days_before, days_before_year, days_of_months}
 use Rattle.life_dates.specs.DayText.{day_text}
-use Rattle.policy_types.specs.declared.entry.At.TheVariants.{Now, Position}
-use Rattle.life_args.specs.declared.mode.Mode.{Mode}
-use Rattle.life_args.specs.declared.mode.Mode.TheVariants.{Run, Value, State, Generate, Load}
-use Rattle.life_args.specs.Pieces.{bare, apart, joined}
-use Rattle.life_args.specs.Words.{AreWords}
-use Rattle.life_args.specs.Worked.{Ask, AskNothing}
-use Rattle.life_args.proofs.WorkedWords.{asks, asks_nothing, b2_name, none_of_none, none_of_help, none_of_now, none_of_no_day, none_of_two}
+use Rattle.life_args.specs.Pieces.{bare, apart, joined, flag}
+use Rattle.life_args.proofs.WorkedWords.{asks, asks_nothing, b2_name, none_of_both, none_of_flag_as_value, none_of_none, none_of_help, none_of_now, none_of_no_day, none_of_state_flag, none_of_twice, none_of_two, none_of_valued_flag}
 use Rattle.life_args.proofs.worked.words_by_hand.Goals as goal
 
 pub returns-clause-run : goal.returns-clause-run
@@ -44,6 +37,7 @@ returns-clause-value c = (
       position_is = refl;
       workers_are = refl;
       basis_is = refl;
+      measure_is = refl;
     },
   ),
   asks _ _ (
@@ -58,8 +52,53 @@ returns-clause-value c = (
       position_is = (lit≤ tt, refl);
       workers_are = (lit≤ tt, lit≤ tt, refl);
       basis_is = refl;
+      measure_is = refl;
     },
   ),
+)
+
+pub returns-clause-measure : goal.returns-clause-measure
+unfolding digits day_text date_of date_at year_of month_of days_before days_before_year days_of_months
+returns-clause-measure c = (
+  asks _ _ (
+    refl,
+    record {
+      pieces = flag (codes "mean") ∷ bare (codes "2021-01-01") ∷ [];
+      spells = refl;
+      only = (inl refl, tt);
+      day = codes "2021-01-01";
+      alone = refl;
+      day_is = ((omega (arith, ints), omega (arith, ints)), refl);
+      position_is = refl;
+      workers_are = refl;
+      basis_is = refl;
+      measure_is = refl;
+    },
+  ),
+  asks _ _ (
+    refl,
+    record {
+      pieces = bare (codes "2021-01-01") ∷ apart (codes "at") (codes "5") ∷ flag (codes "deficiency") ∷ [];
+      spells = refl;
+      only = (inl refl, (inr (inl refl), tt));
+      day = codes "2021-01-01";
+      alone = refl;
+      day_is = ((omega (arith, ints), omega (arith, ints)), refl);
+      position_is = (lit≤ tt, refl);
+      workers_are = refl;
+      basis_is = refl;
+      measure_is = refl;
+    },
+  ),
+)
+
+pub returns-clause-measure_near : goal.returns-clause-measure_near
+returns-clause-measure_near c = (
+  asks_nothing _ none_of_both,
+  asks_nothing _ none_of_twice,
+  asks_nothing _ none_of_valued_flag,
+  asks_nothing _ none_of_flag_as_value,
+  asks_nothing _ none_of_state_flag,
 )
 
 pub returns-clause-state : goal.returns-clause-state

@@ -1,4 +1,4 @@
-use Rattle.std.proofs.Common.{◌≡◌, ◌<◌, ℕ, List, [], ◌∷◌, sym, subst, refl, inl, inr, pos, lit<, arith}
+use Rattle.std.proofs.Common.{◌≡◌, ◌<◌, [], ◌∷◌, sym, subst, refl, inl, inr, pos, lit<, arith}
 use Rattle.policy_types.specs.declared.command.Command.TheVariants.{Lapse}
 use Rattle.policy_types.specs.declared.entry.Reply.TheVariants.{Accepted, Blank}
 use Rattle.policy_types.specs.declared.entry.Entry.{Entry}
