@@ -1,10 +1,10 @@
 #!/bin/sh
-# Times `life value` by each measure over the hundred thousand policies of the workload, on one thread: terminal reserves,
+# Times `life value` by each measure over COUNT policies of the workload, 100000 where none is said, on one thread: terminal,
 # mean reserves, and deficiency. Prints for each the seconds of processor time (medians of ROUNDS in turn), policies a
 # second, and what part of the terminal ones that is, for the whole run and for the valuation alone, which is what is left
 # when a valuation by the same measure on a day before all issues is taken away: it opens the same journal and prints as
 # many rows. LIFE_PROGRAM may name another program than the proved one.
-# usage: sh bench/measure_measures.sh [ROUNDS]   (needs python3)
+# usage: sh bench/measure_measures.sh [ROUNDS [COUNT]]   (needs python3)
 root=$(cd "$(dirname "$0")/.." && pwd) || exit 2
 program=${LIFE_PROGRAM:-$root/crates/life_cli/out/life_cli}
 [ -n "${LIFE_PROGRAM:-}" ] || sh "$root/life" prove || exit 2
@@ -14,11 +14,10 @@ trap 'rm -rf "$work"' EXIT
 cp "$root/examples/g.xml" "$work/g.xml" || exit 2
 cd "$work" || exit 2
 printf '1900-01-01,g.xml,400\n' >basis.csv
-python3 - "$program" "${1:-5}" <<'PY'
+python3 - "$program" "${1:-5}" "${2:-100000}" <<'PY'
 import resource, statistics, subprocess, sys
 
-program, rounds = sys.argv[1], int(sys.argv[2])
-COUNT = 100000
+program, rounds, count = sys.argv[1], int(sys.argv[2]), int(sys.argv[3])
 MEASURES = ["terminal", "mean", "deficiency"]
 
 class Draws:
@@ -51,7 +50,7 @@ def timed(day, measure):
     spent = after.ru_utime + after.ru_stime - before.ru_utime - before.ru_stime
     return spent, open("written", "rb").read().splitlines()[-1].decode()
 
-make_journal(COUNT)
+make_journal(count)
 days = {"valued": "2020-12-31", "idle": "1999-12-31"}
 seconds = {(measure, what): [] for measure in MEASURES for what in days}
 totals = {}
@@ -66,6 +65,6 @@ whole = {measure: median[measure, "valued"] for measure in MEASURES}
 alone = {measure: whole[measure] - median[measure, "idle"] for measure in MEASURES}
 for measure in MEASURES:
     print("%-10s whole run %6.3f s, %8.0f policies a second, %.2f of terminal; valuation alone %6.3f s, %8.0f, %.2f  %s" % (
-        measure, whole[measure], COUNT / whole[measure], whole["terminal"] / whole[measure],
-        alone[measure], COUNT / alone[measure], alone["terminal"] / alone[measure], totals[measure]))
+        measure, whole[measure], count / whole[measure], whole["terminal"] / whole[measure],
+        alone[measure], count / alone[measure], alone["terminal"] / alone[measure], totals[measure]))
 PY
