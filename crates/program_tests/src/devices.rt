@@ -4,7 +4,7 @@ ghost use Rattle.std.specs.List.{AllByRecursion};
 
 use life_app::{Ended, life};
 use memory_disk::MemoryDisk;
-use outside_io::{BytesSink, BytesSource, Gate, MapShelf, OpenGate};
+use outside_io::{BytesSink, BytesSource, Gate, MapShelf, OpenGate, Shelf};
 use policy_types::Watcher;
 use std::alloc::{AllocError, Global};
 use std::collections::BTreeMap;
@@ -45,14 +45,14 @@ pub(crate) fn run_over<R: Threads + Wait + Sync>(
 }
 
 // Does what the words ask for, over these devices, with these watchers and this gate.
-fn run_beside<R: Threads + Wait + Sync, G: Gate + Sync>(
+fn run_beside<R: Threads + Wait + Sync, H: Shelf + Drop, G: Gate + Sync>(
     rt: &R,
     alloc: Global,
     words: &[String],
     script: &[&str],
     failing_reads: &[u64],
     failing_writes: &[u64],
-    shelf: MapShelf,
+    shelf: H,
     disk: MemoryDisk,
     watchers: Vec<Box<dyn Watcher + Send>>,
     gate: &G,
@@ -131,12 +131,12 @@ pub(crate) fn run_with<R: Threads + Wait + Sync>(
 }
 
 // Does what the words ask for beside a shelf.
-pub(crate) fn run_script_with<R: Threads + Wait + Sync>(
+pub(crate) fn run_script_with<R: Threads + Wait + Sync, H: Shelf + Drop>(
     rt: &R,
     alloc: Global,
     words: &[&str],
     script: &[&str],
-    shelf: MapShelf,
+    shelf: H,
     disk: MemoryDisk,
 ) -> Result<Finished, AllocError> {
     let words = words_of(alloc, words)?;

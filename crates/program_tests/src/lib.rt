@@ -10,6 +10,8 @@ mod disk_tests;
 #[cfg(test)]
 mod fault_tests;
 #[cfg(test)]
+mod full_shelf_tests;
+#[cfg(test)]
 mod hostile_tests;
 #[cfg(test)]
 mod load_tests;
