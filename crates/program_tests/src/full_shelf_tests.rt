@@ -1,8 +1,5 @@
 // What a call ends with for which there is no memory before a line is answered: the line `nomemory` and the status 9, and
 // the disk isn't touched.
-ghost use Rattle.std.specs.Prelude.{ℕ};
-ghost use Rattle.outside_io.specs.Shelves.{Files};
-
 use crate::devices::run_script_with;
 use crate::value_cases::{ENDOWMENT, FLAT, Q, add, ends};
 use memory_disk::MemoryDisk;
@@ -68,7 +65,7 @@ fn without_memory_for_the_basis(rt: HostRuntime) -> Result<(), AllocError> {
         ),
         (&["load", "1", "1", "1", "1"], "load,2,0,1,0.00,0.00,1\n"),
     ];
-    let script = [ENDOWMENT, "1,value,2021-01-01\n"];
+    let script = [ENDOWMENT, "1,value,2021-01-01,now,1\n"];
     for (words, written) in cases {
         for full in 1..=3 {
             let disk = MemoryDisk::new(alloc, Vec::new(alloc), Vec::new(alloc));
