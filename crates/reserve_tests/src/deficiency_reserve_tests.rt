@@ -339,11 +339,20 @@ fn minimums_by_hand(rt: HostRuntime) -> Result<(), Fail> {
     Ok(())
 }
 
+fn expect_plans(
+    rt: &impl Abort,
+    alloc: Global,
+    plans: &[(Plan, [Point; 6])],
+) -> Result<(), AllocError> {
+    for (plan, points) in plans {
+        expect_all(rt, alloc, *plan, points)?;
+    }
+    Ok(())
+}
+
 #[test]
 fn minimums_at_random(rt: HostRuntime) -> Result<(), Fail> {
-    for (plan, points) in DRAWN {
-        expect_all(&rt, rt.alloc(), plan, &points)?;
-    }
+    expect_plans(&rt, rt.alloc(), &DRAWN)?;
     Ok(())
 }
 
