@@ -115,7 +115,11 @@ fn word_of(kind: TableKind) -> BasisWord
     match kind {
         TableKind::NotDocument => BasisWord::NotDocument,
         TableKind::NoTable => BasisWord::NoTable,
-        TableKind::Select => BasisWord::Select,
+        // Those of a select table come from no call of `read_table`.
+        TableKind::Select
+        | TableKind::BadDuration
+        | TableKind::NoUltimate
+        | TableKind::UltimateGap => BasisWord::Select,
         TableKind::Scaled => BasisWord::Scaled,
         TableKind::BadAge => BasisWord::BadAge,
         TableKind::AgeGap => BasisWord::AgeGap,

@@ -20,7 +20,7 @@ use Rattle.xtbml_subset.specs.Answers.{IsLongestNested, IsJudged, IsNoDocument, 
 use Rattle.xtbml_subset.proofs.Accepting.{document_accepted}
 use Rattle.xtbml_subset.proofs.Sounding.{whole_document, longest_nested}
 use Rattle.xtbml_subset.proofs.Matching.{Matches, finds_root}
-use Rattle.xtbml_subset.proofs.Surveying.{path_found}
+use Rattle.xtbml_subset.proofs.Surveyed.{path_found}
 use Rattle.xtbml_subset.proofs.Judging.{parts_same, table_one}
 
 -- ---- no document
@@ -31,7 +31,7 @@ not_accepted bytes at e root d = absurd (let none : Some at ≡ None = e ∙ doc
 pub fault_due : (bytes : List ℕ) (at : ℕ) → Some at ≡ fault_at bytes → IsTableAnswer bytes (Err (Bad at NotDocument))
 fault_due bytes at e = inr (not_accepted bytes at e, (at, longest_nested bytes at (sym e), refl))
 
-one_longest : (bytes : List ℕ) (m n : ℕ) → IsLongestNested bytes m → IsLongestNested bytes n → m ≡ n
+pub one_longest : (bytes : List ℕ) (m n : ℕ) → IsLongestNested bytes m → IsLongestNested bytes n → m ≡ n
 one_longest bytes m n a b =
     let up : m ≤ n = b.longest m a.within a.nested in
     let down : n ≤ m = a.longest n b.within b.nested in
@@ -45,7 +45,7 @@ fault_only bytes at answer e (inr h) =
 
 -- ---- a document
 
-heads_are : (f g : Found) (fs gs : List Found) → f ∷ fs ≡ g ∷ gs → f ≡ g
+pub heads_are : (f g : Found) (fs gs : List Found) → f ∷ fs ≡ g ∷ gs → f ≡ g
 heads_are f g fs gs e = cc
 
 pub same_parts : (bytes : List ℕ) (f : Found) (others : List Found) (root : Node) → elements_at 0 None bytes ≡ f ∷ others → IsDocument bytes root
@@ -99,7 +99,7 @@ pub if_ok : (result : Result Rates TableFault) (P Q : Rates → Type 0) → ((ta
 if_ok (Ok table) P Q goes h = goes table h
 if_ok (Err fault) P Q goes h = tt
 
-unless_goes : (fault : TableFault) (P Q : Type 0) → (P → Q) → Unless fault P → Unless fault Q
+pub unless_goes : (fault : TableFault) (P Q : Type 0) → (P → Q) → Unless fault P → Unless fault Q
 unless_goes (Bad at kind) P Q goes h = goes h
 unless_goes NoMemory P Q goes h = tt
 

@@ -12,26 +12,26 @@ use Rattle.xtbml_subset.specs.Pieces.{Tag}
 use Rattle.xtbml_subset.specs.inside.Elements.{Found, children_at}
 use Rattle.xtbml_subset.specs.inside.Rows.{row_of, found_asks}
 use Rattle.xtbml_subset.specs.Documents.{Node, named_in, node_row, node_asks}
-use Rattle.xtbml_subset.specs.Checks.{RateElement, first, ◌>=>◌, or_fault, within, rooted, path, rates_in, rates_of, factor_of, age_of, is_due, ReadsRate, rated, IsAged, with_rate, Continues, ReadsRows, IsScale, Parts, option_row, parts_of, first_age, IsScaledTable, IsTable}
+use Rattle.xtbml_subset.specs.Checks.{RateElement, first, ◌>=>◌, or_fault, within, rooted, path, rates_in, rates_of, factor_of, age_of, is_due, ReadsRate, rated, IsAged, with_rate, Continues, ReadsRows, IsScale, Parts, option_row, aggregate_parts, parts_of, first_age, IsScaledTable, IsTable}
 use Rattle.xtbml_subset.proofs.Matching.{Matches, AllMatch, children_match, row_match}
 
 -- ---- what is found is what the document has
 
 -- both are values that are tied, or one fault
-abbrev SameBy : {A B : Type 0} → (A → B → Type 0) → Result A TableFault → Result B TableFault → Type 0
+abbrev pub SameBy : {A B : Type 0} → (A → B → Type 0) → Result A TableFault → Result B TableFault → Type 0
 SameBy R (Ok a) (Ok b) = R a b
 SameBy R (Err e) (Err f) = e ≡ f
 SameBy R (Ok a) (Err f) = ⊥
 SameBy R (Err e) (Ok b) = ⊥
 
-then_same : {A B C D : Type 0} (R : A → B → Type 0) (S : C → D → Type 0) (r : Result A TableFault) (s : Result B TableFault)
+pub then_same : {A B C D : Type 0} (R : A → B → Type 0) (S : C → D → Type 0) (r : Result A TableFault) (s : Result B TableFault)
     (k : A → Result C TableFault) (l : B → Result D TableFault) → SameBy R r s → ((a : A) (b : B) → R a b → SameBy S (k a) (l b)) → SameBy S (r >=> k) (s >=> l)
 then_same R S (Ok a) (Ok b) k l same more = more a b same
 then_same R S (Err e) (Err f) k l same more = same
 then_same R S (Ok a) (Err f) k l same more = absurd same
 then_same R S (Err e) (Ok b) k l same more = absurd same
 
-equal_by : {A : Type 0} (r s : Result A TableFault) → SameBy (λ a b. a ≡ b) r s → r ≡ s
+pub equal_by : {A : Type 0} (r s : Result A TableFault) → SameBy (λ a b. a ≡ b) r s → r ≡ s
 equal_by (Ok a) (Ok b) same = cc
 equal_by (Err e) (Err f) same = cc
 equal_by (Ok a) (Err f) same = absurd same
@@ -71,10 +71,10 @@ rooted_same total f node m =
     ] in
     both refl
 
-abbrev TiedPairs : ℕ → Found × Found → Node × Node → Type 0
+abbrev pub TiedPairs : ℕ → Found × Found → Node × Node → Type 0
 TiedPairs total fs ns = Matches total fs.0 ns.0 × Matches total fs.1 ns.1
 
-path_same : (total : ℕ) (f : Found) (node : Node) → Matches total f node → SameBy (TiedPairs total) (path (found_asks total) f) (path node_asks node)
+pub path_same : (total : ℕ) (f : Found) (node : Node) → Matches total f node → SameBy (TiedPairs total) (path (found_asks total) f) (path node_asks node)
 unfolding path
 path_same total f node m =
     then_same (Tied total) (TiedPairs total)
@@ -124,12 +124,12 @@ factor_in total [] (n ∷ ns) all = absurd all
 factor_in total (f ∷ fs) [] all = absurd all
 factor_in total (f ∷ fs) (n ∷ ns) all = first_row total (children_at (codes "ScalingFactor") f) (named_in (codes "ScalingFactor") n.inner) (children_match total f n (codes "ScalingFactor") all.0)
 
-factor_same : (total : ℕ) (f : Found) (node : Node) → Matches total f node
+pub factor_same : (total : ℕ) (f : Found) (node : Node) → Matches total f node
     → option_row (found_asks total) (factor_of (found_asks total) f) ≡ option_row node_asks (factor_of node_asks node)
 unfolding factor_of
 factor_same total f node m = factor_in total (children_at (codes "MetaData") f) (named_in (codes "MetaData") node.inner) (children_match total f node (codes "MetaData") m)
 
-rows_same : (total : ℕ) (fs : List Found) (ns : List Node) → AllMatch total fs ns → map (λ f. row_of total f) fs ≡ map (λ n. node_row n) ns
+pub rows_same : (total : ℕ) (fs : List Found) (ns : List Node) → AllMatch total fs ns → map (λ f. row_of total f) fs ≡ map (λ n. node_row n) ns
 rows_same total [] [] all = refl
 rows_same total [] (n ∷ ns) all = absurd all
 rows_same total (f ∷ fs) [] all = absurd all
@@ -138,33 +138,44 @@ rows_same total (f ∷ fs) (n ∷ ns) all =
     let others = rows_same total fs ns all.1 in
     cc
 
-pub parts_same : (total : ℕ) (f : Found) (node : Node) → Matches total f node → parts_of (found_asks total) f ≡ parts_of node_asks node
-parts_same total f node m =
-    equal_by (parts_of (found_asks total) f) (parts_of node_asks node)
-    (then_same (TiedPairs total) (λ a b. a ≡ b) (path (found_asks total) f) (path node_asks node)
-    (λ found. rates_of (found_asks total) found.1 >=> λ rates. Ok (record { factor = option_row (found_asks total) (factor_of (found_asks total) found.0); rows = map (λ x. row_of total x) rates }))
-    (λ found. rates_of node_asks found.1 >=> λ rates. Ok (record { factor = option_row node_asks (factor_of node_asks found.0); rows = map (λ x. node_row x) rates }))
-    (path_same total f node m)
-    (λ fs ns tied.
-    then_same (AllMatch total) (λ a b. a ≡ b) (rates_of (found_asks total) fs.1) (rates_of node_asks ns.1)
+pub aggregate_same : (total : ℕ) (fs : Found × Found) (ns : Node × Node) → TiedPairs total fs ns → aggregate_parts (found_asks total) fs ≡ aggregate_parts node_asks ns
+aggregate_same total fs ns tied =
+    equal_by (aggregate_parts (found_asks total) fs) (aggregate_parts node_asks ns)
+    (then_same (AllMatch total) (λ a b. a ≡ b) (rates_of (found_asks total) fs.1) (rates_of node_asks ns.1)
     (λ rates. Ok (record { factor = option_row (found_asks total) (factor_of (found_asks total) fs.0); rows = map (λ x. row_of total x) rates }))
     (λ rates. Ok (record { factor = option_row node_asks (factor_of node_asks ns.0); rows = map (λ x. node_row x) rates }))
     (rates_same total fs.1 ns.1 tied.1)
     (λ a b all.
     let factors = factor_same total fs.0 ns.0 tied.0 in
     let rows = rows_same total a b all in
-    cc)))
+    cc))
+
+-- one value or fault is tied to itself
+pub by_equal : {A : Type 0} (r s : Result A TableFault) → r ≡ s → SameBy (λ a b. a ≡ b) r s
+by_equal (Ok a) (Ok b) e = cc
+by_equal (Ok a) (Err b) e = absurd cc
+by_equal (Err a) (Ok b) e = absurd cc
+by_equal (Err a) (Err b) e = cc
+
+pub parts_same : (total : ℕ) (f : Found) (node : Node) → Matches total f node → parts_of (found_asks total) f ≡ parts_of node_asks node
+parts_same total f node m =
+    equal_by (parts_of (found_asks total) f) (parts_of node_asks node)
+    (then_same (TiedPairs total) (λ a b. a ≡ b) (path (found_asks total) f) (path node_asks node)
+    (λ found. aggregate_parts (found_asks total) found)
+    (λ found. aggregate_parts node_asks found)
+    (path_same total f node m)
+    (λ fs ns tied. by_equal (aggregate_parts (found_asks total) fs) (aggregate_parts node_asks ns) (aggregate_same total fs ns tied)))
 
 -- ---- one answer
 
-reads_one : (text : Option (List ℕ)) (o p : Option ℕ) → ReadsRate text o → ReadsRate text p → o ≡ p
+pub reads_one : (text : Option (List ℕ)) (o p : Option ℕ) → ReadsRate text o → ReadsRate text p → o ≡ p
 reads_one None o p a b = a ∙ sym b
 reads_one (Some text) None None a b = refl
 reads_one (Some text) None (Some q) a b = absurd (a q b)
 reads_one (Some text) (Some r) None a b = absurd (b r a)
 reads_one (Some text) (Some r) (Some q) a b = ap (λ (n : ℕ). Some n) (one_rate (trimmed text) r q a b)
 
-by_bool : (t : Bool) (P Q R S : Type 0) (X : Type 0) → MatchBool t P Q → MatchBool t R S → (P → R → X) → (Q → S → X) → X
+pub by_bool : (t : Bool) (P Q R S : Type 0) (X : Type 0) → MatchBool t P Q → MatchBool t R S → (P → R → X) → (Q → S → X) → X
 by_bool true P Q R S X a b holds other = holds a b
 by_bool false P Q R S X a b holds other = other a b
 
@@ -187,14 +198,14 @@ rows_one (row ∷ rows) due a b h k =
     let same : h.0 ≡ k.0 = aged_one due row (age_of row.label) h.0 k.0 h.1 k.1 in
     goes_one rows h.0 a b (λ next x y p q. rows_one rows next x y p q) h.2 (subst (λ (one : Result (ℕ × ℕ) TableFault). Continues (λ next rest. ReadsRows next rows rest) one b) (sym same) k.2)
 
-scale_one : (factor : Option RateElement) (a b : Result (Unit {0}) TableFault) → IsScale factor a → IsScale factor b → a ≡ b
+pub scale_one : (factor : Option RateElement) (a b : Result (Unit {0}) TableFault) → IsScale factor a → IsScale factor b → a ≡ b
 scale_one None a b h k = h ∙ sym k
 scale_one (Some row) (Ok x) (Ok y) h k = refl
 scale_one (Some row) (Ok x) (Err f) h k = absurd (k.0 h)
 scale_one (Some row) (Err e) (Ok y) h k = absurd (h.0 k)
 scale_one (Some row) (Err e) (Err f) h k = let same : e ≡ f = h.1 ∙ sym k.1 in ap (λ (x : TableFault). Err x) same
 
-scaled_one : (rows : List RateElement) (scale : Result (Unit {0}) TableFault) (a b : Result Rates TableFault) → IsScaledTable rows scale a → IsScaledTable rows scale b → a ≡ b
+pub scaled_one : (rows : List RateElement) (scale : Result (Unit {0}) TableFault) (a b : Result Rates TableFault) → IsScaledTable rows scale a → IsScaledTable rows scale b → a ≡ b
 scaled_one rows (Err fault) a b h k = h ∙ sym k
 scaled_one rows (Ok none) a b h k =
     h.2 ∙ ap (λ (read : Result (List ℕ) TableFault). read >=> λ rates. Ok (record { first_age = first_age rows; rates = rates })) (rows_one rows None h.0 k.0 h.1 k.1) ∙ sym k.2

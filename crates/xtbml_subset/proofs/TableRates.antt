@@ -30,7 +30,7 @@ pub record IsRead (due : Option ℕ) (row : RateElement) (age rate : ℕ) : Type
   pub due_is : is_due due age ≡ true
   pub rate_is : ReadsRate row.text (Some rate)
 
-at_test : (b : Bool) (P Q : Type 0) → MatchBool b P Q → ((b ≡ true) × P) ⊎ ((b ≡ false) × Q)
+pub at_test : (b : Bool) (P Q : Type 0) → MatchBool b P Q → ((b ≡ true) × P) ⊎ ((b ≡ false) × Q)
 at_test true P Q h = inl (refl, h)
 at_test false P Q h = inr (refl, h)
 
@@ -55,7 +55,7 @@ aged_ok due row (Some found) age rate e is =
 pub row_ok : (due : Option ℕ) (row : RateElement) (age rate : ℕ) → ReadsRow due row (Ok (age, rate)) → IsRead due row age rate
 row_ok due row age rate is = aged_ok due row (age_of row.label) age rate refl is
 
-age_bound : (label : Option (List ℕ)) (age : ℕ) → age_of label ≡ Some age → age ≤ 130
+pub age_bound : (label : Option (List ℕ)) (age : ℕ) → age_of label ≡ Some age → age ≤ 130
 unfolding age_of
 age_bound label age e =
     let b = bind_some (label >>= λ text. short_number text) (λ n. cond (leb n 130) (Some n) None) age e in
@@ -64,7 +64,7 @@ age_bound label age e =
       | inr h ↦ absurd (let no_age = h.1 in cc)
     ]
 
-rate_bound : (text : Option (List ℕ)) (rate : ℕ) → ReadsRate text (Some rate) → rate ≤ 1000000000
+pub rate_bound : (text : Option (List ℕ)) (rate : ℕ) → ReadsRate text (Some rate) → rate ≤ 1000000000
 rate_bound None rate reads = absurd cc
 rate_bound (Some text) rate reads = reads.3
 

@@ -27,6 +27,11 @@ abbrev pub first : {A : Type 0} → List A → Option A
 first [] = None
 first (x ∷ xs) = Some x
 
+-- the children of a name of the first of some elements
+abbrev pub in_first : {N : Type 0} → Asks N → List ℕ → List N → List N
+in_first asks name [] = []
+in_first asks name (node ∷ nodes) = asks.children name node
+
 infixl 10 ◌>=>◌
 abbrev pub ◌>=>◌ : {A B : Type 0} → Result A TableFault → (A → Result B TableFault) → Result B TableFault
 (Ok x) >=> f = f x
@@ -140,10 +145,13 @@ abbrev pub option_row : {N : Type 0} → Asks N → Option N → Option RateElem
 option_row asks None = None
 option_row asks (Some node) = Some (asks.row node)
 
-abbrev pub parts_of : {N : Type 0} → Asks N → N → Result Parts TableFault
-parts_of asks root =
-    path asks root >=> λ found. rates_of asks found.1 >=> λ rates.
+abbrev pub aggregate_parts : {N : Type 0} → Asks N → N × N → Result Parts TableFault
+aggregate_parts asks found =
+    rates_of asks found.1 >=> λ rates.
     Ok (record { factor = option_row asks (factor_of asks found.0); rows = map (λ node. asks.row node) rates })
+
+abbrev pub parts_of : {N : Type 0} → Asks N → N → Result Parts TableFault
+parts_of asks root = path asks root >=> λ found. aggregate_parts asks found
 
 abbrev pub first_age : List RateElement → ℕ
 first_age [] = 0

@@ -6,5 +6,8 @@ pub mod Texts
 pub mod Documents
 pub mod Checks
 pub mod Answers
+pub mod SelectChecks
+pub mod AnyChecks
 pub mod Worked
+pub mod WorkedSelect
 pub mod inside

@@ -7,3 +7,4 @@ pub mod Elements
 pub mod Searches
 pub mod Views
 pub mod Rows
+pub mod Issues

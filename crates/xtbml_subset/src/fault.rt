@@ -1,7 +1,7 @@
 ghost use Rattle.std.specs.Prelude.{◌≡◌};
 ghost use Rattle.xtbml_subset.specs.declared.fault.TableFault.TheVariants.{NoMemory};
 
-use std::alloc::AllocFailed;
+use std::alloc::{AllocError, AllocFailed};
 
 /// What is wrong with a table file, in the order in which it is looked for.
 #[derive(Clone, Copy, PartialEq, Eq, Debug)]
@@ -20,6 +20,13 @@ pub enum TableKind {
     AgeGap,
     /// A rate isn't a number from 0 to 1 of at most nine places.
     BadRate,
+    /// An issue age has no rate, or a rate of it has no duration, one that is neither 0 nor 1 at first or isn't one more
+    /// than the duration before, or one past age 130.
+    BadDuration,
+    /// There are no ultimate rates behind the select ones.
+    NoUltimate,
+    /// The ultimate rates begin later than right behind a select period that they go on after.
+    UltimateGap,
 }
 
 /// Why a file is no table.
@@ -31,10 +38,18 @@ pub enum TableFault {
     NoMemory,
 }
 
-impl From<AllocFailed<u32>> for TableFault {
+impl<T: Drop> From<AllocFailed<T>> for TableFault {
     ghost from_gives = { λ _ fault. fault ≡ NoMemory };
 
-    fn from(_refused: AllocFailed<u32>) -> TableFault {
+    fn from(_refused: AllocFailed<T>) -> TableFault {
+        TableFault::NoMemory
+    }
+}
+
+impl From<AllocError> for TableFault {
+    ghost from_gives = { λ _ fault. fault ≡ NoMemory };
+
+    fn from(_refused: AllocError) -> TableFault {
         TableFault::NoMemory
     }
 }

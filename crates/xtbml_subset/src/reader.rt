@@ -1,12 +1,17 @@
-ghost use Rattle.std.specs.Prelude.{◌≡◌, ℕ, ◌≤◌, length, IfOk, IfErr, Ok, Err, Result};
+ghost use Rattle.std.specs.Prelude.{◌≡◌, ℕ, ◌≤◌, ◌⊎◌, length, IfOk, IfErr, Ok, Err, Result};
 ghost use Rattle.rate_table.specs.Rates.{Rates};
+ghost use Rattle.select_rates.specs.declared.any.AnyTable.{AnyTable};
+ghost use Rattle.xtbml_subset.specs.declared.fault.TableFault.{TableFault};
 ghost use Rattle.xtbml_subset.specs.Answers.{SpellsTable, IsTableAnswer, Gives, Unless};
+ghost use Rattle.xtbml_subset.specs.AnyChecks.{SpellsAny, IsAnyAnswer, GivesAny, SaysSelect, aggregated};
 
+use crate::any::any_of;
 use crate::fault::{TableFault, TableKind};
 use crate::nesting::survey;
 use crate::search::Search;
 use crate::table::table_of;
 use rate_table::RateTable;
+use select_rates::AnyTable;
 use std::alloc::Global;
 
 /// The table that a file spells: the rates, in units of 10^-9, for the ages of its `Y`.
@@ -37,4 +42,37 @@ pub fn read_table(alloc: Global, bytes: &[u8]) -> Result<RateTable, TableFault>
         unreachable!()
     };
     table_of(alloc, &root, &path, bytes.len() as u32)
+}
+
+/// The table that a file spells, by age alone or by issue age and duration: the rates, in units of 10^-9, of the `Y` of its
+/// first `Table`, and where the first axis of that has an axis in it, the ultimate rates of its second `Table`.
+///
+/// A fault says what is wrong and the place, in bytes from the start of the file. Memory is taken for the table alone.
+pub fn read_any(alloc: Global, bytes: &[u8]) -> Result<AnyTable, TableFault>
+    requires { length bytes.now ≤ 4194304 }
+    // What is read is spelled so.
+    ensures table { IfOk result (λ table. SpellsAny bytes.now table) }
+    // What is spelled so is read, unless memory runs out.
+    ensures read { (table : AnyTable) → SpellsAny bytes.now table → GivesAny result (Ok table) }
+    // A fault is the one that is due.
+    ensures fault { IfErr result (λ fault. Unless fault (IsAnyAnswer bytes.now (Err fault))) }
+    // Whatever answer is due is given, unless memory runs out.
+    ensures due { (answer : Result AnyTable TableFault) → IsAnyAnswer bytes.now answer → GivesAny result answer }
+    // What is due from `read_table` is given here too, unless it is that the rates depend on the duration.
+    ensures aggregate { (answer : Result Rates TableFault) → IsTableAnswer bytes.now answer
+        → SaysSelect answer ⊎ GivesAny result (aggregated answer) }
+{
+    let path = match survey(bytes) {
+        Ok(path) => path,
+        Err(at) => {
+            return Err(TableFault::Bad {
+                at: at as u32,
+                kind: TableKind::NotDocument,
+            });
+        }
+    };
+    let Search::Hit(root) = path.root else {
+        unreachable!()
+    };
+    any_of(alloc, &root, &path, bytes.len() as u32)
 }

@@ -25,8 +25,9 @@ fn add_digit(number: u16, byte: u8) -> Option<u16>
 }
 
 /// The whole number that one to three digits spell.
-fn short_number(text: &[u8]) -> Option<u16>
-    ensures { result ≡ short_number text.now }
+pub fn short_number(text: &[u8]) -> Option<u16>
+    ensures number { result ≡ short_number text.now }
+    ensures small { IfSome result (λ number. number < 1000) }
 {
     match text {
         [] => None,
@@ -61,7 +62,7 @@ pub fn rate_in(text: Option<&[u8]>) -> Option<u32>
     }
 }
 
-fn is_due(due: Option<u8>, age: u8) -> bool
+pub fn is_due(due: Option<u8>, age: u8) -> bool
     ensures { result ≡ is_due due age }
 {
     match due {

@@ -1,6 +1,6 @@
 ghost use Rattle.std.specs.Prelude.{◌≡◌, ◌==◌, ◌||◌, ℕ, ◌+◌, ◌≤◌, ◌∷◌, List, length, IfOk, IfErr, MatchResult, MatchBool, Ok, Err, codes};
 ghost use Rattle.std.specs.Option.{option_copied, ForSome};
-ghost use Rattle.xtbml_subset.specs.Checks.{within, path, rates_of, factor_of, option_row, parts_of, IsUnscaled, IsScale, IsScaledTable, IsTable};
+ghost use Rattle.xtbml_subset.specs.Checks.{in_first, within, path, rates_of, factor_of, option_row, parts_of, IsUnscaled, IsScale, IsScaledTable, IsTable};
 ghost use Rattle.xtbml_subset.specs.inside.Elements.{children_at, siblings_at};
 ghost use Rattle.xtbml_subset.specs.inside.Searches.{hit, IsFirstIn, IsFound};
 ghost use Rattle.xtbml_subset.specs.inside.Rows.{found_asks, rows_from};
@@ -38,7 +38,7 @@ fn within<'a>(
 
 /// The first table, and the first axis of its values.
 #[tactic(auto, unfolding(crate::specs::Checks::path))]
-fn table_and_axis<'a>(
+pub fn table_and_axis<'a>(
     root: &Element<'a>,
     found: &Path<'a>,
     total: u32,
@@ -47,6 +47,8 @@ fn table_and_axis<'a>(
     ensures pair { found_pair result ≡ path (found_asks total) (found_of root.now) }
     ensures table { IfOk result (λ pair. sought_of found.now.table ≡ hit (found_of pair.0)) }
     ensures axis { IfOk result (λ pair. sought_of found.now.axis ≡ hit (found_of pair.1)) }
+    ensures values { IfOk result (λ pair. in_first (found_asks total) (codes "Axis") (children_at (codes "Values") (found_of pair.0))
+        ≡ found_of pair.1 ∷ siblings_at (codes "Axis") (found_of pair.1)) }
 {
     if root.tag.name != b"XTbML".as_slice() {
         return Err(TableFault::Bad {
@@ -115,7 +117,7 @@ fn is_unit(rate: u32) -> bool
 
 /// Whether the factor of a table leaves its rates as they are.
 #[tactic(auto, unfolding(crate::specs::Checks::factor_of))]
-fn check_scale(table: &Element<'_>, about: &Search<'_>, total: u32) -> Result<(), TableFault>
+pub fn check_scale(table: &Element<'_>, about: &Search<'_>, total: u32) -> Result<(), TableFault>
     requires { IsFirstIn (codes "MetaData") (found_of table.now) (sought_of about.now) }
     ensures { IsScale (option_row (found_asks total) (factor_of (found_asks total) (found_of table.now))) result }
 {
@@ -136,7 +138,7 @@ fn check_scale(table: &Element<'_>, about: &Search<'_>, total: u32) -> Result<()
 }
 
 /// The rates from the first of an axis on, which are so many, as a table.
-fn rates_table(
+pub fn rates_table(
     alloc: Global,
     first: &Element<'_>,
     count: usize,

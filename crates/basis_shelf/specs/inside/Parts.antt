@@ -43,6 +43,7 @@ TellsRows name (fault.BadBasisRow row) told = IsToldOfTable name row BadRow told
 TellsRows name (fault.NotRising row) told = IsToldOfTable name row NotRising told
 TellsRows name fault.NoMemory told = told ≡ NoMemory
 
+-- those of a select table come from no call of `read_table`
 abbrev pub word_of : TableKind → BasisWord
 word_of kind.NotDocument = NotDocument
 word_of kind.NoTable = NoTable
@@ -51,6 +52,9 @@ word_of kind.Scaled = Scaled
 word_of kind.BadAge = BadAge
 word_of kind.AgeGap = AgeGap
 word_of kind.BadRate = BadRate
+word_of kind.BadDuration = Select
+word_of kind.NoUltimate = Select
+word_of kind.UltimateGap = Select
 
 -- the fault of a table file is told
 abbrev pub TellsTable : List ℕ → TableFault → NoBasis → Type 0

@@ -12,7 +12,8 @@ use Rattle.xtbml_subset.proofs.Walking.{walk_step, walk_stuck, walk_end, place_s
 use Rattle.xtbml_subset.proofs.Stack.{texts, length-names_of}
 use Rattle.xtbml_subset.proofs.Sounding.{place_none}
 use Rattle.xtbml_subset.proofs.Matching.{mark_passed}
-use Rattle.xtbml_subset.proofs.Surveying.{path_start, path_step, path_run, tally_low}
+use Rattle.xtbml_subset.proofs.Surveying.{path_step, tally_low}
+use Rattle.xtbml_subset.proofs.Surveyed.{path_start, path_run}
 use Rattle.xtbml_subset.proofs.nesting.survey.Goals as goal
 
 pub loop-token-init : goal.loop-token-init

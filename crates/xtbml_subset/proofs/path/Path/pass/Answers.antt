@@ -1,5 +1,5 @@
 use Rattle.xtbml_subset.specs.inside.Views.{path_of, passing_of}
-use Rattle.xtbml_subset.proofs.Surveying.{path_kept}
+use Rattle.xtbml_subset.proofs.Surveyed.{path_kept}
 use Rattle.xtbml_subset.proofs.path.Path.pass.Goals as goal
 
 pub returns-then-passing-gt4 : goal.returns-then-passing-gt4

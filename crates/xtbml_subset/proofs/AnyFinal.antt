@@ -1,0 +1,102 @@
+-- The answer of the reader of tables of either kind is the one that is due.
+use Rattle.std.proofs.Common.{◌≡◌, ℕ, List, [], ◌∷◌, length, Option, Some, None, Result, Ok, Err, refl, sym, ap, subst, ◌∙◌, ◌⊎◌, inl, inr, codes}
+use Rattle.std.specs.Prelude.{IfOk, IfErr}
+use Rattle.rate_table.specs.Rates.{Rates}
+use Rattle.select_rates.specs.declared.any.AnyTable.{AnyTable}
+use Rattle.xtbml_subset.specs.declared.fault.TableKind.TheVariants.{NotDocument, Select}
+use Rattle.xtbml_subset.specs.declared.fault.TableFault.{TableFault}
+use Rattle.xtbml_subset.specs.declared.fault.TableFault.TheVariants.{Bad, NoMemory}
+use Rattle.xtbml_subset.specs.Checks.{Asks, ◌>=>◌, Parts, path, rates_of, aggregate_parts, parts_of, IsTable}
+use Rattle.xtbml_subset.specs.Documents.{Node, IsDocument, node_asks}
+use Rattle.xtbml_subset.specs.Answers.{IsTableAnswer, Unless}
+use Rattle.xtbml_subset.specs.AnyChecks.{AnyParts, aggregate, selected, parts_by_axes, any_parts_of, aggregated, IsAnyTable, IsAnyJudged, IsAnyAnswer, GivesAny, SaysSelect}
+use Rattle.xtbml_subset.specs.inside.Elements.{Found, elements_at}
+use Rattle.xtbml_subset.specs.inside.Rows.{found_asks}
+use Rattle.xtbml_subset.specs.inside.Walk.{fault_at}
+use Rattle.xtbml_subset.proofs.Sounding.{whole_document, longest_nested}
+use Rattle.xtbml_subset.proofs.Matching.{Matches, finds_root}
+use Rattle.xtbml_subset.proofs.AnyParts.{lifted}
+use Rattle.xtbml_subset.proofs.SelectSame.{any_same}
+use Rattle.xtbml_subset.proofs.SelectSingle.{any_single}
+use Rattle.xtbml_subset.proofs.Final.{not_accepted, one_longest, heads_are, unless_goes}
+
+-- ---- no document
+
+pub any_fault_due : (bytes : List ℕ) (at : ℕ) → Some at ≡ fault_at bytes → IsAnyAnswer bytes (Err (Bad at NotDocument))
+any_fault_due bytes at e = inr (not_accepted bytes at e, (at, longest_nested bytes at (sym e), refl))
+
+pub any_fault_only : (bytes : List ℕ) (at : ℕ) (answer : Result AnyTable TableFault) → Some at ≡ fault_at bytes → IsAnyAnswer bytes answer → answer ≡ Err (Bad at NotDocument)
+any_fault_only bytes at answer e (inl judged) = absurd (not_accepted bytes at e judged.0 judged.1)
+any_fault_only bytes at answer e (inr h) =
+    let same : h.1.0 ≡ at = one_longest bytes h.1.0 at h.1.1 (longest_nested bytes at (sym e)) in
+    h.1.2 ∙ ap (λ (n : ℕ). Err (Bad n NotDocument)) same
+
+-- ---- a document
+
+same_any_parts : (bytes : List ℕ) (f : Found) (others : List Found) (root : Node) → elements_at 0 None bytes ≡ f ∷ others → IsDocument bytes root
+    → any_parts_of (found_asks (length bytes)) f ≡ any_parts_of node_asks root
+same_any_parts bytes f others root e d =
+    let r = finds_root bytes root d in
+    let same : r.found ≡ f = heads_are r.found f r.others others (sym r.first ∙ e) in
+    any_same (length bytes) f root (subst (λ (x : Found). Matches (length bytes) x root) same r.matches)
+
+pub any_judged_by : (bytes : List ℕ) (f : Found) (others : List Found) (answer : Result AnyTable TableFault) → None ≡ fault_at bytes → elements_at 0 None bytes ≡ f ∷ others
+    → IsAnyTable (any_parts_of (found_asks (length bytes)) f) answer → IsAnyJudged bytes answer
+any_judged_by bytes f others answer e first is =
+    let d = whole_document bytes (sym e) in
+    (d.0, d.1, subst (λ (parts : Result AnyParts TableFault). IsAnyTable parts answer) (same_any_parts bytes f others d.0 first d.1) is)
+
+pub any_due_by : (bytes : List ℕ) (f : Found) (others : List Found) (answer : Result AnyTable TableFault) → None ≡ fault_at bytes → elements_at 0 None bytes ≡ f ∷ others
+    → IsAnyAnswer bytes answer → IsAnyTable (any_parts_of (found_asks (length bytes)) f) answer
+any_due_by bytes f others answer e first (inl judged) =
+    subst (λ (parts : Result AnyParts TableFault). IsAnyTable parts answer) (sym (same_any_parts bytes f others judged.0 first judged.1)) judged.2
+any_due_by bytes f others answer e first (inr h) = let d = whole_document bytes (sym e) in absurd (h.0 d.0 d.1)
+
+-- ---- a table by age alone
+
+-- the answer of the checks of such a table is that of the checks of either kind, unless it says that the table is select
+by_axes_agree : (asks : Asks Node) (root : Node) (found : Node × Node) (axes : List Node) (answer : Result Rates TableFault) → asks.children (codes "Axis") found.1 ≡ axes
+    → IsTable (aggregate_parts asks found) answer → SaysSelect answer ⊎ IsAnyTable (parts_by_axes asks root found axes) (aggregated answer)
+by_axes_agree asks root found [] answer e is = inr (lifted (aggregate_parts asks found) answer is)
+by_axes_agree asks root found (inner ∷ more) answer e is = inl ((asks.row inner).at, selects)
+  where
+    parts_are : aggregate_parts asks found ≡ Err (Bad (asks.row inner).at Select)
+    unfolding rates_of
+    parts_are = rw e refl
+
+    selects : answer ≡ Err (Bad (asks.row inner).at Select)
+    selects = subst (λ (parts : Result Parts TableFault). IsTable parts answer) parts_are is
+
+agree : (asks : Asks Node) (root : Node) (found : Result (Node × Node) TableFault) (answer : Result Rates TableFault) → IsTable (found >=> λ one. aggregate_parts asks one) answer
+    → SaysSelect answer ⊎ IsAnyTable (found >=> λ one. parts_by_axes asks root one (asks.children (codes "Axis") one.1)) (aggregated answer)
+agree asks root (Err fault) answer is = inr (ap (λ (r : Result Rates TableFault). aggregated r) is)
+agree asks root (Ok found) answer is = by_axes_agree asks root found (asks.children (codes "Axis") found.1) answer refl is
+
+pub aggregate_answer : (bytes : List ℕ) (answer : Result Rates TableFault) → IsTableAnswer bytes answer → SaysSelect answer ⊎ IsAnyAnswer bytes (aggregated answer)
+aggregate_answer bytes answer (inl judged) =
+    elim (agree node_asks judged.0 (path node_asks judged.0) answer judged.2) [
+      | inl says ↦ inl says
+      | inr is ↦ inr (inl (judged.0, judged.1, is))
+    ]
+aggregate_answer bytes answer (inr h) = inr (inr (h.0, (h.1.0, h.1.1, ap (λ (r : Result Rates TableFault). aggregated r) h.1.2)))
+
+pub or_gives : (answer : Result Rates TableFault) (P Q : Type 0) → SaysSelect answer ⊎ P → (P → Q) → SaysSelect answer ⊎ Q
+or_gives answer P Q (inl says) goes = inl says
+or_gives answer P Q (inr is) goes = inr (goes is)
+
+-- ---- results
+
+pub any_if_ok : (result : Result AnyTable TableFault) (P Q : AnyTable → Type 0) → ((table : AnyTable) → P table → Q table) → IfOk result P → IfOk result Q
+any_if_ok (Ok table) P Q goes h = goes table h
+any_if_ok (Err fault) P Q goes h = tt
+
+pub any_if_fault : (result : Result AnyTable TableFault) (P Q : TableFault → Type 0) → ((fault : TableFault) → P fault → Q fault)
+    → IfErr result (λ fault. Unless fault (P fault)) → IfErr result (λ fault. Unless fault (Q fault))
+any_if_fault (Ok table) P Q goes h = tt
+any_if_fault (Err fault) P Q goes h = unless_goes fault (P fault) (Q fault) (goes fault) h
+
+pub any_gives : (result answer : Result AnyTable TableFault) (parts : Result AnyParts TableFault) → IfOk result (λ table. IsAnyTable parts (Ok table))
+    → IfErr result (λ fault. Unless fault (IsAnyTable parts (Err fault))) → IsAnyTable parts answer → GivesAny result answer
+any_gives (Ok table) answer parts read fault is = any_single parts answer (Ok table) is read
+any_gives (Err (Bad at kind)) answer parts read fault is = any_single parts answer (Err (Bad at kind)) is fault
+any_gives (Err NoMemory) answer parts read fault is = tt

@@ -1,0 +1,30 @@
+-- What worked select tables are computed from.
+use Rattle.std.proofs.Common.{◌≡◌, ℕ, List, [], ◌∷◌, length, None, Result, refl}
+use Rattle.std.specs.Prelude.{⊤}
+use Rattle.select_rates.specs.declared.any.AnyTable.{AnyTable}
+use Rattle.xtbml_subset.specs.declared.fault.TableFault.{TableFault}
+use Rattle.xtbml_subset.specs.AnyChecks.{any_parts_of, IsAnyTable, IsAnyJudged}
+use Rattle.xtbml_subset.specs.SelectChecks.{issue_axes, durations_of, ultimate_of, duration_of}
+use Rattle.xtbml_subset.specs.inside.Elements.{Found, elements_at}
+use Rattle.xtbml_subset.specs.inside.Rows.{found_asks}
+use Rattle.xtbml_subset.specs.inside.Walk.{fault_at}
+use Rattle.xtbml_subset.proofs.AnyFinal.{any_judged_by}
+use Rattle.xtbml_subset.proofs.WorkedTables.{tables_on_literals}
+
+unfoldable pub select_on_literals : ⊤
+unfolding tables_on_literals issue_axes durations_of ultimate_of duration_of
+select_on_literals = tt
+
+-- what the first element of a document, its root, is judged to be
+abbrev pub RootIsAny : ℕ → Result AnyTable TableFault → List Found → Type 0
+RootIsAny total answer [] = ⊥
+RootIsAny total answer (f ∷ others) = IsAnyTable (any_parts_of (found_asks total) f) answer
+
+-- a document is judged by its elements
+pub any_judged : (bytes : List ℕ) (answer : Result AnyTable TableFault) → None ≡ fault_at bytes → RootIsAny (length bytes) answer (elements_at 0 None bytes)
+    → IsAnyJudged bytes answer
+any_judged bytes answer e is = by (elements_at 0 None bytes) refl is
+  where
+    by : (found : List Found) → elements_at 0 None bytes ≡ found → RootIsAny (length bytes) answer found → IsAnyJudged bytes answer
+    by (f ∷ others) same is = any_judged_by bytes f others answer e same is
+    by [] same is = absurd is
