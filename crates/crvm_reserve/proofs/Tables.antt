@@ -2,7 +2,7 @@
 use Rattle.std.proofs.Common.{◌≡◌, ℕ, ◌+◌, ◌-◌, ◌*◌, ◌<◌, ◌≤◌, refl, arith, min, length, add-zero}
 use Rattle.std.proofs.Math.Nat.{le_trans, mul-le-mul_left, mul-le-mul_right}
 use Rattle.std.proofs.lemmas.Nat.{mul-le}
-use Rattle.rate_table.specs.Rates.{Rates, ONE, AreRates}
+use Rattle.rate_table.specs.Rates.{Rates, ONE, AreRates, HoldsAge}
 use Rattle.rate_table.specs.declared.shape.Shape.{Shape}
 use Rattle.present_value.specs.Rounding.{UNIT, down, up}
 use Rattle.present_value.specs.Sums.{Cover, cover_of}
@@ -24,25 +24,26 @@ rates_most : (table : Rates) (shape : Shape) (bp k : ℕ) → AreRates table
     → (cover_of table shape bp).rates k ≤ ONE
 rates_most table shape bp k are first last below = are.bound (shape.age + k - table.first_age) (omega arith)
 
-pub reserved : (table : Rates) (shape : Shape) (bp : ℕ) → AreRates table → CanReserve table shape bp
-    → IsReserved (cover_of table shape bp) (cap_of table shape.age bp)
-reserved table shape bp are can =
+pub reserved : (table cap_table : Rates) (shape : Shape) (bp : ℕ) → AreRates table → AreRates cap_table → CanReserve table shape bp
+    → HoldsAge cap_table (shape.age + 1) → IsReserved (cover_of table shape bp) (cap_of cap_table shape.age bp)
+reserved table cap_table shape bp are cap_are can cap =
     let value = can.value in
     let renewed = can.renewed in
     let covered = value.covered in
     let first = value.first in
     let last = value.last in
     let ages = are.ages in
+    let cap_ages = cap_are.ages in
     record {
       renewed = can.renewed;
       covered = can.value.covered;
       years = omega arith;
       rates = λ k below. rates_most table shape bp k are first last below;
       first = rw (add-zero shape.age) can.first;
-      cap_paid = omega arith;
+      cap_paid = omega (arith, cap);
       cap_covered = omega arith;
-      cap_years = omega arith;
-      cap_rates = λ k below. rates_most table (cap_shape table shape.age) bp k are (omega arith) (omega arith) below;
+      cap_years = omega (arith, cap);
+      cap_rates = λ k below. rates_most cap_table (cap_shape cap_table shape.age) bp k cap_are (omega (arith, cap)) (omega (arith, cap)) below;
     }
 
 -- the term premium is at the rate of the first year

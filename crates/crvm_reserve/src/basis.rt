@@ -27,20 +27,47 @@ pub fn basis_premium(table: &RateTable, shape: &Shape, bp: u16, columns: &Column
         let cap = cap_of table.now shape.now.age bp in
         AreMadeFor cover cap columns.now result }
 {
+    premium_with_cap(table, table, shape, bp, columns)
+}
+
+/// The same with a cap by another table: that of the next issue age, where the rates depend on the duration too. That
+/// table holds the next age.
+pub fn premium_with_cap(
+    table: &RateTable,
+    cap_table: &RateTable,
+    shape: &Shape,
+    bp: u16,
+    columns: &Columns,
+) -> Premium
+    requires can { CanReserve table.now shape.now bp }
+    requires cap { HoldsAge cap_table.now (shape.now.age + 1) }
+    requires columns { AreColumns (cover_of table.now shape.now bp) columns.now }
+    ensures rounded { let cover = cover_of table.now shape.now bp in
+        let cap = cap_of cap_table.now shape.now.age bp in
+        result ≡ premium_of cover cap }
+    ensures exact { let cover = cover_of table.now shape.now bp in
+        let cap = cap_of cap_table.now shape.now.age bp in
+        Between result.lo result.hi UNIT (beta cover cap) }
+    ensures narrow { result.hi ≤ result.lo + 100000 }
+    ensures made { let cover = cover_of table.now shape.now bp in
+        let cap = cap_of cap_table.now shape.now.age bp in
+        AreMadeFor cover cap columns.now result }
+{
+    // That the table's rates are at most 1.
+    let _ = table.last_age();
     premium_by(PremiumParts {
         rate: table.rate(shape.age).unwrap(),
         bp,
         issue: columns.at(0),
         renewal: columns.at(1),
-        limit: cap_values(table, shape.age, bp),
+        limit: cap_values(cap_table, shape.age, bp),
     })
 }
 
 /// The values at issue of the whole life plan with nineteen premiums at the next age.
 fn cap_values(table: &RateTable, age: u8, bp: u16) -> Values
     requires interest { bp ≤ 2000 }
-    requires first { table.now.first_age ≤ age + 1 }
-    requires last { age + 2 ≤ table.now.first_age + length table.now.rates }
+    requires holds { HoldsAge table.now (age + 1) }
     ensures values { AreValuesAt (cap_of table.now age bp) 0 result }
     ensures within { AreRates table.now }
 {

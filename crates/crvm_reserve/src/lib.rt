@@ -10,7 +10,7 @@ mod paid_up_mean;
 mod premium;
 mod worked;
 
-pub use basis::basis_premium;
+pub use basis::{basis_premium, premium_with_cap};
 pub use bounds::{bounds_by, reserve_bounds};
 pub use mean::{MeanParts, mean_bounds, mean_by};
 pub use paid_up::{paid_up_bounds, paid_up_by};

@@ -1,6 +1,7 @@
-use Rattle.std.specs.Prelude.{◌≡◌, ℕ, ◌<◌}
-use Rattle.rate_table.specs.Rates.{Rates}
-use Rattle.select_rates.specs.Table.{IsTableOf}
+use Rattle.std.specs.Prelude.{◌≡◌, ℕ, ◌+◌, ◌<◌}
+use Rattle.rate_table.specs.Rates.{Rates, HoldsAge, rate_at}
+use Rattle.select_rates.specs.Select.{SelectRate}
+use Rattle.select_rates.specs.Table.{IsTableOf, select_table}
 use Rattle.select_rates.specs.declared.any.AnyTable.{AnyTable}
 use Rattle.select_rates.specs.declared.any.AnyTable.TheVariants.{Aggregate, Select}
 
@@ -13,3 +14,13 @@ IsBelow (Select table) age = age < table.first_age
 abbrev pub IsAlong : AnyTable → ℕ → Rates → Type 0
 IsAlong (Aggregate table) age given = given ≡ table
 IsAlong (Select table) age given = IsTableOf table age given
+
+-- the same as a value
+abbrev pub table_along : AnyTable → ℕ → Rates
+table_along (Aggregate table) age = table
+table_along (Select table) age = select_table table age
+
+-- this is the rate of an issue age at a duration, from 0; of an aggregate table the one of the attained age
+abbrev pub IsRateOf : AnyTable → ℕ → ℕ → ℕ → Type 0
+IsRateOf (Aggregate table) age duration rate = HoldsAge table (age + duration) × (rate ≡ rate_at table (age + duration))
+IsRateOf (Select table) age duration rate = SelectRate table age duration rate

@@ -1,6 +1,6 @@
-use Rattle.std.specs.Prelude.{◌≡◌, ℕ, ◌+◌, ◌-◌, ◌≤◌, max, length}
+use Rattle.std.specs.Prelude.{◌≡◌, ℕ, ◌+◌, ◌-◌, ◌≤◌, ◌++◌, List, max, length, drop, nat_lt, if◌then◌else◌}
 use Rattle.rate_table.specs.Rates.{Rates, HoldsAge, rate_at, last_age_of}
-use Rattle.select_rates.specs.Select.{Selected, IsSelectAge, select_period, HasSelectRate, SelectRate}
+use Rattle.select_rates.specs.Select.{Selected, IsSelectAge, select_rates, select_period, HasSelectRate, SelectRate}
 
 -- the table of an issue age from the first select age on: at each attained age that it holds it has the rate of that
 -- issue age at that duration, and it holds each for which there is such a rate. At a select age it goes from this age to
@@ -14,3 +14,14 @@ pub record IsTableOf (table : Selected) (age : ℕ) (given : Rates) : Type 0 whe
   pub last : IsSelectAge table age
       → last_age_of given ≡ max (age + select_period table age - 1) (last_age_of table.ultimate)
   pub above : table.first_age + length table.rows ≤ age → given ≡ table.ultimate
+
+-- the rates of a select age by duration: its select rates, and behind them the ultimate ones of the attained ages
+abbrev pub joined_rates : Rates → ℕ → List ℕ → List ℕ
+joined_rates ultimate age select = select ++ drop (age + length select - ultimate.first_age) ultimate.rates
+
+-- that table
+abbrev pub select_table : Selected → ℕ → Rates
+select_table table age =
+    if nat_lt age (table.first_age + length table.rows)
+    then record { first_age = age; rates = joined_rates table.ultimate age (select_rates table age) }
+    else table.ultimate

@@ -1,5 +1,5 @@
-ghost use Rattle.std.specs.Prelude.{◌↔◌, IsNone, IfSome};
-ghost use Rattle.select_rates.specs.Along.{IsBelow, IsAlong};
+ghost use Rattle.std.specs.Prelude.{◌≡◌, ◌↔◌, IsNone, IfSome};
+ghost use Rattle.select_rates.specs.Along.{IsBelow, IsAlong, table_along};
 
 use crate::table::SelectTable;
 use rate_table::RateTable;
@@ -17,6 +17,7 @@ impl AnyTable {
     pub fn along(&self, age: u8) -> Option<&RateTable>
         ensures below { IsNone result ↔ IsBelow self.now age }
         ensures table { IfSome result (λ table. IsAlong self.now age table.now) }
+        ensures value { IfSome result (λ table. table.now ≡ table_along self.now age) }
     {
         match self {
             AnyTable::Aggregate(table) => Some(table),

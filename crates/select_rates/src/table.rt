@@ -1,7 +1,7 @@
 ghost use Rattle.std.specs.Prelude.{◌≡◌, ◌<◌, ◌↔◌, IsNone, IfOk, IfSome};
 ghost use Rattle.select_rates.specs.Select.{Selected, AreSelected};
 ghost use Rattle.select_rates.specs.inside.Joined.{ArePrepared};
-ghost use Rattle.select_rates.specs.Table.{IsTableOf};
+ghost use Rattle.select_rates.specs.Table.{IsTableOf, select_table};
 
 use crate::joining::prepare;
 use crate::rows::SelectRows;
@@ -60,6 +60,7 @@ impl SelectTable {
     pub fn along(&self, age: u8) -> Option<&RateTable>
         ensures below { IsNone result ↔ (age < self.now.first_age) }
         ensures table { IfSome result (λ table. IsTableOf self.now age table.now) }
+        ensures value { IfSome result (λ table. table.now ≡ select_table self.now age) }
     {
         if age < self.first_age {
             return None;
