@@ -2,7 +2,7 @@
 use Rattle.std.proofs.Common.{◌≡◌, ℕ, ◌+◌, ◌<◌, ◌<ℤ◌, ◌≤ℤ◌, ℤ, List, ◌∷◌, ◌++◌, length, map, take, drop, get_or, Option, Some, IsSome, All, unwrap_or, sym, ap, ◌∙◌, subst, arith}
 use Rattle.std.proofs.lemmas.List.{take-append-drop, drop_more, map-append, length-map, length-take-le}
 use Rattle.std.proofs.lemmas.List.Elements.{All-cons, All-map}
-use Rattle.rate_table.specs.Rates.{Rates}
+use Rattle.select_rates.specs.declared.any.AnyTable.{AnyTable}
 use Rattle.basis_book.specs.declared.row.BasisRow.{BasisRow}
 use Rattle.basis_book.specs.Dated.{Dated, dated, IsPicked, IsFirstMissing}
 
@@ -17,7 +17,7 @@ later_more rows issued i row h e after rest =
     subst (λ (xs : List BasisRow). All (λ (r : BasisRow). issued <ℤ r.from_day) xs) (sym (drop_more rows i row h ∙ ap (λ (r : BasisRow). r ∷ drop (i + 1) rows) (sym e)))
     (All-cons (λ (r : BasisRow). issued <ℤ r.from_day) row (drop (i + 1) rows) after rest)
 
-pub picked_at : (t : List ℕ → Option Rates) (rows : List BasisRow) (issued : ℤ) (i : ℕ) (row : BasisRow) → i < length rows → row ≡ get_or rows i row → row.from_day ≤ℤ issued
+pub picked_at : (t : List ℕ → Option AnyTable) (rows : List BasisRow) (issued : ℤ) (i : ℕ) (row : BasisRow) → i < length rows → row ≡ get_or rows i row → row.from_day ≤ℤ issued
     → All (λ (r : BasisRow). issued <ℤ r.from_day) (drop (i + 1) rows) → IsPicked (map (dated t) rows) issued i (dated t row)
 picked_at t rows issued i row h e begun rest = record {
   before = map (dated t) (take i rows);
@@ -28,14 +28,14 @@ picked_at t rows issued i row h e begun rest = record {
   later = All-map (λ (other : Dated). issued <ℤ other.from_day) (dated t) (drop (i + 1) rows) rest;
 }
 
-pub none_begun : (t : List ℕ → Option Rates) (rows : List BasisRow) (issued : ℤ) → All (λ (r : BasisRow). issued <ℤ r.from_day) rows
+pub none_begun : (t : List ℕ → Option AnyTable) (rows : List BasisRow) (issued : ℤ) → All (λ (r : BasisRow). issued <ℤ r.from_day) rows
     → All (λ (entry : Dated). issued <ℤ entry.from_day) (map (dated t) rows)
 none_begun t rows issued h = All-map (λ (other : Dated). issued <ℤ other.from_day) (dated t) rows h
 
-pub table_is : (o : Option Rates) (table d : Rates) → Some table ≡ o → table ≡ unwrap_or o d
-table_is o table d e = ap (λ (x : Option Rates). unwrap_or x d) e
+pub table_is : (o : Option AnyTable) (table d : AnyTable) → Some table ≡ o → table ≡ unwrap_or o d
+table_is o table d e = ap (λ (x : Option AnyTable). unwrap_or x d) e
 
-pub missing_at : (t : List ℕ → Option Rates) (rows : List BasisRow) (i : ℕ) (row : BasisRow) (n : ℕ) → i < length rows → row ≡ get_or rows i row → n ≡ i + 1
+pub missing_at : (t : List ℕ → Option AnyTable) (rows : List BasisRow) (i : ℕ) (row : BasisRow) (n : ℕ) → i < length rows → row ≡ get_or rows i row → n ≡ i + 1
     → All (λ (r : BasisRow). IsSome (t r.table)) (take i rows) → (IsSome (t row.table) → ⊥) → IsFirstMissing t rows n
 missing_at t rows i row n h e number known none = record {
   before = take i rows;

@@ -1,17 +1,18 @@
 -- A basis: tables and rates of interest by the day of issue.
 use Rattle.std.specs.Prelude.{◌≡◌, ℕ, ◌+◌, ◌≤◌, List, [], ◌∷◌, ◌++◌, length, All, Option, IsSome, ℤ, ◌<ℤ◌, ◌≤ℤ◌, unwrap_or}
-use Rattle.rate_table.specs.Rates.{Rates}
+use Rattle.select_rates.specs.declared.any.AnyTable.{AnyTable}
+use Rattle.select_rates.specs.declared.any.AnyTable.TheVariants.{Aggregate}
 use Rattle.basis_book.specs.declared.row.BasisRow.{BasisRow}
 
 -- from a day on: a table, and basis points
 pub record Dated : Type 0 where
   pub from_day : ℤ
-  pub table : Rates
+  pub table : AnyTable
   pub bp : ℕ
 
 -- the row with its table, as the tables have it by its name
-abbrev pub dated : (List ℕ → Option Rates) → BasisRow → Dated
-dated table_of row = record { from_day = row.from_day; table = unwrap_or (table_of row.table) (record { first_age = 0; rates = [] }); bp = row.bp }
+abbrev pub dated : (List ℕ → Option AnyTable) → BasisRow → Dated
+dated table_of row = record { from_day = row.from_day; table = unwrap_or (table_of row.table) (Aggregate (record { first_age = 0; rates = [] })); bp = row.bp }
 
 -- the rows have so many at most, each with at most 2000 basis points
 pub record AreBounded (rows : List BasisRow) : Type 0 where
@@ -19,7 +20,7 @@ pub record AreBounded (rows : List BasisRow) : Type 0 where
   pub points : All (λ (row : BasisRow). row.bp ≤ 2000) rows
 
 -- the n-th row is the first whose name isn't among the tables
-pub record IsFirstMissing (table_of : List ℕ → Option Rates) (rows : List BasisRow) (n : ℕ) : Type 0 where
+pub record IsFirstMissing (table_of : List ℕ → Option AnyTable) (rows : List BasisRow) (n : ℕ) : Type 0 where
   pub before : List BasisRow
   pub row : BasisRow
   pub after : List BasisRow

@@ -5,14 +5,14 @@ ghost use Rattle.basis_book.specs.Dated.{Dated, dated, AreBounded, IsFirstMissin
 use crate::fault::NoSuchTable;
 use crate::row::BasisRows;
 use indexmap::IndexMap;
-use rate_table::RateTable;
+use select_rates::AnyTable;
 use std::marker::Model;
 
 /// A basis: for a day of issue it gives a mortality table and a rate of interest.
 #[derive(Drop)]
 pub struct Basis {
     rows: BasisRows,
-    tables: IndexMap<String, RateTable>,
+    tables: IndexMap<String, AnyTable>,
 }
 
 impl Model for Basis {
@@ -30,7 +30,7 @@ impl Model for Basis {
 
 impl Basis {
     /// The basis of these rows, with the tables by their file names.
-    pub fn of(rows: BasisRows, tables: IndexMap<String, RateTable>) -> Result<Basis, NoSuchTable>
+    pub fn of(rows: BasisRows, tables: IndexMap<String, AnyTable>) -> Result<Basis, NoSuchTable>
         requires { AreBounded rows }
         ensures known { IfOk result (λ basis. All (λ row. IsSome (get_by_text tables row.table)) rows) }
         ensures rows { IfOk result (λ basis. basis ≡ map (dated (get_by_text tables)) rows) }
@@ -48,7 +48,7 @@ impl Basis {
 
     /// The place, counted from 0, the table and the basis points of the last row whose day isn't after
     /// a day of issue.
-    pub fn pick(&self, issued: i32) -> Option<(u16, &RateTable, u16)>
+    pub fn pick(&self, issued: i32) -> Option<(u16, &AnyTable, u16)>
         ensures picked { MatchOption result (All (λ entry. issued <ℤ entry.from_day) self.now)
             (λ p. (entry : Dated) × IsPicked self.now issued p.0 entry
             × (p.1.now ≡ entry.table) × (p.2 ≡ entry.bp)) }

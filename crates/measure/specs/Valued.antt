@@ -3,7 +3,7 @@ use Rattle.std.specs.Prelude.{◌≡◌, ℕ, ◌+◌, ◌-◌, ◌^◌, min, Op
 use Rattle.life_dates.specs.Anniversary.{IsCompleted}
 use Rattle.rate_table.specs.Rates.{Rates}
 use Rattle.rate_table.specs.declared.shape.Shape.{Shape}
-use Rattle.plan_benefits.specs.Shapes.{shape_of}
+use Rattle.plan_benefits.specs.Shapes.{shape_by}
 use Rattle.present_value.specs.Premium.{cap_of}
 use Rattle.present_value.specs.Sums.{cover_of}
 use Rattle.crvm_reserve.specs.Rounded.{rounded}
@@ -17,10 +17,10 @@ IsYearOf policy shape t = (years : ℕ) × IsCompleted policy.issued (pos 18627)
 -- a policy has the bounds of its shape's reserve, and one that the table doesn't fit has none
 abbrev pub IsWorth : Drawn → Rates → Option (ℕ × ℕ) → Type 0
 IsWorth policy table (Some bounds) =
-    (shape : Shape) × (shape_of policy.plan policy.age policy.years table ≡ Ok shape)
+    (shape : Shape) × (shape_by policy.plan policy.age policy.years table ≡ Ok shape)
     × ((t : ℕ) × IsYearOf policy shape t
     × (bounds ≡ rounded (cover_of table shape 400) (cap_of table shape.age 400) policy.amount t))
-IsWorth policy table None = IsErr (shape_of policy.plan policy.age policy.years table)
+IsWorth policy table None = IsErr (shape_by policy.plan policy.age policy.years table)
 
 -- a sum that stands still at its type's end
 abbrev pub plus_at_most : ℕ → ℕ → ℕ

@@ -1,5 +1,5 @@
 ghost use Rattle.std.specs.Prelude.{◌≡◌, IfOk};
-ghost use Rattle.plan_benefits.specs.Shapes.{shape_of, FitsTable};
+ghost use Rattle.plan_benefits.specs.Shapes.{shape_by, FitsTable};
 
 use crate::fault::NotValued;
 use policy_types::Plan;
@@ -10,7 +10,7 @@ use rate_table::{RateTable, Shape};
 /// The years are those of cover for a term or an endowment, and those of premiums for a limited plan;
 /// whole life takes none.
 pub fn shape(plan: Plan, age: u8, years: u8, table: &RateTable) -> Result<Shape, NotValued>
-    ensures exact { result ≡ shape_of plan age years table.now }
+    ensures exact { result ≡ shape_by plan age years table.now }
     ensures fits { IfOk result (λ shape. FitsTable plan years table.now shape) }
 {
     let Some(rate) = table.rate(age) else {
