@@ -1,5 +1,5 @@
 -- What a cache keeps is right, and stays so.
-use Rattle.std.proofs.Common.{rules, ◌≡◌, ℕ, Bool, true, List, get_or, All, Contains, Result, Ok, Err, OnOk, OnErr, Option, Some, None, IfSome, sym, ap, subst, ◌∙◌, inl, inr}
+use Rattle.std.proofs.Common.{rules, ◌≡◌, ℕ, Bool, true, List, get_or, slice_get, All, Contains, Result, Ok, Err, OnOk, OnErr, Option, Some, None, IfSome, sym, ap, subst, ◌∙◌, inl, inr}
 use Rattle.std.proofs.lemmas.List.Elements.{All-weaker, All-contains, All-contains_itself}
 use Rattle.std.specs.Map.{lookup}
 use Rattle.rate_table.specs.Rates.{Rates}
@@ -10,12 +10,12 @@ use Rattle.policy_value.specs.declared.key.CacheKey.{CacheKey}
 use Rattle.policy_value.specs.contracts.key.CacheKeyPartialEq.TheImpl.{eq-value}
 use Rattle.std.specs.Cmp.Rules.{comparing, hashing}
 use Rattle.rate_table.specs.declared.shape.Shape.{Shape}
-use Rattle.plan_benefits.specs.Shapes.{shape_of}
-use Rattle.present_value.specs.Sums.{cover_of}
-use Rattle.present_value.specs.Premium.{cap_of}
+use Rattle.select_rates.specs.Along.{table_along}
 use Rattle.crvm_reserve.specs.Made.{premium_of}
 use Rattle.crvm_reserve.specs.declared.premium.Premium.{Premium}
 use Rattle.policy_value.specs.inside.Kept.{IsKeptAt}
+use Rattle.policy_value.specs.inside.Covered.{IsCoverOf, cap_by, cover_by}
+use Rattle.policy_value.specs.declared.covered.Covered.{Covered}
 use Rattle.policy_value.specs.declared.columns.ColumnKey.{ColumnKey}
 use Rattle.policy_value.specs.declared.columns.KeptColumn.{KeptColumn}
 use Rattle.lru.specs.LruCache.{LruCache, lru_cache, promoted, put_entries}
@@ -62,34 +62,44 @@ pub same_key : (key other : CacheKey) → eq-value.it key other ≡ true → key
 same_key key other is = search (comparing, hashing, rules)
 
 -- a place of a basis has one row
-pub one_row : (basis : List Dated) (place : ℕ) (table other : Rates) (bp more : ℕ) → IsRowOf basis place table bp → IsRowOf basis place other more
-    → (table ≡ other) × (bp ≡ more)
-one_row basis place table other bp more row again =
-    let found = row.1 in
-    let found' = again.1 in
-    let same : row.0 ≡ again.0 = cc in
-    (row.2 ∙ ap (λ (e : Dated). e.table) same ∙ sym again.2, row.3 ∙ ap (λ (e : Dated). e.bp) same ∙ sym again.3)
+pub one_entry : (basis : List Dated) (place : ℕ) (entry other : Dated) → slice_get basis place ≡ Some entry → slice_get basis place ≡ Some other
+    → entry ≡ other
+one_entry basis place entry other row again = cc
+
+pub one_row : (basis : List Dated) (place issue : ℕ) (table other : Rates) (bp more : ℕ) → IsRowOf basis place issue table bp
+    → IsRowOf basis place issue other more → (table ≡ other) × (bp ≡ more)
+one_row basis place issue table other bp more row again =
+    let same = one_entry basis place row.0 again.0 row.1 again.1 in
+    (row.2 ∙ ap (λ (e : Dated). table_along e.table issue) same ∙ sym again.2, row.3 ∙ ap (λ (e : Dated). e.bp) same ∙ sym again.3)
 
 -- the column that lies where that of a key is kept
 pub kept_right : (basis : List Dated) (columns : List KeptColumn) (place : ℕ) (key : ColumnKey) (table : Rates) (bp : ℕ) (none : KeptColumn)
-    → All (IsRightColumn basis) columns → IsKeptAt columns place key → IsRowOf basis key.basis_row table bp
+    → All (IsRightColumn basis) columns → IsKeptAt columns place key → IsRowOf basis key.basis_row key.issue table bp
     → IsColumn table bp (get_or columns place none).column
 kept_right basis columns place key table bp none all at row =
-    all place none at.within table bp (subst (λ (p : ℕ). IsRowOf basis p table bp) (sym (at.here none).0) row)
+    let here = at.here none in
+    all place none at.within table bp (rw (here.0, here.1) row)
 
 -- a column by a row of the basis is right by it
-pub by_row : (basis : List Dated) (table : Rates) (bp : ℕ) (kept : KeptColumn) → IsRowOf basis kept.basis_row table bp → IsColumn table bp kept.column
+pub by_row : (basis : List Dated) (table : Rates) (bp : ℕ) (kept : KeptColumn) → IsRowOf basis kept.basis_row kept.issue table bp → IsColumn table bp kept.column
     → IsRightColumn basis kept
 by_row basis table bp kept row is other more again =
-    let same = one_row basis kept.basis_row table other bp more row again in
+    let same = one_row basis kept.basis_row kept.issue table other bp more row again in
     rw (← same.0, ← same.1) is
 
--- a premium by a row of the basis is right by it
-pub premium_by_row : (basis : List Dated) (table : Rates) (bp : ℕ) (key : CacheKey) (shape : Shape) (premium : Premium) → IsRowOf basis key.basis_row table bp
-    → shape_of key.plan key.age key.years table ≡ Ok shape → premium ≡ premium_of (cover_of table shape bp) (cap_of table shape.age bp)
-    → IsRightPremium basis (key, premium)
-premium_by_row basis table bp key shape premium row has is other more again row' has' =
-    let same = one_row basis key.basis_row table other bp more row row' in
-    let has'' = rw (← same.0) at has' in
-    let one : shape ≡ again = cc in
-    rw (← same.0, ← same.1, ← one) is
+-- a premium of a cover by a row of the basis is right by it
+pub premium_by_row : (basis : List Dated) (key : CacheKey) (covered : Covered) (premium : Premium) → IsCoverOf basis key.plan key.age key.years covered
+    → key.basis_row ≡ covered.own.basis_row → premium ≡ premium_of (cover_by covered) (cap_by covered) → IsRightPremium basis (key, premium)
+premium_by_row basis key covered premium cover row is entry shape at has =
+    let here = rw (← row) at cover.is.row in
+    let same = one_entry basis key.basis_row cover.entry entry here at in
+    let has' = rw (← same) at has in
+    let one : covered.shape ≡ shape = cc in
+    rw (← same, ← one) (rw (cover.is.own, cover.is.next, cover.is.interest) at is)
+
+-- and one that is right is the cover's
+pub premium_of_row : (basis : List Dated) (key : CacheKey) (covered : Covered) (premium : Premium) → IsCoverOf basis key.plan key.age key.years covered
+    → key.basis_row ≡ covered.own.basis_row → IsRightPremium basis (key, premium) → premium ≡ premium_of (cover_by covered) (cap_by covered)
+premium_of_row basis key covered premium cover row right =
+    let here = rw (← row) at cover.is.row in
+    rw (cover.is.own, cover.is.next, cover.is.interest) (right cover.entry covered.shape here cover.shape)

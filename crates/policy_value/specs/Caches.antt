@@ -5,31 +5,33 @@ use Rattle.std.specs.Set.{remove_key}
 use Rattle.policy_value.specs.contracts.key.CacheKeyPartialEq.TheImpl.{eq-value}
 use Rattle.rate_table.specs.Rates.{Rates}
 use Rattle.rate_table.specs.declared.shape.Shape.{Shape}
+use Rattle.select_rates.specs.Along.{table_along}
 use Rattle.plan_benefits.specs.Shapes.{shape_of}
-use Rattle.present_value.specs.Sums.{cover_of}
-use Rattle.present_value.specs.Premium.{cap_of}
 use Rattle.present_value.specs.Ends.{IsColumn}
 use Rattle.crvm_reserve.specs.Made.{premium_of}
 use Rattle.crvm_reserve.specs.declared.premium.Premium.{Premium}
 use Rattle.basis_book.specs.Dated.{Dated}
+use Rattle.policy_value.specs.Covers.{cap_along, cover_along}
 use Rattle.policy_value.specs.declared.cache.ColumnCache.{ColumnCache}
 use Rattle.policy_value.specs.declared.columns.ColumnStore.{ColumnStore}
 use Rattle.policy_value.specs.declared.columns.KeptColumn.{KeptColumn}
 use Rattle.policy_value.specs.declared.key.CacheKey.{CacheKey}
 
--- the table and the interest of the row of a basis at a place, counted from 0
-abbrev pub IsRowOf : List Dated → ℕ → Rates → ℕ → Type 0
-IsRowOf basis place table bp = (entry : Dated) × (slice_get basis place ≡ Some entry) × (table ≡ entry.table) × (bp ≡ entry.bp)
+-- the table of an age at issue and the interest, of the row of a basis at a place, counted from 0
+abbrev pub IsRowOf : List Dated → ℕ → ℕ → Rates → ℕ → Type 0
+IsRowOf basis place issue table bp =
+    (entry : Dated) × (slice_get basis place ≡ Some entry) × (table ≡ table_along entry.table issue) × (bp ≡ entry.bp)
 
--- a column holds what its row of this basis says
+-- a column holds what its row of this basis says for its age at issue
 abbrev pub IsRightColumn : List Dated → KeptColumn → Type 0
-IsRightColumn basis kept = (table : Rates) → (bp : ℕ) → IsRowOf basis kept.basis_row table bp → IsColumn table bp kept.column
+IsRightColumn basis kept =
+    (table : Rates) → (bp : ℕ) → IsRowOf basis kept.basis_row kept.issue table bp → IsColumn table bp kept.column
 
 -- a premium is what its key says by this basis
 abbrev pub IsRightPremium : List Dated → CacheKey × Premium → Type 0
-IsRightPremium basis entry = (table : Rates) → (bp : ℕ) → (shape : Shape) → IsRowOf basis entry.0.basis_row table bp
-    → shape_of entry.0.plan entry.0.age entry.0.years table ≡ Ok shape
-    → entry.1 ≡ premium_of (cover_of table shape bp) (cap_of table shape.age bp)
+IsRightPremium basis kept = (entry : Dated) → (shape : Shape) → slice_get basis kept.0.basis_row ≡ Some entry
+    → shape_of kept.0.plan kept.0.age kept.0.years entry.table ≡ Ok shape
+    → kept.1 ≡ premium_of (cover_along entry.table shape entry.bp) (cap_along entry.table shape.age entry.bp)
 
 -- a store has room for as many columns as it may hold
 pub record IsStore (store : ColumnStore) : Type 0 where

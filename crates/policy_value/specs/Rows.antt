@@ -3,18 +3,17 @@ use Rattle.std.specs.Prelude.{◌≡◌, ℕ, ◌≤◌, ◌⊎◌, min, ⊤, Li
 use Rattle.policy_types.specs.declared.policy.Policy.{Policy}
 use Rattle.policy_types.specs.declared.policy.Status.TheVariants.{InForce, PaidUp}
 use Rattle.life_dates.specs.Anniversary.{IsCompleted}
-use Rattle.rate_table.specs.Rates.{Rates}
 use Rattle.rate_table.specs.declared.shape.Shape.{Shape}
+use Rattle.select_rates.specs.declared.any.AnyTable.{AnyTable}
 use Rattle.plan_benefits.specs.Shapes.{shape_of}
 use Rattle.plan_benefits.specs.declared.fault.NotValued.{NotValued}
 use Rattle.plan_benefits.specs.declared.fault.NotValued.TheVariants.{NoBasis}
-use Rattle.present_value.specs.Sums.{cover_of}
-use Rattle.present_value.specs.Premium.{cap_of}
 use Rattle.basis_book.specs.Dated.{Dated, IsPicked}
 use Rattle.policy_value.specs.declared.worth.Row.{Row}
 use Rattle.policy_value.specs.declared.worth.Worth.{Worth}
 use Rattle.policy_value.specs.declared.worth.Worth.TheVariants.{Bounds, Both, Word}
 use Rattle.policy_value.specs.declared.worth.Measure.{Measure}
+use Rattle.policy_value.specs.Covers.{AreByDuration, cap_along, cover_along}
 use Rattle.policy_value.specs.Measures.{IsExactFor, IsWorthOf, no_reserve}
 
 -- in force, whether or not a premium is in arrears, or paid up, and issued by the day
@@ -27,10 +26,10 @@ IsYear issued on n t = (years : ℕ) × IsCompleted issued on years × (t ≡ mi
 
 -- by a table at an interest: a policy with a shape has its worth by the measure at its year, and one without has the
 -- word
-abbrev pub IsReserveOf : Policy → Rates → ℕ → ℤ → Measure → Result Shape NotValued → ℕ → Worth → Type 0
+abbrev pub IsReserveOf : Policy → AnyTable → ℕ → ℤ → Measure → Result Shape NotValued → ℕ → Worth → Type 0
 IsReserveOf policy table bp on measure (Ok shape) t worth =
     IsYear policy.issued on shape.n t
-    × IsWorthOf measure policy (cover_of table shape bp) (cap_of table shape.age bp) t worth
+    × IsWorthOf measure policy (cover_along table shape bp) (cap_along table shape.age bp) t worth
 IsReserveOf policy table bp on measure (Err word) t worth = (t ≡ 0) × (worth ≡ Word word)
 
 -- the year and the worth of an insured policy: by the last entry of the basis that had begun on its day of issue
@@ -46,11 +45,13 @@ pub record RowOf (policy : Policy) (basis : List Dated) (on : ℤ) (measure : Me
   pub insured : IsInsured policy on → IsValueOf policy basis on measure row.t row.worth
   pub uninsured : (IsInsured policy on → ⊥) → (row.t ≡ 0) × (row.worth ≡ no_reserve measure)
 
--- the bounds enclose the exact reserve of the policy's amount by the measure, to at most two cents
-abbrev pub IsExact : Measure → Policy → Rates → ℕ → ℕ → Worth → Type 0
+-- the bounds enclose the exact reserve of the policy's amount by the measure, to at most two cents; and it is by the rates
+-- of the age at issue and the duration
+abbrev pub IsExact : Measure → Policy → AnyTable → ℕ → ℕ → Worth → Type 0
 IsExact measure policy table bp t worth =
     (shape : Shape) → shape_of policy.plan policy.age policy.years table ≡ Ok shape
-    → IsExactFor measure policy (cover_of table shape bp) (cap_of table shape.age bp) t worth
+    → AreByDuration table shape.age (cover_along table shape bp) (cap_along table shape.age bp)
+    × IsExactFor measure policy (cover_along table shape bp) (cap_along table shape.age bp) t worth
 
 -- bounds are in order, and none is above the amount
 abbrev pub IsWithinAmount : ℕ → Worth → Type 0

@@ -1,13 +1,13 @@
 ghost use Rattle.std.specs.Prelude.{◌≡◌, ◌≤◌, ◌+◌, ◌*◌, [], List, All, IfSome, IfNone, IsSome, IfOk, Ok, length, min};
 ghost use Rattle.rate_table.specs.Rates.{AreRates};
-ghost use Rattle.plan_benefits.specs.Shapes.{shape_of};
-ghost use Rattle.present_value.specs.Sums.{cover_of};
-ghost use Rattle.present_value.specs.Premium.{cap_of, cap_shape};
-ghost use Rattle.crvm_reserve.specs.Made.{CanReserve, IsMadeFor, IsPaidUpFor, premium_of};
+ghost use Rattle.present_value.specs.Premium.{cap_shape};
+ghost use Rattle.crvm_reserve.specs.Made.{IsMadeFor, IsPaidUpFor, premium_of};
 ghost use Rattle.basis_book.specs.Dated.{Dated};
-ghost use Rattle.policy_value.specs.Caches.{HasAsked, IsMissing, IsRightFor, IsRightPremium, IsRightStore, IsRowOf, KeepsKeys, kept_keys, most_keys};
+ghost use Rattle.policy_value.specs.Caches.{HasAsked, IsMissing, IsRightFor, IsRightPremium, IsRightStore, KeepsKeys, kept_keys, most_keys};
+ghost use Rattle.policy_value.specs.inside.Covered.{IsCovered, IsCoverOf, cap_by, cover_by};
 
 use crate::columns::ColumnStore;
+use crate::covered::Covered;
 use crate::key::CacheKey;
 use basis_book::Basis;
 use crvm_reserve::Premium;
@@ -73,54 +73,38 @@ impl ColumnCache {
         self.unkept
     }
 
-    /// The values of a shape at year `t` and its modified net premium, by a row of the basis.
+    /// The values of a cover at year `t` and its modified net premium.
     pub fn priced(
         &mut self,
         basis: &Basis,
         key: CacheKey,
-        table: &RateTable,
-        bp: u16,
-        shape: &Shape,
+        covered: &Covered<'_>,
         t: u8,
     ) -> (Values, Premium)
         requires right { IsRightFor basis.now self.old }
-        requires row { IsRowOf basis.now key.basis_row table.now bp }
-        requires shape { shape_of key.plan key.age key.years table.now ≡ Ok shape.now }
-        requires can { CanReserve table.now shape.now bp }
-        requires year { t ≤ shape.now.n }
-        ensures made { IsMadeFor (cover_of table.now shape.now bp) (cap_of table.now shape.now.age bp) t
-            result.0 result.1 }
+        requires cover { IsCoverOf basis.now key.plan key.age key.years covered.now }
+        requires row { key.basis_row ≡ covered.now.own.basis_row }
+        requires year { t ≤ covered.now.shape.n }
+        ensures made { IsMadeFor (cover_by covered.now) (cap_by covered.now) t result.0 result.1 }
         ensures right { IsRightFor basis.now self.new }
         ensures keys { HasAsked key self.old self.new }
     {
-        let cap = shape_of_cap(table, shape.age);
-        let premium = self.premium(basis, key, table, bp, shape, &cap);
-        let values = self
-            .columns
-            .values(basis, key.basis_row, table, bp, shape, t);
+        let cap = shape_of_cap(covered.next.table, covered.shape.age);
+        let premium = self.premium(basis, key, covered, &cap);
+        let values = self.columns.values(basis, &covered.own, &covered.shape, t);
         (values, premium)
     }
 
-    /// The values of a shape at year `t`, by a row of the basis.
-    pub fn valued(
-        &mut self,
-        basis: &Basis,
-        basis_row: u16,
-        table: &RateTable,
-        bp: u16,
-        shape: &Shape,
-        t: u8,
-    ) -> Values
+    /// The values of a cover at year `t`.
+    pub fn valued(&mut self, basis: &Basis, covered: &Covered<'_>, t: u8) -> Values
         requires right { IsRightFor basis.now self.old }
-        requires row { IsRowOf basis.now basis_row table.now bp }
-        requires can { CanReserve table.now shape.now bp }
-        requires year { t ≤ shape.now.n }
-        ensures made { IsPaidUpFor (cover_of table.now shape.now bp) t result }
+        requires cover { (entry : Dated) × IsCovered basis.now entry covered.now }
+        requires year { t ≤ covered.now.shape.n }
+        ensures made { IsPaidUpFor (cover_by covered.now) t result }
         ensures right { IsRightFor basis.now self.new }
         ensures keys { KeepsKeys self.old self.new }
     {
-        let _ = shape_of_cap(table, shape.age);
-        self.columns.values(basis, basis_row, table, bp, shape, t)
+        self.columns.values(basis, &covered.own, &covered.shape, t)
     }
 
     /// The premium of a key, which is the last used from now on.
@@ -128,27 +112,21 @@ impl ColumnCache {
         &mut self,
         basis: &Basis,
         key: CacheKey,
-        table: &RateTable,
-        bp: u16,
-        shape: &Shape,
+        covered: &Covered<'_>,
         cap: &Shape,
     ) -> Premium
         requires right { IsRightFor basis.now self.old }
-        requires row { IsRowOf basis.now key.basis_row table.now bp }
-        requires shape { shape_of key.plan key.age key.years table.now ≡ Ok shape.now }
-        requires can { CanReserve table.now shape.now bp }
-        requires cap { cap.now ≡ cap_shape table.now shape.now.age }
-        requires ages { AreRates table.now }
-        ensures premium { result ≡ premium_of (cover_of table.now shape.now bp) (cap_of table.now shape.now.age bp) }
+        requires cover { IsCoverOf basis.now key.plan key.age key.years covered.now }
+        requires row { key.basis_row ≡ covered.now.own.basis_row }
+        requires cap { cap.now ≡ cap_shape covered.now.next.table.now covered.now.shape.age }
+        ensures premium { result ≡ premium_of (cover_by covered.now) (cap_by covered.now) }
         ensures right { IsRightFor basis.now self.new }
         ensures keys { HasAsked key self.old self.new }
     {
         if let Some(premium) = self.find(key) {
             return premium;
         }
-        let premium = self
-            .columns
-            .premium(basis, key.basis_row, table, bp, shape, cap);
+        let premium = self.columns.premium(basis, covered, cap);
         self.keep(key, premium);
         premium
     }

@@ -3,13 +3,15 @@ ghost use Rattle.std.specs.Prelude.{◌≡◌, ◌+◌, ◌≤◌, ◌<◌, ◌�
 ghost use Rattle.rate_table.specs.Rates.{AreRates};
 ghost use Rattle.basis_book.specs.Dated.{Dated};
 ghost use Rattle.present_value.specs.Sums.{cover_of};
-ghost use Rattle.present_value.specs.Premium.{cap_of, cap_shape};
-ghost use Rattle.crvm_reserve.specs.Made.{CanReserve, premium_of};
+ghost use Rattle.present_value.specs.Premium.{cap_shape};
+ghost use Rattle.crvm_reserve.specs.Made.{premium_of};
 ghost use Rattle.present_value.specs.Ends.{AreValuesAt, CanEnd, IsColumn, value_to};
 ghost use Rattle.present_value.specs.Values.{CanValue};
-ghost use Rattle.policy_value.specs.Caches.{IsRowOf, IsRightColumn, IsRightStore, IsStore};
+ghost use Rattle.policy_value.specs.Caches.{IsRightColumn, IsRightStore, IsStore};
+ghost use Rattle.policy_value.specs.inside.Covered.{IsByRow, IsCovered, cap_by, cover_by};
 ghost use Rattle.policy_value.specs.inside.Kept.{IsKeptOf, IsKeptAt, IsNew};
 
+use crate::covered::{Covered, IssueRates};
 use basis_book::Basis;
 use crvm_reserve::{Premium, PremiumParts, premium_by};
 use policy_types::NoMemory;
@@ -20,18 +22,21 @@ use std::alloc::Global;
 /// So many columns can be found at a time.
 const SLOTS: usize = 8192;
 
-/// What a column depends on: the row of the basis, counted from 0, what is paid, and the age at which that ends.
+/// What a column depends on: the row of the basis, counted from 0, the age at issue by which its rates are kept, what is
+/// paid, and the age at which that ends.
 #[derive(Clone, Copy, PartialEq, Eq, Debug)]
 pub struct ColumnKey {
     pub basis_row: u16,
+    pub issue: u8,
     pub stream: Stream,
     pub end: u8,
 }
 
-/// A column, and the row of the basis by which it is computed.
+/// A column, and the row of the basis and the age at issue by which it is computed.
 #[derive(Clone, Copy)]
 pub struct KeptColumn {
     basis_row: u16,
+    issue: u8,
     column: Column,
 }
 
@@ -53,6 +58,7 @@ impl KeptColumn {
     {
         KeptColumn {
             basis_row: key.basis_row,
+            issue: key.issue,
             column: Column::new(key.stream, key.end),
         }
     }
@@ -63,13 +69,16 @@ impl KeptColumn {
         ensures { IsNew key self.new }
     {
         self.basis_row = key.basis_row;
+        self.issue = key.issue;
         self.column.restart(key.stream, key.end);
     }
 
     fn is_of(&self, key: ColumnKey) -> bool
         ensures { IsTrue result ↔ IsKeptOf self.now key }
     {
-        self.basis_row == key.basis_row && self.column.is_of(key.stream, key.end)
+        self.basis_row == key.basis_row
+            && self.issue == key.issue
+            && self.column.is_of(key.stream, key.end)
     }
 }
 
@@ -95,81 +104,76 @@ impl ColumnStore {
         })
     }
 
-    /// The modified net premium of a shape by a row of the basis, with the shape of its cap.
-    pub fn premium(
-        &mut self,
-        basis: &Basis,
-        basis_row: u16,
-        table: &RateTable,
-        bp: u16,
-        shape: &Shape,
-        cap: &Shape,
-    ) -> Premium
+    /// The modified net premium of a cover, with the shape of its cap.
+    pub fn premium(&mut self, basis: &Basis, covered: &Covered<'_>, cap: &Shape) -> Premium
         requires right { IsRightStore basis.now self.old }
-        requires row { IsRowOf basis.now basis_row table.now bp }
-        requires can { CanReserve table.now shape.now bp }
-        requires cap { cap.now ≡ cap_shape table.now shape.now.age }
-        requires ages { AreRates table.now }
-        ensures premium { result ≡ premium_of (cover_of table.now shape.now bp) (cap_of table.now shape.now.age bp) }
+        requires cover { (entry : Dated) × IsCovered basis.now entry covered.now }
+        requires cap { cap.now ≡ cap_shape covered.now.next.table.now covered.now.shape.age }
+        ensures premium { result ≡ premium_of (cover_by covered.now) (cap_by covered.now) }
         ensures right { IsRightStore basis.now self.new }
     {
+        let own = &covered.own;
+        let shape = &covered.shape;
         premium_by(PremiumParts {
-            rate: table.rate(shape.age).unwrap(),
-            bp,
-            issue: self.values(basis, basis_row, table, bp, shape, 0),
-            renewal: self.values(basis, basis_row, table, bp, shape, 1),
-            limit: self.values(basis, basis_row, table, bp, cap, 0),
+            rate: own.table.rate(shape.age).unwrap(),
+            bp: own.bp,
+            issue: self.values(basis, own, shape, 0),
+            renewal: self.values(basis, own, shape, 1),
+            limit: self.values(basis, &covered.next, cap, 0),
         })
     }
 
-    /// The values of a shape at year `t`, by a row of the basis.
+    /// The values of a shape at year `t`, by rates of a row of the basis.
     pub fn values(
         &mut self,
         basis: &Basis,
-        basis_row: u16,
-        table: &RateTable,
-        bp: u16,
+        rates: &IssueRates<'_>,
         shape: &Shape,
         t: u8,
     ) -> Values
         requires right { IsRightStore basis.now self.old }
-        requires row { IsRowOf basis.now basis_row table.now bp }
-        requires can { CanValue table.now shape.now bp }
+        requires row { IsByRow basis.now rates.now }
+        requires can { CanValue rates.now.table.now shape.now rates.now.bp }
         requires year { t ≤ shape.now.n }
-        requires ages { AreRates table.now }
-        ensures values { AreValuesAt (cover_of table.now shape.now bp) t result }
+        ensures values { AreValuesAt (cover_of rates.now.table.now shape.now rates.now.bp) t result }
+        ensures ages { AreRates rates.now.table.now }
         ensures right { IsRightStore basis.now self.new }
     {
+        // That no age is above 130.
+        let _ = rates.table.last_age();
         let benefits = ColumnKey {
-            basis_row,
+            basis_row: rates.basis_row,
+            issue: rates.issue,
             stream: Stream::of_benefits(shape.matures),
             end: shape.age + shape.n,
         };
-        let ben = self.value(basis, table, bp, benefits, shape.age + t);
+        let ben = self.value(basis, rates, benefits, shape.age + t);
         if t >= shape.h {
             let ann = Pair { lo: 0, hi: 0 };
             return Values { ben, ann };
         }
         let premiums = ColumnKey {
-            basis_row,
+            basis_row: rates.basis_row,
+            issue: rates.issue,
             stream: Stream::Annuity,
             end: shape.age + shape.h,
         };
-        let ann = self.value(basis, table, bp, premiums, shape.age + t);
+        let ann = self.value(basis, rates, premiums, shape.age + t);
         Values { ben, ann }
     }
 
     /// The value at an age in the column of a key.
-    fn value(&mut self, basis: &Basis, table: &RateTable, bp: u16, key: ColumnKey, age: u8) -> Pair
+    fn value(&mut self, basis: &Basis, rates: &IssueRates<'_>, key: ColumnKey, age: u8) -> Pair
         requires right { IsRightStore basis.now self.old }
-        requires row { IsRowOf basis.now key.basis_row table.now bp }
-        requires can { CanEnd table.now bp key.end age }
+        requires row { IsByRow basis.now rates.now }
+        requires key { (key.basis_row ≡ rates.now.basis_row) × (key.issue ≡ rates.now.issue) }
+        requires can { CanEnd rates.now.table.now rates.now.bp key.end age }
         requires end { key.end ≤ 131 }
-        ensures value { result ≡ value_to table.now bp key.stream key.end age }
+        ensures value { result ≡ value_to rates.now.table.now rates.now.bp key.stream key.end age }
         ensures right { IsRightStore basis.now self.new }
     {
         let place = self.place_of(key);
-        self.kept[place].column.at(table, bp, age)
+        self.kept[place].column.at(rates.table, rates.bp, age)
     }
 
     /// Where the column of a key lies, which is kept from now on.
@@ -222,5 +226,6 @@ fn slot_of(key: ColumnKey) -> usize
         Stream::Endowment => 1,
         Stream::Annuity => 2,
     };
-    ((key.basis_row as usize * 3 + stream) * 132 + key.end as usize) % SLOTS
+    let row = key.basis_row as usize + key.issue as usize;
+    ((row * 3 + stream) * 132 + key.end as usize) % SLOTS
 }

@@ -3,6 +3,7 @@
 
 mod cache;
 mod columns;
+mod covered;
 mod key;
 mod measures;
 mod valuing;

@@ -1,21 +1,22 @@
-ghost use Rattle.std.specs.Prelude.{◌≡◌, ◌≤◌, ◌≤ℤ◌, ◌↔◌, ℕ, Ok, IsTrue};
+ghost use Rattle.std.specs.Prelude.{◌≡◌, ◌≤◌, ◌≤ℤ◌, ◌↔◌, ℕ, Ok, Some, IsTrue, slice_get};
 ghost use Rattle.basis_book.specs.Dated.{Dated, IsPicked};
 ghost use Rattle.policy_types.specs.Valid.{IsIssue};
 ghost use Rattle.plan_benefits.specs.Shapes.{shape_of};
 ghost use Rattle.rate_table.specs.declared.shape.Shape.{Shape as AShape};
-ghost use Rattle.policy_value.specs.Caches.{IsRightFor, IsRowOf};
+ghost use Rattle.policy_value.specs.Caches.{IsRightFor};
 ghost use Rattle.policy_value.specs.Used.{UsesCache, AsksByBasis, AsksByShape};
 ghost use Rattle.policy_value.specs.Measures.{most_worth};
 ghost use Rattle.policy_value.specs.Rows.{IsInsured, IsValueOf, IsReserveOf, IsWithinAmount, RowOf, IsExact};
 
 use crate::cache::ColumnCache;
+use crate::covered::{Covered, IssueRates};
 use crate::measures::worth_by;
 use crate::worth::{Measure, Row, Worth};
 use basis_book::Basis;
 use life_dates::completed;
-use plan_benefits::{NotValued, shape};
+use plan_benefits::{NotValued, shape_along};
 use policy_types::{Policy, Status};
-use rate_table::RateTable;
+use select_rates::AnyTable;
 
 /// The row of a policy in a valuation by a measure on a day, in days since 1970-01-01.
 ///
@@ -85,12 +86,12 @@ fn value_by_basis(
     }
 }
 
-/// The year and the worth of an insured policy by a table, at an interest in basis points.
+/// The year and the worth of an insured policy by the table of a row of the basis, at an interest in basis points.
 fn value_by_table(
     policy: &Policy,
     basis: &Basis,
     basis_row: u16,
-    table: &RateTable,
+    table: &AnyTable,
     bp: u16,
     on: i32,
     measure: Measure,
@@ -99,7 +100,8 @@ fn value_by_table(
     requires sound { IsIssue policy.now.id policy.now.issued policy.now.plan policy.now.age policy.now.years
         policy.now.amount policy.now.premium }
     requires issued { policy.now.issued ≤ℤ on }
-    requires row { IsRowOf basis.now basis_row table.now bp }
+    requires row { (entry : Dated) × (slice_get basis.now basis_row ≡ Some entry) × (table.now ≡ entry.table)
+        × (bp ≡ entry.bp) }
     requires interest { bp ≤ 2000 }
     requires right { IsRightFor basis.now cache.old }
     ensures value { IsReserveOf policy.now table.now bp on measure
@@ -110,12 +112,15 @@ fn value_by_table(
     ensures keys { AsksByShape policy.now basis_row
         (shape_of policy.now.plan policy.now.age policy.now.years table.now) cache.old cache.new }
 {
-    match shape(policy.plan, policy.age, policy.years, table) {
+    match shape_along(policy.plan, policy.age, policy.years, table) {
         Ok(shape) => {
+            let covered = Covered {
+                own: IssueRates::of(basis_row, table, bp, shape.age),
+                next: IssueRates::of(basis_row, table, bp, shape.age + 1),
+                shape,
+            };
             let t = completed(policy.issued, on).min(shape.n);
-            let worth = worth_by(
-                policy, basis, basis_row, table, bp, &shape, t, measure, cache,
-            );
+            let worth = worth_by(policy, basis, &covered, t, measure, cache);
             (t, worth)
         }
         Err(word) => (0, Worth::Word(word)),

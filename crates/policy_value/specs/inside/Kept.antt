@@ -7,7 +7,7 @@ use Rattle.policy_value.specs.declared.columns.KeptColumn.{KeptColumn}
 
 -- the column is that of a key
 abbrev pub IsKeptOf : KeptColumn → ColumnKey → Type 0
-IsKeptOf kept key = (kept.basis_row ≡ key.basis_row) × IsOf kept.column key.stream key.end
+IsKeptOf kept key = (kept.basis_row ≡ key.basis_row) × (kept.issue ≡ key.issue) × IsOf kept.column key.stream key.end
 
 -- a column that knows only its last value is right by each basis
 pub record IsNew (key : ColumnKey) (kept : KeptColumn) : Type 0 where

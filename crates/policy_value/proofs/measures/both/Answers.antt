@@ -2,10 +2,9 @@ use Rattle.std.proofs.Common.{rules, ◌≡◌, ◌≤◌, ◌+◌, ◌<◌, ℕ
 use Rattle.policy_types.specs.declared.policy.Status.{Status}
 use Rattle.policy_types.specs.declared.policy.Status.TheVariants.{InForce}
 use Rattle.present_value.specs.Fractions.{Between}
-use Rattle.present_value.specs.Premium.{beta, cap_of}
+use Rattle.present_value.specs.Premium.{beta}
 use Rattle.present_value.specs.Reserve.{Encloses}
 use Rattle.present_value.specs.Rounding.{UNIT}
-use Rattle.present_value.specs.Sums.{cover_of}
 use Rattle.present_value.proofs.Steps.{ordered}
 use Rattle.crvm_reserve.specs.Rounded.{beta_lo, beta_hi}
 use Rattle.crvm_reserve.specs.declared.premium.Premium.{Premium}
@@ -16,15 +15,16 @@ use Rattle.deficiency_reserve.specs.declared.answer.Adequacy.{Adequacy}
 use Rattle.deficiency_reserve.proofs.Bounds.{has_ordinary}
 use Rattle.policy_value.specs.Measures.{both_bounds, exact_minimum, exact_reserve}
 use Rattle.policy_value.proofs.Statuses.{least-other}
+use Rattle.policy_value.specs.inside.Covered.{cap_by, cover_by}
 use Rattle.policy_value.proofs.measures.both.Goals as goal
 use Rattle.policy_value.proofs.measures.both.Goals.{then-ne-via-then-ne, then-ne-via-else-ne+then-t-shape}
 
 pub returns-then-ne-clause-exact : goal.returns-then-ne-clause-exact
 returns-then-ne-clause-exact c =
     let policy = c.args.policy.now in
-    let cover = cover_of c.args.table.now c.args.shape.now c.args.bp in
-    let cap = cap_of c.args.table.now c.args.shape.now.age c.args.bp in
-    let paid : policy.status ≡ InForce → c.args.shape.now.h ≤ c.args.t = elim c.then-ne.branch [
+    let cover = cover_by c.args.covered.now in
+    let cap = cap_by c.args.covered.now in
+    let paid : policy.status ≡ InForce → c.args.covered.now.shape.h ≤ c.args.t = elim c.then-ne.branch [
       | then-ne-via-then-ne w ↦ search rules
       | then-ne-via-else-ne+then-t-shape w ↦ λ is. omega (arith, w.if-t-shape.true)
     ] in
@@ -37,8 +37,8 @@ returns-then-ne-clause-exact c =
 
 pub minimum_by-min_lo-requires-clause-made : goal.minimum_by-min_lo-requires-clause-made
 minimum_by-min_lo-requires-clause-made c =
-    let cover = cover_of c.args.table.now c.args.shape.now c.args.bp in
-    let cap = cap_of c.args.table.now c.args.shape.now.age c.args.bp in
+    let cover = cover_by c.args.covered.now in
+    let cap = cap_by c.args.covered.now in
     let made = c.priced.ensures.made in
     record {
       cover = cover;
@@ -51,11 +51,11 @@ minimum_by-min_lo-requires-clause-made c =
 pub returns-clause-both : goal.returns-clause-both
 returns-clause-both c =
     let policy = c.args.policy.now in
-    let cover = cover_of c.args.table.now c.args.shape.now c.args.bp in
-    let cap = cap_of c.args.table.now c.args.shape.now.age c.args.bp in
+    let cover = cover_by c.args.covered.now in
+    let cap = cap_by c.args.covered.now in
     let made = c.priced.ensures.made in
     let in_force : policy.status ≡ InForce = search rules in
-    let due : c.args.t < c.args.shape.now.h = omega (arith, c.if-t-shape.false) in
+    let due : c.args.t < c.args.covered.now.shape.h = omega (arith, c.if-t-shape.false) in
     let ordinary = c.bounds_by-lo.result in
     let has = has_ordinary cover cap c.args.t c.priced.result.0 c.priced.result.1 ordinary policy.amount made (c.bounds_by-lo.ensures.exact cover cap c.args.t made) in
     record {
@@ -71,8 +71,8 @@ returns-clause-both c =
 pub returns-clause-exact : goal.returns-clause-exact
 returns-clause-exact c =
     let policy = c.args.policy.now in
-    let cover = cover_of c.args.table.now c.args.shape.now c.args.bp in
-    let cap = cap_of c.args.table.now c.args.shape.now.age c.args.bp in
+    let cover = cover_by c.args.covered.now in
+    let cap = cap_by c.args.covered.now in
     let made = c.priced.ensures.made in
     let in_force : policy.status ≡ InForce = search rules in
     let ordinary = c.bounds_by-lo.result in
@@ -90,8 +90,8 @@ returns-clause-exact c =
 
 pub returns-clause-most : goal.returns-clause-most
 returns-clause-most c =
-    let cover = cover_of c.args.table.now c.args.shape.now c.args.bp in
-    let cap = cap_of c.args.table.now c.args.shape.now.age c.args.bp in
+    let cover = cover_by c.args.covered.now in
+    let cap = cap_by c.args.covered.now in
     let made = c.priced.ensures.made in
     let encloses = c.bounds_by-lo.ensures.exact cover cap c.args.t made in
     let has = has_ordinary cover cap c.args.t c.priced.result.0 c.priced.result.1 c.bounds_by-lo.result c.args.policy.now.amount made encloses in (

@@ -1,29 +1,28 @@
 use Rattle.std.proofs.Common.{rules, ◌≡◌, ◌<◌, refl, ◌∙◌, sym, arith}
 use Rattle.policy_types.specs.declared.policy.Status.TheVariants.{PaidUp}
-use Rattle.present_value.specs.Premium.{cap_of}
-use Rattle.present_value.specs.Sums.{cover_of}
 use Rattle.policy_value.proofs.Statuses.{exact-end, mean-other, rounded-end}
+use Rattle.policy_value.specs.inside.Covered.{cap_by, cover_by}
 use Rattle.policy_value.proofs.measures.mean.Goals as goal
 
 pub returns-then-t-shape-clause-rounded : goal.returns-then-t-shape-clause-rounded
 returns-then-t-shape-clause-rounded c =
-    let cover = cover_of c.args.table.now c.args.shape.now c.args.bp in
-    let cap = cap_of c.args.table.now c.args.shape.now.age c.args.bp in
+    let cover = cover_by c.args.covered.now in
+    let cap = cap_by c.args.covered.now in
     c.bounds.ensures.rounded ∙ sym (rounded-end c.args.policy.now.status cover cap c.args.policy.now.amount c.args.t (omega (arith, c.if-t-shape.true)))
 
 pub returns-then-t-shape-clause-exact : goal.returns-then-t-shape-clause-exact
 returns-then-t-shape-clause-exact c =
-    let cover = cover_of c.args.table.now c.args.shape.now c.args.bp in
-    let cap = cap_of c.args.table.now c.args.shape.now.age c.args.bp in
+    let cover = cover_by c.args.covered.now in
+    let cap = cap_by c.args.covered.now in
     rw (exact-end c.args.policy.now.status cover cap c.args.t (omega (arith, c.if-t-shape.true))) c.bounds.ensures.exact
 
 pub returns-then-ne-clause-exact : goal.returns-then-ne-clause-exact
 returns-then-ne-clause-exact c =
-    let cover = cover_of c.args.table.now c.args.shape.now c.args.bp in
-    let cap = cap_of c.args.table.now c.args.shape.now.age c.args.bp in
+    let cover = cover_by c.args.covered.now in
+    let cap = cap_by c.args.covered.now in
     let made = c.priced.ensures.made in
     let other : c.args.policy.now.status ≡ PaidUp → ⊥ = search rules in
-    let before : c.args.t < c.args.shape.now.n = search rules in
+    let before : c.args.t < c.args.covered.now.shape.n = search rules in
     rw (mean-other c.args.policy.now.status cover cap c.args.t other)
     (c.mean_by.ensures.exact cover cap c.args.t (record {
       reserved = made.reserved;

@@ -1,5 +1,5 @@
 use Rattle.policy_value.proofs.Asking.{asked_from}
-use Rattle.policy_value.proofs.Keeping.{premium_by_row}
+use Rattle.policy_value.proofs.Keeping.{premium_by_row, premium_of_row}
 use Rattle.policy_value.proofs.cache.ColumnCache.premium.Goals as goal
 
 pub returns-clause-right : goal.returns-clause-right
@@ -7,14 +7,15 @@ returns-clause-right c =
     let basis = c.args.basis.now in
     record {
       premiums = c.keep.ensures.right basis
-          (premium_by_row basis c.args.table.now c.args.bp c.args.key c.args.shape.now c.premium-premium.result c.requires.row c.requires.shape c.premium-premium.ensures.premium)
+          (premium_by_row basis c.args.key c.args.covered.now c.premium-premium.result c.requires.cover c.requires.row c.premium-premium.ensures.premium)
           (c.find.ensures.right basis c.requires.right.premiums);
       columns = rw c.keep.ensures.columns c.premium-premium.ensures.right;
     }
 
 pub returns-in-Some-clause-premium : goal.returns-in-Some-clause-premium
 returns-in-Some-clause-premium c =
-    c.in-Some.ensures.found c.args.basis.now c.requires.right.premiums c.args.table.now c.args.bp c.args.shape.now c.requires.row c.requires.shape
+    premium_of_row c.args.basis.now c.args.key c.args.covered.now _ c.requires.cover c.requires.row
+    (c.in-Some.ensures.found c.args.basis.now c.requires.right.premiums)
 
 pub returns-in-Some-clause-right : goal.returns-in-Some-clause-right
 returns-in-Some-clause-right c = record {

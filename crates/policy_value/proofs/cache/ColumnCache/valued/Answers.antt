@@ -1,7 +1,7 @@
-use Rattle.crvm_reserve.proofs.Tables.{reserved}
+use Rattle.policy_value.proofs.Covering.{paid_up_for}
 use Rattle.policy_value.proofs.cache.ColumnCache.valued.Goals as goal
 
 pub returns-clause-made : goal.returns-clause-made
 returns-clause-made c =
-    let is = reserved c.args.table.now c.args.shape.now c.args.bp c.shape_of_cap.ensures.ages c.requires.can in
-    record { within = c.requires.year; years = is.years; rates = is.rates; values_are = c.values.ensures.values }
+    let covered = c.args.covered.now in
+    paid_up_for covered.own.table.now covered.shape covered.own.bp c.args.t _ c.values.ensures.ages c.requires.cover.1.can c.requires.year c.values.ensures.values

@@ -1,0 +1,20 @@
+-- The cover of a policy by a table of either kind, and the cover that limits its net premium.
+use Rattle.std.specs.Prelude.{ℕ, ◌+◌, ◌<◌}
+use Rattle.rate_table.specs.declared.shape.Shape.{Shape}
+use Rattle.select_rates.specs.Along.{IsRateOf, table_along}
+use Rattle.select_rates.specs.declared.any.AnyTable.{AnyTable}
+use Rattle.present_value.specs.Sums.{Cover, cover_of}
+use Rattle.present_value.specs.Premium.{cap_of}
+
+-- by the rates of the age at issue
+abbrev pub cover_along : AnyTable → Shape → ℕ → Cover
+cover_along table shape bp = cover_of (table_along table shape.age) shape bp
+
+-- the cap is a policy that is issued a year later, and by the rates of that age at issue
+abbrev pub cap_along : AnyTable → ℕ → ℕ → Cover
+cap_along table age bp = cap_of (table_along table (age + 1)) age bp
+
+-- the rate of each year is that of its age at issue and its duration
+pub record AreByDuration (table : AnyTable) (age : ℕ) (c cap : Cover) : Type 0 where
+  pub own : (k : ℕ) → k < c.n → IsRateOf table age k (c.rates k)
+  pub next : (k : ℕ) → k < cap.n → IsRateOf table (age + 1) k (cap.rates k)
