@@ -3,11 +3,11 @@ use Rattle.std.proofs.Common.{◌≡◌, ◌⊎◌, inl, inr, ℕ, ◌+◌, ◌<
 use Rattle.std.specs.List.{AllZip}
 use Rattle.std.proofs.lemmas.Bool.{cases_lt}
 use Rattle.std.proofs.lemmas.List.Elements.{All-nil, All-push}
-use Rattle.rate_table.specs.Rates.{Rates}
+use Rattle.select_rates.specs.declared.any.AnyTable.{AnyTable}
 use Rattle.xtbml_subset.specs.declared.fault.TableKind.{TableKind}
 use Rattle.xtbml_subset.specs.declared.fault.TableKind.TheVariants as kind
 use Rattle.xtbml_subset.specs.declared.fault.TableFault.TheVariants as table
-use Rattle.xtbml_subset.specs.Answers.{SpellsTable, IsTableAnswer}
+use Rattle.xtbml_subset.specs.AnyChecks.{SpellsAny, IsAnyAnswer}
 use Rattle.basis_book.specs.declared.row.BasisRow.{BasisRow}
 use Rattle.basis_book.specs.Dated.{Dated}
 use Rattle.basis_book.specs.File.{IsBasisFile}
@@ -18,7 +18,8 @@ use Rattle.basis_shelf.specs.Files.{IsAbsent, IsTooLong, IsFile}
 use Rattle.basis_shelf.specs.Bases.{HasTable, AreRowsNamed, IsEntry, IsBasis}
 use Rattle.basis_shelf.specs.FirstBad.{IsNoTable, IsBadBook, IsBadTable, IsFirstBadRow, IsFirstBadFile}
 use Rattle.basis_shelf.specs.inside.Parts.{word_of}
-use Rattle.basis_shelf.proofs.EitherTable.{table_or_fault}
+use Rattle.basis_shelf.proofs.EitherAny.{any_or_fault}
+use Rattle.basis_shelf.proofs.NeverSelect.{told_fault}
 use Rattle.basis_shelf.proofs.EitherBook.{HasFault, rows_or_fault}
 
 -- ---- a file
@@ -61,21 +62,24 @@ Table files name number = HasTable files name ⊎ ((word : BasisWord) × (place 
 bad_table : (files : List ℕ → Option (List ℕ)) (name : List ℕ) (number place : ℕ) (what : TableKind) → IsNoTable files name place what → IsBadTable files name number (word_of what) place
 bad_table files name number place kind.NotDocument h = h
 bad_table files name number place kind.NoTable h = h
-bad_table files name number place kind.Select h = h
+bad_table files name number place kind.Select h = absurd (told_fault h.0 (table.Bad place kind.Select) h.2)
 bad_table files name number place kind.Scaled h = h
 bad_table files name number place kind.BadAge h = h
 bad_table files name number place kind.AgeGap h = h
 bad_table files name number place kind.BadRate h = h
+bad_table files name number place kind.BadDuration h = h
+bad_table files name number place kind.NoUltimate h = h
+bad_table files name number place kind.UltimateGap h = h
 
 table_of : (files : List ℕ → Option (List ℕ)) (name : List ℕ) (number : ℕ) (bytes : List ℕ) → IsFile files name bytes
-    → ((rates : Rates) × SpellsTable bytes rates) ⊎ ((at : ℕ) × (what : TableKind) × IsTableAnswer bytes (Err (table.Bad at what))) → Table files name number
+    → ((one : AnyTable) × SpellsAny bytes one) ⊎ ((at : ℕ) × (what : TableKind) × IsAnyAnswer bytes (Err (table.Bad at what))) → Table files name number
 table_of files name number bytes h (inl t) = inl (t.0, (bytes, h, t.1))
 table_of files name number bytes h (inr bad) = inr (word_of bad.1, bad.0, bad_table files name number bad.0 bad.1 (bytes, h, bad.2))
 
 table_named : (files : List ℕ → Option (List ℕ)) (name : List ℕ) (number : ℕ) → Shelved files name → Table files name number
 table_named files name number (inl absent) = inr (Absent, number, (absent, refl))
 table_named files name number (inr (inl long)) = inr (TooLong, number, (long, refl))
-table_named files name number (inr (inr file)) = table_of files name number file.0 file.1 (table_or_fault file.0)
+table_named files name number (inr (inr file)) = table_of files name number file.0 file.1 (any_or_fault file.0)
 
 -- ---- the tables of all rows
 

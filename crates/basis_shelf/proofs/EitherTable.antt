@@ -19,7 +19,7 @@ use Rattle.xtbml_subset.proofs.Final.{fault_due}
 use Rattle.basis_shelf.proofs.EitherRate.{Decided, both, either, rate_or_none, is_rate_or_not}
 
 -- a value is right, or a fault at a place is
-abbrev Answered : {A : Type 0} → (Result A TableFault → Type 0) → Type 0
+abbrev pub Answered : {A : Type 0} → (Result A TableFault → Type 0) → Type 0
 Answered {A} Is = ((value : A) × Is (Ok value)) ⊎ ((at : ℕ) × (what : TableKind) × Is (Err (Bad at what)))
 
 -- ---- the factor
@@ -40,13 +40,13 @@ scale_by : (row : RateElement) → Decided (IsUnscaled row.text) → Answered (I
 scale_by row (inl h) = inl (tt, h)
 scale_by row (inr scaled) = inr (row.at, Scaled, (scaled, refl))
 
-scale : (factor : Option RateElement) → Answered (IsScale factor)
+pub scale : (factor : Option RateElement) → Answered (IsScale factor)
 scale None = inl (tt, refl)
 scale (Some row) = scale_by row (unscaled row.text)
 
 -- ---- the rows
 
-reads : (text : Option (List ℕ)) → (rate : Option ℕ) × ReadsRate text rate
+pub reads : (text : Option (List ℕ)) → (rate : Option ℕ) × ReadsRate text rate
 reads None = (None, refl)
 reads (Some text) = elim (rate_or_none (trimmed text)) [ inl r ↦ (Some r.0, r.1) | inr none ↦ (None, none) ]
 
@@ -68,7 +68,7 @@ rows_behind : (due : Option ℕ) (row : RateElement) (rows : List RateElement) (
 rows_behind due row rows one h (inl more) = inl (one.1 ∷ more.0, (Ok one, h, (Ok more.0, more.1, refl)))
 rows_behind due row rows one h (inr bad) = inr (bad.0, bad.1, (Ok one, h, (Err (Bad bad.0 bad.1), bad.2, refl)))
 
-rows_read : (due : Option ℕ) (rows : List RateElement) → Answered (ReadsRows due rows)
+pub rows_read : (due : Option ℕ) (rows : List RateElement) → Answered (ReadsRows due rows)
 rows_read due [] = inl ([], refl)
 rows_read due (row ∷ rows) = elim (row_read due row) [
   | inl one ↦ rows_behind due row rows one.0 one.1 (rows_read (Some (one.0.0 + 1)) rows)
@@ -78,12 +78,12 @@ rows_read due (row ∷ rows) = elim (row_read due row) [
 -- ---- the path to the rates
 
 -- a fault of the file has a place
-abbrev IsPlaced : {A : Type 0} → Result A TableFault → Type 0
+abbrev pub IsPlaced : {A : Type 0} → Result A TableFault → Type 0
 IsPlaced (Ok value) = Unit {0}
 IsPlaced (Err (Bad at what)) = Unit {0}
 IsPlaced (Err NoMemory) = ⊥
 
-placed_then : {A B : Type 0} (r : Result A TableFault) (more : A → Result B TableFault) → IsPlaced r → ((value : A) → IsPlaced (more value)) → IsPlaced (r >=> more)
+pub placed_then : {A B : Type 0} (r : Result A TableFault) (more : A → Result B TableFault) → IsPlaced r → ((value : A) → IsPlaced (more value)) → IsPlaced (r >=> more)
 placed_then (Ok value) more h k = k value
 placed_then (Err (Bad at what)) more h k = tt
 placed_then (Err NoMemory) more h k = absurd h
@@ -103,7 +103,7 @@ placed_root root = by (bytes_eq root.tag.name (codes "XTbML"))
     by true = tt
     by false = tt
 
-placed_path : (root : Node) → IsPlaced (path node_asks root)
+pub placed_path : (root : Node) → IsPlaced (path node_asks root)
 unfolding path
 placed_path root =
     placed_then (rooted node_asks root >=> λ top. within node_asks (codes "Table") top)
@@ -118,7 +118,7 @@ placed_in axis (x ∷ inner) rates = tt
 placed_in axis [] [] = tt
 placed_in axis [] (rate ∷ rates) = tt
 
-placed_rates : (axis : Node) → IsPlaced (rates_of node_asks axis)
+pub placed_rates : (axis : Node) → IsPlaced (rates_of node_asks axis)
 unfolding rates_of
 placed_rates axis = placed_in axis (node_asks.children (codes "Axis") axis) (node_asks.children (codes "Y") axis)
 
@@ -131,7 +131,7 @@ table_by : (parts : Parts) (none : Unit {0}) → IsScale parts.factor (Ok none) 
 table_by parts none s (inl r) = inl (record { first_age = first_age parts.rows; rates = r.0 }, (Ok none, s, (Ok r.0, r.1, refl)))
 table_by parts none s (inr bad) = inr (bad.0, bad.1, (Ok none, s, (Err (Bad bad.0 bad.1), bad.2, refl)))
 
-table : (parts : Result Parts TableFault) → IsPlaced parts → Answered (IsTable parts)
+pub table : (parts : Result Parts TableFault) → IsPlaced parts → Answered (IsTable parts)
 table (Err (Bad at what)) h = inr (at, what, refl)
 table (Err NoMemory) h = absurd h
 table (Ok parts) h = elim (scale parts.factor) [

@@ -5,7 +5,7 @@ use Rattle.std.specs.Bool.{Decides}
 use Rattle.std.proofs.lemmas.Bool.{cases_lt}
 use Rattle.std.proofs.lemmas.List.{take-append-drop, drop_more, length-take-le}
 use Rattle.std.proofs.lemmas.List.Elements.{All-head, All-tail, All-weaker}
-use Rattle.rate_table.specs.Rates.{Rates}
+use Rattle.select_rates.specs.declared.any.AnyTable.{AnyTable}
 use Rattle.basis_book.specs.declared.row.BasisRow.{BasisRow}
 use Rattle.basis_book.specs.Dated.{Dated, dated, IsFirstMissing}
 use Rattle.basis_shelf.specs.declared.fault.BadBasis.{BadBasis}
@@ -29,20 +29,20 @@ not_risen before mid now x e told so_far = rose_or_not before mid now x e (Ok x)
 
 -- ---- one table more
 
-pub known_still : (v : Rates) (o : Option Rates) (b : Bool) → IsSome o → IsSome (cond b (Some v) o)
+pub known_still : (v : AnyTable) (o : Option AnyTable) (b : Bool) → IsSome o → IsSome (cond b (Some v) o)
 known_still v o true h = refl
 known_still v o false h = h
 
-held_at : (files : List ℕ → Option (List ℕ)) (v : Rates) (name other : List ℕ) (o : Option Rates) (b : Bool) → Decides b (name ≡ other)
+held_at : (files : List ℕ → Option (List ℕ)) (v : AnyTable) (name other : List ℕ) (o : Option AnyTable) (b : Bool) → Decides b (name ≡ other)
     → IsTableNamed files name v → IfSome o (IsTableNamed files other) → IfSome (cond b (Some v) o) (IsTableNamed files other)
 held_at files v name other o true d h k = subst (λ (n : List ℕ). IsTableNamed files n v) (d.0 refl) h
 held_at files v name other o false d h k = k
 
-pub tables_still : (files : List ℕ → Option (List ℕ)) (v : Rates) (name : List ℕ) (before now : List ℕ → Option Rates) (same : List ℕ → List ℕ → Bool)
+pub tables_still : (files : List ℕ → Option (List ℕ)) (v : AnyTable) (name : List ℕ) (before now : List ℕ → Option AnyTable) (same : List ℕ → List ℕ → Bool)
     → ((x y : List ℕ) → Decides (same x y) (x ≡ y)) → ((other : List ℕ) → now other ≡ cond (same name other) (Some v) (before other))
     → IsTableNamed files name v → AreTables files before → AreTables files now
 tables_still files v name before now same decides is h right = λ other.
-    subst (λ (o : Option Rates). IfSome o (IsTableNamed files other)) (sym (is other))
+    subst (λ (o : Option AnyTable). IfSome o (IsTableNamed files other)) (sym (is other))
     (held_at files v name other (before other) (same name other) (decides name other) h (right other))
 
 -- ---- the first row that has no table
@@ -51,11 +51,11 @@ cut_at : (rows : List BasisRow) (i : ℕ) (row : BasisRow) → i < length rows �
 cut_at rows i row h e =
     sym (take-append-drop i rows) ∙ ap (λ (rest : List BasisRow). take i rows ++ rest) (drop_more rows i row h ∙ ap (λ (r : BasisRow). r ∷ drop (i + 1) rows) (sym e))
 
-has_table : (files : List ℕ → Option (List ℕ)) (name : List ℕ) (o : Option Rates) → IfSome o (IsTableNamed files name) → IsSome o → HasTable files name
+has_table : (files : List ℕ → Option (List ℕ)) (name : List ℕ) (o : Option AnyTable) → IfSome o (IsTableNamed files name) → IsSome o → HasTable files name
 has_table files name (Some v) h some = (v, h)
 has_table files name None h some = absurd (cc)
 
-first_row : (files : List ℕ → Option (List ℕ)) (rows : List BasisRow) (i : ℕ) (row : BasisRow) (t : List ℕ → Option Rates) (bad : BadBasis) → i < length rows → row ≡ get_or rows i row
+first_row : (files : List ℕ → Option (List ℕ)) (rows : List BasisRow) (i : ℕ) (row : BasisRow) (t : List ℕ → Option AnyTable) (bad : BadBasis) → i < length rows → row ≡ get_or rows i row
     → All (λ (r : BasisRow). IsSome (t r.table)) (take i rows) → AreTables files t → IsBadTableFile files row.table (i + 1) bad → IsFirstBadRow files rows bad
 first_row files rows i row t bad within is known right wrong = record {
   before = take i rows;
@@ -67,7 +67,7 @@ first_row files rows i row t bad within is known right wrong = record {
   wrong = subst (λ (k : ℕ). IsBadTable files row.table (k + 1) bad.word bad.place) (sym (length-take-le i rows (omega arith))) wrong.1;
 }
 
-pub row_is_bad : (files : List ℕ → Option (List ℕ)) (rows : List BasisRow) (i : ℕ) (row : BasisRow) (t : List ℕ → Option Rates) (why : NoBasis) → i < length rows → row ≡ get_or rows i row
+pub row_is_bad : (files : List ℕ → Option (List ℕ)) (rows : List BasisRow) (i : ℕ) (row : BasisRow) (t : List ℕ → Option AnyTable) (why : NoBasis) → i < length rows → row ≡ get_or rows i row
     → All (λ (r : BasisRow). IsSome (t r.table)) (take i rows) → AreTables files t → IfBad (IsBadTableFile files row.table (i + 1)) why
     → IfBad (IsFirstBadRow files rows) why
 row_is_bad files rows i row t (Bad bad) within is known right wrong = first_row files rows i row t bad within is known right wrong
@@ -76,29 +76,29 @@ row_is_bad files rows i row t NoMemory within is known right wrong = tt
 
 -- ---- the whole
 
-pub none_missing : (t : List ℕ → Option Rates) (rows : List BasisRow) (n : ℕ) → All (λ (r : BasisRow). IsSome (t r.table)) rows → IsFirstMissing t rows n → ⊥
+pub none_missing : (t : List ℕ → Option AnyTable) (rows : List BasisRow) (n : ℕ) → All (λ (r : BasisRow). IsSome (t r.table)) rows → IsFirstMissing t rows n → ⊥
 none_missing t rows n h k =
     k.missing (at_cut (λ (r : BasisRow). IsSome (t r.table)) k.before k.row k.after (subst (λ (xs : List BasisRow). All (λ (r : BasisRow). IsSome (t r.table)) xs) k.split h))
 
-table_of : (files : List ℕ → Option (List ℕ)) (name : List ℕ) (o : Option Rates) (d : Rates) → IfSome o (IsTableNamed files name) → IsSome o → IsTableNamed files name (unwrap_or o d)
+table_of : (files : List ℕ → Option (List ℕ)) (name : List ℕ) (o : Option AnyTable) (d : AnyTable) → IfSome o (IsTableNamed files name) → IsSome o → IsTableNamed files name (unwrap_or o d)
 table_of files name (Some v) d h some = h
 table_of files name None d h some = absurd (cc)
 
-entry_of : (files : List ℕ → Option (List ℕ)) (t : List ℕ → Option Rates) (row : BasisRow) → AreTables files t → IsSome (t row.table) → IsEntry files row (dated t row)
+entry_of : (files : List ℕ → Option (List ℕ)) (t : List ℕ → Option AnyTable) (row : BasisRow) → AreTables files t → IsSome (t row.table) → IsEntry files row (dated t row)
 entry_of files t row right some = record {
   from_day = refl;
   table = table_of files row.table (t row.table) (record { first_age = 0; rates = [] }) (right row.table) some;
   bp = refl;
 }
 
-entries_of : (files : List ℕ → Option (List ℕ)) (t : List ℕ → Option Rates) (rows : List BasisRow) → AreTables files t → All (λ (r : BasisRow). IsSome (t r.table)) rows
+entries_of : (files : List ℕ → Option (List ℕ)) (t : List ℕ → Option AnyTable) (rows : List BasisRow) → AreTables files t → All (λ (r : BasisRow). IsSome (t r.table)) rows
     → AllZip (IsEntry files) rows (map (dated t) rows)
 entries_of files t [] right known = tt
 entries_of files t (row ∷ rows) right known =
     let some = λ (r : BasisRow). IsSome (t r.table) in
     (entry_of files t row right (All-head some row rows known), entries_of files t rows right (All-tail some row rows known))
 
-pub basis_is : (files : List ℕ → Option (List ℕ)) (name : List ℕ) (t : List ℕ → Option Rates) (rows : List BasisRow) (basis : List Dated) → basis ≡ map (dated t) rows
+pub basis_is : (files : List ℕ → Option (List ℕ)) (name : List ℕ) (t : List ℕ → Option AnyTable) (rows : List BasisRow) (basis : List Dated) → basis ≡ map (dated t) rows
     → AreRowsNamed files name rows → AreTables files t → All (λ (r : BasisRow). IsSome (t r.table)) rows → IsBasis files name basis
 basis_is files name t rows basis is file right known = record {
   rows = rows;

@@ -6,3 +6,5 @@ pub mod EitherRate
 pub mod EitherTable
 pub mod EitherBook
 pub mod EitherBasis
+pub mod EitherAny
+pub mod NeverSelect

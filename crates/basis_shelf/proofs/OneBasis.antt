@@ -2,7 +2,7 @@
 use Rattle.std.proofs.Common.{◌≡◌, ℕ, ◌+◌, inl, inr, List, [], ◌∷◌, ◌++◌, length, All, ℤ, Option, Result, Ok, Err, refl, sym, ap, ◌∙◌, subst}
 use Rattle.std.specs.List.{AllZip}
 use Rattle.std.proofs.lemmas.List.Elements.{All-head, All-tail}
-use Rattle.rate_table.specs.Rates.{Rates}
+use Rattle.select_rates.specs.declared.any.AnyTable.{AnyTable}
 use Rattle.basis_book.specs.declared.row.BasisRow.{BasisRow}
 use Rattle.basis_book.specs.Dated.{Dated}
 use Rattle.basis_book.proofs.ListCuts.{compare_cuts}
@@ -16,13 +16,13 @@ use Rattle.basis_shelf.proofs.OneBook.{one_rows, one_bad_book, rows_or_bad}
 
 -- ---- the basis
 
-abbrev entry : ℤ → Rates → ℕ → Dated
+abbrev entry : ℤ → AnyTable → ℕ → Dated
 entry day table bp = record { from_day = day; table = table; bp = bp }
 
 one_entry : (files : List ℕ → Option (List ℕ)) (row : BasisRow) (a b : Dated) → IsEntry files row a → IsEntry files row b → a ≡ b
 one_entry files row a b h k =
     ap (λ (x : ℤ). entry x a.table a.bp) (h.from_day ∙ sym k.from_day)
-    ∙ ap (λ (x : Rates). entry b.from_day x a.bp) (one_table files row.table a.table b.table h.table k.table)
+    ∙ ap (λ (x : AnyTable). entry b.from_day x a.bp) (one_table files row.table a.table b.table h.table k.table)
     ∙ ap (λ (x : ℕ). entry b.from_day b.table x) (h.bp ∙ sym k.bp)
 
 one_list : (files : List ℕ → Option (List ℕ)) (rows : List BasisRow) (a b : List Dated) → AllZip (IsEntry files) rows a → AllZip (IsEntry files) rows b → a ≡ b

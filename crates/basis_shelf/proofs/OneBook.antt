@@ -6,7 +6,7 @@ use Rattle.basis_book.specs.declared.fault.BasisFault.TheVariants as fault
 use Rattle.basis_book.specs.File.{IsBasisFile, IsFileFault, IsBookAnswer, GivesBook}
 use Rattle.basis_book.proofs.Exact.{gives_due}
 use Rattle.basis_shelf.specs.declared.fault.BasisWord.{BasisWord}
-use Rattle.basis_shelf.specs.declared.fault.BasisWord.TheVariants.{Absent, TooLong, BadRow, NotRising, TooManyRows, NotDocument, NoTable, Select, Scaled, BadAge, AgeGap, BadRate}
+use Rattle.basis_shelf.specs.declared.fault.BasisWord.TheVariants.{Absent, TooLong, BadRow, NotRising, TooManyRows, NotDocument, NoTable, Scaled, BadAge, AgeGap, BadRate, BadDuration, NoUltimate, UltimateGap}
 use Rattle.basis_shelf.specs.Files.{IsAbsent, IsTooLong}
 use Rattle.basis_shelf.specs.Bases.{AreRowsNamed}
 use Rattle.basis_shelf.specs.FirstBad.{AreNoRows, IsBadBook}
@@ -87,11 +87,13 @@ kinds files name place NotRising h = inr (inr (fault.NotRising place, refl, refl
 kinds files name place TooManyRows h = inr (inr (fault.TooManyRows, refl, h.1, tt, h.0))
 kinds files name place NotDocument h = absurd h
 kinds files name place NoTable h = absurd h
-kinds files name place Select h = absurd h
 kinds files name place Scaled h = absurd h
 kinds files name place BadAge h = absurd h
 kinds files name place AgeGap h = absurd h
 kinds files name place BadRate h = absurd h
+kinds files name place BadDuration h = absurd h
+kinds files name place NoUltimate h = absurd h
+kinds files name place UltimateGap h = absurd h
 
 one_kind : (files : List ℕ → Option (List ℕ)) (name : List ℕ) (p q : ℕ) (w v : BasisWord) → Kinds files name w p → Kinds files name v q → (w ≡ v) × (p ≡ q)
 one_kind files name p q w v (inl h) (inl k) = (h.0 ∙ sym k.0, h.1 ∙ sym k.1)

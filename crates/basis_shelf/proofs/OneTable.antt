@@ -1,20 +1,19 @@
 -- A file is there, absent or too long; it spells one table, or is bad in one way.
 use Rattle.std.proofs.Common.{◌≡◌, ℕ, ◌<◌, ◌⊎◌, inl, inr, List, length, Option, Some, None, Result, Ok, Err, IsSomeAnd, refl, sym, ap, ◌∙◌, subst, arith}
-use Rattle.rate_table.specs.Rates.{Rates}
+use Rattle.select_rates.specs.declared.any.AnyTable.{AnyTable}
 use Rattle.xtbml_subset.specs.declared.fault.TableKind.{TableKind}
 use Rattle.xtbml_subset.specs.declared.fault.TableKind.TheVariants as kind
 use Rattle.xtbml_subset.specs.declared.fault.TableFault.{TableFault}
 use Rattle.xtbml_subset.specs.declared.fault.TableFault.TheVariants as table
-use Rattle.xtbml_subset.specs.Checks.{parts_of}
+use Rattle.xtbml_subset.specs.AnyChecks.{any_parts_of, IsAnyAnswer}
 use Rattle.xtbml_subset.specs.inside.Rows.{found_asks}
 use Rattle.xtbml_subset.specs.inside.Walk.{fault_at}
-use Rattle.xtbml_subset.specs.Answers.{IsTableAnswer}
 use Rattle.xtbml_subset.proofs.Sounding.{whole_document}
 use Rattle.xtbml_subset.proofs.Matching.{finds_root}
-use Rattle.xtbml_subset.proofs.Judging.{table_one}
-use Rattle.xtbml_subset.proofs.Final.{fault_only, due_by}
+use Rattle.xtbml_subset.proofs.SelectSingle.{any_single}
+use Rattle.xtbml_subset.proofs.AnyFinal.{any_fault_only, any_due_by}
 use Rattle.basis_shelf.specs.declared.fault.BasisWord.{BasisWord}
-use Rattle.basis_shelf.specs.declared.fault.BasisWord.TheVariants.{Absent, TooLong, BadRow, NotRising, TooManyRows, NotDocument, NoTable, Select, Scaled, BadAge, AgeGap, BadRate}
+use Rattle.basis_shelf.specs.declared.fault.BasisWord.TheVariants.{Absent, TooLong, BadRow, NotRising, TooManyRows, NotDocument, NoTable, Scaled, BadAge, AgeGap, BadRate, BadDuration, NoUltimate, UltimateGap}
 use Rattle.basis_shelf.specs.Files.{IsAbsent, IsTooLong, IsFile}
 use Rattle.basis_shelf.specs.Bases.{IsTableNamed, HasTable}
 use Rattle.basis_shelf.specs.FirstBad.{IsNoTable, IsBadTable}
@@ -38,33 +37,33 @@ not_both files name h k = subst (λ (o : Option (List ℕ)). IsSomeAnd o (λ byt
 
 -- ---- the bytes of a table
 
-one_by : (bytes : List ℕ) (a b : Result Rates TableFault) → IsTableAnswer bytes a → IsTableAnswer bytes b → (at : Option ℕ) → at ≡ fault_at bytes → a ≡ b
-one_by bytes a b h k (Some at) e = fault_only bytes at a e h ∙ sym (fault_only bytes at b e k)
+one_by : (bytes : List ℕ) (a b : Result AnyTable TableFault) → IsAnyAnswer bytes a → IsAnyAnswer bytes b → (at : Option ℕ) → at ≡ fault_at bytes → a ≡ b
+one_by bytes a b h k (Some at) e = any_fault_only bytes at a e h ∙ sym (any_fault_only bytes at b e k)
 one_by bytes a b h k None e =
     let d = whole_document bytes (sym e) in
     let r = finds_root bytes d.0 d.1 in
-    table_one (parts_of (found_asks (length bytes)) r.found) a b (due_by bytes r.found r.others a e r.first h) (due_by bytes r.found r.others b e r.first k)
+    any_single (any_parts_of (found_asks (length bytes)) r.found) a b (any_due_by bytes r.found r.others a e r.first h) (any_due_by bytes r.found r.others b e r.first k)
 
-one_due : (bytes other : List ℕ) (a b : Result Rates TableFault) → bytes ≡ other → IsTableAnswer bytes a → IsTableAnswer other b → a ≡ b
-one_due bytes other a b same h k = one_by other a b (subst (λ (xs : List ℕ). IsTableAnswer xs a) same h) k (fault_at other) refl
+one_due : (bytes other : List ℕ) (a b : Result AnyTable TableFault) → bytes ≡ other → IsAnyAnswer bytes a → IsAnyAnswer other b → a ≡ b
+one_due bytes other a b same h k = one_by other a b (subst (λ (xs : List ℕ). IsAnyAnswer xs a) same h) k (fault_at other) refl
 
-abbrev spelled : Rates → Result Rates TableFault
+abbrev spelled : AnyTable → Result AnyTable TableFault
 spelled a = Ok a
 
-abbrev refused : ℕ → TableKind → Result Rates TableFault
+abbrev refused : ℕ → TableKind → Result AnyTable TableFault
 refused place what = Err (table.Bad place what)
 
-ok_same : (a b : Rates) → spelled a ≡ spelled b → a ≡ b
+ok_same : (a b : AnyTable) → spelled a ≡ spelled b → a ≡ b
 ok_same a b e = cc
 
-pub one_table : (files : List ℕ → Option (List ℕ)) (name : List ℕ) (a b : Rates) → IsTableNamed files name a → IsTableNamed files name b → a ≡ b
+pub one_table : (files : List ℕ → Option (List ℕ)) (name : List ℕ) (a b : AnyTable) → IsTableNamed files name a → IsTableNamed files name b → a ≡ b
 one_table files name a b h k =
     ok_same a b (one_due h.0 k.0 (Ok a) (Ok b) (one_file files name h.0 k.0 h.1 k.1) (inl h.2) (inl k.2))
 
-ok_or_bad : (a : Rates) (place : ℕ) (what : TableKind) → spelled a ≡ refused place what → ⊥
+ok_or_bad : (a : AnyTable) (place : ℕ) (what : TableKind) → spelled a ≡ refused place what → ⊥
 ok_or_bad a place what e = absurd (cc)
 
-table_or_none : (files : List ℕ → Option (List ℕ)) (name : List ℕ) (a : Rates) (place : ℕ) (what : TableKind) → IsTableNamed files name a → IsNoTable files name place what → ⊥
+table_or_none : (files : List ℕ → Option (List ℕ)) (name : List ℕ) (a : AnyTable) (place : ℕ) (what : TableKind) → IsTableNamed files name a → IsNoTable files name place what → ⊥
 table_or_none files name a place what h k =
     ok_or_bad a place what (one_due h.0 k.0 (Ok a) (refused place what) (one_file files name h.0 k.0 h.1 k.1) (inl h.2) k.2)
 
@@ -91,11 +90,13 @@ kinds files name number place NotRising h = absurd h
 kinds files name number place TooManyRows h = absurd h
 kinds files name number place NotDocument h = inr (inr (kind.NotDocument, refl, h))
 kinds files name number place NoTable h = inr (inr (kind.NoTable, refl, h))
-kinds files name number place Select h = inr (inr (kind.Select, refl, h))
 kinds files name number place Scaled h = inr (inr (kind.Scaled, refl, h))
 kinds files name number place BadAge h = inr (inr (kind.BadAge, refl, h))
 kinds files name number place AgeGap h = inr (inr (kind.AgeGap, refl, h))
 kinds files name number place BadRate h = inr (inr (kind.BadRate, refl, h))
+kinds files name number place BadDuration h = inr (inr (kind.BadDuration, refl, h))
+kinds files name number place NoUltimate h = inr (inr (kind.NoUltimate, refl, h))
+kinds files name number place UltimateGap h = inr (inr (kind.UltimateGap, refl, h))
 
 one_kind : (files : List ℕ → Option (List ℕ)) (name : List ℕ) (number p q : ℕ) (w v : BasisWord) → Kinds files name number w p → Kinds files name number v q → (w ≡ v) × (p ≡ q)
 one_kind files name number p q w v (inl h) (inl k) = (h.0 ∙ sym k.0, h.1 ∙ sym k.1)
@@ -113,7 +114,7 @@ one_kind files name number p q w v (inr (inr h)) (inr (inr k)) =
 pub one_bad_table : (files : List ℕ → Option (List ℕ)) (name : List ℕ) (number p q : ℕ) (w v : BasisWord) → IsBadTable files name number w p → IsBadTable files name number v q → (w ≡ v) × (p ≡ q)
 one_bad_table files name number p q w v h k = one_kind files name number p q w v (kinds files name number p w h) (kinds files name number q v k)
 
-table_or_kind : (files : List ℕ → Option (List ℕ)) (name : List ℕ) (number place : ℕ) (word : BasisWord) (a : Rates) → IsTableNamed files name a → Kinds files name number word place → ⊥
+table_or_kind : (files : List ℕ → Option (List ℕ)) (name : List ℕ) (number place : ℕ) (word : BasisWord) (a : AnyTable) → IsTableNamed files name a → Kinds files name number word place → ⊥
 table_or_kind files name number place word a h (inl k) = not_absent files name h.0 h.1 k.2
 table_or_kind files name number place word a h (inr (inl k)) = not_too_long files name h.0 h.1 k.2
 table_or_kind files name number place word a h (inr (inr k)) = table_or_none files name a place k.0 h k.2

@@ -1,20 +1,20 @@
 -- The basis that a basis file and the tables it names make.
 use Rattle.std.specs.Prelude.{◌≡◌, ℕ, List, Option}
 use Rattle.std.specs.List.{AllZip}
-use Rattle.rate_table.specs.Rates.{Rates}
-use Rattle.xtbml_subset.specs.Answers.{SpellsTable}
+use Rattle.select_rates.specs.declared.any.AnyTable.{AnyTable}
+use Rattle.xtbml_subset.specs.AnyChecks.{SpellsAny}
 use Rattle.basis_book.specs.declared.row.BasisRow.{BasisRow}
 use Rattle.basis_book.specs.Dated.{Dated}
 use Rattle.basis_book.specs.File.{IsBasisFile}
 use Rattle.basis_shelf.specs.Files.{IsFile}
 
--- the file of this name spells these rates
-abbrev pub IsTableNamed : (List ℕ → Option (List ℕ)) → List ℕ → Rates → Type 0
-IsTableNamed files name rates = (bytes : List ℕ) × IsFile files name bytes × SpellsTable bytes rates
+-- the file of this name spells this table, by age alone or by age at issue and duration
+abbrev pub IsTableNamed : (List ℕ → Option (List ℕ)) → List ℕ → AnyTable → Type 0
+IsTableNamed files name table = (bytes : List ℕ) × IsFile files name bytes × SpellsAny bytes table
 
 -- the file of this name spells a table
 abbrev pub HasTable : (List ℕ → Option (List ℕ)) → List ℕ → Type 0
-HasTable files name = (rates : Rates) × IsTableNamed files name rates
+HasTable files name = (table : AnyTable) × IsTableNamed files name table
 
 -- the file of this name is a right basis file, and these are its rows
 abbrev pub AreRowsNamed : (List ℕ → Option (List ℕ)) → List ℕ → List BasisRow → Type 0

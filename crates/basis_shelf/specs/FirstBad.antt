@@ -8,10 +8,10 @@ use Rattle.basis_book.specs.File.{IsFileFault}
 use Rattle.xtbml_subset.specs.declared.fault.TableKind.{TableKind}
 use Rattle.xtbml_subset.specs.declared.fault.TableKind.TheVariants as kind
 use Rattle.xtbml_subset.specs.declared.fault.TableFault.TheVariants as table
-use Rattle.xtbml_subset.specs.Answers.{IsTableAnswer}
+use Rattle.xtbml_subset.specs.AnyChecks.{IsAnyAnswer}
 use Rattle.basis_shelf.specs.declared.fault.BadBasis.{BadBasis}
 use Rattle.basis_shelf.specs.declared.fault.BasisWord.{BasisWord}
-use Rattle.basis_shelf.specs.declared.fault.BasisWord.TheVariants.{Absent, TooLong, BadRow, NotRising, TooManyRows, NotDocument, NoTable, Select, Scaled, BadAge, AgeGap, BadRate}
+use Rattle.basis_shelf.specs.declared.fault.BasisWord.TheVariants.{Absent, TooLong, BadRow, NotRising, TooManyRows, NotDocument, NoTable, Scaled, BadAge, AgeGap, BadRate, BadDuration, NoUltimate, UltimateGap}
 use Rattle.basis_shelf.specs.Files.{IsAbsent, IsTooLong, IsFile}
 use Rattle.basis_shelf.specs.Bases.{HasTable, AreRowsNamed}
 
@@ -21,7 +21,7 @@ AreNoRows files name why = (bytes : List ℕ) × IsFile files name bytes × IsFi
 
 -- the file of this name spells no table: the byte place, and what is wrong there
 abbrev pub IsNoTable : (List ℕ → Option (List ℕ)) → List ℕ → ℕ → TableKind → Type 0
-IsNoTable files name at what = (bytes : List ℕ) × IsFile files name bytes × IsTableAnswer bytes (Err (table.Bad at what))
+IsNoTable files name at what = (bytes : List ℕ) × IsFile files name bytes × IsAnyAnswer bytes (Err (table.Bad at what))
 
 -- the word for the basis file of this name, and the place
 abbrev pub IsBadBook : (List ℕ → Option (List ℕ)) → List ℕ → BasisWord → ℕ → Type 0
@@ -32,11 +32,13 @@ IsBadBook files name NotRising place = AreNoRows files name (fault.NotRising pla
 IsBadBook files name TooManyRows place = AreNoRows files name fault.TooManyRows × (place ≡ 1001)
 IsBadBook files name NotDocument place = ⊥
 IsBadBook files name NoTable place = ⊥
-IsBadBook files name Select place = ⊥
 IsBadBook files name Scaled place = ⊥
 IsBadBook files name BadAge place = ⊥
 IsBadBook files name AgeGap place = ⊥
 IsBadBook files name BadRate place = ⊥
+IsBadBook files name BadDuration place = ⊥
+IsBadBook files name NoUltimate place = ⊥
+IsBadBook files name UltimateGap place = ⊥
 
 -- the word for the table file of this name, which the row of this number names first, and the place
 abbrev pub IsBadTable : (List ℕ → Option (List ℕ)) → List ℕ → ℕ → BasisWord → ℕ → Type 0
@@ -47,11 +49,13 @@ IsBadTable files name number NotRising place = ⊥
 IsBadTable files name number TooManyRows place = ⊥
 IsBadTable files name number NotDocument place = IsNoTable files name place kind.NotDocument
 IsBadTable files name number NoTable place = IsNoTable files name place kind.NoTable
-IsBadTable files name number Select place = IsNoTable files name place kind.Select
 IsBadTable files name number Scaled place = IsNoTable files name place kind.Scaled
 IsBadTable files name number BadAge place = IsNoTable files name place kind.BadAge
 IsBadTable files name number AgeGap place = IsNoTable files name place kind.AgeGap
 IsBadTable files name number BadRate place = IsNoTable files name place kind.BadRate
+IsBadTable files name number BadDuration place = IsNoTable files name place kind.BadDuration
+IsBadTable files name number NoUltimate place = IsNoTable files name place kind.NoUltimate
+IsBadTable files name number UltimateGap place = IsNoTable files name place kind.UltimateGap
 
 -- the first of the rows that has no table, and what is wrong with its table's file
 pub record IsFirstBadRow (files : List ℕ → Option (List ℕ)) (rows : List BasisRow) (bad : BadBasis) : Type 0 where

@@ -3,7 +3,7 @@ use Rattle.std.specs.Prelude.{ℕ, List, [], ◌∷◌, codes, decimal}
 use Rattle.text_lines.specs.Lines.{line_of}
 use Rattle.basis_shelf.specs.declared.fault.BadBasis.{BadBasis}
 use Rattle.basis_shelf.specs.declared.fault.BasisWord.{BasisWord}
-use Rattle.basis_shelf.specs.declared.fault.BasisWord.TheVariants.{Absent, TooLong, BadRow, NotRising, TooManyRows, NotDocument, NoTable, Select, Scaled, BadAge, AgeGap, BadRate}
+use Rattle.basis_shelf.specs.declared.fault.BasisWord.TheVariants.{Absent, TooLong, BadRow, NotRising, TooManyRows, NotDocument, NoTable, Scaled, BadAge, AgeGap, BadRate, BadDuration, NoUltimate, UltimateGap}
 
 abbrev pub basis_word : BasisWord → List ℕ
 basis_word Absent = codes "absent"
@@ -13,11 +13,13 @@ basis_word NotRising = codes "notrising"
 basis_word TooManyRows = codes "toomanyrows"
 basis_word NotDocument = codes "notdocument"
 basis_word NoTable = codes "notable"
-basis_word Select = codes "select"
 basis_word Scaled = codes "scaled"
 basis_word BadAge = codes "badage"
 basis_word AgeGap = codes "agegap"
 basis_word BadRate = codes "badrate"
+basis_word BadDuration = codes "badduration"
+basis_word NoUltimate = codes "noultimate"
+basis_word UltimateGap = codes "ultimategap"
 
 -- the file's name, the place and the word
 unfoldable pub bad_basis_text : BadBasis → List ℕ

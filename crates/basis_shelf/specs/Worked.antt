@@ -1,6 +1,7 @@
 -- Worked shelves: a basis with its table, what is the first bad file, and the line that tells of it
 use Rattle.std.specs.Prelude.{◌≡◌, ◌++◌, ℕ, if◌then◌else◌, List, [], ◌∷◌, codes, pos, Option, Some, None}
 use Rattle.std.specs.Str.{bytes_eq}
+use Rattle.select_rates.specs.declared.any.AnyTable.TheVariants.{Aggregate}
 use Rattle.basis_shelf.specs.Bases.{IsBasis}
 use Rattle.basis_shelf.specs.FirstBad.{IsFirstBadFile}
 use Rattle.basis_shelf.specs.Lines.{bad_basis_text}
@@ -20,7 +21,7 @@ certain_death = codes "<XTbML><Table><Values><Axis><Y t='60'>1</Y></Axis></Value
 -- one row, and its table of one age
 abbrev pub BasisOfOneRow : Type 0
 BasisOfOneRow = IsBasis (shelf_with one_row (Some certain_death)) (codes "b.csv")
-    ((record { from_day = pos 10957; table = record { first_age = 60; rates = 1000000000 ∷ [] }; bp = 400 }) ∷ [])
+    ((record { from_day = pos 10957; table = Aggregate (record { first_age = 60; rates = 1000000000 ∷ [] }); bp = 400 }) ∷ [])
 
 -- an absent basis file, a bad row, an absent table, and a table file that is no document
 abbrev pub FirstBadFiles : Type 0

@@ -18,8 +18,6 @@ pub enum BasisWord {
     NotDocument,
     /// The table file's root isn't `XTbML`, or the path to its rates breaks off.
     NoTable,
-    /// The rates depend on the duration too.
-    Select,
     /// The rates are to be multiplied by a factor other than 1.
     Scaled,
     /// An age is absent, or isn't a whole number from 0 to 130.
@@ -28,6 +26,12 @@ pub enum BasisWord {
     AgeGap,
     /// A rate isn't a number from 0 to 1 of at most nine places.
     BadRate,
+    /// An age at issue has no rate, or a rate of it the wrong duration.
+    BadDuration,
+    /// There are no ultimate rates behind the select ones.
+    NoUltimate,
+    /// The ultimate rates begin later than right behind a select period that they go on after.
+    UltimateGap,
 }
 
 /// The first file of a basis that is absent, too long or refused.

@@ -1,9 +1,11 @@
 // What the definitions have to mean, as functions that do nothing.
 ghost use Rattle.std.specs.Prelude.{◌≡◌, ◌⊎◌, ℕ, List, Option, Err};
 ghost use Rattle.rate_table.specs.Rates.{Rates};
+ghost use Rattle.select_rates.specs.declared.any.AnyTable.{AnyTable};
 ghost use Rattle.xtbml_subset.specs.declared.fault.TableKind.{TableKind};
 ghost use Rattle.xtbml_subset.specs.declared.fault.TableFault.TheVariants.{Bad};
 ghost use Rattle.xtbml_subset.specs.Answers.{IsTableAnswer, SpellsTable};
+ghost use Rattle.xtbml_subset.specs.AnyChecks.{IsAnyAnswer, SpellsAny};
 ghost use Rattle.basis_book.specs.Dated.{Dated};
 ghost use Rattle.basis_shelf.specs.declared.fault.BadBasis.{BadBasis};
 ghost use Rattle.basis_shelf.specs.Bases.{HasTable, IsBasis, IsTableNamed};
@@ -22,15 +24,17 @@ pub fn a_basis_has_one_answer()
 
 /// A file spells one table at most, and no table where it is bad.
 pub fn a_file_has_one_answer()
-    ensures table { (files : List ℕ → Option (List ℕ)) (name : List ℕ) (one other : Rates)
+    ensures table { (files : List ℕ → Option (List ℕ)) (name : List ℕ) (one other : AnyTable)
         → IsTableNamed files name one → IsTableNamed files name other → one ≡ other }
     ensures not_both { (files : List ℕ → Option (List ℕ)) (name : List ℕ) (number place : ℕ) (word : BasisWord)
         → HasTable files name → IsBadTable files name number word place → ⊥ }
 {}
 
-/// The bytes of a file spell a table, or have a first fault, at a place.
+/// The bytes of a file spell a table, or have a first fault, at a place: of either kind, and by age alone.
 pub fn files_spell_or_show_why()
-    ensures { (bytes : List ℕ) → ((table : Rates) × SpellsTable bytes table)
+    ensures any { (bytes : List ℕ) → ((table : AnyTable) × SpellsAny bytes table)
+        ⊎ ((at : ℕ) × (kind : TableKind) × IsAnyAnswer bytes (Err (Bad at kind))) }
+    ensures aggregate { (bytes : List ℕ) → ((table : Rates) × SpellsTable bytes table)
         ⊎ ((at : ℕ) × (kind : TableKind) × IsTableAnswer bytes (Err (Bad at kind))) }
 {}
 

@@ -7,23 +7,23 @@ ghost use Rattle.basis_book.specs.declared.row.BasisRow.{BasisRow as ARow};
 ghost use Rattle.basis_shelf.specs.Bases.{IsTableNamed};
 ghost use Rattle.basis_shelf.specs.FirstBad.{IsFirstBadRow};
 ghost use Rattle.basis_shelf.specs.Answers.{IfBad};
-ghost use Rattle.basis_shelf.specs.inside.Parts.{AreTables, IsBadTableFile, KeepsKnown, TellsTable, word_of};
+ghost use Rattle.basis_shelf.specs.inside.Parts.{AreTables, IsBadTableFile, IsFaultOfAny, IsOfAny, KeepsKnown, TellsTable, word_of};
 
 use crate::fault::{BasisWord, NoBasis};
 use crate::shelf_file::{bad_file, fetch_file};
 use basis_book::{BasisRow, Name};
 use indexmap::IndexMap;
 use outside_io::Shelf;
-use rate_table::RateTable;
+use select_rates::AnyTable;
 use std::alloc::Global;
-use xtbml_subset::{TableFault, TableKind, read_table};
+use xtbml_subset::{TableFault, TableKind, read_any};
 
 /// The tables that the rows name, each fetched once.
 pub fn fetch_tables<H: Shelf>(
     alloc: Global,
     rows: &[BasisRow],
     shelf: &mut H,
-) -> Result<IndexMap<String, RateTable>, NoBasis>
+) -> Result<IndexMap<String, AnyTable>, NoBasis>
     requires { length rows.now ≤ 1000 }
     ensures known { IfOk result (λ tables. All (λ row. IsSome (get_by_text tables row.table)) rows.now) }
     ensures right { (at : Files) → H.agrees shelf.new at → IfOk result (λ tables. AreTables at (get_by_text tables)) }
@@ -45,7 +45,7 @@ pub fn fetch_tables<H: Shelf>(
 /// Adds the table of a row, unless it is there.
 fn add_table<H: Shelf>(
     alloc: Global,
-    tables: &mut IndexMap<String, RateTable>,
+    tables: &mut IndexMap<String, AnyTable>,
     name: &Name,
     number: u32,
     shelf: &mut H,
@@ -76,12 +76,13 @@ fn add_table<H: Shelf>(
 }
 
 /// The table of this name, which the row of this number names first.
+#[tactic(auto, using(crate::proofs::NeverSelect::told_fault))]
 fn fetch_table<H: Shelf>(
     alloc: Global,
     name: &Name,
     number: u32,
     shelf: &mut H,
-) -> Result<RateTable, NoBasis>
+) -> Result<AnyTable, NoBasis>
     ensures table { (at : Files) → H.agrees shelf.new at → IfOk result (IsTableNamed at name.now) }
     ensures bad { (at : Files) → H.agrees shelf.new at → IfErr result (IfBad (IsBadTableFile at name.now number)) }
     ensures agreed { (at : Files) → H.agrees shelf.new at → H.agrees shelf.old at }
@@ -92,7 +93,7 @@ fn fetch_table<H: Shelf>(
     ensures stays { H.files shelf.new ≡ H.files shelf.old }
 {
     let bytes = fetch_file(alloc, name, number, shelf)?;
-    match read_table(alloc, bytes.as_slice()) {
+    match read_any(alloc, bytes.as_slice()) {
         Ok(table) => Ok(table),
         Err(fault) => Err(no_table(alloc, name, fault)),
     }
@@ -100,6 +101,7 @@ fn fetch_table<H: Shelf>(
 
 /// The answer that a table file has a fault.
 fn no_table(alloc: Global, name: &Name, fault: TableFault) -> NoBasis
+    requires { IsFaultOfAny fault }
     ensures { TellsTable name.now fault result }
 {
     match fault {
@@ -110,19 +112,20 @@ fn no_table(alloc: Global, name: &Name, fault: TableFault) -> NoBasis
 
 /// The word for what is wrong with a table file.
 fn word_of(kind: TableKind) -> BasisWord
+    requires { IsOfAny kind }
     ensures { result ≡ word_of kind }
 {
     match kind {
         TableKind::NotDocument => BasisWord::NotDocument,
         TableKind::NoTable => BasisWord::NoTable,
-        // Those of a select table come from no call of `read_table`.
-        TableKind::Select
-        | TableKind::BadDuration
-        | TableKind::NoUltimate
-        | TableKind::UltimateGap => BasisWord::Select,
+        // It comes from no call of `read_any`.
+        TableKind::Select => unreachable!(),
         TableKind::Scaled => BasisWord::Scaled,
         TableKind::BadAge => BasisWord::BadAge,
         TableKind::AgeGap => BasisWord::AgeGap,
         TableKind::BadRate => BasisWord::BadRate,
+        TableKind::BadDuration => BasisWord::BadDuration,
+        TableKind::NoUltimate => BasisWord::NoUltimate,
+        TableKind::UltimateGap => BasisWord::UltimateGap,
     }
 }

@@ -38,10 +38,12 @@ fn basis_word(word: BasisWord) -> &'static str
         BasisWord::TooManyRows => "toomanyrows",
         BasisWord::NotDocument => "notdocument",
         BasisWord::NoTable => "notable",
-        BasisWord::Select => "select",
         BasisWord::Scaled => "scaled",
         BasisWord::BadAge => "badage",
         BasisWord::AgeGap => "agegap",
         BasisWord::BadRate => "badrate",
+        BasisWord::BadDuration => "badduration",
+        BasisWord::NoUltimate => "noultimate",
+        BasisWord::UltimateGap => "ultimategap",
     }
 }

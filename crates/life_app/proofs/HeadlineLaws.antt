@@ -59,7 +59,7 @@ use Rattle.life_app.specs.Headline.{IsEnclosingRow, IsGivenBasis, IsPromised, Is
 worth_by : (policy : Policy) (entry : Dated) (on : ℤ) (shape : Result Shape NotValued) (t : ℕ) (worth : Worth)
     → shape_of policy.plan policy.age policy.years entry.table ≡ shape → IsReserveOf policy entry.table entry.bp on Terminal shape t worth
     → IsExact Terminal policy entry.table entry.bp t worth → IsWorthBy policy entry on shape t worth
-worth_by policy entry on (Ok shape) t (Bounds lo hi) is value exact = (value.0, exact shape is)
+worth_by policy entry on (Ok shape) t (Bounds lo hi) is value exact = let enclosed = exact shape is in (value.0, enclosed.0, enclosed.1)
 worth_by policy entry on (Ok shape) t (Word why) is value exact = let never = value.1 in cc
 worth_by policy entry on (Ok shape) t (Both lo hi min_lo min_hi test) is value exact = let never = value.1 in cc
 worth_by policy entry on (Err word) t (Bounds lo hi) is value exact = let never = value.1 in cc

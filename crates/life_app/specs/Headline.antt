@@ -28,9 +28,8 @@ use Rattle.policy_value.specs.declared.worth.Measure.TheVariants.{Terminal}
 use Rattle.policy_value.specs.declared.worth.Row.{Row}
 use Rattle.policy_value.specs.declared.worth.Worth.{Worth}
 use Rattle.policy_value.specs.declared.worth.Worth.TheVariants.{Bounds, Word}
-use Rattle.present_value.specs.Premium.{cap_of}
 use Rattle.present_value.specs.Reserve.{Encloses}
-use Rattle.present_value.specs.Sums.{cover_of}
+use Rattle.policy_value.specs.Covers.{AreByDuration, cap_along, cover_along}
 use Rattle.rate_table.specs.declared.shape.Shape.{Shape}
 use Rattle.lane_runner.specs.AnsweredLines.{AnsweredLine, AreLinesOf}
 use Rattle.report_text.specs.Block.{block_text}
@@ -39,12 +38,13 @@ use Rattle.program_endings.specs.Writing.{Shelving, Stream, WroteOrFailed}
 use Rattle.script_run.specs.Script.{asks_for_values}
 
 -- by an entry of the basis: the bounds enclose the exact reserve of the amount at the policy's year, to at most two
--- cents, or the word says why the table has none
+-- cents, by the rates of the age at issue and the duration, or the word says why the table has none
 abbrev pub IsWorthBy : Policy → Dated → ℤ → Result Shape NotValued → ℕ → Worth → Type 0
 IsWorthBy policy entry on (Ok shape) t (Bounds lo hi) =
     IsYear policy.issued on shape.n t
+    × AreByDuration entry.table shape.age (cover_along entry.table shape entry.bp) (cap_along entry.table shape.age entry.bp)
     × Encloses lo hi policy.amount
-    (exact_reserve policy.status (cover_of entry.table shape entry.bp) (cap_of entry.table shape.age entry.bp) t)
+    (exact_reserve policy.status (cover_along entry.table shape entry.bp) (cap_along entry.table shape.age entry.bp) t)
 IsWorthBy policy entry on (Err word) t (Word why) = why ≡ word
 IsWorthBy _ _ _ _ _ _ = ⊥
 

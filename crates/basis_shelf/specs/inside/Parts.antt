@@ -1,6 +1,6 @@
 -- What the parts of the fetching answer.
 use Rattle.std.specs.Prelude.{◌≡◌, ℕ, ⊤, ◌⊎◌, List, Option, IsSome, IfSome}
-use Rattle.rate_table.specs.Rates.{Rates}
+use Rattle.select_rates.specs.declared.any.AnyTable.{AnyTable}
 use Rattle.basis_book.specs.declared.fault.BasisFault.{BasisFault}
 use Rattle.basis_book.specs.declared.fault.BasisFault.TheVariants as fault
 use Rattle.xtbml_subset.specs.declared.fault.TableFault.{TableFault}
@@ -9,7 +9,7 @@ use Rattle.xtbml_subset.specs.declared.fault.TableKind.{TableKind}
 use Rattle.xtbml_subset.specs.declared.fault.TableKind.TheVariants as kind
 use Rattle.basis_shelf.specs.declared.fault.BadBasis.{BadBasis}
 use Rattle.basis_shelf.specs.declared.fault.BasisWord.{BasisWord}
-use Rattle.basis_shelf.specs.declared.fault.BasisWord.TheVariants.{Absent, TooLong, BadRow, NotRising, TooManyRows, NotDocument, NoTable, Select, Scaled, BadAge, AgeGap, BadRate}
+use Rattle.basis_shelf.specs.declared.fault.BasisWord.TheVariants.{Absent, TooLong, BadRow, NotRising, TooManyRows, NotDocument, NoTable, Scaled, BadAge, AgeGap, BadRate, BadDuration, NoUltimate, UltimateGap}
 use Rattle.basis_shelf.specs.declared.fault.NoBasis.{NoBasis}
 use Rattle.basis_shelf.specs.declared.fault.NoBasis.TheVariants.{Bad, ReadFault, NoMemory}
 use Rattle.basis_shelf.specs.Files.{IsAbsent, IsTooLong}
@@ -43,18 +43,35 @@ TellsRows name (fault.BadBasisRow row) told = IsToldOfTable name row BadRow told
 TellsRows name (fault.NotRising row) told = IsToldOfTable name row NotRising told
 TellsRows name fault.NoMemory told = told ≡ NoMemory
 
--- those of a select table come from no call of `read_table`
+-- what may be wrong with a table of either kind: all but that it is a select table
+abbrev pub IsOfAny : TableKind → Type 0
+IsOfAny kind.Select = ⊥
+IsOfAny kind.NotDocument = ⊤
+IsOfAny kind.NoTable = ⊤
+IsOfAny kind.Scaled = ⊤
+IsOfAny kind.BadAge = ⊤
+IsOfAny kind.AgeGap = ⊤
+IsOfAny kind.BadRate = ⊤
+IsOfAny kind.BadDuration = ⊤
+IsOfAny kind.NoUltimate = ⊤
+IsOfAny kind.UltimateGap = ⊤
+
+abbrev pub IsFaultOfAny : TableFault → Type 0
+IsFaultOfAny (table.Bad at what) = IsOfAny what
+IsFaultOfAny table.NoMemory = ⊤
+
+-- the first has no word, since it never comes
 abbrev pub word_of : TableKind → BasisWord
+word_of kind.Select = NoTable
 word_of kind.NotDocument = NotDocument
 word_of kind.NoTable = NoTable
-word_of kind.Select = Select
 word_of kind.Scaled = Scaled
 word_of kind.BadAge = BadAge
 word_of kind.AgeGap = AgeGap
 word_of kind.BadRate = BadRate
-word_of kind.BadDuration = Select
-word_of kind.NoUltimate = Select
-word_of kind.UltimateGap = Select
+word_of kind.BadDuration = BadDuration
+word_of kind.NoUltimate = NoUltimate
+word_of kind.UltimateGap = UltimateGap
 
 -- the fault of a table file is told
 abbrev pub TellsTable : List ℕ → TableFault → NoBasis → Type 0
@@ -62,9 +79,9 @@ TellsTable name (table.Bad at what) told = IsToldOfTable name at (word_of what) 
 TellsTable name table.NoMemory told = told ≡ NoMemory
 
 -- each table is that of its name
-abbrev pub AreTables : (List ℕ → Option (List ℕ)) → (List ℕ → Option Rates) → Type 0
+abbrev pub AreTables : (List ℕ → Option (List ℕ)) → (List ℕ → Option AnyTable) → Type 0
 AreTables files tables = (name : List ℕ) → IfSome (tables name) (IsTableNamed files name)
 
 -- the names that had a table have one
-abbrev pub KeepsKnown : (List ℕ → Option Rates) → (List ℕ → Option Rates) → Type 0
+abbrev pub KeepsKnown : (List ℕ → Option AnyTable) → (List ℕ → Option AnyTable) → Type 0
 KeepsKnown before now = (name : List ℕ) → IsSome (before name) → IsSome (now name)

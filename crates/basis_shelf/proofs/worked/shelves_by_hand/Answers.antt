@@ -1,11 +1,13 @@
 use Rattle.std.proofs.Common.{◌≡◌, ◌+◌, ℕ, All, List, [], ◌∷◌, Option, None, Some, Ok, Err, length, refl, inl, inr, codes, pos, lit≤, arith}
 use Rattle.std.specs.Fmt.{digits}
 use Rattle.std.proofs.lemmas.List.Elements.{All-nil}
-use Rattle.xtbml_subset.specs.Answers.{IsTableAnswer, SpellsTable}
+use Rattle.select_rates.specs.declared.any.AnyTable.TheVariants.{Aggregate}
+use Rattle.xtbml_subset.specs.AnyChecks.{IsAnyAnswer, SpellsAny}
 use Rattle.xtbml_subset.specs.declared.fault.TableKind.TheVariants.{NotDocument}
 use Rattle.xtbml_subset.specs.declared.fault.TableFault.TheVariants.{Bad}
-use Rattle.xtbml_subset.proofs.Final.{fault_due}
-use Rattle.xtbml_subset.proofs.WorkedTables.{tables_on_literals, judged, one}
+use Rattle.xtbml_subset.proofs.AnyFinal.{any_fault_due}
+use Rattle.xtbml_subset.proofs.WorkedTables.{tables_on_literals, one}
+use Rattle.xtbml_subset.proofs.WorkedSelectTables.{select_on_literals, any_judged}
 use Rattle.basis_book.specs.declared.row.BasisRow.{BasisRow}
 use Rattle.basis_book.proofs.WorkedRows.{one_right_row, one_bad_row}
 use Rattle.basis_shelf.specs.Bases.{HasTable}
@@ -16,13 +18,17 @@ use Rattle.basis_shelf.proofs.worked.shelves_by_hand.Goals as goal
 abbrev the_row : BasisRow
 the_row = record { from_day = pos 10957; table = codes "q.xml"; bp = 400 }
 
-is_table : SpellsTable certain_death (record { first_age = 60; rates = 1000000000 ∷ [] })
-unfolding tables_on_literals
-is_table = judged _ _ refl (Ok tt, refl, (Ok (1000000000 ∷ []), (Ok (60, 1000000000), (Some 1000000000, one, refl), (Ok [], refl, refl)), refl))
+is_table : SpellsAny certain_death (Aggregate (record { first_age = 60; rates = 1000000000 ∷ [] }))
+unfolding select_on_literals
+is_table = any_judged _ _ refl (
+  Ok (record { first_age = 60; rates = 1000000000 ∷ [] }),
+  (Ok tt, refl, (Ok (1000000000 ∷ []), (Ok (60, 1000000000), (Some 1000000000, one, refl), (Ok [], refl, refl)), refl)),
+  refl,
+)
 
-not_a_document : IsTableAnswer (codes "<XTbML></Table>") (Err (Bad 7 NotDocument))
+not_a_document : IsAnyAnswer (codes "<XTbML></Table>") (Err (Bad 7 NotDocument))
 unfolding tables_on_literals
-not_a_document = fault_due (codes "<XTbML></Table>") 7 refl
+not_a_document = any_fault_due (codes "<XTbML></Table>") 7 refl
 
 no_tables : (table : Option (List ℕ)) → All (λ (other : BasisRow). HasTable (shelf_with one_row table) other.table) []
 no_tables table = All-nil (λ (other : BasisRow). HasTable (shelf_with one_row table) other.table)

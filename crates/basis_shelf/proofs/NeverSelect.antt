@@ -1,0 +1,223 @@
+-- That a table is select is no fault of a table of either kind.
+use Rattle.std.proofs.Common.{◌≡◌, ◌⊎◌, inl, inr, ℕ, ◌+◌, Bool, true, false, cond, List, [], ◌∷◌, Option, Some, None, Result, Ok, Err, refl, sym, subst, codes}
+use Rattle.std.specs.Prelude.{MatchBool}
+use Rattle.std.specs.Str.{bytes_eq}
+use Rattle.rate_table.specs.Rates.{Rates}
+use Rattle.select_rates.specs.Select.{Selected}
+use Rattle.select_rates.specs.declared.any.AnyTable.{AnyTable}
+use Rattle.xtbml_subset.specs.declared.period.Attained.{Attained}
+use Rattle.xtbml_subset.specs.declared.fault.TableKind.TheVariants.{NotDocument, NoTable, Scaled, BadAge, AgeGap, BadRate, BadDuration, NoUltimate, UltimateGap}
+use Rattle.xtbml_subset.specs.declared.fault.TableFault.{TableFault}
+use Rattle.xtbml_subset.specs.declared.fault.TableFault.TheVariants.{Bad, NoMemory}
+use Rattle.xtbml_subset.specs.Documents.{Node, node_asks}
+use Rattle.xtbml_subset.specs.Checks.{RateElement, first, or_fault, ◌>=>◌, within, rooted, path, rates_in, rates_of, aggregate_parts, age_of, is_due, ReadsRate, rated, IsAged, ReadsRow, Continues, with_rate, ReadsRows, first_age, IsScale, Parts, IsScaledTable, IsTable}
+use Rattle.xtbml_subset.specs.SelectChecks.{Issue, SelectParts, InTurn, ReadsAll, duration_of, is_duration, timed, IsTimed, ReadsDuration, ReadsPeriod, IsIssued, ReadsIssue, ReadsUltimate, first_gap, first_issue_age, without_gap, IsJoinedBy, IsSelectTable}
+use Rattle.xtbml_subset.specs.AnyChecks.{AnyParts, aggregate, selected, parts_by_axes, any_parts_of, aggregated, as_select, IsAnyTable, IsAnyAnswer}
+use Rattle.xtbml_subset.specs.Answers.{Unless}
+use Rattle.basis_shelf.specs.inside.Parts.{IsFaultOfAny}
+
+-- a fault isn't that the table is select
+abbrev Told : {A : Type 0} → Result A TableFault → Type 0
+Told (Ok value) = Unit {0}
+Told (Err fault) = IsFaultOfAny fault
+
+abbrev Never : {A : Type 0} → (Result A TableFault → Type 0) → Type 0
+Never {A} Is = (answer : Result A TableFault) → Is answer → Told answer
+
+told_is : {A : Type 0} (answer other : Result A TableFault) → Told other → answer ≡ other → Told answer
+told_is answer other h e = subst (λ (r : Result A TableFault). Told r) (sym e) h
+
+never_turn : {A B : Type 0} (First : Result A TableFault → Type 0) (Rest : A → Result B TableFault → Type 0) → Never First → ((value : A) → Never (Rest value))
+    → Never (InTurn First Rest)
+never_turn First Rest f more answer (Ok value, h, k) = more value answer k
+never_turn First Rest f more answer (Err fault, h, k) = told_is answer (Err fault) (f (Err fault) h) k
+
+never_all : {S A B : Type 0} (One : S → A → Result (S × B) TableFault → Type 0) → ((due : S) (item : A) → Never (One due item)) → (items : List A) (due : S)
+    → Never (ReadsAll One due items)
+never_all One each [] due answer h = told_is answer (Ok []) tt h
+never_all One each (item ∷ items) due answer h =
+    never_turn (One due item) (λ one all. InTurn (λ rest. ReadsAll One one.0 items rest) (λ values whole. whole ≡ Ok (one.1 ∷ values)) all) (each due item)
+    (λ one. never_turn (λ rest. ReadsAll One one.0 items rest) (λ values whole. whole ≡ Ok (one.1 ∷ values)) (never_all One each items one.0)
+    (λ values whole k. told_is whole (Ok (one.1 ∷ values)) tt k)) answer h
+
+-- ---- the factor
+
+scale : (factor : Option RateElement) → Never (IsScale factor)
+scale None answer h = told_is answer (Ok tt) tt h
+scale (Some row) (Ok none) h = tt
+scale (Some row) (Err fault) h = subst IsFaultOfAny (sym h.1) tt
+
+-- ---- the rows
+
+told_rated : (at age : ℕ) (rate : Option ℕ) → Told (rated at age rate)
+told_rated at age None = tt
+told_rated at age (Some rate) = tt
+
+aged_by : (row : RateElement) (age : ℕ) (is : Bool)
+    → Never (λ (read : Result (ℕ × ℕ) TableFault). MatchBool is ((rate : Option ℕ) × ReadsRate row.text rate × (read ≡ rated row.at age rate)) (read ≡ Err (Bad row.at AgeGap)))
+aged_by row age true answer h = told_is answer (rated row.at age h.0) (told_rated row.at age h.0) h.2
+aged_by row age false answer h = told_is answer (Err (Bad row.at AgeGap)) tt h
+
+aged : (due : Option ℕ) (row : RateElement) (age : Option ℕ) → Never (IsAged due row age)
+aged due row None answer h = told_is answer (Err (Bad row.at BadAge)) tt h
+aged due row (Some age) answer h = aged_by row age (is_due due age) answer h
+
+told_rest : (rate : ℕ) (rest : Result (List ℕ) TableFault) → Told rest → Told (with_rate rate rest)
+told_rest rate (Ok rates) h = tt
+told_rest rate (Err fault) h = h
+
+rows : (items : List RateElement) (due : Option ℕ) → Never (ReadsRows due items)
+rows [] due answer h = told_is answer (Ok []) tt h
+rows (row ∷ items) due answer (Err fault, one, k) = told_is answer (Err fault) (aged due row (age_of row.label) (Err fault) one) k
+rows (row ∷ items) due answer (Ok read, one, k) =
+    told_is answer (with_rate read.1 k.0) (told_rest read.1 k.0 (rows items (Some (read.0 + 1)) k.0 k.1)) k.2
+
+-- ---- an age at issue
+
+told_timed : (at age duration : ℕ) (rate : Option ℕ) → Told (timed at age duration rate)
+told_timed at age duration None = tt
+told_timed at age duration (Some rate) = tt
+
+timed_rate : (due : Attained) (row : RateElement) (duration : ℕ) (is : Bool)
+    → Never (λ (read : Result (Attained × ℕ) TableFault). MatchBool is ((rate : Option ℕ) × ReadsRate row.text rate × (read ≡ timed row.at due.age duration rate)) (read ≡ Err (Bad row.at BadDuration)))
+timed_rate due row duration true answer h = told_is answer (timed row.at due.age duration h.0) (told_timed row.at due.age duration h.0) h.2
+timed_rate due row duration false answer h = told_is answer (Err (Bad row.at BadDuration)) tt h
+
+timed_or : (due : Attained) (row : RateElement) (duration : Option ℕ) → Never (IsTimed due row duration)
+timed_or due row None answer h = told_is answer (Err (Bad row.at BadDuration)) tt h
+timed_or due row (Some duration) answer h = timed_rate due row duration (is_duration due duration) answer h
+
+period : (at age : ℕ) (items : List RateElement) → Never (ReadsPeriod at age items)
+period at age [] answer h = told_is answer (Err (Bad at BadDuration)) tt h
+period at age (row ∷ items) answer h =
+    never_turn (ReadsAll ReadsDuration (record { duration = None; age = age }) (row ∷ items)) (λ rates whole. whole ≡ Ok (Some (age + 1), rates))
+    (never_all ReadsDuration (λ due one. timed_or due one (duration_of one.label)) (row ∷ items) (record { duration = None; age = age }))
+    (λ rates whole k. told_is whole (Ok (Some (age + 1), rates)) tt k) answer h
+
+issued_if : (issue : Issue) (age : ℕ) (is : Bool)
+    → Never (λ (read : Result (Option ℕ × List ℕ) TableFault). MatchBool is (ReadsPeriod issue.at age issue.rates read) (read ≡ Err (Bad issue.at AgeGap)))
+issued_if issue age true answer h = period issue.at age issue.rates answer h
+issued_if issue age false answer h = told_is answer (Err (Bad issue.at AgeGap)) tt h
+
+issued_or : (due : Option ℕ) (issue : Issue) (age : Option ℕ) → Never (IsIssued due issue age)
+issued_or due issue None answer h = told_is answer (Err (Bad issue.at BadAge)) tt h
+issued_or due issue (Some age) answer h = issued_if issue age (is_due due age) answer h
+
+-- ---- the tables
+
+told_made : (first : ℕ) (read : Result (List ℕ) TableFault) → Told read → Told {A = Rates} (read >=> λ rates. Ok (record { first_age = first; rates = rates }))
+told_made first (Ok rates) h = tt
+told_made first (Err fault) h = h
+
+scaled : (items : List RateElement) (none : Result (Unit {0}) TableFault) → Told none → Never (IsScaledTable items none)
+scaled items (Err fault) told answer h = told_is answer (Err fault) told h
+scaled items (Ok none) told answer h = told_is answer _ (told_made (first_age items) h.0 (rows items None h.0 h.1)) h.2
+
+table : (parts : Parts) → Never (IsTable (Ok parts))
+table parts answer h = scaled parts.rows h.0 (scale parts.factor h.0 h.1) answer h.2
+
+ultimate : (at : ℕ) (items : List RateElement) → Never (ReadsUltimate at items)
+ultimate at [] answer h = told_is answer (Err (Bad at NoUltimate)) tt h
+ultimate at (row ∷ items) answer h = scaled (row ∷ items) (Ok tt) tt answer h
+
+told_joined : (gap : Option ℕ) (given : Selected) → Told (without_gap gap given)
+told_joined None given = tt
+told_joined (Some at) given = tt
+
+joined : (issues : List Issue) (items : List (List ℕ)) (behind : Rates) → Never (IsJoinedBy issues items behind)
+joined issues items behind answer h =
+    let gap = first_gap behind (first_issue_age issues) _ items in
+    told_is answer (without_gap gap (record { first_age = first_issue_age issues; rows = items; ultimate = behind }))
+    (told_joined gap (record { first_age = first_issue_age issues; rows = items; ultimate = behind })) h
+
+select : (parts : SelectParts) → Never (IsSelectTable parts)
+select parts answer h =
+    never_turn (λ one. IsScale parts.factor one)
+    (λ none unscaled. InTurn (IsScale parts.ultimate_factor) (λ same read. InTurn (ReadsAll ReadsIssue None parts.issues)
+    (λ items joined. InTurn (ReadsUltimate parts.at parts.ultimate) (λ ultimate whole. IsJoinedBy parts.issues items ultimate whole) joined) read) unscaled)
+    (scale parts.factor)
+    (λ none.
+    never_turn (λ one. IsScale parts.ultimate_factor one)
+    (λ same read. InTurn (ReadsAll ReadsIssue None parts.issues)
+    (λ items joined. InTurn (ReadsUltimate parts.at parts.ultimate) (λ ultimate whole. IsJoinedBy parts.issues items ultimate whole) joined) read)
+    (scale parts.ultimate_factor)
+    (λ same.
+    never_turn (λ one. ReadsAll ReadsIssue None parts.issues one)
+    (λ items joined. InTurn (ReadsUltimate parts.at parts.ultimate) (λ ultimate whole. IsJoinedBy parts.issues items ultimate whole) joined)
+    (never_all ReadsIssue (λ due issue. issued_or due issue (age_of issue.label)) parts.issues None)
+    (λ items.
+    never_turn (λ one. ReadsUltimate parts.at parts.ultimate one) (λ ultimate whole. IsJoinedBy parts.issues items ultimate whole)
+    (ultimate parts.at parts.ultimate)
+    (λ behind. joined parts.issues items behind)))) answer h
+
+-- ---- the path
+
+told_then : {A B : Type 0} (r : Result A TableFault) (more : A → Result B TableFault) → Told r → ((value : A) → Told (more value)) → Told (r >=> more)
+told_then (Ok value) more h k = k value
+told_then (Err fault) more h k = h
+
+told_first : (at : ℕ) (nodes : List Node) → Told (or_fault (Bad at NoTable) (first nodes))
+told_first at [] = tt
+told_first at (node ∷ nodes) = tt
+
+told_within : (name : List ℕ) (parent : Node) → Told (within node_asks name parent)
+unfolding within
+told_within name parent = told_first (node_asks.row parent).at (node_asks.children name parent)
+
+told_root : (root : Node) → Told (rooted node_asks root)
+told_root root = by (bytes_eq root.tag.name (codes "XTbML"))
+  where
+    by : (b : Bool) → Told {A = Node} (cond b (Ok root) (Err (Bad (node_asks.row root).at NoTable)))
+    by true = tt
+    by false = tt
+
+told_path : (root : Node) → Told (path node_asks root)
+unfolding path
+told_path root =
+    told_then (rooted node_asks root >=> λ top. within node_asks (codes "Table") top)
+    (λ table. within node_asks (codes "Values") table >=> (λ values. within node_asks (codes "Axis") values) >=> λ axis. Ok (table, axis))
+    (told_then (rooted node_asks root) (λ top. within node_asks (codes "Table") top) (told_root root) (λ top. told_within (codes "Table") top))
+    (λ table. told_then (within node_asks (codes "Values") table >=> λ values. within node_asks (codes "Axis") values) (λ axis. Ok (table, axis))
+    (told_then (within node_asks (codes "Values") table) (λ values. within node_asks (codes "Axis") values) (told_within (codes "Values") table) (λ values. told_within (codes "Axis") values))
+    (λ axis. tt))
+
+told_in : (axis : Node) (rates : List Node) → Told (rates_in node_asks axis [] rates)
+told_in axis [] = tt
+told_in axis (rate ∷ rates) = tt
+
+told_rates : (axis : Node) → node_asks.children (codes "Axis") axis ≡ [] → Told (rates_of node_asks axis)
+unfolding rates_of
+told_rates axis e = rw e (told_in axis (node_asks.children (codes "Y") axis))
+
+told_axes : (root : Node) (found : Node × Node) (axes : List Node) → node_asks.children (codes "Axis") found.1 ≡ axes → Told (parts_by_axes node_asks root found axes)
+told_axes root found [] e =
+    told_then (aggregate_parts node_asks found) (λ parts. Ok (aggregate parts))
+    (told_then (rates_of node_asks found.1) _ (told_rates found.1 e) (λ rates. tt)) (λ parts. tt)
+told_axes root found (inner ∷ more) e = tt
+
+told_parts : (root : Node) → Told (any_parts_of node_asks root)
+told_parts root = told_then (path node_asks root) _ (told_path root) (λ found. told_axes root found (node_asks.children (codes "Axis") found.1) refl)
+
+-- ---- the answer
+
+told_aggregate : (answer : Result Rates TableFault) → Told answer → Told (aggregated answer)
+told_aggregate (Ok one) h = tt
+told_aggregate (Err fault) h = h
+
+told_select : (answer : Result Selected TableFault) → Told answer → Told (as_select answer)
+told_select (Ok one) h = tt
+told_select (Err fault) h = h
+
+any_table : (parts : Result AnyParts TableFault) → Told parts → Never (IsAnyTable parts)
+any_table (Err fault) told answer h = told_is answer (Err fault) told h
+any_table (Ok (aggregate parts)) told answer h = told_is answer (aggregated h.0) (told_aggregate h.0 (table parts h.0 h.1)) h.2
+any_table (Ok (selected parts)) told answer h = told_is answer (as_select h.0) (told_select h.0 (select parts h.0 h.1)) h.2
+
+any_answer : (bytes : List ℕ) → Never (IsAnyAnswer bytes)
+any_answer bytes answer (inl judged) = any_table (any_parts_of node_asks judged.0) (told_parts judged.0) answer judged.2
+any_answer bytes answer (inr h) = told_is answer (Err (Bad h.1.0 NotDocument)) tt h.1.2
+
+-- a fault that the reader of tables of either kind tells
+pub told_fault : (bytes : List ℕ) (fault : TableFault) → Unless fault (IsAnyAnswer bytes (Err fault)) → IsFaultOfAny fault
+told_fault bytes NoMemory h = tt
+told_fault bytes (Bad at what) h = any_answer bytes (Err (Bad at what)) h
