@@ -6,6 +6,7 @@ use indexmap::IndexMap;
 use outside_io::Disk;
 use policy_types::{Command, Plan};
 use rate_table::RateTable;
+use select_rates::AnyTable;
 use shared_office::{Office, OfficeCalls, OfficePass};
 use std::alloc::Global;
 use std::sync::Wait;
@@ -48,7 +49,10 @@ pub(crate) fn flat_basis(alloc: Global) -> Result<Basis, Fail> {
         return Err("a table".into());
     };
     let mut tables = IndexMap::new(alloc);
-    tables.insert(String::from_str(alloc, "q.xml")?, table)?;
+    tables.insert(
+        String::from_str(alloc, "q.xml")?,
+        AnyTable::Aggregate(table),
+    )?;
     Basis::of(rows, tables).map_err(|_| "tables".into())
 }
 

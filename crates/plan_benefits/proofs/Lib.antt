@@ -1,1 +1,2 @@
 pub mod AgeAtIssue
+pub mod ByAgeAlone

@@ -7,14 +7,14 @@ use Rattle.select_rates.specs.declared.any.AnyTable.{AnyTable}
 use Rattle.policy_types.specs.declared.command.Plan.{Plan}
 use Rattle.policy_types.specs.Valid.{AreYears}
 use Rattle.plan_benefits.specs.Shapes.{FitsAny, FitsTable}
-use Rattle.present_value.specs.Sums.{cover_of}
+use Rattle.present_value.specs.Sums.{Cover, cover_of}
 use Rattle.present_value.specs.Ends.{AreValuesAt}
 use Rattle.present_value.specs.declared.pair.Values.{Values}
 use Rattle.crvm_reserve.specs.Made.{CanReserve, IsPaidUpFor}
 use Rattle.crvm_reserve.proofs.Tables.{reserved}
 use Rattle.basis_book.specs.Dated.{Dated}
 use Rattle.policy_value.specs.Covers.{AreByDuration, cap_along, cover_along}
-use Rattle.policy_value.specs.inside.Covered.{IsCovered}
+use Rattle.policy_value.specs.inside.Covered.{IsCovered, cap_by, cover_by}
 use Rattle.policy_value.specs.declared.covered.Covered.{Covered}
 
 can_reserve : (plan : Plan) (years bp : ℕ) (table : Rates) (shape : Shape) → FitsTable plan years table shape → AreYears plan shape.age years → bp ≤ 2000
@@ -72,3 +72,9 @@ by_duration plan years bp table shape fits =
       own = λ k below. fits.own.rates k (omega arith, omega arith);
       next = λ k below. fits.next.rates k (omega (arith, holds), omega (arith, holds));
     }
+
+-- what is by the rates at hand is by the table
+pub worth_along : (table : AnyTable) (bp : ℕ) (covered : Covered) (P : Cover → Cover → Type 0)
+    → covered.own.table.now ≡ table_along table covered.shape.age → covered.next.table.now ≡ table_along table (covered.shape.age + 1) → covered.own.bp ≡ bp
+    → P (cover_by covered) (cap_by covered) → P (cover_along table covered.shape bp) (cap_along table covered.shape.age bp)
+worth_along table bp covered P own next interest h = rw (← own, ← next, ← interest) h

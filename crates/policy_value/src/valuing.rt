@@ -114,11 +114,9 @@ fn value_by_table(
 {
     match shape_along(policy.plan, policy.age, policy.years, table) {
         Ok(shape) => {
-            let covered = Covered {
-                own: IssueRates::of(basis_row, table, bp, shape.age),
-                next: IssueRates::of(basis_row, table, bp, shape.age + 1),
-                shape,
-            };
+            let own = IssueRates::of(basis_row, table, bp, shape.age);
+            let next = IssueRates::of(basis_row, table, bp, shape.age + 1);
+            let covered = Covered { own, next, shape };
             let t = completed(policy.issued, on).min(shape.n);
             let worth = worth_by(policy, basis, &covered, t, measure, cache);
             (t, worth)

@@ -28,6 +28,8 @@ mod policy_tests;
 #[cfg(test)]
 mod run_tests;
 #[cfg(test)]
+mod select_value_tests;
+#[cfg(test)]
 mod state_tests;
 #[cfg(test)]
 mod value_cases;

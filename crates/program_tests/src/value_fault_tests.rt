@@ -41,7 +41,7 @@ fn bases_are_refused(rt: HostRuntime) -> Result<(), AllocError> {
         ),
         unfit(Some(FLAT), None, "badbasis,q.xml,1,absent\n"),
         unfit(Some(FLAT), Some(CUT), "badbasis,q.xml,55,notdocument\n"),
-        unfit(Some(FLAT), Some(SELECT), "badbasis,q.xml,28,select\n"),
+        unfit(Some(FLAT), Some(SELECT), "badbasis,q.xml,28,badduration\n"),
         unfit(Some(FLAT), Some(SCALED), "badbasis,q.xml,24,scaled\n"),
         Case {
             words: &["value", "2021-01-01", "--basis", "other.csv"],

@@ -5,15 +5,21 @@ use basis_book::{
 };
 use indexmap::IndexMap;
 use rate_table::RateTable;
+use select_rates::AnyTable;
 use std::alloc::Global;
 use std::test::Fail;
 
-fn table(alloc: Global, first_age: u8) -> Result<RateTable, Fail> {
+fn table(alloc: Global, first_age: u8) -> Result<AnyTable, Fail> {
     let rates = [500_000_000, 1_000_000_000].to_vec(alloc)?;
     let Ok(table) = RateTable::new(first_age, rates) else {
         return Err("a table".into());
     };
-    Ok(table)
+    Ok(AnyTable::Aggregate(table))
+}
+
+/// The first age of a table, for an age at issue that it holds.
+fn first_age(table: &AnyTable) -> Option<u8> {
+    table.along(20).map(RateTable::first_age)
 }
 
 /// What a file is read as: the number of its rows, or its fault.
@@ -149,16 +155,16 @@ fn picks(rt: HostRuntime) -> Result<(), Fail> {
     };
     let cases = [
         (-1, None),
-        (0, Some((0, 10, 100))),
-        (9, Some((0, 10, 100))),
-        (10, Some((1, 20, 200))),
-        (19, Some((1, 20, 200))),
-        (20, Some((2, 10, 300))),
-        (84_005, Some((2, 10, 300))),
+        (0, Some((0, Some(10), 100))),
+        (9, Some((0, Some(10), 100))),
+        (10, Some((1, Some(20), 200))),
+        (19, Some((1, Some(20), 200))),
+        (20, Some((2, Some(10), 300))),
+        (84_005, Some((2, Some(10), 300))),
     ];
     for (issued, expected) in cases {
         let picked = basis.pick(issued);
-        let seen = picked.map(|(index, table, bp)| (index, table.first_age(), bp));
+        let seen = picked.map(|(index, table, bp)| (index, first_age(table), bp));
         assert_eq!(rt; seen, expected, "{issued}");
     }
     Ok(())

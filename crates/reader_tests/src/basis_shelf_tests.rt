@@ -66,7 +66,7 @@ fn bad_tables(rt: HostRuntime) -> Result<(), Fail> {
         (CUT, "badbasis,q.xml,55,notdocument\n"),
         (b"", "badbasis,q.xml,0,notdocument\n"),
         (b"<XTbML/>", "badbasis,q.xml,0,notable\n"),
-        (SELECT, "badbasis,q.xml,28,select\n"),
+        (SELECT, "badbasis,q.xml,28,badduration\n"),
         (SCALED, "badbasis,q.xml,24,scaled\n"),
         (NO_AGE, "badbasis,q.xml,28,badage\n"),
         (GAP, "badbasis,q.xml,44,agegap\n"),

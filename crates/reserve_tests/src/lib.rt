@@ -23,3 +23,5 @@ mod policy_value_tests;
 mod present_value_tests;
 #[cfg(test)]
 mod report_text_tests;
+#[cfg(test)]
+mod select_value_tests;

@@ -3,6 +3,7 @@ use indexmap::IndexMap;
 use policy_types::{Command, Plan, Policy, Status};
 use policy_value::{ColumnCache, Measure, NotValued, Row, Worth, row};
 use rate_table::RateTable;
+use select_rates::AnyTable;
 use std::alloc::Global;
 use std::test::Fail;
 
@@ -18,7 +19,7 @@ pub const TWO_YEARS: i32 = 18_993;
 pub const THREE_YEARS: i32 = 19_358;
 
 /// The rates 0.1, 0.2, 0.25, `fourth` and 1 of the ages 0 to 4, in units of 10^-9.
-fn table(alloc: Global, first_age: u8, fourth: u32) -> Result<RateTable, Fail> {
+fn table(alloc: Global, first_age: u8, fourth: u32) -> Result<AnyTable, Fail> {
     let rates = [
         100_000_000,
         200_000_000,
@@ -29,7 +30,7 @@ fn table(alloc: Global, first_age: u8, fourth: u32) -> Result<RateTable, Fail> {
     let Ok(table) = RateTable::new(first_age, rates.to_vec(alloc)?) else {
         return Err("a table".into());
     };
-    Ok(table)
+    Ok(AnyTable::Aggregate(table))
 }
 
 /// A basis with the tables `q.xml`, `high.xml`, in which the rate at age 3 is above one half, and `late.xml`,

@@ -17,7 +17,7 @@ use Rattle.policy_value.specs.Measures.{both_bounds, exact_minimum, exact_reserv
 use Rattle.policy_value.proofs.Statuses.{least-other}
 use Rattle.policy_value.specs.inside.Covered.{cap_by, cover_by}
 use Rattle.policy_value.proofs.measures.both.Goals as goal
-use Rattle.policy_value.proofs.measures.both.Goals.{then-ne-via-then-ne, then-ne-via-else-ne+then-t-shape}
+use Rattle.policy_value.proofs.measures.both.Goals.{then-ne-via-then-ne, then-ne-via-else-ne+then-t-covered}
 
 pub returns-then-ne-clause-exact : goal.returns-then-ne-clause-exact
 returns-then-ne-clause-exact c =
@@ -26,7 +26,7 @@ returns-then-ne-clause-exact c =
     let cap = cap_by c.args.covered.now in
     let paid : policy.status ≡ InForce → c.args.covered.now.shape.h ≤ c.args.t = elim c.then-ne.branch [
       | then-ne-via-then-ne w ↦ search rules
-      | then-ne-via-else-ne+then-t-shape w ↦ λ is. omega (arith, w.if-t-shape.true)
+      | then-ne-via-else-ne+then-t-covered w ↦ λ is. omega (arith, w.if-t-covered.true)
     ] in
     record {
       encloses = c.bounds-lo.ensures.exact;
@@ -55,7 +55,7 @@ returns-clause-both c =
     let cap = cap_by c.args.covered.now in
     let made = c.priced.ensures.made in
     let in_force : policy.status ≡ InForce = search rules in
-    let due : c.args.t < c.args.covered.now.shape.h = omega (arith, c.if-t-shape.false) in
+    let due : c.args.t < c.args.covered.now.shape.h = omega (arith, c.if-t-covered.false) in
     let ordinary = c.bounds_by-lo.result in
     let has = has_ordinary cover cap c.args.t c.priced.result.0 c.priced.result.1 ordinary policy.amount made (c.bounds_by-lo.ensures.exact cover cap c.args.t made) in
     record {

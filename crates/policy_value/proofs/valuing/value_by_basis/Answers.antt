@@ -59,3 +59,9 @@ returns-in-None-clause-keys c =
       unnamed = λ none. refl;
       named = λ index entry picked. absurd (none_picked c.args.basis.now c.args.policy.now.issued index entry none picked);
     }
+
+pub returns-in-None-clause-exact : goal.returns-in-None-clause-exact
+returns-in-None-clause-exact c = λ index entry picked.
+    let issued : to_z w32 (of_z w32 c.args.policy.now.issued) ≡ c.args.policy.now.issued = omega (arith, ints, c.requires.sound.day_in.0, c.requires.sound.day_in.1) in
+    let none = subst (λ (day : ℤ). All (λ (entry : Dated). day <ℤ entry.from_day) c.args.basis.now) issued c.in-None.ensures.picked in
+    absurd (none_picked c.args.basis.now c.args.policy.now.issued index entry none picked)
