@@ -19,7 +19,7 @@ use Rattle.basis_shelf.specs.Bases.{HasTable, AreRowsNamed, IsEntry, IsBasis}
 use Rattle.basis_shelf.specs.FirstBad.{IsNoTable, IsBadBook, IsBadTable, IsFirstBadRow, IsFirstBadFile}
 use Rattle.basis_shelf.specs.inside.Parts.{word_of}
 use Rattle.basis_shelf.proofs.EitherAny.{any_or_fault}
-use Rattle.basis_shelf.proofs.NeverSelect.{told_fault}
+use Rattle.basis_shelf.proofs.ToldTable.{bad_table}
 use Rattle.basis_shelf.proofs.EitherBook.{HasFault, rows_or_fault}
 
 -- ---- a file
@@ -58,18 +58,6 @@ book files name (inr (inr file)) = book_of files name file.0 file.1 (rows_or_fau
 
 abbrev Table : (List ℕ → Option (List ℕ)) → List ℕ → ℕ → Type 0
 Table files name number = HasTable files name ⊎ ((word : BasisWord) × (place : ℕ) × IsBadTable files name number word place)
-
-bad_table : (files : List ℕ → Option (List ℕ)) (name : List ℕ) (number place : ℕ) (what : TableKind) → IsNoTable files name place what → IsBadTable files name number (word_of what) place
-bad_table files name number place kind.NotDocument h = h
-bad_table files name number place kind.NoTable h = h
-bad_table files name number place kind.Select h = absurd (told_fault h.0 (table.Bad place kind.Select) h.2)
-bad_table files name number place kind.Scaled h = h
-bad_table files name number place kind.BadAge h = h
-bad_table files name number place kind.AgeGap h = h
-bad_table files name number place kind.BadRate h = h
-bad_table files name number place kind.BadDuration h = h
-bad_table files name number place kind.NoUltimate h = h
-bad_table files name number place kind.UltimateGap h = h
 
 table_of : (files : List ℕ → Option (List ℕ)) (name : List ℕ) (number : ℕ) (bytes : List ℕ) → IsFile files name bytes
     → ((one : AnyTable) × SpellsAny bytes one) ⊎ ((at : ℕ) × (what : TableKind) × IsAnyAnswer bytes (Err (table.Bad at what))) → Table files name number

@@ -6,6 +6,7 @@ use Rattle.std.proofs.lemmas.Bool.{cases_lt}
 use Rattle.std.proofs.lemmas.List.{take-append-drop, drop_more, length-take-le}
 use Rattle.std.proofs.lemmas.List.Elements.{All-head, All-tail, All-weaker}
 use Rattle.select_rates.specs.declared.any.AnyTable.{AnyTable}
+use Rattle.select_rates.specs.declared.any.AnyTable.TheVariants.{Aggregate}
 use Rattle.basis_book.specs.declared.row.BasisRow.{BasisRow}
 use Rattle.basis_book.specs.Dated.{Dated, dated, IsFirstMissing}
 use Rattle.basis_shelf.specs.declared.fault.BadBasis.{BadBasis}
@@ -87,7 +88,7 @@ table_of files name None d h some = absurd (cc)
 entry_of : (files : List ℕ → Option (List ℕ)) (t : List ℕ → Option AnyTable) (row : BasisRow) → AreTables files t → IsSome (t row.table) → IsEntry files row (dated t row)
 entry_of files t row right some = record {
   from_day = refl;
-  table = table_of files row.table (t row.table) (record { first_age = 0; rates = [] }) (right row.table) some;
+  table = table_of files row.table (t row.table) (Aggregate (record { first_age = 0; rates = [] })) (right row.table) some;
   bp = refl;
 }
 

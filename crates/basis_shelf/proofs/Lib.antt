@@ -8,3 +8,4 @@ pub mod EitherBook
 pub mod EitherBasis
 pub mod EitherAny
 pub mod NeverSelect
+pub mod ToldTable

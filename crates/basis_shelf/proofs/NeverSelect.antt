@@ -25,7 +25,7 @@ abbrev Never : {A : Type 0} → (Result A TableFault → Type 0) → Type 0
 Never {A} Is = (answer : Result A TableFault) → Is answer → Told answer
 
 told_is : {A : Type 0} (answer other : Result A TableFault) → Told other → answer ≡ other → Told answer
-told_is answer other h e = subst (λ (r : Result A TableFault). Told r) (sym e) h
+told_is {A = A} answer other h e = subst (λ (r : Result A TableFault). Told r) (sym e) h
 
 never_turn : {A B : Type 0} (First : Result A TableFault → Type 0) (Rest : A → Result B TableFault → Type 0) → Never First → ((value : A) → Never (Rest value))
     → Never (InTurn First Rest)

@@ -76,7 +76,6 @@ fn add_table<H: Shelf>(
 }
 
 /// The table of this name, which the row of this number names first.
-#[tactic(auto, using(crate::proofs::NeverSelect::told_fault))]
 fn fetch_table<H: Shelf>(
     alloc: Global,
     name: &Name,
