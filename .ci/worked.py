@@ -1,8 +1,9 @@
 """Which definitions under the promise no worked case rests on.
 
 A worked case is a definition of a file specs/Worked.antt, or specs/Worked/*.antt, that a contract names: a theorem on small
-values from outside. It holds what its words name, and so on down. Each definition under `Obeys` has to be held so, or to
-stand below with the reason; and none that is held may stand there.
+values from outside. It holds what its words name, and so on down, but for what is said of a disk, whatever it is: a case
+that names that says nothing of it. Each definition under `Obeys` has to be held so, or to stand below with the reason; and
+none that is held may stand there.
 
 usage: python3 .ci/worked.py [--all]      with --all: each definition that no case holds
 """
@@ -13,6 +14,8 @@ import sys
 import definitions as known
 
 ROOT = "life_app.specs.Obeys.Obeys"
+
+OF_A_DISK = "Of a disk, whatever it is: disks in memory, and files that are honest or not, are told of by laws and tests."
 
 # Held by no worked case, for good, by the reason.
 EXCEPTIONS = {
@@ -25,9 +28,8 @@ EXCEPTIONS = {
         trial_load.specs.Generating.EndsGenerate trial_load.specs.Loading.EndsBegun trial_load.specs.Loading.EndsLoad
         trial_load.specs.Loading.EndsLoadBy trial_load.specs.Loading.EndsLoading trial_load.specs.Loading.IsLoadOf
         book_state.specs.Stating.EndsState book_value.specs.Valuing.EndsByBasis book_value.specs.Valuing.EndsValue
-        book_value.specs.Valuing.EndsValuing program_endings.specs.Texts.EndsReadOnly
-        program_endings.specs.WithoutBasis.EndsNoBasis""",
-    "Of a disk, whatever it is: disks in memory, and files that are honest or not, are told of by laws and tests.": """
+        book_value.specs.Valuing.EndsValuing program_endings.specs.Texts.EndsReadOnly""",
+    OF_A_DISK: """
         outside_io.specs.Disks.Elapses outside_io.specs.Disks.Looks outside_io.specs.Disks.Only
         outside_io.specs.Shelves.Files posting_journal.specs.Opening.IsSynced posting_journal.specs.Runs.IsSafe
         posting_journal.specs.Runs.LooksOn office_state.specs.Images.IsLeftBy office_state.specs.Images.IsLeftAlone
@@ -36,12 +38,7 @@ EXCEPTIONS = {
 }
 
 # Held by none yet: each wants a worked case.
-NOT_YET = """
-    book_state.specs.Stating.IsStated book_value.specs.Valuing.IsAhead book_value.specs.Valuing.IsValued
-    policy_machine.specs.History.IsLegal policy_types.specs.Accounts.sum_of
-    program_endings.specs.Refusals.IsRefusedJournal program_endings.specs.Writing.Shelving
-    trial_load.specs.Loading.HasLine trial_load.specs.Loading.HasNoLine
-"""
+NOT_YET = "policy_machine.specs.History.IsLegal"
 
 
 def cases_of(definitions):
@@ -56,10 +53,10 @@ def cases_of(definitions):
 
 def main():
     definitions, imports = known.read_specs()
-    under = lambda roots: known.reach(roots, definitions, imports, set())[0]
+    under = lambda roots, less: known.reach(roots, definitions, imports, less)[0]
     cases = cases_of(definitions)
-    promise = {it for it in under({ROOT}) if ".Worked" not in it}
-    bare = promise - under(cases)
+    promise = {it for it in under({ROOT}, set()) if ".Worked" not in it}
+    bare = promise - under(cases, set(EXCEPTIONS[OF_A_DISK].split()))
     excepted = {it for names in EXCEPTIONS.values() for it in names.split()}
     not_yet = set(NOT_YET.split())
     wrong = [f"no worked case rests on {it}" for it in sorted(bare - excepted - not_yet)]

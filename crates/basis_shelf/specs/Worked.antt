@@ -1,11 +1,9 @@
 -- Worked shelves: a basis with its table, what is the first bad file, and the line that tells of it
 use Rattle.std.specs.Prelude.{◌≡◌, ◌++◌, ℕ, if◌then◌else◌, List, [], ◌∷◌, codes, pos, Option, Some, None}
 use Rattle.std.specs.Str.{bytes_eq}
-use Rattle.basis_book.specs.Dated.{Dated}
 use Rattle.basis_shelf.specs.Bases.{IsBasis}
 use Rattle.basis_shelf.specs.FirstBad.{IsFirstBadFile}
 use Rattle.basis_shelf.specs.Lines.{bad_basis_text}
-use Rattle.basis_shelf.specs.declared.fault.BadBasis.{BadBasis}
 use Rattle.basis_shelf.specs.declared.fault.BasisWord.TheVariants.{Absent, BadRow, AgeGap, NotDocument}
 
 -- a shelf with a basis file, and with this as the table file q.xml, if there is one

@@ -1,6 +1,9 @@
 // What the definitions have to mean, as functions that do nothing.
-ghost use Rattle.std.specs.Prelude.{◌≡◌, ℕ, List, Option};
+ghost use Rattle.std.specs.Prelude.{◌≡◌, ◌⊎◌, ℕ, List, Option, Err};
 ghost use Rattle.rate_table.specs.Rates.{Rates};
+ghost use Rattle.xtbml_subset.specs.declared.fault.TableKind.{TableKind};
+ghost use Rattle.xtbml_subset.specs.declared.fault.TableFault.TheVariants.{Bad};
+ghost use Rattle.xtbml_subset.specs.Answers.{IsTableAnswer, SpellsTable};
 ghost use Rattle.basis_book.specs.Dated.{Dated};
 ghost use Rattle.basis_shelf.specs.declared.fault.BadBasis.{BadBasis};
 ghost use Rattle.basis_shelf.specs.Bases.{HasTable, IsBasis, IsTableNamed};
@@ -23,4 +26,16 @@ pub fn a_file_has_one_answer()
         → IsTableNamed files name one → IsTableNamed files name other → one ≡ other }
     ensures not_both { (files : List ℕ → Option (List ℕ)) (name : List ℕ) (number place : ℕ) (word : BasisWord)
         → HasTable files name → IsBadTable files name number word place → ⊥ }
+{}
+
+/// The bytes of a file spell a table, or have a first fault, at a place.
+pub fn files_spell_or_show_why()
+    ensures { (bytes : List ℕ) → ((table : Rates) × SpellsTable bytes table)
+        ⊎ ((at : ℕ) × (kind : TableKind) × IsTableAnswer bytes (Err (Bad at kind))) }
+{}
+
+/// A shelf has a basis at a name, or a first bad file: its name, the place and what is wrong there.
+pub fn shelves_have_a_basis_or_show_why()
+    ensures { (files : List ℕ → Option (List ℕ)) (name : List ℕ) → ((entries : List Dated) × IsBasis files name entries)
+        ⊎ ((bad : BadBasis) × IsFirstBadFile files name bad) }
 {}

@@ -12,6 +12,9 @@ mod worked;
 
 pub use fault::{BadBasis, BasisWord, NoBasis};
 pub use fetching::fetch_basis;
-pub use laws::{a_basis_has_one_answer, a_file_has_one_answer};
+pub use laws::{
+    a_basis_has_one_answer, a_file_has_one_answer, files_spell_or_show_why,
+    shelves_have_a_basis_or_show_why,
+};
 pub use telling::bad_basis_line;
 pub use worked::shelves_by_hand;

@@ -1,3 +1,4 @@
 pub mod Books
 pub mod Stating
+pub mod Worked
 pub mod inside

@@ -4,7 +4,9 @@
 mod accounts;
 mod books;
 mod rereading;
+mod worked;
 
 pub use accounts::account;
 pub use books::state;
 pub use rereading::Account;
+pub use worked::{an_empty_file_is_stated, balances_are_added};

@@ -1,3 +1,4 @@
 pub mod ValueSteps
 pub mod LoneSteps
 pub mod ValueStatus
+pub mod EmptyFile

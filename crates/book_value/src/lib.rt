@@ -5,4 +5,4 @@ mod valuing;
 mod worked;
 
 pub use valuing::value;
-pub use worked::valuations_by_hand;
+pub use worked::{an_empty_file_is_valued, valuations_by_hand};

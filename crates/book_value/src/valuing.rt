@@ -1,11 +1,12 @@
 // The values of the policies on a day, by the basis on the shelf.
-ghost use Rattle.std.specs.Prelude.{◌≡◌, ◌≤◌};
+ghost use Rattle.std.specs.Prelude.{◌≡◌, ◌<◌, ◌≤◌};
 ghost use Rattle.life_dates.specs.Calendar.{IsDay};
 ghost use Rattle.shared_office.specs.Offices.{IsOfficeHistory};
 ghost use Rattle.shared_office.specs.Starting.{HasStartedOffice};
 ghost use Rattle.turn_lock.specs.Passes.{PassFacts};
 ghost use Rattle.book_value.specs.Valuing.{EndsValue, EndsValuing};
 ghost use Rattle.program_endings.specs.Writing.{between, shelf_between};
+ghost use Rattle.program_endings.specs.declared.ending.Ending.TheVariants.{ReadFault};
 ghost use Rattle.program_endings.specs.Blocks.{IsWritableBlock};
 ghost use Rattle.book_value.specs.inside.Valued.{EndsAnswer, IsLoneAnswer, SaysAhead};
 
@@ -48,6 +49,8 @@ pub fn value<R: Threads + Wait + Sync, K: Sink, H: Shelf, D: Disk, G: Gate>(
     ensures ends { EndsValue D.Disk disk result.disk on at measure basis.now
         (shelf_between H.faults H.agrees shelf.old shelf.new)
         (between K.faults K.written output.old output.new) result.ending }
+    // Where the shelf failed this is told, and nothing else.
+    ensures counted { H.faults shelf.old < H.faults shelf.new → result.ending ≡ ReadFault }
     ensures files { H.files shelf.new ≡ H.files shelf.old }
 {
     match fetch_basis(alloc, basis, shelf) {

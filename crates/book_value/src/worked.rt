@@ -1,10 +1,18 @@
 //! Worked valuations, each a theorem over the definitions alone.
 
-ghost use Rattle.book_value.specs.Worked.{AheadOfNone, NobodyValued, PositionsAsked};
+ghost use Rattle.book_value.specs.Worked.{AheadOfNone, IsAheadOfAnEmptyFile, NobodyValued, PositionsAsked, ValuesAnEmptyFile};
+
+use outside_io::Disk;
 
 /// Positions, a valuation of nobody, and more commands than there are.
 pub fn valuations_by_hand()
     ensures positions { PositionsAsked }
     ensures nobody { NobodyValued }
     ensures ahead { AheadOfNone }
+{}
+
+/// Over any disk, what `value` writes of an empty file.
+pub fn an_empty_file_is_valued<D: Disk>()
+    ensures valued { ValuesAnEmptyFile D.Disk }
+    ensures ahead { IsAheadOfAnEmptyFile D.Disk }
 {}

@@ -1,4 +1,5 @@
 pub mod Clerks
+pub mod Exact
 pub mod Faults
 pub mod FieldTexts
 pub mod Forms

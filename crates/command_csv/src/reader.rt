@@ -1,8 +1,11 @@
 // A script, read row by row.
-ghost use Rattle.std.specs.Prelude.{◌≡◌, ◌≤◌, [], ◌∷◌, length, IfOk, IfErr};
+ghost use Rattle.std.specs.Prelude.{◌≡◌, ◌≤◌, List, [], ◌∷◌, length, IfOk, IfErr, Result};
+ghost use Rattle.policy_types.specs.declared.script.Lane.{Lane as ALane};
+ghost use Rattle.command_csv.specs.Answers.{GivesScript, IsScriptAnswer};
 ghost use Rattle.command_csv.specs.Reads.{AreLineRows, Reads, lanes_of, lines_of as lines_among, valuations_in};
 ghost use Rattle.command_csv.specs.Rows.{rows_of};
 ghost use Rattle.command_csv.specs.Cause.{HasScriptCause};
+ghost use Rattle.command_csv.specs.declared.fault.ScriptFault.{ScriptFault as AFault};
 
 use crate::fault::ScriptFault;
 use crate::fields::LAST_LANE;
@@ -14,6 +17,18 @@ use std::alloc::Global;
 /// Reads a script of at most 16 MiB: the lanes of the clerks with their lines, or the first row and field that don't
 /// fit. Memory is taken for one row at a time and for the lines, twice while they are dealt out to the lanes.
 pub fn read_script(alloc: Global, bytes: &[u8]) -> Result<Script, ScriptFault>
+    requires { length bytes.now ≤ 16777216 }
+    ensures ok { IfOk result (Reads bytes.now) }
+    ensures fault { IfErr result (HasScriptCause bytes.now) }
+    // Whatever answer is due is given, unless memory is refused.
+    ensures due { (answer : Result (List ALane) AFault) → IsScriptAnswer bytes.now answer
+        → GivesScript result answer }
+{
+    lanes_in(alloc, bytes)
+}
+
+// The lanes of all rows.
+fn lanes_in(alloc: Global, bytes: &[u8]) -> Result<Script, ScriptFault>
     requires { length bytes.now ≤ 16777216 }
     ensures ok { IfOk result (Reads bytes.now) }
     ensures fault { IfErr result (HasScriptCause bytes.now) }

@@ -1,4 +1,5 @@
 pub mod CrashLaws
+pub mod FaultsTold
 pub mod HeadlineLaws
 pub mod RunLaws
 pub mod LeftLaws

@@ -22,7 +22,7 @@ use Rattle.life_args.specs.declared.mode.Mode.{Mode}
 use Rattle.life_args.specs.declared.mode.Mode.TheVariants.{Run, Value, State, Generate, Load}
 use Rattle.office_state.specs.Journals.{Opens, OpensToNone}
 use Rattle.program_endings.specs.declared.ending.Ending.{Ending}
-use Rattle.program_endings.specs.declared.ending.Ending.TheVariants.{Done, Usage, BadScript, BadBasis, BadJournal, NoMemory, Ahead}
+use Rattle.program_endings.specs.declared.ending.Ending.TheVariants.{Done, Usage, BadScript, BadBasis, BadJournal, ReadFault, DiskFault, NoMemory, Ahead}
 use Rattle.program_endings.specs.Status.{status_of}
 use Rattle.program_endings.specs.WithoutBasis.{SaysBadFile}
 use Rattle.program_endings.specs.Writing.{Input, IsWholeInput, Shelving, Stream}
@@ -35,6 +35,7 @@ use Rattle.book_value.specs.Valuing.{EndsValue, position_of}
 use Rattle.book_value.proofs.ValueStatus.{value_as_before, value_beyond, value_refused, value_to_end, value_unfit}
 use Rattle.trial_load.proofs.LoadStatus.{generate_to_end, load_as_before, load_refused, load_to_end, load_unfit}
 use Rattle.life_app.specs.Needs.{filing_between}
+use Rattle.life_app.proofs.FaultsTold.{fault_told}
 use Rattle.life_app.specs.Due.{HasBasis, HasItsJournal, HasItsNeeds, HasNoScript, IsDueEnding, IsHeld, LacksItsBasis, LacksItsJournal}
 use Rattle.life_app.specs.Obeys.{Does, EndsMode, SaysUnasked}
 use Rattle.life_app.specs.Words.{AskForGenerate, AskForLoad, AskForRun, AskForState, AskForValue}
@@ -316,13 +317,15 @@ module _ {D : Type 0} (g : Ghosts D) (old new : D) (auditors : List Auditor) whe
           let file = journal.1 in
           loaded has.files has.basis journal.0 (seed, (count, (lanes, (workers, asked)))) has.agree has.is file.honest file.opens has.held output_held file.held
 
-      pub due : (wanted : Ending) → IsDueEnding words input output shelf (filing_between g old new) wanted
+      pub due : (shelf.faults_before < shelf.faults_after → ending ≡ ReadFault) → (wanted : Ending) → IsDueEnding words input output shelf (filing_between g old new) wanted
           → (status_of ending ≡ status_of wanted) ⊎ (status_of ending ≡ 9)
-      due Usage is = as_nothing ending does is
-      due BadScript is = unscript is.0 is.1 is.2
-      due BadBasis is = bad_basis is.0 is.1 is.2
-      due BadJournal is = bad_journal is.0 is.1 is.2 is.3
-      due Done is = done is.0 is.1 is.2 is.3 is.4
-      due Ahead (on, (p, (name, asked, has, (commands, file, past)))) =
+      due counted Usage is = as_nothing ending does is
+      due counted BadScript is = unscript is.0 is.1 is.2
+      due counted BadBasis is = bad_basis is.0 is.1 is.2
+      due counted BadJournal is = bad_journal is.0 is.1 is.2 is.3
+      due counted Done is = done is.0 is.1 is.2 is.3 is.4
+      due counted Ahead (on, (p, (name, asked, has, (commands, file, past)))) =
           ahead on p name has.files has.basis commands asked has.agree has.is file.honest file.opens past has.held file.held
-      due _ is = absurd is
+      due counted ReadFault is = inl (ap (λ (e : Ending). status_of e) (counted is))
+      due counted DiskFault is = fault_told g old new output is.0 is.1 words auditors input shelf InputStays ShelfStays ending does
+      due counted _ is = absurd is

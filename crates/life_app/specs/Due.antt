@@ -17,7 +17,7 @@ use Rattle.life_args.specs.declared.mode.Mode.TheVariants.{Run, Value, State, Ge
 use Rattle.office_state.specs.Journals.{Opens, OpensToNone}
 use Rattle.program_endings.specs.Writing.{Input, IsWholeInput, Shelving, Stream}
 use Rattle.program_endings.specs.declared.ending.Ending.{Ending}
-use Rattle.program_endings.specs.declared.ending.Ending.TheVariants.{Done, Usage, BadScript, BadBasis, BadJournal, Ahead}
+use Rattle.program_endings.specs.declared.ending.Ending.TheVariants.{Done, Usage, BadScript, BadBasis, BadJournal, ReadFault, DiskFault, Ahead}
 use Rattle.script_run.specs.Script.{IsReadAs, IsUnreadable, asks_for_values, most_script_bytes}
 use Rattle.book_value.specs.Valuing.{position_of}
 use Rattle.life_app.specs.Needs.{Filing}
@@ -60,13 +60,13 @@ pub record HasNoBasis (shelf : Shelving) (name : List ℕ) : Type 0 where
 pub record HasJournal (disk : Filing) (commands : List Command) : Type 0 where
   pub honest : disk.Honest
   pub opens : Opens disk.before commands
-  pub held : disk.Failed → ⊥
+  pub held : IsHeld disk.faults_before disk.faults_after
 
 -- it opens to none, and the disk didn't fail
 pub record HasNoJournal (disk : Filing) : Type 0 where
   pub honest : disk.Honest
   pub none : OpensToNone disk.before
-  pub held : disk.Failed → ⊥
+  pub held : IsHeld disk.faults_before disk.faults_after
 
 -- the mode has the script and the basis that it needs
 abbrev pub HasItsNeeds : Mode → Input → Shelving → Type 0
@@ -99,8 +99,9 @@ abbrev pub LacksItsJournal : Mode → Filing → Type 0
 LacksItsJournal (Generate seed count lanes) disk = ⊥
 LacksItsJournal _ disk = HasNoJournal disk
 
--- The ending that is due: by the words; by the script; by the basis; by the journal, and how many commands it has; and where
--- nothing is lacking, and the output doesn't fail, the work is done.
+-- The ending that is due: by the words; by the script; by the basis; by the journal, and how many commands it has; where
+-- nothing is lacking, and the output doesn't fail, the work is done; and where the count of the shelf rises, or that of the
+-- disk while the output doesn't fail, that is told.
 abbrev pub IsDueEnding : List (String Global) → Input → Stream → Shelving → Filing → Ending → Type 0
 IsDueEnding words input output shelf disk Usage = AskForNothing words
 IsDueEnding words input output shelf disk BadScript = (name : List ℕ) × AskForRun words name × HasNoScript input
@@ -113,4 +114,7 @@ IsDueEnding words input output shelf disk Ahead =
 IsDueEnding words input output shelf disk Done =
     (mode : Mode) × AskFor words mode × HasItsNeeds mode input shelf × HasItsJournal mode disk
     × IsHeld output.faults_before output.faults_after
+IsDueEnding words input output shelf disk ReadFault = shelf.faults_before < shelf.faults_after
+IsDueEnding words input output shelf disk DiskFault =
+    (disk.faults_before < disk.faults_after) × IsHeld output.faults_before output.faults_after
 IsDueEnding _ _ _ _ _ _ = ⊥

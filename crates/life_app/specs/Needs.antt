@@ -1,7 +1,6 @@
 -- What the words need of the basis and the disk
 use Rattle.std.specs.Prelude.{◌≡◌, ℕ, ◌<◌, ◌⊎◌, ℤ, List, length, codes, String}
 use Rattle.std.specs.Global.{Global}
-use Rattle.outside_io.specs.Faults.{Rose}
 use Rattle.outside_io.specs.Shelves.{Files}
 use Rattle.outside_io.specs.declared.disks.Disk.{Ghosts}
 use Rattle.policy_types.specs.declared.command.Command.{Command}
@@ -30,19 +29,21 @@ HasBadFile words input shelf output =
     × ((files : Files) → shelf.Agrees files → IsFirstBadFile files name bad) × WroteOrFailed output (bad_basis_text bad))
 
 -- The file of a disk between two moments: what it read as and what it reads as, whether the disk comes back honest, and
--- whether its count of faults rose.
+-- the disk's counts of faults.
 pub record Filing : Type 1 where
   pub before : List ℕ
   pub after : List ℕ
   pub Honest : Type 0
-  pub Failed : Type 0
+  pub faults_before : ℕ
+  pub faults_after : ℕ
 
 abbrev pub filing_between : {D : Type 0} → Ghosts D → D → D → Filing
 filing_between g old new = record {
   before = g.reads old;
   after = g.reads new;
   Honest = g.honest new;
-  Failed = Rose (g.faults old) (g.faults new);
+  faults_before = g.faults old;
+  faults_after = g.faults new;
 }
 
 -- the words ask for values after more commands than the disk's file opens to

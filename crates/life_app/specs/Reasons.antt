@@ -26,7 +26,7 @@ HasReason words input output shelf disk BadJournal =
 HasReason words input output shelf disk ReadFault =
     Rose input.faults_before input.faults_after ⊎ Rose shelf.faults_before shelf.faults_after
 HasReason words input output shelf disk WriteFault = Rose output.faults_before output.faults_after
-HasReason words input output shelf disk DiskFault = disk.Failed
+HasReason words input output shelf disk DiskFault = Rose disk.faults_before disk.faults_after
 HasReason words input output shelf disk NoMemory = Unit {0}
 HasReason words input output shelf disk Ahead = IsPastTheEnd words disk
 

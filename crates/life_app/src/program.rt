@@ -1,11 +1,12 @@
 // The top call: all that the program does, over any devices.
-ghost use Rattle.std.specs.Prelude.{◌≡◌, ◌≤◌, ◌⊎◌, ℕ, [], map, length};
+ghost use Rattle.std.specs.Prelude.{◌≡◌, ◌<◌, ◌≤◌, ◌⊎◌, ℕ, [], map, length};
 ghost use Rattle.std.specs.List.{AllByRecursion};
 ghost use Rattle.office_state.specs.Journals.{OpensToNone};
 ghost use Rattle.watcher_set.specs.Limits.{most_watchers};
 ghost use Rattle.program_endings.specs.Status.{status_of};
 ghost use Rattle.program_endings.specs.Writing.{between, input_between, shelf_between};
 ghost use Rattle.program_endings.specs.declared.ending.Ending.{Ending as AnEnding};
+ghost use Rattle.program_endings.specs.declared.ending.Ending.TheVariants.{ReadFault};
 ghost use Rattle.life_app.specs.Due.{IsDueEnding};
 ghost use Rattle.life_app.specs.Needs.{filing_between};
 ghost use Rattle.life_app.specs.Obeys.{Does, Obeys};
@@ -103,6 +104,7 @@ fn obey<
         (between K.faults K.written output.old output.new)
         (shelf_between H.faults H.agrees shelf.old shelf.new)
         (input.new ≡ input.old) (shelf.new ≡ shelf.old) result.ending }
+    ensures counted { H.faults shelf.old < H.faults shelf.new → result.ending ≡ ReadFault }
     ensures files { H.files shelf.new ≡ H.files shelf.old }
 {
     match read_words(alloc, words) {

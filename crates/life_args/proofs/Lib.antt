@@ -1,3 +1,4 @@
+pub mod Exact
 pub mod Lexing
 pub mod Rules
 pub mod Steps

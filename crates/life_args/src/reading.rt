@@ -1,5 +1,8 @@
-ghost use Rattle.std.specs.Prelude.{IfOk, IfErr};
+ghost use Rattle.std.specs.Prelude.{IfOk, IfErr, Result};
+ghost use Rattle.life_args.specs.Answers.{GivesMode, IsWordsAnswer};
 ghost use Rattle.life_args.specs.Words.{AskFor, IsFaultOf};
+ghost use Rattle.life_args.specs.declared.fault.WordsFault.{WordsFault as AFault};
+ghost use Rattle.life_args.specs.declared.mode.Mode.{Mode as AMode};
 
 use crate::fault::WordsFault;
 use crate::line::read_line;
@@ -10,6 +13,16 @@ use std::alloc::Global;
 
 /// What the words behind the program's name ask for.
 pub fn read_words(alloc: Global, words: &[String]) -> Result<Mode, WordsFault>
+    ensures mode { IfOk result (AskFor words.now) }
+    ensures fault { IfErr result (IsFaultOf words.now) }
+    // Whatever answer is due is given, unless memory is refused.
+    ensures due { (answer : Result AMode AFault) → IsWordsAnswer words.now answer → GivesMode result answer }
+{
+    read_mode(alloc, words)
+}
+
+// The mode that the first word names, by the words behind it.
+fn read_mode(alloc: Global, words: &[String]) -> Result<Mode, WordsFault>
     ensures mode { IfOk result (AskFor words.now) }
     ensures fault { IfErr result (IsFaultOf words.now) }
 {

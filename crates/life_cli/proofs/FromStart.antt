@@ -13,7 +13,6 @@ use Rattle.script_run.specs.Running.{EndsLanes, EndsRun}
 use Rattle.policy_types.specs.declared.script.Lane.{Lane}
 use Rattle.life_app.specs.Needs.{Filing}
 use Rattle.life_app.specs.Obeys.{Does, EndsMode, Obeys}
-use Rattle.outside_io.specs.Faults.{Rose}
 use Rattle.life_cli.specs.Completing.{EndsDuly}
 use Rattle.life_cli.specs.Shipped.{filing_from_start, input_from_start, output_from_start, shelf_from_start}
 
@@ -88,7 +87,7 @@ module _ (words : List (String Global)) (status : ℕ) where
       (record { faults_before = input_faults; faults_after = input_then; left_before = None; left_after = None; given_before = given; given_after = given_then; Ended = Ended })
       (record { faults_before = output_faults; faults_after = output_then; before = written; after = written_then })
       (record { faults_before = shelf_faults; faults_after = shelf_then; Agrees = Agrees })
-      (record { before = file; after = left; Honest = Honest; Failed = Rose disk_faults disk_then }) status
+      (record { before = file; after = left; Honest = Honest; faults_before = disk_faults; faults_after = disk_then }) status
       → EndsDuly words (input_from_start input_then given_then Ended) (output_from_start output_then written_then) (shelf_from_start shelf_then Agrees)
       (filing_from_start found left Honest disk_then) status
   ends_from_start input_faults input_then output_faults output_then shelf_faults shelf_then disk_faults disk_then given given_then Ended written written_then Agrees Honest file

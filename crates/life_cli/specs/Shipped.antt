@@ -1,7 +1,6 @@
 -- What the program does on the devices that it is shipped with, from its start to its end
 use Rattle.std.specs.Prelude.{◌≡◌, ◌==◌, ℕ, false, List, [], ◌∷◌, length, Option, None, Some, String}
 use Rattle.std.specs.Global.{Global}
-use Rattle.outside_io.specs.Faults.{Rose}
 use Rattle.outside_io.specs.Shelves.{Files}
 use Rattle.outside_io.specs.declared.disks.Disk.{Ghosts}
 use Rattle.watcher_set.specs.Noted.{Auditor}
@@ -45,7 +44,7 @@ shelf_from_start faults Agrees = record { faults_before = 0; faults_after = faul
 -- a file on a disk that had no fault at the start
 abbrev pub filing_from_start : (before after : List ℕ) → (Honest : Type 0) → ℕ → Filing
 filing_from_start before after Honest faults =
-    record { before = before; after = after; Honest = Honest; Failed = Rose 0 faults }
+    record { before = before; after = after; Honest = Honest; faults_before = 0; faults_after = faults }
 
 -- The words were obeyed, over a disk on which no call had been made, and which then read as these bytes.
 pub record ObeysFromStart {D : Type 0} (g : Ghosts D) (bytes : List ℕ) (new : D) (words : List (String Global))

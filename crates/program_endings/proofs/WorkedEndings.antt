@@ -2,12 +2,19 @@
 use Rattle.std.proofs.Common.{◌≡◌, ◌≤◌, ◌<◌, ◌++◌, ◌∙◌, ℕ, zero, suc, List, [], ◌∷◌, length, take, ap, Some, None, codes, arith}
 use Rattle.std.specs.Prelude.{slice_get, slice_index}
 use Rattle.outside_io.specs.Faults.{Rose}
+use Rattle.outside_io.specs.declared.disks.Disk.{Ghosts}
 use Rattle.policy_types.specs.declared.command.Command.{Command}
 use Rattle.policy_types.specs.declared.entry.Call.TheVariants.{Post}
 use Rattle.policy_types.specs.declared.entry.Reply.{Reply}
 use Rattle.policy_types.specs.declared.entry.Reply.TheVariants.{Faulted, Pinned, Blank}
 use Rattle.policy_types.specs.declared.entry.Entry.{Entry}
-use Rattle.program_endings.specs.Worked.{pinned_turn}
+use Rattle.office_state.specs.declared.faults.StartCause.{StartCause}
+use Rattle.office_state.specs.declared.faults.StartCause.TheVariants.{NotAJournal, BadRecord, DiskFault, NoMemory}
+use Rattle.office_state.specs.Journals.{IsShown}
+use Rattle.office_state.proofs.JournalLaws.{shown_once}
+use Rattle.program_endings.specs.Refusals.{IsRefusedJournal, SaysWhy}
+use Rattle.program_endings.specs.Writing.{Stream, WroteLine}
+use Rattle.program_endings.specs.Worked.{pinned_turn, RefusesHello}
 
 pub no_fault : Rose 3 3 → ⊥
 no_fault rose = let no : 4 ≤ 3 = rose in omega arith
@@ -43,3 +50,30 @@ no_faulted [] after caller count command e =
     reply_of (entry ∷ more) = entry.reply
 no_faulted (first ∷ []) after caller count command e = let no : 1 ≡ suc (suc (length after)) = ap (λ (xs : List Entry). length xs) e in omega arith
 no_faulted (first ∷ second ∷ before) after caller count command e = let no : 1 ≡ suc (suc (length (before ++ (record { caller = caller; call = Post command; reply = Faulted count }) ∷ after))) = ap (λ (xs : List Entry). length xs) e in omega arith
+
+-- ---- a file that is no journal
+
+hello_is_foreign : IsShown (codes "hello") NotAJournal
+hello_is_foreign = record {
+  finished = λ unfinished. elim unfinished [
+    | inl few ↦ let no : 5 ≤ 1 = few in omega arith
+    | inr more ↦ elim more [
+      | inl begun ↦ let no : ◌≡◌ {A = ℕ} 104 0 = begun.unfinished in omega arith
+      | inr ready ↦ let no : ◌≡◌ {A = ℕ} 5 18 = ready.ready.long in omega arith
+    ]
+  ];
+  other = inl (lit< tt);
+}
+
+not_a_record : (n : ℕ) → NotAJournal ≡ BadRecord n → ⊥
+not_a_record n e = cc
+
+said_of_hello : (cause : StartCause) (output : Stream) → SaysWhy cause output → IsShown (codes "hello") cause → WroteLine output (codes "badjournal,notajournal")
+said_of_hello NotAJournal output says shown = says
+said_of_hello (BadRecord n) output says shown = absurd (not_a_record n (shown_once (codes "hello") NotAJournal (BadRecord n) tt tt hello_is_foreign shown))
+said_of_hello (DiskFault count) output says shown = absurd says
+said_of_hello NoMemory output says shown = absurd says
+
+pub refuses_hello : {D : Type 0} (g : Ghosts D) → RefusesHello g
+refuses_hello g old new output honest reads refused =
+    said_of_hello refused.cause output refused.line (subst (λ (bytes : List ℕ). IsShown bytes refused.cause) reads (refused.shown honest))

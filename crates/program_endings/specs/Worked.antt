@@ -1,5 +1,6 @@
 -- Worked cases of endings, lines and replies. What was written is compared with what the lines have to be, byte by byte
 use Rattle.std.specs.Prelude.{◌+◌, ◌≡◌, ℕ, List, [], ◌∷◌, ◌++◌, Option, Some, None, codes, pos}
+use Rattle.outside_io.specs.declared.disks.Disk.{Ghosts}
 use Rattle.policy_types.specs.declared.command.Command.TheVariants.{Lapse}
 use Rattle.policy_types.specs.declared.entry.Call.TheVariants.{Post, Pin}
 use Rattle.policy_types.specs.declared.entry.Reply.{Reply}
@@ -10,10 +11,10 @@ use Rattle.office_state.specs.declared.faults.StartCause.TheVariants.{NotAJourna
 use Rattle.basis_shelf.specs.declared.fault.BasisWord.TheVariants.{AgeGap}
 use Rattle.program_endings.specs.declared.ending.Ending.TheVariants.{Done, Usage, BadScript, BadBasis as BadBasisFile, BadJournal, ReadFault, WriteFault, DiskFault, NoMemory, Ahead}
 use Rattle.program_endings.specs.Status.{status_of}
-use Rattle.program_endings.specs.Refusals.{SaysWhy}
+use Rattle.program_endings.specs.Refusals.{IsRefusedJournal, SaysWhy}
 use Rattle.program_endings.specs.Replies.{AreAnswered, ArePins, HasBlank, HaveAFault, LackMemory}
-use Rattle.program_endings.specs.WithoutBasis.{SaysBadFile}
-use Rattle.program_endings.specs.Writing.{GaveAll, Input, Stream, WroteLine, WroteNothing, WrotePart}
+use Rattle.program_endings.specs.WithoutBasis.{EndsNoBasis, SaysBadFile}
+use Rattle.program_endings.specs.Writing.{GaveAll, Input, Shelving, Stream, WroteLine, WroteNothing, WrotePart}
 
 -- no status is 1, and each ending has its own
 abbrev pub StatusesOfEndings : Type 0
@@ -43,6 +44,22 @@ LinesOfRefusals = SaysWhy NotAJournal (output_with 0 [] (codes "badjournal,notaj
     × (SaysWhy (BadRecord 17) (output_with 0 [] (codes "badjournal,badrecord,18" ++ 10 ∷ [])) → ⊥)
     × SaysBadFile (record { name = codes "q.xml"; place = 44; word = AgeGap })
     (output_with 0 [] (codes "badbasis,q.xml,44,agegap" ++ 10 ∷ [])) 4
+
+-- a shelf that is told to have no file of this name, with so many faults in between
+abbrev pub bare_shelf : ℕ → Shelving
+bare_shelf faults = record { faults_before = 3; faults_after = 3 + faults; Agrees = λ files. files (codes "b.csv") ≡ None }
+
+-- the absent file is named, at the place 0; a fault is told only where the shelf's count rose
+abbrev pub WithoutABasis : Type 0
+WithoutABasis = EndsNoBasis (codes "b.csv") (bare_shelf 0) (output_with 0 [] (codes "badbasis,b.csv,0,absent" ++ 10 ∷ [])) BadBasisFile
+    × (EndsNoBasis (codes "b.csv") (bare_shelf 0) (output_with 0 [] (codes "badbasis,b.csv,1,absent" ++ 10 ∷ [])) BadBasisFile → ⊥)
+    × EndsNoBasis (codes "b.csv") (bare_shelf 1) (output_with 0 [] (codes "readfault" ++ 10 ∷ [])) ReadFault
+    × (EndsNoBasis (codes "b.csv") (bare_shelf 0) (output_with 0 [] (codes "readfault" ++ 10 ∷ [])) ReadFault → ⊥)
+
+-- whatever the disk, five bytes that are no journal are refused as that, and not for a record
+abbrev pub RefusesHello : {D : Type 0} → Ghosts D → Type 0
+RefusesHello {D} g = (old new : D) (output : Stream) → g.honest new → g.reads old ≡ codes "hello"
+    → IsRefusedJournal g old new output → WroteLine output (codes "badjournal,notajournal")
 
 -- an input of four bytes, two of which are given and then the end
 abbrev pub input_of_two : Option (List ℕ) → List ℕ → Input

@@ -1,10 +1,11 @@
 // Why there is no office, and why there is no basis, in a line.
-ghost use Rattle.std.specs.Prelude.{◌≤◌};
-ghost use Rattle.basis_shelf.specs.declared.fault.NoBasis.TheVariants.{Bad};
+ghost use Rattle.std.specs.Prelude.{◌≡◌, ◌≤◌};
+ghost use Rattle.basis_shelf.specs.declared.fault.NoBasis.TheVariants.{Bad, ReadFault as ShelfFailed};
 ghost use Rattle.office_state.specs.declared.faults.StartCause.TheVariants.{BadRecord};
 ghost use Rattle.program_endings.specs.Refusals.{SaysUnopened};
 ghost use Rattle.program_endings.specs.WithoutBasis.{SaysNoBasis};
 ghost use Rattle.program_endings.specs.Writing.{between};
+ghost use Rattle.program_endings.specs.declared.ending.Ending.TheVariants.{ReadFault};
 
 use crate::ending::Ending;
 use crate::saying::{end, lack_memory};
@@ -40,6 +41,7 @@ fn refuse_record<K: Sink>(alloc: Global, n: u32, output: &mut K) -> Ending
 pub fn refuse_basis<K: Sink>(alloc: Global, cause: NoBasis, output: &mut K) -> Ending
     ensures later { K.faults output.old ≤ K.faults output.new }
     ensures says { SaysNoBasis cause (between K.faults K.written output.old output.new) result }
+    ensures failed { cause ≡ ShelfFailed → result ≡ ReadFault }
 {
     match cause {
         NoBasis::Bad(bad) => refuse_file(alloc, &bad, output),

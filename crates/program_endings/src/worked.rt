@@ -1,6 +1,8 @@
 //! Worked cases of endings, lines and replies, each a theorem over the definitions alone.
 
-ghost use Rattle.program_endings.specs.Worked.{AnsweredOrNot, GivenAndLeft, LinesAreWhole, LinesOfRefusals, StatusesOfEndings, WantsAndFaults};
+ghost use Rattle.program_endings.specs.Worked.{AnsweredOrNot, GivenAndLeft, LinesAreWhole, LinesOfRefusals, RefusesHello, StatusesOfEndings, WantsAndFaults, WithoutABasis};
+
+use outside_io::Disk;
 
 /// Each ending has its status.
 pub fn statuses_of_endings()
@@ -18,4 +20,14 @@ pub fn lines_that_were_written()
 pub fn replies_of_a_few_turns()
     ensures answered { AnsweredOrNot }
     ensures wants { WantsAndFaults }
+{}
+
+/// How a mode ends without a basis.
+pub fn ends_without_a_basis()
+    ensures { WithoutABasis }
+{}
+
+/// Over any disk, a file of five bytes that are no journal.
+pub fn a_file_that_is_no_journal<D: Disk>()
+    ensures { RefusesHello D.Disk }
 {}

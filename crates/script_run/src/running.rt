@@ -1,6 +1,6 @@
 // A run of a script: the basis is fetched where a line asks for values, the office is opened, each lane of the script is run
 // by a caller of its own, the office is closed, then the transcript is written.
-ghost use Rattle.std.specs.Prelude.{◌≡◌, ℕ, ◌≤◌, [], All, IfOk, length};
+ghost use Rattle.std.specs.Prelude.{◌≡◌, ℕ, ◌<◌, ◌≤◌, [], All, IfOk, length};
 ghost use Rattle.std.specs.List.{list_any};
 ghost use Rattle.lane_runner.specs.Lanes.{is_value};
 ghost use Rattle.shared_office.specs.Offices.{IsOfficeHistory};
@@ -10,6 +10,7 @@ ghost use Rattle.script_run.specs.Running.{EndsByName, EndsLanes, EndsRun};
 ghost use Rattle.script_run.specs.Outcome.{EndsScript};
 ghost use Rattle.script_run.specs.Script.{asks_for_values};
 ghost use Rattle.program_endings.specs.Writing.{between, input_between, shelf_between};
+ghost use Rattle.program_endings.specs.declared.ending.Ending.TheVariants.{ReadFault};
 ghost use Rattle.transcript_text.specs.Lanes.{AreScriptLanes};
 ghost use Rattle.script_run.specs.inside.Ran.{EndsRan, EndsTold};
 ghost use Rattle.transcript_text.specs.Told.{IsWritable};
@@ -56,6 +57,8 @@ pub fn run<
     ensures ends { EndsRun D.Disk disk result.disk name.now (W.handed watchers) (input_between S.faults S.left S.given S.ended input.old input.new)
         (between K.faults K.written output.old output.new) (shelf_between H.faults H.agrees shelf.old shelf.new)
         (shelf.new ≡ shelf.old) result.ending }
+    // Where the shelf failed the run ends with that, and with nothing else.
+    ensures counted { H.faults shelf.old < H.faults shelf.new → result.ending ≡ ReadFault }
     ensures files { H.files shelf.new ≡ H.files shelf.old }
 {
     match read_lanes(alloc, input) {
@@ -93,6 +96,7 @@ fn run_script<
     requires told { (before : ℕ) → W.told watchers before [] }
     ensures ends { EndsLanes D.Disk disk result.disk lanes.now name.now (W.handed watchers) (shelf_between H.faults H.agrees shelf.old shelf.new)
         (between K.faults K.written output.old output.new) (shelf.new ≡ shelf.old) result.ending }
+    ensures counted { H.faults shelf.old < H.faults shelf.new → result.ending ≡ ReadFault }
     ensures files { H.files shelf.new ≡ H.files shelf.old }
 {
     if needs_basis(lanes) {
@@ -125,6 +129,7 @@ fn run_by_name<
     requires told { (before : ℕ) → W.told watchers before [] }
     ensures ends { EndsByName D.Disk disk result.disk lanes.now name.now (W.handed watchers) (shelf_between H.faults H.agrees shelf.old shelf.new)
         (between K.faults K.written output.old output.new) result.ending }
+    ensures counted { H.faults shelf.old < H.faults shelf.new → result.ending ≡ ReadFault }
     ensures files { H.files shelf.new ≡ H.files shelf.old }
 {
     match fetch_basis(alloc, name, shelf) {

@@ -1,5 +1,5 @@
 -- Worked lines of `load`, put down by hand from the format
-use Rattle.std.specs.Prelude.{◌≡◌, [], ◌∷◌, ◌++◌, codes, pos}
+use Rattle.std.specs.Prelude.{◌≡◌, ℕ, List, [], ◌∷◌, ◌++◌, codes, pos}
 use Rattle.policy_types.specs.declared.command.Command.TheVariants.{Lapse}
 use Rattle.policy_types.specs.declared.entry.At.TheVariants.{Now}
 use Rattle.policy_types.specs.declared.entry.Call.TheVariants.{Post, Trim}
@@ -11,7 +11,10 @@ use Rattle.policy_types.specs.declared.script.Line.TheVariants.{Value}
 use Rattle.policy_value.specs.declared.worth.Measure.TheVariants.{Terminal}
 use Rattle.report_text.specs.Block.{block_text}
 use Rattle.report_text.specs.Worked.{valued, past_the_table, lapsed}
-use Rattle.trial_load.specs.Loading.{load_day, load_text, refused_in, valuation_lane}
+use Rattle.policy_machine.specs.History.{opened_on}
+use Rattle.program_endings.specs.Replies.{AreAnswered}
+use Rattle.program_endings.specs.Worked.{output_with}
+use Rattle.trial_load.specs.Loading.{HasLine, HasNoLine, load_day, load_text, refused_in, valuation_lane}
 
 -- sums of 254.44 and 254.46 over four policies of which one has no bounds, and nothing at all
 abbrev pub LinesOfLoads : Type 0
@@ -31,3 +34,16 @@ lapse_with reply = record { caller = 1; call = Post (Lapse 7001 (pos 18262)); re
 abbrev pub RefusedOfFive : Type 0
 RefusedOfFive = refused_in (lapse_with (Refused Unknown) ∷ lapse_with (Accepted 1) ∷ lapse_with (Faulted 3)
     ∷ (record { caller = 1; call = Trim; reply = Floor 1 }) ∷ lapse_with (Refused Unknown) ∷ []) ≡ 2
+
+-- the line was written of a history without turns, on no commands, by no basis
+abbrev pub HasWritten : List ℕ → List ℕ → Type 0
+HasWritten line dry =
+    HasLine [] (λ text. text ≡ line ++ 10 ∷ []) AreAnswered (opened_on [] 0) [] dry
+
+-- it counts nothing and nobody, and is written where the valuation found memory; else nothing is
+abbrev pub LinesWritten : Type 0
+LinesWritten = HasWritten (codes "load,0,0,0,0.00,0.00,0") []
+    × (HasWritten (codes "load,1,0,0,0.00,0.00,0") [] → ⊥)
+    × (HasWritten (codes "load,0,0,0,0.00,0.00,0") (0 ∷ []) → ⊥)
+    × HasNoLine (output_with 0 (codes "a") (codes "a")) (opened_on [] 0) [] (0 ∷ [])
+    × (HasNoLine (output_with 0 (codes "a") (codes "ab")) (opened_on [] 0) [] (0 ∷ []) → ⊥)

@@ -5,6 +5,7 @@ ghost use Rattle.shared_office.specs.Starting.{HasStartedOffice};
 ghost use Rattle.turn_lock.specs.Passes.{PassFacts};
 ghost use Rattle.trial_load.specs.Loading.{EndsBegun, EndsLoad, EndsLoading, load_text};
 ghost use Rattle.program_endings.specs.Writing.{between, shelf_between};
+ghost use Rattle.program_endings.specs.declared.ending.Ending.TheVariants.{ReadFault};
 ghost use Rattle.trial_load.specs.inside.Loaded.{AreLoadLanes, EndsLine, EndsLoaded, IsLoadAnswer, accepted_lines, refused_lines, tells_accepted, tells_refused};
 ghost use Rattle.program_endings.specs.Blocks.{IsWritableBlock};
 ghost use Rattle.report_text.specs.Block.{AreSummable};
@@ -56,6 +57,8 @@ pub fn load<R: Threads + Wait + Sync, K: Sink, H: Shelf, D: Disk + Send, G: Gate
     ensures ends { EndsLoad D.Disk disk result.disk seed count lanes workers
         (shelf_between H.faults H.agrees shelf.old shelf.new)
         (between K.faults K.written output.old output.new) result.ending }
+    // Where the shelf failed this is told, and nothing else.
+    ensures counted { H.faults shelf.old < H.faults shelf.new → result.ending ≡ ReadFault }
     ensures files { H.files shelf.new ≡ H.files shelf.old }
 {
     let Ok(name) = basis_name(alloc) else {

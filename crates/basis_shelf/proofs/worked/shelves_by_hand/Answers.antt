@@ -1,8 +1,6 @@
 use Rattle.std.proofs.Common.{◌≡◌, ◌+◌, ℕ, All, List, [], ◌∷◌, Option, None, Some, Ok, Err, length, refl, inl, inr, codes, pos, lit≤, arith}
 use Rattle.std.specs.Fmt.{digits}
-use Rattle.std.proofs.lemmas.Int.{ints}
 use Rattle.std.proofs.lemmas.List.Elements.{All-nil}
-use Rattle.rate_table.specs.Rates.{Rates}
 use Rattle.xtbml_subset.specs.Answers.{IsTableAnswer, SpellsTable}
 use Rattle.xtbml_subset.specs.declared.fault.TableKind.TheVariants.{NotDocument}
 use Rattle.xtbml_subset.specs.declared.fault.TableFault.TheVariants.{Bad}

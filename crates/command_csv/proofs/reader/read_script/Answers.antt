@@ -1,5 +1,6 @@
-use Rattle.command_csv.proofs.Progress.{script_read}
+use Rattle.command_csv.proofs.Exact.{gives_due}
 use Rattle.command_csv.proofs.reader.read_script.Goals as goal
 
-pub returns-clause-ok : goal.returns-clause-ok
-returns-clause-ok c = script_read c.args.bytes.now _ _ c.in_ok-entries.ensures.ok (rw c.as_slice.ensures.value at c.script_of.ensures.ok)
+pub returns-clause-due : goal.returns-clause-due
+returns-clause-due c = λ answer due.
+    gives_due c.args.bytes.now c.lanes_in.result answer c.lanes_in.ensures.ok c.lanes_in.ensures.fault due

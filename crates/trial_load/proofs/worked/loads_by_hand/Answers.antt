@@ -1,4 +1,5 @@
-use Rattle.std.proofs.Common.{refl}
+use Rattle.std.proofs.Common.{◌≡◌, ℕ, List, [], ◌∷◌, length, ap, refl, arith}
+use Rattle.std.specs.Prelude.{slice_index}
 use Rattle.std.specs.Fmt.{digits}
 use Rattle.life_dates.specs.Calendar.{date_of, date_at, year_of, month_of, days_before_year, days_of_months}
 use Rattle.life_dates.specs.DayText.{day_text}
@@ -15,3 +16,13 @@ returns-clause-day c = (refl, refl)
 
 pub returns-clause-refused : goal.returns-clause-refused
 returns-clause-refused c = refl
+
+pub returns-clause-written : goal.returns-clause-written
+unfolding digits
+returns-clause-written c = (
+  record { rows = []; each = tt; wrote = refl; found = refl; replies = (tt, refl) },
+  (λ h. let no : 48 ≡ 49 = ap (λ (xs : List ℕ). slice_index xs 5) h.wrote in omega arith),
+  (λ h. let no : 0 ∷ [] ≡ [] = h.found in cc),
+  refl,
+  (λ h. let no : 2 ≡ 1 = ap (λ (xs : List ℕ). length xs) h in omega arith),
+)

@@ -1,0 +1,156 @@
+-- Where the disk's count of faults rose and the output didn't fail, the ending tells it, but for want of memory
+use Rattle.std.proofs.Common.{◌≡◌, ◌<◌, ◌⊎◌, ℕ, ℤ, List, [], ◌∷◌, ◌++◌, refl, ap, ◌∙◌, inl, inr, None, Some, String, Global, arith}
+use Rattle.std.specs.List.{AllByRecursion, cons_option, filter_map, last_or}
+use Rattle.std.specs.Option.{unwrap_or}
+use Rattle.outside_io.specs.declared.disks.Disk.{Ghosts}
+use Rattle.outside_io.specs.Faults.{Rose}
+use Rattle.policy_types.specs.declared.command.Command.{Command}
+use Rattle.policy_types.specs.declared.entry.At.{At}
+use Rattle.policy_types.specs.declared.entry.Reply.{Reply}
+use Rattle.policy_types.specs.declared.entry.Reply.TheVariants.{Accepted, Refused, Faulted, Pinned, PinRefused, Slice, Unpinned, Floor, Blank}
+use Rattle.policy_types.specs.declared.entry.Entry.{Entry}
+use Rattle.policy_types.specs.declared.script.Lane.{Lane}
+use Rattle.policy_machine.specs.History.{fault_of, opened_on}
+use Rattle.basis_book.specs.Dated.{Dated}
+use Rattle.policy_value.specs.declared.worth.Measure.{Measure}
+use Rattle.watcher_set.specs.Noted.{Auditor}
+use Rattle.office_state.specs.Images.{IsLeftBy}
+use Rattle.life_args.specs.declared.mode.Mode.{Mode}
+use Rattle.life_args.specs.declared.mode.Mode.TheVariants.{Run, Value, State, Generate, Load}
+use Rattle.program_endings.specs.declared.ending.Ending.{Ending}
+use Rattle.program_endings.specs.declared.ending.Ending.TheVariants.{Done, BadJournal, WriteFault, DiskFault, NoMemory}
+use Rattle.program_endings.specs.Replies.{IsAnswered}
+use Rattle.program_endings.specs.Status.{status_of}
+use Rattle.program_endings.specs.Texts.{EndsReadOnly}
+use Rattle.program_endings.specs.Writing.{Input, Shelving, Stream, WroteAll}
+use Rattle.script_run.specs.Outcome.{EndsScript}
+use Rattle.script_run.specs.Running.{EndsLanes, EndsRun}
+use Rattle.book_state.specs.Books.{books_text, policy_account}
+use Rattle.book_state.specs.Stating.{EndsState, IsStated}
+use Rattle.book_value.specs.Valuing.{EndsValue, IsValued}
+use Rattle.trial_load.specs.Loading.{EndsLoad, EndsLoading}
+use Rattle.life_app.specs.Obeys.{Does, EndsMode}
+
+-- the numbers of the faults that were answered
+abbrev faults_met : List Entry → List ℕ
+faults_met history = filter_map (λ (entry : Entry). fault_of entry.reply) history
+
+no_fault : (reply : Reply) → IsAnswered reply → fault_of reply ≡ None
+no_fault (Faulted count) answered = absurd answered
+no_fault (Accepted position) answered = refl
+no_fault (Refused refusal) answered = refl
+no_fault (Pinned position policies) answered = refl
+no_fault (PinRefused refusal) answered = refl
+no_fault (Slice policies) answered = refl
+no_fault Unpinned answered = refl
+no_fault (Floor floor) answered = refl
+no_fault Blank answered = refl
+
+none_met : (history : List Entry) → AllByRecursion (λ (entry : Entry). IsAnswered entry.reply) history → faults_met history ≡ []
+none_met [] answered = refl
+none_met (entry ∷ history) answered =
+    ap (λ first. cons_option first (faults_met history)) (no_fault entry.reply answered.0) ∙ none_met history answered.1
+
+module _ {D : Type 0} (g : Ghosts D) (old new : D) (output : Stream) (rose : g.faults old < g.faults new)
+    (held : Rose output.faults_before output.faults_after → ⊥) where
+  abbrev IsTold : Ending → Type 0
+  IsTold ending = (status_of ending ≡ 8) ⊎ (status_of ending ≡ 9)
+
+  stood : g.faults new ≡ g.faults old → ⊥
+  stood same = omega (arith, rose, same)
+
+  untouched : new ≡ old → ⊥
+  untouched same = stood (ap (λ (d : D). g.faults d) same)
+
+  -- where every posting was answered the count stood
+  all_answered : (commands : List Command) (history : List Entry) → AllByRecursion (λ (entry : Entry). IsAnswered entry.reply) history
+      → IsLeftBy g old new (opened_on commands (g.faults old)) history → ⊥
+  all_answered commands history answered left =
+      stood (left.faults ∙ ap (λ (ns : List ℕ). unwrap_or (last_or None ns) (g.faults old)) (none_met history answered))
+
+  script_told : (lanes : List Lane) (basis : List Dated) (auditors : List Auditor) (ending : Ending)
+      → EndsScript g old new lanes basis auditors output ending → IsTold ending
+  script_told lanes basis auditors Done ends = absurd (all_answered ends.commands ends.history ends.replies.0 ends.disk)
+  script_told lanes basis auditors BadJournal ends = absurd (stood ends.quiet)
+  script_told lanes basis auditors WriteFault ends = absurd (held ends.0)
+  script_told lanes basis auditors DiskFault ends = inl refl
+  script_told lanes basis auditors NoMemory ends = inr refl
+  script_told lanes basis auditors _ ends = absurd ends
+
+  lanes_told : (lanes : List Lane) (name : List ℕ) (auditors : List Auditor) (shelf : Shelving) (ShelfStays : Type 0) (ending : Ending)
+      → EndsLanes g old new lanes name auditors shelf output ShelfStays ending → IsTold ending
+  lanes_told lanes name auditors shelf ShelfStays ending ends = elim ends [
+    | inl without ↦ script_told lanes _ auditors ending without.2
+    | inr (asks, inl by) ↦ script_told lanes by.basis auditors ending by.ends
+    | inr (asks, inr none) ↦ absurd (untouched none.0)
+  ]
+
+  run_told : (name : List ℕ) (auditors : List Auditor) (input : Input) (shelf : Shelving) (ShelfStays : Type 0) (ending : Ending)
+      → EndsRun g old new name auditors input output shelf ShelfStays ending → IsTold ending
+  run_told name auditors input shelf ShelfStays ending ends = elim ends [
+    | inl read ↦ lanes_told read.lanes name auditors shelf ShelfStays ending read.ends
+    | inr none ↦ absurd (untouched none.0)
+  ]
+
+  -- a mode that only reads
+  read_told : (Tells : (List ℕ → Type 0) → Type 0) (ending : Ending) → (Tells (WroteAll output) → ⊥)
+      → EndsReadOnly g old new Tells output ending → IsTold ending
+  read_told Tells Done never ends = absurd (never ends)
+  read_told Tells BadJournal never ends = absurd (stood ends.quiet)
+  read_told Tells WriteFault never ends = absurd (held ends.0)
+  read_told Tells DiskFault never ends = inl refl
+  read_told Tells NoMemory never ends = inr refl
+  read_told Tells _ never ends = absurd ends
+
+  value_told : (on : ℤ) (at : At) (measure : Measure) (name : List ℕ) (shelf : Shelving) (ending : Ending)
+      → EndsValue g old new on at measure name shelf output ending → IsTold ending
+  value_told on at measure name shelf ending ends = elim ends [
+    | inl by ↦ elim by.ends [
+      | inl valued ↦ read_told (IsValued g old new on at measure by.basis) ending (λ is. all_answered is.commands [] tt is.disk) valued
+      | inr (same, ahead) ↦ absurd (all_answered ahead.commands [] tt ahead.disk)
+    ]
+    | inr none ↦ absurd (untouched none.0)
+  ]
+
+  state_told : (text_of : List Command → List ℕ) (ending : Ending) → EndsState g old new text_of output ending → IsTold ending
+  state_told text_of ending ends = read_told (IsStated g old new text_of) ending (λ is. all_answered is.commands [] tt is.disk) ends
+
+  loading_told : (lanes : List Lane) (workers : ℕ) (basis : List Dated) (ending : Ending)
+      → EndsLoading g old new lanes workers basis output ending → IsTold ending
+  loading_told lanes workers basis Done ends =
+      absurd (all_answered ends.commands (ends.postings ++ ends.valuation) ends.tells.replies.0 ends.disk)
+  loading_told lanes workers basis BadJournal ends = absurd (stood ends.quiet)
+  loading_told lanes workers basis WriteFault ends = absurd (held ends.0)
+  loading_told lanes workers basis DiskFault ends = inl refl
+  loading_told lanes workers basis NoMemory ends = inr refl
+  loading_told lanes workers basis _ ends = absurd ends
+
+  load_told : (seed count lanes workers : ℕ) (shelf : Shelving) (ending : Ending)
+      → EndsLoad g old new seed count lanes workers shelf output ending → IsTold ending
+  load_told seed count lanes workers shelf ending ends = elim ends [
+    | inl by ↦ elim by.ends [
+      | inl load ↦ loading_told _ workers by.basis ending load
+      | inr none ↦ absurd (untouched none.0)
+    ]
+    | inr none ↦ absurd (untouched none.0)
+  ]
+
+  mode_told : (mode : Mode) (auditors : List Auditor) (input : Input) (shelf : Shelving) (InputStays ShelfStays : Type 0) (ending : Ending)
+      → EndsMode g old new mode auditors input output shelf InputStays ShelfStays ending → IsTold ending
+  mode_told (Run name) auditors input shelf InputStays ShelfStays ending ends = run_told name auditors input shelf ShelfStays ending ends
+  mode_told (Value on at workers name measure) auditors input shelf InputStays ShelfStays ending ends =
+      value_told on at measure name shelf ending ends.1
+  mode_told (State None) auditors input shelf InputStays ShelfStays ending ends = state_told books_text ending ends.2
+  mode_told (State (Some id)) auditors input shelf InputStays ShelfStays ending ends = state_told (policy_account id) ending ends.2
+  mode_told (Generate seed count lanes) auditors input shelf InputStays ShelfStays ending ends = absurd (untouched ends.2)
+  mode_told (Load seed count lanes workers) auditors input shelf InputStays ShelfStays ending ends =
+      load_told seed count lanes workers shelf ending ends.1
+
+  -- whatever the program does
+  pub fault_told : (words : List (String Global)) (auditors : List Auditor) (input : Input) (shelf : Shelving)
+      (InputStays ShelfStays : Type 0) (ending : Ending)
+      → Does g old new words auditors input output shelf InputStays ShelfStays ending → (status_of ending ≡ 8) ⊎ (status_of ending ≡ 9)
+  fault_told words auditors input shelf InputStays ShelfStays ending does = elim does [
+    | inl (mode, asked, ends) ↦ mode_told mode auditors input shelf InputStays ShelfStays ending ends
+    | inr unasked ↦ absurd (untouched unasked.disk)
+  ]

@@ -1,0 +1,20 @@
+-- Words have one answer
+use Rattle.std.proofs.Common.{List, map, string_bytes, ap, refl, Result, Ok, Err, String, Global}
+use Rattle.std.specs.Prelude.{IfOk, IfErr}
+use Rattle.life_args.specs.declared.fault.WordsFault.{WordsFault}
+use Rattle.life_args.specs.declared.fault.WordsFault.TheVariants.{Usage, NoMemory}
+use Rattle.life_args.specs.declared.mode.Mode.{Mode}
+use Rattle.life_args.specs.Answers.{GivesMode, IsWordsAnswer}
+use Rattle.life_args.specs.Words.{AskFor, IsFaultOf}
+use Rattle.life_args.proofs.Answering.{ask_once}
+
+pub gives_due : (words : List (String Global)) (given answer : Result Mode WordsFault) → IfOk given (AskFor words) → IfErr given (IsFaultOf words)
+    → IsWordsAnswer words answer → GivesMode given answer
+gives_due words (Ok mode) (Ok other) right fault due =
+    ap (λ (m : Mode). Ok m) (ask_once (map string_bytes words) other mode due right)
+gives_due words (Ok mode) (Err Usage) right fault due = absurd (due mode right)
+gives_due words (Ok mode) (Err NoMemory) right fault due = absurd due
+gives_due words (Err Usage) (Ok mode) right fault due = absurd (fault mode due)
+gives_due words (Err Usage) (Err Usage) right fault due = refl
+gives_due words (Err Usage) (Err NoMemory) right fault due = absurd due
+gives_due words (Err NoMemory) answer right fault due = tt
