@@ -7,6 +7,8 @@ use Rattle.policy_types.specs.declared.entry.Reply.{Reply}
 use Rattle.policy_types.specs.declared.entry.Reply.TheVariants.{Accepted, Refused, Faulted, Pinned, Blank}
 use Rattle.policy_types.specs.declared.entry.Entry.{Entry}
 use Rattle.policy_types.specs.declared.refusal.Refusal.TheVariants.{Unknown}
+use Rattle.policy_machine.specs.History.{IsLegal, opened_on}
+use Rattle.policy_machine.specs.Worked.Cases.{paid_once, posting, premium_on}
 use Rattle.office_state.specs.declared.faults.StartCause.TheVariants.{NotAJournal, BadRecord}
 use Rattle.basis_shelf.specs.declared.fault.BasisWord.TheVariants.{AgeGap}
 use Rattle.program_endings.specs.declared.ending.Ending.TheVariants.{Done, Usage, BadScript, BadBasis as BadBasisFile, BadJournal, ReadFault, WriteFault, DiskFault, NoMemory, Ahead}
@@ -105,3 +107,15 @@ WantsAndFaults = HasBlank (pinned_turn ∷ lapse_turn Blank ∷ [])
     × (LackMemory (lapse_turn Blank ∷ lapse_turn (Faulted 4) ∷ []) [] → ⊥)
     × HaveAFault (pinned_turn ∷ lapse_turn (Faulted 4) ∷ []) []
     × (HaveAFault (pinned_turn ∷ []) [] → ⊥)
+
+-- an office is opened on an issue and its first premium: the second premium is the third command
+abbrev pub LegalPremium : Type 0
+LegalPremium = IsLegal (opened_on paid_once 0) (posting (premium_on (pos 18628)) (Accepted 3) ∷ [])
+
+-- and not the second one again
+abbrev pub NoLegalSecond : Type 0
+NoLegalSecond = IsLegal (opened_on paid_once 0) (posting (premium_on (pos 18628)) (Accepted 2) ∷ []) → ⊥
+
+-- on a premium alone there is no history, not even one without turns
+abbrev pub NothingLegal : Type 0
+NothingLegal = IsLegal (opened_on (premium_on (pos 18262) ∷ []) 0) [] → ⊥
