@@ -8,7 +8,8 @@ use Rattle.policy_types.specs.declared.entry.Reply.TheVariants.{Accepted, Refuse
 use Rattle.policy_types.specs.declared.entry.Entry.{Entry}
 use Rattle.policy_types.specs.declared.refusal.Refusal.TheVariants.{Unknown}
 use Rattle.policy_machine.specs.History.{IsLegal, opened_on}
-use Rattle.policy_machine.specs.Worked.Cases.{paid_once, posting, premium_on}
+use Rattle.policy_machine.specs.Worked.Cases.{posting, premium_on, unpaid}
+use Rattle.policy_machine.specs.Worked.Pins.{second_issue}
 use Rattle.office_state.specs.declared.faults.StartCause.TheVariants.{NotAJournal, BadRecord}
 use Rattle.basis_shelf.specs.declared.fault.BasisWord.TheVariants.{AgeGap}
 use Rattle.program_endings.specs.declared.ending.Ending.TheVariants.{Done, Usage, BadScript, BadBasis as BadBasisFile, BadJournal, ReadFault, WriteFault, DiskFault, NoMemory, Ahead}
@@ -108,13 +109,13 @@ WantsAndFaults = HasBlank (pinned_turn ∷ lapse_turn Blank ∷ [])
     × HaveAFault (pinned_turn ∷ lapse_turn (Faulted 4) ∷ []) []
     × (HaveAFault (pinned_turn ∷ []) [] → ⊥)
 
--- an office is opened on an issue and its first premium: the second premium is the third command
-abbrev pub LegalPremium : Type 0
-LegalPremium = IsLegal (opened_on paid_once 0) (posting (premium_on (pos 18628)) (Accepted 3) ∷ [])
+-- an office is opened on one issue: another is the second command
+abbrev pub LegalIssue : Type 0
+LegalIssue = IsLegal (opened_on unpaid 0) (posting second_issue (Accepted 2) ∷ [])
 
--- and not the second one again
-abbrev pub NoLegalSecond : Type 0
-NoLegalSecond = IsLegal (opened_on paid_once 0) (posting (premium_on (pos 18628)) (Accepted 2) ∷ []) → ⊥
+-- and not the first one again
+abbrev pub NoLegalFirst : Type 0
+NoLegalFirst = IsLegal (opened_on unpaid 0) (posting second_issue (Accepted 1) ∷ []) → ⊥
 
 -- on a premium alone there is no history, not even one without turns
 abbrev pub NothingLegal : Type 0
