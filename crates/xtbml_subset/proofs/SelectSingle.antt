@@ -1,8 +1,7 @@
 -- The checks of a table of either kind have one answer.
-use Rattle.std.proofs.Common.{◌≡◌, ℕ, List, [], ◌∷◌, Option, Some, None, Result, Ok, Err, sym, ap, subst, ◌∙◌}
+use Rattle.std.proofs.Common.{◌≡◌, ℕ, ◌+◌, List, [], ◌∷◌, Option, Some, None, Result, Ok, Err, sym, ap, ◌∙◌}
 use Rattle.rate_table.specs.Rates.{Rates}
 use Rattle.select_rates.specs.Select.{Selected}
-use Rattle.select_rates.specs.declared.any.AnyTable.{AnyTable}
 use Rattle.xtbml_subset.specs.declared.fault.TableFault.{TableFault}
 use Rattle.xtbml_subset.specs.declared.period.Attained.{Attained}
 use Rattle.xtbml_subset.specs.Checks.{RateElement, age_of, is_due, IsScale}
