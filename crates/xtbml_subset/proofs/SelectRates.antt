@@ -10,7 +10,7 @@ use Rattle.xtbml_subset.specs.declared.fault.TableKind.TheVariants.{BadDuration}
 use Rattle.xtbml_subset.specs.declared.fault.TableFault.TheVariants.{Bad}
 use Rattle.xtbml_subset.specs.declared.period.Attained.{Attained}
 use Rattle.xtbml_subset.specs.Checks.{RateElement, age_of, is_due, ReadsRate}
-use Rattle.xtbml_subset.specs.SelectChecks.{Issue, Further, ReadsAll, duration_of, follows, is_duration, timed, IsTimed, ReadsDuration, ReadsPeriod, IsIssued, ReadsIssue, first_issue_age, leaves_gap, first_gap}
+use Rattle.xtbml_subset.specs.SelectChecks.{Issue, Further, ReadsAll, duration_of, follows, is_duration, timed, IsTimed, ReadsDuration, ReadsPeriod, IsIssuedAt, ReadsIssue, first_issue_age, leaves_gap, first_gap}
 use Rattle.xtbml_subset.proofs.Options.{chosen}
 use Rattle.xtbml_subset.proofs.TableRates.{at_test, age_bound, rate_bound}
 use Rattle.xtbml_subset.proofs.ReadingRuns.{first_of_all, ok_is_list, all_count}
@@ -116,7 +116,7 @@ period_read at age (row ∷ rows) next rates young h = by h.0 h.1 h.2
 issue_read : (due : Option ℕ) (issue : Issue) (next : Option ℕ) (rates : List ℕ) → ReadsIssue due issue (Ok (next, rates)) → IsIssueRead due issue next rates
 issue_read due issue next rates is = at (age_of issue.label) refl is
   where
-    at : (o : Option ℕ) → age_of issue.label ≡ o → IsIssued due issue o (Ok (next, rates)) → IsIssueRead due issue next rates
+    at : (o : Option ℕ) → age_of issue.label ≡ o → IsIssuedAt due issue o (Ok (next, rates)) → IsIssueRead due issue next rates
     at None e none = absurd cc
     at (Some age) e read =
         elim (at_test (is_due due age) _ _ read) [
