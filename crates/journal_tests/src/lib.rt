@@ -2,6 +2,8 @@
 #![tactic(auto)]
 
 #[cfg(test)]
+mod checkpoint_store_tests;
+#[cfg(test)]
 mod memory_disk_tests;
 #[cfg(test)]
 mod outside_io_tests;

@@ -1,0 +1,47 @@
+-- Which bytes are a checkpoint, and of which snapshot
+use Rattle.std.specs.Prelude.{◌≡◌, ◌⊎◌, nat_eq, ℕ, ◌*◌, ◌≤◌, List, length, map, slice_index}
+use Rattle.std.specs.List.{AllByRecursion, IsDistinct}
+use Rattle.money_ledgers.specs.Balances.{balances}
+use Rattle.policy_machine.specs.Accounts.{ledger_of}
+use Rattle.policy_machine.specs.Book.{book, upgrade_of}
+use Rattle.policy_machine.specs.Rules.{IsSound}
+use Rattle.policy_types.specs.Accounts.{AreWithin}
+use Rattle.policy_types.specs.Limits.{most_commands}
+use Rattle.policy_types.specs.declared.command.Command.{Command}
+use Rattle.policy_types.specs.declared.policy.Policy.{Policy}
+use Rattle.checkpoint_store.specs.declared.snapshot.Snapshot.{Snapshot}
+use Rattle.checkpoint_store.specs.Spelling.{snapshot_bytes, StandBehindGate}
+
+-- the numbers of the policies
+abbrev pub policy_ids : List Policy → List ℕ
+policy_ids policies = map (λ (p : Policy). p.id) policies
+
+-- There are no more policies than commands, and no command has moved a balance by more than 4 * 10^10 cents.
+pub record HasFigures (s : Snapshot) : Type 0 where
+  pub position_in : s.position ≤ most_commands
+  pub upgrade_in : s.upgrade ≤ s.position
+  pub policies_in : length s.book ≤ s.position
+  pub balances_in : AreWithin (40000000000 * s.position) (balances s.ledger)
+
+-- What holds of every snapshot of a journal: its figures fit together, each policy is sound, and their numbers differ.
+pub record IsSoundSnapshot (s : Snapshot) : Type 0 where
+  pub figures : HasFigures s
+  pub sound : AllByRecursion IsSound s.book
+  pub distinct : IsDistinct nat_eq (policy_ids s.book)
+
+-- The file is a checkpoint, and this is its snapshot. What stands behind the last policy has no meaning.
+pub record CheckpointBytes (file : List ℕ) (s : Snapshot) : Type 0 where
+  pub opened : slice_index file 0 ≡ 1
+  pub spelled : StandBehindGate (snapshot_bytes s) file
+  pub sound : IsSoundSnapshot s
+
+-- the file is a checkpoint of no snapshot
+abbrev pub IsNoCheckpoint : List ℕ → Type 0
+IsNoCheckpoint file = (s : Snapshot) → CheckpointBytes file s → ⊥
+
+-- the snapshot is the one that these commands leave
+pub record IsSnapshotOf (commands : List Command) (s : Snapshot) : Type 0 where
+  pub position : s.position ≡ length commands
+  pub upgrade : s.upgrade ≡ upgrade_of commands
+  pub ledger : balances s.ledger ≡ ledger_of commands
+  pub policies : s.book ≡ book commands

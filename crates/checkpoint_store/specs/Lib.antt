@@ -1,0 +1,6 @@
+pub mod Spelling
+pub mod Checkpoints
+pub mod Stores
+pub mod Starts
+pub mod Worked
+pub mod inside

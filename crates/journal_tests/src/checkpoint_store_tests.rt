@@ -1,0 +1,194 @@
+// The bytes of a checkpoint, and what faults and crashes leave of one. The files were packed by hand from the layout.
+use checkpoint_store::{Snapshot, Store, StoreFault};
+use memory_disk::MemoryDisk;
+use money_ledgers::Ledger;
+use outside_io::Disk;
+use policy_types::{Plan, Policy, Slice, Status};
+use posting_journal::DiskFault;
+use std::alloc::{AllocError, Global};
+use std::test::Fail;
+
+// LIFECHKP, 1, 48 and four zeros; position 4, no upgrade, one policy; 0.00, -400.00, 1000.00 and -600.00; three zeros.
+const CLAIMED_FRONT: &[u8] = b"\x01\x4c\x49\x46\x45\x43\x48\x4b\x50\x00\x01\x00\x30\x00\x00\x00\x00\x00\x00\x00\x04\x00\x00\x00\x00\x00\x00\x00\x01\x00\x00\x00\x00\x00\x00\x00\x00\xff\xff\xff\xff\xff\xff\x63\xc0\x00\x00\x00\x00\x00\x01\x86\xa0\xff\xff\xff\xff\xff\xff\x15\xa0\x00\x00\x00";
+
+// An endowment of 1000.00 for three years at age 0 with a premium of 400.00, number 7001, issued on 2020-01-01, of which
+// 600.00 of a claim are outstanding on 2020-07-01.
+const CLAIMED_POLICY: &[u8] = b"\x00\x00\x1b\x59\x03\x00\x03\x01\x03\x00\x00\x00\x00\x00\x47\x56\x00\x00\x48\x0c\x00\x00\x00\x00\x00\x01\x86\xa0\x00\x00\x00\x00\x00\x00\x9c\x40\x00\x00\x00\x00\x00\x00\xea\x60\x00\x00\x00\x00";
+
+fn claimed() -> Policy {
+    Policy {
+        id: 7001,
+        plan: Plan::Endowment,
+        age: 0,
+        years: 3,
+        amount: 100_000,
+        premium: 40_000,
+        issued: 18262,
+        last: 18444,
+        paid: 1,
+        status: Status::Claimed,
+        outstanding: 60_000,
+    }
+}
+
+fn snapshot_of(alloc: Global, policies: &[Policy]) -> Result<Snapshot, AllocError> {
+    Ok(Snapshot {
+        position: 4,
+        upgrade: 0,
+        ledger: Ledger {
+            cash: 0,
+            premiums: -40_000,
+            incurred: 100_000,
+            payable: -60_000,
+        },
+        book: Slice::new(Vec::from_slice(alloc, policies)?),
+    })
+}
+
+fn file_of(alloc: Global, parts: &[&[u8]]) -> Result<Vec<u8>, AllocError> {
+    let mut bytes = Vec::new(alloc);
+    for part in parts {
+        bytes.extend_from_slice(part)?;
+    }
+    Ok(bytes)
+}
+
+// What starting a store and saving answer, each the count of a fault, and the disk.
+fn saved(disk: MemoryDisk, snapshot: &Snapshot) -> (Result<(), u64>, MemoryDisk) {
+    match Store::start(disk) {
+        Ok(mut store) => match store.save(snapshot) {
+            Ok(()) => (Ok(()), store.release()),
+            Err(DiskFault { count }) => (Err(count), store.release()),
+        },
+        Err(fault) => {
+            let StoreFault { count, disk } = fault;
+            (Err(count), disk)
+        }
+    }
+}
+
+#[test]
+fn a_snapshot_is_spelled(rt: HostRuntime) -> Result<(), AllocError> {
+    let alloc = rt.alloc();
+    let snapshot = snapshot_of(alloc, &[claimed()])?;
+    let wanted = file_of(alloc, &[CLAIMED_FRONT, CLAIMED_POLICY])?;
+    for before in [&[] as &[u8], &[0], &[7; 40], &[1; 40]] {
+        let (answer, disk) = saved(
+            MemoryDisk::new(alloc, Vec::from_slice(alloc, before)?, Vec::new(alloc)),
+            &snapshot,
+        );
+        assert!(rt; answer == Ok(()) && disk.bytes() == wanted.as_slice());
+    }
+    Ok(())
+}
+
+// The bytes behind the new ones stay.
+#[test]
+fn a_longer_file_is_not_cut(rt: HostRuntime) -> Result<(), AllocError> {
+    let alloc = rt.alloc();
+    let snapshot = snapshot_of(alloc, &[claimed()])?;
+    let before = file_of(alloc, &[&[1; 200]])?;
+    let wanted = file_of(alloc, &[CLAIMED_FRONT, CLAIMED_POLICY, &[1; 88]])?;
+    let (answer, disk) = saved(MemoryDisk::new(alloc, before, Vec::new(alloc)), &snapshot);
+    assert!(rt; answer == Ok(()) && disk.bytes() == wanted.as_slice());
+    Ok(())
+}
+
+// Whether each image of the disk, at each moment and with each front of the unsafe writes, has a closed gate, or is one
+// of the two files.
+fn leaves_only(
+    alloc: Global,
+    disk: &MemoryDisk,
+    old: &[u8],
+    new: &[u8],
+) -> Result<bool, AllocError> {
+    let calls = disk.calls();
+    for moment in 0..calls + 1 {
+        for keep in 0..4 {
+            let Ok(image) = disk.image(alloc, moment, keep) else {
+                return Ok(false);
+            };
+            let bytes = image.as_slice();
+            let closed = bytes.is_empty() || bytes[0] != 1;
+            if !closed && bytes != old && bytes != new {
+                return Ok(false);
+            }
+        }
+        for reached in [0, 1, 2, 30, 63, 64, 100] {
+            let Ok(image) = disk.torn_image(alloc, moment, reached) else {
+                return Ok(false);
+            };
+            let bytes = image.as_slice();
+            let closed = bytes.is_empty() || bytes[0] != 1;
+            if !closed && bytes != old && bytes != new {
+                return Ok(false);
+            }
+        }
+    }
+    Ok(true)
+}
+
+// Sync, length, gate, then the gate and a sync, the front, the policies and a sync, the gate and a sync.
+#[test]
+fn a_fault_or_a_crash_leaves_the_old_or_the_new(rt: HostRuntime) -> Result<(), Fail> {
+    let alloc = rt.alloc();
+    let mut other = claimed();
+    other.id = 7002;
+    let old = file_of(alloc, &[CLAIMED_FRONT, CLAIMED_POLICY])?;
+    let snapshot = snapshot_of(alloc, &[claimed(), other])?;
+    let (answer, disk) = saved(
+        MemoryDisk::new(alloc, Vec::from_slice(alloc, old.as_slice())?, Vec::new(alloc)),
+        &snapshot,
+    );
+    assert!(rt; answer == Ok(()) && disk.calls() == 10);
+    let new = Vec::from_slice(alloc, disk.bytes())?;
+    assert!(rt; new.len() == 160);
+    assert!(rt; leaves_only(alloc, &disk, old.as_slice(), new.as_slice())?);
+    for call in 1..11_u64 {
+        let failing = Vec::from_slice(alloc, &[call])?;
+        let (answer, disk) = saved(
+            MemoryDisk::new(alloc, Vec::from_slice(alloc, old.as_slice())?, failing),
+            &snapshot,
+        );
+        assert!(rt; answer == Err(1) && disk.faults() == 1, "call {call}");
+        assert!(rt; leaves_only(alloc, &disk, old.as_slice(), new.as_slice())?, "call {call}");
+    }
+    Ok(())
+}
+
+// A save after a fault in each call of an earlier one.
+#[test]
+fn a_save_after_a_fault_is_whole(rt: HostRuntime) -> Result<(), Fail> {
+    let alloc = rt.alloc();
+    let snapshot = snapshot_of(alloc, &[claimed()])?;
+    let wanted = file_of(alloc, &[CLAIMED_FRONT, CLAIMED_POLICY])?;
+    for call in 4..11_u64 {
+        let failing = Vec::from_slice(alloc, &[call])?;
+        let before = file_of(alloc, &[CLAIMED_FRONT, CLAIMED_POLICY])?;
+        let Ok(mut store) = Store::start(MemoryDisk::new(alloc, before, failing)) else {
+            return Err(Fail::new("not started"));
+        };
+        assert!(rt; store.save(&snapshot).is_err(), "call {call}");
+        assert!(rt; store.save(&snapshot).is_ok(), "call {call}");
+        let disk = store.release();
+        assert!(rt; disk.bytes() == wanted.as_slice(), "call {call}");
+        assert!(rt; leaves_only(alloc, &disk, wanted.as_slice(), wanted.as_slice())?, "call {call}");
+    }
+    Ok(())
+}
+
+// A gate that is known to be closed isn't written first: two calls fewer.
+#[test]
+fn a_closed_gate_is_left(rt: HostRuntime) -> Result<(), AllocError> {
+    let alloc = rt.alloc();
+    let snapshot = snapshot_of(alloc, &[claimed()])?;
+    let cases: [(&[u8], u32); 3] = [(&[0], 8), (&[1], 10), (&[], 9)];
+    for (before, calls) in cases {
+        let (answer, disk) = saved(
+            MemoryDisk::new(alloc, Vec::from_slice(alloc, before)?, Vec::new(alloc)),
+            &snapshot,
+        );
+        assert!(rt; answer == Ok(()) && disk.calls() == calls);
+    }
+    Ok(())
+}
