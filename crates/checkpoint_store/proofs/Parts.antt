@@ -1,5 +1,5 @@
 -- Arrays that are put together.
-use Rattle.std.proofs.Common.{◌≡◌, ℕ, ◌+◌, List, [], ◌∷◌, ◌++◌, length, take, drop, get_or, refl, sym, ◌∙◌, ap, arith, length-append}
+use Rattle.std.proofs.Common.{◌≡◌, ℕ, List, [], ◌∷◌, ◌++◌, length, take, drop, get_or, refl, ◌∙◌, ap, arith, length-append}
 use Rattle.std.proofs.lemmas.List.{append-nil, drop_all, length-drop, take_at}
 use Rattle.std.specs.Int.{w64, to_be_bytes, cast_unsigned}
 use Rattle.money_ledgers.specs.declared.ledger.Ledger.{Ledger}

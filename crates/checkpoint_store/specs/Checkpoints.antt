@@ -1,5 +1,5 @@
 -- Which bytes are a checkpoint, and of which snapshot
-use Rattle.std.specs.Prelude.{◌≡◌, ◌⊎◌, nat_eq, ℕ, ◌*◌, ◌≤◌, List, length, map, slice_index}
+use Rattle.std.specs.Prelude.{◌≡◌, nat_eq, ℕ, ◌*◌, ◌≤◌, List, length, map, slice_index}
 use Rattle.std.specs.List.{AllByRecursion, IsDistinct}
 use Rattle.money_ledgers.specs.Balances.{balances}
 use Rattle.policy_machine.specs.Accounts.{ledger_of}

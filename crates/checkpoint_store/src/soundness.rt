@@ -1,16 +1,18 @@
 // Whether a snapshot is sound.
-ghost use Rattle.std.specs.Prelude.{◌≡◌, nat_eq, ◌≤◌, ◌↔◌, IsTrue, IfOk};
+ghost use Rattle.std.specs.Prelude.{◌≡◌, nat_eq, ◌<◌, ◌≤◌, ◌↔◌, ◌≤ℤ◌, IsTrue, IfOk};
 ghost use Rattle.std.specs.List.{AllByRecursion, IsDistinct};
 ghost use Rattle.std.specs.List.Sorted.{IsStrictlyIncreasing};
 ghost use Rattle.money_ledgers.specs.Balances.{balances};
-ghost use Rattle.policy_machine.specs.Rules.{IsSound, awaits_settlement as is_to_settle, payments_of};
+ghost use Rattle.policy_machine.specs.Rules.{IsSound, awaits_settlement, payments_of};
 ghost use Rattle.policy_types.specs.Accounts.{AreWithin, IsWithin};
-ghost use Rattle.policy_types.specs.Valid.{IsIssue};
+ghost use Rattle.policy_types.specs.Valid.{IsCommandDay, IsIssue};
 ghost use Rattle.checkpoint_store.specs.Checkpoints.{HasFigures, IsSoundSnapshot, policy_ids};
 
 use crate::Snapshot;
 use money_ledgers::Ledger;
-use policy_types::{Command, END_AGE, LAST_DAY, MOST_REINSTATEMENT_CENTS, Plan, Policy, Status};
+use policy_types::{
+    Command, END_AGE, FIRST_DAY, LAST_DAY, MOST_REINSTATEMENT_CENTS, Plan, Policy, Status,
+};
 use std::alloc::{AllocError, Global};
 
 // The commands that an office accepts in all.
@@ -37,31 +39,28 @@ impl Snapshot {
             && self.book.as_slice().len() <= self.position as usize
             && are_within(
                 MOST_REINSTATEMENT_CENTS * u64::from(self.position),
-                &self.ledger,
+                self.ledger,
             )
     }
 }
 
 // Whether no balance has more cents, above or below nothing.
-fn are_within(most: u64, ledger: &Ledger) -> bool
-    ensures { IsTrue result ↔ AreWithin most (balances ledger.now) }
+fn are_within(most: u64, ledger: Ledger) -> bool
+    ensures { IsTrue result ↔ AreWithin most (balances ledger) }
 {
     let Ledger {
         cash,
         premiums,
         incurred,
         payable,
-    } = *ledger;
-    is_within(most, cash)
-        && is_within(most, premiums)
-        && is_within(most, incurred)
-        && is_within(most, payable)
+    } = ledger;
+    are_both_within(most, cash, premiums) && are_both_within(most, incurred, payable)
 }
 
-fn is_within(most: u64, balance: i64) -> bool
-    ensures { IsTrue result ↔ IsWithin most balance }
+fn are_both_within(most: u64, one: i64, other: i64) -> bool
+    ensures { IsTrue result ↔ (IsWithin most one × IsWithin most other) }
 {
-    balance.unsigned_abs() <= most
+    one.unsigned_abs() <= most && other.unsigned_abs() <= most
 }
 
 fn are_sound(policies: &[Policy]) -> bool
@@ -69,7 +68,7 @@ fn are_sound(policies: &[Policy]) -> bool
 {
     let mut done = 0;
     while done < policies.len() {
-        if !is_sound(policies[done]) {
+        if !is_sound_policy(policies[done]) {
             return false;
         }
         done += 1;
@@ -77,15 +76,33 @@ fn are_sound(policies: &[Policy]) -> bool
     true
 }
 
-fn is_sound(policy: Policy) -> bool
+fn is_sound_policy(policy: Policy) -> bool
     ensures { IsTrue result ↔ IsSound policy }
 {
     is_issue(policy)
         && policy.paid <= payments(policy)
-        && policy.issued <= policy.last
-        && policy.last <= LAST_DAY
-        && policy.outstanding <= policy.amount
-        && (0 < policy.outstanding) == awaits_settlement(policy.status)
+        && has_days_in_order(policy)
+        && owes_what_awaits(policy)
+}
+
+fn has_days_in_order(policy: Policy) -> bool
+    ensures { IsTrue result ↔ ((policy.issued ≤ℤ policy.last) × IsCommandDay policy.last) }
+{
+    policy.issued <= policy.last && FIRST_DAY <= policy.last && policy.last <= LAST_DAY
+}
+
+// Whether just what awaits settlement is outstanding, and no more than the amount.
+fn owes_what_awaits(policy: Policy) -> bool
+    ensures { IsTrue result ↔ ((policy.outstanding ≤ policy.amount)
+        × ((0 < policy.outstanding) ↔ IsTrue (awaits_settlement policy.status))) }
+{
+    match policy.status {
+        Status::Claimed | Status::Matured => {
+            0 < policy.outstanding && policy.outstanding <= policy.amount
+        }
+        Status::InForce | Status::Lapsed | Status::Expired | Status::Settled | Status::PaidUp =>
+            policy.outstanding == 0,
+    }
 }
 
 // Whether an issue of the policy's fields would be valid.
@@ -112,19 +129,6 @@ fn payments(policy: Policy) -> u8
     match policy.plan {
         Plan::Term | Plan::Endowment | Plan::Limited => policy.years,
         Plan::Whole => END_AGE as u8 - policy.age,
-    }
-}
-
-fn awaits_settlement(status: Status) -> bool
-    ensures { result ≡ is_to_settle status }
-{
-    match status {
-        Status::Claimed | Status::Matured => true,
-        Status::InForce
-        | Status::Lapsed
-        | Status::Expired
-        | Status::Settled
-        | Status::PaidUp => false,
     }
 }
 

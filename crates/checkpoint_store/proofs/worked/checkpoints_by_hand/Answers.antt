@@ -3,7 +3,7 @@ use Rattle.std.proofs.lemmas.Bool.{eqb-false}
 use Rattle.std.proofs.lemmas.Int.{ints}
 use Rattle.std.proofs.lemmas.List.{append-nil, take_at}
 use Rattle.std.specs.List.{IsDistinct}
-use Rattle.checkpoint_store.specs.Checkpoints.{CheckpointBytes, IsSoundSnapshot}
+use Rattle.checkpoint_store.specs.Checkpoints.{IsSoundSnapshot}
 use Rattle.checkpoint_store.specs.Spelling.{balance_bytes, policy_bytes, position_bytes, snapshot_bytes, StandBehindGate}
 use Rattle.checkpoint_store.specs.Worked.{claimed_bytes, claimed_snapshot}
 use Rattle.checkpoint_store.proofs.worked.checkpoints_by_hand.Goals as goal

@@ -1,5 +1,5 @@
 -- All that is written stands behind the gate, which stays closed.
-use Rattle.std.proofs.Common.{◌≡◌, List, [], ◌++◌, length, refl, sym, subst, take, arith}
+use Rattle.std.proofs.Common.{List, [], ◌++◌, refl, sym, subst, arith}
 use Rattle.std.specs.List.{flat_map}
 use Rattle.policy_types.specs.declared.policy.Policy.{Policy}
 use Rattle.checkpoint_store.specs.Spelling.{policy_bytes, snapshot_bytes, StandBehindGate}
