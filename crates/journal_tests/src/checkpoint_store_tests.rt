@@ -131,37 +131,45 @@ fn a_longer_file_is_not_cut(rt: HostRuntime) -> Result<(), Fail> {
 }
 
 // Whether each image of the disk, at each moment and with each front of the unsafe writes, has a closed gate, or is one
-// of the two files.
+// of the two files. It made fewer than 32 calls.
 fn leaves_only(
     alloc: Global,
     disk: &MemoryDisk,
     old: &[u8],
     new: &[u8],
 ) -> Result<bool, AllocError> {
-    let calls = disk.calls();
-    for moment in 0..calls + 1 {
-        for keep in 0..4 {
-            let Ok(image) = disk.image(alloc, moment, keep) else {
-                return Ok(false);
-            };
-            let bytes = image.as_slice();
-            let closed = bytes.is_empty() || bytes[0] != 1;
-            if !closed && bytes != old && bytes != new {
-                return Ok(false);
-            }
+    for moment in 0..32 {
+        if !leaves_at(alloc, disk, moment, old, new)? {
+            return Ok(false);
         }
-        for reached in [0, 1, 2, 30, 63, 64, 100] {
-            let Ok(image) = disk.torn_image(alloc, moment, reached) else {
-                return Ok(false);
-            };
-            let bytes = image.as_slice();
-            let closed = bytes.is_empty() || bytes[0] != 1;
-            if !closed && bytes != old && bytes != new {
-                return Ok(false);
-            }
+    }
+    Ok(disk.calls() < 32)
+}
+
+fn leaves_at(
+    alloc: Global,
+    disk: &MemoryDisk,
+    moment: u32,
+    old: &[u8],
+    new: &[u8],
+) -> Result<bool, AllocError> {
+    if moment > disk.calls() {
+        return Ok(true);
+    }
+    for (keep, reached) in [(0, 0), (1, 1), (2, 2), (3, 30), (3, 63), (3, 64), (3, 100)] {
+        let whole = disk.image(alloc, moment, keep).map_err(|_| AllocError)?;
+        let torn = disk
+            .torn_image(alloc, moment, reached)
+            .map_err(|_| AllocError)?;
+        if !is_closed_or(whole.as_slice(), old, new) || !is_closed_or(torn.as_slice(), old, new) {
+            return Ok(false);
         }
     }
     Ok(true)
+}
+
+fn is_closed_or(file: &[u8], old: &[u8], new: &[u8]) -> bool {
+    file.is_empty() || file[0] != 1 || file == old || file == new
 }
 
 // Sync, length, gate, then the gate and a sync, the front, the policies and a sync, the gate and a sync.
