@@ -37,9 +37,6 @@ EXCEPTIONS = {
     "Says nothing.": "program_endings.specs.Replies.AreAny",
 }
 
-# Held by none yet: each wants a worked case.
-NOT_YET = "policy_machine.specs.History.IsLegal"
-
 
 def cases_of(definitions):
     """The worked cases: those that a contract names."""
@@ -58,9 +55,8 @@ def main():
     promise = {it for it in under({ROOT}, set()) if ".Worked" not in it}
     bare = promise - under(cases, set(EXCEPTIONS[OF_A_DISK].split()))
     excepted = {it for names in EXCEPTIONS.values() for it in names.split()}
-    not_yet = set(NOT_YET.split())
-    wrong = [f"no worked case rests on {it}" for it in sorted(bare - excepted - not_yet)]
-    wrong += [f"{it} is held, or gone, and needs no exception" for it in sorted((excepted | not_yet) - bare)]
+    wrong = [f"no worked case rests on {it}" for it in sorted(bare - excepted)]
+    wrong += [f"{it} is held, or gone, and needs no exception" for it in sorted(excepted - bare)]
     if len(excepted) >= 40:
         wrong.append(f"{len(excepted)} exceptions are too many")
     for what in wrong:
@@ -69,7 +65,7 @@ def main():
         print("\n".join(sorted(bare)))
     if not wrong:
         print(f"worked: {len(cases)} cases hold {len(promise - bare)} of the {len(promise)} definitions under the promise; "
-              f"{len(excepted)} are excepted, and {len(not_yet)} want a case")
+              f"{len(excepted)} are excepted")
     return 1 if wrong else 0
 
 

@@ -1,5 +1,5 @@
 -- What stands behind the gate of a file, and what an open gate makes of it.
-use Rattle.std.proofs.Common.{◌≡◌, ◌⊎◌, inl, inr, ℕ, ◌+◌, ◌*◌, ◌<◌, ◌≤◌, List, [], ◌∷◌, ◌++◌, length, take, drop, get_or, refl, sym, ◌∙◌, ap, subst, arith, append_assoc, length-append}
+use Rattle.std.proofs.Common.{◌≡◌, ◌⊎◌, inl, inr, ℕ, ◌+◌, ◌*◌, ◌≤◌, List, [], ◌∷◌, ◌++◌, length, take, drop, get_or, refl, sym, ◌∙◌, ap, subst, arith, append_assoc, length-append}
 use Rattle.std.proofs.lemmas.Bool.{cases_eq}
 use Rattle.std.proofs.lemmas.Grind.{flat_map-append}
 use Rattle.std.proofs.lemmas.List.{take-append-drop, take-take, drop-drop, drop-take, length-take-le, take_at}
@@ -64,6 +64,7 @@ pub opened : (old file : List ℕ) (s : Snapshot) → file ≡ 1 ∷ drop 1 old 
 opened old file s is stands sound = subst (λ f. CheckpointBytes f s) (sym is) (record { opened = refl; spelled = stands; sound = sound })
 
 pub length-policy_bytes : (p : Policy) → length (policy_bytes p) ≡ 48
+unfolding policy_bytes
 length-policy_bytes p = refl
 
 pub length-policies : (policies : List Policy) → length (flat_map policy_bytes policies) ≡ 48 * length policies

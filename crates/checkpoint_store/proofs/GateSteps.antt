@@ -1,5 +1,5 @@
 -- What the writes of a store do to its disk.
-use Rattle.std.proofs.Common.{◌≡◌, ◌⊎◌, inl, inr, ℕ, ◌+◌, ◌≤◌, List, [], ◌∷◌, length, drop, refl, sym, ◌∙◌, ap, arith, Result, Ok, Err, OnOk}
+use Rattle.std.proofs.Common.{◌≡◌, inl, ℕ, ◌≤◌, List, [], ◌∷◌, length, drop, ◌∙◌, ap, arith, Result, Ok, Err, OnOk}
 use Rattle.outside_io.specs.Disks.{Syncs, Writes}
 use Rattle.outside_io.specs.declared.disks.Disk.{Ghosts}
 use Rattle.posting_journal.specs.Runs.{IsSafe, Passes}

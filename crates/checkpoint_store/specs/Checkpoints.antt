@@ -1,5 +1,5 @@
 -- Which bytes are a checkpoint, and of which snapshot
-use Rattle.std.specs.Prelude.{◌≡◌, ◌⊎◌, nat_eq, ℕ, ◌*◌, ◌≤◌, List, length, map, slice_index}
+use Rattle.std.specs.Prelude.{◌≡◌, nat_eq, ℕ, ◌*◌, ◌≤◌, List, length, map, slice_index}
 use Rattle.std.specs.List.{AllByRecursion, IsDistinct}
 use Rattle.money_ledgers.specs.Balances.{balances}
 use Rattle.policy_machine.specs.Accounts.{ledger_of}
@@ -16,13 +16,16 @@ use Rattle.checkpoint_store.specs.Spelling.{snapshot_bytes, StandBehindGate}
 abbrev pub policy_ids : List Policy → List ℕ
 policy_ids policies = map (λ (p : Policy). p.id) policies
 
--- What holds of every snapshot of a journal: there are no more policies than commands, their numbers differ, each is
--- sound, and no command has moved a balance by more than 4 * 10^10 cents.
-pub record IsSoundSnapshot (s : Snapshot) : Type 0 where
+-- There are no more policies than commands, and no command has moved a balance by more than 4 * 10^10 cents.
+pub record HasFigures (s : Snapshot) : Type 0 where
   pub position_in : s.position ≤ most_commands
   pub upgrade_in : s.upgrade ≤ s.position
   pub policies_in : length s.book ≤ s.position
   pub balances_in : AreWithin (40000000000 * s.position) (balances s.ledger)
+
+-- What holds of every snapshot of a journal: its figures fit together, each policy is sound, and their numbers differ.
+pub record IsSoundSnapshot (s : Snapshot) : Type 0 where
+  pub figures : HasFigures s
   pub sound : AllByRecursion IsSound s.book
   pub distinct : IsDistinct nat_eq (policy_ids s.book)
 

@@ -1,7 +1,7 @@
 -- The file of a checkpoint. Byte 0 is its gate, which is open exactly where it is 1; bytes 1 to 16 are the header; up to
 -- byte 63 stand the figures; and from byte 64 on stand the policies in order of issue, 48 bytes each. Every number has its
 -- high byte first.
-use Rattle.std.specs.Prelude.{◌≡◌, ℕ, ◌+◌, List, [], ◌∷◌, ◌++◌, length, take, drop, replicate}
+use Rattle.std.specs.Prelude.{◌≡◌, ℕ, List, [], ◌∷◌, ◌++◌, length, take, drop, replicate}
 use Rattle.std.specs.Int.{w32, w64, to_be_bytes, cast_unsigned}
 use Rattle.std.specs.List.{flat_map}
 use Rattle.policy_types.specs.declared.policy.Policy.{Policy}

@@ -1,5 +1,5 @@
 -- What starting a store answers
-use Rattle.std.specs.Prelude.{◌≡◌, ◌⊎◌, ℕ, List, Result, Ok, Err}
+use Rattle.std.specs.Prelude.{◌⊎◌, ℕ, List, Result, Ok, Err}
 use Rattle.outside_io.specs.declared.disks.Disk.{Ghosts}
 use Rattle.posting_journal.specs.Runs.{IsSafe}
 use Rattle.checkpoint_store.specs.Checkpoints.{IsNoCheckpoint}

@@ -1,5 +1,5 @@
 -- Worked checkpoints, computed from the definitions alone; the bytes were packed by hand from the table of the format
-use Rattle.std.specs.Prelude.{◌≡◌, ℕ, ◌++◌, List, [], ◌∷◌, pos, negsuc, replicate}
+use Rattle.std.specs.Prelude.{◌≡◌, ℕ, ◌++◌, List, [], ◌∷◌, pos, negsuc}
 use Rattle.policy_types.specs.declared.command.Command.TheVariants.{Issue, Upgrade}
 use Rattle.policy_types.specs.declared.command.Plan.TheVariants.{Endowment}
 use Rattle.policy_types.specs.declared.policy.Policy.{Policy}

@@ -1,5 +1,5 @@
 // Writes that leave the rest of the file, or its gate, as it is.
-ghost use Rattle.std.specs.Prelude.{◌≡◌, ◌↔◌, ◌≤◌, ◌∷◌, drop, length, IsTrue, IfOk, OnOk};
+ghost use Rattle.std.specs.Prelude.{◌≡◌, ◌↔◌, ◌+◌, ◌≤◌, ◌∷◌, drop, length, IsTrue, IfOk, OnOk};
 ghost use Rattle.outside_io.specs.Disks.{HasDiskCause, Holds};
 ghost use Rattle.posting_journal.specs.Runs.{IsSafe, LooksOn};
 ghost use Rattle.checkpoint_store.specs.Stores.{AreShut, IsShut};
@@ -27,6 +27,8 @@ pub(crate) fn write_behind<E: Disk>(disk: &mut E, at: u64, bytes: &[u8]) -> Resu
     ensures cause { HasDiskCause (E.faults disk.old) (E.faults disk.new) result }
     ensures honesty { E.honest disk.new → E.honest disk.old }
     ensures written { E.honest disk.new → OnOk result (Holds (E.reads disk.old) at bytes.now (E.reads disk.new)) }
+    ensures longer { E.honest disk.new → length (E.reads disk.old) ≤ length (E.reads disk.new) }
+    ensures filled { E.honest disk.new → OnOk result (at + length bytes.now ≤ length (E.reads disk.new)) }
     ensures shut { E.honest disk.new → AreShut E.Disk disk.old → StaysShut E.Disk disk.old disk.new }
 {
     disk.write_at(at, bytes)

@@ -7,6 +7,7 @@ mod gates;
 mod pieces;
 mod saving;
 mod snapshot;
+mod soundness;
 mod spelling;
 mod starting;
 mod store;

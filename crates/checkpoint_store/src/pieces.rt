@@ -9,8 +9,6 @@ use policy_types::Policy;
 // Of so many policies a piece holds the bytes.
 pub(crate) const POLICIES: usize = 2048;
 
-pub(crate) const ROOM: usize = 98_304;
-
 // Spells these policies at the start of the piece.
 pub(crate) fn fill(piece: &mut [u8; 98_304], policies: &[Policy])
     requires { length policies.now ≤ 2048 }

@@ -145,6 +145,7 @@ fn write_policies<E: Disk>(disk: &mut E, policies: &[Policy]) -> Result<(), Fail
     ensures written { (front : List ℕ) → E.honest disk.new → length front ≡ 63
         → StandBehindGate front (E.reads disk.old)
         → OnOk result (StandBehindGate (front ++ flat_map policy_bytes policies.now) (E.reads disk.new)) }
+    ensures longer { E.honest disk.new → length (E.reads disk.old) ≤ length (E.reads disk.new) }
     ensures shut { E.honest disk.new → AreShut E.Disk disk.old → StaysShut E.Disk disk.old disk.new }
 {
     let mut piece = [0; 98_304];

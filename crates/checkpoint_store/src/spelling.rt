@@ -35,14 +35,19 @@ fn positions_with(position: u32, upgrade: u32, policies: u32) -> [u8; 28]
     ]
 }
 
-#[tactic(auto, unfolding(crate::specs::Spelling::balance_bytes))]
 fn balances_with(ledger: &Ledger) -> [u8; 35]
     ensures { result ≡ balance_bytes ledger.now }
 {
-    let [a1, b1, c1, d1, e1, f1, g1, h1] = ledger.cash.to_be_bytes();
-    let [a2, b2, c2, d2, e2, f2, g2, h2] = ledger.premiums.to_be_bytes();
-    let [a3, b3, c3, d3, e3, f3, g3, h3] = ledger.incurred.to_be_bytes();
-    let [a4, b4, c4, d4, e4, f4, g4, h4] = ledger.payable.to_be_bytes();
+    let Ledger {
+        cash,
+        premiums,
+        incurred,
+        payable,
+    } = *ledger;
+    let [a1, b1, c1, d1, e1, f1, g1, h1] = cash.to_be_bytes();
+    let [a2, b2, c2, d2, e2, f2, g2, h2] = premiums.to_be_bytes();
+    let [a3, b3, c3, d3, e3, f3, g3, h3] = incurred.to_be_bytes();
+    let [a4, b4, c4, d4, e4, f4, g4, h4] = payable.to_be_bytes();
     [
         a1, b1, c1, d1, e1, f1, g1, h1, a2, b2, c2, d2, e2, f2, g2, h2, a3, b3, c3, d3, e3, f3, g3,
         h3, a4, b4, c4, d4, e4, f4, g4, h4, 0, 0, 0,

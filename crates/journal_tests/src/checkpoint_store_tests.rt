@@ -1,4 +1,7 @@
 // The bytes of a checkpoint, and what faults and crashes leave of one. The files were packed by hand from the layout.
+ghost use Rattle.std.specs.Prelude.{IfOk};
+ghost use Rattle.checkpoint_store.specs.Checkpoints.{IsSoundSnapshot};
+
 use checkpoint_store::{Snapshot, Store, StoreFault};
 use memory_disk::MemoryDisk;
 use money_ledgers::Ledger;
@@ -9,11 +12,13 @@ use std::alloc::{AllocError, Global};
 use std::test::Fail;
 
 // LIFECHKP, 1, 48 and four zeros; position 4, no upgrade, one policy; 0.00, -400.00, 1000.00 and -600.00; three zeros.
-const CLAIMED_FRONT: &[u8] = b"\x01\x4c\x49\x46\x45\x43\x48\x4b\x50\x00\x01\x00\x30\x00\x00\x00\x00\x00\x00\x00\x04\x00\x00\x00\x00\x00\x00\x00\x01\x00\x00\x00\x00\x00\x00\x00\x00\xff\xff\xff\xff\xff\xff\x63\xc0\x00\x00\x00\x00\x00\x01\x86\xa0\xff\xff\xff\xff\xff\xff\x15\xa0\x00\x00\x00";
+const CLAIMED_FRONT: &[u8] =
+    b"\x01\x4c\x49\x46\x45\x43\x48\x4b\x50\x00\x01\x00\x30\x00\x00\x00\x00\x00\x00\x00\x04\x00\x00\x00\x00\x00\x00\x00\x01\x00\x00\x00\x00\x00\x00\x00\x00\xff\xff\xff\xff\xff\xff\x63\xc0\x00\x00\x00\x00\x00\x01\x86\xa0\xff\xff\xff\xff\xff\xff\x15\xa0\x00\x00\x00";
 
 // An endowment of 1000.00 for three years at age 0 with a premium of 400.00, number 7001, issued on 2020-01-01, of which
 // 600.00 of a claim are outstanding on 2020-07-01.
-const CLAIMED_POLICY: &[u8] = b"\x00\x00\x1b\x59\x03\x00\x03\x01\x03\x00\x00\x00\x00\x00\x47\x56\x00\x00\x48\x0c\x00\x00\x00\x00\x00\x01\x86\xa0\x00\x00\x00\x00\x00\x00\x9c\x40\x00\x00\x00\x00\x00\x00\xea\x60\x00\x00\x00\x00";
+const CLAIMED_POLICY: &[u8] =
+    b"\x00\x00\x1b\x59\x03\x00\x03\x01\x03\x00\x00\x00\x00\x00\x47\x56\x00\x00\x48\x0c\x00\x00\x00\x00\x00\x01\x86\xa0\x00\x00\x00\x00\x00\x00\x9c\x40\x00\x00\x00\x00\x00\x00\xea\x60\x00\x00\x00\x00";
 
 fn claimed() -> Policy {
     Policy {
@@ -45,6 +50,17 @@ fn snapshot_of(alloc: Global, policies: &[Policy]) -> Result<Snapshot, AllocErro
     })
 }
 
+fn sound_snapshot_of(alloc: Global, policies: &[Policy]) -> Result<Snapshot, Fail>
+    ensures { IfOk result (λ snapshot. IsSoundSnapshot snapshot) }
+{
+    let snapshot = snapshot_of(alloc, policies)?;
+    if snapshot.is_sound(alloc)? {
+        Ok(snapshot)
+    } else {
+        Err(Fail::new("not sound"))
+    }
+}
+
 fn file_of(alloc: Global, parts: &[&[u8]]) -> Result<Vec<u8>, AllocError> {
     let mut bytes = Vec::new(alloc);
     for part in parts {
@@ -54,7 +70,9 @@ fn file_of(alloc: Global, parts: &[&[u8]]) -> Result<Vec<u8>, AllocError> {
 }
 
 // What starting a store and saving answer, each the count of a fault, and the disk.
-fn saved(disk: MemoryDisk, snapshot: &Snapshot) -> (Result<(), u64>, MemoryDisk) {
+fn saved(disk: MemoryDisk, snapshot: &Snapshot) -> (Result<(), u64>, MemoryDisk)
+    requires { IsSoundSnapshot snapshot.now }
+{
     match Store::start(disk) {
         Ok(mut store) => match store.save(snapshot) {
             Ok(()) => (Ok(()), store.release()),
@@ -67,10 +85,28 @@ fn saved(disk: MemoryDisk, snapshot: &Snapshot) -> (Result<(), u64>, MemoryDisk)
     }
 }
 
+// A policy that stands in it twice isn't sound.
 #[test]
-fn a_snapshot_is_spelled(rt: HostRuntime) -> Result<(), AllocError> {
+fn numbers_are_compared(rt: HostRuntime) -> Result<(), Fail> {
     let alloc = rt.alloc();
-    let snapshot = snapshot_of(alloc, &[claimed()])?;
+    let mut other = claimed();
+    other.id = 7000;
+    let cases: [(&[Policy], bool); 4] = [
+        (&[], true),
+        (&[claimed(), other], true),
+        (&[claimed(), claimed()], false),
+        (&[claimed(), other, claimed()], false),
+    ];
+    for (policies, sound) in cases {
+        assert!(rt; snapshot_of(alloc, policies)?.is_sound(alloc)? == sound);
+    }
+    Ok(())
+}
+
+#[test]
+fn a_snapshot_is_spelled(rt: HostRuntime) -> Result<(), Fail> {
+    let alloc = rt.alloc();
+    let snapshot = sound_snapshot_of(alloc, &[claimed()])?;
     let wanted = file_of(alloc, &[CLAIMED_FRONT, CLAIMED_POLICY])?;
     for before in [&[] as &[u8], &[0], &[7; 40], &[1; 40]] {
         let (answer, disk) = saved(
@@ -84,9 +120,9 @@ fn a_snapshot_is_spelled(rt: HostRuntime) -> Result<(), AllocError> {
 
 // The bytes behind the new ones stay.
 #[test]
-fn a_longer_file_is_not_cut(rt: HostRuntime) -> Result<(), AllocError> {
+fn a_longer_file_is_not_cut(rt: HostRuntime) -> Result<(), Fail> {
     let alloc = rt.alloc();
-    let snapshot = snapshot_of(alloc, &[claimed()])?;
+    let snapshot = sound_snapshot_of(alloc, &[claimed()])?;
     let before = file_of(alloc, &[&[1; 200]])?;
     let wanted = file_of(alloc, &[CLAIMED_FRONT, CLAIMED_POLICY, &[1; 88]])?;
     let (answer, disk) = saved(MemoryDisk::new(alloc, before, Vec::new(alloc)), &snapshot);
@@ -95,37 +131,45 @@ fn a_longer_file_is_not_cut(rt: HostRuntime) -> Result<(), AllocError> {
 }
 
 // Whether each image of the disk, at each moment and with each front of the unsafe writes, has a closed gate, or is one
-// of the two files.
+// of the two files. It made fewer than 32 calls.
 fn leaves_only(
     alloc: Global,
     disk: &MemoryDisk,
     old: &[u8],
     new: &[u8],
 ) -> Result<bool, AllocError> {
-    let calls = disk.calls();
-    for moment in 0..calls + 1 {
-        for keep in 0..4 {
-            let Ok(image) = disk.image(alloc, moment, keep) else {
-                return Ok(false);
-            };
-            let bytes = image.as_slice();
-            let closed = bytes.is_empty() || bytes[0] != 1;
-            if !closed && bytes != old && bytes != new {
-                return Ok(false);
-            }
+    for moment in 0..32 {
+        if !leaves_at(alloc, disk, moment, old, new)? {
+            return Ok(false);
         }
-        for reached in [0, 1, 2, 30, 63, 64, 100] {
-            let Ok(image) = disk.torn_image(alloc, moment, reached) else {
-                return Ok(false);
-            };
-            let bytes = image.as_slice();
-            let closed = bytes.is_empty() || bytes[0] != 1;
-            if !closed && bytes != old && bytes != new {
-                return Ok(false);
-            }
+    }
+    Ok(disk.calls() < 32)
+}
+
+fn leaves_at(
+    alloc: Global,
+    disk: &MemoryDisk,
+    moment: u32,
+    old: &[u8],
+    new: &[u8],
+) -> Result<bool, AllocError> {
+    if moment > disk.calls() {
+        return Ok(true);
+    }
+    for (keep, reached) in [(0, 0), (1, 1), (2, 2), (3, 30), (3, 63), (3, 64), (3, 100)] {
+        let whole = disk.image(alloc, moment, keep).map_err(|_| AllocError)?;
+        let torn = disk
+            .torn_image(alloc, moment, reached)
+            .map_err(|_| AllocError)?;
+        if !is_closed_or(whole.as_slice(), old, new) || !is_closed_or(torn.as_slice(), old, new) {
+            return Ok(false);
         }
     }
     Ok(true)
+}
+
+fn is_closed_or(file: &[u8], old: &[u8], new: &[u8]) -> bool {
+    file.is_empty() || file[0] != 1 || file == old || file == new
 }
 
 // Sync, length, gate, then the gate and a sync, the front, the policies and a sync, the gate and a sync.
@@ -135,9 +179,13 @@ fn a_fault_or_a_crash_leaves_the_old_or_the_new(rt: HostRuntime) -> Result<(), F
     let mut other = claimed();
     other.id = 7002;
     let old = file_of(alloc, &[CLAIMED_FRONT, CLAIMED_POLICY])?;
-    let snapshot = snapshot_of(alloc, &[claimed(), other])?;
+    let snapshot = sound_snapshot_of(alloc, &[claimed(), other])?;
     let (answer, disk) = saved(
-        MemoryDisk::new(alloc, Vec::from_slice(alloc, old.as_slice())?, Vec::new(alloc)),
+        MemoryDisk::new(
+            alloc,
+            Vec::from_slice(alloc, old.as_slice())?,
+            Vec::new(alloc),
+        ),
         &snapshot,
     );
     assert!(rt; answer == Ok(()) && disk.calls() == 10);
@@ -151,7 +199,10 @@ fn a_fault_or_a_crash_leaves_the_old_or_the_new(rt: HostRuntime) -> Result<(), F
             &snapshot,
         );
         assert!(rt; answer == Err(1) && disk.faults() == 1, "call {call}");
-        assert!(rt; leaves_only(alloc, &disk, old.as_slice(), new.as_slice())?, "call {call}");
+        assert!(rt;
+            leaves_only(alloc, &disk, old.as_slice(), new.as_slice())?,
+            "call {call}"
+        );
     }
     Ok(())
 }
@@ -160,7 +211,7 @@ fn a_fault_or_a_crash_leaves_the_old_or_the_new(rt: HostRuntime) -> Result<(), F
 #[test]
 fn a_save_after_a_fault_is_whole(rt: HostRuntime) -> Result<(), Fail> {
     let alloc = rt.alloc();
-    let snapshot = snapshot_of(alloc, &[claimed()])?;
+    let snapshot = sound_snapshot_of(alloc, &[claimed()])?;
     let wanted = file_of(alloc, &[CLAIMED_FRONT, CLAIMED_POLICY])?;
     for call in 4..11_u64 {
         let failing = Vec::from_slice(alloc, &[call])?;
@@ -172,17 +223,21 @@ fn a_save_after_a_fault_is_whole(rt: HostRuntime) -> Result<(), Fail> {
         assert!(rt; store.save(&snapshot).is_ok(), "call {call}");
         let disk = store.release();
         assert!(rt; disk.bytes() == wanted.as_slice(), "call {call}");
-        assert!(rt; leaves_only(alloc, &disk, wanted.as_slice(), wanted.as_slice())?, "call {call}");
+        assert!(rt;
+            leaves_only(alloc, &disk, wanted.as_slice(), wanted.as_slice())?,
+            "call {call}"
+        );
     }
     Ok(())
 }
 
 // A gate that is known to be closed isn't written first: two calls fewer.
 #[test]
-fn a_closed_gate_is_left(rt: HostRuntime) -> Result<(), AllocError> {
+fn a_closed_gate_is_left(rt: HostRuntime) -> Result<(), Fail> {
     let alloc = rt.alloc();
-    let snapshot = snapshot_of(alloc, &[claimed()])?;
-    for (before, calls) in [(&[0] as &[u8], 8), (&[1], 10), (&[], 9)] {
+    let snapshot = sound_snapshot_of(alloc, &[claimed()])?;
+    let cases: [(&[u8], u32); 3] = [(&[0], 8), (&[1], 10), (&[], 9)];
+    for (before, calls) in cases {
         let (answer, disk) = saved(
             MemoryDisk::new(alloc, Vec::from_slice(alloc, before)?, Vec::new(alloc)),
             &snapshot,

@@ -1,4 +1,4 @@
-//! Tests of the devices, of the disk in memory, of records and of the journal.
+//! Tests of the devices, of the disk in memory, of records, of the journal and of checkpoints.
 #![tactic(auto)]
 
 #[cfg(test)]

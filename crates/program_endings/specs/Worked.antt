@@ -7,6 +7,9 @@ use Rattle.policy_types.specs.declared.entry.Reply.{Reply}
 use Rattle.policy_types.specs.declared.entry.Reply.TheVariants.{Accepted, Refused, Faulted, Pinned, Blank}
 use Rattle.policy_types.specs.declared.entry.Entry.{Entry}
 use Rattle.policy_types.specs.declared.refusal.Refusal.TheVariants.{Unknown}
+use Rattle.policy_machine.specs.History.{IsLegal, opened_on}
+use Rattle.policy_machine.specs.Worked.Cases.{posting, premium_on, unpaid}
+use Rattle.policy_machine.specs.Worked.Pins.{second_issue}
 use Rattle.office_state.specs.declared.faults.StartCause.TheVariants.{NotAJournal, BadRecord}
 use Rattle.basis_shelf.specs.declared.fault.BasisWord.TheVariants.{AgeGap}
 use Rattle.program_endings.specs.declared.ending.Ending.TheVariants.{Done, Usage, BadScript, BadBasis as BadBasisFile, BadJournal, ReadFault, WriteFault, DiskFault, NoMemory, Ahead}
@@ -105,3 +108,15 @@ WantsAndFaults = HasBlank (pinned_turn ∷ lapse_turn Blank ∷ [])
     × (LackMemory (lapse_turn Blank ∷ lapse_turn (Faulted 4) ∷ []) [] → ⊥)
     × HaveAFault (pinned_turn ∷ lapse_turn (Faulted 4) ∷ []) []
     × (HaveAFault (pinned_turn ∷ []) [] → ⊥)
+
+-- an office is opened on one issue: another is the second command
+abbrev pub LegalIssue : Type 0
+LegalIssue = IsLegal (opened_on unpaid 0) (posting second_issue (Accepted 2) ∷ [])
+
+-- and not the first one again
+abbrev pub NoLegalFirst : Type 0
+NoLegalFirst = IsLegal (opened_on unpaid 0) (posting second_issue (Accepted 1) ∷ []) → ⊥
+
+-- on a premium alone there is no history, not even one without turns
+abbrev pub NothingLegal : Type 0
+NothingLegal = IsLegal (opened_on (premium_on (pos 18262) ∷ []) 0) [] → ⊥

@@ -1,6 +1,6 @@
 //! Worked cases of endings, lines and replies, each a theorem over the definitions alone.
 
-ghost use Rattle.program_endings.specs.Worked.{AnsweredOrNot, GivenAndLeft, LinesAreWhole, LinesOfRefusals, RefusesHello, StatusesOfEndings, WantsAndFaults, WithoutABasis};
+ghost use Rattle.program_endings.specs.Worked.{AnsweredOrNot, GivenAndLeft, LegalIssue, LinesAreWhole, LinesOfRefusals, NoLegalFirst, NothingLegal, RefusesHello, StatusesOfEndings, WantsAndFaults, WithoutABasis};
 
 use outside_io::Disk;
 
@@ -30,4 +30,11 @@ pub fn ends_without_a_basis()
 /// Over any disk, a file of five bytes that are no journal.
 pub fn a_file_that_is_no_journal<D: Disk>()
     ensures { RefusesHello D.Disk }
+{}
+
+/// The history of one posting, over an office that was opened on one command, or on what none can be opened on.
+pub fn a_legal_history()
+    ensures issue { LegalIssue }
+    ensures first { NoLegalFirst }
+    ensures nothing { NothingLegal }
 {}

@@ -1,15 +1,15 @@
 -- The answer of the reader of tables of either kind is the one that is due.
-use Rattle.std.proofs.Common.{◌≡◌, ℕ, List, [], ◌∷◌, length, Option, Some, None, Result, Ok, Err, refl, sym, ap, subst, ◌∙◌, ◌⊎◌, inl, inr, codes}
+use Rattle.std.proofs.Common.{◌≡◌, ℕ, List, [], ◌∷◌, length, Some, None, Result, Ok, Err, refl, sym, ap, subst, ◌∙◌, ◌⊎◌, inl, inr, codes}
 use Rattle.std.specs.Prelude.{IfOk, IfErr}
 use Rattle.rate_table.specs.Rates.{Rates}
 use Rattle.select_rates.specs.declared.any.AnyTable.{AnyTable}
 use Rattle.xtbml_subset.specs.declared.fault.TableKind.TheVariants.{NotDocument, Select}
 use Rattle.xtbml_subset.specs.declared.fault.TableFault.{TableFault}
 use Rattle.xtbml_subset.specs.declared.fault.TableFault.TheVariants.{Bad, NoMemory}
-use Rattle.xtbml_subset.specs.Checks.{Asks, ◌>=>◌, Parts, path, rates_of, aggregate_parts, parts_of, IsTable}
+use Rattle.xtbml_subset.specs.Checks.{Asks, ◌>=>◌, Parts, path, rates_of, aggregate_parts, IsTable}
 use Rattle.xtbml_subset.specs.Documents.{Node, IsDocument, node_asks}
 use Rattle.xtbml_subset.specs.Answers.{IsTableAnswer, Unless}
-use Rattle.xtbml_subset.specs.AnyChecks.{AnyParts, aggregate, selected, parts_by_axes, any_parts_of, aggregated, IsAnyTable, IsAnyJudged, IsAnyAnswer, GivesAny, SaysSelect}
+use Rattle.xtbml_subset.specs.AnyChecks.{AnyParts, parts_by_axes, any_parts_of, aggregated, IsAnyTable, IsAnyJudged, IsAnyAnswer, GivesAny, SaysSelect}
 use Rattle.xtbml_subset.specs.inside.Elements.{Found, elements_at}
 use Rattle.xtbml_subset.specs.inside.Rows.{found_asks}
 use Rattle.xtbml_subset.specs.inside.Walk.{fault_at}
@@ -54,18 +54,18 @@ any_due_by bytes f others answer e first (inr h) = let d = whole_document bytes 
 
 -- ---- a table by age alone
 
+-- an axis in the axis says that the table is select
+parts_of_select : (asks : Asks Node) (found : Node × Node) (inner : Node) (more : List Node) → asks.children (codes "Axis") found.1 ≡ inner ∷ more
+    → aggregate_parts asks found ≡ Err (Bad (asks.row inner).at Select)
+unfolding rates_of
+parts_of_select asks found inner more e = rw e refl
+
 -- the answer of the checks of such a table is that of the checks of either kind, unless it says that the table is select
 by_axes_agree : (asks : Asks Node) (root : Node) (found : Node × Node) (axes : List Node) (answer : Result Rates TableFault) → asks.children (codes "Axis") found.1 ≡ axes
     → IsTable (aggregate_parts asks found) answer → SaysSelect answer ⊎ IsAnyTable (parts_by_axes asks root found axes) (aggregated answer)
 by_axes_agree asks root found [] answer e is = inr (lifted (aggregate_parts asks found) answer is)
-by_axes_agree asks root found (inner ∷ more) answer e is = inl ((asks.row inner).at, selects)
-  where
-    parts_are : aggregate_parts asks found ≡ Err (Bad (asks.row inner).at Select)
-    unfolding rates_of
-    parts_are = rw e refl
-
-    selects : answer ≡ Err (Bad (asks.row inner).at Select)
-    selects = subst (λ (parts : Result Parts TableFault). IsTable parts answer) parts_are is
+by_axes_agree asks root found (inner ∷ more) answer e is =
+    inl ((asks.row inner).at, subst (λ (parts : Result Parts TableFault). IsTable parts answer) (parts_of_select asks found inner more e) is)
 
 agree : (asks : Asks Node) (root : Node) (found : Result (Node × Node) TableFault) (answer : Result Rates TableFault) → IsTable (found >=> λ one. aggregate_parts asks one) answer
     → SaysSelect answer ⊎ IsAnyTable (found >=> λ one. parts_by_axes asks root one (asks.children (codes "Axis") one.1)) (aggregated answer)

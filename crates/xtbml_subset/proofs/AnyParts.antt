@@ -2,7 +2,6 @@
 use Rattle.std.proofs.Common.{◌≡◌, ℕ, List, [], ◌∷◌, Result, Ok, Err, refl, sym, ap, subst, ◌∙◌, codes}
 use Rattle.rate_table.specs.Rates.{Rates}
 use Rattle.select_rates.specs.Select.{Selected}
-use Rattle.select_rates.specs.declared.any.AnyTable.{AnyTable}
 use Rattle.xtbml_subset.specs.declared.fault.TableFault.{TableFault}
 use Rattle.xtbml_subset.specs.Checks.{Asks, ◌>=>◌, Parts, path, aggregate_parts, parts_of, IsTable, in_first}
 use Rattle.xtbml_subset.specs.SelectChecks.{behind_first, select_parts, IsSelectTable}

@@ -1,5 +1,5 @@
 -- Rows with blank ones at their end, and issue ages one after the other.
-use Rattle.std.proofs.Common.{◌≡◌, ℕ, Bool, true, false, ◌||◌, List, [], ◌∷◌, ◌++◌, map, Option, None, Some, refl, sym, ap, subst, ◌∙◌, append_assoc, codes}
+use Rattle.std.proofs.Common.{◌≡◌, ℕ, true, false, List, [], ◌∷◌, ◌++◌, map, Option, None, Some, refl, sym, ap, ◌∙◌, append_assoc, codes}
 use Rattle.std.proofs.lemmas.List.{map-append}
 use Rattle.std.specs.Option.{MatchOption}
 use Rattle.xtbml_subset.specs.declared.found.Element.{Element}

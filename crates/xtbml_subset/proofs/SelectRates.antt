@@ -1,16 +1,16 @@
 -- Select rates that are read, with no gap before the ultimate ones, make a table with these.
-use Rattle.std.proofs.Common.{◌≡◌, ℕ, zero, suc, ◌+◌, ◌-◌, ◌<◌, ◌≤◌, Bool, true, false, cond, leb, ltb, ◌&&◌, List, [], ◌∷◌, length, map, get_or, Option, Some, None, Result, Ok, Err, refl, sym, ap, subst, ◌∙◌, ◌⊎◌, inl, inr, arith}
+use Rattle.std.proofs.Common.{◌≡◌, ℕ, zero, suc, ◌+◌, ◌-◌, ◌<◌, ◌≤◌, true, false, leb, ltb, List, [], ◌∷◌, length, map, get_or, Option, Some, None, Result, Ok, Err, refl, sym, ap, subst, ◌∙◌, inl, inr, arith}
 use Rattle.std.specs.Option.{unwrap_or}
 use Rattle.std.proofs.lemmas.Bool.{eqb-true, leb-true, le-leb, ltb-false, and_parts, and_cases, true≢false}
 use Rattle.std.proofs.lemmas.List.{length-map}
 use Rattle.rate_table.specs.Rates.{Rates, ONE, last_age_of}
-use Rattle.select_rates.specs.Select.{Selected, IsSelectPeriod, AreSelected}
+use Rattle.select_rates.specs.Select.{IsSelectPeriod, AreSelected}
 use Rattle.xtbml_subset.specs.declared.fault.TableFault.{TableFault}
 use Rattle.xtbml_subset.specs.declared.fault.TableKind.TheVariants.{BadDuration}
 use Rattle.xtbml_subset.specs.declared.fault.TableFault.TheVariants.{Bad}
 use Rattle.xtbml_subset.specs.declared.period.Attained.{Attained}
 use Rattle.xtbml_subset.specs.Checks.{RateElement, age_of, is_due, ReadsRate}
-use Rattle.xtbml_subset.specs.SelectChecks.{Issue, Further, InTurn, ReadsAll, duration_of, follows, is_duration, timed, IsTimed, ReadsDuration, ReadsPeriod, IsIssued, ReadsIssue, first_issue_age, leaves_gap, first_gap}
+use Rattle.xtbml_subset.specs.SelectChecks.{Issue, Further, ReadsAll, duration_of, follows, is_duration, timed, IsTimed, ReadsDuration, ReadsPeriod, IsIssuedAt, ReadsIssue, first_issue_age, leaves_gap, first_gap}
 use Rattle.xtbml_subset.proofs.Options.{chosen}
 use Rattle.xtbml_subset.proofs.TableRates.{at_test, age_bound, rate_bound}
 use Rattle.xtbml_subset.proofs.ReadingRuns.{first_of_all, ok_is_list, all_count}
@@ -100,7 +100,7 @@ period_read at age (row ∷ rows) next rates young h = by h.0 h.1 h.2
     begin = record { duration = None; age = age }
 
     by : (one : Result (List ℕ) TableFault) → ReadsAll ReadsDuration (record { duration = None; age = age }) (row ∷ rows) one
-        → Further (λ (all : List ℕ) whole. whole ≡ Ok (Some (age + 1), all)) one (Ok (next, rates)) → IsPeriodRead age next rates
+        → Further {B = Option ℕ × List ℕ} (λ (all : List ℕ) whole. whole ≡ Ok (Some (age + 1), all)) one (Ok (next, rates)) → IsPeriodRead age next rates
     by (Err fault) are e = absurd cc
     by (Ok all) are e =
         let p = ok_is_issue (next, rates) (Some (age + 1), all) e in
@@ -116,7 +116,7 @@ period_read at age (row ∷ rows) next rates young h = by h.0 h.1 h.2
 issue_read : (due : Option ℕ) (issue : Issue) (next : Option ℕ) (rates : List ℕ) → ReadsIssue due issue (Ok (next, rates)) → IsIssueRead due issue next rates
 issue_read due issue next rates is = at (age_of issue.label) refl is
   where
-    at : (o : Option ℕ) → age_of issue.label ≡ o → IsIssued due issue o (Ok (next, rates)) → IsIssueRead due issue next rates
+    at : (o : Option ℕ) → age_of issue.label ≡ o → IsIssuedAt due issue o (Ok (next, rates)) → IsIssueRead due issue next rates
     at None e none = absurd cc
     at (Some age) e read =
         elim (at_test (is_due due age) _ _ read) [
@@ -242,7 +242,7 @@ gap_at u (suc i) age (at ∷ places) (row ∷ rows) same within before here =
 
 pub as_many : (issues : List Issue) (rows : List (List ℕ)) (places : List ℕ) → ReadsAll ReadsIssue None issues (Ok rows) → places ≡ map (λ issue. issue.at) issues → length places ≡ length rows
 as_many issues rows places are same =
-    ap (λ (s : List ℕ). length s) same ∙ length-map (λ (issue : Issue). issue.at) issues ∙ all_count ReadsIssue issues None rows are
+    ap (λ (s : List ℕ). length s) same ∙ length-map issues (λ (issue : Issue). issue.at) ∙ all_count ReadsIssue issues None rows are
 
 pub ready : (u : Rates) (issue : Issue) (issues : List Issue) (rows : List (List ℕ)) (first_age : ℕ) (places : List ℕ) → ReadsAll ReadsIssue None (issue ∷ issues) (Ok rows)
     → first_age ≡ first_issue_age (issue ∷ issues) → places ≡ map (λ one. one.at) (issue ∷ issues) → None ≡ first_gap u first_age places rows

@@ -4,9 +4,9 @@ use Rattle.xtbml_subset.specs.declared.fault.TableFault.{TableFault}
 use Rattle.xtbml_subset.specs.inside.Elements.{Found, children_at}
 use Rattle.xtbml_subset.specs.inside.Rows.{row_of, found_asks}
 use Rattle.xtbml_subset.specs.Documents.{Node, named_in, node_row, node_asks}
-use Rattle.xtbml_subset.specs.Checks.{RateElement, ◌>=>◌, path, factor_of, option_row, Parts, aggregate_parts, in_first}
+use Rattle.xtbml_subset.specs.Checks.{RateElement, ◌>=>◌, path, Parts, in_first}
 use Rattle.xtbml_subset.specs.SelectChecks.{behind_first, or_these, first_factor, is_labelled, issue_axes, durations_of, filled, Issue, issue_age_of, SelectParts, ultimate_of, select_parts}
-use Rattle.xtbml_subset.specs.AnyChecks.{AnyParts, aggregate, selected, parts_by_axes, any_parts_of}
+use Rattle.xtbml_subset.specs.AnyChecks.{aggregate, selected, parts_by_axes, any_parts_of}
 use Rattle.xtbml_subset.proofs.Matching.{Matches, AllMatch, children_match, row_match}
 use Rattle.xtbml_subset.proofs.Judging.{TiedPairs, then_same, equal_by, path_same, factor_same, rows_same, aggregate_same, by_equal}
 

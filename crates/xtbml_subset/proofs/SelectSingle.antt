@@ -1,12 +1,11 @@
 -- The checks of a table of either kind have one answer.
-use Rattle.std.proofs.Common.{◌≡◌, ℕ, List, [], ◌∷◌, Option, Some, None, Result, Ok, Err, sym, ap, subst, ◌∙◌}
+use Rattle.std.proofs.Common.{◌≡◌, ℕ, ◌+◌, List, [], ◌∷◌, Option, Some, None, Result, Ok, Err, sym, ap, ◌∙◌}
 use Rattle.rate_table.specs.Rates.{Rates}
 use Rattle.select_rates.specs.Select.{Selected}
-use Rattle.select_rates.specs.declared.any.AnyTable.{AnyTable}
 use Rattle.xtbml_subset.specs.declared.fault.TableFault.{TableFault}
 use Rattle.xtbml_subset.specs.declared.period.Attained.{Attained}
 use Rattle.xtbml_subset.specs.Checks.{RateElement, age_of, is_due, IsScale}
-use Rattle.xtbml_subset.specs.SelectChecks.{Issue, SelectParts, InTurn, ReadsAll, duration_of, is_duration, timed, IsTimed, ReadsDuration, ReadsPeriod, IsIssued, ReadsIssue, ReadsUltimate, IsJoinedBy, IsSelectTable}
+use Rattle.xtbml_subset.specs.SelectChecks.{Issue, SelectParts, InTurn, ReadsAll, duration_of, is_duration, timed, IsTimed, ReadsDuration, ReadsPeriod, IsIssuedAt, ReadsIssue, ReadsUltimate, IsJoinedBy, IsSelectTable}
 use Rattle.xtbml_subset.specs.AnyChecks.{AnyParts, aggregate, selected, aggregated, as_select, IsAnyTable}
 use Rattle.xtbml_subset.proofs.Judging.{reads_one, by_bool, scale_one, scaled_one, table_one}
 use Rattle.xtbml_subset.proofs.ReadingRuns.{Single, then_single, all_single}
@@ -25,7 +24,7 @@ period_single at age (row ∷ rows) a b h k =
     (all_single ReadsDuration (λ due one. timed_single due one (duration_of one.label)) (row ∷ rows) (record { duration = None; age = age }))
     (λ rates x y p q. p ∙ sym q) a b h k
 
-issued_single : (due : Option ℕ) (issue : Issue) (age : Option ℕ) → Single (IsIssued due issue age)
+issued_single : (due : Option ℕ) (issue : Issue) (age : Option ℕ) → Single (IsIssuedAt due issue age)
 issued_single due issue None a b h k = h ∙ sym k
 issued_single due issue (Some age) a b h k =
     by_bool (is_due due age) _ _ _ _ (a ≡ b) h k (period_single issue.at age issue.rates a b) (λ x y. x ∙ sym y)

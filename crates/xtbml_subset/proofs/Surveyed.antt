@@ -3,7 +3,6 @@ use Rattle.std.proofs.Common.{◌≡◌, ℕ, ◌+◌, ◌-◌, ◌<◌, ◌≤�
 use Rattle.std.proofs.lemmas.Bool.{ne_eqb}
 use Rattle.std.specs.Prelude.{MatchBool}
 use Rattle.xtbml_subset.specs.declared.search.Tally.{Tally}
-use Rattle.xtbml_subset.specs.Pieces.{start}
 use Rattle.xtbml_subset.specs.inside.Elements.{Found, elements_at, children_at}
 use Rattle.xtbml_subset.specs.inside.Searches.{Passing, Sought, seeking, hit, missed, sought_at, opens, sought_under, tallied, tally_under, no_tally, Path, no_path, path_after, Stands, StandsUnder, TalliesUnder, IsPath, IsFirstIn, IsFirstUnder, IsCountUnder, IsFound}
 

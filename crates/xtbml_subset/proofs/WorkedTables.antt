@@ -1,5 +1,5 @@
 -- What worked tables are computed from.
-use Rattle.std.proofs.Common.{◌≡◌, ℕ, List, [], ◌∷◌, length, None, Some, Ok, Err, Result, refl, inl, inr, codes, lit≤}
+use Rattle.std.proofs.Common.{◌≡◌, ℕ, List, [], ◌∷◌, length, None, Result, refl, inl, inr, codes, lit≤}
 use Rattle.std.specs.Prelude.{⊤}
 use Rattle.decimal_text.specs.Rate.{IsRate}
 use Rattle.rate_table.specs.Rates.{Rates}

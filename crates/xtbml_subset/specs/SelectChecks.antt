@@ -151,14 +151,14 @@ ReadsPeriod at age [] read = read ≡ Err (Bad at BadDuration)
 ReadsPeriod at age (row ∷ rows) read =
     InTurn (ReadsAll ReadsDuration (record { duration = None; age = age }) (row ∷ rows)) (λ rates whole. whole ≡ Ok (Some (age + 1), rates)) read
 
-abbrev pub IsIssued : Option ℕ → Issue → Option ℕ → Result (Option ℕ × List ℕ) TableFault → Type 0
-IsIssued due issue None read = read ≡ Err (Bad issue.at BadAge)
-IsIssued due issue (Some age) read =
+abbrev pub IsIssuedAt : Option ℕ → Issue → Option ℕ → Result (Option ℕ × List ℕ) TableFault → Type 0
+IsIssuedAt due issue None read = read ≡ Err (Bad issue.at BadAge)
+IsIssuedAt due issue (Some age) read =
     MatchBool (is_due due age) (ReadsPeriod issue.at age issue.rates read) (read ≡ Err (Bad issue.at AgeGap))
 
 -- an issue age is read, or refused for its age, for a gap before it, or for its rates
 abbrev pub ReadsIssue : Option ℕ → Issue → Result (Option ℕ × List ℕ) TableFault → Type 0
-ReadsIssue due issue read = IsIssued due issue (age_of issue.label) read
+ReadsIssue due issue read = IsIssuedAt due issue (age_of issue.label) read
 
 -- ---- the table
 

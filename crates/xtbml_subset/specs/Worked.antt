@@ -1,6 +1,5 @@
 -- Worked table files: a table of three rates, and a file of each fault with its place. Places were counted by hand
 use Rattle.std.specs.Prelude.{ℕ, List, [], ◌∷◌, codes, Err}
-use Rattle.rate_table.specs.Rates.{Rates}
 use Rattle.xtbml_subset.specs.declared.fault.TableKind.{TableKind}
 use Rattle.xtbml_subset.specs.declared.fault.TableKind.TheVariants.{NotDocument, NoTable, Select, Scaled, BadAge, AgeGap, BadRate}
 use Rattle.xtbml_subset.specs.declared.fault.TableFault.TheVariants.{Bad}

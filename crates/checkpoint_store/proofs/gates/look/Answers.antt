@@ -10,8 +10,8 @@ pub returns-in_err-sync-clause-unwritten : goal.returns-in_err-sync-clause-unwri
 returns-in_err-sync-clause-unwritten g c = λ honest.
     synced_looks g.E.Disk c.args.disk.now c.sync.new.self c.sync.result (c.sync.ensures.facts honest) (c.sync.ensures.time honest)
 
-pub returns-in_err-len-clause-unwritten : goal.returns-in_err-len-clause-unwritten
-returns-in_err-len-clause-unwritten g c = λ honest.
+pub returns-in_err-size-clause-unwritten : goal.returns-in_err-size-clause-unwritten
+returns-in_err-size-clause-unwritten g c = λ honest.
     let honest_mid = c.len.ensures.honesty honest in
     looks_on g.E.Disk c.args.disk.now c.sync.new.self c.len.new.self
     (synced_looks g.E.Disk c.args.disk.now c.sync.new.self c.sync.result (c.sync.ensures.facts honest_mid) (c.sync.ensures.time honest_mid))

@@ -31,6 +31,7 @@ loop-done-preserved g c =
           let before = was.long (c.write_behind.ensures.honesty honest) in
           let after = behind_long (g.E.Disk.reads c.loop-done.disk) bytes (g.E.Disk.reads c.write_behind.new.disk) (64 + 48 * done) before (c.in_ok-write_behind.ensures.written honest) in
           omega (arith, after, length-take-le (48 * many) c.fill.new.piece room);
+      longer = λ honest. omega (arith, was.longer (c.write_behind.ensures.honesty honest), c.write_behind.ensures.longer honest);
       written = λ front honest size stands.
           let honest_old = c.write_behind.ensures.honesty honest in
           policies_more front bytes (g.E.Disk.reads c.loop-done.disk) (g.E.Disk.reads c.write_behind.new.disk) policies done many (64 + 48 * done) refl was.within size spelled

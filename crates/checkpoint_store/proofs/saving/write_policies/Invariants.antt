@@ -12,6 +12,7 @@ invariant-loop-done g l = record {
   count : g.E.Disk.faults l.disk ≡ g.E.Disk.faults l.fn.disk;
   honesty : g.E.Disk.honest l.disk → g.E.Disk.honest l.fn.disk;
   long : g.E.Disk.honest l.disk → 64 + 48 * l.done ≤ length (g.E.Disk.reads l.disk);
+  longer : g.E.Disk.honest l.disk → length (g.E.Disk.reads l.fn.disk) ≤ length (g.E.Disk.reads l.disk);
   written : (front : List ℕ) → g.E.Disk.honest l.disk → length front ≡ 63 → StandBehindGate front (g.E.Disk.reads l.fn.disk)
       → StandBehindGate (front ++ flat_map policy_bytes (take l.done l.policies)) (g.E.Disk.reads l.disk);
   shut : g.E.Disk.honest l.disk → AreShut g.E.Disk l.fn.disk → StaysShut g.E.Disk l.fn.disk l.disk;

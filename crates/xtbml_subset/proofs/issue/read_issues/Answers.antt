@@ -1,4 +1,4 @@
-use Rattle.std.proofs.Common.{◌≡◌, ◌+◌, ◌++◌, ◌∷◌, [], List, ℕ, map, None, Some, Ok, Err, sym, ap, subst, ◌∙◌, codes}
+use Rattle.std.proofs.Common.{◌+◌, ◌++◌, ◌∷◌, [], List, ℕ, map, None, Some, Ok, Err, sym, ap, subst, ◌∙◌, codes}
 use Rattle.std.proofs.lemmas.Result.{err_from_is_err_and}
 use Rattle.xtbml_subset.specs.SelectChecks.{Issue, issue_age_of, ReadsAll, ReadsIssue}
 use Rattle.xtbml_subset.specs.inside.Elements.{siblings_at}

@@ -1,7 +1,7 @@
-use Rattle.std.proofs.Common.{◌≡◌, map, sym, ap, ◌∙◌, codes}
+use Rattle.std.proofs.Common.{map, sym, ap, ◌∙◌, codes}
 use Rattle.xtbml_subset.specs.SelectChecks.{has_filled}
 use Rattle.xtbml_subset.specs.inside.Elements.{siblings_at}
-use Rattle.xtbml_subset.specs.inside.Rows.{row_of, rows_from}
+use Rattle.xtbml_subset.specs.inside.Rows.{row_of}
 use Rattle.xtbml_subset.specs.inside.Views.{found_of}
 use Rattle.xtbml_subset.proofs.Filled.{passed_blank, met_filled}
 use Rattle.xtbml_subset.proofs.RowRuns.{left_siblings}

@@ -1,4 +1,4 @@
-use Rattle.std.proofs.Common.{◌≡◌, List, map, None, Some, Err, sym, ap, subst, ◌∙◌, codes}
+use Rattle.std.proofs.Common.{List, map, None, Err, sym, subst, codes}
 use Rattle.std.proofs.lemmas.Result.{err_from_is_err_and}
 use Rattle.xtbml_subset.specs.declared.period.Attained.{Attained}
 use Rattle.xtbml_subset.specs.Checks.{RateElement}

@@ -1,5 +1,5 @@
 use Rattle.std.proofs.Common.{length, Ok, Err, inl}
-use Rattle.xtbml_subset.specs.AnyChecks.{any_parts_of, aggregated, IsAnyTable, IsAnyAnswer, SpellsAny, GivesAny}
+use Rattle.xtbml_subset.specs.AnyChecks.{any_parts_of, aggregated, IsAnyTable, IsAnyAnswer, SpellsAny}
 use Rattle.xtbml_subset.specs.inside.Rows.{found_asks}
 use Rattle.xtbml_subset.specs.inside.Views.{found_of}
 use Rattle.xtbml_subset.proofs.Final.{root_found, root_first, path_of_root, behind_root}

@@ -13,24 +13,24 @@ returns-in_err-close-clause-kept g c = λ image honest knows might. inl (c.close
 
 pub returns-clause-knows : goal.returns-clause-knows
 returns-clause-knows g c = λ honest knows.
-    c.replace.ensures.knows honest (c.close.ensures.knows (c.replace.ensures.honesty honest) knows)
+    c.replace-2.ensures.knows honest (c.close.ensures.knows (c.replace-2.ensures.honesty honest) knows)
 
 pub returns-clause-saved : goal.returns-clause-saved
 returns-clause-saved g c = λ honest knows.
-    c.replace.ensures.saved honest (c.close.ensures.knows (c.replace.ensures.honesty honest) knows)
+    c.replace-2.ensures.saved honest (c.close.ensures.knows (c.replace-2.ensures.honesty honest) knows)
 
 pub returns-clause-moments : goal.returns-clause-moments
 returns-clause-moments g c = λ honest knows.
     let old = c.args.self.now in
     let mid = c.close.new.self in
-    let honest_mid = c.replace.ensures.honesty honest in
-    then_saved g.E.Disk old.disk mid.disk c.replace.new.self.disk old.closed mid.closed c.args.snapshot.now (c.close.ensures.moments honest_mid knows)
-    (λ image might. c.close.ensures.kept image honest_mid knows might) (c.replace.ensures.moments honest (c.close.ensures.knows honest_mid knows))
+    let honest_mid = c.replace-2.ensures.honesty honest in
+    then_saved g.E.Disk old.disk mid.disk c.replace-2.new.self.disk old.closed mid.closed c.args.snapshot.now (c.close.ensures.moments honest_mid knows)
+    (λ image might. c.close.ensures.kept image honest_mid knows might) (c.replace-2.ensures.moments honest (c.close.ensures.knows honest_mid knows))
 
 pub returns-clause-kept : goal.returns-clause-kept
 returns-clause-kept g c = λ image honest knows might.
     let old = c.args.self.now in
     let mid = c.close.new.self in
-    let honest_mid = c.replace.ensures.honesty honest in
+    let honest_mid = c.replace-2.ensures.honesty honest in
     earlier_still g.E.Disk old.disk mid.disk old.closed mid.closed c.args.snapshot.now (λ i m. c.close.ensures.kept i honest_mid knows m) image
-    (c.replace.ensures.kept image honest (c.close.ensures.knows honest_mid knows) might)
+    (c.replace-2.ensures.kept image honest (c.close.ensures.knows honest_mid knows) might)

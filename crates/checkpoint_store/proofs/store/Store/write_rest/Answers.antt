@@ -1,6 +1,7 @@
 -- All that is written stands behind the gate, which stays closed.
-use Rattle.std.proofs.Common.{◌≡◌, [], ◌++◌, length, refl, sym, subst, take, arith}
+use Rattle.std.proofs.Common.{List, [], ◌++◌, refl, sym, subst, arith}
 use Rattle.std.specs.List.{flat_map}
+use Rattle.policy_types.specs.declared.policy.Policy.{Policy}
 use Rattle.checkpoint_store.specs.Spelling.{policy_bytes, snapshot_bytes, StandBehindGate}
 use Rattle.posting_journal.specs.Runs.{IsSafe}
 use Rattle.checkpoint_store.proofs.Behind.{behind_more}
@@ -38,7 +39,8 @@ returns-clause-written g c = λ honest knows.
     let began : StandBehindGate front (g.E.Disk.reads c.write_behind.new.disk) =
     behind_more [] front (g.E.Disk.reads old.disk) (g.E.Disk.reads c.write_behind.new.disk) 1 refl (old.there (c.write_behind.ensures.honesty honest_1) c.requires.closed) refl (c.in_ok-write_behind.ensures.written honest_1) in
     let stands : StandBehindGate (front ++ flat_map policy_bytes s.book) (g.E.Disk.reads c.write_policies.new.disk) =
-    c.in_ok-write_policies.ensures.written front honest_2 (omega arith) began in
+    subst (λ (l : List Policy). StandBehindGate (front ++ flat_map policy_bytes l) (g.E.Disk.reads c.write_policies.new.disk)) c.as_slice.ensures
+    (c.in_ok-write_policies.ensures.written front honest_2 (omega arith) began) in
     let all : StandBehindGate (snapshot_bytes s) (g.E.Disk.reads c.write_policies.new.disk) =
     subst (λ f. StandBehindGate (f ++ flat_map policy_bytes s.book) (g.E.Disk.reads c.write_policies.new.disk)) c.front_with.ensures stands in
     ok_both c.make_safe.result (StandBehindGate (snapshot_bytes s) (g.E.Disk.reads c.make_safe.new.disk)) (IsSafe g.E.Disk c.make_safe.new.disk)
