@@ -1,3 +1,6 @@
+use denote.Param.Send.{sendable}
+use Rattle.std.proofs.Crossing.{crosses}
+use Rattle.snapshot_value.proofs.Crossing.{worker_crosses}
 use Rattle.snapshot_value.proofs.WorkerSteps.{given_rows, ready_take}
 use Rattle.snapshot_value.proofs.worksheet.value_all.Goals as goal
 
@@ -6,3 +9,6 @@ map_in-requires-clause-taken g c κs within = ready_take c.args.workers.now c.ar
 
 pub returns-in-Ok-clause-rows : goal.returns-in-Ok-clause-rows
 returns-in-Ok-clause-rows g c = λ basis on measure by. given_rows basis on measure c.args.workers.now c.args.policies.now c.in-Ok.rows.items by c.in-Ok.ensures.values
+
+pub map_in-requires-send-P : goal.map_in-requires-send-P
+map_in-requires-send-P g c κs within = search (worker_crosses, sendable, crosses) depth 20
