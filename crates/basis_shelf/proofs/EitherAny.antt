@@ -13,7 +13,7 @@ use Rattle.xtbml_subset.specs.declared.fault.TableFault.TheVariants.{Bad, NoMemo
 use Rattle.xtbml_subset.specs.inside.Walk.{fault_at}
 use Rattle.xtbml_subset.specs.Documents.{Node, IsDocument, node_asks}
 use Rattle.xtbml_subset.specs.Checks.{RateElement, path, rates_of, aggregate_parts, age_of, is_due, ReadsRate, first_age, IsScale}
-use Rattle.xtbml_subset.specs.SelectChecks.{Issue, SelectParts, InTurn, ReadsAll, duration_of, is_duration, timed, IsTimed, ReadsDuration, ReadsPeriod, IsIssued, ReadsIssue, first_issue_age, ReadsUltimate, first_gap, without_gap, IsJoinedBy, IsSelectTable}
+use Rattle.xtbml_subset.specs.SelectChecks.{Issue, SelectParts, InTurn, ReadsAll, duration_of, is_duration, timed, IsTimed, ReadsDuration, ReadsPeriod, IsIssuedAt, ReadsIssue, first_issue_age, ReadsUltimate, first_gap, without_gap, IsJoinedBy, IsSelectTable}
 use Rattle.xtbml_subset.specs.AnyChecks.{AnyParts, aggregate, selected, parts_by_axes, any_parts_of, IsAnyTable, SpellsAny, IsAnyAnswer}
 use Rattle.xtbml_subset.proofs.Sounding.{whole_document}
 use Rattle.xtbml_subset.proofs.AnyFinal.{any_fault_due}
@@ -61,7 +61,7 @@ issued_if : (issue : Issue) (age : ℕ) (is : Bool)
 issued_if issue age true = period issue.at age issue.rates
 issued_if issue age false = inr (issue.at, AgeGap, refl)
 
-issued_or : (due : Option ℕ) (issue : Issue) (age : Option ℕ) → Answered (IsIssued due issue age)
+issued_or : (due : Option ℕ) (issue : Issue) (age : Option ℕ) → Answered (IsIssuedAt due issue age)
 issued_or due issue None = inr (issue.at, BadAge, refl)
 issued_or due issue (Some age) = issued_if issue age (is_due due age)
 

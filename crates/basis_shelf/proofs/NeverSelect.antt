@@ -11,7 +11,7 @@ use Rattle.xtbml_subset.specs.declared.fault.TableFault.{TableFault}
 use Rattle.xtbml_subset.specs.declared.fault.TableFault.TheVariants.{Bad, NoMemory}
 use Rattle.xtbml_subset.specs.Documents.{Node, node_asks}
 use Rattle.xtbml_subset.specs.Checks.{RateElement, first, or_fault, ◌>=>◌, within, rooted, path, rates_in, rates_of, aggregate_parts, age_of, is_due, ReadsRate, rated, IsAged, ReadsRow, Continues, with_rate, ReadsRows, first_age, IsScale, Parts, IsScaledTable, IsTable}
-use Rattle.xtbml_subset.specs.SelectChecks.{Issue, SelectParts, InTurn, ReadsAll, duration_of, is_duration, timed, IsTimed, ReadsDuration, ReadsPeriod, IsIssued, ReadsIssue, ReadsUltimate, first_gap, first_issue_age, without_gap, IsJoinedBy, IsSelectTable}
+use Rattle.xtbml_subset.specs.SelectChecks.{Issue, SelectParts, InTurn, ReadsAll, duration_of, is_duration, timed, IsTimed, ReadsDuration, ReadsPeriod, IsIssuedAt, ReadsIssue, ReadsUltimate, first_gap, first_issue_age, without_gap, IsJoinedBy, IsSelectTable}
 use Rattle.xtbml_subset.specs.AnyChecks.{AnyParts, aggregate, selected, parts_by_axes, any_parts_of, aggregated, as_select, IsAnyTable, IsAnyAnswer}
 use Rattle.xtbml_subset.specs.Answers.{Unless}
 use Rattle.basis_shelf.specs.inside.Parts.{IsFaultOfAny}
@@ -99,7 +99,7 @@ issued_if : (issue : Issue) (age : ℕ) (is : Bool)
 issued_if issue age true answer h = period issue.at age issue.rates answer h
 issued_if issue age false answer h = told_is answer (Err (Bad issue.at AgeGap)) tt h
 
-issued_or : (due : Option ℕ) (issue : Issue) (age : Option ℕ) → Never (IsIssued due issue age)
+issued_or : (due : Option ℕ) (issue : Issue) (age : Option ℕ) → Never (IsIssuedAt due issue age)
 issued_or due issue None answer h = told_is answer (Err (Bad issue.at BadAge)) tt h
 issued_or due issue (Some age) answer h = issued_if issue age (is_due due age) answer h
 

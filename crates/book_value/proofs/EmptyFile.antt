@@ -11,6 +11,7 @@ use Rattle.policy_types.specs.declared.entry.At.TheVariants.{Now, Position}
 use Rattle.policy_value.specs.declared.worth.Measure.TheVariants.{Terminal}
 use Rattle.policy_value.specs.declared.worth.Row.{Row}
 use Rattle.report_text.specs.Block.{block_text, total_text, heading_text}
+use Rattle.snapshot_value.specs.Valuing.{IsValuedRow}
 use Rattle.office_state.specs.Journals.{Opens}
 use Rattle.office_state.proofs.JournalLaws.{opens_to_one}
 use Rattle.program_endings.specs.Writing.{Stream, WroteAll}
@@ -38,4 +39,4 @@ values_nothing g old new output honest empty h =
     let none = no_commands (g.reads old) h.commands empty (h.opened honest) in
     let valuation : IsValuation [] (pos 18628) Now Terminal [] (WroteAll output)
     = subst (λ (commands : List Command). IsValuation commands (pos 18628) Now Terminal [] (WroteAll output)) none h.valuation in
-    subst (λ (rows : List Row). WroteAll output (block_text 0 (pos 18628) 0 Terminal rows)) (no_rows _ valuation.rows valuation.each) valuation.wrote
+    subst (λ (rows : List Row). WroteAll output (block_text 0 (pos 18628) 0 Terminal rows)) (no_rows (IsValuedRow [] (pos 18628) Terminal) valuation.rows valuation.each) valuation.wrote

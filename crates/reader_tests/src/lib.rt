@@ -16,6 +16,8 @@ mod life_args_tests;
 #[cfg(test)]
 mod rate_table_tests;
 #[cfg(test)]
+mod select_table_faults;
+#[cfg(test)]
 mod select_table_tests;
 #[cfg(test)]
 mod xtbml_subset_tests;

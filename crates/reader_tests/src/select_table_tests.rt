@@ -1,7 +1,5 @@
-// Files of select and ultimate tables: which rates hold at which issue age, and which fault stands where. Places were
-// counted by a script that marks them in the files.
+// Files of select and ultimate tables: which rates hold at which issue age.
 
-use rate_table::RateTable;
 use select_rates::AnyTable;
 use std::alloc::Global;
 use std::test::Fail;
@@ -11,12 +9,16 @@ use xtbml_subset::*;
 const LONGEST: usize = 4_194_304;
 
 /// The ultimate rates 0.1, 0.2, 0.25, 0.5 and 1 of the ages 0 to 4.
-const ULTIMATE: &[u8] =
+pub const ULTIMATE: &[u8] =
     b"<Table><Values><Axis><Y t=\"0\">0.1</Y><Y t=\"1\">0.2</Y><Y t=\"2\">0.25</Y><Y t=\"3\">0.5</Y><Y t=\"4\">1</Y></Axis></Values></Table>";
 
-/// Two issue ages with a select period of two years: 0.05 and 0.1 at age 0, 0.1 and 0.2 at age 1, in each layout.
+/// Two issue ages with a select period of two years: 0.05 and 0.1 at age 0, 0.1 and 0.2 at age 1.
+pub const TWO_AGES: &[u8] =
+    b"<Table><Values><Axis t=\"0\"><Axis><Y t=\"1\">0.05</Y><Y t=\"2\">0.1</Y></Axis></Axis><Axis t=\"1\"><Axis><Y t=\"1\">0.1</Y><Y t=\"2\">0.2</Y></Axis></Axis></Values></Table>";
+
+/// The same in each layout.
 const LAYOUTS: &[&[u8]] = &[
-    b"<Table><Values><Axis t=\"0\"><Axis><Y t=\"1\">0.05</Y><Y t=\"2\">0.1</Y></Axis></Axis><Axis t=\"1\"><Axis><Y t=\"1\">0.1</Y><Y t=\"2\">0.2</Y></Axis></Axis></Values></Table>",
+    TWO_AGES,
     b"<Table><Values><Axis t=\"0\"><Axis><Y t=\"1\">0.05</Y><Y t=\"2\">0.1</Y><Y t=\"3\"/></Axis></Axis><Axis t=\"1\"><Axis><Y t=\"1\">0.1</Y><Y t=\"2\">0.2</Y><Y t=\"3\"/></Axis></Axis></Values></Table>",
     b"<Table><Values><Axis t=\"0\"><Axis><Y t=\"0\">0.05</Y><Y t=\"1\">0.1</Y><Y/> <Y t=\"x\">\n</Y></Axis></Axis><Axis t=\"1\"><Y t=\"1\">0.1</Y><Y t=\"2\">0.2</Y></Axis></Values></Table>",
     b"<Table><Values><Axis><Axis t=\"0\"><Y t=\"1\">0.05</Y><Y t=\"2\">0.1</Y></Axis><Axis t=\"1\"><Y t=\"1\">0.1</Y><Y t=\"2\">0.2</Y></Axis></Axis></Values></Table>",
@@ -55,336 +57,8 @@ const RATES: &[(u8, u8, &[u32])] = &[
     ),
 ];
 
-/// The first table of a file, what stands behind it, the place of the fault in the file, and the fault.
-const FAULTS: &[(&[u8], &[u8], u32, TableKind)] = &[
-    (
-        b"<Table><Values><Axis t=\"0\"><Axis><Y t=\"1\">0.05</Y><Y t=\"2\">0.1</Y></Axis></Axis><Axis t=\"1\"><Axis><Y t=\"1\">0.1</Y><Y t=\"2\">0.2</Y></Axis></Axis></Values></Table>",
-        b"",
-        7,
-        TableKind::NoUltimate,
-    ),
-    (
-        b"<Table><Values><Axis t=\"0\"><Axis><Y t=\"1\">0.05</Y><Y t=\"2\">0.1</Y></Axis></Axis><Axis t=\"1\"><Axis><Y t=\"1\">0.1</Y><Y t=\"2\">0.2</Y></Axis></Axis></Values></Table>",
-        b"<Table/>",
-        7,
-        TableKind::NoUltimate,
-    ),
-    (
-        b"<Table><Values><Axis t=\"0\"><Axis><Y t=\"1\">0.05</Y><Y t=\"2\">0.1</Y></Axis></Axis><Axis t=\"1\"><Axis><Y t=\"1\">0.1</Y><Y t=\"2\">0.2</Y></Axis></Axis></Values></Table>",
-        b"<Table><Values><Axis><Axis><Y t=\"0\">1</Y></Axis></Axis><Axis><Y t=\"0\">1</Y></Axis></Values></Table>",
-        7,
-        TableKind::NoUltimate,
-    ),
-    (
-        b"<Table><Values><Axis t=\"0\"><Axis><Y t=\"1\">0.05</Y><Y t=\"2\">0.1</Y></Axis></Axis><Axis t=\"1\"><Axis><Y t=\"1\">0.1</Y><Y t=\"2\">0.2</Y></Axis></Axis></Values></Table>",
-        b"<Table><Values/><Values><Axis><Y t=\"0\">1</Y></Axis></Values></Table>",
-        7,
-        TableKind::NoUltimate,
-    ),
-    (
-        b"<Table><Values><Axis t=\"0\"><Axis><Y t=\"1\">0.05</Y><Y t=\"2\">0.1</Y></Axis></Axis><Axis t=\"1\"><Axis><Y t=\"1\">0.1</Y><Y t=\"2\">0.2</Y></Axis></Axis></Values></Table>",
-        b"<Table><Other/></Table><Table><Values><Axis><Y t=\"0\">0.1</Y><Y t=\"1\">0.2</Y><Y t=\"2\">0.25</Y><Y t=\"3\">0.5</Y><Y t=\"4\">1</Y></Axis></Values></Table>",
-        7,
-        TableKind::NoUltimate,
-    ),
-    (
-        b"<Table><MetaData><ScalingFactor>2</ScalingFactor></MetaData><Values><Axis t=\"0\"><Axis><Y t=\"1\">0.05</Y><Y t=\"2\">0.1</Y></Axis></Axis><Axis t=\"1\"><Axis><Y t=\"1\">0.1</Y><Y t=\"2\">0.2</Y></Axis></Axis></Values></Table>",
-        b"<Table><Values><Axis><Y t=\"0\">0.1</Y><Y t=\"1\">0.2</Y><Y t=\"2\">0.25</Y><Y t=\"3\">0.5</Y><Y t=\"4\">1</Y></Axis></Values></Table>",
-        24,
-        TableKind::Scaled,
-    ),
-    (
-        b"<Table><Values><Axis t=\"0\"><Axis><Y t=\"1\">0.05</Y><Y t=\"2\">0.1</Y></Axis></Axis><Axis t=\"1\"><Axis><Y t=\"1\">0.1</Y><Y t=\"2\">0.2</Y></Axis></Axis></Values></Table>",
-        b"<Table><MetaData><ScalingFactor>0.5</ScalingFactor></MetaData><Values><Axis><Y t=\"0\">0.1</Y><Y t=\"1\">0.2</Y><Y t=\"2\">0.25</Y><Y t=\"3\">0.5</Y><Y t=\"4\">1</Y></Axis></Values></Table>",
-        185,
-        TableKind::Scaled,
-    ),
-    (
-        b"<Table><Values><Axis t=\"x\"><Axis/></Axis></Values></Table>",
-        b"<Table><MetaData><ScalingFactor>x</ScalingFactor></MetaData></Table>",
-        82,
-        TableKind::Scaled,
-    ),
-    (
-        b"<Table><MetaData><ScalingFactor>2</ScalingFactor></MetaData><Values><Axis t=\"0\"><Axis><Y t=\"1\">0.05</Y><Y t=\"2\">0.1</Y></Axis></Axis><Axis t=\"1\"><Axis><Y t=\"1\">0.1</Y><Y t=\"2\">0.2</Y></Axis></Axis></Values></Table>",
-        b"<Table><MetaData><ScalingFactor>2</ScalingFactor></MetaData><Values><Axis><Y t=\"0\">0.1</Y><Y t=\"1\">0.2</Y><Y t=\"2\">0.25</Y><Y t=\"3\">0.5</Y><Y t=\"4\">1</Y></Axis></Values></Table>",
-        24,
-        TableKind::Scaled,
-    ),
-    (
-        b"<Table><MetaData><ScalingFactor> 1.0 </ScalingFactor></MetaData><Values><Axis t=\"0\"><Axis><Y t=\"1\">0.05</Y><Y t=\"2\">0.1</Y></Axis></Axis><Axis t=\"1\"><Axis><Y t=\"1\">0.1</Y><Y t=\"2\">0.2</Y></Axis></Axis></Values></Table>",
-        b"<Table><MetaData><ScalingFactor/></MetaData></Table>",
-        7,
-        TableKind::NoUltimate,
-    ),
-    (
-        b"<Table><Values><Axis t=\"131\"><Axis><Y t=\"1\">0.1</Y></Axis></Axis></Values></Table>",
-        b"<Table><Values><Axis><Y t=\"0\">0.1</Y><Y t=\"1\">0.2</Y><Y t=\"2\">0.25</Y><Y t=\"3\">0.5</Y><Y t=\"4\">1</Y></Axis></Values></Table>",
-        22,
-        TableKind::BadAge,
-    ),
-    (
-        b"<Table><Values><Axis t=\"\"><Axis><Y t=\"1\">0.1</Y></Axis></Axis></Values></Table>",
-        b"<Table><Values><Axis><Y t=\"0\">0.1</Y><Y t=\"1\">0.2</Y><Y t=\"2\">0.25</Y><Y t=\"3\">0.5</Y><Y t=\"4\">1</Y></Axis></Values></Table>",
-        22,
-        TableKind::BadAge,
-    ),
-    (
-        b"<Table><Values><Axis t=\"0\"><Axis><Y t=\"1\">0.05</Y><Y t=\"2\">0.1</Y></Axis></Axis><Axis><Axis><Y t=\"1\">0.1</Y></Axis></Axis></Values></Table>",
-        b"<Table><Values><Axis><Y t=\"0\">0.1</Y><Y t=\"1\">0.2</Y><Y t=\"2\">0.25</Y><Y t=\"3\">0.5</Y><Y t=\"4\">1</Y></Axis></Values></Table>",
-        87,
-        TableKind::BadAge,
-    ),
-    (
-        b"<Table><Values><Axis><Axis><Y t=\"1\">0.1</Y></Axis></Axis></Values></Table>",
-        b"<Table><Values><Axis><Y t=\"0\">0.1</Y><Y t=\"1\">0.2</Y><Y t=\"2\">0.25</Y><Y t=\"3\">0.5</Y><Y t=\"4\">1</Y></Axis></Values></Table>",
-        28,
-        TableKind::BadAge,
-    ),
-    (
-        b"<Table><Values><Axis t=\"0\"><Axis><Y t=\"1\">0.05</Y><Y t=\"2\">0.1</Y></Axis></Axis><Axis t=\"2\"><Axis><Y t=\"1\">0.1</Y></Axis></Axis></Values></Table>",
-        b"<Table><Values><Axis><Y t=\"0\">0.1</Y><Y t=\"1\">0.2</Y><Y t=\"2\">0.25</Y><Y t=\"3\">0.5</Y><Y t=\"4\">1</Y></Axis></Values></Table>",
-        87,
-        TableKind::AgeGap,
-    ),
-    (
-        b"<Table><Values><Axis t=\"0\"><Axis><Y t=\"1\">0.05</Y><Y t=\"2\">0.1</Y></Axis></Axis><Axis t=\"0\"><Axis><Y t=\"1\">0.1</Y></Axis></Axis></Values></Table>",
-        b"<Table><Values><Axis><Y t=\"0\">0.1</Y><Y t=\"1\">0.2</Y><Y t=\"2\">0.25</Y><Y t=\"3\">0.5</Y><Y t=\"4\">1</Y></Axis></Values></Table>",
-        87,
-        TableKind::AgeGap,
-    ),
-    (
-        b"<Table><Values><Axis><Axis t=\"0\"><Y t=\"1\">0.1</Y></Axis><Axis t=\"2\" t=\"1\"><Y t=\"1\">0.1</Y></Axis></Axis></Values></Table>",
-        b"<Table><Values><Axis><Y t=\"0\">0.1</Y><Y t=\"1\">0.2</Y><Y t=\"2\">0.25</Y><Y t=\"3\">0.5</Y><Y t=\"4\">1</Y></Axis></Values></Table>",
-        63,
-        TableKind::AgeGap,
-    ),
-    (
-        b"<Table><Values><Axis t=\"0\"><Axis><Y t=\"1\">0.05</Y><Y t=\"2\">0.1</Y></Axis></Axis><Axis t=\"2\"/></Values></Table>",
-        b"<Table><Values><Axis><Y t=\"0\">0.1</Y><Y t=\"1\">0.2</Y><Y t=\"2\">0.25</Y><Y t=\"3\">0.5</Y><Y t=\"4\">1</Y></Axis></Values></Table>",
-        87,
-        TableKind::AgeGap,
-    ),
-    (
-        b"<Table><Values><Axis t=\"0\"><Axis/></Axis></Values></Table>",
-        b"<Table><Values><Axis><Y t=\"0\">0.1</Y><Y t=\"1\">0.2</Y><Y t=\"2\">0.25</Y><Y t=\"3\">0.5</Y><Y t=\"4\">1</Y></Axis></Values></Table>",
-        22,
-        TableKind::BadDuration,
-    ),
-    (
-        b"<Table><Values><Axis t=\"0\"><Axis><Y t=\"1\"/><Y> \n</Y></Axis></Axis></Values></Table>",
-        b"<Table><Values><Axis><Y t=\"0\">0.1</Y><Y t=\"1\">0.2</Y><Y t=\"2\">0.25</Y><Y t=\"3\">0.5</Y><Y t=\"4\">1</Y></Axis></Values></Table>",
-        22,
-        TableKind::BadDuration,
-    ),
-    (
-        b"<Table><Values><Axis t=\"0\"><Axis><Y t=\"1\">0.05</Y><Y t=\"2\">0.1</Y></Axis></Axis><Axis t=\"1\"/></Values></Table>",
-        b"<Table><Values><Axis><Y t=\"0\">0.1</Y><Y t=\"1\">0.2</Y><Y t=\"2\">0.25</Y><Y t=\"3\">0.5</Y><Y t=\"4\">1</Y></Axis></Values></Table>",
-        87,
-        TableKind::BadDuration,
-    ),
-    (
-        b"<Table><Values><Axis t=\"0\"><Axis/><Axis><Y t=\"1\">0.1</Y></Axis></Axis></Values></Table>",
-        b"<Table><Values><Axis><Y t=\"0\">0.1</Y><Y t=\"1\">0.2</Y><Y t=\"2\">0.25</Y><Y t=\"3\">0.5</Y><Y t=\"4\">1</Y></Axis></Values></Table>",
-        22,
-        TableKind::BadDuration,
-    ),
-    (
-        b"<Table><Values><Axis t=\"0\"><Axis><Y t=\"1\">0.05</Y><Y t=\"2\">0.1</Y></Axis></Axis><Axis t=\"1\"><Y t=\"1\"/><Axis><Y t=\"1\">0.1</Y></Axis></Axis></Values></Table>",
-        b"<Table><Values><Axis><Y t=\"0\">0.1</Y><Y t=\"1\">0.2</Y><Y t=\"2\">0.25</Y><Y t=\"3\">0.5</Y><Y t=\"4\">1</Y></Axis></Values></Table>",
-        87,
-        TableKind::BadDuration,
-    ),
-    (
-        b"<Table><Values><Axis><Axis t=\"0\"><Z><Y t=\"1\">0.1</Y></Z></Axis></Axis></Values></Table>",
-        b"<Table><Values><Axis><Y t=\"0\">0.1</Y><Y t=\"1\">0.2</Y><Y t=\"2\">0.25</Y><Y t=\"3\">0.5</Y><Y t=\"4\">1</Y></Axis></Values></Table>",
-        28,
-        TableKind::BadDuration,
-    ),
-    (
-        b"<Table><Values><Axis t=\"0\"><Axis><Y>0.1</Y></Axis></Axis></Values></Table>",
-        b"<Table><Values><Axis><Y t=\"0\">0.1</Y><Y t=\"1\">0.2</Y><Y t=\"2\">0.25</Y><Y t=\"3\">0.5</Y><Y t=\"4\">1</Y></Axis></Values></Table>",
-        40,
-        TableKind::BadDuration,
-    ),
-    (
-        b"<Table><Values><Axis t=\"0\"><Axis><Y t=\"2\">0.1</Y></Axis></Axis></Values></Table>",
-        b"<Table><Values><Axis><Y t=\"0\">0.1</Y><Y t=\"1\">0.2</Y><Y t=\"2\">0.25</Y><Y t=\"3\">0.5</Y><Y t=\"4\">1</Y></Axis></Values></Table>",
-        40,
-        TableKind::BadDuration,
-    ),
-    (
-        b"<Table><Values><Axis t=\"0\"><Axis><Y t=\"0001\">0.1</Y></Axis></Axis></Values></Table>",
-        b"<Table><Values><Axis><Y t=\"0\">0.1</Y><Y t=\"1\">0.2</Y><Y t=\"2\">0.25</Y><Y t=\"3\">0.5</Y><Y t=\"4\">1</Y></Axis></Values></Table>",
-        40,
-        TableKind::BadDuration,
-    ),
-    (
-        b"<Table><Values><Axis t=\"0\"><Axis><Y t=\"-1\">0.1</Y></Axis></Axis></Values></Table>",
-        b"<Table><Values><Axis><Y t=\"0\">0.1</Y><Y t=\"1\">0.2</Y><Y t=\"2\">0.25</Y><Y t=\"3\">0.5</Y><Y t=\"4\">1</Y></Axis></Values></Table>",
-        40,
-        TableKind::BadDuration,
-    ),
-    (
-        b"<Table><Values><Axis t=\"0\"><Axis><Y t=\"0\">0.1</Y><Y t=\"2\">0.1</Y></Axis></Axis></Values></Table>",
-        b"<Table><Values><Axis><Y t=\"0\">0.1</Y><Y t=\"1\">0.2</Y><Y t=\"2\">0.25</Y><Y t=\"3\">0.5</Y><Y t=\"4\">1</Y></Axis></Values></Table>",
-        56,
-        TableKind::BadDuration,
-    ),
-    (
-        b"<Table><Values><Axis t=\"0\"><Axis><Y t=\"1\">0.1</Y><Y t=\"1\">0.1</Y></Axis></Axis></Values></Table>",
-        b"<Table><Values><Axis><Y t=\"0\">0.1</Y><Y t=\"1\">0.2</Y><Y t=\"2\">0.25</Y><Y t=\"3\">0.5</Y><Y t=\"4\">1</Y></Axis></Values></Table>",
-        56,
-        TableKind::BadDuration,
-    ),
-    (
-        b"<Table><Values><Axis t=\"0\"><Axis><Y t=\"1\">0.05</Y><Y t=\"2\">0.1</Y></Axis></Axis><Axis t=\"1\"><Y t=\"1\">0.1</Y><Y t=\"3\">0.1</Y></Axis></Values></Table>",
-        b"<Table><Values><Axis><Y t=\"0\">0.1</Y><Y t=\"1\">0.2</Y><Y t=\"2\">0.25</Y><Y t=\"3\">0.5</Y><Y t=\"4\">1</Y></Axis></Values></Table>",
-        115,
-        TableKind::BadDuration,
-    ),
-    (
-        b"<Table><Values><Axis t=\"130\"><Axis><Y t=\"1\">0.1</Y><Y t=\"2\">0.1</Y></Axis></Axis></Values></Table>",
-        b"<Table><Values><Axis><Y t=\"0\">0.1</Y><Y t=\"1\">0.2</Y><Y t=\"2\">0.25</Y><Y t=\"3\">0.5</Y><Y t=\"4\">1</Y></Axis></Values></Table>",
-        58,
-        TableKind::BadDuration,
-    ),
-    (
-        b"<Table><Values><Axis t=\"129\"><Axis><Y t=\"0\">0.1</Y><Y t=\"1\">0.1</Y><Y t=\"2\">2</Y></Axis></Axis></Values></Table>",
-        b"<Table><Values><Axis><Y t=\"0\">0.1</Y><Y t=\"1\">0.2</Y><Y t=\"2\">0.25</Y><Y t=\"3\">0.5</Y><Y t=\"4\">1</Y></Axis></Values></Table>",
-        74,
-        TableKind::BadDuration,
-    ),
-    (
-        b"<Table><Values><Axis t=\"0\"><Axis><Y t=\"1\">1.1</Y></Axis></Axis></Values></Table>",
-        b"<Table><Values><Axis><Y t=\"0\">0.1</Y><Y t=\"1\">0.2</Y><Y t=\"2\">0.25</Y><Y t=\"3\">0.5</Y><Y t=\"4\">1</Y></Axis></Values></Table>",
-        40,
-        TableKind::BadRate,
-    ),
-    (
-        b"<Table><Values><Axis t=\"0\"><Axis><Y t=\"1\">0.1</Y><Y t=\"2\"/><Y t=\"3\">0.1</Y></Axis></Axis></Values></Table>",
-        b"<Table><Values><Axis><Y t=\"0\">0.1</Y><Y t=\"1\">0.2</Y><Y t=\"2\">0.25</Y><Y t=\"3\">0.5</Y><Y t=\"4\">1</Y></Axis></Values></Table>",
-        56,
-        TableKind::BadRate,
-    ),
-    (
-        b"<Table><Values><Axis t=\"0\"><Axis><Y t=\"1\"> </Y><Y t=\"2\"/><Y t=\"3\">0.1</Y><Y t=\"4\"/></Axis></Axis></Values></Table>",
-        b"<Table><Values><Axis><Y t=\"0\">0.1</Y><Y t=\"1\">0.2</Y><Y t=\"2\">0.25</Y><Y t=\"3\">0.5</Y><Y t=\"4\">1</Y></Axis></Values></Table>",
-        40,
-        TableKind::BadRate,
-    ),
-    (
-        b"<Table><Values><Axis t=\"0\"><Axis><Y t=\"1\">0.1</Y><Y t=\"2\"><!----></Y></Axis></Axis></Values></Table>",
-        b"<Table><Values><Axis><Y t=\"0\">0.1</Y><Y t=\"1\">0.2</Y><Y t=\"2\">0.25</Y><Y t=\"3\">0.5</Y><Y t=\"4\">1</Y></Axis></Values></Table>",
-        56,
-        TableKind::BadRate,
-    ),
-    (
-        b"<Table><Values><Axis t=\"0\"><Axis><Y t=\"1\">0.1</Y><Y t=\"2\"><a/></Y></Axis></Axis></Values></Table>",
-        b"<Table><Values><Axis><Y t=\"0\">0.1</Y><Y t=\"1\">0.2</Y><Y t=\"2\">0.25</Y><Y t=\"3\">0.5</Y><Y t=\"4\">1</Y></Axis></Values></Table>",
-        56,
-        TableKind::BadRate,
-    ),
-    (
-        b"<Table><Values><Axis t=\"0\"><Axis><Y t=\"1\">0.1</Y><Y t=\"3\"/><Y t=\"3\">0.1</Y></Axis></Axis></Values></Table>",
-        b"<Table><Values><Axis><Y t=\"0\">0.1</Y><Y t=\"1\">0.2</Y><Y t=\"2\">0.25</Y><Y t=\"3\">0.5</Y><Y t=\"4\">1</Y></Axis></Values></Table>",
-        56,
-        TableKind::BadDuration,
-    ),
-    (
-        b"<Table><Values><Axis t=\"0\"><Axis><Y t=\"1\">x</Y></Axis></Axis><Axis t=\"x\"/></Values></Table>",
-        b"<Table><Values><Axis><Y t=\"0\">0.1</Y><Y t=\"1\">0.2</Y><Y t=\"2\">0.25</Y><Y t=\"3\">0.5</Y><Y t=\"4\">1</Y></Axis></Values></Table>",
-        40,
-        TableKind::BadRate,
-    ),
-    (
-        b"<Table><Values><Axis t=\"x\"><Axis><Y t=\"1\">x</Y></Axis></Axis><Axis t=\"1\"><Axis><Y t=\"1\">0.1</Y><Y t=\"2\">0.2</Y></Axis></Axis></Values></Table>",
-        b"<Table><Values><Axis><Y t=\"0\">0.1</Y><Y t=\"1\">0.2</Y><Y t=\"2\">0.25</Y><Y t=\"3\">0.5</Y><Y t=\"4\">1</Y></Axis></Values></Table>",
-        22,
-        TableKind::BadAge,
-    ),
-    (
-        b"<Table><Values><Axis t=\"0\"><Axis><Y t=\"1\">0.05</Y><Y t=\"2\">0.1</Y></Axis></Axis><Axis t=\"1\"/></Values></Table>",
-        b"",
-        87,
-        TableKind::BadDuration,
-    ),
-    (
-        b"<Table><Values><Axis t=\"0\"><Axis><Y t=\"1\">0.1</Y><Y t=\"2\">x</Y></Axis></Axis></Values></Table>",
-        b"",
-        56,
-        TableKind::BadRate,
-    ),
-    (
-        b"<Table><Values><Axis t=\"0\"><Axis><Y t=\"1\">x</Y><Y t=\"3\">0.1</Y></Axis></Axis></Values></Table>",
-        b"<Table><Values><Axis><Y t=\"0\">0.1</Y><Y t=\"1\">0.2</Y><Y t=\"2\">0.25</Y><Y t=\"3\">0.5</Y><Y t=\"4\">1</Y></Axis></Values></Table>",
-        40,
-        TableKind::BadRate,
-    ),
-    (
-        b"<Table><Values><Axis t=\"0\"><Axis><Y t=\"2\">x</Y></Axis></Axis></Values></Table>",
-        b"<Table><Values><Axis><Y t=\"0\">0.1</Y><Y t=\"1\">0.2</Y><Y t=\"2\">0.25</Y><Y t=\"3\">0.5</Y><Y t=\"4\">1</Y></Axis></Values></Table>",
-        40,
-        TableKind::BadDuration,
-    ),
-    (
-        b"<Table><Values><Axis t=\"0\"><Axis><Y t=\"1\">0.05</Y><Y t=\"2\">0.1</Y></Axis></Axis><Axis t=\"3\"><Axis><Y t=\"5\">x</Y></Axis></Axis></Values></Table>",
-        b"<Table><Values><Axis><Y t=\"0\">0.1</Y><Y t=\"1\">0.2</Y><Y t=\"2\">0.25</Y><Y t=\"3\">0.5</Y><Y t=\"4\">1</Y></Axis></Values></Table>",
-        87,
-        TableKind::AgeGap,
-    ),
-    (
-        b"<Table><Values><Axis t=\"0\"><Axis><Y t=\"1\">0.05</Y><Y t=\"2\">0.1</Y></Axis></Axis><Axis t=\"1\"><Axis><Y t=\"1\">0.1</Y><Y t=\"2\">0.2</Y></Axis></Axis></Values></Table>",
-        b"<Table><Values><Axis><Y t=\"131\">0.1</Y></Axis></Values></Table>",
-        189,
-        TableKind::BadAge,
-    ),
-    (
-        b"<Table><Values><Axis t=\"0\"><Axis><Y t=\"1\">0.05</Y><Y t=\"2\">0.1</Y></Axis></Axis><Axis t=\"1\"><Axis><Y t=\"1\">0.1</Y><Y t=\"2\">0.2</Y></Axis></Axis></Values></Table>",
-        b"<Table><Values><Axis><Y t=\"2\">0.1</Y><Y t=\"4\">0.1</Y></Axis></Values></Table>",
-        205,
-        TableKind::AgeGap,
-    ),
-    (
-        b"<Table><Values><Axis t=\"0\"><Axis><Y t=\"1\">0.05</Y><Y t=\"2\">0.1</Y></Axis></Axis><Axis t=\"1\"><Axis><Y t=\"1\">0.1</Y><Y t=\"2\">0.2</Y></Axis></Axis></Values></Table>",
-        b"<Table><Values><Axis><Y t=\"2\">0.1</Y><Y t=\"3\"/></Axis></Values></Table>",
-        205,
-        TableKind::BadRate,
-    ),
-    (
-        b"<Table><Values><Axis t=\"0\"><Axis><Y t=\"1\">0.05</Y><Y t=\"2\">0.1</Y></Axis></Axis><Axis t=\"1\"><Axis><Y t=\"1\">0.1</Y><Y t=\"2\">0.2</Y></Axis></Axis></Values></Table>",
-        b"<Table><Values><Axis><Y t=\"9\">0.1</Y><Y t=\"10\">x</Y></Axis></Values></Table>",
-        205,
-        TableKind::BadRate,
-    ),
-    (
-        b"<Table><Values><Axis t=\"0\"><Axis><Y t=\"1\">0.05</Y><Y t=\"2\">0.1</Y></Axis></Axis><Axis t=\"1\"><Axis><Y t=\"1\">0.1</Y><Y t=\"2\">0.2</Y></Axis></Axis></Values></Table>",
-        b"<Table><Values><Axis><Y t=\"3\">0.1</Y><Y t=\"4\">1</Y></Axis></Values></Table>",
-        22,
-        TableKind::UltimateGap,
-    ),
-    (
-        b"<Table><Values><Axis t=\"0\"><Axis><Y t=\"1\">0.05</Y><Y t=\"2\">0.1</Y></Axis></Axis><Axis t=\"1\"><Axis><Y t=\"1\">0.1</Y><Y t=\"2\">0.2</Y></Axis></Axis></Values></Table>",
-        b"<Table><Values><Axis><Y t=\"4\">1</Y></Axis></Values></Table>",
-        22,
-        TableKind::UltimateGap,
-    ),
-    (
-        b"<Table><Values><Axis t=\"0\"><Axis><Y t=\"1\">0.05</Y><Y t=\"2\">0.1</Y><Y t=\"3\">0.1</Y></Axis></Axis><Axis t=\"1\"><Y t=\"0\">0.1</Y></Axis></Values></Table>",
-        b"<Table><Values><Axis><Y t=\"3\">1</Y></Axis></Values></Table>",
-        103,
-        TableKind::UltimateGap,
-    ),
-    (
-        b"<Table><Values><Axis><Axis t=\"0\"><Y t=\"0\">0.1</Y></Axis></Axis></Values></Table>",
-        b"<Table><Values><Axis><Y t=\"2\">1</Y></Axis></Values></Table>",
-        28,
-        TableKind::UltimateGap,
-    ),
-];
-
 /// A root with these in it.
-fn file_of(alloc: Global, first: &[u8], second: &[u8]) -> Result<Vec<u8>, Fail> {
+pub fn file_of(alloc: Global, first: &[u8], second: &[u8]) -> Result<Vec<u8>, Fail> {
     let mut file = b"<XTbML>".to_vec(alloc)?;
     file.extend_from_slice(first)?;
     file.extend_from_slice(second)?;
@@ -408,7 +82,8 @@ fn is_select(alloc: Global, bytes: &[u8]) -> bool {
     }
 }
 
-fn fault_of(alloc: Global, bytes: &[u8]) -> Option<(u32, TableKind)> {
+/// The fault of a file, and its place.
+pub fn fault_of(alloc: Global, bytes: &[u8]) -> Option<(u32, TableKind)> {
     match any_of(alloc, bytes) {
         Err(TableFault::Bad { at, kind }) => Some((at, kind)),
         _ => None,
@@ -434,19 +109,6 @@ fn each_layout_is_read(rt: HostRuntime) -> Result<(), Fail> {
                 "issue age {age}"
             );
         }
-    }
-    Ok(())
-}
-
-#[test]
-fn faults_of_select_tables_have_their_places(rt: HostRuntime) -> Result<(), Fail> {
-    for (first, second, at, kind) in FAULTS {
-        let file = file_of(rt.alloc(), *first, *second)?;
-        assert_eq!(rt;
-            fault_of(rt.alloc(), &file),
-            Some((*at, *kind)),
-            "place {at}"
-        );
     }
     Ok(())
 }
@@ -497,10 +159,7 @@ fn all_issue_ages_with_all_durations(rt: HostRuntime) -> Result<(), Fail> {
         let Some((first_age, rates)) = along(&table, age) else {
             return Err("a table".into());
         };
-        assert_eq!(rt;
-            (first_age, rates.len()),
-            (age, 131 - usize::from(age))
-        );
+        assert_eq!(rt; (first_age, rates.len()), (age, 131 - usize::from(age)));
     }
     let part = every_age(rt.alloc(), b"<Y t='132'>0</Y>")?;
     let file = file_of(rt.alloc(), &part, ULTIMATE)?;
@@ -521,7 +180,9 @@ const FILLINGS: &[(&[u8], &[u8])] = &[
 #[test]
 fn the_longest_select_file_is_read(rt: HostRuntime) -> Result<(), Fail> {
     let mut file =
-        b"<XTbML><Table><Values><Axis t='0'><Axis><Y t='0'>0.05</Y><Y t='1'>0.1</Y>".to_vec(rt.alloc())?;
+        b"<XTbML><Table><Values><Axis t='0'><Axis><Y t='0'>0.05</Y><Y t='1'>0.1</Y>".to_vec(
+            rt.alloc(),
+        )?;
     for (open, close) in FILLINGS {
         file.extend_from_slice(*open)?;
         let filled = vec![in rt.alloc(); b'x'; 830_000]?;

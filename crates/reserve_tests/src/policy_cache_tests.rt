@@ -3,8 +3,8 @@ ghost use Rattle.policy_value.specs.Caches.{IsRightFor};
 
 use crate::policy_value_tests::{FLAT, ISSUED, ONE_YEAR, TWO_YEARS, basis, policy};
 use basis_book::Basis;
-use crvm_reserve::{basis_premium, reserve_bounds};
-use plan_benefits::shape;
+use crvm_reserve::{premium_with_cap, reserve_bounds};
+use plan_benefits::shape_along;
 use policy_types::{Command, Plan, Policy, Status};
 use policy_value::{ColumnCache, Measure, Row, Worth, row};
 use present_value::columns;
@@ -70,14 +70,19 @@ fn row_with(policy: &Policy, basis: &Basis, on: i32, cache: &mut ColumnCache) ->
 fn own_bounds(policy: &Policy, basis: &Basis, t: u8) -> Option<(u64, u64)> {
     let policy = *policy;
     let (_, table, bp) = basis.pick(policy.issued)?;
-    let Ok(shape) = shape(policy.plan, policy.age, policy.years, table) else {
+    if policy.age > 130 {
+        return None;
+    }
+    let Ok(shape) = shape_along(policy.plan, policy.age, policy.years, table) else {
         return None;
     };
     if t > shape.n || shape.h < 2 || policy.amount > 10_000_000_000 {
         return None;
     }
-    let columns = columns(table, &shape, bp);
-    let premium = basis_premium(table, &shape, bp, &columns);
+    let own = table.along(shape.age)?;
+    let next = table.along(shape.age + 1)?;
+    let columns = columns(own, &shape, bp);
+    let premium = premium_with_cap(own, next, &shape, bp, &columns);
     Some(reserve_bounds(&columns, &premium, policy.amount, t))
 }
 
