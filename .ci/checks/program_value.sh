@@ -63,7 +63,11 @@ begin "select tables by hand"
 echo "$policy" | "$life" run >out
 echo 1900-01-01,s.xml,0 >basis.csv
 for layout in select select-inner select-outer blank; do
-    cp "$examples/${layout#blank}.xml" s.xml 2>/dev/null || sed 's#</Y></Axis></Axis>#</Y><Y t="3"/></Axis></Axis>#g' "$examples/select-outer.xml" >s.xml
+    if [ $layout = blank ]; then
+        sed 's#</Y></Axis></Axis>#</Y><Y t="3"/></Axis></Axis>#g' "$examples/select.xml" >s.xml
+    else
+        cp "$examples/$layout.xml" s.xml
+    fi
     for line in 2020-12-31,0,0.00,0.00 2021-01-01,1,129.20,129.21 2022-01-01,2,541.68,541.69 2023-01-01,3,1000.00,1000.00; do
         row=${line#*,}
         printf '0,value,%s,1,1\nrow,7001,inforce,%s\ntotal,%s,0\n' "${line%%,*}" "$row" "${row#*,}" >wanted
@@ -185,7 +189,7 @@ ends_before_the_journal 4 "badbasis,q.xml,28,badduration" value 2021-01-01
 sed 's#<Table><Values><Axis><Y.*</Table>##' "$examples/select.xml" >q.xml
 ends_before_the_journal 4 "badbasis,q.xml,7,noultimate" value 2021-01-01
 sed 's#<Table><Values><Axis><Y.*<Y t="3">#<Table><Values><Axis><Y t="3">#' "$examples/select.xml" >q.xml
-ends_before_the_journal 4 "badbasis,q.xml,28,ultimategap" value 2021-01-01
+ends_before_the_journal 4 "badbasis,q.xml,22,ultimategap" value 2021-01-01
 rm q.xml
 ends_before_the_journal 4 "badbasis,q.xml,1,absent" value 2021-01-01
 mkdir q.xml

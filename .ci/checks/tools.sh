@@ -273,7 +273,7 @@ for layout in select select-inner select-outer; do
         grep -q "^passed over: nothing$" out || complain "explain: $(cat out)"
 done
 # rates of an issue age that stand directly in a labelled axis are taken by age, and what is behind them is passed over
-sed 's#<Axis><Axis t="0">#<Axis t="0">#; s#</Axis></Axis></Values>#</Axis></Values>#' "$examples/select.xml" >labelled.xml
+sed 's#<Axis><Axis t="0">#<Axis t="0">#; s#</Axis></Axis></Values>#</Axis></Values>#' "$examples/select-inner.xml" >labelled.xml
 says explain labelled.xml
 grep -q "rates of the ages 1 to 2" out && grep -q '^  the first Axis has t="0"' out && grep -q "1 further Table.*1 further Values or Axis" out ||
     complain "explain: $(cat out)"
