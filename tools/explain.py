@@ -38,9 +38,9 @@ WANTED = {
 CURES = {
     "badrate": "round the rates to nine decimals; a spreadsheet may have written more",
     "scaled": "multiply the rates out, and drop the factor",
-    "badduration": "number the durations 1, 2, 3 without a gap; an issue age without select rates has no Axis",
+    "badduration": "number the durations 1, 2, 3 without a gap; leave out the last issue ages where they have no select rates",
     "noultimate": "put the ultimate table behind the select one, in the same file",
-    "ultimategap": "add the ultimate rates of the ages from there on, or the select rates up to there",
+    "ultimategap": "let the ultimate rates begin at that age, or add select rates up to their first age",
 }
 
 

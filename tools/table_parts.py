@@ -1,10 +1,11 @@
 """What is taken of a table's file, what the file calls it, and what of it is passed over, in lines (docs/VALUATION.md)."""
 from __future__ import annotations
 
-from collections.abc import Callable
 from fractions import Fraction
+from typing import Callable
 
-from tables import AnyTable, Element, SelectTable, Table, durations_of, factor_of, issue_axes_of, path_of, ultimate_rows_of
+from tables import (AnyTable, Element, SelectTable, Table, durations_of, factor_of, issue_axes_of, path_of, rows_by_duration,
+                    ultimate_rows_of)
 
 Places = Callable[[Element], int]
 
@@ -51,8 +52,7 @@ def further_by_duration(path: list[Element]) -> int:
 
 
 def rows_without_rate(path: list[Element]) -> int:
-    axes = issue_axes_of(path)
-    return sum(len((axis if axis.first("Y") else axis.first("Axis")).those("Y")) - len(durations_of(axis)) for axis in axes)
+    return sum(len(rows_by_duration(axis)) - len(durations_of(axis)) for axis in issue_axes_of(path))
 
 
 def elements_over(root: Element, taken: int) -> list[str]:

@@ -264,10 +264,15 @@ def issue_axes_of(path: list[Element]) -> list[Element]:
     return (values if "t" in axis.attributes else axis).those("Axis")
 
 
+def rows_by_duration(axis: Element) -> list[Element]:
+    """The rows in the axis of an issue age, or where it has none, in the first axis in it."""
+    inner = axis if axis.first("Y") else axis.first("Axis")
+    return inner.those("Y") if inner else []
+
+
 def durations_of(axis: Element) -> list[Element]:
     """The rows of an issue age, without the blank ones behind the last that isn't blank."""
-    inner = axis if axis.first("Y") else axis.first("Axis")
-    rows = inner.those("Y") if inner else []
+    rows = rows_by_duration(axis)
     while rows and is_blank(rows[-1]):
         rows.pop()
     return rows

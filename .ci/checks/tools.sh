@@ -252,7 +252,7 @@ explains "^line 2 of t.xml, byte 1 "
 select_of 1 '<Table><Values><Axis><Y t="3">0.1</Y></Axis></Values></Table>'
 explains "^wanted: an ultimate rate for the age right behind"
 explains "^line 2 of t.xml, byte 22 "
-explains "^cure:   add the ultimate rates"
+explains "^cure:   let the ultimate rates begin"
 refuses "the first fault of t.xml is badbasis,t.xml,29,ultimategap" explain badbasis,t.xml,8,noultimate
 printf '<html><body>not found</body></html>' >t.xml
 explains "^wanted: the path XTbML"
