@@ -2,6 +2,8 @@
 #![tactic(auto)]
 
 #[cfg(test)]
+mod cash_projection_tests;
+#[cfg(test)]
 mod crvm_reserve_tests;
 #[cfg(test)]
 mod deficiency_reserve_tests;

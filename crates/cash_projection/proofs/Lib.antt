@@ -1,0 +1,9 @@
+pub mod Survivors
+pub mod Dues
+pub mod Totals
+pub mod AddingUp
+pub mod PathSteps
+pub mod Columns
+pub mod Adding
+pub mod Taking
+pub mod Tallying

@@ -1,0 +1,216 @@
+-- Tallies of lists.
+use Rattle.std.proofs.Common.{◌≡◌, ℕ, zero, suc, ◌+◌, ◌-◌, ◌*◌, ◌^◌, ◌<◌, ◌≤◌, inl, inr, refl, ap, ap₂, sym, subst, ◌∙◌, arith, List, [], ◌∷◌, ◌++◌, length, take, get_or, ℤ, le_trans, le_of_mul-le-mul_right, length-append}
+use Rattle.std.specs.List.{AllByRecursion, AllZip}
+use Rattle.std.proofs.lemmas.List.{take_more}
+use Rattle.policy_types.specs.declared.policy.Policy.{Policy}
+use Rattle.rate_table.specs.Rates.{ONE}
+use Rattle.present_value.specs.Rounding.{UNIT, down, up}
+use Rattle.present_value.specs.Values.{pair_of}
+use Rattle.basis_book.specs.Dated.{Dated}
+use Rattle.cash_projection.specs.Survival.{alive, dying}
+use Rattle.cash_projection.specs.Prospects.{Prospect, IsSmall, premium_due, death_due, maturity_due}
+use Rattle.cash_projection.specs.Cash.{total_of, premium_by, death_by, maturity_by, rounded_year, no_year, AreCashYears}
+use Rattle.cash_projection.specs.Policies.{IsProspect, IsCashOf}
+use Rattle.cash_projection.specs.inside.Tallies.{AreSums, HasAdded, HasGained, TakesOneMore, HasCounted, AreBothSums, IsRoomy, IsSized, IsTally, IsTallyOf, sum_at, sums_of}
+use Rattle.cash_projection.specs.declared.column.Sums.{Sums}
+use Rattle.cash_projection.specs.declared.tally.Tally.{Tally}
+use Rattle.cash_projection.specs.declared.years.Year.{Year}
+use Rattle.cash_projection.proofs.Survivors.{power_pos}
+use Rattle.cash_projection.proofs.Totals.{IsPart, list_part, premium_part, death_part, maturity_part, year_encloses}
+
+pub total_append : (f : Prospect → ℕ) (ps qs : List Prospect) → total_of f (ps ++ qs) ≡ total_of f ps + total_of f qs
+unfolding total_of
+total_append f [] qs = omega arith
+total_append f (p ∷ ps) qs = omega (arith, total_append f ps qs)
+
+total_one : (f : Prospect → ℕ) (p : Prospect) → total_of f (p ∷ []) ≡ f p
+unfolding total_of
+total_one f p = omega arith
+
+total_more : (f : Prospect → ℕ) (ps : List Prospect) (p : Prospect) → total_of f (ps ++ p ∷ []) ≡ total_of f ps + f p
+total_more f ps p = total_append f ps (p ∷ []) ∙ ap (λ n. total_of f ps + n) (total_one f p)
+
+all_append : (ps qs : List Prospect) → AllByRecursion IsSmall ps → AllByRecursion IsSmall qs → AllByRecursion IsSmall (ps ++ qs)
+all_append [] qs front back = back
+all_append (p ∷ ps) qs front back = (front.0, all_append ps qs front.1 back)
+
+zip_append : (P : Policy → Prospect → Type 0) (xs vs : List Policy) (ys ws : List Prospect) → AllZip P xs ys → AllZip P vs ws → AllZip P (xs ++ vs) (ys ++ ws)
+zip_append P [] vs [] ws front back = back
+zip_append P [] vs (y ∷ ys) ws front back = absurd front
+zip_append P (x ∷ xs) vs [] ws front back = absurd front
+zip_append P (x ∷ xs) vs (y ∷ ys) ws front back = (front.0, zip_append P xs vs ys ws front.1 back)
+
+words_few : (ps : List Prospect) → AllByRecursion IsSmall ps → total_of (λ p. p.words) ps ≤ length ps
+unfolding total_of
+words_few [] small = omega arith
+words_few (p ∷ ps) small = omega (arith, small.0.words, words_few ps small.1)
+
+-- no policy
+pub none_tallied : (basis : List Dated) (on : ℤ) (years : ℕ) (tally : Tally) → tally.years ≡ years → tally.policies ≡ 0 → tally.unvalued ≡ 0
+    → length tally.premium.sums ≡ 131 → length tally.death.sums ≡ 131 → length tally.maturity.sums ≡ 131
+    → ((j : ℕ) → ((sum_at tally.premium.sums j).lo ≡ 0) × ((sum_at tally.premium.sums j).hi ≡ 0))
+    → ((j : ℕ) → ((sum_at tally.death.sums j).lo ≡ 0) × ((sum_at tally.death.sums j).hi ≡ 0))
+    → ((j : ℕ) → ((sum_at tally.maturity.sums j).lo ≡ 0) × ((sum_at tally.maturity.sums j).hi ≡ 0))
+    → IsTallyOf basis on years [] tally
+unfolding total_of
+none_tallied basis on years tally same policies unvalued a b d premium death maturity = record {
+  prospects = [];
+  each = tt;
+  tallied = record {
+    same = same;
+    policies = policies;
+    unvalued = unvalued;
+    premium = record { places = a; lo = λ j below. (premium j).0; hi = λ j below. (premium j).1 };
+    death = record { places = b; lo = λ j below. (death j).0; hi = λ j below. (death j).1 };
+    maturity = record { places = d; lo = λ j below. (maturity j).0; hi = λ j below. (maturity j).1 };
+    small = tt;
+  };
+}
+
+-- one policy more
+one_more_summed : (years : ℕ) (part : (ℕ → ℕ → ℕ) → ℕ → Prospect → ℕ) (ps : List Prospect) (p : Prospect) (old new : List Sums)
+    → AreSums years part ps old → HasGained years part p old new → AreSums years part (ps ++ p ∷ []) new
+one_more_summed years part ps p old new sums gained = record {
+  places = gained.places;
+  lo = λ j below. gained.lo j below ∙ ap (λ n. n + part down j p) (sums.lo j below) ∙ sym (total_more (part down j) ps p);
+  hi = λ j below. gained.hi j below ∙ ap (λ n. n + part up j p) (sums.hi j below) ∙ sym (total_more (part up j) ps p);
+}
+
+pub one_more_tallied : (basis : List Dated) (on : ℤ) (years : ℕ) (policies : List Policy) (i : ℕ) (policy : Policy) (old new : Tally) → i < length policies
+    → policy ≡ get_or policies i policy → IsTallyOf basis on years (take i policies) old → HasCounted basis on policy old new
+    → IsTallyOf basis on years (take (i + 1) policies) new
+one_more_tallied basis on years policies i policy old new below here was taken =
+    let ps = was.prospects in
+    let p = taken.prospect in
+    let old_is = was.tallied in
+    let added : HasAdded years p old new = subst (λ n. HasAdded n p old new) old_is.same taken.added in
+    let longer : take i policies ++ policy ∷ [] ≡ take (i + 1) policies = ap (λ z. take i policies ++ z ∷ []) here ∙ sym (take_more policies i policy below) in
+    record {
+      prospects = ps ++ p ∷ [];
+      each = subst (λ l. AllZip (IsProspect basis on) l (ps ++ p ∷ [])) longer (zip_append (IsProspect basis on) (take i policies) (policy ∷ []) ps (p ∷ []) was.each (taken.is, tt));
+      tallied = record {
+        same = added.same ∙ old_is.same;
+        policies = omega (arith, added.policies, old_is.policies, length-append ps (p ∷ []));
+        unvalued = added.unvalued ∙ ap (λ n. n + p.words) old_is.unvalued ∙ sym (total_more (λ p. p.words) ps p);
+        premium = one_more_summed years premium_by ps p old.premium.sums new.premium.sums old_is.premium added.premium;
+        death = one_more_summed years death_by ps p old.death.sums new.death.sums old_is.death added.death;
+        maturity = one_more_summed years maturity_by ps p old.maturity.sums new.maturity.sums old_is.maturity added.maturity;
+        small = all_append ps (p ∷ []) old_is.small (taken.small, tt);
+      };
+    }
+
+-- the sums of at most 4,000,000 policies
+roomy : (years : ℕ) (part : (ℕ → ℕ → ℕ) → ℕ → Prospect → ℕ) (exact : ℕ → Prospect → ℕ) (den : ℕ → ℕ) (ps : List Prospect) (sums : List Sums) → AreSums years part ps sums
+    → AllByRecursion IsSmall ps → years ≤ 131 → length ps ≤ 4000000 → ((j : ℕ) → 0 < den j)
+    → ((p : Prospect) (j : ℕ) → IsSmall p → j ≤ 131 → IsPart 1 (exact j p) (den j) (part down j p) (part up j p)) → IsRoomy years sums
+roomy years part exact den ps sums are small most few positive each = record {
+  places = are.places;
+  lo = λ j below.
+      let p = whole j below in
+      let order : total_of (part down j) ps ≤ total_of (part up j) ps = le_of_mul-le-mul_right (le_trans p.above p.below) (positive j) in
+      omega (arith, are.lo j below, order, p.most);
+  hi = λ j below. omega (arith, are.hi j below, (whole j below).most);
+}
+  where
+    whole : (j : ℕ) → j < years → IsPart (length ps) (total_of (exact j) ps) (den j) (total_of (part down j) ps) (total_of (part up j) ps)
+    whole j below = list_part (exact j) (part down j) (part up j) (den j) ps small (λ p s. each p j s (omega arith))
+
+pub sized : (years : ℕ) (ps : List Prospect) (tally : Tally) → IsTally years ps tally → years ≤ 131 → tally.policies ≤ 4000000 → IsSized tally
+sized years ps tally is most few =
+    let count : length ps ≤ 4000000 = omega (arith, is.policies) in
+    record {
+      policies = few;
+      unvalued = omega (arith, is.unvalued, is.policies, words_few ps is.small);
+      years = omega (arith, is.same);
+      premium = rw is.same (roomy years premium_by (λ j p. premium_due p j * alive p.rates j) (λ j. ONE ^ j) ps tally.premium.sums is.premium is.small most count
+          power_pos premium_part);
+      death = rw is.same (roomy years death_by (λ j p. death_due p j * dying p.rates j) (λ j. ONE ^ (j + 1)) ps tally.death.sums is.death is.small most count
+          (λ j. power_pos (j + 1)) death_part);
+      maturity = rw is.same (roomy years maturity_by (λ j p. maturity_due p j * alive p.rates (j + 1)) (λ j. ONE ^ (j + 1)) ps tally.maturity.sums is.maturity is.small
+          most count (λ j. power_pos (j + 1)) maturity_part);
+    }
+
+zip_length : (P : Policy → Prospect → Type 0) (xs : List Policy) (ys : List Prospect) → AllZip P xs ys → length ys ≡ length xs
+zip_length P [] [] all = refl
+zip_length P [] (y ∷ ys) all = absurd all
+zip_length P (x ∷ xs) [] all = absurd all
+zip_length P (x ∷ xs) (y ∷ ys) all = omega (arith, zip_length P xs ys all.1)
+
+-- the tally of a list is of as many policies, and there is room for them
+pub tally_sized : (basis : List Dated) (on : ℤ) (years : ℕ) (policies : List Policy) (tally : Tally) → IsTallyOf basis on years policies tally → years ≤ 131
+    → length policies ≤ 4000000 → IsSized tally × (tally.policies ≡ length policies)
+tally_sized basis on years policies tally is most few =
+    let many : tally.policies ≡ length policies = is.tallied.policies ∙ zip_length (IsProspect basis on) policies is.prospects is.each in
+    (sized years is.prospects tally is.tallied most (omega (arith, many)), many)
+
+-- two lists
+joined_sums : (years : ℕ) (part : (ℕ → ℕ → ℕ) → ℕ → Prospect → ℕ) (ps qs : List Prospect) (ours theirs new : List Sums) → AreSums years part ps ours → AreSums years part qs theirs
+    → AreBothSums years ours theirs new → AreSums years part (ps ++ qs) new
+joined_sums years part ps qs ours theirs new a b joined = record {
+  places = joined.places;
+  lo = λ j below. joined.lo j below ∙ ap₂ ◌+◌ (a.lo j below) (b.lo j below) ∙ sym (total_append (part down j) ps qs);
+  hi = λ j below. joined.hi j below ∙ ap₂ ◌+◌ (a.hi j below) (b.hi j below) ∙ sym (total_append (part up j) ps qs);
+}
+
+pub both_tallied : (basis : List Dated) (on : ℤ) (years : ℕ) (xs ys : List Policy) (ours theirs new : Tally) → IsTallyOf basis on years xs ours → IsTallyOf basis on years ys theirs
+    → new.years ≡ ours.years → new.policies ≡ ours.policies + theirs.policies → new.unvalued ≡ ours.unvalued + theirs.unvalued
+    → AreBothSums years ours.premium.sums theirs.premium.sums new.premium.sums → AreBothSums years ours.death.sums theirs.death.sums new.death.sums
+    → AreBothSums years ours.maturity.sums theirs.maturity.sums new.maturity.sums → IsTallyOf basis on years (xs ++ ys) new
+both_tallied basis on years xs ys ours theirs new a b same policies unvalued premium death maturity =
+    let ps = a.prospects in
+    let qs = b.prospects in
+    record {
+      prospects = ps ++ qs;
+      each = zip_append (IsProspect basis on) xs ys ps qs a.each b.each;
+      tallied = record {
+        same = same ∙ a.tallied.same;
+        policies = omega (arith, policies, a.tallied.policies, b.tallied.policies, length-append ps qs);
+        unvalued = unvalued ∙ ap₂ ◌+◌ a.tallied.unvalued b.tallied.unvalued ∙ sym (total_append (λ p. p.words) ps qs);
+        premium = joined_sums years premium_by ps qs _ _ _ a.tallied.premium b.tallied.premium premium;
+        death = joined_sums years death_by ps qs _ _ _ a.tallied.death b.tallied.death death;
+        maturity = joined_sums years maturity_by ps qs _ _ _ a.tallied.maturity b.tallied.maturity maturity;
+        small = all_append ps qs a.tallied.small b.tallied.small;
+      };
+    }
+
+-- the bounds of a year as the tally has them
+abbrev pub year_in : Tally → ℕ → Year
+year_in tally j = record {
+  premium = pair_of (down (sum_at tally.premium.sums j).lo UNIT) (up (sum_at tally.premium.sums j).hi UNIT);
+  death = pair_of (down (sum_at tally.death.sums j).lo UNIT) (up (sum_at tally.death.sums j).hi UNIT);
+  maturity = pair_of (down (sum_at tally.maturity.sums j).lo UNIT) (up (sum_at tally.maturity.sums j).hi UNIT);
+}
+
+year_rounded : (years : ℕ) (ps : List Prospect) (tally : Tally) → IsTally years ps tally → (j : ℕ) → j < years → year_in tally j ≡ rounded_year ps j
+year_rounded years ps tally is j below =
+    let a = is.premium.lo j below in
+    let b = is.premium.hi j below in
+    let d = is.death.lo j below in
+    let e = is.death.hi j below in
+    let f = is.maturity.lo j below in
+    let g = is.maturity.hi j below in
+    rw (a, b, d, e, f, g) refl
+
+pub cash_told : (basis : List Dated) (on : ℤ) (policies : List Policy) (tally : Tally) (years : List Year) → tally.years ≤ 131
+    → length years ≡ tally.years → ((j : ℕ) → j < tally.years → get_or years j no_year ≡ year_in tally j)
+    → IsTallyOf basis on tally.years policies tally → IsCashOf basis on policies tally.years tally.unvalued years
+cash_told basis on policies tally years most many each is =
+    let ps = is.prospects in
+    record {
+      prospects = ps;
+      each = is.each;
+      words = is.tallied.unvalued;
+      cash = record {
+        many = many;
+        rounded = λ j below. each j below ∙ year_rounded tally.years ps tally is.tallied j below;
+        exact = λ j below. rw (each j below ∙ year_rounded tally.years ps tally is.tallied j below) (year_encloses ps j is.tallied.small (omega arith));
+      };
+    }
+
+-- one year more is told
+pub pushed_at : (xs : List Year) (y d : Year) (f : ℕ → Year) → ((k : ℕ) → k < length xs → get_or xs k d ≡ f k) → y ≡ f (length xs)
+    → (k : ℕ) → k < length xs + 1 → get_or (xs ++ y ∷ []) k d ≡ f k
+pushed_at [] y d f each is zero below = is
+pushed_at [] y d f each is (suc k) below = absurd (omega (arith, below))
+pushed_at (x ∷ xs) y d f each is zero below = each 0 (omega arith)
+pushed_at (x ∷ xs) y d f each is (suc k) below = pushed_at xs y d (λ i. f (suc i)) (λ i within. each (suc i) (omega arith)) is k (omega (arith, below))

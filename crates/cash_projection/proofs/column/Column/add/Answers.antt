@@ -1,0 +1,13 @@
+use Rattle.std.proofs.Common.{◌+◌, ◌*◌, ◌≤◌, arith}
+use Rattle.std.proofs.Math.Nat.{mul-le-mul}
+use Rattle.present_value.specs.Rounding.{UNIT}
+use Rattle.present_value.specs.Values.{pair_at}
+use Rattle.cash_projection.proofs.Columns.{none_risen, not_yet, one_more_risen}
+use Rattle.cash_projection.proofs.column.Column.add.Goals as goal
+
+pub loop-j-init : goal.loop-j-init
+loop-j-init c = none_risen c.args.from c.args.cents c.args.pairs.now c.args.self.now.sums c.requires.room.places
+
+pub loop-j-preserved : goal.loop-j-preserved
+loop-j-preserved c = one_more_risen c.args.from c.loop-j.j c.args.cents c.args.pairs.now c.args.self.now.sums c.loop-j.self.sums _ c.loop-j.invariant
+    (omega arith) (omega arith) (omega arith) (omega arith)

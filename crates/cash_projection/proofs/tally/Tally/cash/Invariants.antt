@@ -1,0 +1,12 @@
+use Rattle.std.proofs.Common.{◌≡◌, ◌+◌, ◌≤◌, ◌<◌, ℕ, length, get_or, vec_capacity}
+use Rattle.cash_projection.specs.Cash.{no_year}
+use Rattle.cash_projection.proofs.Tallying.{year_in}
+use Rattle.cash_projection.proofs.tally.Tally.cash.Given as goal
+
+-- the years before this one are told, and there is room for the others
+abbrev pub invariant-loop-j : goal.invariant-loop-j
+invariant-loop-j l = record {
+  many : length l.years.items ≡ l.j;
+  room : l.count ≤ vec_capacity l.years;
+  each : (k : ℕ) → k < l.j → get_or l.years.items k no_year ≡ year_in l.self k;
+}

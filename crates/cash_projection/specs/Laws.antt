@@ -1,0 +1,29 @@
+-- Laws of the expected totals.
+use Rattle.std.specs.Prelude.{◌≡◌, ℕ, ◌+◌, ◌-◌, ◌*◌, ◌^◌, ◌<◌, ◌≤◌, List, true}
+use Rattle.std.specs.List.{AllByRecursion}
+use Rattle.rate_table.specs.Rates.{ONE}
+use Rattle.present_value.specs.Sums.{sum_below}
+use Rattle.cash_projection.specs.Survival.{alive, dying}
+use Rattle.cash_projection.specs.Prospects.{Prospect, IsSmall, death_due, maturity_due}
+use Rattle.cash_projection.specs.Cash.{IsCashYear, rounded_year}
+
+-- those alive after a year more are no more: alive / 10^9 ^ j falls
+pub record NeverRiseLaw : Type 0 where
+  pub survivors : (rates : ℕ → ℕ) (j : ℕ) → alive rates (j + 1) ≤ alive rates j * ONE
+  pub and_dying : (rates : ℕ → ℕ) (j : ℕ) → rates j ≤ ONE → alive rates (j + 1) + dying rates j ≡ alive rates j * ONE
+
+-- the deaths of a policy in all years that are left, over one denominator
+abbrev pub deaths_of : Prospect → ℕ → ℕ
+deaths_of p left = sum_below (λ j. death_due p j * dying p.rates j * ONE ^ (left - (j + 1))) left
+
+-- over all years that are left, what deaths and survivors are paid adds up to the amount; without a maturity it is less by
+-- what the survivors would be paid
+pub record AddUpLaw : Type 0 where
+  pub matures : (p : Prospect) (left : ℕ) → p.matures ≡ true → p.t + left ≡ p.n → 1 ≤ left → ((j : ℕ) → j < left → p.rates j ≤ ONE)
+      → deaths_of p left + maturity_due p (left - 1) * alive p.rates left ≡ p.amount * ONE ^ left
+  pub term : (p : Prospect) (left : ℕ) → p.t + left ≡ p.n → ((j : ℕ) → j < left → p.rates j ≤ ONE)
+      → deaths_of p left + p.amount * alive p.rates left ≡ p.amount * ONE ^ left
+
+-- in each year the rounded totals enclose the exact ones
+abbrev pub EnclosureLaw : Type 0
+EnclosureLaw = (ps : List Prospect) (j : ℕ) → AllByRecursion IsSmall ps → j ≤ 131 → IsCashYear ps j (rounded_year ps j)

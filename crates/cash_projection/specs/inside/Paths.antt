@@ -1,0 +1,52 @@
+-- Those alive of an age, as a path holds them.
+use Rattle.std.specs.Prelude.{◌≡◌, ℕ, ◌+◌, ◌<◌, ◌≤◌, List, length, All, slice_index_or}
+use Rattle.rate_table.specs.Rates.{Rates, rate_at}
+use Rattle.present_value.specs.Rounding.{down, up}
+use Rattle.present_value.specs.Values.{pair_of, pair_at}
+use Rattle.present_value.specs.declared.pair.Pair.{Pair}
+use Rattle.basis_book.specs.Dated.{Dated}
+use Rattle.policy_value.specs.Caches.{IsRowOf}
+use Rattle.cash_projection.specs.Survival.{alive_by, dying_by}
+use Rattle.cash_projection.specs.declared.path.Path.{Path}
+use Rattle.cash_projection.specs.declared.paths.Paths.{Paths}
+
+-- the rates of death from an age on
+abbrev pub rates_after : Rates → ℕ → ℕ → ℕ
+rates_after table age j = rate_at table (age + j)
+
+abbrev pub alive_pair : (ℕ → ℕ) → ℕ → Pair
+alive_pair rates j = pair_of (alive_by down rates j) (alive_by up rates j)
+
+abbrev pub dying_pair : (ℕ → ℕ) → ℕ → Pair
+dying_pair rates j = pair_of (dying_by down rates j) (dying_by up rates j)
+
+-- so many years are known
+pub record KnowsYears (rates : ℕ → ℕ) (count : ℕ) (living dead : List Pair) : Type 0 where
+  pub alive_places : length living ≡ 132
+  pub dying_places : length dead ≡ 132
+  pub alive : (j : ℕ) → j ≤ count → pair_at living j ≡ alive_pair rates j
+  pub dying : (j : ℕ) → j < count → pair_at dead j ≡ dying_pair rates j
+
+-- the years to the end of the table are known
+pub record IsSurvivalPath (table : Rates) (age : ℕ) (path : Path) : Type 0 where
+  pub years : ℕ
+  pub whole : age + years ≡ table.first_age + length table.rates
+  pub knows : KnowsYears (rates_after table age) years path.alive path.dying
+
+-- a path that is one is that of its age by its row of the basis
+abbrev pub IsRightPath : List Dated → Path → Type 0
+IsRightPath basis path = path.age ≤ 130 → (table : Rates) → (bp : ℕ) → IsRowOf basis path.row table bp → IsSurvivalPath table path.age path
+
+-- some are kept, and each that is one is right by the basis
+pub record ArePaths (basis : List Dated) (paths : Paths) : Type 0 where
+  pub some : 1 ≤ length paths.kept.items
+  pub right : All (IsRightPath basis) paths.kept.items
+
+-- the path of an age lies at a place
+pub record IsPathAt (table : Rates) (age : ℕ) (kept : List Path) (place : ℕ) : Type 0 where
+  pub within : place < length kept
+  pub here : (none : Path) → IsSurvivalPath table age (slice_index_or kept place none)
+
+-- the path of an age by a row of the basis
+abbrev pub IsPathOf : Path → (row age : ℕ) → Type 0
+IsPathOf path row age = (path.row ≡ row) × (path.age ≡ age)

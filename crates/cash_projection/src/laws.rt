@@ -1,0 +1,18 @@
+//! Laws of the expected totals, over the definitions alone.
+
+ghost use Rattle.cash_projection.specs.Laws.{AddUpLaw, EnclosureLaw, NeverRiseLaw};
+
+/// The expected survivors never rise.
+pub fn survivors_never_rise()
+    ensures { NeverRiseLaw }
+{}
+
+/// With all years to the end of cover a policy's expected deaths and maturity add up to its amount.
+pub fn benefits_add_up_to_the_amount()
+    ensures { AddUpLaw }
+{}
+
+/// The rounded pairs of policies within the limits of the office enclose the expected totals.
+pub fn pairs_enclose_the_expected()
+    ensures { EnclosureLaw }
+{}

@@ -1,0 +1,57 @@
+// The paths that are kept for policies to come.
+ghost use Rattle.std.specs.Prelude.{◌≡◌, ◌≤◌, ◌<◌, IfOk, List, length, slice_index_or};
+ghost use Rattle.rate_table.specs.Rates.{HoldsAge};
+ghost use Rattle.basis_book.specs.Dated.{Dated};
+ghost use Rattle.policy_value.specs.Caches.{IsRowOf};
+ghost use Rattle.cash_projection.specs.inside.Paths.{ArePaths, IsPathAt};
+ghost use Rattle.cash_projection.specs.declared.path.Path.{Path as APath};
+
+use crate::path::Path;
+use basis_book::Basis;
+use policy_types::NoMemory;
+use rate_table::RateTable;
+use std::alloc::Global;
+
+/// Those alive of each age, as they were computed for policies before. They serve policies of each day of issue, plan and
+/// year that have the age by the same table.
+#[derive(Drop)]
+pub struct Paths {
+    kept: Vec<Path>,
+}
+
+impl Paths {
+    /// Room for so many paths, of some 4 kB each; those of one table are at most 131.
+    pub fn new(alloc: Global, most: u16) -> Result<Paths, NoMemory>
+        requires { 1 ≤ most }
+        ensures { IfOk result (λ paths. (basis : List Dated) → ArePaths basis paths) }
+    {
+        match Vec::from_elem(alloc, Path::none(), most as usize) {
+            Ok(kept) => Ok(Paths { kept }),
+            Err(_) => Err(NoMemory),
+        }
+    }
+
+    /// Where the path of an age lies, by a row of the basis.
+    pub fn place_of(&mut self, basis: &Basis, row: u16, table: &RateTable, age: u8, bp: u16) -> usize
+        requires right { ArePaths basis.now self.old }
+        requires row { IsRowOf basis.now row table.now bp }
+        requires age { HoldsAge table.now age × (age ≤ 130) }
+        ensures right { ArePaths basis.now self.new }
+        ensures here { IsPathAt table.now age self.new.kept.items result }
+    {
+        let place = (row as usize * 131 + age as usize) % self.kept.len();
+        if self.kept[place].is_of(row, age) {
+            return place;
+        }
+        self.kept[place] = Path::of(row, table, age);
+        place
+    }
+
+    /// The path at a place.
+    pub fn at(&self, place: usize) -> &Path
+        requires { place < length self.now.kept.items }
+        ensures { (none : APath) → result.now ≡ slice_index_or self.now.kept.items place none }
+    {
+        &self.kept[place]
+    }
+}

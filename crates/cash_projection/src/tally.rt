@@ -1,0 +1,244 @@
+// What a list of policies adds up to.
+ghost use Rattle.std.specs.Prelude.{◌≡◌, ◌≤◌, ◌<◌, ◌≤ℤ◌, ◌↔◌, ◌+◌, ◌-◌, ◌++◌, if◌then◌else◌, ℕ, ℤ, [], List, IsTrue, IfOk};
+ghost use Rattle.basis_book.specs.Dated.{Dated};
+ghost use Rattle.policy_types.specs.declared.policy.Policy.{Policy as APolicy};
+ghost use Rattle.policy_value.specs.Rows.{IsInsured};
+ghost use Rattle.policy_value.specs.Caches.{IsRowOf};
+ghost use Rattle.plan_benefits.specs.Shapes.{shape_of};
+ghost use Rattle.cash_projection.specs.Prospects.{IsSmall, Prospect as AProspect, due};
+ghost use Rattle.cash_projection.specs.Policies.{IsCashOf, IsOfIssue, charged, prospect_of};
+ghost use Rattle.cash_projection.specs.inside.Paths.{ArePaths, IsSurvivalPath};
+ghost use Rattle.cash_projection.specs.inside.Tallies.{Fits, HasAdded, TakesOneMore, HasCounted, HasCountedBy, IsIdle, IsSized, IsTallyOf};
+
+use crate::column::Column;
+use crate::path::Path;
+use crate::paths::Paths;
+use crate::years::{Year, Years};
+use basis_book::Basis;
+use life_dates::completed;
+use plan_benefits::shape;
+use policy_types::{NoMemory, Policy, Status};
+use rate_table::{RateTable, Shape};
+use std::alloc::Global;
+
+/// The sums of what policies pay and are paid, in each of so many years from the current one, and how many policies they
+/// are of. Sums of lists are the sums of their parts.
+#[derive(Clone, Copy)]
+pub struct Tally {
+    pub years: u8,
+    pub policies: u32,
+    /// Those with a word why they have no value.
+    pub unvalued: u32,
+    pub premium: Column,
+    pub death: Column,
+    pub maturity: Column,
+}
+
+impl Tally {
+    /// Of no policy.
+    pub fn new(years: u8) -> Tally
+        ensures { (basis : List Dated) (on : ℤ) → IsTallyOf basis on years [] result }
+    {
+        let premium = Column::new();
+        let death = Column::new();
+        let maturity = Column::new();
+        Tally {
+            years,
+            policies: 0,
+            unvalued: 0,
+            premium,
+            death,
+            maturity,
+        }
+    }
+
+    /// Adds a policy on a day, in days since 1970-01-01.
+    pub fn add(&mut self, policy: &Policy, basis: &Basis, on: i32, paths: &mut Paths)
+        requires sound { IsOfIssue policy.now }
+        requires room { TakesOneMore self.old }
+        requires right { ArePaths basis.now paths.old }
+        ensures taken { HasCounted basis.now on policy.now self.old self.new }
+        ensures right { ArePaths basis.now paths.new }
+    {
+        if !is_insured(policy, on) {
+            self.add_nothing(0);
+            return;
+        }
+        match basis.pick(policy.issued) {
+            Some((row, table, bp)) => self.add_by(policy, basis, row, table, bp, on, paths),
+            None => self.add_nothing(1),
+        }
+    }
+
+    /// Adds a policy that neither pays nor is paid, with a word why or none.
+    fn add_nothing(&mut self, words: u32)
+        requires room { TakesOneMore self.old }
+        requires words { words ≤ 1 }
+        ensures { (p : AProspect) → IsIdle p → p.words ≡ words → HasAdded self.old.years p self.old self.new }
+    {
+        self.policies += 1;
+        self.unvalued += words;
+    }
+
+    /// Adds an insured policy by the table of a row of the basis.
+    fn add_by(
+        &mut self,
+        policy: &Policy,
+        basis: &Basis,
+        row: u16,
+        table: &RateTable,
+        bp: u16,
+        on: i32,
+        paths: &mut Paths,
+    )
+        requires sound { IsOfIssue policy.now }
+        requires issued { policy.now.issued ≤ℤ on }
+        requires room { TakesOneMore self.old }
+        requires row { IsRowOf basis.now row table.now bp }
+        requires right { ArePaths basis.now paths.old }
+        ensures taken { HasCountedBy policy.now table.now on
+            (shape_of policy.now.plan policy.now.age policy.now.years table.now) self.old self.new }
+        ensures right { ArePaths basis.now paths.new }
+    {
+        match shape(policy.plan, policy.age, policy.years, table) {
+            Ok(shape) => {
+                let t = completed(policy.issued, on).min(shape.n);
+                self.add_ahead(policy, basis, row, table, bp, &shape, t, paths)
+            }
+            Err(_) => self.add_nothing(1),
+        }
+    }
+
+    /// Adds an insured policy with a shape in its year `t`.
+    fn add_ahead(
+        &mut self,
+        policy: &Policy,
+        basis: &Basis,
+        row: u16,
+        table: &RateTable,
+        bp: u16,
+        shape: &Shape,
+        t: u8,
+        paths: &mut Paths,
+    )
+        requires sound { IsOfIssue policy.now }
+        requires room { TakesOneMore self.old }
+        requires row { IsRowOf basis.now row table.now bp }
+        requires fits { Fits table.now shape.now }
+        requires year { t ≤ shape.now.n }
+        requires right { ArePaths basis.now paths.old }
+        ensures added { HasAdded self.old.years (prospect_of policy.now table.now shape.now t) self.old self.new }
+        ensures small { IsSmall (prospect_of policy.now table.now shape.now t) }
+        ensures right { ArePaths basis.now paths.new }
+    {
+        let _ = table.last_age();
+        if t == shape.n {
+            self.add_nothing(0);
+            return;
+        }
+        let place = paths.place_of(basis, row, table, shape.age + t, bp);
+        self.add_path(policy, table, paths.at(place), shape, t);
+    }
+
+    /// Adds what a policy pays and is paid along the path of its age.
+    fn add_path(&mut self, policy: &Policy, table: &RateTable, path: &Path, shape: &Shape, t: u8)
+        requires sound { IsOfIssue policy.now }
+        requires room { TakesOneMore self.old }
+        requires fits { Fits table.now shape.now }
+        requires year { t < shape.now.n }
+        requires path { IsSurvivalPath table.now (shape.now.age + t) path.now }
+        ensures { HasAdded self.old.years (prospect_of policy.now table.now shape.now t) self.old self.new }
+    {
+        let _ = table.last_age();
+        let years = self.years;
+        let from = policy.paid.saturating_sub(t);
+        let to = shape.h.saturating_sub(t);
+        let premiums = within(from, to, years);
+        let cents = charged(policy);
+        self.premium.add(&path.alive, premiums.0, premiums.1, cents);
+        let cover = shape.n - t;
+        let deaths = within(0, cover, years);
+        self.death.add(&path.dying, deaths.0, deaths.1, policy.amount);
+        let first = maturity_from(shape.matures, cover);
+        let maturities = within(first, cover, years);
+        let after = &path.alive[1..];
+        self.maturity.add(after, maturities.0, maturities.1, policy.amount);
+        self.policies += 1;
+    }
+
+    /// Adds the sums of policies behind these.
+    pub fn join(&mut self, other: &Tally)
+        requires years { (self.old.years ≡ other.now.years) × (self.old.years ≤ 131) }
+        requires few { self.old.policies + other.now.policies ≤ 4000000 }
+        requires ours { IsSized self.old }
+        requires theirs { IsSized other.now }
+        ensures { (basis : List Dated) (on : ℤ) (ps qs : List APolicy) → IsTallyOf basis on self.old.years ps self.old
+            → IsTallyOf basis on self.old.years qs other.now → IsTallyOf basis on self.old.years (ps ++ qs) self.new }
+    {
+        let years = self.years as usize;
+        self.policies += other.policies;
+        self.unvalued += other.unvalued;
+        self.premium.join(&other.premium, years);
+        self.death.join(&other.death, years);
+        self.maturity.join(&other.maturity, years);
+    }
+
+    /// The bounds of each year, in cents.
+    pub fn cash(&self, alloc: Global) -> Result<Years, NoMemory>
+        requires { IsSized self.now }
+        ensures { (basis : List Dated) (on : ℤ) (ps : List APolicy) → IsTallyOf basis on self.now.years ps self.now
+            → IfOk result (λ years. IsCashOf basis on ps self.now.years self.now.unvalued years) }
+    {
+        let count = self.years as usize;
+        let Ok(mut years) = Vec::with_capacity(alloc, count) else {
+            return Err(NoMemory);
+        };
+        for j in 0..count {
+            let premium = self.premium.pair(j);
+            let death = self.death.pair(j);
+            let maturity = self.maturity.pair(j);
+            years.push_reserved(Year {
+                premium,
+                death,
+                maturity,
+            });
+        }
+        Ok(Years::new(years))
+    }
+}
+
+/// Whether a policy is in force or paid up, and issued by the day.
+fn is_insured(policy: &Policy, on: i32) -> bool
+    ensures { IsTrue result ↔ IsInsured policy.now on }
+{
+    (policy.status == Status::InForce || policy.status == Status::PaidUp) && policy.issued <= on
+}
+
+/// The premium that is charged: none of a paid-up policy.
+fn charged(policy: &Policy) -> u64
+    ensures { result ≡ charged policy.now.status policy.now.premium }
+{
+    if policy.status == Status::InForce {
+        policy.premium
+    } else {
+        0
+    }
+}
+
+/// The year in which a survivor is paid, or the one behind the last.
+fn maturity_from(matures: bool, cover: u8) -> u8
+    requires { 1 ≤ cover }
+    ensures { result ≡ (if matures then cover - 1 else cover) }
+{
+    if matures { cover - 1 } else { cover }
+}
+
+/// Those of so many years that lie from one on and before another, as the first and the one behind the last.
+fn within(from: u8, to: u8, years: u8) -> (usize, usize)
+    ensures order { result.0 ≤ result.1 }
+    ensures last { (result.1 ≤ years) × (result.1 ≤ to) }
+    ensures same { (cents j : ℕ) → j < years → due result.0 result.1 cents j ≡ due from to cents j }
+{
+    let to = to.min(years);
+    (from.min(to) as usize, to as usize)
+}

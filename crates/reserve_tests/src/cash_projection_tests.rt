@@ -1,0 +1,277 @@
+// Projections of cash. The cents were computed outside this program by exact fractions, and rounded down and up.
+use crate::policy_value_tests::{
+    DAY_BEFORE, FLAT, ISSUED, ONE_YEAR, THREE_YEARS, TWO_YEARS, basis, policy,
+};
+use cash_projection::{Year, project_policies};
+use policy_types::{Command, Plan, Policy, Status};
+use std::alloc::Global;
+use std::test::Fail;
+
+/// The years of one policy by the basis of a file, and how many have a word.
+fn cash(
+    alloc: Global,
+    file: &[u8],
+    policy: &Policy,
+    on: i32,
+    years: u8,
+) -> Result<(Vec<Year>, u32), Fail> {
+    let issue = Command::Issue {
+        id: policy.id,
+        day: policy.issued,
+        plan: policy.plan,
+        age: policy.age,
+        years: policy.years,
+        amount: policy.amount,
+        premium: policy.premium,
+    };
+    if !issue.is_valid() || years > 131 {
+        return Err("a valid issue".into());
+    }
+    let basis = basis(alloc, file)?;
+    let Ok((years, unvalued)) = project_policies(alloc, &[*policy], &basis, on, years) else {
+        return Err("memory".into());
+    };
+    Ok((years.as_slice().to_vec(alloc)?, unvalued))
+}
+
+/// The six bounds of a year.
+fn bounds(year: &Year) -> [u64; 6] {
+    [
+        year.premium.lo,
+        year.premium.hi,
+        year.death.lo,
+        year.death.hi,
+        year.maturity.lo,
+        year.maturity.hi,
+    ]
+}
+
+#[test]
+fn years_of_one_policy(rt: HostRuntime) -> Result<(), Fail> {
+    for (name, policy, on, expected) in [
+        (
+            "first",
+            Policy {
+                amount: 100_000,
+                premium: 40_000,
+                paid: 0,
+                status: Status::InForce,
+                ..policy(Plan::Endowment, 0, 3)
+            },
+            DAY_BEFORE,
+            &[[40_000, 40_000, 10_000, 10_000, 0, 0], [36_000, 36_000, 18_000, 18_000, 0, 0], [28_800, 28_800, 18_000, 18_000, 54_000, 54_000]][..],
+        ),
+        (
+            "first premium paid",
+            Policy {
+                amount: 100_000,
+                premium: 40_000,
+                paid: 1,
+                status: Status::InForce,
+                ..policy(Plan::Endowment, 0, 3)
+            },
+            DAY_BEFORE,
+            &[[0, 0, 10_000, 10_000, 0, 0], [36_000, 36_000, 18_000, 18_000, 0, 0], [28_800, 28_800, 18_000, 18_000, 54_000, 54_000]][..],
+        ),
+        (
+            "past the end of cover",
+            Policy {
+                amount: 100_000,
+                premium: 40_000,
+                paid: 0,
+                status: Status::InForce,
+                ..policy(Plan::Endowment, 0, 3)
+            },
+            DAY_BEFORE,
+            &[[40_000, 40_000, 10_000, 10_000, 0, 0], [36_000, 36_000, 18_000, 18_000, 0, 0], [28_800, 28_800, 18_000, 18_000, 54_000, 54_000], [0, 0, 0, 0, 0, 0], [0, 0, 0, 0, 0, 0]][..],
+        ),
+        (
+            "a year on, one paid",
+            Policy {
+                amount: 100_000,
+                premium: 40_000,
+                paid: 1,
+                status: Status::InForce,
+                ..policy(Plan::Endowment, 0, 3)
+            },
+            ONE_YEAR,
+            &[[40_000, 40_000, 20_000, 20_000, 0, 0], [32_000, 32_000, 20_000, 20_000, 60_000, 60_000], [0, 0, 0, 0, 0, 0]][..],
+        ),
+        (
+            "in arrears",
+            Policy {
+                amount: 100_000,
+                premium: 40_000,
+                paid: 1,
+                status: Status::InForce,
+                ..policy(Plan::Endowment, 0, 3)
+            },
+            TWO_YEARS,
+            &[[40_000, 40_000, 25_000, 25_000, 75_000, 75_000], [0, 0, 0, 0, 0, 0]][..],
+        ),
+        (
+            "at the end",
+            Policy {
+                amount: 100_000,
+                premium: 40_000,
+                paid: 3,
+                status: Status::InForce,
+                ..policy(Plan::Endowment, 0, 3)
+            },
+            THREE_YEARS,
+            &[[0, 0, 0, 0, 0, 0], [0, 0, 0, 0, 0, 0]][..],
+        ),
+        (
+            "term",
+            Policy {
+                amount: 99_999,
+                premium: 333,
+                paid: 0,
+                status: Status::InForce,
+                ..policy(Plan::Term, 1, 3)
+            },
+            DAY_BEFORE,
+            &[[333, 333, 19_999, 20_000, 0, 0], [266, 267, 19_999, 20_000, 0, 0], [199, 200, 29_999, 30_000, 0, 0], [0, 0, 0, 0, 0, 0]][..],
+        ),
+        (
+            "term, all paid",
+            Policy {
+                amount: 99_999,
+                premium: 333,
+                paid: 3,
+                status: Status::InForce,
+                ..policy(Plan::Term, 1, 3)
+            },
+            ONE_YEAR,
+            &[[0, 0, 24_999, 25_000, 0, 0], [0, 0, 37_499, 37_500, 0, 0], [0, 0, 0, 0, 0, 0]][..],
+        ),
+        (
+            "whole",
+            Policy {
+                amount: 77_777,
+                premium: 1_234,
+                paid: 0,
+                status: Status::InForce,
+                ..policy(Plan::Whole, 0, 0)
+            },
+            DAY_BEFORE,
+            &[[1_234, 1_234, 7_777, 7_778, 0, 0], [1_110, 1_111, 13_999, 14_000, 0, 0], [888, 889, 13_999, 14_000, 0, 0], [666, 667, 20_999, 21_000, 0, 0], [333, 334, 20_999, 21_000, 0, 0], [0, 0, 0, 0, 0, 0]][..],
+        ),
+        (
+            "whole, two years on",
+            Policy {
+                amount: 77_777,
+                premium: 1_234,
+                paid: 2,
+                status: Status::InForce,
+                ..policy(Plan::Whole, 0, 0)
+            },
+            TWO_YEARS,
+            &[[1_234, 1_234, 19_444, 19_445, 0, 0], [925, 926, 29_166, 29_167, 0, 0], [462, 463, 29_166, 29_167, 0, 0], [0, 0, 0, 0, 0, 0]][..],
+        ),
+        (
+            "limited",
+            Policy {
+                amount: 31,
+                premium: 7,
+                paid: 0,
+                status: Status::InForce,
+                ..policy(Plan::Limited, 0, 2)
+            },
+            DAY_BEFORE,
+            &[[7, 7, 3, 4, 0, 0], [6, 7, 5, 6, 0, 0], [0, 0, 5, 6, 0, 0], [0, 0, 8, 9, 0, 0], [0, 0, 8, 9, 0, 0]][..],
+        ),
+        (
+            "limited, years past the table",
+            Policy {
+                amount: 31,
+                premium: 7,
+                paid: 0,
+                status: Status::InForce,
+                ..policy(Plan::Limited, 3, 40)
+            },
+            DAY_BEFORE,
+            &[[7, 7, 15, 16, 0, 0], [3, 4, 15, 16, 0, 0], [0, 0, 0, 0, 0, 0]][..],
+        ),
+        (
+            "paid up",
+            Policy {
+                amount: 54_321,
+                premium: 40_000,
+                paid: 2,
+                status: Status::PaidUp,
+                ..policy(Plan::Endowment, 0, 4)
+            },
+            TWO_YEARS,
+            &[[0, 0, 13_580, 13_581, 0, 0], [0, 0, 20_370, 20_371, 20_370, 20_371], [0, 0, 0, 0, 0, 0]][..],
+        ),
+        (
+            "greatest amounts",
+            Policy {
+                amount: 10_000_000_000,
+                premium: 10_000_000_000,
+                paid: 0,
+                status: Status::InForce,
+                ..policy(Plan::Endowment, 0, 4)
+            },
+            ONE_YEAR,
+            &[[10_000_000_000, 10_000_000_000, 2_000_000_000, 2_000_000_000, 0, 0], [8_000_000_000, 8_000_000_000, 2_000_000_000, 2_000_000_000, 0, 0], [6_000_000_000, 6_000_000_000, 3_000_000_000, 3_000_000_000, 3_000_000_000, 3_000_000_000], [0, 0, 0, 0, 0, 0]][..],
+        ),
+        (
+            "a cent",
+            Policy {
+                amount: 1,
+                premium: 1,
+                paid: 0,
+                status: Status::InForce,
+                ..policy(Plan::Term, 2, 2)
+            },
+            DAY_BEFORE,
+            &[[1, 1, 0, 1, 0, 0], [0, 1, 0, 1, 0, 0], [0, 0, 0, 0, 0, 0]][..],
+        ),
+    ] {
+        let (years, unvalued) = cash(rt.alloc(), FLAT, &policy, on, expected.len() as u8)?;
+        assert_eq!(rt; unvalued, 0, "{name}");
+        assert_eq!(rt; years.len(), expected.len(), "{name}");
+        for (year, expected) in years.iter().zip(expected) {
+            assert_eq!(rt; bounds(year), *expected, "{name}");
+        }
+    }
+    Ok(())
+}
+
+#[test]
+fn policies_without_cash(rt: HostRuntime) -> Result<(), Fail> {
+    let endowment = policy(Plan::Endowment, 0, 3);
+    let lapsed = Policy {
+        status: Status::Lapsed,
+        ..endowment
+    };
+    let claimed = Policy {
+        status: Status::Claimed,
+        ..endowment
+    };
+    for (name, file, policy, on, words) in [
+        ("issued later", FLAT, endowment, ISSUED - 1, 0),
+        ("lapsed", FLAT, lapsed, ONE_YEAR, 0),
+        ("claimed", FLAT, claimed, ONE_YEAR, 0),
+        ("its end", FLAT, endowment, THREE_YEARS, 0),
+        ("no basis yet", b"2020-01-02,q.xml,0", endowment, ONE_YEAR, 1),
+        ("below the table", b"1900-01-01,late.xml,0", endowment, ONE_YEAR, 1),
+        ("past the table", FLAT, policy(Plan::Term, 3, 3), ONE_YEAR, 1),
+        (
+            "a high rate",
+            b"1900-01-01,high.xml,0",
+            policy(Plan::Term, 3, 2),
+            ONE_YEAR,
+            1,
+        ),
+    ] {
+        let (years, unvalued) = cash(rt.alloc(), file, &policy, on, 2)?;
+        assert_eq!(rt; unvalued, words, "{name}");
+        for year in years.iter() {
+            assert_eq!(rt; bounds(year), [0; 6], "{name}");
+        }
+    }
+    Ok(())
+}
