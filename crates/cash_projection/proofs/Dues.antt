@@ -40,8 +40,9 @@ pub due_shifted : (from to cents t j : ℕ) → due (from - t) (to - t) cents j 
 due_shifted from to cents t j = due_same (from - t) (to - t) from to cents j (t + j) (λ a b. (omega (arith, a, b), omega (arith, a, b))) (λ a b. (omega (arith, a, b), omega (arith, a, b)))
 
 -- among so many years
-pub due_within : (from to years cents j : ℕ) → j < years → due (min from (min to years)) (min to years) cents j ≡ due from to cents j
-due_within from to years cents j below = due_same (min from (min to years)) (min to years) from to cents j j (λ a b. (omega (arith, a, b), omega (arith, a, b))) (λ a b. (omega (arith, a, b), omega (arith, a, b)))
+pub due_within : (from to years first last cents j : ℕ) → last ≡ min to years → first ≡ min from last → j < years → due first last cents j ≡ due from to cents j
+due_within from to years first last cents j last_is first_is below =
+    due_same first last from to cents j j (λ a b. (omega (arith, a, b), omega (arith, a, b))) (λ a b. (omega (arith, a, b), omega (arith, a, b)))
 
 pub maturity_most : (p : Prospect) (j : ℕ) → maturity_due p j ≤ p.amount
 maturity_most p j = most p.matures

@@ -1,5 +1,6 @@
 -- Each way in which a policy is taken into a tally.
-use Rattle.std.proofs.Common.{◌≡◌, ℕ, ◌<◌, ◌≤◌, ◌+◌, refl, ap, sym, arith, List, All, ℤ, ◌<ℤ◌, Result, Ok, Err}
+use Rattle.std.proofs.Common.{◌≡◌, ℕ, ◌<◌, ◌≤◌, ◌+◌, refl, ap, sym, arith, List, [], ◌∷◌, ◌++◌, length, All, ℤ, ◌<ℤ◌, Result, Ok, Err, Some}
+use Rattle.std.specs.List.{slice_get}
 use Rattle.policy_types.specs.declared.policy.Policy.{Policy}
 use Rattle.rate_table.specs.Rates.{Rates}
 use Rattle.rate_table.specs.declared.shape.Shape.{Shape}
@@ -7,6 +8,7 @@ use Rattle.plan_benefits.specs.Shapes.{shape_of}
 use Rattle.plan_benefits.specs.declared.fault.NotValued.{NotValued}
 use Rattle.basis_book.specs.Dated.{Dated, IsPicked}
 use Rattle.basis_book.proofs.CallerLemmas.{none_picked, one_picked}
+use Rattle.policy_value.specs.Caches.{IsRowOf}
 use Rattle.policy_value.specs.Rows.{IsInsured, IsYear}
 use Rattle.cash_projection.specs.Prospects.{IsSmall}
 use Rattle.cash_projection.specs.Policies.{nothing_ahead, prospect_of, IsProspectBy}
@@ -64,3 +66,13 @@ named_taken basis on policy old new index entry insured picked taken = record {
   small = taken.small;
   added = taken.added;
 }
+
+-- the row that is picked
+cut_at : (before : List Dated) (entry : Dated) (after : List Dated) → slice_get (before ++ entry ∷ after) (length before) ≡ Some entry
+cut_at [] entry after = refl
+cut_at (x ∷ xs) entry after = cut_at xs entry after
+
+pub picked_row : (basis : List Dated) (issued : ℤ) (index : ℕ) (entry : Dated) (table : Rates) (bp : ℕ) → IsPicked basis issued index entry
+    → table ≡ entry.table → bp ≡ entry.bp → IsRowOf basis index table bp
+picked_row basis issued index entry table bp picked table_is bp_is =
+    (entry, rw (picked.split, picked.place) (cut_at picked.before entry picked.after), table_is, bp_is)

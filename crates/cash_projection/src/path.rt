@@ -1,7 +1,8 @@
 // Those alive of one age, year by year.
-ghost use Rattle.std.specs.Prelude.{◌≡◌, ◌≤◌, ◌↔◌, ◌*◌, IsTrue};
+ghost use Rattle.std.specs.Prelude.{◌≡◌, ℕ, ◌<◌, ◌≤◌, ◌↔◌, ◌+◌, ◌*◌, IsTrue, length};
 ghost use Rattle.rate_table.specs.Rates.{ONE, HoldsAge};
 ghost use Rattle.present_value.specs.Rounding.{UNIT, down, up};
+ghost use Rattle.present_value.specs.Values.{pair_at};
 ghost use Rattle.cash_projection.specs.inside.Paths.{IsSurvivalPath, IsPathOf};
 
 use present_value::{Pair, UNITS_IN_ONE, quotient_down, quotient_up};
@@ -42,6 +43,14 @@ impl Path {
         ensures { IsTrue result ↔ IsPathOf self.now row age }
     {
         self.row == row && self.age == age
+    }
+
+    /// Those alive at the end of each year.
+    pub fn alive_at_end(&self) -> &[Pair]
+        ensures places { length result.now ≡ 131 }
+        ensures each { (j : ℕ) → j < 131 → pair_at result.now j ≡ pair_at self.now.alive (j + 1) }
+    {
+        &self.alive[1..]
     }
 
     /// The path of an age that the table of a row holds.

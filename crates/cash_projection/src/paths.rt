@@ -39,7 +39,7 @@ impl Paths {
         ensures right { ArePaths basis.now self.new }
         ensures here { IsPathAt table.now age self.new.kept.items result }
     {
-        let place = (row as usize * 131 + age as usize) % self.kept.len();
+        let place = slot_of(row, age, self.kept.len());
         if self.kept[place].is_of(row, age) {
             return place;
         }
@@ -54,4 +54,12 @@ impl Paths {
     {
         &self.kept[place]
     }
+}
+
+// The place of an age by a row among so many: the ages of one table lie at places of their own where there are 131.
+fn slot_of(row: u16, age: u8, count: usize) -> usize
+    requires { 1 ≤ count }
+    ensures { result < count }
+{
+    (row as usize * 131 + age as usize) % count
 }

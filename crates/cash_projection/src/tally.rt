@@ -161,8 +161,12 @@ impl Tally {
         self.death.add(&path.dying, deaths.0, deaths.1, policy.amount);
         let first = maturity_from(shape.matures, cover);
         let maturities = within(first, cover, years);
-        let after = &path.alive[1..];
-        self.maturity.add(after, maturities.0, maturities.1, policy.amount);
+        self.maturity.add(
+            path.alive_at_end(),
+            maturities.0,
+            maturities.1,
+            policy.amount,
+        );
         self.policies += 1;
     }
 

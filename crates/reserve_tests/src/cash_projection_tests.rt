@@ -1,9 +1,13 @@
+ghost use Rattle.std.specs.Prelude.{IsTrue, All};
+ghost use Rattle.cash_projection.specs.Text.{IsTellable};
+
 // Projections of cash. The cents were computed outside this program by exact fractions, and rounded down and up.
 use crate::policy_value_tests::{
     DAY_BEFORE, FLAT, ISSUED, ONE_YEAR, THREE_YEARS, TWO_YEARS, basis, policy,
 };
-use cash_projection::{Year, project_policies};
+use cash_projection::{Projection, Year, Years, print_projection, project_policies};
 use policy_types::{Command, Plan, Policy, Status};
+use present_value::Pair;
 use std::alloc::Global;
 use std::test::Fail;
 
@@ -272,6 +276,94 @@ fn policies_without_cash(rt: HostRuntime) -> Result<(), Fail> {
         for year in years.iter() {
             assert_eq!(rt; bounds(year), [0; 6], "{name}");
         }
+    }
+    Ok(())
+}
+
+/// 10^17 cents, the greatest bound that is printed.
+const GREATEST: u64 = 100_000_000_000_000_000;
+
+fn is_tellable(year: &Year) -> bool
+    ensures { IsTrue result → IsTellable year.now }
+{
+    let year = *year;
+    year.premium.lo <= GREATEST
+        && year.premium.hi <= GREATEST
+        && year.death.lo <= GREATEST
+        && year.death.hi <= GREATEST
+        && year.maturity.lo <= GREATEST
+        && year.maturity.hi <= GREATEST
+}
+
+fn are_tellable(years: &Years) -> bool
+    ensures { IsTrue result → All IsTellable years.now }
+{
+    years.as_slice().iter().all(|year| is_tellable(year))
+}
+
+/// A year with the same bounds of each kind.
+fn alike(lo: u64, hi: u64) -> Year {
+    let pair = Pair { lo, hi };
+    Year {
+        premium: pair,
+        death: pair,
+        maturity: pair,
+    }
+}
+
+#[test]
+fn projections_as_text(rt: HostRuntime) -> Result<(), Fail> {
+    let first = [
+        [40_000, 40_000, 10_000, 10_000, 0, 0],
+        [36_000, 36_000, 18_000, 18_000, 0, 0],
+        [28_800, 28_800, 18_000, 18_000, 54_000, 54_000],
+    ]
+    .map(year_of);
+    for (name, position, on, policies, unvalued, years, expected) in [
+        (
+            "first issue",
+            1,
+            DAY_BEFORE,
+            1,
+            0,
+            &first[..],
+            "project,2020-12-31,1,1,3\nyear,0,400.00,400.00,100.00,100.00,0.00,0.00\n\
+                year,1,360.00,360.00,180.00,180.00,0.00,0.00\nyear,2,288.00,288.00,180.00,180.00,540.00,540.00\n\
+                unvalued,0\n",
+        ),
+        (
+            "no policy",
+            0,
+            84_005,
+            0,
+            0,
+            &[alike(0, 0)][..],
+            "project,2199-12-31,0,0,1\nyear,0,0.00,0.00,0.00,0.00,0.00,0.00\nunvalued,0\n",
+        ),
+        (
+            "the greatest",
+            u32::MAX,
+            -25_567,
+            4_000_000,
+            4_000_000,
+            &[alike(GREATEST - 1, GREATEST)][..],
+            "project,1900-01-01,4294967295,4000000,1\nyear,0,999999999999999.99,1000000000000000.00,\
+                999999999999999.99,1000000000000000.00,999999999999999.99,1000000000000000.00\nunvalued,4000000\n",
+        ),
+    ] {
+        let years = Years::new(years.to_vec(rt.alloc())?);
+        assert!(rt; are_tellable(&years));
+        let projection = Projection {
+            position,
+            on,
+            policies,
+            unvalued,
+            years,
+        };
+        let Ok(text) = print_projection(rt.alloc(), &projection) else {
+            return Err("memory for a projection".into());
+        };
+        assert_eq!(rt; text.as_slice(), expected.as_bytes(), "{name}");
     }
     Ok(())
 }

@@ -1,12 +1,13 @@
 use Rattle.std.proofs.Common.{refl, arith, le_refl}
 use Rattle.std.proofs.lemmas.List.{length-replicate}
+use Rattle.present_value.specs.Values.{pair_of}
 use Rattle.cash_projection.specs.inside.Paths.{rates_after}
 use Rattle.cash_projection.proofs.Survivors.{alive_lo_most, alive_hi_most}
 use Rattle.cash_projection.proofs.PathSteps.{none_known, one_more_known}
 use Rattle.cash_projection.proofs.path.Path.of.Goals as goal
 
 pub loop-j-init : goal.loop-j-init
-loop-j-init c = none_known (rates_after c.args.table.now c.args.age) 132 _ refl (length-replicate 132 _)
+loop-j-init c = none_known (rates_after c.args.table.now c.args.age) 132 _ refl (length-replicate 132 (pair_of 0 0))
 
 pub part_of-requires-clause-lo : goal.part_of-requires-clause-lo
 part_of-requires-clause-lo c =

@@ -1,6 +1,7 @@
-use Rattle.std.proofs.Common.{refl, arith}
+use Rattle.std.proofs.Common.{refl, arith, subst, sym, ◌+◌}
 use Rattle.cash_projection.proofs.Adding.{ended_idle, prospect_small}
 use Rattle.cash_projection.specs.Policies.{prospect_of}
+use Rattle.cash_projection.specs.inside.Paths.{IsSurvivalPath}
 use Rattle.cash_projection.proofs.tally.Tally.add_ahead.Goals as goal
 
 pub returns-then-t-shape-clause-added : goal.returns-then-t-shape-clause-added
@@ -17,4 +18,6 @@ returns-clause-small c =
     prospect_small c.args.policy.now c.args.table.now c.args.shape.now c.args.t c.requires.sound c.requires.fits c.last_age.ensures.within
 
 pub add_path-requires-clause-path : goal.add_path-requires-clause-path
-add_path-requires-clause-path c = rw (c.at.ensures _) (c.place_of-place.ensures.here.here _)
+add_path-requires-clause-path c =
+    let none = c.at.result.now in
+    subst (λ p. IsSurvivalPath c.args.table.now (c.args.shape.now.age + c.args.t) p) (sym (c.at.ensures none)) (c.place_of-place.ensures.here.here none)

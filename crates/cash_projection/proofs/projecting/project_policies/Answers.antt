@@ -1,0 +1,5 @@
+use Rattle.cash_projection.proofs.Tallying.{tally_sized}
+use Rattle.cash_projection.proofs.projecting.project_policies.Goals as goal
+
+pub cash-requires : goal.cash-requires
+cash-requires c = (tally_sized _ _ c.args.years c.args.policies.now _ c.tally_policies-tally.ensures.tally c.requires.years c.requires.few).0

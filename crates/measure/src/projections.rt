@@ -1,0 +1,93 @@
+// Policies drawn from a seed, and projected together.
+ghost use Rattle.std.specs.Prelude.{◌≤◌, IfOk, length};
+ghost use Rattle.std.specs.List.{AllByRecursion};
+ghost use Rattle.cash_projection.specs.Policies.{IsOfIssue};
+
+use crate::reserves::table_of_cubes;
+use crate::words::{Outcome, number_in};
+use basis_book::{Basis, read_basis};
+use cash_projection::project_policies;
+use indexmap::IndexMap;
+use load_maker::Generator;
+use policy_types::{Policy, Status};
+use std::alloc::{AllocError, Global};
+use std::env::Args;
+use std::io;
+
+/// 2020-12-31, in days since 1970-01-01.
+const ON: i32 = 18_627;
+
+const MOST_POLICIES: u32 = 4_000_000;
+
+const MOST_YEARS: u32 = 131;
+
+/// Projects so many policies drawn from a seed on 2020-12-31 over so many years, by the table of `measure_reserves`, and
+/// prints the sums of the lower and of the upper bounds in cents.
+pub fn measure_projections<R: Print + AllocGlobal>(rt: &R, words: &mut Args) -> io::Result<Outcome> {
+    let (Some(seed), Some(count), Some(years)) =
+        (number_in(words), number_in(words), number_in(words))
+    else {
+        return Ok(Outcome::OtherWords);
+    };
+    if count > MOST_POLICIES || years > MOST_YEARS {
+        return Ok(Outcome::OtherWords);
+    }
+    let alloc = rt.alloc();
+    let (Ok(policies), Ok(Some(basis))) = (drawn(alloc, seed % 2_147_483_648, count), basis_of_cubes(alloc)) else {
+        return Ok(Outcome::NoMemory);
+    };
+    let Ok((years, unvalued)) = project_policies(alloc, policies.as_slice(), &basis, ON, years as u8) else {
+        return Ok(Outcome::NoMemory);
+    };
+    let mut lower: u64 = 0;
+    let mut upper: u64 = 0;
+    for year in years.as_slice() {
+        for pair in [year.premium, year.death, year.maturity] {
+            lower = lower.saturating_add(pair.lo);
+            upper = upper.saturating_add(pair.hi);
+        }
+    }
+    println!(rt; "projections,{count},{unvalued},{lower},{upper}")?;
+    Ok(Outcome::Measured)
+}
+
+// The policies that a generator draws, of which no premium is paid.
+fn drawn(alloc: Global, seed: u32, count: u32) -> Result<Vec<Policy>, AllocError>
+    requires seed { seed < 2147483648 }
+    requires count { count ≤ 4000000 }
+    ensures sound { IfOk result (λ policies. AllByRecursion IsOfIssue policies.items) }
+    ensures few { IfOk result (λ policies. length policies.items ≤ 4000000) }
+{
+    let mut policies = Vec::new(alloc);
+    let mut generator = Generator::new(seed);
+    for id in 0..count {
+        let policy = generator.next_policy();
+        policies.push(Policy {
+            id: id + 1,
+            plan: policy.plan,
+            age: policy.age,
+            years: policy.years,
+            amount: policy.amount,
+            premium: policy.premium,
+            issued: policy.issued,
+            last: policy.issued,
+            paid: 0,
+            status: Status::InForce,
+            outstanding: 0,
+        })?;
+    }
+    Ok(policies)
+}
+
+// One table for all days of issue.
+fn basis_of_cubes(alloc: Global) -> Result<Option<Basis>, AllocError> {
+    let Ok(rows) = read_basis(alloc, b"1900-01-01,g.xml,400") else {
+        return Ok(None);
+    };
+    let Some(table) = table_of_cubes(alloc)? else {
+        return Ok(None);
+    };
+    let mut tables = IndexMap::new(alloc);
+    tables.insert(String::from_str(alloc, "g.xml")?, table)?;
+    Ok(Basis::of(rows, tables).ok())
+}
