@@ -1,11 +1,10 @@
 -- What a policy adds to a tally.
-use Rattle.std.proofs.Common.{◌≡◌, ℕ, zero, suc, ◌+◌, ◌-◌, ◌*◌, ◌<◌, ◌≤◌, inl, inr, refl, ap, ap₂, subst, sym, ◌∙◌, arith, List, length, Bool, true, false, if◌then◌else◌, nat_eq, le_trans}
+use Rattle.std.proofs.Common.{◌≡◌, ℕ, ◌+◌, ◌-◌, ◌*◌, ◌<◌, ◌≤◌, inl, inr, refl, ap, ap₂, subst, ◌∙◌, arith, List, length, Bool, true, false, if◌then◌else◌, nat_eq, le_trans}
 use Rattle.std.proofs.lemmas.Bool.Decides.{eqb_tells}
 use Rattle.policy_types.specs.declared.policy.Policy.{Policy}
 use Rattle.policy_types.specs.declared.policy.Status.{Status}
 use Rattle.policy_types.specs.declared.policy.Status.TheVariants.{InForce, Lapsed, Claimed, Matured, Expired, Settled, PaidUp}
-use Rattle.policy_types.specs.Valid.{IsAmount}
-use Rattle.rate_table.specs.Rates.{Rates, ONE, AreRates}
+use Rattle.rate_table.specs.Rates.{Rates, AreRates}
 use Rattle.rate_table.specs.declared.shape.Shape.{Shape}
 use Rattle.present_value.specs.Rounding.{UNIT, down, up}
 use Rattle.present_value.specs.Values.{pair_at}
@@ -14,7 +13,7 @@ use Rattle.cash_projection.specs.Survival.{alive_by, dying_by}
 use Rattle.cash_projection.specs.Prospects.{Prospect, IsSmall, due, premium_due, death_due, maturity_due}
 use Rattle.cash_projection.specs.Cash.{premium_by, death_by, maturity_by}
 use Rattle.cash_projection.specs.Policies.{nothing_ahead, prospect_of, charged, IsOfIssue}
-use Rattle.cash_projection.specs.inside.Paths.{rates_after, alive_pair, dying_pair, KnowsYears, IsSurvivalPath}
+use Rattle.cash_projection.specs.inside.Paths.{rates_after, alive_pair, dying_pair, IsSurvivalPath}
 use Rattle.cash_projection.specs.inside.Tallies.{Fits, HasAdded, HasGained, HasRisen, IsIdle, sum_at}
 use Rattle.cash_projection.specs.declared.column.Sums.{Sums}
 use Rattle.cash_projection.specs.declared.path.Path.{Path}

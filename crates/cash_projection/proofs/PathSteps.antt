@@ -1,17 +1,17 @@
 -- A path, one year after the other.
-use Rattle.std.proofs.Common.{◌≡◌, ◌≢◌, ℕ, zero, suc, ◌+◌, ◌-◌, ◌*◌, ◌<◌, ◌≤◌, refl, ap, sym, ◌∙◌, arith, List, length, slice_set, slice_index_or, subst, inl, inr, add-one, All, le_refl}
+use Rattle.std.proofs.Common.{◌≡◌, ℕ, zero, suc, ◌+◌, ◌-◌, ◌*◌, ◌<◌, ◌≤◌, refl, ap, sym, ◌∙◌, arith, List, length, slice_set, slice_index_or, subst, inl, inr, add-one, All, le_refl}
 use Rattle.std.specs.Prelude.{replicate}
 use Rattle.std.proofs.lemmas.List.{get_or-set_same, get_or-set_other, length-replicate, length-set}
 use Rattle.std.proofs.lemmas.Bool.{cases_eq}
-use Rattle.rate_table.specs.Rates.{Rates, ONE, AreRatesFrom}
+use Rattle.rate_table.specs.Rates.{Rates, ONE}
 use Rattle.present_value.specs.Rounding.{UNIT, down, up}
 use Rattle.present_value.specs.Values.{pair_of, pair_at}
 use Rattle.present_value.specs.declared.pair.Pair.{Pair}
 use Rattle.basis_book.specs.Dated.{Dated}
 use Rattle.policy_value.specs.Caches.{IsRowOf}
 use Rattle.policy_value.proofs.Keeping.{one_row}
-use Rattle.cash_projection.specs.Survival.{alive_by, dying_by}
-use Rattle.cash_projection.specs.inside.Paths.{rates_after, alive_pair, dying_pair, KnowsYears, IsPathOf, IsSurvivalPath, IsPathAt, IsRightPath}
+use Rattle.cash_projection.specs.Survival.{alive_by}
+use Rattle.cash_projection.specs.inside.Paths.{alive_pair, dying_pair, KnowsYears, IsPathOf, IsSurvivalPath, IsPathAt, IsRightPath}
 use Rattle.cash_projection.specs.declared.path.Path.{Path}
 
 same_at : (count k : ℕ) (pair : Pair) → k < count → pair_at (replicate count pair) k ≡ pair

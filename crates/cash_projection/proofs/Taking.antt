@@ -1,5 +1,5 @@
 -- Each way in which a policy is taken into a tally.
-use Rattle.std.proofs.Common.{◌≡◌, ℕ, ◌<◌, ◌≤◌, ◌+◌, refl, ap, sym, arith, List, [], ◌∷◌, ◌++◌, length, All, ℤ, ◌<ℤ◌, Result, Ok, Err, Some}
+use Rattle.std.proofs.Common.{◌≡◌, ℕ, refl, ap, sym, arith, List, [], ◌∷◌, ◌++◌, length, All, ℤ, ◌<ℤ◌, Result, Ok, Err, Some}
 use Rattle.std.specs.List.{slice_get}
 use Rattle.policy_types.specs.declared.policy.Policy.{Policy}
 use Rattle.rate_table.specs.Rates.{Rates}
@@ -11,7 +11,7 @@ use Rattle.basis_book.proofs.CallerLemmas.{none_picked, one_picked}
 use Rattle.policy_value.specs.Caches.{IsRowOf}
 use Rattle.policy_value.specs.Rows.{IsInsured, IsYear}
 use Rattle.cash_projection.specs.Prospects.{IsSmall}
-use Rattle.cash_projection.specs.Policies.{nothing_ahead, prospect_of, IsProspectBy}
+use Rattle.cash_projection.specs.Policies.{nothing_ahead, prospect_of}
 use Rattle.cash_projection.specs.inside.Tallies.{HasAdded, HasCounted, HasCountedBy}
 use Rattle.cash_projection.specs.declared.tally.Tally.{Tally}
 use Rattle.cash_projection.proofs.Adding.{nothing_small}

@@ -1,5 +1,5 @@
 -- Tallies of lists.
-use Rattle.std.proofs.Common.{◌≡◌, ℕ, zero, suc, ◌+◌, ◌-◌, ◌*◌, ◌^◌, ◌<◌, ◌≤◌, inl, inr, refl, ap, ap₂, sym, subst, ◌∙◌, arith, List, [], ◌∷◌, ◌++◌, length, take, get_or, ℤ, le_trans, le_of_mul-le-mul_right, length-append, length-take-le}
+use Rattle.std.proofs.Common.{◌≡◌, ℕ, zero, suc, ◌+◌, ◌*◌, ◌^◌, ◌<◌, ◌≤◌, refl, ap, ap₂, sym, subst, ◌∙◌, arith, List, [], ◌∷◌, ◌++◌, length, take, get_or, ℤ, le_trans, le_of_mul-le-mul_right, length-append, length-take-le}
 use Rattle.std.specs.List.{AllByRecursion, AllZip}
 use Rattle.std.proofs.lemmas.List.{take_more}
 use Rattle.policy_types.specs.declared.policy.Policy.{Policy}
@@ -10,9 +10,9 @@ use Rattle.present_value.specs.declared.pair.Pair.{Pair}
 use Rattle.basis_book.specs.Dated.{Dated}
 use Rattle.cash_projection.specs.Survival.{alive, dying}
 use Rattle.cash_projection.specs.Prospects.{Prospect, IsSmall, premium_due, death_due, maturity_due}
-use Rattle.cash_projection.specs.Cash.{total_of, premium_by, death_by, maturity_by, rounded_year, no_year, AreCashYears}
+use Rattle.cash_projection.specs.Cash.{total_of, premium_by, death_by, maturity_by, rounded_year, no_year}
 use Rattle.cash_projection.specs.Policies.{IsProspect, IsCashOf}
-use Rattle.cash_projection.specs.inside.Tallies.{AreSums, HasAdded, HasGained, TakesOneMore, HasCounted, AreBothSums, IsRoomy, IsSized, IsTally, IsTallyOf, sum_at, sums_of}
+use Rattle.cash_projection.specs.inside.Tallies.{AreSums, HasAdded, HasGained, TakesOneMore, HasCounted, AreBothSums, IsRoomy, IsSized, IsTally, IsTallyOf, sum_at}
 use Rattle.cash_projection.specs.declared.column.Sums.{Sums}
 use Rattle.cash_projection.specs.declared.tally.Tally.{Tally}
 use Rattle.cash_projection.specs.declared.years.Year.{Year}
@@ -228,8 +228,10 @@ pushed_at (x ∷ xs) y d f each is (suc k) below = pushed_at xs y d (λ i. f (su
 pub one_more_told : (tally : Tally) (old new : List Year) (j : ℕ) (year : Year) → length old ≡ j → ((k : ℕ) → k < j → get_or old k no_year ≡ year_in tally k)
     → year ≡ year_in tally j → new ≡ old ++ year ∷ [] → (length new ≡ j + 1) × ((k : ℕ) → k < j + 1 → get_or new k no_year ≡ year_in tally k)
 one_more_told tally old new j year many each is pushed =
-    rw (pushed, ← many) (length-append old (year ∷ []),
-    pushed_at old year no_year (year_in tally) (λ k below. each k (omega arith)) (is ∙ ap (year_in tally) (sym many)))
+    rw (pushed, ← many) (
+      length-append old (year ∷ []),
+      pushed_at old year no_year (year_in tally) (λ k below. each k (omega arith)) (is ∙ ap (year_in tally) (sym many)),
+    )
 
 abbrev year_of : Pair → Pair → Pair → Year
 year_of a b d = record { premium = a; death = b; maturity = d }

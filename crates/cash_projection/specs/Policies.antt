@@ -1,6 +1,6 @@
 -- The prospect of a policy on a day by a basis, and the cash of a list of policies.
 use Rattle.std.specs.Prelude.{◌≡◌, ℕ, ◌+◌, List, All, ℤ, ◌<ℤ◌, Result, Ok, Err, false}
-use Rattle.std.specs.List.{AllByRecursion, AllZip}
+use Rattle.std.specs.List.{AllZip}
 use Rattle.policy_types.specs.Valid.{IsIssue}
 use Rattle.policy_types.specs.declared.policy.Policy.{Policy}
 use Rattle.policy_types.specs.declared.policy.Status.{Status}

@@ -1,6 +1,5 @@
 -- The text of a projection: a line that says what was projected, a line for each year, and the policies with a word.
 use Rattle.std.specs.Prelude.{ℕ, ◌+◌, ◌≤◌, List, [], ◌∷◌, ◌++◌, codes, decimal, length}
-use Rattle.std.specs.List.{All}
 use Rattle.life_dates.specs.DayText.{day_text}
 use Rattle.money_core.specs.CentsText.{cents_text}
 use Rattle.text_lines.specs.Lines.{line_of}

@@ -32,7 +32,14 @@ impl Paths {
     }
 
     /// Where the path of an age lies, by a row of the basis.
-    pub fn place_of(&mut self, basis: &Basis, row: u16, table: &RateTable, age: u8, bp: u16) -> usize
+    pub fn place_of(
+        &mut self,
+        basis: &Basis,
+        row: u16,
+        table: &RateTable,
+        age: u8,
+        bp: u16,
+    ) -> usize
         requires right { ArePaths basis.now self.old }
         requires row { IsRowOf basis.now row table.now bp }
         requires age { HoldsAge table.now age × (age ≤ 130) }

@@ -158,7 +158,8 @@ impl Tally {
         self.premium.add(&path.alive, premiums.0, premiums.1, cents);
         let cover = shape.n - t;
         let deaths = within(0, cover, years);
-        self.death.add(&path.dying, deaths.0, deaths.1, policy.amount);
+        self.death
+            .add(&path.dying, deaths.0, deaths.1, policy.amount);
         let first = maturity_from(shape.matures, cover);
         let maturities = within(first, cover, years);
         self.maturity.add(

@@ -23,20 +23,34 @@ const MOST_YEARS: u32 = 131;
 
 /// Projects so many policies drawn from a seed on 2020-12-31 over so many years, by the table of `measure_reserves`, and
 /// prints the sums of the lower and of the upper bounds in cents.
-pub fn measure_projections<R: Print + AllocGlobal>(rt: &R, words: &mut Args) -> io::Result<Outcome> {
-    let (Some(seed), Some(count), Some(years)) =
-        (number_in(words), number_in(words), number_in(words))
-    else {
+pub fn measure_projections<R: Print + AllocGlobal>(
+    rt: &R,
+    words: &mut Args,
+) -> io::Result<Outcome> {
+    let (Some(seed), Some(count), Some(years)) = (
+        number_in(words),
+        number_in(words),
+        number_in(words),
+    ) else {
         return Ok(Outcome::OtherWords);
     };
     if count > MOST_POLICIES || years > MOST_YEARS {
         return Ok(Outcome::OtherWords);
     }
     let alloc = rt.alloc();
-    let (Ok(policies), Ok(Some(basis))) = (drawn(alloc, seed % 2_147_483_648, count), basis_of_cubes(alloc)) else {
+    let (Ok(policies), Ok(Some(basis))) = (
+        drawn(alloc, seed % 2_147_483_648, count),
+        basis_of_cubes(alloc),
+    ) else {
         return Ok(Outcome::NoMemory);
     };
-    let Ok((years, unvalued)) = project_policies(alloc, policies.as_slice(), &basis, ON, years as u8) else {
+    let Ok((years, unvalued)) = project_policies(
+        alloc,
+        policies.as_slice(),
+        &basis,
+        ON,
+        years as u8,
+    ) else {
         return Ok(Outcome::NoMemory);
     };
     let mut lower: u64 = 0;

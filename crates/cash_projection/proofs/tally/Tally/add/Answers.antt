@@ -1,11 +1,9 @@
-use Rattle.std.proofs.Common.{◌≡◌, ◌<ℤ◌, ℤ, All, refl, sym, ap, ◌∙◌, subst, arith, w32, to_z, of_z, true}
+use Rattle.std.proofs.Common.{◌≡◌, ◌<ℤ◌, ℤ, All, refl, sym, ◌∙◌, subst, arith, w32, to_z, of_z}
 use Rattle.std.proofs.lemmas.Int.{ints, to_z-of_z}
 use Rattle.std.proofs.lemmas.Bool.{false≢true}
-use Rattle.plan_benefits.specs.Shapes.{shape_of}
 use Rattle.basis_book.specs.Dated.{Dated, IsPicked}
 use Rattle.policy_value.specs.Rows.{IsInsured}
 use Rattle.cash_projection.specs.Policies.{nothing_ahead}
-use Rattle.cash_projection.specs.inside.Tallies.{HasCountedBy}
 use Rattle.cash_projection.proofs.Adding.{nothing_idle}
 use Rattle.cash_projection.proofs.Taking.{uninsured_taken, unnamed_taken, named_taken, picked_row}
 use Rattle.cash_projection.proofs.tally.Tally.add.Goals as goal
