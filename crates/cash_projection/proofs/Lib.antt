@@ -8,3 +8,4 @@ pub mod Adding
 pub mod Taking
 pub mod Tallying
 pub mod YearLines
+pub mod CallerLemmas

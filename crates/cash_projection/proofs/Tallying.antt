@@ -132,7 +132,7 @@ sized years ps tally is most few =
           most count (λ j. power_pos (j + 1)) maturity_part);
     }
 
-zip_length : (P : Policy → Prospect → Type 0) (xs : List Policy) (ys : List Prospect) → AllZip P xs ys → length ys ≡ length xs
+pub zip_length : (P : Policy → Prospect → Type 0) (xs : List Policy) (ys : List Prospect) → AllZip P xs ys → length ys ≡ length xs
 zip_length P [] [] all = refl
 zip_length P [] (y ∷ ys) all = absurd all
 zip_length P (x ∷ xs) [] all = absurd all
@@ -144,6 +144,11 @@ pub tally_sized : (basis : List Dated) (on : ℤ) (years : ℕ) (policies : List
 tally_sized basis on years policies tally is most few =
     let many : tally.policies ≡ length policies = is.tallied.policies ∙ zip_length (IsProspect basis on) policies is.prospects is.each in
     (sized years is.prospects tally is.tallied most (omega (arith, many)), many)
+
+-- of as many years as it says
+pub tallied_years : (basis : List Dated) (on : ℤ) (years : ℕ) (policies : List Policy) (tally : Tally) → IsTallyOf basis on years policies tally
+    → IsTallyOf basis on tally.years policies tally
+tallied_years basis on years policies tally is = subst (λ n. IsTallyOf basis on n policies tally) (sym is.tallied.same) is
 
 -- before each of so many there is room for one more
 pub room_for_one : (basis : List Dated) (on : ℤ) (years : ℕ) (policies : List Policy) (i : ℕ) (tally : Tally) → IsTallyOf basis on years (take i policies) tally
@@ -210,11 +215,11 @@ cash_told basis on policies tally years most many each is =
       prospects = ps;
       each = is.each;
       words = is.tallied.unvalued;
-      cash = record {
+      rounded = record {
         many = many;
-        rounded = λ j below. each j below ∙ year_rounded tally.years ps tally is.tallied j below;
-        exact = λ j below. rw (each j below ∙ year_rounded tally.years ps tally is.tallied j below) (year_encloses ps j is.tallied.small (omega arith));
+        each = λ j below. each j below ∙ year_rounded tally.years ps tally is.tallied j below;
       };
+      exact = λ j below. rw (each j below ∙ year_rounded tally.years ps tally is.tallied j below) (year_encloses ps j is.tallied.small (omega arith));
     }
 
 -- one year more is told

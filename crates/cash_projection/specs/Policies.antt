@@ -1,5 +1,5 @@
 -- The prospect of a policy on a day by a basis, and the cash of a list of policies.
-use Rattle.std.specs.Prelude.{◌≡◌, ℕ, ◌+◌, List, All, ℤ, ◌<ℤ◌, Result, Ok, Err, false}
+use Rattle.std.specs.Prelude.{◌≡◌, ℕ, ◌+◌, List, All, ℤ, ◌<ℤ◌, Result, Ok, Err, false, ◌<◌, slice_index_or}
 use Rattle.std.specs.List.{AllZip}
 use Rattle.policy_types.specs.Valid.{IsIssue}
 use Rattle.policy_types.specs.declared.policy.Policy.{Policy}
@@ -12,7 +12,7 @@ use Rattle.plan_benefits.specs.declared.fault.NotValued.{NotValued}
 use Rattle.basis_book.specs.Dated.{Dated, IsPicked}
 use Rattle.policy_value.specs.Rows.{IsInsured, IsYear}
 use Rattle.cash_projection.specs.Prospects.{Prospect}
-use Rattle.cash_projection.specs.Cash.{AreCashYears, total_of}
+use Rattle.cash_projection.specs.Cash.{EnclosesExpected, RoundedCash, no_year, total_of}
 use Rattle.cash_projection.specs.declared.years.Year.{Year}
 
 -- the premium that is charged: none of a paid-up policy
@@ -61,4 +61,5 @@ pub record IsCashOf (basis : List Dated) (on : ℤ) (policies : List Policy) (co
   pub prospects : List Prospect
   pub each : AllZip (IsProspect basis on) policies prospects
   pub words : unvalued ≡ total_of (λ p. p.words) prospects
-  pub cash : AreCashYears prospects count years
+  pub rounded : RoundedCash prospects count years
+  pub exact : (j : ℕ) → j < count → EnclosesExpected prospects j (slice_index_or years j no_year)

@@ -1,7 +1,8 @@
 // The projection of a list of policies.
-ghost use Rattle.std.specs.Prelude.{◌≤◌, IfOk, length};
+ghost use Rattle.std.specs.Prelude.{◌≤◌, All, IfOk, length};
 ghost use Rattle.std.specs.List.{AllByRecursion};
 ghost use Rattle.cash_projection.specs.Policies.{IsCashOf, IsOfIssue};
+ghost use Rattle.cash_projection.specs.Text.{IsTellable};
 ghost use Rattle.cash_projection.specs.inside.Paths.{ArePaths};
 ghost use Rattle.cash_projection.specs.inside.Tallies.{IsTallyOf};
 
@@ -27,7 +28,8 @@ pub fn project_policies(
     requires sound { AllByRecursion IsOfIssue policies.now }
     requires few { length policies.now ≤ 4000000 }
     requires years { years ≤ 131 }
-    ensures { IfOk result (λ r. IsCashOf basis.now on policies.now years r.1 r.0) }
+    ensures cash { IfOk result (λ r. IsCashOf basis.now on policies.now years r.1 r.0) }
+    ensures tellable { IfOk result (λ r. All IsTellable r.0) }
 {
     let mut paths = Paths::new(alloc, PATHS_KEPT)?;
     let tally = tally_policies(policies, basis, on, years, &mut paths);
