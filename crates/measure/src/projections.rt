@@ -1,5 +1,5 @@
 // Policies drawn from a seed, and projected together.
-ghost use Rattle.std.specs.Prelude.{◌≤◌, IfOk, length};
+ghost use Rattle.std.specs.Prelude.{◌<◌, ◌≤◌, IfOk, length};
 ghost use Rattle.std.specs.List.{AllByRecursion};
 ghost use Rattle.cash_projection.specs.Policies.{IsOfIssue};
 
