@@ -1,5 +1,5 @@
 // Policies drawn from a seed, and projected together.
-ghost use Rattle.std.specs.Prelude.{◌<◌, ◌≤◌, IfOk, length};
+ghost use Rattle.std.specs.Prelude.{◌<◌, ◌≤◌, ◌+◌, IfOk, IsTrue, OnOk, length};
 ghost use Rattle.std.specs.List.{AllByRecursion};
 ghost use Rattle.cash_projection.specs.Policies.{IsOfIssue};
 
@@ -8,8 +8,8 @@ use crate::words::{Outcome, number_in};
 use basis_book::{Basis, read_basis};
 use cash_projection::project_policies;
 use indexmap::IndexMap;
-use load_maker::Generator;
-use policy_types::{Policy, Status};
+use load_maker::{Drawn, Generator};
+use policy_types::{Command, Policy, Status};
 use std::alloc::{AllocError, Global};
 use std::env::Args;
 use std::io;
@@ -61,7 +61,7 @@ pub fn measure_projections<R: Print + AllocGlobal>(
             upper = upper.saturating_add(pair.hi);
         }
     }
-    println!(rt; "projections,{count},{unvalued},{lower},{upper}")?;
+    println!(rt; "projections,{},{unvalued},{lower},{upper}", policies.len())?;
     Ok(Outcome::Measured)
 }
 
@@ -74,23 +74,52 @@ fn drawn(alloc: Global, seed: u32, count: u32) -> Result<Vec<Policy>, AllocError
 {
     let mut policies = Vec::new(alloc);
     let mut generator = Generator::new(seed);
-    for id in 0..count {
-        let policy = generator.next_policy();
-        policies.push(Policy {
-            id: id + 1,
-            plan: policy.plan,
-            age: policy.age,
-            years: policy.years,
-            amount: policy.amount,
-            premium: policy.premium,
-            issued: policy.issued,
-            last: policy.issued,
-            paid: 0,
-            status: Status::InForce,
-            outstanding: 0,
-        })?;
+    for before in 0..count {
+        issue(&mut policies, before + 1, &generator.next_policy())?;
     }
     Ok(policies)
+}
+
+// Adds a policy as it is drawn, if it may be issued.
+fn issue(policies: &mut Vec<Policy>, id: u32, drawn: &Drawn) -> Result<(), AllocError>
+    requires { AllByRecursion IsOfIssue policies.old.items }
+    ensures sound { OnOk result (AllByRecursion IsOfIssue policies.new.items) }
+    ensures few { OnOk result (length policies.new.items ≤ length policies.old.items + 1) }
+{
+    let policy = Policy {
+        id,
+        plan: drawn.plan,
+        age: drawn.age,
+        years: drawn.years,
+        amount: drawn.amount,
+        premium: drawn.premium,
+        issued: drawn.issued,
+        last: drawn.issued,
+        paid: 0,
+        status: Status::InForce,
+        outstanding: 0,
+    };
+    if !is_of_issue(&policy) {
+        return Ok(());
+    }
+    policies.push(policy)?;
+    Ok(())
+}
+
+// Whether an issue may make the policy.
+fn is_of_issue(policy: &Policy) -> bool
+    ensures { IsTrue result → IsOfIssue policy.now }
+{
+    let issue = Command::Issue {
+        id: policy.id,
+        day: policy.issued,
+        plan: policy.plan,
+        age: policy.age,
+        years: policy.years,
+        amount: policy.amount,
+        premium: policy.premium,
+    };
+    issue.is_valid()
 }
 
 // One table for all days of issue.

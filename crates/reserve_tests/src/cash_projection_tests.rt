@@ -401,24 +401,44 @@ fn are_tellable(years: &Years) -> bool
     years.as_slice().iter().all(|year| is_tellable(year))
 }
 
+/// The year of six bounds.
+fn year_of(bounds: [u64; 6]) -> Year {
+    let [
+        premium_lo,
+        premium_hi,
+        death_lo,
+        death_hi,
+        maturity_lo,
+        maturity_hi,
+    ] = bounds;
+    Year {
+        premium: Pair {
+            lo: premium_lo,
+            hi: premium_hi,
+        },
+        death: Pair {
+            lo: death_lo,
+            hi: death_hi,
+        },
+        maturity: Pair {
+            lo: maturity_lo,
+            hi: maturity_hi,
+        },
+    }
+}
+
 /// A year with the same bounds of each kind.
 fn alike(lo: u64, hi: u64) -> Year {
-    let pair = Pair { lo, hi };
-    Year {
-        premium: pair,
-        death: pair,
-        maturity: pair,
-    }
+    year_of([lo, hi, lo, hi, lo, hi])
 }
 
 #[test]
 fn projections_as_text(rt: HostRuntime) -> Result<(), Fail> {
     let first = [
-        [40_000, 40_000, 10_000, 10_000, 0, 0],
-        [36_000, 36_000, 18_000, 18_000, 0, 0],
-        [28_800, 28_800, 18_000, 18_000, 54_000, 54_000],
-    ]
-    .map(year_of);
+        year_of([40_000, 40_000, 10_000, 10_000, 0, 0]),
+        year_of([36_000, 36_000, 18_000, 18_000, 0, 0]),
+        year_of([28_800, 28_800, 18_000, 18_000, 54_000, 54_000]),
+    ];
     for (name, position, on, policies, unvalued, years, expected) in [
         (
             "first issue",
