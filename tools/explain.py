@@ -15,7 +15,8 @@ import os
 
 from formats import MOST_BASIS_BYTES, MOST_BASIS_ROWS, MOST_POINTS, Row, Wrong, bytes_of, complain, demand, number_of, rows_in
 from script_lines import Fault, read_script
-from tables import BadBasis, Element, NotXml, basis_rows, factor_of, path_of, read_table, root_of
+from table_parts import lines_of
+from tables import MOST_AGE, BadBasis, NotXml, basis_rows, read_table, root_of
 
 SHOWN = 60
 BASIS_ROW = ("a row: a day 1900-01-01 to 2199-12-31, the file name of a table (1 to 64 letters, digits, . _ -, the first a "
@@ -25,16 +26,21 @@ WANTED = {
     "notdocument": ("an XML document: this tag, comment or byte may not stand here, or the file ends too early "
                     "(no DOCTYPE, no CDATA)"),
     "notable": "the path XTbML, Table, Values, Axis with rates Y in it; it breaks off behind this element",
-    "select": "one axis of ages with ultimate rates; here the rates go by the duration too (a select table)",
     "scaled": "rates that stand as they are: a ScalingFactor that is absent, empty, 0 or 1",
-    "badage": 'an age: an attribute t with one to three digits, 0 to 130, as in <Y t="35">',
-    "agegap": "an age that is one more than that of the Y before",
+    "badage": 'an age: an attribute t with one to three digits, 0 to 130, as in <Y t="35">, or in an issue age\'s <Axis t="35">',
+    "agegap": "an age that is one more than that of the Y, or of the issue age, before",
+    "badduration": ("rates of each issue age by duration, from duration 0 or 1 on: a t that is one more than that of the Y before, "
+                    f"and no age above {MOST_AGE}"),
+    "noultimate": "a second Table behind this one, with the ultimate rates by age: its Values, Axis, Y",
+    "ultimategap": "an ultimate rate for the age right behind the last rate of this issue age",
     "badrate": "a rate from 0 to 1 with at most nine places, as 0.00042 or 4.2E-4, and nothing else in the Y",
 }
 CURES = {
     "badrate": "round the rates to nine decimals; a spreadsheet may have written more",
-    "select": "take the ultimate column as a table of its own",
     "scaled": "multiply the rates out, and drop the factor",
+    "badduration": "number the durations 1, 2, 3 without a gap; leave out the last issue ages where they have no select rates",
+    "noultimate": "put the ultimate table behind the select one, in the same file",
+    "ultimategap": "let the ultimate rates begin at that age, or add select rates up to their first age",
 }
 
 
@@ -146,28 +152,6 @@ def explain_basis(answer: str, folder: str) -> None:
 
 # --- a table ---
 
-def passed_over(path: list[Element]) -> list[str]:
-    """What of a document isn't read, beside the path to the rates."""
-    root, table, values, axis = path
-    found = []
-    tables = sum(child.name == "Table" for child in root.children)
-    if tables > 1:
-        found.append(f"{tables - 1} further Table: only the first is read")
-    others = sorted({child.name for child in root.children} - {"Table"})
-    others += [f"MetaData/{child.name}" for data in table.children if data.name == "MetaData" for child in data.children
-               if child.name != "ScalingFactor"]
-    further = sum(child.name == "Values" for child in table.children) - 1
-    further += sum(child.name == "Axis" for child in values.children) - 1
-    if further:
-        found.append(f"{further} further Values or Axis in it: only the first is read")
-    extra = sorted({name for row in axis.children if row.name == "Y" for name in row.attributes} - {"t"})
-    if extra:
-        found.append(f"attributes of Y: {', '.join(extra)}")
-    if others:
-        found.append(f"elements: {', '.join(dict.fromkeys(others))}")
-    return found
-
-
 def explain_table(path: str) -> None:
     data, name = bytes_of(path), os.path.basename(path)
     demand(len(data) <= MOST_BASIS_BYTES, f"badbasis,{name},..,toolong: {path} has {len(data)} bytes")
@@ -177,15 +161,7 @@ def explain_table(path: str) -> None:
         place = int(str(bad).split(",")[2])
         line, _ = line_and_column(data, place)
         raise Wrong(f"{bad}\nline {line} of {path}: {shown(data[place:])}\nwanted: {WANTED[bad.word]}") from bad
-    found, _ = path_of(root_of(data))
-    factor = factor_of(found[1])
-    line, _ = line_and_column(data, found[3].at)
-    below = "" if table.rates[-1] == 1 else ", which is below 1"
-    scaling = (factor.text.strip() or "empty") if factor else "none"
-    print(f"taken of {path}: the rates of the ages {table.first} to {table.last}, from line {line} on")
-    print(f"  first {float(table.rates[0]):.9f}, last {float(table.rates[-1]):.9f}{below}")
-    print(f"  scaling factor: {scaling}; the axis is taken as ages, whatever its name says")
-    print("passed over: " + ("; ".join(passed_over(found)) or "nothing"))
+    print("\n".join(lines_of(path, table, root_of(data), lambda element: line_and_column(data, element.at)[0])))
 
 
 def main() -> None:

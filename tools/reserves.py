@@ -44,7 +44,10 @@ class Cover:
 
 
 class InForce:
-    """A policy's cover with its premiums: the modified net premium, the excess that it rests on, and the reserves of 1."""
+    """A policy's cover with its premiums: the modified net premium, the excess that it rests on, and the reserves of 1.
+
+    The table is that of the issue age that is one year higher.
+    """
 
     def __init__(self, table: Table, cover: Cover, age: int) -> None:
         self.cover = cover
@@ -114,13 +117,15 @@ def insured_on(policy: Policy, basis: Sequence[BasisRow], on: datetime.date, kno
     row = row_for(basis, policy.issued)
     if row is None:
         return 0, "nobasis"
-    table, age = row.table, policy.age
+    age = policy.age
+    table = row.table.along(age)
+    if table is None or age < table.first:
+        return 0, "belowtable"
+    later = row.table.along(age + 1)
     to_end = table.last + 1 - age
     years = to_end if policy.plan in ("whole", "limited") else policy.years
     payments = {"whole": to_end, "limited": min(policy.years, to_end)}.get(policy.plan, policy.years)
-    if age < table.first:
-        return 0, "belowtable"
-    if years > to_end or years < 2:
+    if years > to_end or years < 2 or later is None or not later.holds(age + 1):
         return 0, "pasttable"
     if table.rates[age - table.first] > HIGHEST_FIRST_RATE:
         return 0, "ratehigh"
@@ -128,7 +133,7 @@ def insured_on(policy: Policy, basis: Sequence[BasisRow], on: datetime.date, kno
     case = row.day, age, years, payments, matures, is_paid_up
     if case not in known:
         cover = Cover(table, age, years, payments, matures, row.discount)
-        known[case] = PaidUp(cover) if is_paid_up else InForce(table, cover, age)
+        known[case] = PaidUp(cover) if is_paid_up else InForce(later, cover, age)
     return min(completed(policy.issued, on), years), known[case]
 
 

@@ -10,6 +10,7 @@ import os
 import re
 from dataclasses import dataclass, field
 from fractions import Fraction
+from typing import Union
 from xml.parsers import expat
 
 from formats import MOST_BASIS_BYTES, MOST_BASIS_ROWS, MOST_POINTS, Row, Wrong, day_of, number_of, rows_in
@@ -45,8 +46,11 @@ class Element:
     is_plain: bool = True
     children: list[Element] = field(default_factory=list)
 
+    def those(self, name: str) -> list[Element]:
+        return [child for child in self.children if child.name == name]
+
     def first(self, name: str) -> Element | None:
-        return next((child for child in self.children if child.name == name), None)
+        return next(iter(self.those(name)), None)
 
 
 @dataclass(frozen=True)
@@ -60,6 +64,39 @@ class Table:
     def last(self) -> int:
         return self.first + len(self.rates) - 1
 
+    def holds(self, age: int) -> bool:
+        return self.first <= age <= self.last
+
+    def along(self, issue_age: int) -> Table:
+        """The rates of a life that was insured at this age, by the age that it attains: the same for each issue age."""
+        return self
+
+
+@dataclass(frozen=True)
+class SelectTable:
+    """For each issue age from the first on the rates by duration, and behind these the ultimate rates by age."""
+
+    first: int
+    periods: tuple[tuple[Fraction, ...], ...]
+    ultimate: Table
+
+    @property
+    def last(self) -> int:
+        return self.first + len(self.periods) - 1
+
+    def along(self, issue_age: int) -> Table | None:
+        """The rates of a life that was insured at this age, by the age that it attains; below the first issue age none."""
+        if issue_age < self.first:
+            return None
+        if issue_age > self.last:
+            return self.ultimate
+        period = self.periods[issue_age - self.first]
+        left = max(issue_age + len(period) - self.ultimate.first, 0)
+        return Table(issue_age, period + self.ultimate.rates[left:])
+
+
+AnyTable = Union[Table, SelectTable]
+
 
 @dataclass(frozen=True)
 class BasisRow:
@@ -67,7 +104,7 @@ class BasisRow:
 
     day: datetime.date
     name: str
-    table: Table
+    table: AnyTable
     points: int
 
     @property
@@ -159,36 +196,128 @@ def factor_of(table: Element) -> Element | None:
     return data.first("ScalingFactor") if data else None
 
 
-def is_scaled(factor: Element | None) -> bool:
-    if factor is None or (factor.is_plain and not factor.text.strip(WHITE)):
-        return False
-    return not factor.is_plain or rate_of(factor.text.strip(WHITE)) not in (0, 1)
+def is_blank(element: Element) -> bool:
+    return element.is_plain and not element.text.strip(WHITE)
 
 
-def table_of(root: Element, name: str) -> Table:
+def demand_unscaled(table: Element, name: str) -> None:
+    factor = factor_of(table)
+    if factor is None or is_blank(factor):
+        return
+    if not factor.is_plain or rate_of(factor.text.strip(WHITE)) not in (0, 1):
+        raise BadBasis(name, factor.at, "scaled")
+
+
+def label_of(element: Element) -> int | None:
+    """The whole number of one to three digits that an element is labelled with."""
+    label = element.attributes.get("t", "")
+    return int(label) if re.fullmatch("[0-9]{1,3}", label) else None
+
+
+def next_age(element: Element, ages: list[int], name: str) -> int:
+    """The age of an element, which is one more than the last of those before it."""
+    age = label_of(element)
+    if age is None or age > MOST_AGE:
+        raise BadBasis(name, element.at, "badage")
+    if ages and age != ages[-1] + 1:
+        raise BadBasis(name, element.at, "agegap")
+    return age
+
+
+def rate_in(row: Element, name: str) -> Fraction:
+    rate = rate_of(row.text.strip(WHITE)) if row.is_plain else None
+    if rate is None:
+        raise BadBasis(name, row.at, "badrate")
+    return rate
+
+
+def table_by_age(rows: list[Element], name: str) -> Table:
+    """The table of one or more rows with their ages."""
+    ages: list[int] = []
+    rates = []
+    for row in rows:
+        ages.append(next_age(row, ages, name))
+        rates.append(rate_in(row, name))
+    return Table(ages[0], tuple(rates))
+
+
+def table_of(root: Element, name: str) -> AnyTable:
     """The table of a document, or the first check that applies, as a fault of the file of this name."""
     path, is_whole = path_of(root)
     if not is_whole:
         raise BadBasis(name, path[-1].at, "notable")
-    axis = path[-1]
-    durations = axis.first("Axis")
-    if durations:
-        raise BadBasis(name, durations.at, "select")
-    factor = factor_of(path[1])
-    if factor and is_scaled(factor):
-        raise BadBasis(name, factor.at, "scaled")
-    first, rates = 0, []
-    for row in (child for child in axis.children if child.name == "Y"):
-        age, rate = row.attributes.get("t", ""), rate_of(row.text.strip(WHITE)) if row.is_plain else None
-        if not re.fullmatch("[0-9]{1,3}", age) or int(age) > MOST_AGE:
-            raise BadBasis(name, row.at, "badage")
-        first = first if rates else int(age)
-        if int(age) != first + len(rates):
-            raise BadBasis(name, row.at, "agegap")
-        if rate is None:
-            raise BadBasis(name, row.at, "badrate")
-        rates.append(rate)
-    return Table(first, tuple(rates))
+    if is_select(path):
+        return select_table_of(path, name)
+    demand_unscaled(path[1], name)
+    return table_by_age(path[-1].those("Y"), name)
+
+
+# --- a select and ultimate table ---
+
+def is_select(path: list[Element]) -> bool:
+    return path[-1].first("Axis") is not None
+
+
+def issue_axes_of(path: list[Element]) -> list[Element]:
+    """The axes of the issue ages: where the first axis has a label it is one of them, else they lie in it."""
+    values, axis = path[2:]
+    return (values if "t" in axis.attributes else axis).those("Axis")
+
+
+def rows_by_duration(axis: Element) -> list[Element]:
+    """The rows in the axis of an issue age, or where it has none, in the first axis in it."""
+    inner = axis if axis.first("Y") else axis.first("Axis")
+    return inner.those("Y") if inner else []
+
+
+def durations_of(axis: Element) -> list[Element]:
+    """The rows of an issue age, without the blank ones behind the last that isn't blank."""
+    rows = rows_by_duration(axis)
+    while rows and is_blank(rows[-1]):
+        rows.pop()
+    return rows
+
+
+def period_of(axis: Element, age: int, name: str) -> tuple[Fraction, ...]:
+    """The rates of an issue age by duration: one or more, the first of duration 0 or 1."""
+    rows = durations_of(axis)
+    if not rows:
+        raise BadBasis(name, axis.at, "badduration")
+    due, rates = (0, 1), []
+    for row in rows:
+        duration = label_of(row)
+        if duration not in due or age + len(rates) > MOST_AGE:
+            raise BadBasis(name, row.at, "badduration")
+        rates.append(rate_in(row, name))
+        due = (duration + 1,)
+    return tuple(rates)
+
+
+def ultimate_rows_of(root: Element) -> list[Element]:
+    """The rows of the ultimate rates, as far as they are there."""
+    places = root.those("Table")[1:]
+    for name in ("Values", "Axis"):
+        places = places[0].those(name) if places else []
+    return places[0].those("Y") if places else []
+
+
+def select_table_of(path: list[Element], name: str) -> SelectTable:
+    root, table, *_ = path
+    for part in root.those("Table")[:2]:
+        demand_unscaled(part, name)
+    axes, ages, periods = issue_axes_of(path), [], []
+    for axis in axes:
+        ages.append(next_age(axis, ages, name))
+        periods.append(period_of(axis, ages[-1], name))
+    rows = ultimate_rows_of(root)
+    if not rows:
+        raise BadBasis(name, table.at, "noultimate")
+    ultimate = table_by_age(rows, name)
+    for axis, age, period in zip(axes, ages, periods):
+        # ultimate rates that begin so late go on behind the period, too
+        if ultimate.first > age + len(period):
+            raise BadBasis(name, axis.at, "ultimategap")
+    return SelectTable(ages[0], tuple(periods), ultimate)
 
 
 # --- a basis ---
@@ -236,14 +365,14 @@ def read_basis(path: str) -> list[BasisRow]:
     """The rows of a basis file with their tables, which lie in its folder; or the first bad file."""
     folder, name = os.path.split(path)
     rows = basis_rows(file_in(folder, name, 0), name)
-    tables: dict[str, Table] = {}
+    tables: dict[str, AnyTable] = {}
     for place, (_, table, _) in enumerate(rows, 1):
         if table not in tables:
             tables[table] = read_table(file_in(folder, table, place), table)
     return [BasisRow(day, table, tables[table], points) for day, table, points in rows]
 
 
-def read_table(data: bytes, name: str) -> Table:
+def read_table(data: bytes, name: str) -> AnyTable:
     try:
         return table_of(root_of(data), name)
     except NotXml as wrong:

@@ -109,6 +109,27 @@ printf '0,value,2021-01-01,1,1\nrow,7001,inforce,0,pasttable\ntotal,0.00,0.00,1\
 "$life" value 2021-01-01 </dev/null >out
 judge $? 0 wanted
 
+# all issue ages, each with a rate for each age up to 130 and 131 durations in all; then a rate that is one too many, as many
+# bytes as there may be, and one byte more
+begin_with_basis "131 issue ages"
+cp "$work/one" journal.life
+python3 "$root/.ci/tools/made_table.py" 0 130 131 0 130 >q.xml
+"$life" value 2021-01-01 </dev/null >widest
+python3 "$tools/check_values.py" journal.life basis.csv widest >out || complain "$(cat out)"
+grep -q '^row,7001,inforce,1,[0-9]' widest || complain "no value by 131 issue ages: $(cat widest)"
+cp q.xml right.xml
+echo "badbasis,q.xml,$(grep -bo '<Y t="2"/>' q.xml | cut -d: -f1),badduration" >wanted
+sed 's#<Y t="2"/>#<Y t="2">1</Y>#' right.xml >q.xml
+"$life" value 2021-01-01 </dev/null >out
+judge $? 4 wanted
+{ cat right.xml; head -c $((4194304 - $(wc -c <right.xml))) /dev/zero | tr '\0' '\n'; } >q.xml
+"$life" value 2021-01-01 </dev/null >out
+judge $? 0 widest
+echo >>q.xml
+echo badbasis,q.xml,1,toolong >wanted
+"$life" value 2021-01-01 </dev/null >out
+judge $? 4 wanted
+
 name="changed bytes"
 wait "$bytes" || { complain "a case failed"; kept=yes; }
 cat "$work/bytes"

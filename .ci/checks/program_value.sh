@@ -57,6 +57,64 @@ for premium in 17.14 17.15 17.16; do echo "1,issue,${premium#*.},2020-01-01,endo
 [ "$(sed -n 's/^row,\(..\),.*,/\1 /p' block | tr '\n' ' ')" = "14 short 15 close 16 enough " ] || complain "$(cat block)"
 python3 "$tools/check_values.py" journal.life basis.csv block >out || complain "$(cat out)"
 
+# a policy by the rates of its issue age, its cap by those of the next one: by hand (docs/VALUATION.md), from each layout,
+# and with a blank row behind the durations of each issue age
+begin "select tables by hand"
+echo "$policy" | "$life" run >out
+echo 1900-01-01,s.xml,0 >basis.csv
+for layout in select select-inner select-outer blank; do
+    if [ $layout = blank ]; then
+        sed 's#</Y></Axis></Axis>#</Y><Y t="3"/></Axis></Axis>#g' "$examples/select.xml" >s.xml
+    else
+        cp "$examples/$layout.xml" s.xml
+    fi
+    for line in 2020-12-31,0,0.00,0.00 2021-01-01,1,129.20,129.21 2022-01-01,2,541.68,541.69 2023-01-01,3,1000.00,1000.00; do
+        row=${line#*,}
+        printf '0,value,%s,1,1\nrow,7001,inforce,%s\ntotal,%s,0\n' "${line%%,*}" "$row" "${row#*,}" >wanted
+        "$life" value "${line%%,*}" </dev/null >out
+        judge $? 0 wanted
+    done
+done
+[ "$(grep -o '<Y t="3"/>' s.xml | wc -l)" = 2 ] || complain "there are no blank rows"
+printf '0,value,2021-01-01,1,1,mean\nrow,7001,inforce,1,564.60,564.61\ntotal,564.60,564.61,0\n' >wanted
+"$life" value 2021-01-01 --mean </dev/null >out
+judge $? 0 wanted
+
+# Ages around the first and the last select age and the ends of the ultimate rates, by each plan, from short covers to those
+# that go on behind the select period; of tables whose ultimate rates begin with the issue ages or behind them, and end
+# behind the select periods or before them.
+grid_of_ages() {
+    n=0
+    for age in $1; do
+        n=$((n + 1))
+        echo "1,issue,$n,2000-01-01,whole,$age,0,1000.00,20.00"
+        for years in 2 10 26; do
+            [ $((age + years)) -le 131 ] || continue
+            for plan in term endowment limited; do
+                n=$((n + 1))
+                echo "1,issue,$n,2000-01-01,$plan,$age,$years,1000.00,20.00"
+            done
+        done
+    done
+}
+for made in "18 70 25 18 120" "40 44 6 46 70" "60 70 25 18 82" "0 2 3 3 9"; do
+    begin "values by a select table of $made"
+    # shellcheck disable=SC2086
+    python3 "$root/.ci/tools/made_table.py" $made >s.xml || complain "no table was made"
+    echo 1900-01-01,s.xml,325 >basis.csv
+    # shellcheck disable=SC2086
+    set -- $made
+    grid_of_ages "$(seq -s ' ' $(($1 > 0 ? $1 - 1 : 0)) "$1") $(($2 - 1)) $2 $(($2 + 1)) $(($2 + 2)) $4 $(($5 - 2)) $(($5 - 1)) $5" >script
+    "$life" run <script >out || complain "the run ended with $?"
+    for asked in 2001-01-01 "2003-06-01 --mean" "2025-01-01 --deficiency" 2030-01-01; do
+        # shellcheck disable=SC2086
+        "$life" value $asked </dev/null >block || complain "value $asked ended with $?"
+        python3 "$tools/check_values.py" journal.life basis.csv block >out 2>&1 || complain "on $asked: $(cat out)"
+        sed -n 's/^row,.*,\([a-z]*table\)$/\1/p' block >>"$work/words"
+    done
+done
+for word in belowtable pasttable; do grep -q $word "$work/words" || complain "no row has $word"; done
+
 begin_with_examples "short premium"
 "$life" run <"$examples/short-premium.csv" >out
 grep -q refused out && complain "a row of the example is refused"
@@ -126,7 +184,12 @@ begin_with_basis "bad tables"
 printf '<XTbML><Table><Values><Axis><Y t="0">0.1</Y><Y t="1">0.' >q.xml
 ends_before_the_journal 4 "badbasis,q.xml,55,notdocument" value 2021-01-01
 printf '<XTbML><Table><Values><Axis><Axis t="0"/></Axis></Values></Table></XTbML>' >q.xml
-ends_before_the_journal 4 "badbasis,q.xml,28,select" value 2021-01-01
+ends_before_the_journal 4 "badbasis,q.xml,28,badduration" value 2021-01-01
+# an example without its second table; without a rate for the age 2, which is right behind the period of the issue age 0
+sed 's#<Table><Values><Axis><Y.*</Table>##' "$examples/select.xml" >q.xml
+ends_before_the_journal 4 "badbasis,q.xml,7,noultimate" value 2021-01-01
+sed 's#<Table><Values><Axis><Y.*<Y t="3">#<Table><Values><Axis><Y t="3">#' "$examples/select.xml" >q.xml
+ends_before_the_journal 4 "badbasis,q.xml,22,ultimategap" value 2021-01-01
 rm q.xml
 ends_before_the_journal 4 "badbasis,q.xml,1,absent" value 2021-01-01
 mkdir q.xml

@@ -119,6 +119,20 @@ refuses "has a value" check_values journal.life basis.csv wrong
 sed 's/^\(total,.*\),0$/\1,1/' block >wrong
 refuses "isn't total" check_values journal.life basis.csv wrong
 cp plain.xml g.xml
+# by a select table; its bounds aren't those by its ultimate rates, nor those by the select rates of the age above
+mkdir select && cp journal.life select && cp "$examples"/select*.xml select
+(
+    cd select || exit 1
+    echo 1900-01-01,select.xml,0 >basis.csv
+    echo "1,issue,99,2020-01-01,endowment,0,3,1000.00,400.00" | "$life" run >transcript
+    "$life" value 2021-01-01 </dev/null >../by-select
+)
+grep -q '^row,99,inforce,1,129.20,129.21$' by-select || complain "another value by a select table: $(cat by-select)"
+says check_values select/journal.life select/basis.csv by-select
+for bounds in 105.63,105.64 127.22,127.23 58.37,58.38; do
+    sed "s/^\(row,99,.*,\)129.20,129.21/\1$bounds/" by-select >wrong
+    refuses "doesn't enclose" check_values select/journal.life select/basis.csv wrong
+done
 # by the other measures, each of which another's first line doesn't fit
 "$life" value 2024-03-12 </dev/null >block
 for measure in mean deficiency; do
@@ -225,8 +239,21 @@ printf '<XTbML><Table><Values><Axis>\n  <Y t="0">0.1</Y>\n  <Y t="1">0.000421338
 explains "^parser: "
 printf '<XTbML><Table><Values><Axis>\n  <Y t="0">0.1</Y>\n  <Y t="1">0.0004213387291</Y></Axis></Values></Table></XTbML>' >t.xml
 explains "^line 3 of t.xml, byte 3 "
-printf '<XTbML><Table><Values><Axis>\n  <Axis t="0"/></Axis></Values></Table></XTbML>' >t.xml
-explains "^line 2 of t.xml, byte 3 "
+# the faults of a select table
+select_of() {
+    printf '<XTbML>\n<Table><Values><Axis><Axis t="1">\n  <Y t="%s">0.1</Y></Axis></Axis></Values></Table>%s</XTbML>' "$1" "$2" >t.xml
+}
+select_of 2 ''
+explains "^wanted: rates of each issue age by duration"
+explains "^line 3 of t.xml, byte 3 "
+select_of 1 ''
+explains "^wanted: a second Table behind this one"
+explains "^line 2 of t.xml, byte 1 "
+select_of 1 '<Table><Values><Axis><Y t="3">0.1</Y></Axis></Values></Table>'
+explains "^wanted: an ultimate rate for the age right behind"
+explains "^line 2 of t.xml, byte 22 "
+explains "^cure:   let the ultimate rates begin"
+refuses "the first fault of t.xml is badbasis,t.xml,29,ultimategap" explain badbasis,t.xml,8,noultimate
 printf '<html><body>not found</body></html>' >t.xml
 explains "^wanted: the path XTbML"
 printf '1900-01-01,q.xml,0\n\n1900-01-01,q.xml,0\n' >basis.csv
@@ -240,6 +267,20 @@ refuses "is no word of a bad basis" explain badbasis,q.xml,28,strange
 sed 's#</XTbML>#<Table><Values><Axis><Y t="0">1</Y></Axis></Values></Table></XTbML>#' q.xml >two.xml
 says explain two.xml
 grep -q "ages 0 to 4" out && grep -q "1 further Table" out || complain "explain: $(cat out)"
+for layout in select select-inner select-outer; do
+    says explain "$examples/$layout.xml"
+    grep -q "issue ages 0 to 1, 2 durations each" out && grep -q "ultimate rates of the ages 0 to 4" out &&
+        grep -q "^passed over: nothing$" out || complain "explain: $(cat out)"
+done
+# rates of an issue age that stand directly in a labelled axis are taken by age, and what is behind them is passed over
+sed 's#<Axis><Axis t="0">#<Axis t="0">#; s#</Axis></Axis></Values>#</Axis></Values>#' "$examples/select-inner.xml" >labelled.xml
+says explain labelled.xml
+grep -q "rates of the ages 1 to 2" out && grep -q '^  the first Axis has t="0"' out && grep -q "1 further Table.*1 further Values or Axis" out ||
+    complain "explain: $(cat out)"
+# of two select ages one has a duration less, and behind the ultimate table stands a third
+sed 's#<Y t="2">0.2</Y>#<Y t="2"/>#; s#</XTbML>#<Table/></XTbML>#' "$examples/select.xml" >blank.xml
+says explain blank.xml
+grep -q "1 to 2 durations each" out && grep -q "1 further Table: only the first two.*1 Y without a rate" out || complain "explain: $(cat out)"
 
 begin "the rest of a killed run"
 for n in 1 2 3 4 5 6 7 8; do

@@ -3,7 +3,7 @@ program has to answer it as docs/FORMATS.md says.
 
 usage: python3 changed_bytes.py PROGRAM FOLDER SECONDS PART PARTS [SEED]
 
-The files are a journal of forty records of all kinds, its script, a basis file and a table. The cases are taken in an
+The files are a journal of forty records of all kinds, its script, a basis file, a table and a select table. The cases are taken in an
 order drawn by the seed, one part of so many, until the time is over and there were two hundred; where SECONDS is `all`,
 until there are none left.
 """
@@ -24,6 +24,10 @@ LEAST = 200
 TABLE = (b'\xef\xbb\xbf <?xml version="1.0"?>\n<!-- Q --><XTbML><Table><MetaData><ScalingFactor> 1.0 </ScalingFactor></MetaData>'
          b"<Values><Axis id='a'>\n<Y t=\"0\">0.1</Y><Y t='01' >2E-1</Y><Y t=\"2\">.25<!-- -->"
          b'</Y></Axis></Values></Table><Table/></XTbML>\n').replace(b"<!-- --></Y>", b"</Y><!-- -->")
+# issue ages 0 and 1, each with rates of its own layout and number; blank rows, an axis and a table that are passed over
+SELECT = (b'<XTbML><Table><MetaData><ScalingFactor>0</ScalingFactor></MetaData><Values>\n<Axis t="0"><Axis><Y t="1">0.05</Y>'
+          b'<Y t="02">.1</Y><Y t="x"> </Y><Y/></Axis></Axis><Axis t=\'1\'><Y t="0">1E-1</Y><Axis/></Axis></Values></Table><!-- -->\n'
+          b'<Table><Values><Axis><Y t="2">0.25</Y><Y t="3">0.5</Y></Axis></Values></Table><Table/></XTbML>')
 # policies in force that the tables fit, so that a valuation rests on their rates
 VALUED = b"""1,issue,1,2004-02-29,whole,0,0,1000.00,400.00
 1,issue,2,2004-03-01,endowment,0,2,1000.00,400.00
@@ -31,7 +35,7 @@ VALUED = b"""1,issue,1,2004-02-29,whole,0,0,1000.00,400.00
 1,issue,4,2016-02-29,limited,100,5,100000000.00,100000000.00
 1,issue,5,2019-06-01,term,0,3,2000.00,1.00
 """
-BASIS = b'2000-01-01,q.xml,0\r\n\n"2010-01-01",m.xml,300\n2015-02-28,g.xml,2000'
+BASIS = b'2000-01-01,q.xml,0\r\n\n"2010-01-01",m.xml,300\n2015-02-28,g.xml,2000\n2018-01-01,select.xml,300'
 
 
 def script_of_forty():
@@ -52,7 +56,7 @@ def book_of_values():
 def files(book):
     """Each file by its kind."""
     return {"journal": file_of(book.commands), "script": script_of_forty() + b"2,trim\n3,value,2021-01-01,7,64\n", "basis": BASIS,
-            "table": TABLE}
+            "table": TABLE, "select": SELECT}
 
 
 def changes(byte):

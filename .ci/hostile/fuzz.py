@@ -12,11 +12,11 @@ import random
 import sys
 import time
 
-from changed_bytes import BASIS, TABLE, book_of_forty, book_of_values, script_of_forty
+from changed_bytes import BASIS, SELECT, TABLE, book_of_forty, book_of_values, script_of_forty
 from formats import Wrong
 from rules import Book
 from scripts import MIDDLE, make_script
-from trial import Trial, file_of, judge_basis, judge_journal, judge_posting, judge_script, judge_table, judge_words
+from trial import ROOT, Trial, file_of, judge_basis, judge_journal, judge_posting, judge_script, judge_table, judge_words
 
 LEAST = 200
 MOST = 12_000
@@ -31,7 +31,9 @@ TOKENS = {
     "table": [b"<", b">", b"/>", b"</", b"<!--", b"-->", b"<!-->", b"--", b'"', b"'", b"&", b"&amp;", b"&#0;", b"<?xml version='1.0'?>", b"<?xml ?>",
               b"<!DOCTYPE x [<!ENTITY a 'b'>]>", b"<![CDATA[x]]>", b"<Axis>", b"</Axis>", b"<Y t='3'>1</Y>", b"<Y t='131'>0</Y>", b"<Y/>",
               b"<Table>", b"</Table>", b"\xef\xbb\xbf", b"1E-999", b"1e999", b"0." + b"0" * 500 + b"1", b"9" * 300, b"<x>" * 30, b"</x>" * 30,
-              b" ", b"\t", b"\0", b"\xff", b"t='0'", b"=", b":", b"?>", b"<ScalingFactor>2</ScalingFactor>"],
+              b" ", b"\t", b"\0", b"\xff", b"t='0'", b"=", b":", b"?>", b"<ScalingFactor>2</ScalingFactor>",
+              b"<Axis t='0'>", b"<Axis t='1'>", b"<Axis t='2'>", b"<Axis><Y t='1'>.1</Y></Axis>", b"<Y t='2'>.5</Y>", b"<Y t='0'/>", b"</Axis></Axis>",
+              b"</Axis></Values></Table>", b"<Table><Values><Axis>"],
     "journal": [bytes(65), b"\1" * 65, b"\1", b"\0", b"\xff" * 8, b"LIFEJRNL", b"\2"],
 }
 WORDS = [b"run", b"value", b"state", b"generate", b"load", b"help", b"--help", b"-h", b"--", b"-", b"", b"--at", b"--workers", b"--basis",
@@ -102,8 +104,12 @@ def drawn_words(draw):
 
 
 def tables(root):
-    with open(os.path.join(root, "g.xml"), "rb") as file:
-        return [TABLE, TABLE, MIDDLE.encode(), file.read()]
+    """Tables by age, and select ones in each layout."""
+    found = [TABLE, TABLE, SELECT, SELECT, MIDDLE.encode()]
+    for name in ("g.xml", "select.xml", "select-inner.xml"):
+        with open(os.path.join(root, "examples", name), "rb") as file:
+            found.append(file.read())
+    return found
 
 
 def judge(trials, book, draw, kind):
@@ -117,7 +123,7 @@ def judge(trials, book, draw, kind):
         return draw.choice([judge_journal, judge_posting])(trial, drawn_journal(draw, book))
     if kind == "basis":
         return judge_basis(trial, spoilt(draw, BASIS, TOKENS["basis"], 3), book_of_values())
-    return judge_table(trial, spoilt(draw, draw.choice(tables(trial.folder)), TOKENS["table"], 4), book_of_values())
+    return judge_table(trial, spoilt(draw, draw.choice(tables(ROOT)), TOKENS["table"], 4), book_of_values())
 
 
 def main():

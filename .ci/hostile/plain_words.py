@@ -104,7 +104,7 @@ def is_value(values, asked, count):
 
     def fits(found):
         if name != "basis.csv":
-            return found[0] == 4 and found[1] == f"badbasis,{name},0,absent\n" or name in ("q.xml", "g.xml", "m.xml")
+            return found[0] == 4 and found[1] == f"badbasis,{name},0,absent\n" or name in ("q.xml", "g.xml", "m.xml", "select.xml")
         if position > count:
             return found == (10, f"refused,ahead,{count}\n")
         rows = printed_rows(found[1])

@@ -39,6 +39,8 @@ TABLES = {
     "table of a long name": (b"a", b"<XTbML><a", b"/></XTbML>"), "table of rows of one age": (b"<Y t='0'>1</Y>", *AXIS),
     "table of digits in a rate": (b"0", AXIS[0] + b'<Y t="0">.1', b"</Y>" + AXIS[1]),
     "table 64 deep": (b"<x>" * 60 + b"</x>" * 60, *AXIS),
+    "table of issue ages": (b"<Axis t='0'/>", *AXIS), "table of blank durations": (b"<Y/>", AXIS[0] + b'<Axis t="0">', b"</Axis>" + AXIS[1]),
+    "table of durations": (b'<Y t="1">1</Y>', AXIS[0] + b'<Axis t="0">', b"</Axis>" + AXIS[1]),
 }
 
 

@@ -17,14 +17,15 @@ from reserves import worth
 from rules import EARLY, GRACE, REINSTATEMENT_ANNIVERSARIES, Book, Refusal, anniversary, end_of, missed_by
 from script_lines import lanes_of, read_script
 
-BASIS = "2000-01-01,q.xml,0\n2010-01-01,m.xml,300\n2015-01-01,g.xml,400\n"
+BASIS = "2000-01-01,q.xml,0\n2010-01-01,m.xml,300\n2015-01-01,g.xml,400\n2018-01-01,select.xml,250\n"
 # a table of the ages 20 to 25, where one is likelier to die than not at 22
 MIDDLE = ('<XTbML><Table><Values><Axis><Y t="20">0.01</Y><Y t="21">0.02</Y><Y t="22">0.6</Y><Y t="23">0.1</Y>'
           '<Y t="24">0.25</Y><Y t="25">1</Y></Axis></Values></Table></XTbML>\n')
 DAY = datetime.timedelta(1)
 # few ages and years for each table, so that few exact values have to be worked out
 YOUNG = [(datetime.date(1999, 6, 1), (0, 1), (2,)), (datetime.date(2004, 2, 29), (0, 1, 2, 3, 4), (2, 3, 4, 5)),
-         (datetime.date(2012, 2, 29), (19, 20, 21, 22, 24), (2, 3, 4)), (datetime.date(2016, 2, 29), (85, 100, 110), (2, 5, 9))]
+         (datetime.date(2012, 2, 29), (19, 20, 21, 22, 24), (2, 3, 4)), (datetime.date(2016, 2, 29), (85, 100, 110), (2, 5, 9)),
+         (datetime.date(2018, 2, 28), (0, 1, 2, 3), (2, 3, 4))]
 
 
 def make_issue(draw, number):
@@ -207,7 +208,7 @@ class Office:
 def folder_for(path, root):
     """Puts the basis and its tables into a folder."""
     os.makedirs(path)
-    for name in ("q.xml", "g.xml"):
+    for name in ("q.xml", "g.xml", "select.xml"):
         with open(os.path.join(root, "examples", name), encoding="ascii") as file:
             text = file.read()
         with open(os.path.join(path, name), "w", encoding="ascii") as file:

@@ -18,7 +18,7 @@ from scripts import make_book, make_script
 from script_lines import Fault, read_script
 from tables import NotXml, read_basis
 
-JOURNALS, SCRIPTS, TABLES = 150, 150, 200
+JOURNALS, SCRIPTS, TABLES, SELECT_TABLES = 150, 150, 200, 250
 
 
 class Program:
@@ -121,28 +121,63 @@ def judge_script(program, data):
 
 # --- tables ---
 
+RATES = ["0.1", "1", "1.", ".5", "9E-05", "0.000000001", "0", "1e0"]
 WRONG_RATES = ["1.1", "-1", "", "0,1", "0.0000000001", "x", "1E-999", "0.1<!-- -->", "<b/>0.1", "&lt;"]
 STRANGE_ROWS = ["<Y>0.1</Y>", '<Y t="131">0</Y>', '<Y t="7">0</Y>', '<Y t="x">0</Y>', "<Z/>", '<Axis t="1"/>',
                 '<Y t="00">0.1</Y>', '<Y u="1" t="0" >0.1</Y>', "<Y t='0'>\n 0.1\t</Y>", '<Y t="0"/>']
+STRANGE_DURATIONS = ["<Y>0.1</Y>", '<Y t="x">0.1</Y>', '<Y t="2">0.1</Y>', '<Y t="0"/>', '<Y t="001">0.1</Y>', '<Y t="1">2</Y>', "<Z/>",
+                     '<Y t="1"><!-- -->0.1</Y>', '<Axis t="1"/>', '<Y t="4">0.1</Y>']
 FACTORS = [None, None, "", "0", " 1.0 ", "1000", "1<!-- -->", " "]
 DECLARATIONS = ["", '<?xml version="1.0"?>', '<?xml version="1.0" encoding="utf-8"?>\n']
 
 
+def drawn_rows(draw, first, wrong):
+    """A few rows from a first age or duration on, of which one is wrong or strange with this chance."""
+    rates = [draw.choice(RATES) for _ in range(draw.randrange(1, 4))]
+    if draw.random() < wrong:
+        rates[draw.randrange(len(rates))] = draw.choice(WRONG_RATES)
+    return [f'<Y t="{first + place}">{rate}</Y>' for place, rate in enumerate(rates)]
+
+
+def with_factor(draw, factors, axes):
+    factor = draw.choice(factors)
+    scaling = "" if factor is None else f"<ScalingFactor>{factor}</ScalingFactor>"
+    return f"<Table><MetaData>{scaling}</MetaData><Values>{axes}</Values></Table>"
+
+
 def drawn_table(draw):
     """A table's file with something in it that is passed over, or that isn't right."""
-    first = draw.choice([0, 0, 5, 128])
-    rates = [draw.choice(["0.1", "1", "1.", ".5", "9E-05", "0.000000001", "0", "1e0"]) for _ in range(draw.randrange(1, 4))]
-    if draw.random() < 0.3:
-        rates[draw.randrange(len(rates))] = draw.choice(WRONG_RATES)
-    rows = [f'<Y t="{first + place}">{rate}</Y>' for place, rate in enumerate(rates)]
+    rows = drawn_rows(draw, draw.choice([0, 0, 5, 128]), 0.3)
     if draw.random() < 0.3:
         rows[draw.randrange(len(rows))] = draw.choice(STRANGE_ROWS)
-    factor = draw.choice(FACTORS)
-    scaling = "" if factor is None else f"<ScalingFactor>{factor}</ScalingFactor>"
-    table = f"<Table><MetaData>{scaling}</MetaData><Values><Axis>{''.join(rows)}</Axis></Values></Table>"
+    table = with_factor(draw, FACTORS, f"<Axis>{''.join(rows)}</Axis>")
     head = [draw.choice(["", "", "\ufeff"]), draw.choice(DECLARATIONS), draw.choice(["", "<!-- \u00e9\u00df\u2192 -->", " \n"])]
     around = [draw.choice(["", "<Table/>", "<Other>&amp;</Other>"]), table, draw.choice(["", table, "<Y t='1'>9</Y>"])]
     return broken(draw, "".join([*head, "<XTbML>", *around, "</XTbML>", draw.choice(["", "\n", "<!-- -->"])]).encode())
+
+
+def drawn_issue_age(draw, age, is_inner):
+    """The axis of an issue age with its rates in it, or in an axis in it."""
+    rows = drawn_rows(draw, draw.choice([0, 1, 1]), 0.05)
+    if draw.random() < 0.1:
+        rows[draw.randrange(len(rows))] = draw.choice(STRANGE_DURATIONS)
+    text = "".join(rows) + draw.choice(["", "", "<Y/>", '<Y t="9"> </Y>\n'])
+    label = draw.choice([age + 1, "x"]) if draw.random() < 0.04 else age
+    return f'<Axis t="{label}">' + (f"<Axis>{text}</Axis>" if is_inner else text) + "</Axis>"
+
+
+def drawn_select_table(draw):
+    """A select table's file in one of the layouts, most with an ultimate table that begins at or near its ages."""
+    first, is_inner = draw.choice([0, 0, 5, 128]), draw.random() < 0.6
+    axes = "".join(drawn_issue_age(draw, first + place, is_inner) for place in range(draw.randrange(1, 4)))
+    if draw.random() < 0.6 or not is_inner:
+        axes = f"<Axis>{axes}</Axis>"
+    start = min(first + draw.choice([0, 1, 2, 3]), 130)
+    ultimate = with_factor(draw, [None] * 9 + FACTORS[-2:], f"<Axis>{''.join(drawn_rows(draw, start, 0.05))}</Axis>")
+    select = with_factor(draw, [None] * 9 + FACTORS[-2:], axes)
+    behind = draw.choice([ultimate] * 8 + ["", "<Table/>" + ultimate, "<Other/>" + ultimate + "<Table/>"])
+    data = f"<XTbML>{select}{behind}</XTbML>".encode()
+    return broken(draw, data) if draw.random() < 0.2 else data
 
 
 def broken(draw, data):
@@ -179,12 +214,13 @@ def main():
     program = Program(os.path.abspath(sys.argv[1]), sys.argv[3])
     program.write("basis.csv", b"1900-01-01,t.xml,0\n")
     found = [judge_table(program, drawn_table(draw)) for _ in range(TABLES)]
+    found += [judge_table(program, drawn_select_table(draw)) for _ in range(SELECT_TABLES)]
     words = {word: found.count(word) for word in sorted(set(found))}
     program.write("t.xml", b'<XTbML><Table><Values><Axis><Y t="0">1</Y></Axis></Values></Table></XTbML>')
     scripts = sum(judge_script(program, drawn_script(draw)) for _ in range(SCRIPTS))
     journals = sum(judge_journal(program, drawn_journal(draw)) for _ in range(JOURNALS))
-    tried = f"{journals} of {JOURNALS} journals are refused, {scripts} of {SCRIPTS} scripts, and of {TABLES} tables {words}"
-    need(len(words) >= 8 and min(scripts, journals) > 50, f"too little was tried: {tried}")
+    tried = f"{journals} of {JOURNALS} journals are refused, {scripts} of {SCRIPTS} scripts, and of {len(found)} tables {words}"
+    need(len(words) >= 10 and min(scripts, journals) > 50, f"too little was tried: {tried}")
     print(f"tools: as by the program, {tried}")
 
 
