@@ -28,6 +28,8 @@ prints table,g.xml,unread tables 0 g.xml
 # the sums of a program in plain Rust (bench/plain_reserves.rs)
 begin "workload"
 prints reserves,1000,0,24895851521,24895852195 reserves 1 1000
+# and of one by exact fractions (bench/plain_projections.py)
+prints projections,1000,0,33280649834,33280649923 projections 1 1000 40
 
 begin "turns"
 prints turns,1,1000 turns 1 1000

@@ -41,7 +41,8 @@ begin_with_book() {
     [ "$(grep -c '^row,' alone)" -eq "$1" ] || complain "there aren't $1 rows"
 }
 
-# 8,192 policies for each worker are valued together, then the next; the thread that reads is one of the workers
+# A worker more is worth its thread for 8,192 policies. Of what is read 32,768 for each worker are valued together, or
+# 131,072 in all, then the next; the thread that reads is one of the workers.
 begin_with_book 16383
 has_threads 64 0
 begin_with_book 16384
@@ -49,10 +50,15 @@ has_threads 1 0
 has_threads 2 1
 has_threads 64 1
 begin_with_book 24577
+has_threads 2 1
+has_threads 64 2
+begin_with_book 65537
+has_threads 1 0
 has_threads 2 2
-has_threads 3 4
-has_threads 64 4
-begin_with_book 40000
+has_threads 3 2
+has_threads 64 7
+begin_with_book 131073
 has_threads 4 6
+has_threads 64 30
 
 end "each worker has a thread where there is work for it, and the text is the same"

@@ -1,21 +1,19 @@
 -- What a policy adds to a tally.
-use Rattle.std.proofs.Common.{◌≡◌, ℕ, zero, suc, ◌+◌, ◌-◌, ◌*◌, ◌<◌, ◌≤◌, inl, inr, refl, ap, ap₂, subst, sym, ◌∙◌, arith, List, length, drop, Bool, true, false, if◌then◌else◌, nat_eq, le_trans}
-use Rattle.std.proofs.lemmas.List.{get_or-drop}
+use Rattle.std.proofs.Common.{◌≡◌, ℕ, ◌+◌, ◌-◌, ◌*◌, ◌<◌, ◌≤◌, inl, inr, refl, ap, ap₂, subst, ◌∙◌, arith, List, length, Bool, true, false, if◌then◌else◌, nat_eq, le_trans}
 use Rattle.std.proofs.lemmas.Bool.Decides.{eqb_tells}
 use Rattle.policy_types.specs.declared.policy.Policy.{Policy}
 use Rattle.policy_types.specs.declared.policy.Status.{Status}
 use Rattle.policy_types.specs.declared.policy.Status.TheVariants.{InForce, Lapsed, Claimed, Matured, Expired, Settled, PaidUp}
-use Rattle.policy_types.specs.Valid.{IsAmount}
-use Rattle.rate_table.specs.Rates.{Rates, ONE, AreRates}
+use Rattle.rate_table.specs.Rates.{Rates, AreRates}
 use Rattle.rate_table.specs.declared.shape.Shape.{Shape}
 use Rattle.present_value.specs.Rounding.{UNIT, down, up}
-use Rattle.present_value.specs.Values.{pair_of, pair_at}
+use Rattle.present_value.specs.Values.{pair_at}
 use Rattle.present_value.specs.declared.pair.Pair.{Pair}
 use Rattle.cash_projection.specs.Survival.{alive_by, dying_by}
 use Rattle.cash_projection.specs.Prospects.{Prospect, IsSmall, due, premium_due, death_due, maturity_due}
 use Rattle.cash_projection.specs.Cash.{premium_by, death_by, maturity_by}
-use Rattle.cash_projection.specs.Policies.{nothing_ahead, prospect_of, charged, IsIssued}
-use Rattle.cash_projection.specs.inside.Paths.{rates_after, alive_pair, dying_pair, KnowsYears, IsPath}
+use Rattle.cash_projection.specs.Policies.{nothing_ahead, prospect_of, charged, IsOfIssue}
+use Rattle.cash_projection.specs.inside.Paths.{rates_after, alive_pair, dying_pair, IsSurvivalPath}
 use Rattle.cash_projection.specs.inside.Tallies.{Fits, HasAdded, HasGained, HasRisen, IsIdle, sum_at}
 use Rattle.cash_projection.specs.declared.column.Sums.{Sums}
 use Rattle.cash_projection.specs.declared.path.Path.{Path}
@@ -86,7 +84,7 @@ charged_most Expired premium = omega arith
 charged_most Settled premium = omega arith
 charged_most PaidUp premium = omega arith
 
-pub small_charge : (policy : Policy) → IsIssued policy → charged policy.status policy.premium ≤ 10000000000
+pub small_charge : (policy : Policy) → IsOfIssue policy → charged policy.status policy.premium ≤ 10000000000
 small_charge policy issued = le_trans (charged_most policy.status policy.premium) issued.premium_in.1
 
 pub nothing_small : (words : ℕ) → words ≤ 1 → IsSmall (nothing_ahead words)
@@ -99,7 +97,7 @@ nothing_small words few = record {
   words = few;
 }
 
-pub prospect_small : (policy : Policy) (table : Rates) (shape : Shape) (t : ℕ) → IsIssued policy → Fits table shape → AreRates table
+pub prospect_small : (policy : Policy) (table : Rates) (shape : Shape) (t : ℕ) → IsOfIssue policy → Fits table shape → AreRates table
     → IsSmall (prospect_of policy table shape t)
 prospect_small policy table shape t issued fits ages = record {
   premium = small_charge policy issued;
@@ -129,7 +127,7 @@ column_gained years part p old new from to cents pairs risen lo hi = record {
 
 -- along the path of the age, the facts that the code has of each column
 module _ (policy : Policy) (table : Rates) (shape : Shape) (t years : ℕ) (path : Path) (fits : Fits table shape) (year : t < shape.n)
-    (is : IsPath table (shape.age + t) path) where
+    (is : IsSurvivalPath table (shape.age + t) path) where
   alive_at : (j : ℕ) → t + j ≤ shape.n → pair_at path.alive j ≡ alive_pair (rates_after table (shape.age + t)) j
   alive_at j within = is.knows.alive j (omega (arith, is.whole, fits.last))
 
@@ -174,31 +172,30 @@ module _ (policy : Policy) (table : Rates) (shape : Shape) (t years : ℕ) (path
       (λ j below. rw (same cents j below, death_years j)
       (due_times 0 shape.n cents (t + j) _ _ (λ a b. ap (λ (p : Pair). p.hi) (dying_at j b))))
 
-  after_at : (j : ℕ) → j < shape.n - t → pair_at (drop 1 path.alive) j ≡ alive_pair (rates_after table (shape.age + t)) (j + 1)
-  after_at j below =
-      let place : 1 + j ≡ j + 1 = omega arith in
-      get_or-drop 1 path.alive j (pair_of 0 0) ∙ ap (λ k. pair_at path.alive k) place ∙ alive_at (j + 1) (omega arith)
+  module _ (ages : AreRates table) (after : List Pair) (ends : (j : ℕ) → j < 131 → pair_at after j ≡ pair_at path.alive (j + 1)) where
+    after_at : (j : ℕ) → j < shape.n - t → pair_at after j ≡ alive_pair (rates_after table (shape.age + t)) (j + 1)
+    after_at j below = ends j (omega (arith, fits.last, ages.ages)) ∙ alive_at (j + 1) (omega arith)
 
-  pub after_small : (to : ℕ) → to ≤ shape.n - t → (j : ℕ) → j < to → ((pair_at (drop 1 path.alive) j).lo ≤ UNIT) × ((pair_at (drop 1 path.alive) j).hi ≤ UNIT)
-  after_small to within j below =
-      let rates = rates_after table (shape.age + t) in
-      rw (after_at j (omega arith)) (alive_lo_most rates (j + 1), alive_hi_most rates (j + 1))
+    pub after_small : (to : ℕ) → to ≤ shape.n - t → (j : ℕ) → j < to → ((pair_at after j).lo ≤ UNIT) × ((pair_at after j).hi ≤ UNIT)
+    after_small to within j below =
+        let rates = rates_after table (shape.age + t) in
+        rw (after_at j (omega arith)) (alive_lo_most rates (j + 1), alive_hi_most rates (j + 1))
 
-  pub maturity_gained : (old new : List Sums) (first from to : ℕ) → first ≡ (if shape.matures then shape.n - t - 1 else shape.n - t)
-      → HasRisen from to policy.amount (drop 1 path.alive) old new
-      → ((cents j : ℕ) → j < years → due from to cents j ≡ due first (shape.n - t) cents j)
-      → HasGained years maturity_by (prospect_of policy table shape t) old new
-  maturity_gained old new first from to first_is risen same =
-      let cents = policy.amount in
-      let rates = rates_after table (shape.age + t) in
-      column_gained years maturity_by (prospect_of policy table shape t) old new from to cents (drop 1 path.alive) risen
-      (λ j below. rw (same cents j below)
-      (due_times first (shape.n - t) cents j _ _ (λ a b. ap (λ (p : Pair). p.lo) (after_at j b))
-      ∙ ap (λ d. d * alive_by down rates (j + 1)) (years_are j first first_is)))
-      (λ j below. rw (same cents j below)
-      (due_times first (shape.n - t) cents j _ _ (λ a b. ap (λ (p : Pair). p.hi) (after_at j b))
-      ∙ ap (λ d. d * alive_by up rates (j + 1)) (years_are j first first_is)))
-    where
-      years_are : (j first : ℕ) → first ≡ (if shape.matures then shape.n - t - 1 else shape.n - t)
-          → due first (shape.n - t) policy.amount j ≡ maturity_due (prospect_of policy table shape t) j
-      years_are j first first_is = ap (λ f. due f (shape.n - t) policy.amount j) first_is ∙ maturity_is shape.matures t shape.n policy.amount j year
+    pub maturity_gained : (old new : List Sums) (first from to : ℕ) → first ≡ (if shape.matures then shape.n - t - 1 else shape.n - t)
+        → HasRisen from to policy.amount after old new
+        → ((cents j : ℕ) → j < years → due from to cents j ≡ due first (shape.n - t) cents j)
+        → HasGained years maturity_by (prospect_of policy table shape t) old new
+    maturity_gained old new first from to first_is risen same =
+        let cents = policy.amount in
+        let rates = rates_after table (shape.age + t) in
+        column_gained years maturity_by (prospect_of policy table shape t) old new from to cents after risen
+        (λ j below. rw (same cents j below)
+        (due_times first (shape.n - t) cents j _ _ (λ a b. ap (λ (p : Pair). p.lo) (after_at j b))
+        ∙ ap (λ d. d * alive_by down rates (j + 1)) (years_are j first first_is)))
+        (λ j below. rw (same cents j below)
+        (due_times first (shape.n - t) cents j _ _ (λ a b. ap (λ (p : Pair). p.hi) (after_at j b))
+        ∙ ap (λ d. d * alive_by up rates (j + 1)) (years_are j first first_is)))
+      where
+        years_are : (j first : ℕ) → first ≡ (if shape.matures then shape.n - t - 1 else shape.n - t)
+            → due first (shape.n - t) policy.amount j ≡ maturity_due (prospect_of policy table shape t) j
+        years_are j first first_is = ap (λ f. due f (shape.n - t) policy.amount j) first_is ∙ maturity_is shape.matures t shape.n policy.amount j year

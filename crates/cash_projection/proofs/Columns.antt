@@ -1,12 +1,12 @@
 -- The sums of a column, year by year.
-use Rattle.std.proofs.Common.{◌≡◌, ◌≢◌, ℕ, zero, suc, ◌+◌, ◌-◌, ◌*◌, ◌<◌, ◌≤◌, refl, ap, sym, ◌∙◌, arith, List, length, slice_set, inl, inr}
+use Rattle.std.proofs.Common.{◌≡◌, ◌≢◌, ℕ, zero, suc, ◌+◌, ◌*◌, ◌<◌, ◌≤◌, refl, ap, ◌∙◌, arith, List, length, slice_set, inl, inr}
 use Rattle.std.specs.Prelude.{replicate}
-use Rattle.std.proofs.lemmas.List.{get_or-set_same, get_or-set_other, length-replicate, length-set}
+use Rattle.std.proofs.lemmas.List.{get_or-set_same, get_or-set_other, length-set}
 use Rattle.std.proofs.lemmas.Bool.{cases_eq}
-use Rattle.present_value.specs.Values.{pair_of, pair_at}
+use Rattle.present_value.specs.Values.{pair_at}
 use Rattle.present_value.specs.declared.pair.Pair.{Pair}
 use Rattle.cash_projection.specs.Prospects.{due}
-use Rattle.cash_projection.specs.inside.Tallies.{HasRisen, IsJoined, IsRoomy, sum_at, sums_of}
+use Rattle.cash_projection.specs.inside.Tallies.{HasRisen, AreBothSums, sum_at, sums_of}
 use Rattle.cash_projection.specs.declared.column.Sums.{Sums}
 use Rattle.cash_projection.proofs.Dues.{due_cases, due_same}
 
@@ -71,27 +71,29 @@ one_more_risen from j cents pairs old new sums risen begun below lo hi =
 pub record StaysFrom (j : ℕ) (old new : List Sums) : Type 0 where
   pub each : (k : ℕ) → j ≤ k → sum_at new k ≡ sum_at old k
 
-pub one_more_joined : (j : ℕ) (ours theirs new : List Sums) (sums : Sums) → IsJoined j ours theirs new → StaysFrom j ours new → j < 131
+pub one_more_joined : (j : ℕ) (ours theirs new : List Sums) (sums : Sums) → AreBothSums j ours theirs new → StaysFrom j ours new → j < 131
     → sums.lo ≡ (sum_at new j).lo + (sum_at theirs j).lo → sums.hi ≡ (sum_at new j).hi + (sum_at theirs j).hi
-    → IsJoined (j + 1) ours theirs (slice_set new j sums) × StaysFrom (j + 1) ours (slice_set new j sums)
+    → AreBothSums (j + 1) ours theirs (slice_set new j sums) × StaysFrom (j + 1) ours (slice_set new j sums)
 one_more_joined j ours theirs new sums joined stays below lo hi =
     let room : j < length new = omega (arith, joined.places) in
     let here = get_or-set_same new j sums (sums_of 0 0) room in
     let was = stays.each j (omega arith) in
     let was_lo : (sum_at new j).lo ≡ (sum_at ours j).lo = ap (λ (s : Sums). s.lo) was in
-    let was_hi : (sum_at new j).hi ≡ (sum_at ours j).hi = ap (λ (s : Sums). s.hi) was in
-    (record {
-      places = length-set new j sums ∙ joined.places;
-      lo = λ k within. elim (cases_eq k j) [
-        | inl same ↦ rw (same, here) (omega (arith, lo, was_lo))
-        | inr other ↦ rw (get_or-set_other new j k sums (sums_of 0 0) other) (joined.lo k (omega arith))
-      ];
-      hi = λ k within. elim (cases_eq k j) [
-        | inl same ↦ rw (same, here) (omega (arith, hi, was_hi))
-        | inr other ↦ rw (get_or-set_other new j k sums (sums_of 0 0) other) (joined.hi k (omega arith))
-      ];
-    }, record {
-      each = λ k from.
-          let other : k ≢ j = omega arith in
-          get_or-set_other new j k sums (sums_of 0 0) other ∙ stays.each k (omega arith);
-    })
+    let was_hi : (sum_at new j).hi ≡ (sum_at ours j).hi = ap (λ (s : Sums). s.hi) was in (
+      record {
+        places = length-set new j sums ∙ joined.places;
+        lo = λ k within. elim (cases_eq k j) [
+          | inl same ↦ rw (same, here) (omega (arith, lo, was_lo))
+          | inr other ↦ rw (get_or-set_other new j k sums (sums_of 0 0) other) (joined.lo k (omega arith))
+        ];
+        hi = λ k within. elim (cases_eq k j) [
+          | inl same ↦ rw (same, here) (omega (arith, hi, was_hi))
+          | inr other ↦ rw (get_or-set_other new j k sums (sums_of 0 0) other) (joined.hi k (omega arith))
+        ];
+      },
+      record {
+        each = λ k from.
+            let other : k ≢ j = omega arith in
+            get_or-set_other new j k sums (sums_of 0 0) other ∙ stays.each k (omega arith);
+      },
+    )

@@ -1,7 +1,7 @@
 -- In which years something is due.
 use Rattle.std.proofs.Common.{◌≡◌, ℕ, suc, ◌+◌, ◌-◌, ◌<◌, ◌≤◌, ◌⊎◌, inl, inr, min, refl, sym, ◌∙◌, arith, Bool, true, false, if◌then◌else◌, nat_eq}
 use Rattle.std.proofs.lemmas.Bool.Decides.{leb_tells, eqb_tells}
-use Rattle.cash_projection.specs.Prospects.{Prospect, due, premium_due, death_due, maturity_due}
+use Rattle.cash_projection.specs.Prospects.{Prospect, due, maturity_due}
 
 pub due_cases : (from to cents y : ℕ) → ((from ≤ y) × (y < to) × (due from to cents y ≡ cents)) ⊎ ((from ≤ y → to ≤ y) × (due from to cents y ≡ 0))
 due_cases from to cents y = elim (leb_tells from y) [
@@ -40,8 +40,9 @@ pub due_shifted : (from to cents t j : ℕ) → due (from - t) (to - t) cents j 
 due_shifted from to cents t j = due_same (from - t) (to - t) from to cents j (t + j) (λ a b. (omega (arith, a, b), omega (arith, a, b))) (λ a b. (omega (arith, a, b), omega (arith, a, b)))
 
 -- among so many years
-pub due_within : (from to years cents j : ℕ) → j < years → due (min from (min to years)) (min to years) cents j ≡ due from to cents j
-due_within from to years cents j below = due_same (min from (min to years)) (min to years) from to cents j j (λ a b. (omega (arith, a, b), omega (arith, a, b))) (λ a b. (omega (arith, a, b), omega (arith, a, b)))
+pub due_within : (from to years first last cents j : ℕ) → last ≡ min to years → first ≡ min from last → j < years → due first last cents j ≡ due from to cents j
+due_within from to years first last cents j last_is first_is below =
+    due_same first last from to cents j j (λ a b. (omega (arith, a, b), omega (arith, a, b))) (λ a b. (omega (arith, a, b), omega (arith, a, b)))
 
 pub maturity_most : (p : Prospect) (j : ℕ) → maturity_due p j ≤ p.amount
 maturity_most p j = most p.matures

@@ -7,3 +7,5 @@ pub mod Columns
 pub mod Adding
 pub mod Taking
 pub mod Tallying
+pub mod YearLines
+pub mod CallerLemmas

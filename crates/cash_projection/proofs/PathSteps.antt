@@ -1,18 +1,18 @@
 -- A path, one year after the other.
-use Rattle.std.proofs.Common.{◌≡◌, ◌≢◌, ℕ, zero, suc, ◌+◌, ◌-◌, ◌*◌, ◌<◌, ◌≤◌, refl, ap, sym, ◌∙◌, arith, List, length, slice_set, slice_index_or, subst, inl, inr, add-one, All, le_refl}
+use Rattle.std.proofs.Common.{◌≡◌, ℕ, zero, suc, ◌+◌, ◌-◌, ◌*◌, ◌<◌, ◌≤◌, refl, ap, sym, ◌∙◌, arith, List, length, slice_set, slice_index_or, subst, inl, inr, add-one, All, le_refl}
 use Rattle.std.specs.Prelude.{replicate}
 use Rattle.std.proofs.lemmas.List.{get_or-set_same, get_or-set_other, length-replicate, length-set}
 use Rattle.std.proofs.lemmas.Bool.{cases_eq}
-use Rattle.rate_table.specs.Rates.{Rates, ONE, AreRatesFrom}
+use Rattle.rate_table.specs.Rates.{Rates, ONE}
 use Rattle.present_value.specs.Rounding.{UNIT, down, up}
 use Rattle.present_value.specs.Values.{pair_of, pair_at}
 use Rattle.present_value.specs.declared.pair.Pair.{Pair}
+use Rattle.select_rates.specs.Along.{table_along}
 use Rattle.basis_book.specs.Dated.{Dated}
-use Rattle.policy_value.specs.Caches.{IsRowOf}
-use Rattle.policy_value.proofs.Keeping.{one_row}
-use Rattle.cash_projection.specs.Survival.{alive_by, dying_by}
-use Rattle.cash_projection.specs.inside.Paths.{rates_after, alive_pair, dying_pair, KnowsYears, IsPathOf, IsPath, IsPathAt, IsRightPath}
+use Rattle.cash_projection.specs.Survival.{alive_by}
+use Rattle.cash_projection.specs.inside.Paths.{alive_pair, dying_pair, KnowsYears, AreRatesOf, IsSurvivalPath, IsPathAt, IsRightPath}
 use Rattle.cash_projection.specs.declared.path.Path.{Path}
+use Rattle.cash_projection.specs.declared.path.PathKey.{PathKey}
 
 same_at : (count k : ℕ) (pair : Pair) → k < count → pair_at (replicate count pair) k ≡ pair
 same_at zero k pair below = absurd (omega (arith, below))
@@ -70,28 +70,35 @@ one_more_known rates k rate living dead p q knows below rate_is plo phi qlo qhi 
       ];
     }
 
--- a path by a row of the basis is right by it
-pub right_by_row : (basis : List Dated) (table : Rates) (bp : ℕ) (path : Path) → IsRowOf basis path.row table bp → IsPath table path.age path
+-- the rates of a key are one table
+one_of : (basis : List Dated) (key : PathKey) (rates other : Rates) → AreRatesOf basis key rates → AreRatesOf basis key other → rates ≡ other
+one_of basis key rates other row again =
+    let found = row.1 in
+    let found' = again.1 in
+    let same : row.0 ≡ again.0 = cc in
+    row.2 ∙ ap (λ (e : Dated). table_along e.table key.issue) same ∙ sym again.2
+
+-- a path by the rates of its key is right by them
+pub right_by_key : (basis : List Dated) (key : PathKey) (rates : Rates) (path : Path) → path.key ≡ key → AreRatesOf basis key rates → IsSurvivalPath rates key.age path
     → IsRightPath basis path
-right_by_row basis table bp path row is age other more again =
-    let same = one_row basis path.row table other bp more row again in
-    rw (← same.0) is
+right_by_key basis key rates path of row is young other again =
+    let same = one_of basis key rates other row (rw of at again) in
+    subst (λ (r : Rates). IsSurvivalPath r path.key.age path) same (subst (λ (k : PathKey). IsSurvivalPath rates k.age path) (sym of) is)
 
 -- the path that is kept at a place, or put there
-pub kept_here : (basis : List Dated) (table : Rates) (bp row age : ℕ) (kept : List Path) (place : ℕ) → All (IsRightPath basis) kept → place < length kept
-    → age ≤ 130 → IsRowOf basis row table bp → ((none : Path) → IsPathOf (slice_index_or kept place none) row age) → IsPathAt table age kept place
-kept_here basis table bp row age kept place all within young by of = record {
+pub kept_here : (basis : List Dated) (key : PathKey) (rates : Rates) (kept : List Path) (place : ℕ) → All (IsRightPath basis) kept → place < length kept
+    → key.age ≤ 130 → AreRatesOf basis key rates → ((none : Path) → (slice_index_or kept place none).key ≡ key) → IsPathAt rates key.age kept place
+kept_here basis key rates kept place all within young row of = record {
   within = within;
   here = λ none.
       let is = of none in
-      let old : (slice_index_or kept place none).age ≤ 130 = omega (arith, is.1) in
-      subst (λ a. IsPath table a (slice_index_or kept place none)) is.1
-      (all place none within old table bp (subst (λ r. IsRowOf basis r table bp) (sym is.0) by));
+      let old : (slice_index_or kept place none).key.age ≤ 130 = rw is young in
+      rw is at (all place none within old rates (rw is row));
 }
 
-pub put_here : (table : Rates) (age : ℕ) (kept : List Path) (place : ℕ) (path : Path) → place < length kept → IsPath table age path
-    → IsPathAt table age (slice_set kept place path) place
-put_here table age kept place path within is = record {
+pub put_here : (rates : Rates) (age : ℕ) (kept : List Path) (place : ℕ) (path : Path) → place < length kept → IsSurvivalPath rates age path
+    → IsPathAt rates age (slice_set kept place path) place
+put_here rates age kept place path within is = record {
   within = rw (length-set kept place path) within;
   here = λ none. rw (get_or-set_same kept place path none within) is;
 }

@@ -1,6 +1,6 @@
 -- The rounded survivors and deaths enclose the exact ones.
-use Rattle.std.proofs.Common.{◌≡◌, ℕ, zero, suc, ◌+◌, ◌-◌, ◌*◌, ◌^◌, ◌<◌, ◌≤◌, refl, arith, add-one}
-use Rattle.std.proofs.Math.Nat.{mul-le-mul_left, mul-le-mul_right, mul-pos, pow-succ', one-le-pow, le_trans, le_of_mul-le-mul_right}
+use Rattle.std.proofs.Common.{ℕ, zero, suc, ◌+◌, ◌-◌, ◌*◌, ◌^◌, ◌<◌, ◌≤◌, arith, add-one}
+use Rattle.std.proofs.Math.Nat.{mul-le-mul_left, mul-le-mul_right, pow-succ', one-le-pow, le_trans, le_of_mul-le-mul_right}
 use Rattle.rate_table.specs.Rates.{ONE}
 use Rattle.present_value.specs.Rounding.{UNIT, down, up}
 use Rattle.present_value.proofs.Quotients.{down-le, le-up, apart, up-le}

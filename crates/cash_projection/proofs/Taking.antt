@@ -1,32 +1,35 @@
 -- Each way in which a policy is taken into a tally.
-use Rattle.std.proofs.Common.{◌≡◌, ℕ, ◌<◌, ◌≤◌, ◌+◌, refl, ap, sym, arith, List, All, ℤ, ◌<ℤ◌, Result, Ok, Err}
+use Rattle.std.proofs.Common.{◌≡◌, ℕ, refl, ap, sym, arith, List, [], ◌∷◌, ◌++◌, length, All, ℤ, ◌<ℤ◌, Result, Ok, Err, Some}
+use Rattle.std.specs.List.{slice_get}
 use Rattle.policy_types.specs.declared.policy.Policy.{Policy}
-use Rattle.rate_table.specs.Rates.{Rates}
 use Rattle.rate_table.specs.declared.shape.Shape.{Shape}
+use Rattle.select_rates.specs.Along.{table_along}
+use Rattle.select_rates.specs.declared.any.AnyTable.{AnyTable}
 use Rattle.plan_benefits.specs.Shapes.{shape_of}
 use Rattle.plan_benefits.specs.declared.fault.NotValued.{NotValued}
 use Rattle.basis_book.specs.Dated.{Dated, IsPicked}
 use Rattle.basis_book.proofs.CallerLemmas.{none_picked, one_picked}
 use Rattle.policy_value.specs.Rows.{IsInsured, IsYear}
 use Rattle.cash_projection.specs.Prospects.{IsSmall}
-use Rattle.cash_projection.specs.Policies.{nothing_ahead, prospect_of, IsProspectBy}
-use Rattle.cash_projection.specs.inside.Tallies.{HasAdded, HasTaken, HasTakenBy}
+use Rattle.cash_projection.specs.Policies.{nothing_ahead, prospect_of}
+use Rattle.cash_projection.specs.inside.Paths.{IsTableOfRow}
+use Rattle.cash_projection.specs.inside.Tallies.{HasAdded, HasCounted, HasCountedBy}
 use Rattle.cash_projection.specs.declared.tally.Tally.{Tally}
 use Rattle.cash_projection.proofs.Adding.{nothing_small}
 
-pub taken_by : (policy : Policy) (table : Rates) (on : ℤ) (shape : Shape) (t : ℕ) (r : Result Shape NotValued) (old new : Tally) → r ≡ Ok shape
-    → IsYear policy.issued on shape.n t → IsSmall (prospect_of policy table shape t) → HasAdded old.years (prospect_of policy table shape t) old new
-    → HasTakenBy policy table on r old new
+pub taken_by : (policy : Policy) (table : AnyTable) (on : ℤ) (shape : Shape) (t : ℕ) (r : Result Shape NotValued) (old new : Tally) → r ≡ Ok shape
+    → IsYear policy.issued on shape.n t → IsSmall (prospect_of policy (table_along table shape.age) shape t) → HasAdded old.years (prospect_of policy (table_along table shape.age) shape t) old new
+    → HasCountedBy policy table on r old new
 taken_by policy table on shape t r old new is year small added =
-    rw is (record { prospect = prospect_of policy table shape t; is = (t, year, refl); small = small; added = added })
+    rw is (record { prospect = prospect_of policy (table_along table shape.age) shape t; is = (t, year, refl); small = small; added = added })
 
-pub worded_by : (policy : Policy) (table : Rates) (on : ℤ) (word : NotValued) (r : Result Shape NotValued) (old new : Tally) → r ≡ Err word
-    → HasAdded old.years (nothing_ahead 1) old new → HasTakenBy policy table on r old new
+pub worded_by : (policy : Policy) (table : AnyTable) (on : ℤ) (word : NotValued) (r : Result Shape NotValued) (old new : Tally) → r ≡ Err word
+    → HasAdded old.years (nothing_ahead 1) old new → HasCountedBy policy table on r old new
 worded_by policy table on word r old new is added =
     rw is (record { prospect = nothing_ahead 1; is = refl; small = nothing_small 1 (omega arith); added = added })
 
 pub uninsured_taken : (basis : List Dated) (on : ℤ) (policy : Policy) (old new : Tally) → (IsInsured policy on → ⊥)
-    → HasAdded old.years (nothing_ahead 0) old new → HasTaken basis on policy old new
+    → HasAdded old.years (nothing_ahead 0) old new → HasCounted basis on policy old new
 uninsured_taken basis on policy old new not added = record {
   prospect = nothing_ahead 0;
   is = record { insured = λ insured. absurd (not insured); uninsured = λ _. refl };
@@ -35,7 +38,7 @@ uninsured_taken basis on policy old new not added = record {
 }
 
 pub unnamed_taken : (basis : List Dated) (on : ℤ) (policy : Policy) (old new : Tally) → IsInsured policy on
-    → All (λ (entry : Dated). policy.issued <ℤ entry.from_day) basis → HasAdded old.years (nothing_ahead 1) old new → HasTaken basis on policy old new
+    → All (λ (entry : Dated). policy.issued <ℤ entry.from_day) basis → HasAdded old.years (nothing_ahead 1) old new → HasCounted basis on policy old new
 unnamed_taken basis on policy old new insured none added = record {
   prospect = nothing_ahead 1;
   is = record {
@@ -47,8 +50,8 @@ unnamed_taken basis on policy old new insured none added = record {
 }
 
 pub named_taken : (basis : List Dated) (on : ℤ) (policy : Policy) (old new : Tally) (index : ℕ) (entry : Dated) → IsInsured policy on
-    → IsPicked basis policy.issued index entry → HasTakenBy policy entry.table on (shape_of policy.plan policy.age policy.years entry.table) old new
-    → HasTaken basis on policy old new
+    → IsPicked basis policy.issued index entry → HasCountedBy policy entry.table on (shape_of policy.plan policy.age policy.years entry.table) old new
+    → HasCounted basis on policy old new
 named_taken basis on policy old new index entry insured picked taken = record {
   prospect = taken.prospect;
   is = record {
@@ -64,3 +67,13 @@ named_taken basis on policy old new index entry insured picked taken = record {
   small = taken.small;
   added = taken.added;
 }
+
+-- the row that is picked
+cut_at : (before : List Dated) (entry : Dated) (after : List Dated) → slice_get (before ++ entry ∷ after) (length before) ≡ Some entry
+cut_at [] entry after = refl
+cut_at (x ∷ xs) entry after = cut_at xs entry after
+
+pub picked_row : (basis : List Dated) (issued : ℤ) (index : ℕ) (entry : Dated) (table : AnyTable) → IsPicked basis issued index entry
+    → table ≡ entry.table → IsTableOfRow basis index table
+picked_row basis issued index entry table picked is =
+    (entry, rw (picked.split, picked.place) (cut_at picked.before entry picked.after), is)

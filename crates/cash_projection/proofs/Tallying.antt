@@ -1,17 +1,18 @@
 -- Tallies of lists.
-use Rattle.std.proofs.Common.{◌≡◌, ℕ, zero, suc, ◌+◌, ◌-◌, ◌*◌, ◌^◌, ◌<◌, ◌≤◌, inl, inr, refl, ap, ap₂, sym, subst, ◌∙◌, arith, List, [], ◌∷◌, ◌++◌, length, take, get_or, ℤ, le_trans, le_of_mul-le-mul_right, length-append}
+use Rattle.std.proofs.Common.{◌≡◌, ℕ, zero, suc, ◌+◌, ◌*◌, ◌^◌, ◌<◌, ◌≤◌, refl, ap, ap₂, sym, subst, ◌∙◌, arith, List, [], ◌∷◌, ◌++◌, length, take, get_or, ℤ, le_trans, le_of_mul-le-mul_right, length-append, length-take-le}
 use Rattle.std.specs.List.{AllByRecursion, AllZip}
 use Rattle.std.proofs.lemmas.List.{take_more}
 use Rattle.policy_types.specs.declared.policy.Policy.{Policy}
 use Rattle.rate_table.specs.Rates.{ONE}
 use Rattle.present_value.specs.Rounding.{UNIT, down, up}
 use Rattle.present_value.specs.Values.{pair_of}
+use Rattle.present_value.specs.declared.pair.Pair.{Pair}
 use Rattle.basis_book.specs.Dated.{Dated}
 use Rattle.cash_projection.specs.Survival.{alive, dying}
 use Rattle.cash_projection.specs.Prospects.{Prospect, IsSmall, premium_due, death_due, maturity_due}
-use Rattle.cash_projection.specs.Cash.{total_of, premium_by, death_by, maturity_by, rounded_year, no_year, AreCashYears}
+use Rattle.cash_projection.specs.Cash.{total_of, premium_by, death_by, maturity_by, rounded_year, no_year}
 use Rattle.cash_projection.specs.Policies.{IsProspect, IsCashOf}
-use Rattle.cash_projection.specs.inside.Tallies.{AreSums, HasAdded, HasGained, HasRoom, HasTaken, IsJoined, IsRoomy, IsSized, IsTally, IsTallyOf, sum_at, sums_of}
+use Rattle.cash_projection.specs.inside.Tallies.{AreSums, HasAdded, HasGained, TakesOneMore, HasCounted, AreBothSums, IsRoomy, IsSized, IsTally, IsTallyOf, sum_at}
 use Rattle.cash_projection.specs.declared.column.Sums.{Sums}
 use Rattle.cash_projection.specs.declared.tally.Tally.{Tally}
 use Rattle.cash_projection.specs.declared.years.Year.{Year}
@@ -76,15 +77,16 @@ one_more_summed years part ps p old new sums gained = record {
   hi = λ j below. gained.hi j below ∙ ap (λ n. n + part up j p) (sums.hi j below) ∙ sym (total_more (part up j) ps p);
 }
 
-pub one_more_tallied : (basis : List Dated) (on : ℤ) (years : ℕ) (policies : List Policy) (i : ℕ) (policy : Policy) (old new : Tally) → i < length policies
-    → policy ≡ get_or policies i policy → IsTallyOf basis on years (take i policies) old → HasTaken basis on policy old new
+pub one_more_tallied : (basis : List Dated) (on : ℤ) (years : ℕ) (policies : List Policy) (i : ℕ) (none : Policy) (old new : Tally) → i < length policies
+    → IsTallyOf basis on years (take i policies) old → HasCounted basis on (get_or policies i none) old new
     → IsTallyOf basis on years (take (i + 1) policies) new
-one_more_tallied basis on years policies i policy old new below here was taken =
+one_more_tallied basis on years policies i none old new below was taken =
+    let policy = get_or policies i none in
     let ps = was.prospects in
     let p = taken.prospect in
     let old_is = was.tallied in
     let added : HasAdded years p old new = subst (λ n. HasAdded n p old new) old_is.same taken.added in
-    let longer : take i policies ++ policy ∷ [] ≡ take (i + 1) policies = ap (λ z. take i policies ++ z ∷ []) here ∙ sym (take_more policies i policy below) in
+    let longer : take i policies ++ policy ∷ [] ≡ take (i + 1) policies = sym (take_more policies i none below) in
     record {
       prospects = ps ++ p ∷ [];
       each = subst (λ l. AllZip (IsProspect basis on) l (ps ++ p ∷ [])) longer (zip_append (IsProspect basis on) (take i policies) (policy ∷ []) ps (p ∷ []) was.each (taken.is, tt));
@@ -130,7 +132,7 @@ sized years ps tally is most few =
           most count (λ j. power_pos (j + 1)) maturity_part);
     }
 
-zip_length : (P : Policy → Prospect → Type 0) (xs : List Policy) (ys : List Prospect) → AllZip P xs ys → length ys ≡ length xs
+pub zip_length : (P : Policy → Prospect → Type 0) (xs : List Policy) (ys : List Prospect) → AllZip P xs ys → length ys ≡ length xs
 zip_length P [] [] all = refl
 zip_length P [] (y ∷ ys) all = absurd all
 zip_length P (x ∷ xs) [] all = absurd all
@@ -143,9 +145,22 @@ tally_sized basis on years policies tally is most few =
     let many : tally.policies ≡ length policies = is.tallied.policies ∙ zip_length (IsProspect basis on) policies is.prospects is.each in
     (sized years is.prospects tally is.tallied most (omega (arith, many)), many)
 
+-- of as many years as it says
+pub tallied_years : (basis : List Dated) (on : ℤ) (years : ℕ) (policies : List Policy) (tally : Tally) → IsTallyOf basis on years policies tally
+    → IsTallyOf basis on tally.years policies tally
+tallied_years basis on years policies tally is = subst (λ n. IsTallyOf basis on n policies tally) (sym is.tallied.same) is
+
+-- before each of so many there is room for one more
+pub room_for_one : (basis : List Dated) (on : ℤ) (years : ℕ) (policies : List Policy) (i : ℕ) (tally : Tally) → IsTallyOf basis on years (take i policies) tally
+    → years ≤ 131 → length policies ≤ 4000000 → i < length policies → TakesOneMore tally
+room_for_one basis on years policies i tally is most few below =
+    let count : length (take i policies) ≡ i = length-take-le i policies (omega arith) in
+    let sized = tally_sized basis on years (take i policies) tally is most (omega arith) in
+    (sized.0, omega (arith, sized.1))
+
 -- two lists
 joined_sums : (years : ℕ) (part : (ℕ → ℕ → ℕ) → ℕ → Prospect → ℕ) (ps qs : List Prospect) (ours theirs new : List Sums) → AreSums years part ps ours → AreSums years part qs theirs
-    → IsJoined years ours theirs new → AreSums years part (ps ++ qs) new
+    → AreBothSums years ours theirs new → AreSums years part (ps ++ qs) new
 joined_sums years part ps qs ours theirs new a b joined = record {
   places = joined.places;
   lo = λ j below. joined.lo j below ∙ ap₂ ◌+◌ (a.lo j below) (b.lo j below) ∙ sym (total_append (part down j) ps qs);
@@ -154,8 +169,8 @@ joined_sums years part ps qs ours theirs new a b joined = record {
 
 pub both_tallied : (basis : List Dated) (on : ℤ) (years : ℕ) (xs ys : List Policy) (ours theirs new : Tally) → IsTallyOf basis on years xs ours → IsTallyOf basis on years ys theirs
     → new.years ≡ ours.years → new.policies ≡ ours.policies + theirs.policies → new.unvalued ≡ ours.unvalued + theirs.unvalued
-    → IsJoined years ours.premium.sums theirs.premium.sums new.premium.sums → IsJoined years ours.death.sums theirs.death.sums new.death.sums
-    → IsJoined years ours.maturity.sums theirs.maturity.sums new.maturity.sums → IsTallyOf basis on years (xs ++ ys) new
+    → AreBothSums years ours.premium.sums theirs.premium.sums new.premium.sums → AreBothSums years ours.death.sums theirs.death.sums new.death.sums
+    → AreBothSums years ours.maturity.sums theirs.maturity.sums new.maturity.sums → IsTallyOf basis on years (xs ++ ys) new
 both_tallied basis on years xs ys ours theirs new a b same policies unvalued premium death maturity =
     let ps = a.prospects in
     let qs = b.prospects in
@@ -200,17 +215,42 @@ cash_told basis on policies tally years most many each is =
       prospects = ps;
       each = is.each;
       words = is.tallied.unvalued;
-      cash = record {
+      rounded = record {
         many = many;
-        rounded = λ j below. each j below ∙ year_rounded tally.years ps tally is.tallied j below;
-        exact = λ j below. rw (each j below ∙ year_rounded tally.years ps tally is.tallied j below) (year_encloses ps j is.tallied.small (omega arith));
+        each = λ j below. each j below ∙ year_rounded tally.years ps tally is.tallied j below;
       };
+      exact = λ j below. rw (each j below ∙ year_rounded tally.years ps tally is.tallied j below) (year_encloses ps j is.tallied.small (omega arith));
     }
 
 -- one year more is told
-pub pushed_at : (xs : List Year) (y d : Year) (f : ℕ → Year) → ((k : ℕ) → k < length xs → get_or xs k d ≡ f k) → y ≡ f (length xs)
+pushed_at : (xs : List Year) (y d : Year) (f : ℕ → Year) → ((k : ℕ) → k < length xs → get_or xs k d ≡ f k) → y ≡ f (length xs)
     → (k : ℕ) → k < length xs + 1 → get_or (xs ++ y ∷ []) k d ≡ f k
 pushed_at [] y d f each is zero below = is
 pushed_at [] y d f each is (suc k) below = absurd (omega (arith, below))
 pushed_at (x ∷ xs) y d f each is zero below = each 0 (omega arith)
 pushed_at (x ∷ xs) y d f each is (suc k) below = pushed_at xs y d (λ i. f (suc i)) (λ i within. each (suc i) (omega arith)) is k (omega (arith, below))
+
+pub one_more_told : (tally : Tally) (old new : List Year) (j : ℕ) (year : Year) → length old ≡ j → ((k : ℕ) → k < j → get_or old k no_year ≡ year_in tally k)
+    → year ≡ year_in tally j → new ≡ old ++ year ∷ [] → (length new ≡ j + 1) × ((k : ℕ) → k < j + 1 → get_or new k no_year ≡ year_in tally k)
+one_more_told tally old new j year many each is pushed =
+    rw (pushed, ← many) (
+      length-append old (year ∷ []),
+      pushed_at old year no_year (year_in tally) (λ k below. each k (omega arith)) (is ∙ ap (year_in tally) (sym many)),
+    )
+
+abbrev year_of : Pair → Pair → Pair → Year
+year_of a b d = record { premium = a; death = b; maturity = d }
+
+pub year_is : (tally : Tally) (j : ℕ) (year : Year)
+    → year.premium ≡ pair_of (down (sum_at tally.premium.sums j).lo UNIT) (up (sum_at tally.premium.sums j).hi UNIT)
+    → year.death ≡ pair_of (down (sum_at tally.death.sums j).lo UNIT) (up (sum_at tally.death.sums j).hi UNIT)
+    → year.maturity ≡ pair_of (down (sum_at tally.maturity.sums j).lo UNIT) (up (sum_at tally.maturity.sums j).hi UNIT)
+    → year ≡ year_in tally j
+year_is tally j year premium death maturity =
+    ap (λ p. year_of p year.death year.maturity) premium ∙ ap (λ p. year_of (year_in tally j).premium p year.maturity) death
+    ∙ ap (λ p. year_of (year_in tally j).premium (year_in tally j).death p) maturity
+
+pub all_told : (tally : Tally) (told years : List Year) (j : ℕ) → years ≡ told → length told ≡ j → j ≡ tally.years
+    → ((k : ℕ) → k < j → get_or told k no_year ≡ year_in tally k)
+    → (length years ≡ tally.years) × ((k : ℕ) → k < tally.years → get_or years k no_year ≡ year_in tally k)
+all_told tally told years j is many all each = rw is (many ∙ all, λ k below. each k (omega (arith, below, all)))

@@ -1,17 +1,16 @@
 -- The totals of policies enclose the exact ones.
-use Rattle.std.proofs.Common.{◌≡◌, ℕ, zero, suc, ◌+◌, ◌-◌, ◌*◌, ◌^◌, ◌<◌, ◌≤◌, inl, inr, refl, sym, ap, subst, arith, List, [], ◌∷◌, ◌++◌, length, lit<, one-mul, lt_of_mul-lt-mul_right, add-one}
-use Rattle.std.proofs.Math.Nat.{mul-le-mul_left, mul-le-mul_right, mul-le-mul, le_trans}
+use Rattle.std.proofs.Common.{◌≡◌, ℕ, ◌+◌, ◌*◌, ◌^◌, ◌<◌, ◌≤◌, inl, inr, subst, arith, List, [], ◌∷◌, length, lit<, one-mul, lt_of_mul-lt-mul_right}
+use Rattle.std.proofs.Math.Nat.{mul-le-mul_left, mul-le-mul, le_trans}
 use Rattle.std.specs.List.{AllByRecursion}
-use Rattle.std.proofs.lemmas.Bool.Decides.{leb_tells}
 use Rattle.rate_table.specs.Rates.{ONE}
-use Rattle.present_value.specs.Fractions.{Fraction, Between}
+use Rattle.present_value.specs.Fractions.{Between}
 use Rattle.present_value.specs.Rounding.{UNIT, down, up}
 use Rattle.present_value.specs.Values.{pair_of}
 use Rattle.present_value.proofs.Fractions.{scaled-between}
-use Rattle.present_value.proofs.Quotients.{down-le, lt-down, up-lt, up-le}
+use Rattle.present_value.proofs.Quotients.{lt-down, up-lt, up-le}
 use Rattle.cash_projection.specs.Survival.{alive, alive_by, dying, dying_by}
-use Rattle.cash_projection.specs.Prospects.{Prospect, IsSmall, due, premium_due, death_due, maturity_due}
-use Rattle.cash_projection.specs.Cash.{total_of, expected_premiums, expected_deaths, expected_maturities, premium_by, death_by, maturity_by, rounded_pair, rounded_year, IsCash, IsCashYear}
+use Rattle.cash_projection.specs.Prospects.{Prospect, IsSmall, premium_due, death_due, maturity_due}
+use Rattle.cash_projection.specs.Cash.{total_of, premium_by, death_by, maturity_by, rounded_year, IsCash, EnclosesExpected}
 use Rattle.cash_projection.specs.inside.Parts.{MOST_PART}
 use Rattle.cash_projection.proofs.Survivors.{power_pos, alive_above, alive_below, alive_near, alive_hi_most, dying_above, dying_below, dying_near, dying_hi_most}
 use Rattle.cash_projection.proofs.Dues.{due_cases, due_most, maturity_most}
@@ -110,7 +109,7 @@ cash_of count exact den lo hi proper part =
       most = up-le hi UNIT (10000000000 * count) (lit< tt) (omega (arith, part.most));
     }
 
-pub year_encloses : (ps : List Prospect) (j : ℕ) → AllByRecursion IsSmall ps → j ≤ 131 → IsCashYear ps j (rounded_year ps j)
+pub year_encloses : (ps : List Prospect) (j : ℕ) → AllByRecursion IsSmall ps → j ≤ 131 → EnclosesExpected ps j (rounded_year ps j)
 year_encloses ps j small year = record {
   premium = cash_of (length ps) _ (ONE ^ j) _ _ (power_pos j)
       (list_part (λ p. premium_due p j * alive p.rates j) (premium_by down j) (premium_by up j) (ONE ^ j) ps small (λ p s. premium_part p j s year));

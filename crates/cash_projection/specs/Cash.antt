@@ -52,7 +52,7 @@ pub record IsCash (count : ℕ) (exact : Fraction) (pair : Pair) : Type 0 where
   pub most : pair.hi ≤ 10000000000 * count
 
 -- so does each pair of a year
-pub record IsCashYear (ps : List Prospect) (j : ℕ) (year : Year) : Type 0 where
+pub record EnclosesExpected (ps : List Prospect) (j : ℕ) (year : Year) : Type 0 where
   pub premium : IsCash (length ps) (expected_premiums ps j) year.premium
   pub death : IsCash (length ps) (expected_deaths ps j) year.death
   pub maturity : IsCash (length ps) (expected_maturities ps j) year.maturity
@@ -60,8 +60,7 @@ pub record IsCashYear (ps : List Prospect) (j : ℕ) (year : Year) : Type 0 wher
 abbrev pub no_year : Year
 no_year = record { premium = pair_of 0 0; death = pair_of 0 0; maturity = pair_of 0 0 }
 
--- so many years, each with its rounded totals, which enclose the exact ones
-pub record AreCashYears (ps : List Prospect) (count : ℕ) (years : List Year) : Type 0 where
+-- so many years from the current one on, each with its rounded totals
+pub record RoundedCash (ps : List Prospect) (count : ℕ) (years : List Year) : Type 0 where
   pub many : length years ≡ count
-  pub rounded : (j : ℕ) → j < count → slice_index_or years j no_year ≡ rounded_year ps j
-  pub exact : (j : ℕ) → j < count → IsCashYear ps j (slice_index_or years j no_year)
+  pub each : (j : ℕ) → j < count → slice_index_or years j no_year ≡ rounded_year ps j

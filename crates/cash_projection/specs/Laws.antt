@@ -5,7 +5,7 @@ use Rattle.rate_table.specs.Rates.{ONE}
 use Rattle.present_value.specs.Sums.{sum_below}
 use Rattle.cash_projection.specs.Survival.{alive, dying}
 use Rattle.cash_projection.specs.Prospects.{Prospect, IsSmall, death_due, maturity_due}
-use Rattle.cash_projection.specs.Cash.{IsCashYear, rounded_year}
+use Rattle.cash_projection.specs.Cash.{EnclosesExpected, rounded_year}
 
 -- those alive after a year more are no more: alive / 10^9 ^ j falls
 pub record NeverRiseLaw : Type 0 where
@@ -26,4 +26,4 @@ pub record AddUpLaw : Type 0 where
 
 -- in each year the rounded totals enclose the exact ones
 abbrev pub EnclosureLaw : Type 0
-EnclosureLaw = (ps : List Prospect) (j : ℕ) → AllByRecursion IsSmall ps → j ≤ 131 → IsCashYear ps j (rounded_year ps j)
+EnclosureLaw = (ps : List Prospect) (j : ℕ) → AllByRecursion IsSmall ps → j ≤ 131 → EnclosesExpected ps j (rounded_year ps j)

@@ -1,18 +1,20 @@
 -- The prospect of a policy on a day by a basis, and the cash of a list of policies.
-use Rattle.std.specs.Prelude.{◌≡◌, ℕ, ◌+◌, List, All, ℤ, ◌<ℤ◌, Result, Ok, Err, false}
-use Rattle.std.specs.List.{AllByRecursion, AllZip}
+use Rattle.std.specs.Prelude.{◌≡◌, ℕ, ◌+◌, List, All, ℤ, ◌<ℤ◌, Result, Ok, Err, false, ◌<◌, slice_index_or}
+use Rattle.std.specs.List.{AllZip}
 use Rattle.policy_types.specs.Valid.{IsIssue}
 use Rattle.policy_types.specs.declared.policy.Policy.{Policy}
 use Rattle.policy_types.specs.declared.policy.Status.{Status}
 use Rattle.policy_types.specs.declared.policy.Status.TheVariants.{InForce}
 use Rattle.rate_table.specs.Rates.{Rates, rate_at}
 use Rattle.rate_table.specs.declared.shape.Shape.{Shape}
+use Rattle.select_rates.specs.Along.{table_along}
+use Rattle.select_rates.specs.declared.any.AnyTable.{AnyTable}
 use Rattle.plan_benefits.specs.Shapes.{shape_of}
 use Rattle.plan_benefits.specs.declared.fault.NotValued.{NotValued}
 use Rattle.basis_book.specs.Dated.{Dated, IsPicked}
 use Rattle.policy_value.specs.Rows.{IsInsured, IsYear}
 use Rattle.cash_projection.specs.Prospects.{Prospect}
-use Rattle.cash_projection.specs.Cash.{AreCashYears, total_of}
+use Rattle.cash_projection.specs.Cash.{EnclosesExpected, RoundedCash, no_year, total_of}
 use Rattle.cash_projection.specs.declared.years.Year.{Year}
 
 -- the premium that is charged: none of a paid-up policy
@@ -24,7 +26,7 @@ charged _ premium = 0
 abbrev pub nothing_ahead : ℕ → Prospect
 nothing_ahead words = record { rates = λ j. 0; t = 0; n = 0; h = 0; paid = 0; premium = 0; amount = 0; matures = false; words = words }
 
--- of an insured policy by a table, in the policy year t
+-- of an insured policy by the rates of its age at issue, in the policy year t
 abbrev pub prospect_of : Policy → Rates → Shape → ℕ → Prospect
 prospect_of policy table shape t = record {
   rates = λ j. rate_at table (shape.age + t + j);
@@ -39,8 +41,8 @@ prospect_of policy table shape t = record {
 }
 
 -- by a table: one without a shape has a word
-abbrev pub IsProspectBy : Policy → Rates → ℤ → Result Shape NotValued → Prospect → Type 0
-IsProspectBy policy table on (Ok shape) p = (t : ℕ) × IsYear policy.issued on shape.n t × (p ≡ prospect_of policy table shape t)
+abbrev pub IsProspectBy : Policy → AnyTable → ℤ → Result Shape NotValued → Prospect → Type 0
+IsProspectBy policy table on (Ok shape) p = (t : ℕ) × IsYear policy.issued on shape.n t × (p ≡ prospect_of policy (table_along table shape.age) shape t)
 IsProspectBy policy table on (Err word) p = p ≡ nothing_ahead 1
 
 -- of an insured policy: by the last entry of the basis that had begun on its day of issue
@@ -53,12 +55,13 @@ pub record IsProspect (basis : List Dated) (on : ℤ) (policy : Policy) (p : Pro
   pub insured : IsInsured policy on → IsInsuredProspect policy basis on p
   pub uninsured : (IsInsured policy on → ⊥) → p ≡ nothing_ahead 0
 
-abbrev pub IsIssued : Policy → Type 0
-IsIssued p = IsIssue p.id p.issued p.plan p.age p.years p.amount p.premium
+abbrev pub IsOfIssue : Policy → Type 0
+IsOfIssue p = IsIssue p.id p.issued p.plan p.age p.years p.amount p.premium
 
 -- the years are those of the prospects of the policies, of whom so many have a word
 pub record IsCashOf (basis : List Dated) (on : ℤ) (policies : List Policy) (count unvalued : ℕ) (years : List Year) : Type 0 where
   pub prospects : List Prospect
   pub each : AllZip (IsProspect basis on) policies prospects
   pub words : unvalued ≡ total_of (λ p. p.words) prospects
-  pub cash : AreCashYears prospects count years
+  pub rounded : RoundedCash prospects count years
+  pub exact : (j : ℕ) → j < count → EnclosesExpected prospects j (slice_index_or years j no_year)

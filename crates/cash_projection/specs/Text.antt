@@ -1,18 +1,20 @@
 -- The text of a projection: a line that says what was projected, a line for each year, and the policies with a word.
 use Rattle.std.specs.Prelude.{ℕ, ◌+◌, ◌≤◌, List, [], ◌∷◌, ◌++◌, codes, decimal, length}
-use Rattle.std.specs.List.{All}
 use Rattle.life_dates.specs.DayText.{day_text}
 use Rattle.money_core.specs.CentsText.{cents_text}
 use Rattle.text_lines.specs.Lines.{line_of}
 use Rattle.cash_projection.specs.declared.years.Year.{Year}
 use Rattle.cash_projection.specs.declared.printing.Projection.{Projection}
 
--- the j-th year from the current one: the bounds of its premiums, deaths and maturities
+-- the bounds of its premiums, deaths and maturities
+abbrev pub year_fields : Year → List (List ℕ)
+year_fields year =
+    cents_text year.premium.lo ∷ cents_text year.premium.hi ∷ cents_text year.death.lo ∷ cents_text year.death.hi
+    ∷ cents_text year.maturity.lo ∷ cents_text year.maturity.hi ∷ []
+
+-- the j-th year from the current one
 unfoldable pub year_text : ℕ → Year → List ℕ
-year_text j year =
-    line_of (codes "year")
-    (decimal j ∷ cents_text year.premium.lo ∷ cents_text year.premium.hi ∷ cents_text year.death.lo ∷ cents_text year.death.hi
-    ∷ cents_text year.maturity.lo ∷ cents_text year.maturity.hi ∷ [])
+year_text j year = line_of (codes "year") (decimal j ∷ year_fields year)
 
 -- the years from the j-th on
 abbrev pub years_text : ℕ → List Year → List ℕ

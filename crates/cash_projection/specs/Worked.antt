@@ -6,7 +6,6 @@ use Rattle.present_value.specs.Values.{pair_of}
 use Rattle.present_value.specs.Worked.{five_ages}
 use Rattle.cash_projection.specs.Prospects.{Prospect}
 use Rattle.cash_projection.specs.Cash.{expected_premiums, expected_deaths, expected_maturities, rounded_year}
-use Rattle.cash_projection.specs.declared.years.Year.{Year}
 
 -- exactly these cents, in the j-th year
 pub record IsYearly (ps : List Prospect) (j premiums deaths maturities : ℕ) : Type 0 where
@@ -18,7 +17,15 @@ pub record IsYearly (ps : List Prospect) (j premiums deaths maturities : ℕ) : 
 -- an endowment of three years from the age 0 in its year t, with the premium 400.00 for 1000.00, of which so many are paid
 abbrev pub endowment_in : (t paid : ℕ) → Prospect
 endowment_in t paid = record {
-  rates = λ j. rate_at five_ages (0 + t + j); t = t; n = 3; h = 3; paid = paid; premium = 40000; amount = 100000; matures = true; words = 0
+  rates = λ j. rate_at five_ages (0 + t + j);
+  t = t;
+  n = 3;
+  h = 3;
+  paid = paid;
+  premium = 40000;
+  amount = 100000;
+  matures = true;
+  words = 0;
 }
 
 pub record EndowmentCash : Type 0 where

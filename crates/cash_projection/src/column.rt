@@ -2,7 +2,7 @@
 ghost use Rattle.std.specs.Prelude.{◌≡◌, ℕ, ◌≤◌, ◌<◌, ◌+◌, length};
 ghost use Rattle.present_value.specs.Rounding.{UNIT, down, up};
 ghost use Rattle.present_value.specs.Values.{pair_at, pair_of};
-ghost use Rattle.cash_projection.specs.inside.Tallies.{HasRisen, IsRoomy, IsJoined, sum_at};
+ghost use Rattle.cash_projection.specs.inside.Tallies.{HasRisen, IsRoomy, AreBothSums, sum_at};
 
 use present_value::{Pair, UNITS_IN_ONE, quotient_down, quotient_up};
 
@@ -53,7 +53,7 @@ impl Column {
         requires years { years ≤ 131 }
         requires room { IsRoomy years self.old.sums }
         requires other { IsRoomy years other.now.sums }
-        ensures { IsJoined years self.old.sums other.now.sums self.new.sums }
+        ensures { AreBothSums years self.old.sums other.now.sums self.new.sums }
     {
         for j in 0..years {
             let ours = self.sums[j];

@@ -11,14 +11,10 @@ mod tally;
 mod worked;
 mod years;
 
-pub use laws::{
-    benefits_add_up_to_the_amount, pairs_enclose_the_expected, survivors_never_rise,
-};
+pub use laws::{benefits_add_up_to_the_amount, pairs_enclose_the_expected, survivors_never_rise};
 pub use paths::Paths;
 pub use printing::{Projection, print_projection};
 pub use projecting::{project_policies, tally_policies};
 pub use tally::Tally;
-pub use worked::{
-    endowment_by_hand, later_years_by_hand, paid_premium_by_hand, policies_by_hand,
-};
+pub use worked::{endowment_by_hand, later_years_by_hand, paid_premium_by_hand, policies_by_hand};
 pub use years::{Year, Years};

@@ -1,8 +1,9 @@
 // Those alive of one age, year by year.
-ghost use Rattle.std.specs.Prelude.{◌≡◌, ◌≤◌, ◌↔◌, ◌*◌, IsTrue};
+ghost use Rattle.std.specs.Prelude.{◌≡◌, ℕ, ◌<◌, ◌≤◌, ◌+◌, ◌*◌, IsTrue, length};
 ghost use Rattle.rate_table.specs.Rates.{ONE, HoldsAge};
 ghost use Rattle.present_value.specs.Rounding.{UNIT, down, up};
-ghost use Rattle.cash_projection.specs.inside.Paths.{IsPath, IsPathOf};
+ghost use Rattle.present_value.specs.Values.{pair_at};
+ghost use Rattle.cash_projection.specs.inside.Paths.{IsSurvivalPath};
 
 use present_value::{Pair, UNITS_IN_ONE, quotient_down, quotient_up};
 use rate_table::RateTable;
@@ -13,45 +14,66 @@ const CERTAIN: u128 = 1_000_000_000;
 /// No path is of this age.
 const NO_AGE: u8 = 255;
 
+/// By which rates those of an age die, and of which age they are.
+#[derive(Clone, Copy)]
+pub struct PathKey {
+    /// The row of the basis that has the table.
+    pub row: u16,
+    /// The age at issue; 0 where the rates are the same for all.
+    pub issue: u8,
+    /// The age now.
+    pub age: u8,
+}
+
 /// The part of those of an age who are alive after so many years, and the part who die in the year behind it, to the end
 /// of the table, in units of 10^-16. A place after the end has no meaning.
 #[derive(Clone, Copy)]
 pub struct Path {
-    /// The row of the basis that has the table.
-    pub row: u16,
-    pub age: u8,
+    pub key: PathKey,
     pub alive: [Pair; 132],
     pub dying: [Pair; 132],
+}
+
+impl PathKey {
+    /// Whether both are by the same rates and of the same age.
+    pub fn is(self, other: PathKey) -> bool
+        ensures { IsTrue result → self ≡ other }
+    {
+        self.row == other.row && self.issue == other.issue && self.age == other.age
+    }
 }
 
 impl Path {
     /// A path of no age.
     pub fn none() -> Path
-        ensures { result.age ≡ 255 }
+        ensures { result.key.age ≡ 255 }
     {
         Path {
-            row: 0,
-            age: NO_AGE,
+            key: PathKey {
+                row: 0,
+                issue: 0,
+                age: NO_AGE,
+            },
             alive: [Pair { lo: 0, hi: 0 }; 132],
             dying: [Pair { lo: 0, hi: 0 }; 132],
         }
     }
 
-    /// Whether this is the path of an age by a row of the basis.
-    pub fn is_of(&self, row: u16, age: u8) -> bool
-        ensures { IsTrue result ↔ IsPathOf self.now row age }
+    /// Those alive at the end of each year.
+    pub fn alive_at_end(&self) -> &[Pair]
+        ensures places { length result.now ≡ 131 }
+        ensures each { (j : ℕ) → j < 131 → pair_at result.now j ≡ pair_at self.now.alive (j + 1) }
     {
-        self.row == row && self.age == age
+        &self.alive[1..]
     }
 
-    /// The path of an age that the table of a row holds.
-    pub fn of(row: u16, table: &RateTable, age: u8) -> Path
-        requires { HoldsAge table.now age }
-        ensures of { (result.row ≡ row) × (result.age ≡ age) }
-        ensures age { age ≤ 130 }
-        ensures path { IsPath table.now age result }
+    /// The path of a key by its rates, which hold its age.
+    pub fn of(key: PathKey, table: &RateTable) -> Path
+        requires { HoldsAge table.now key.age }
+        ensures key { result.key ≡ key }
+        ensures path { IsSurvivalPath table.now key.age result }
     {
-        let rates = table.rates_from(age);
+        let rates = table.rates_from(key.age);
         let mut alive = [Pair {
             lo: UNITS_IN_ONE,
             hi: UNITS_IN_ONE,
@@ -62,12 +84,7 @@ impl Path {
             dying[j] = part_of(now, *rate);
             alive[j + 1] = part_of(now, 1_000_000_000 - *rate);
         }
-        Path {
-            row,
-            age,
-            alive,
-            dying,
-        }
+        Path { key, alive, dying }
     }
 }
 

@@ -2,11 +2,10 @@
 ghost use Rattle.std.specs.Prelude.{◌≡◌, ◌≤◌, ◌<◌, IfOk, List, length, slice_index_or};
 ghost use Rattle.rate_table.specs.Rates.{HoldsAge};
 ghost use Rattle.basis_book.specs.Dated.{Dated};
-ghost use Rattle.policy_value.specs.Caches.{IsRowOf};
-ghost use Rattle.cash_projection.specs.inside.Paths.{ArePaths, IsPathAt};
+ghost use Rattle.cash_projection.specs.inside.Paths.{ArePaths, AreRatesOf, IsPathAt};
 ghost use Rattle.cash_projection.specs.declared.path.Path.{Path as APath};
 
-use crate::path::Path;
+use crate::path::{Path, PathKey};
 use basis_book::Basis;
 use policy_types::NoMemory;
 use rate_table::RateTable;
@@ -31,19 +30,19 @@ impl Paths {
         }
     }
 
-    /// Where the path of an age lies, by a row of the basis.
-    pub fn place_of(&mut self, basis: &Basis, row: u16, table: &RateTable, age: u8, bp: u16) -> usize
+    /// Where the path of a key lies, by the rates of its row of the basis.
+    pub fn place_of(&mut self, basis: &Basis, key: PathKey, rates: &RateTable) -> usize
         requires right { ArePaths basis.now self.old }
-        requires row { IsRowOf basis.now row table.now bp }
-        requires age { HoldsAge table.now age × (age ≤ 130) }
+        requires rates { AreRatesOf basis.now key rates.now }
+        requires age { HoldsAge rates.now key.age × (key.age ≤ 130) }
         ensures right { ArePaths basis.now self.new }
-        ensures here { IsPathAt table.now age self.new.kept.items result }
+        ensures here { IsPathAt rates.now key.age self.new.kept.items result }
     {
-        let place = (row as usize * 131 + age as usize) % self.kept.len();
-        if self.kept[place].is_of(row, age) {
+        let place = slot_of(key, self.kept.len());
+        if self.kept[place].key.is(key) {
             return place;
         }
-        self.kept[place] = Path::of(row, table, age);
+        self.kept[place] = Path::of(key, rates);
         place
     }
 
@@ -54,4 +53,12 @@ impl Paths {
     {
         &self.kept[place]
     }
+}
+
+// The place of a key among so many: the ages of one table lie at places of their own where there are 131.
+fn slot_of(key: PathKey, count: usize) -> usize
+    requires { 1 ≤ count }
+    ensures { result < count }
+{
+    (key.row as usize * 131 + key.issue as usize * 17 + key.age as usize) % count
 }

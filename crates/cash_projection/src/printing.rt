@@ -2,7 +2,8 @@
 ghost use Rattle.std.specs.Prelude.{◌≡◌, ◌≤◌, ◌++◌, length, IfOk, OnOk};
 ghost use Rattle.std.specs.List.{All};
 ghost use Rattle.life_dates.specs.Calendar.{IsTermDay};
-ghost use Rattle.cash_projection.specs.Text.{IsTellable, asked_text, projection_text, words_text, year_text};
+ghost use Rattle.text_lines.specs.Lines.{behind_commas};
+ghost use Rattle.cash_projection.specs.Text.{IsTellable, asked_text, projection_text, words_text, year_fields, year_text};
 
 use crate::years::{Year, Years};
 use policy_types::NoMemory;
@@ -63,13 +64,21 @@ fn write_year(lines: &mut LineWriter, j: u32, year: &Year) -> Result<(), NoMemor
 {
     lines.first("year")?;
     lines.number(j)?;
+    write_bounds(lines, year)?;
+    lines.end()
+}
+
+// Adds the bounds of a year.
+fn write_bounds(lines: &mut LineWriter, year: &Year) -> Result<(), NoMemory>
+    requires { IsTellable year.now }
+    ensures { OnOk result (lines.new ≡ lines.old ++ behind_commas (year_fields year.now)) }
+{
     lines.cents(year.premium.lo as i64)?;
     lines.cents(year.premium.hi as i64)?;
     lines.cents(year.death.lo as i64)?;
     lines.cents(year.death.hi as i64)?;
     lines.cents(year.maturity.lo as i64)?;
-    lines.cents(year.maturity.hi as i64)?;
-    lines.end()
+    lines.cents(year.maturity.hi as i64)
 }
 
 // Adds how many have a word.

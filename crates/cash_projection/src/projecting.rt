@@ -1,7 +1,8 @@
 // The projection of a list of policies.
-ghost use Rattle.std.specs.Prelude.{◌≤◌, IfOk, length};
+ghost use Rattle.std.specs.Prelude.{◌≤◌, All, IfOk, length};
 ghost use Rattle.std.specs.List.{AllByRecursion};
-ghost use Rattle.cash_projection.specs.Policies.{IsCashOf, IsIssued};
+ghost use Rattle.cash_projection.specs.Policies.{IsCashOf, IsOfIssue};
+ghost use Rattle.cash_projection.specs.Text.{IsTellable};
 ghost use Rattle.cash_projection.specs.inside.Paths.{ArePaths};
 ghost use Rattle.cash_projection.specs.inside.Tallies.{IsTallyOf};
 
@@ -12,8 +13,8 @@ use basis_book::Basis;
 use policy_types::{NoMemory, Policy};
 use std::alloc::Global;
 
-/// The paths that are kept for one projection, of some 4 kB each.
-const PATHS_KEPT: u16 = 262;
+/// The paths that are kept for one projection, together below 1 MiB.
+const PATHS_KEPT: u16 = 240;
 
 /// What policies are expected to pay and to be paid on a day, in days since 1970-01-01, in each of so many years from the
 /// current one.
@@ -24,10 +25,11 @@ pub fn project_policies(
     on: i32,
     years: u8,
 ) -> Result<(Years, u32), NoMemory>
-    requires sound { AllByRecursion IsIssued policies.now }
+    requires sound { AllByRecursion IsOfIssue policies.now }
     requires few { length policies.now ≤ 4000000 }
     requires years { years ≤ 131 }
-    ensures { IfOk result (λ r. IsCashOf basis.now on policies.now years r.1 r.0) }
+    ensures cash { IfOk result (λ r. IsCashOf basis.now on policies.now years r.1 r.0) }
+    ensures tellable { IfOk result (λ r. All IsTellable r.0) }
 {
     let mut paths = Paths::new(alloc, PATHS_KEPT)?;
     let tally = tally_policies(policies, basis, on, years, &mut paths);
@@ -42,7 +44,7 @@ pub fn tally_policies(
     years: u8,
     paths: &mut Paths,
 ) -> Tally
-    requires sound { AllByRecursion IsIssued policies.now }
+    requires sound { AllByRecursion IsOfIssue policies.now }
     requires few { length policies.now ≤ 4000000 }
     requires years { years ≤ 131 }
     requires right { ArePaths basis.now paths.old }

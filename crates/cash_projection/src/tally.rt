@@ -3,22 +3,23 @@ ghost use Rattle.std.specs.Prelude.{◌≡◌, ◌≤◌, ◌<◌, ◌≤ℤ◌,
 ghost use Rattle.basis_book.specs.Dated.{Dated};
 ghost use Rattle.policy_types.specs.declared.policy.Policy.{Policy as APolicy};
 ghost use Rattle.policy_value.specs.Rows.{IsInsured};
-ghost use Rattle.policy_value.specs.Caches.{IsRowOf};
+ghost use Rattle.select_rates.specs.Along.{IsBelow, table_along};
 ghost use Rattle.plan_benefits.specs.Shapes.{shape_of};
 ghost use Rattle.cash_projection.specs.Prospects.{IsSmall, Prospect as AProspect, due};
-ghost use Rattle.cash_projection.specs.Policies.{IsCashOf, IsIssued, charged, prospect_of};
-ghost use Rattle.cash_projection.specs.inside.Paths.{ArePaths, IsPath};
-ghost use Rattle.cash_projection.specs.inside.Tallies.{Fits, HasAdded, HasRoom, HasTaken, HasTakenBy, IsIdle, IsSized, IsTallyOf};
+ghost use Rattle.cash_projection.specs.Policies.{IsCashOf, IsOfIssue, charged, prospect_of};
+ghost use Rattle.cash_projection.specs.inside.Paths.{ArePaths, IsSurvivalPath, IsTableOfRow};
+ghost use Rattle.cash_projection.specs.inside.Tallies.{Fits, HasAdded, TakesOneMore, HasCounted, HasCountedBy, IsIdle, IsSized, IsTallyOf};
 
 use crate::column::Column;
-use crate::path::Path;
+use crate::path::{Path, PathKey};
 use crate::paths::Paths;
 use crate::years::{Year, Years};
 use basis_book::Basis;
 use life_dates::completed;
-use plan_benefits::shape;
+use plan_benefits::shape_along;
 use policy_types::{NoMemory, Policy, Status};
 use rate_table::{RateTable, Shape};
+use select_rates::AnyTable;
 use std::alloc::Global;
 
 /// The sums of what policies pay and are paid, in each of so many years from the current one, and how many policies they
@@ -54,10 +55,10 @@ impl Tally {
 
     /// Adds a policy on a day, in days since 1970-01-01.
     pub fn add(&mut self, policy: &Policy, basis: &Basis, on: i32, paths: &mut Paths)
-        requires sound { IsIssued policy.now }
-        requires room { HasRoom self.old }
+        requires sound { IsOfIssue policy.now }
+        requires room { TakesOneMore self.old }
         requires right { ArePaths basis.now paths.old }
-        ensures taken { HasTaken basis.now on policy.now self.old self.new }
+        ensures taken { HasCounted basis.now on policy.now self.old self.new }
         ensures right { ArePaths basis.now paths.new }
     {
         if !is_insured(policy, on) {
@@ -65,14 +66,14 @@ impl Tally {
             return;
         }
         match basis.pick(policy.issued) {
-            Some((row, table, bp)) => self.add_by(policy, basis, row, table, bp, on, paths),
+            Some((row, table, _)) => self.add_by(policy, basis, row, table, on, paths),
             None => self.add_nothing(1),
         }
     }
 
     /// Adds a policy that neither pays nor is paid, with a word why or none.
     fn add_nothing(&mut self, words: u32)
-        requires room { HasRoom self.old }
+        requires room { TakesOneMore self.old }
         requires words { words ≤ 1 }
         ensures { (p : AProspect) → IsIdle p → p.words ≡ words → HasAdded self.old.years p self.old self.new }
     {
@@ -86,24 +87,23 @@ impl Tally {
         policy: &Policy,
         basis: &Basis,
         row: u16,
-        table: &RateTable,
-        bp: u16,
+        table: &AnyTable,
         on: i32,
         paths: &mut Paths,
     )
-        requires sound { IsIssued policy.now }
+        requires sound { IsOfIssue policy.now }
         requires issued { policy.now.issued ≤ℤ on }
-        requires room { HasRoom self.old }
-        requires row { IsRowOf basis.now row table.now bp }
+        requires room { TakesOneMore self.old }
+        requires row { IsTableOfRow basis.now row table.now }
         requires right { ArePaths basis.now paths.old }
-        ensures taken { HasTakenBy policy.now table.now on
+        ensures taken { HasCountedBy policy.now table.now on
             (shape_of policy.now.plan policy.now.age policy.now.years table.now) self.old self.new }
         ensures right { ArePaths basis.now paths.new }
     {
-        match shape(policy.plan, policy.age, policy.years, table) {
+        match shape_along(policy.plan, policy.age, policy.years, table) {
             Ok(shape) => {
                 let t = completed(policy.issued, on).min(shape.n);
-                self.add_ahead(policy, basis, row, table, bp, &shape, t, paths)
+                self.add_ahead(policy, basis, row, table, &shape, t, paths)
             }
             Err(_) => self.add_nothing(1),
         }
@@ -115,41 +115,50 @@ impl Tally {
         policy: &Policy,
         basis: &Basis,
         row: u16,
-        table: &RateTable,
-        bp: u16,
+        table: &AnyTable,
         shape: &Shape,
         t: u8,
         paths: &mut Paths,
     )
-        requires sound { IsIssued policy.now }
-        requires room { HasRoom self.old }
-        requires row { IsRowOf basis.now row table.now bp }
-        requires fits { Fits table.now shape.now }
+        requires sound { IsOfIssue policy.now }
+        requires room { TakesOneMore self.old }
+        requires row { IsTableOfRow basis.now row table.now }
+        requires above { IsBelow table.now shape.now.age → ⊥ }
+        requires fits { Fits (table_along table.now shape.now.age) shape.now }
         requires year { t ≤ shape.now.n }
         requires right { ArePaths basis.now paths.old }
-        ensures added { HasAdded self.old.years (prospect_of policy.now table.now shape.now t) self.old self.new }
-        ensures small { IsSmall (prospect_of policy.now table.now shape.now t) }
+        ensures added { HasAdded self.old.years
+            (prospect_of policy.now (table_along table.now shape.now.age) shape.now t) self.old self.new }
+        ensures small { IsSmall (prospect_of policy.now (table_along table.now shape.now.age) shape.now t) }
         ensures right { ArePaths basis.now paths.new }
     {
-        let _ = table.last_age();
+        let Some(rates) = table.along(shape.age) else {
+            unreachable!()
+        };
+        let _ = rates.last_age();
         if t == shape.n {
             self.add_nothing(0);
             return;
         }
-        let place = paths.place_of(basis, row, table, shape.age + t, bp);
-        self.add_path(policy, table, paths.at(place), shape, t);
+        let key = PathKey {
+            row,
+            issue: issue_of(table, shape.age),
+            age: shape.age + t,
+        };
+        let place = paths.place_of(basis, key, rates);
+        self.add_path(policy, rates, paths.at(place), shape, t);
     }
 
     /// Adds what a policy pays and is paid along the path of its age.
-    fn add_path(&mut self, policy: &Policy, table: &RateTable, path: &Path, shape: &Shape, t: u8)
-        requires sound { IsIssued policy.now }
-        requires room { HasRoom self.old }
-        requires fits { Fits table.now shape.now }
+    fn add_path(&mut self, policy: &Policy, rates: &RateTable, path: &Path, shape: &Shape, t: u8)
+        requires sound { IsOfIssue policy.now }
+        requires room { TakesOneMore self.old }
+        requires fits { Fits rates.now shape.now }
         requires year { t < shape.now.n }
-        requires path { IsPath table.now (shape.now.age + t) path.now }
-        ensures { HasAdded self.old.years (prospect_of policy.now table.now shape.now t) self.old self.new }
+        requires path { IsSurvivalPath rates.now (shape.now.age + t) path.now }
+        ensures { HasAdded self.old.years (prospect_of policy.now rates.now shape.now t) self.old self.new }
     {
-        let _ = table.last_age();
+        let _ = rates.last_age();
         let years = self.years;
         let from = policy.paid.saturating_sub(t);
         let to = shape.h.saturating_sub(t);
@@ -158,11 +167,16 @@ impl Tally {
         self.premium.add(&path.alive, premiums.0, premiums.1, cents);
         let cover = shape.n - t;
         let deaths = within(0, cover, years);
-        self.death.add(&path.dying, deaths.0, deaths.1, policy.amount);
+        self.death
+            .add(&path.dying, deaths.0, deaths.1, policy.amount);
         let first = maturity_from(shape.matures, cover);
         let maturities = within(first, cover, years);
-        let after = &path.alive[1..];
-        self.maturity.add(after, maturities.0, maturities.1, policy.amount);
+        self.maturity.add(
+            path.alive_at_end(),
+            maturities.0,
+            maturities.1,
+            policy.amount,
+        );
         self.policies += 1;
     }
 
@@ -204,6 +218,16 @@ impl Tally {
             });
         }
         Ok(Years::new(years))
+    }
+}
+
+/// The age at issue by which paths are kept: 0 where the rates are the same for all.
+fn issue_of(table: &AnyTable, age: u8) -> u8
+    ensures { table_along table.now result ≡ table_along table.now age }
+{
+    match table {
+        AnyTable::Aggregate(_) => 0,
+        AnyTable::Select(_) => age,
     }
 }
 

@@ -14,11 +14,11 @@ use std::test::Fail;
 use std::thread::Threads;
 use watcher_set::{NoWatchers, Watching};
 
-// What makes two workers worth their threads, and one policy.
-const MOST: u32 = 16_385;
+// What one worker values at a time, and one policy; four workers are worth their threads.
+const MOST: u32 = 32_769;
 
 // The turns that all cases take.
-const TURNS: u64 = 117;
+const TURNS: u64 = 181;
 
 // The first number of workers with which a case came out otherwise, and the case's number.
 fn first_workers_wrong<D: Disk, W: Watching, R: Threads + Wait + Sync>(
@@ -60,7 +60,7 @@ fn any_number_of_workers_gives_the_same_rows(rt: HostRuntime) -> Result<(), Fail
         (At::Position(256), ONE_YEAR, 256, 256, row, 3),
         (At::Position(257), ONE_YEAR, 257, 257, row, 4),
         (At::Position(8_193), ONE_YEAR, 8_193, 8_193, row, 35),
-        (At::Now, ONE_YEAR, MOST, MOST, row, 67),
+        (At::Now, ONE_YEAR, MOST, MOST, row, 131),
     ];
     let wrong = first_workers_wrong(&rt, alloc, &office, &mut pass, &basis, &cases);
     close(office, pass);

@@ -5,6 +5,8 @@
 //!   is wrong with the file, or `unread` where it is to be read no times; `toolong,FILE` for one of more than 4 MiB.
 //! - `reserves SEED COUNT` values so many policies drawn from a seed below 2^31, and prints the sums of the bounds in
 //!   cents: `reserves,POLICIES,UNVALUED,LOWER,UPPER`.
+//! - `projections SEED COUNT YEARS` projects so many policies, at most 4,000,000, drawn from a seed over so many years, at
+//!   most 131, and prints the sums of all bounds in cents: `projections,POLICIES,UNVALUED,LOWER,UPPER`.
 //! - `turns CALLERS TURNS` has so many callers, 1 to 32, take so many turns each on a counter, and prints the count at the
 //!   end: `turns,CALLERS,COUNT`.
 //! - `waiting SECONDS` has eight callers take one turn each, of which the first works for so long while the others wait,
@@ -22,6 +24,7 @@
 mod counter;
 mod issues;
 mod lane;
+mod projections;
 mod reserves;
 mod sleeping_disk;
 mod tables;
@@ -31,6 +34,7 @@ mod waiting;
 mod words;
 
 use outside_io::{AnyFile, FileDisk};
+use projections::measure_projections;
 use reserves::measure_reserves;
 use sleeping_disk::SleepingDisk;
 use std::process::ExitCode;
@@ -50,6 +54,7 @@ fn main(rt: HostRuntime) -> io::Result<ExitCode> {
     let outcome = match word.as_str() {
         "tables" => measure_tables(&rt, &mut words)?,
         "reserves" => measure_reserves(&rt, &mut words)?,
+        "projections" => measure_projections(&rt, &mut words)?,
         "turns" => measure_turns(&rt, &mut words)?,
         "waiting" => measure_waiting(&rt, &mut words)?,
         "versions" => measure_versions(&rt, &mut words)?,

@@ -100,8 +100,8 @@ pub fn measure_reserves<R: Print + AllocGlobal>(rt: &R, words: &mut Args) -> io:
     Ok(Outcome::Measured)
 }
 
-// The rates of the ages 0 to 120.
-fn table_of_cubes(alloc: Global) -> Result<Option<RateTable>, AllocError> {
+/// The rates of the ages 0 to 120.
+pub fn table_of_cubes(alloc: Global) -> Result<Option<RateTable>, AllocError> {
     let mut rates = Vec::new(alloc);
     for age in 0..121u64 {
         rates.push((600 * age * age * age).min(1_000_000_000) as u32)?;

@@ -1,6 +1,6 @@
 -- Lists that are put together of two, and what holds of their items
-use Rattle.std.proofs.Common.{◌≡◌, ◌++◌, ◌∷◌, ◌+◌, ◌<◌, List, [], ℕ, inl, inr, ap, ap₂, map, refl, sym, ◌∙◌, subst, take, length, get_or, Result, Ok, Err, IfOk, Vec, Global, arith}
-use Rattle.std.proofs.lemmas.List.{take_more}
+use Rattle.std.proofs.Common.{◌≡◌, ◌++◌, ◌∷◌, ◌+◌, ◌<◌, List, [], ℕ, inl, inr, ap, ap₂, map, refl, sym, ◌∙◌, subst, take, set, length, get_or, Result, Ok, Err, IfOk, Vec, Global, arith}
+use Rattle.std.proofs.lemmas.List.{take_more, take_more_set}
 use Rattle.std.specs.List.{AllByRecursion, AllZip}
 use Rattle.parallel_value.specs.Pieces.{TakeAll, MayGive, AreValues, IsAsBefore, AreBoth, Compute}
 use Rattle.parallel_value.specs.declared.piece.NoMemory.{NoMemory}
@@ -42,6 +42,12 @@ values_next P xs i x ys zs y lt is all longer last =
     subst (λ l. AllZip P (take (i + 1) xs) l) (sym longer)
     (subst (λ l. AllZip P l (ys ++ y ∷ [])) (ap (λ z. take i xs ++ z ∷ []) is ∙ sym (take_more xs i x lt)) (zip_push P (take i xs) ys x y all last))
 
+-- one place more is filled
+pub filled_next : {X Y : Type 0} (P : X → Y → Type 0) (xs : List X) (i : ℕ) (x : X) (ys : List Y) (y : Y) → i < length xs → length ys ≡ length xs
+    → x ≡ get_or xs i x → AllZip P (take i xs) (take i ys) → P x y → AllZip P (take (i + 1) xs) (take (i + 1) (set ys i y))
+filled_next P xs i x ys y lt places is all last =
+    values_next P xs i x (take i ys) (take (i + 1) (set ys i y)) y lt is all (take_more_set ys i y (omega (arith, lt, places))) last
+
 module _ {P I O : Type 0} (takes : P → I → Type 0) (gives : P → I → O → Type 0) where
   pub may_front : (ps qs : List P) (item : I) (value : O) → MayGive gives ps item value → MayGive gives (ps ++ qs) item value
   may_front [] qs item value may = absurd may
@@ -77,9 +83,13 @@ module _ {P I O : Type 0} (takes : P → I → Type 0) (gives : P → I → O �
   may_alone [] d one item value given = let no : ⊥ = omega (arith, one) in absurd no
   may_alone (q ∷ qs) d one item value given = inl given
 
+  pub list_alone : (ps : List P) (d : P) (items : List I) (values : List O) → length ps ≡ 1 → AllZip (gives (get_or ps 0 d)) items values
+      → AreValues gives ps items values
+  list_alone ps d items values one given = zip_more _ _ items values (may_alone ps d one) given
+
   pub values_alone : (ps : List P) (d : P) (items : List I) (result : Result (Vec O Global) NoMemory) → length ps ≡ 1
       → IfOk result (λ values. AllZip (gives (get_or ps 0 d)) items values.items) → IfOk result (λ values. AreValues gives ps items values.items)
-  values_alone ps d items (Ok values) one given = zip_more _ _ items values.items (may_alone ps d one) given
+  values_alone ps d items (Ok values) one given = list_alone ps d items values.items one given
   values_alone ps d items (Err fault) one given = tt
 
   -- the values of both halves, where both have found memory
@@ -109,6 +119,12 @@ module _ {P I O : Type 0} (takes : P → I → Type 0) (gives : P → I → O �
       subst (λ l. IfOk result (λ values. AreValues gives l items values.items)) (sym pieces)
       (subst (λ l. IfOk result (λ values. AreValues gives (front ++ back) l values.items)) (sym cut) given)
 
+  pub list_whole : (ps front back : List P) (items xs ys : List I) (vs ws : List O) → ps ≡ front ++ back → items ≡ xs ++ ys
+      → AreValues gives front xs vs → AreValues gives back ys ws → AreValues gives ps items (vs ++ ws)
+  list_whole ps front back items xs ys vs ws pieces cut first last =
+      subst (λ l. AreValues gives l items (vs ++ ws)) (sym pieces)
+      (subst (λ l. AreValues gives (front ++ back) l (vs ++ ws)) (sym cut) (values_append front back xs ys vs ws first last))
+
   pub may_compute : (ps : List P) (f : I → O) → Compute gives ps f → (item : I) (value : O) → MayGive gives ps item value → value ≡ f item
   may_compute [] f all item value may = absurd may
   may_compute (p ∷ ps) f all item value (inl given) = all.0 item value given
@@ -120,7 +136,11 @@ module _ {P I O : Type 0} (takes : P → I → Type 0) (gives : P → I → O �
   zip_computed f (x ∷ xs) [] all = absurd all
   zip_computed f (x ∷ xs) (y ∷ ys) all = ap₂ ◌∷◌ all.0 (zip_computed f xs ys all.1)
 
+  pub list_computed : (ps : List P) (f : I → O) (items : List I) (values : List O) → Compute gives ps f → AreValues gives ps items values
+      → values ≡ map f items
+  list_computed ps f items values all given = zip_computed f items values (zip_more _ _ items values (may_compute ps f all) given)
+
   pub values_computed : (ps : List P) (f : I → O) (items : List I) (result : Result (Vec O Global) NoMemory) → Compute gives ps f
       → IfOk result (λ values. AreValues gives ps items values.items) → IfOk result (λ values. values.items ≡ map f items)
-  values_computed ps f items (Ok values) all given = zip_computed f items values.items (zip_more _ _ items values.items (may_compute ps f all) given)
+  values_computed ps f items (Ok values) all given = list_computed ps f items values.items all given
   values_computed ps f items (Err fault) all given = tt

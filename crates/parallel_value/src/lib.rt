@@ -1,8 +1,11 @@
 //! The values of a list's items, computed by several workers at the same time, in the order of the items.
 #![tactic(auto)]
 
+mod filling;
 mod mapping;
 mod piece;
+mod share;
 
+pub use filling::map_into;
 pub use mapping::map_in;
 pub use piece::{NoMemory, Piece};

@@ -4,12 +4,14 @@ ghost use Rattle.std.specs.List.{AllByRecursion, AllZip};
 ghost use Rattle.std.specs.Thread.{IsSync, IsSend};
 ghost use Rattle.parallel_value.specs.Pieces.{AreAsBefore, AreBoth, AreValues, Compute, IsAsBefore, TakeAll};
 
+use crate::share::share_of;
 use crate::{NoMemory, Piece};
 use std::alloc::Global;
 use std::thread::{Threads, join_mut};
 
 /// The values of the items, in their order. Each worker goes through as many items on end as any other, or one more, in
-/// a thread of its own; one worker alone starts no thread.
+/// a thread of its own; one worker alone starts no thread. It is for values that have no places yet: each worker makes a
+/// list in its own thread. No program uses it; a valuation writes by `map_into`.
 pub fn map_in<R: Threads + Sync, I: Sync, O: Send + Drop, P: Piece<I, O> + Send>(
     rt: &R,
     alloc: Global,
@@ -99,16 +101,6 @@ fn map_by_one<I, O: Drop, P: Piece<I, O>>(
     ensures pieces { AreAsBefore P.takes P.gives pieces.old pieces.new }
 {
     map_alone(alloc, &mut pieces[0], items)
-}
-
-// How many of the items fall to the first so many of the workers.
-fn share_of(items: usize, half: usize, many: usize) -> usize
-    requires some { 0 < many }
-    requires front { half ≤ many }
-    requires few { many ≤ 64 }
-    ensures { result ≤ items }
-{
-    items / many * half + items % many * half / many
 }
 
 // The values of the items by one worker.

@@ -1,9 +1,13 @@
+ghost use Rattle.std.specs.Prelude.{IsTrue, All};
+ghost use Rattle.cash_projection.specs.Text.{IsTellable};
+
 // Projections of cash. The cents were computed outside this program by exact fractions, and rounded down and up.
 use crate::policy_value_tests::{
     DAY_BEFORE, FLAT, ISSUED, ONE_YEAR, THREE_YEARS, TWO_YEARS, basis, policy,
 };
-use cash_projection::{Year, project_policies};
+use cash_projection::{Projection, Year, Years, print_projection, project_policies};
 use policy_types::{Command, Plan, Policy, Status};
+use present_value::Pair;
 use std::alloc::Global;
 use std::test::Fail;
 
@@ -59,7 +63,11 @@ fn years_of_one_policy(rt: HostRuntime) -> Result<(), Fail> {
                 ..policy(Plan::Endowment, 0, 3)
             },
             DAY_BEFORE,
-            &[[40_000, 40_000, 10_000, 10_000, 0, 0], [36_000, 36_000, 18_000, 18_000, 0, 0], [28_800, 28_800, 18_000, 18_000, 54_000, 54_000]][..],
+            &[
+                [40_000, 40_000, 10_000, 10_000, 0, 0],
+                [36_000, 36_000, 18_000, 18_000, 0, 0],
+                [28_800, 28_800, 18_000, 18_000, 54_000, 54_000],
+            ][..],
         ),
         (
             "first premium paid",
@@ -71,7 +79,11 @@ fn years_of_one_policy(rt: HostRuntime) -> Result<(), Fail> {
                 ..policy(Plan::Endowment, 0, 3)
             },
             DAY_BEFORE,
-            &[[0, 0, 10_000, 10_000, 0, 0], [36_000, 36_000, 18_000, 18_000, 0, 0], [28_800, 28_800, 18_000, 18_000, 54_000, 54_000]][..],
+            &[
+                [0, 0, 10_000, 10_000, 0, 0],
+                [36_000, 36_000, 18_000, 18_000, 0, 0],
+                [28_800, 28_800, 18_000, 18_000, 54_000, 54_000],
+            ][..],
         ),
         (
             "past the end of cover",
@@ -83,7 +95,13 @@ fn years_of_one_policy(rt: HostRuntime) -> Result<(), Fail> {
                 ..policy(Plan::Endowment, 0, 3)
             },
             DAY_BEFORE,
-            &[[40_000, 40_000, 10_000, 10_000, 0, 0], [36_000, 36_000, 18_000, 18_000, 0, 0], [28_800, 28_800, 18_000, 18_000, 54_000, 54_000], [0, 0, 0, 0, 0, 0], [0, 0, 0, 0, 0, 0]][..],
+            &[
+                [40_000, 40_000, 10_000, 10_000, 0, 0],
+                [36_000, 36_000, 18_000, 18_000, 0, 0],
+                [28_800, 28_800, 18_000, 18_000, 54_000, 54_000],
+                [0, 0, 0, 0, 0, 0],
+                [0, 0, 0, 0, 0, 0],
+            ][..],
         ),
         (
             "a year on, one paid",
@@ -95,7 +113,11 @@ fn years_of_one_policy(rt: HostRuntime) -> Result<(), Fail> {
                 ..policy(Plan::Endowment, 0, 3)
             },
             ONE_YEAR,
-            &[[40_000, 40_000, 20_000, 20_000, 0, 0], [32_000, 32_000, 20_000, 20_000, 60_000, 60_000], [0, 0, 0, 0, 0, 0]][..],
+            &[
+                [40_000, 40_000, 20_000, 20_000, 0, 0],
+                [32_000, 32_000, 20_000, 20_000, 60_000, 60_000],
+                [0, 0, 0, 0, 0, 0],
+            ][..],
         ),
         (
             "in arrears",
@@ -107,7 +129,10 @@ fn years_of_one_policy(rt: HostRuntime) -> Result<(), Fail> {
                 ..policy(Plan::Endowment, 0, 3)
             },
             TWO_YEARS,
-            &[[40_000, 40_000, 25_000, 25_000, 75_000, 75_000], [0, 0, 0, 0, 0, 0]][..],
+            &[
+                [40_000, 40_000, 25_000, 25_000, 75_000, 75_000],
+                [0, 0, 0, 0, 0, 0],
+            ][..],
         ),
         (
             "at the end",
@@ -131,7 +156,12 @@ fn years_of_one_policy(rt: HostRuntime) -> Result<(), Fail> {
                 ..policy(Plan::Term, 1, 3)
             },
             DAY_BEFORE,
-            &[[333, 333, 19_999, 20_000, 0, 0], [266, 267, 19_999, 20_000, 0, 0], [199, 200, 29_999, 30_000, 0, 0], [0, 0, 0, 0, 0, 0]][..],
+            &[
+                [333, 333, 19_999, 20_000, 0, 0],
+                [266, 267, 19_999, 20_000, 0, 0],
+                [199, 200, 29_999, 30_000, 0, 0],
+                [0, 0, 0, 0, 0, 0],
+            ][..],
         ),
         (
             "term, all paid",
@@ -143,7 +173,11 @@ fn years_of_one_policy(rt: HostRuntime) -> Result<(), Fail> {
                 ..policy(Plan::Term, 1, 3)
             },
             ONE_YEAR,
-            &[[0, 0, 24_999, 25_000, 0, 0], [0, 0, 37_499, 37_500, 0, 0], [0, 0, 0, 0, 0, 0]][..],
+            &[
+                [0, 0, 24_999, 25_000, 0, 0],
+                [0, 0, 37_499, 37_500, 0, 0],
+                [0, 0, 0, 0, 0, 0],
+            ][..],
         ),
         (
             "whole",
@@ -155,7 +189,14 @@ fn years_of_one_policy(rt: HostRuntime) -> Result<(), Fail> {
                 ..policy(Plan::Whole, 0, 0)
             },
             DAY_BEFORE,
-            &[[1_234, 1_234, 7_777, 7_778, 0, 0], [1_110, 1_111, 13_999, 14_000, 0, 0], [888, 889, 13_999, 14_000, 0, 0], [666, 667, 20_999, 21_000, 0, 0], [333, 334, 20_999, 21_000, 0, 0], [0, 0, 0, 0, 0, 0]][..],
+            &[
+                [1_234, 1_234, 7_777, 7_778, 0, 0],
+                [1_110, 1_111, 13_999, 14_000, 0, 0],
+                [888, 889, 13_999, 14_000, 0, 0],
+                [666, 667, 20_999, 21_000, 0, 0],
+                [333, 334, 20_999, 21_000, 0, 0],
+                [0, 0, 0, 0, 0, 0],
+            ][..],
         ),
         (
             "whole, two years on",
@@ -167,7 +208,12 @@ fn years_of_one_policy(rt: HostRuntime) -> Result<(), Fail> {
                 ..policy(Plan::Whole, 0, 0)
             },
             TWO_YEARS,
-            &[[1_234, 1_234, 19_444, 19_445, 0, 0], [925, 926, 29_166, 29_167, 0, 0], [462, 463, 29_166, 29_167, 0, 0], [0, 0, 0, 0, 0, 0]][..],
+            &[
+                [1_234, 1_234, 19_444, 19_445, 0, 0],
+                [925, 926, 29_166, 29_167, 0, 0],
+                [462, 463, 29_166, 29_167, 0, 0],
+                [0, 0, 0, 0, 0, 0],
+            ][..],
         ),
         (
             "limited",
@@ -179,7 +225,13 @@ fn years_of_one_policy(rt: HostRuntime) -> Result<(), Fail> {
                 ..policy(Plan::Limited, 0, 2)
             },
             DAY_BEFORE,
-            &[[7, 7, 3, 4, 0, 0], [6, 7, 5, 6, 0, 0], [0, 0, 5, 6, 0, 0], [0, 0, 8, 9, 0, 0], [0, 0, 8, 9, 0, 0]][..],
+            &[
+                [7, 7, 3, 4, 0, 0],
+                [6, 7, 5, 6, 0, 0],
+                [0, 0, 5, 6, 0, 0],
+                [0, 0, 8, 9, 0, 0],
+                [0, 0, 8, 9, 0, 0],
+            ][..],
         ),
         (
             "limited, years past the table",
@@ -191,7 +243,11 @@ fn years_of_one_policy(rt: HostRuntime) -> Result<(), Fail> {
                 ..policy(Plan::Limited, 3, 40)
             },
             DAY_BEFORE,
-            &[[7, 7, 15, 16, 0, 0], [3, 4, 15, 16, 0, 0], [0, 0, 0, 0, 0, 0]][..],
+            &[
+                [7, 7, 15, 16, 0, 0],
+                [3, 4, 15, 16, 0, 0],
+                [0, 0, 0, 0, 0, 0],
+            ][..],
         ),
         (
             "paid up",
@@ -203,7 +259,11 @@ fn years_of_one_policy(rt: HostRuntime) -> Result<(), Fail> {
                 ..policy(Plan::Endowment, 0, 4)
             },
             TWO_YEARS,
-            &[[0, 0, 13_580, 13_581, 0, 0], [0, 0, 20_370, 20_371, 20_370, 20_371], [0, 0, 0, 0, 0, 0]][..],
+            &[
+                [0, 0, 13_580, 13_581, 0, 0],
+                [0, 0, 20_370, 20_371, 20_370, 20_371],
+                [0, 0, 0, 0, 0, 0],
+            ][..],
         ),
         (
             "greatest amounts",
@@ -215,7 +275,33 @@ fn years_of_one_policy(rt: HostRuntime) -> Result<(), Fail> {
                 ..policy(Plan::Endowment, 0, 4)
             },
             ONE_YEAR,
-            &[[10_000_000_000, 10_000_000_000, 2_000_000_000, 2_000_000_000, 0, 0], [8_000_000_000, 8_000_000_000, 2_000_000_000, 2_000_000_000, 0, 0], [6_000_000_000, 6_000_000_000, 3_000_000_000, 3_000_000_000, 3_000_000_000, 3_000_000_000], [0, 0, 0, 0, 0, 0]][..],
+            &[
+                [
+                    10_000_000_000,
+                    10_000_000_000,
+                    2_000_000_000,
+                    2_000_000_000,
+                    0,
+                    0,
+                ],
+                [
+                    8_000_000_000,
+                    8_000_000_000,
+                    2_000_000_000,
+                    2_000_000_000,
+                    0,
+                    0,
+                ],
+                [
+                    6_000_000_000,
+                    6_000_000_000,
+                    3_000_000_000,
+                    3_000_000_000,
+                    3_000_000_000,
+                    3_000_000_000,
+                ],
+                [0, 0, 0, 0, 0, 0],
+            ][..],
         ),
         (
             "a cent",
@@ -256,9 +342,27 @@ fn policies_without_cash(rt: HostRuntime) -> Result<(), Fail> {
         ("lapsed", FLAT, lapsed, ONE_YEAR, 0),
         ("claimed", FLAT, claimed, ONE_YEAR, 0),
         ("its end", FLAT, endowment, THREE_YEARS, 0),
-        ("no basis yet", b"2020-01-02,q.xml,0", endowment, ONE_YEAR, 1),
-        ("below the table", b"1900-01-01,late.xml,0", endowment, ONE_YEAR, 1),
-        ("past the table", FLAT, policy(Plan::Term, 3, 3), ONE_YEAR, 1),
+        (
+            "no basis yet",
+            b"2020-01-02,q.xml,0",
+            endowment,
+            ONE_YEAR,
+            1,
+        ),
+        (
+            "below the table",
+            b"1900-01-01,late.xml,0",
+            endowment,
+            ONE_YEAR,
+            1,
+        ),
+        (
+            "past the table",
+            FLAT,
+            policy(Plan::Term, 3, 3),
+            ONE_YEAR,
+            1,
+        ),
         (
             "a high rate",
             b"1900-01-01,high.xml,0",
@@ -272,6 +376,114 @@ fn policies_without_cash(rt: HostRuntime) -> Result<(), Fail> {
         for year in years.iter() {
             assert_eq!(rt; bounds(year), [0; 6], "{name}");
         }
+    }
+    Ok(())
+}
+
+/// 10^17 cents, the greatest bound that is printed.
+const GREATEST: u64 = 100_000_000_000_000_000;
+
+fn is_tellable(year: &Year) -> bool
+    ensures { IsTrue result → IsTellable year.now }
+{
+    let year = *year;
+    year.premium.lo <= GREATEST
+        && year.premium.hi <= GREATEST
+        && year.death.lo <= GREATEST
+        && year.death.hi <= GREATEST
+        && year.maturity.lo <= GREATEST
+        && year.maturity.hi <= GREATEST
+}
+
+fn are_tellable(years: &Years) -> bool
+    ensures { IsTrue result → All IsTellable years.now }
+{
+    years.as_slice().iter().all(|year| is_tellable(year))
+}
+
+/// The year of six bounds.
+fn year_of(bounds: [u64; 6]) -> Year {
+    let [
+        premium_lo,
+        premium_hi,
+        death_lo,
+        death_hi,
+        maturity_lo,
+        maturity_hi,
+    ] = bounds;
+    Year {
+        premium: Pair {
+            lo: premium_lo,
+            hi: premium_hi,
+        },
+        death: Pair {
+            lo: death_lo,
+            hi: death_hi,
+        },
+        maturity: Pair {
+            lo: maturity_lo,
+            hi: maturity_hi,
+        },
+    }
+}
+
+/// A year with the same bounds of each kind.
+fn alike(lo: u64, hi: u64) -> Year {
+    year_of([lo, hi, lo, hi, lo, hi])
+}
+
+#[test]
+fn projections_as_text(rt: HostRuntime) -> Result<(), Fail> {
+    let first = [
+        year_of([40_000, 40_000, 10_000, 10_000, 0, 0]),
+        year_of([36_000, 36_000, 18_000, 18_000, 0, 0]),
+        year_of([28_800, 28_800, 18_000, 18_000, 54_000, 54_000]),
+    ];
+    for (name, position, on, policies, unvalued, years, expected) in [
+        (
+            "first issue",
+            1,
+            DAY_BEFORE,
+            1,
+            0,
+            &first[..],
+            "project,2020-12-31,1,1,3\nyear,0,400.00,400.00,100.00,100.00,0.00,0.00\n\
+                year,1,360.00,360.00,180.00,180.00,0.00,0.00\nyear,2,288.00,288.00,180.00,180.00,540.00,540.00\n\
+                unvalued,0\n",
+        ),
+        (
+            "no policy",
+            0,
+            84_005,
+            0,
+            0,
+            &[alike(0, 0)][..],
+            "project,2199-12-31,0,0,1\nyear,0,0.00,0.00,0.00,0.00,0.00,0.00\nunvalued,0\n",
+        ),
+        (
+            "the greatest",
+            u32::MAX,
+            -25_567,
+            4_000_000,
+            4_000_000,
+            &[alike(GREATEST - 1, GREATEST)][..],
+            "project,1900-01-01,4294967295,4000000,1\nyear,0,999999999999999.99,1000000000000000.00,\
+                999999999999999.99,1000000000000000.00,999999999999999.99,1000000000000000.00\nunvalued,4000000\n",
+        ),
+    ] {
+        let years = Years::new(years.to_vec(rt.alloc())?);
+        assert!(rt; are_tellable(&years));
+        let projection = Projection {
+            position,
+            on,
+            policies,
+            unvalued,
+            years,
+        };
+        let Ok(text) = print_projection(rt.alloc(), &projection) else {
+            return Err("memory for a projection".into());
+        };
+        assert_eq!(rt; text.as_slice(), expected.as_bytes(), "{name}");
     }
     Ok(())
 }

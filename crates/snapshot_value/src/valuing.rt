@@ -24,7 +24,8 @@ use watcher_set::Watching;
 ///
 /// The position is pinned, and the memory taken; then batches of 256 policies are read, and the gate is called with the
 /// lane's number and `k` after the `k`-th of them. What was read is valued by the workers at the same time, when there
-/// are 8192 policies for each of them or none is left to read. Whatever is answered, the pin is given up.
+/// are 32,768 policies for each of them or 131,072 in all, or none is left to read. Whatever is answered, the pin is
+/// given up.
 pub fn value<D: Disk, W: Watching, G: Gate, R: Threads + Wait + Sync>(
     rt: &R,
     alloc: Global,

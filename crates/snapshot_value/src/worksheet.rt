@@ -1,5 +1,5 @@
 // What a valuation has at hand: its workers, the policies that were read last, and the rows of those before them.
-ghost use Rattle.std.specs.Prelude.{◌≡◌, ◌≤◌, ℤ, List, [], ◌++◌, ◌*◌, IfOk, OnOk, length, min};
+ghost use Rattle.std.specs.Prelude.{◌≡◌, ◌≤◌, ℤ, List, [], ◌++◌, ◌+◌, ◌*◌, IfOk, OnOk, length, min, take, drop};
 ghost use Rattle.std.specs.List.{AllByRecursion};
 ghost use Rattle.basis_book.specs.Dated.{Dated};
 ghost use Rattle.parallel_value.specs.Pieces.{AreAsBefore};
@@ -11,17 +11,29 @@ ghost use Rattle.snapshot_value.specs.inside.Workers.{GivesRow, IsReadyWorker, T
 
 use crate::worker::Worker;
 use basis_book::Basis;
-use parallel_value::map_in;
-use policy_types::{NoMemory, Policy};
-use policy_value::{ColumnCache, Measure, Row};
+use parallel_value::map_into;
+use policy_types::{NoMemory, Policy, Status};
+use policy_value::{ColumnCache, Measure, Row, Worth};
 use std::alloc::Global;
 use std::thread::Threads;
 
 /// The policies that are worth a worker's thread.
 const POLICIES_TO_A_WORKER: usize = 8_192;
 
+/// The policies that are read for each worker before they are valued: new threads are spread over the processors only
+/// while they work for some milliseconds.
+const POLICIES_READ_FOR_A_WORKER: usize = 32_768;
+
 /// The most policies that are read before they are valued.
-const POLICIES_TOGETHER: usize = 65_536;
+const POLICIES_TOGETHER: usize = 131_072;
+
+/// What stands in a row's place until it is valued.
+const BLANK: Row = Row {
+    id: 0,
+    status: Status::InForce,
+    t: 0,
+    worth: Worth::Bounds { lo: 0, hi: 0 },
+};
 
 /// The columns of present values that all workers together keep, of some 2 kB each.
 const COLUMNS_KEPT: u32 = 8_192;
@@ -64,12 +76,7 @@ impl<'a> Worksheet<'a> {
     }
 
     /// Adds policies to those that were read, which are valued first where they are enough.
-    pub fn add<R: Threads + Sync>(
-        &mut self,
-        rt: &R,
-        alloc: Global,
-        part: &[Policy],
-    ) -> Result<(), NoMemory>
+    pub fn add<R: Threads + Sync>(&mut self, rt: &R, part: &[Policy]) -> Result<(), NoMemory>
         requires can { IsSheetReady self.old }
         requires sound { AllByRecursion IsSound part.now }
         ensures made { (basis : List Dated) (on : ℤ) (measure : AMeasure) (policies : List APolicy)
@@ -77,13 +84,13 @@ impl<'a> Worksheet<'a> {
             → OnOk result (HasMade basis on measure (policies ++ part.now) self.new) }
     {
         if together(self.workers.len()) <= self.read.len() {
-            self.value_read(rt, alloc)?;
+            self.value_read(rt)?;
         }
         self.put(part)
     }
 
-    /// Values the policies that were read.
-    pub fn value_read<R: Threads + Sync>(&mut self, rt: &R, alloc: Global) -> Result<(), NoMemory>
+    /// Values the policies that were read: the workers write the rows behind those that are there.
+    pub fn value_read<R: Threads + Sync>(&mut self, rt: &R) -> Result<(), NoMemory>
         requires can { IsSheetReady self.old }
         ensures can { OnOk result (IsSheetReady self.new) }
         ensures none { OnOk result (self.new.read.items ≡ []) }
@@ -91,11 +98,15 @@ impl<'a> Worksheet<'a> {
             → HasMade basis on measure policies self.old
             → OnOk result (HasMade basis on measure policies self.new) }
     {
-        let mut values = value_all(rt, alloc, self.workers.as_mut_slice(), self.read.as_slice())?;
-        self.read.clear();
-        if self.rows.append(&mut values).is_err() {
+        let valued = self.rows.len();
+        let all = valued + self.read.len();
+        if self.rows.resize(all, BLANK).is_err() {
             return Err(NoMemory);
         }
+        let policies = self.read.as_slice();
+        let rows = self.rows.as_mut_slice();
+        value_all(rt, self.workers.as_mut_slice(), policies, valued, rows);
+        self.read.clear();
         Ok(())
     }
 
@@ -121,9 +132,9 @@ impl<'a> Worksheet<'a> {
 // How many policies so many workers value together.
 fn together(workers: usize) -> usize
     requires { workers ≤ 64 }
-    ensures { result ≡ min (8192 * workers) 65536 }
+    ensures { result ≡ min (32768 * workers) 131072 }
 {
-    (POLICIES_TO_A_WORKER * workers).min(POLICIES_TOGETHER)
+    (POLICIES_READ_FOR_A_WORKER * workers).min(POLICIES_TOGETHER)
 }
 
 // The workers, which share what is kept.
@@ -153,23 +164,24 @@ fn workers_for<'a>(
     Ok(workers)
 }
 
-// The rows of policies, by all workers.
+// Writes the rows of policies behind the first so many rows, by all workers.
 fn value_all<R: Threads + Sync>(
     rt: &R,
-    alloc: Global,
     workers: &mut [Worker<'_>],
     policies: &[Policy],
-) -> Result<Vec<Row>, NoMemory>
+    valued: usize,
+    rows: &mut [Row],
+)
     requires some { 1 ≤ length workers.old }
     requires few { length workers.old ≤ 64 }
     requires ready { AllByRecursion IsReadyWorker workers.old }
     requires sound { AllByRecursion IsSound policies.now }
+    requires places { length rows.old ≡ valued + length policies.now }
+    ensures valued { take valued rows.new ≡ take valued rows.old }
     ensures rows { (basis : List Dated) (on : ℤ) (measure : AMeasure) → AllByRecursion (ValuesBy basis on measure) workers.old
-        → IfOk result (λ rows. AreSmallRows basis on measure policies.now rows.items) }
+        → AreSmallRows basis on measure policies.now (drop valued rows.new) }
     ensures workers { AreAsBefore TakesPolicy GivesRow workers.old workers.new }
 {
-    match map_in(rt, alloc, workers, policies) {
-        Ok(rows) => Ok(rows),
-        Err(_) => Err(NoMemory),
-    }
+    let (_, places) = rows.split_at_mut(valued);
+    map_into(rt, workers, policies, places);
 }

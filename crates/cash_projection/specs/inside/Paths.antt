@@ -1,13 +1,15 @@
 -- Those alive of an age, as a path holds them.
-use Rattle.std.specs.Prelude.{◌≡◌, ℕ, ◌+◌, ◌<◌, ◌≤◌, List, length, All, slice_index_or}
+use Rattle.std.specs.Prelude.{◌≡◌, ℕ, ◌+◌, ◌<◌, ◌≤◌, List, length, All, slice_index_or, slice_get, Some}
 use Rattle.rate_table.specs.Rates.{Rates, rate_at}
+use Rattle.select_rates.specs.Along.{table_along}
+use Rattle.select_rates.specs.declared.any.AnyTable.{AnyTable}
 use Rattle.present_value.specs.Rounding.{down, up}
 use Rattle.present_value.specs.Values.{pair_of, pair_at}
 use Rattle.present_value.specs.declared.pair.Pair.{Pair}
 use Rattle.basis_book.specs.Dated.{Dated}
-use Rattle.policy_value.specs.Caches.{IsRowOf}
 use Rattle.cash_projection.specs.Survival.{alive_by, dying_by}
 use Rattle.cash_projection.specs.declared.path.Path.{Path}
+use Rattle.cash_projection.specs.declared.path.PathKey.{PathKey}
 use Rattle.cash_projection.specs.declared.paths.Paths.{Paths}
 
 -- the rates of death from an age on
@@ -28,14 +30,22 @@ pub record KnowsYears (rates : ℕ → ℕ) (count : ℕ) (living dead : List Pa
   pub dying : (j : ℕ) → j < count → pair_at dead j ≡ dying_pair rates j
 
 -- the years to the end of the table are known
-pub record IsPath (table : Rates) (age : ℕ) (path : Path) : Type 0 where
+pub record IsSurvivalPath (table : Rates) (age : ℕ) (path : Path) : Type 0 where
   pub years : ℕ
   pub whole : age + years ≡ table.first_age + length table.rates
   pub knows : KnowsYears (rates_after table age) years path.alive path.dying
 
--- a path that is one is that of its age by its row of the basis
+-- the table of a row of a basis, counted from 0
+abbrev pub IsTableOfRow : List Dated → ℕ → AnyTable → Type 0
+IsTableOfRow basis row table = (entry : Dated) × (slice_get basis row ≡ Some entry) × (table ≡ entry.table)
+
+-- its rates for the age at issue of a key
+abbrev pub AreRatesOf : List Dated → PathKey → Rates → Type 0
+AreRatesOf basis key rates = (entry : Dated) × (slice_get basis key.row ≡ Some entry) × (rates ≡ table_along entry.table key.issue)
+
+-- a path of an age is that of its key by its row of the basis
 abbrev pub IsRightPath : List Dated → Path → Type 0
-IsRightPath basis path = path.age ≤ 130 → (table : Rates) → (bp : ℕ) → IsRowOf basis path.row table bp → IsPath table path.age path
+IsRightPath basis path = path.key.age ≤ 130 → (rates : Rates) → AreRatesOf basis path.key rates → IsSurvivalPath rates path.key.age path
 
 -- some are kept, and each that is one is right by the basis
 pub record ArePaths (basis : List Dated) (paths : Paths) : Type 0 where
@@ -45,8 +55,4 @@ pub record ArePaths (basis : List Dated) (paths : Paths) : Type 0 where
 -- the path of an age lies at a place
 pub record IsPathAt (table : Rates) (age : ℕ) (kept : List Path) (place : ℕ) : Type 0 where
   pub within : place < length kept
-  pub here : (none : Path) → IsPath table age (slice_index_or kept place none)
-
--- the path of an age by a row of the basis
-abbrev pub IsPathOf : Path → (row age : ℕ) → Type 0
-IsPathOf path row age = (path.row ≡ row) × (path.age ≡ age)
+  pub here : (none : Path) → IsSurvivalPath table age (slice_index_or kept place none)

@@ -4,6 +4,7 @@ use Rattle.std.specs.List.{AllByRecursion, AllZip}
 use Rattle.policy_types.specs.declared.policy.Policy.{Policy}
 use Rattle.rate_table.specs.Rates.{Rates}
 use Rattle.rate_table.specs.declared.shape.Shape.{Shape}
+use Rattle.select_rates.specs.declared.any.AnyTable.{AnyTable}
 use Rattle.plan_benefits.specs.declared.fault.NotValued.{NotValued}
 use Rattle.present_value.specs.Rounding.{down, up}
 use Rattle.present_value.specs.Values.{pair_at}
@@ -71,7 +72,7 @@ pub record IsRoomy (years : ℕ) (sums : List Sums) : Type 0 where
   pub hi : (j : ℕ) → j < years → (sum_at sums j).hi ≤ 4000000 * MOST_PART
 
 -- each sum of so many years is that of both
-pub record IsJoined (years : ℕ) (ours theirs new : List Sums) : Type 0 where
+pub record AreBothSums (years : ℕ) (ours theirs new : List Sums) : Type 0 where
   pub places : length new ≡ 131
   pub lo : (j : ℕ) → j < years → (sum_at new j).lo ≡ (sum_at ours j).lo + (sum_at theirs j).lo
   pub hi : (j : ℕ) → j < years → (sum_at new j).hi ≡ (sum_at ours j).hi + (sum_at theirs j).hi
@@ -86,8 +87,8 @@ pub record IsSized (tally : Tally) : Type 0 where
   pub maturity : IsRoomy tally.years tally.maturity.sums
 
 -- there is room for one policy more
-abbrev pub HasRoom : Tally → Type 0
-HasRoom tally = IsSized tally × (tally.policies < 4000000)
+abbrev pub TakesOneMore : Tally → Type 0
+TakesOneMore tally = IsSized tally × (tally.policies < 4000000)
 
 -- nothing is due in any year
 pub record IsIdle (p : Prospect) : Type 0 where
@@ -102,14 +103,14 @@ pub record Fits (table : Rates) (shape : Shape) : Type 0 where
   pub paid : shape.h ≤ shape.n
 
 -- a policy was added
-pub record HasTaken (basis : List Dated) (on : ℤ) (policy : Policy) (old new : Tally) : Type 0 where
+pub record HasCounted (basis : List Dated) (on : ℤ) (policy : Policy) (old new : Tally) : Type 0 where
   pub prospect : Prospect
   pub is : IsProspect basis on policy prospect
   pub small : IsSmall prospect
   pub added : HasAdded old.years prospect old new
 
 -- an insured policy was added by a table
-pub record HasTakenBy (policy : Policy) (table : Rates) (on : ℤ) (shape : Result Shape NotValued) (old new : Tally) : Type 0 where
+pub record HasCountedBy (policy : Policy) (table : AnyTable) (on : ℤ) (shape : Result Shape NotValued) (old new : Tally) : Type 0 where
   pub prospect : Prospect
   pub is : IsProspectBy policy table on shape prospect
   pub small : IsSmall prospect

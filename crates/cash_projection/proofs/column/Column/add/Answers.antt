@@ -1,8 +1,5 @@
-use Rattle.std.proofs.Common.{◌+◌, ◌*◌, ◌≤◌, arith}
-use Rattle.std.proofs.Math.Nat.{mul-le-mul}
-use Rattle.present_value.specs.Rounding.{UNIT}
-use Rattle.present_value.specs.Values.{pair_at}
-use Rattle.cash_projection.proofs.Columns.{none_risen, not_yet, one_more_risen}
+use Rattle.std.proofs.Common.{arith}
+use Rattle.cash_projection.proofs.Columns.{none_risen, one_more_risen}
 use Rattle.cash_projection.proofs.column.Column.add.Goals as goal
 
 pub loop-j-init : goal.loop-j-init

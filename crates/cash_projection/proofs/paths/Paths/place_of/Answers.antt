@@ -1,20 +1,27 @@
-use Rattle.std.proofs.Common.{arith}
-use Rattle.std.proofs.lemmas.List.{length-set}
+use Rattle.std.proofs.Common.{arith, ap, sym, ◌∙◌, ◌<◌, length}
+use Rattle.std.proofs.lemmas.List.{length-set, get_or_read}
 use Rattle.std.proofs.lemmas.List.Elements.{All-set}
 use Rattle.cash_projection.specs.inside.Paths.{IsRightPath}
-use Rattle.cash_projection.proofs.PathSteps.{kept_here, put_here, right_by_row}
+use Rattle.cash_projection.specs.declared.path.Path.{Path}
+use Rattle.cash_projection.proofs.PathSteps.{kept_here, put_here, right_by_key}
 use Rattle.cash_projection.proofs.paths.Paths.place_of.Goals as goal
 
-pub returns-then-is_of-clause-here : goal.returns-then-is_of-clause-here
-returns-then-is_of-clause-here c = kept_here c.args.basis.now c.args.table.now c.args.bp c.args.row c.args.age _ _ c.requires.right.right ? c.requires.age.1 c.requires.row ?
+pub returns-then-is-clause-here : goal.returns-then-is-clause-here
+returns-then-is-clause-here c =
+    let kept = c.args.self.now.kept.items in
+    let within : c.slot_of-place.result < length kept = omega arith in
+    kept_here c.args.basis.now c.args.key c.args.rates.now kept c.slot_of-place.result c.requires.right.right within
+    c.requires.age.1 c.requires.rates
+    (λ none. ap (λ (p : Path). p.key) (sym (get_or_read kept _ _ within c.index.ensures none)) ∙ c.is.ensures c.if-is.true)
 
 pub returns-clause-right : goal.returns-clause-right
 returns-clause-right c = record {
   some = rw length-set c.requires.right.some;
   right = All-set (IsRightPath c.args.basis.now) _ _ _
-      (right_by_row c.args.basis.now c.args.table.now c.args.bp c.of.result (rw c.of.ensures.of.0 c.requires.row) (rw c.of.ensures.of.1 c.of.ensures.path))
+      (right_by_key c.args.basis.now c.args.key c.args.rates.now c.of.result c.of.ensures.key c.requires.rates c.of.ensures.path)
       c.requires.right.right;
 }
 
 pub returns-clause-here : goal.returns-clause-here
-returns-clause-here c = put_here c.args.table.now c.args.age _ _ c.of.result ? c.of.ensures.path
+returns-clause-here c =
+    put_here c.args.rates.now c.args.key.age c.args.self.now.kept.items c.slot_of-place.result c.of.result (omega arith) c.of.ensures.path
