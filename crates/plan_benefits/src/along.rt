@@ -14,12 +14,7 @@ use select_rates::AnyTable;
 /// `BelowTable` comes also where the table has none for it, and `PastTable` also where those for the next age at issue,
 /// which limit the net premium, don't hold that next age.
 #[tactic(auto, using(crate::proofs::AgeAtIssue::has_rates, crate::proofs::AgeAtIssue::next_above))]
-pub fn shape_along(
-    plan: Plan,
-    age: u8,
-    years: u8,
-    table: &AnyTable,
-) -> Result<Shape, NotValued>
+pub fn shape_along(plan: Plan, age: u8, years: u8, table: &AnyTable) -> Result<Shape, NotValued>
     requires { age < 255 }
     ensures exact { result ≡ shape_of plan age years table.now }
     ensures age { IfOk result (λ shape. shape.age ≡ age) }

@@ -124,13 +124,7 @@ impl ColumnStore {
     }
 
     /// The values of a shape at year `t`, by rates of a row of the basis.
-    pub fn values(
-        &mut self,
-        basis: &Basis,
-        rates: &IssueRates<'_>,
-        shape: &Shape,
-        t: u8,
-    ) -> Values
+    pub fn values(&mut self, basis: &Basis, rates: &IssueRates<'_>, shape: &Shape, t: u8) -> Values
         requires right { IsRightStore basis.now self.old }
         requires row { IsByRow basis.now rates.now }
         requires can { CanValue rates.now.table.now shape.now rates.now.bp }

@@ -89,9 +89,17 @@ fn each_layout_is_valued(rt: HostRuntime) -> Result<(), AllocError> {
 #[test]
 fn select_tables_are_refused(rt: HostRuntime) -> Result<(), AllocError> {
     for case in [
-        unfit(Some(FLAT), Some(NO_ULTIMATE), "badbasis,q.xml,7,noultimate\n"),
+        unfit(
+            Some(FLAT),
+            Some(NO_ULTIMATE),
+            "badbasis,q.xml,7,noultimate\n",
+        ),
         unfit(Some(FLAT), Some(GAP), "badbasis,q.xml,22,ultimategap\n"),
-        unfit(Some(FLAT), Some(LATE_DURATION), "badbasis,q.xml,40,badduration\n"),
+        unfit(
+            Some(FLAT),
+            Some(LATE_DURATION),
+            "badbasis,q.xml,40,badduration\n",
+        ),
         Case {
             table: Some(FROM_AGE_ONE),
             ..valued(

@@ -14,5 +14,5 @@ returns-in-Ok-clause-exact c = λ shape is.
     rw same (
       by_duration policy.plan policy.years c.args.bp c.args.table.now c.in-Ok.shape c.in-Ok.ensures.fits,
       worth_along c.args.table.now c.args.bp covered (λ (a b : Cover). IsExactFor c.args.measure policy a b c.min-t.result c.worth_by-worth.result)
-      c.of-own.ensures.table c.of-next.ensures.table c.of-own.ensures.interest c.worth_by-worth.ensures.exact,
+          c.of-own.ensures.table c.of-next.ensures.table c.of-own.ensures.interest c.worth_by-worth.ensures.exact,
     )
