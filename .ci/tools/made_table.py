@@ -1,5 +1,5 @@
-"""Prints a select and ultimate table in the layout, and with the further elements, in which the archive of the Society of
-Actuaries has such tables: the axis of each issue age has an axis of durations in it.
+"""Prints a select and ultimate table of real size: with a classification, metadata and names of its axes, and the axis of
+each issue age with an axis of durations in it.
 
 usage: python3 made_table.py FIRST LAST DURATIONS ULTIMATE_FIRST ULTIMATE_LAST
 

@@ -10,6 +10,7 @@ use cash_projection::project_policies;
 use indexmap::IndexMap;
 use load_maker::{Drawn, Generator};
 use policy_types::{Command, Policy, Status};
+use select_rates::AnyTable;
 use std::alloc::{AllocError, Global};
 use std::env::Args;
 use std::io;
@@ -131,6 +132,9 @@ fn basis_of_cubes(alloc: Global) -> Result<Option<Basis>, AllocError> {
         return Ok(None);
     };
     let mut tables = IndexMap::new(alloc);
-    tables.insert(String::from_str(alloc, "g.xml")?, table)?;
+    tables.insert(
+        String::from_str(alloc, "g.xml")?,
+        AnyTable::Aggregate(table),
+    )?;
     Ok(Basis::of(rows, tables).ok())
 }

@@ -1,24 +1,22 @@
 ghost use Rattle.std.specs.Prelude.{IsTrue, All};
+ghost use Rattle.cash_projection.specs.Policies.{IsOfIssue};
 ghost use Rattle.cash_projection.specs.Text.{IsTellable};
 
 // Projections of cash. The cents were computed outside this program by exact fractions, and rounded down and up.
 use crate::policy_value_tests::{
     DAY_BEFORE, FLAT, ISSUED, ONE_YEAR, THREE_YEARS, TWO_YEARS, basis, policy,
 };
+use crate::select_value_tests::{self, EARLY};
 use cash_projection::{Projection, Year, Years, print_projection, project_policies};
 use policy_types::{Command, Plan, Policy, Status};
 use present_value::Pair;
 use std::alloc::Global;
 use std::test::Fail;
 
-/// The years of one policy by the basis of a file, and how many have a word.
-fn cash(
-    alloc: Global,
-    file: &[u8],
-    policy: &Policy,
-    on: i32,
-    years: u8,
-) -> Result<(Vec<Year>, u32), Fail> {
+/// Whether an issue may make the policy.
+fn is_of_issue(policy: &Policy) -> bool
+    ensures { IsTrue result → IsOfIssue policy.now }
+{
     let issue = Command::Issue {
         id: policy.id,
         day: policy.issued,
@@ -28,7 +26,18 @@ fn cash(
         amount: policy.amount,
         premium: policy.premium,
     };
-    if !issue.is_valid() || years > 131 {
+    issue.is_valid()
+}
+
+/// The years of one policy by the basis of a file, and how many have a word.
+fn cash(
+    alloc: Global,
+    file: &[u8],
+    policy: &Policy,
+    on: i32,
+    years: u8,
+) -> Result<(Vec<Year>, u32), Fail> {
+    if !is_of_issue(policy) || years > 131 {
         return Err("a valid issue".into());
     }
     let basis = basis(alloc, file)?;
@@ -316,12 +325,43 @@ fn years_of_one_policy(rt: HostRuntime) -> Result<(), Fail> {
             &[[1, 1, 0, 1, 0, 0], [0, 1, 0, 1, 0, 0], [0, 0, 0, 0, 0, 0]][..],
         ),
     ] {
-        let (years, unvalued) = cash(rt.alloc(), FLAT, &policy, on, expected.len() as u8)?;
+        let (years, unvalued) = cash(rt.alloc(), FLAT, &policy, on, expected.len().min(131) as u8)?;
         assert_eq!(rt; unvalued, 0, "{name}");
         assert_eq!(rt; years.len(), expected.len(), "{name}");
         for (year, expected) in years.iter().zip(expected) {
             assert_eq!(rt; bounds(year), *expected, "{name}");
         }
+    }
+    Ok(())
+}
+
+// Two policies of one age and two ages at issue, by a select table: 0.1 and 0.25 for the first, 0.1 and 0.2 for the second.
+#[test]
+fn years_by_the_age_at_issue(rt: HostRuntime) -> Result<(), Fail> {
+    let first = Policy {
+        paid: 1,
+        ..policy(Plan::Endowment, 0, 3)
+    };
+    let second = Policy {
+        issued: ONE_YEAR,
+        last: ONE_YEAR,
+        ..policy(Plan::Endowment, 1, 2)
+    };
+    assert!(rt; is_of_issue(&first) && is_of_issue(&second));
+    let basis = select_value_tests::basis(rt.alloc(), EARLY)?;
+    let Ok((years, unvalued)) = project_policies(rt.alloc(), &[first, second], &basis, ONE_YEAR, 3)
+    else {
+        return Err("memory".into());
+    };
+    assert_eq!(rt; unvalued, 0);
+    let expected = [
+        [80_000, 80_000, 20_000, 20_000, 0, 0],
+        [72_000, 72_000, 40_500, 40_500, 139_500, 139_500],
+        [0; 6],
+    ];
+    assert_eq!(rt; years.as_slice().len(), expected.len());
+    for (year, expected) in years.as_slice().iter().zip(&expected) {
+        assert_eq!(rt; bounds(year), *expected);
     }
     Ok(())
 }

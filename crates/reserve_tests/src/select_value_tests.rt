@@ -15,7 +15,7 @@ use std::alloc::Global;
 use std::test::Fail;
 
 /// The select rates 0.05 and 0.1 at age 0, and 0.1 and 0.2 at age 1.
-const EARLY: &[u8] = b"1900-01-01,early.xml,0";
+pub const EARLY: &[u8] = b"1900-01-01,early.xml,0";
 
 const EARLY_AT_FIVE: &[u8] = b"1900-01-01,early.xml,500";
 
@@ -68,7 +68,8 @@ fn late(alloc: Global) -> Result<AnyTable, Fail> {
     Ok(AnyTable::Select(table))
 }
 
-fn basis(alloc: Global, file: &[u8]) -> Result<Basis, Fail> {
+/// A basis with both select tables, and the ultimate one.
+pub fn basis(alloc: Global, file: &[u8]) -> Result<Basis, Fail> {
     if file.len() > LONGEST_FILE {
         return Err("a short file".into());
     }

@@ -5,4 +5,5 @@ pub mod SheetSteps
 pub mod PinSteps
 pub mod PartSteps
 pub mod ValueSteps
+pub mod ReadSteps
 pub mod Crossing

@@ -44,7 +44,7 @@ take_parts (suc m) n (x ∷ xs) =
     ap (λ k. take k (x ∷ xs)) more ∙ ap (λ rest. x ∷ rest) (take_parts m n xs)
 
 -- the first k parts, and the next
-next_part : {X : Type 0} (k : ℕ) (xs : List X)
+pub next_part : {X : Type 0} (k : ℕ) (xs : List X)
     → take (policies_per_read * (k + 1)) xs ≡ take (policies_per_read * k) xs ++ take policies_per_read (drop (policies_per_read * k) xs)
 next_part k xs = ap (λ n. take n xs) (omega arith) ∙ take_parts (policies_per_read * k) policies_per_read xs
 
@@ -52,7 +52,7 @@ pub length-reads_of : (pin policies : ℕ) → length (reads_of pin policies) �
 length-reads_of pin policies =
     length-map (range_with_len 0 (reads_needed policies)) (λ k. Read pin (policies_per_read * k)) ∙ length-range_with_len 0 (reads_needed policies)
 
-next_read : (pin policies k : ℕ) → k < reads_needed policies
+pub next_read : (pin policies k : ℕ) → k < reads_needed policies
     → take (k + 1) (reads_of pin policies) ≡ take k (reads_of pin policies) ++ Read pin (policies_per_read * k) ∷ []
 next_read pin policies k low =
     let here : k < length (reads_of pin policies) = omega (arith, low, length-reads_of pin policies) in

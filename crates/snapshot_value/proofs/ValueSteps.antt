@@ -114,14 +114,14 @@ module _ {D W : Type 0} (basis : List Dated) (on : ℤ) (measure : Measure) (pin
       last = (turn, unpin_turn mid.caller pin.number)
 
 -- a pin posts nothing
-nothing_posted : (caller : ℕ) (at : At) (answer : Result Held PinRefusal)
+pub nothing_posted : (caller : ℕ) (at : At) (answer : Result Held PinRefusal)
     → accepted_of (pinning_turn caller (pin_call at) answer ∷ []) ≡ []
 nothing_posted caller Now (Ok pin) = refl
 nothing_posted caller Now (Err refusal) = refl
 nothing_posted caller (Position p) (Ok pin) = refl
 nothing_posted caller (Position p) (Err refusal) = refl
 
-take_front : {X : Type 0} (n : ℕ) (front back : List X) → n ≡ length front → take n (front ++ back) ≡ front
+pub take_front : {X : Type 0} (n : ℕ) (front back : List X) → n ≡ length front → take n (front ++ back) ≡ front
 take_front n front back is = take-append-le n front back (omega (arith, is)) ∙ take_all n front (omega (arith, is))
 
 module _ {D W : Type 0} (basis : List Dated) (on : ℤ) (measure : Measure) (at : At) (workers turn : ℕ) (old : Holding (OfficeOpening D W)) where

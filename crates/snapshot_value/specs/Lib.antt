@@ -1,3 +1,5 @@
 pub mod Growing
+pub mod Listing
+pub mod Reading
 pub mod Valuing
 pub mod inside

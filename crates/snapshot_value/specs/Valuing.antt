@@ -60,8 +60,8 @@ AnswersPin commands basis on measure (Pinned position policies) (Ok valuation) =
 AnswersPin commands basis on measure (Pinned position policies) (Err NoMemory) = Unit {0}
 AnswersPin _ _ _ _ _ _ = ⊥
 
--- the pins whose valuation found no memory: the one that was taken in this turn, or none
-abbrev pub dry_pins : ℕ → Result Valuation ValueFault → List ℕ
+-- the pins whose valuation or list found no memory: the one that was taken in this turn, or none
+abbrev pub dry_pins : {Made : Type 0} → ℕ → Result Made ValueFault → List ℕ
 dry_pins turn (Err NoMemory) = turn ∷ []
 dry_pins turn _ = []
 

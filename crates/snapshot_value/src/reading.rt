@@ -19,7 +19,7 @@ use std::thread::Threads;
 use watcher_set::Watching;
 
 /// The policies that a read gives at most.
-const POLICIES_PER_READ: u32 = 256;
+pub const POLICIES_PER_READ: u32 = 256;
 
 /// Takes the memory that a valuation needs, then reads and values the policies of a pin.
 pub fn rows_of<D: Disk, W: Watching, G: Gate, R: Threads + Wait + Sync>(
@@ -55,8 +55,8 @@ pub fn rows_of<D: Disk, W: Watching, G: Gate, R: Threads + Wait + Sync>(
     Ok(Rows::new(sheet.into_rows()))
 }
 
-// Reads the k-th part of a pin's policies, from 0.
-fn read_part<D: Disk, W: Watching, R: Wait>(
+/// Reads the k-th part of a pin's policies, from 0.
+pub fn read_part<D: Disk, W: Watching, R: Wait>(
     rt: &R,
     office: &Office<D, W>,
     pass: &mut OfficePass<D, W>,

@@ -1,4 +1,4 @@
-use policy_types::PinRefusal;
+use policy_types::{PinRefusal, Slice};
 use policy_value::{Measure, Rows};
 
 /// The rows of the policies after so many commands, in order of issue.
@@ -13,7 +13,15 @@ pub struct Valuation {
     pub rows: Rows,
 }
 
-/// Why there is no valuation.
+/// The policies after so many commands, in order of issue.
+#[derive(Drop)]
+pub struct Policies {
+    /// The position that was pinned.
+    pub position: u32,
+    pub book: Slice,
+}
+
+/// Why there is no valuation, and no list of policies.
 #[derive(Clone, Copy, PartialEq, Eq, Debug)]
 pub enum ValueFault {
     /// The position couldn't be pinned.

@@ -61,8 +61,8 @@ pub fn value<D: Disk, W: Watching, G: Gate, R: Threads + Wait + Sync>(
     }
 }
 
-// Pins the newest position, or the one that is asked for.
-fn pin_as_asked<D: Disk, W: Watching, R: Wait>(
+/// Pins the newest position, or the one that is asked for.
+pub fn pin_as_asked<D: Disk, W: Watching, R: Wait>(
     rt: &R,
     office: &Office<D, W>,
     pass: &mut OfficePass<D, W>,

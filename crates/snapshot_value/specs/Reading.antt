@@ -1,0 +1,40 @@
+-- What a caller makes of the policies at a pinned position, whatever other callers do between its reads
+use Rattle.std.specs.Prelude.{◌≡◌, ℕ, ◌≤◌, List, ◌∷◌, length, map, take, Some, Result, Ok, Err}
+use Rattle.policy_types.specs.declared.command.Command.{Command}
+use Rattle.policy_types.specs.declared.policy.Policy.{Policy}
+use Rattle.policy_types.specs.declared.entry.At.{At}
+use Rattle.policy_types.specs.declared.entry.Reply.{Reply}
+use Rattle.policy_types.specs.declared.entry.Reply.TheVariants.{Pinned, PinRefused}
+use Rattle.policy_machine.specs.Book.{book}
+use Rattle.policy_machine.specs.History.{commands_after}
+use Rattle.policy_machine.specs.Merge.{FollowsPin, Placed, pin_call}
+use Rattle.turn_lock.specs.Passes.{Holding}
+use Rattle.shared_office.specs.Offices.{OfficeOpening}
+use Rattle.snapshot_value.specs.Growing.{Grows}
+use Rattle.snapshot_value.specs.Valuing.{dry_pins, most_turns}
+use Rattle.snapshot_value.specs.declared.valuation.ValueFault.{ValueFault}
+use Rattle.snapshot_value.specs.declared.valuation.ValueFault.TheVariants.{Pin, NoMemory}
+
+module _ {Made : Type 0} (IsOf : ℕ → List Policy → Made → Type 0) where
+  -- what is answered after the pin's reply: its own refusal and no other; or where it was pinned, after these commands,
+  -- what is of the position and the policies there, or want of memory
+  abbrev pub AnswersPinned : List Command → Reply → Result Made ValueFault → Type 0
+  AnswersPinned commands (PinRefused refusal) (Err (Pin why)) = why ≡ refusal
+  AnswersPinned commands (Pinned position policies) (Ok made) = IsOf position (book (take position commands)) made
+  AnswersPinned commands (Pinned position policies) (Err NoMemory) = Unit {0}
+  AnswersPinned _ _ _ = ⊥
+
+  -- A caller's turns are the pin's, then those of the reads of its policies and of giving it up; the answer is of the
+  -- policies at the position that was pinned.
+  pub record HasMadeOfBook {D W : Type 0} (at : At) (old new : Holding (OfficeOpening D W)) (turn : ℕ)
+      (answer : Result Made ValueFault) : Type 0 where
+    pub pin : Placed
+    pub later : List Placed
+    pub grows : Grows old new (pin ∷ later)
+    pub few : length (pin ∷ later) ≤ most_turns
+    pub place : pin.0 ≡ turn
+    pub asked : pin.1.call ≡ pin_call at
+    pub follows : FollowsPin (dry_pins turn answer) pin.0 pin.1.reply (map (λ (turn : Placed). turn.1.call) later)
+    pub opened : OfficeOpening D W
+    pub opening : new.opening ≡ Some opened
+    pub answered : AnswersPinned (commands_after opened.opening (take turn new.seen)) pin.1.reply answer
