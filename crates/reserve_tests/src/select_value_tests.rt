@@ -112,6 +112,22 @@ fn row_of(
 }
 
 /// The row of a policy by a cache that has served others, of other ages at issue.
+fn row_after_others(
+    basis: &Basis,
+    policy: &Policy,
+    on: i32,
+    measure: Measure,
+    cache: &mut ColumnCache,
+) -> Result<Row, Fail>
+    requires { IsRightFor basis.now cache.old }
+{
+    for age in 0..5u8 {
+        let other = Policy { age, ..*policy };
+        row_of(basis, &other, on, measure, cache)?;
+    }
+    row_of(basis, policy, on, measure, cache)
+}
+
 fn row_by(
     alloc: Global,
     file: &[u8],
@@ -123,12 +139,7 @@ fn row_by(
     let Ok(mut cache) = ColumnCache::new(alloc, 16) else {
         return Err("a cache".into());
     };
-    for age in 0..=4 {
-        let mut other = *policy;
-        other.age = age;
-        row_of(&basis, &other, on, measure, &mut cache)?;
-    }
-    row_of(&basis, policy, on, measure, &mut cache)
+    row_after_others(&basis, policy, on, measure, &mut cache)
 }
 
 #[test]
