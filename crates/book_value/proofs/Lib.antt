@@ -1,4 +1,5 @@
 pub mod ValueSteps
+pub mod LoneTurns
 pub mod LoneSteps
 pub mod ValueStatus
 pub mod EmptyFile

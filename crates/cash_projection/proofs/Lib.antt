@@ -9,3 +9,6 @@ pub mod Taking
 pub mod Tallying
 pub mod YearLines
 pub mod CallerLemmas
+pub mod Crossing
+pub mod Portioning
+pub mod PinnedSteps

@@ -1,6 +1,7 @@
 pub mod Survival
 pub mod Prospects
 pub mod Cash
+pub mod Pinned
 pub mod Policies
 pub mod Text
 pub mod Worked

@@ -1,5 +1,10 @@
+pub mod BookEntries
+pub mod Bookings
+pub mod Taking
 pub mod Numbers
 pub mod Parts
 pub mod Behind
 pub mod GateSteps
 pub mod Stages
+pub mod Reading
+pub mod Stored

@@ -3,16 +3,22 @@
 #![tactic(auto)]
 
 mod faults;
+mod front;
 mod gates;
+mod numbered;
+mod number_bytes;
+mod parsing;
 mod pieces;
+mod replaying;
 mod saving;
 mod snapshot;
 mod soundness;
 mod spelling;
 mod starting;
 mod store;
+mod stored;
 pub mod worked;
 
-pub use faults::StoreFault;
+pub use faults::{ReopenFault, StoreFault};
 pub use snapshot::Snapshot;
 pub use store::Store;

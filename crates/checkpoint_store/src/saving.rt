@@ -11,7 +11,8 @@ ghost use Rattle.checkpoint_store.specs.inside.Steps.{OpensGateOn, StaysShut};
 
 use crate::gates::{make_safe, put_gate, write_behind};
 use crate::pieces::{POLICIES, fill};
-use crate::spelling::{CLOSED, OPEN, front_with};
+use crate::front::{Front, front_with};
+use crate::spelling::{CLOSED, OPEN};
 use crate::{Snapshot, Store};
 use outside_io::{Disk, Failed};
 use policy_types::Policy;
@@ -102,7 +103,13 @@ impl<E: Disk> Store<E> {
         ensures shut { E.honest (store_disk self.new) → Knows self.old
             → StaysShut E.Disk (store_disk self.old) (store_disk self.new) }
     {
-        write_behind(&mut self.disk, 1, &front_with(snapshot))?;
+        let front = Front {
+            position: snapshot.position,
+            upgrade: snapshot.upgrade,
+            policies: snapshot.book.as_slice().len() as u32,
+            ledger: snapshot.ledger,
+        };
+        write_behind(&mut self.disk, 1, &front_with(front))?;
         write_policies(&mut self.disk, snapshot.book.as_slice())?;
         make_safe(&mut self.disk)
     }

@@ -16,7 +16,7 @@ use policy_types::{
 use std::alloc::{AllocError, Global};
 
 // The commands that an office accepts in all.
-const MOST_COMMANDS: u32 = 4_000_000;
+pub(crate) const MOST_COMMANDS: u32 = 4_000_000;
 
 impl Snapshot {
     /// Whether it may be a journal's, as `Store::save` asks. It takes memory for the numbers of the policies.
@@ -45,7 +45,7 @@ impl Snapshot {
 }
 
 // Whether no balance has more cents, above or below nothing.
-fn are_within(most: u64, ledger: Ledger) -> bool
+pub(crate) fn are_within(most: u64, ledger: Ledger) -> bool
     ensures { IsTrue result ↔ AreWithin most (balances ledger) }
 {
     let Ledger {
@@ -76,7 +76,7 @@ fn are_sound(policies: &[Policy]) -> bool
     true
 }
 
-fn is_sound_policy(policy: Policy) -> bool
+pub(crate) fn is_sound_policy(policy: Policy) -> bool
     ensures { IsTrue result ↔ IsSound policy }
 {
     is_issue(policy)

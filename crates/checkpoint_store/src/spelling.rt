@@ -1,9 +1,8 @@
 // The bytes of a snapshot.
-ghost use Rattle.std.specs.Prelude.{◌≡◌, ◌≤◌, ◌++◌, length};
-ghost use Rattle.checkpoint_store.specs.Spelling.{balance_bytes, checkpoint_header, front_bytes, policy_bytes, position_bytes, status_byte};
+ghost use Rattle.std.specs.Prelude.{◌≡◌, ◌++◌};
+ghost use Rattle.checkpoint_store.specs.Spelling.{balance_bytes, checkpoint_header, policy_bytes, position_bytes, status_byte};
 ghost use Rattle.record_codec.specs.Fields.{plan_byte};
 
-use crate::Snapshot;
 use money_ledgers::Ledger;
 use policy_types::{Plan, Policy, Status};
 
@@ -11,20 +10,8 @@ pub const OPEN: u8 = 1;
 
 pub const CLOSED: u8 = 0;
 
-// What stands between the gate and the policies.
-pub(crate) fn front_with(snapshot: &Snapshot) -> [u8; 63]
-    requires few { length snapshot.now.book ≤ 4000000 }
-    ensures { result ≡ front_bytes snapshot.now }
-{
-    let policies = snapshot.book.as_slice().len() as u32;
-    let mut front = [0; 63];
-    front[..28].copy_from_slice(&positions_with(snapshot.position, snapshot.upgrade, policies));
-    front[28..].copy_from_slice(&balances_with(&snapshot.ledger));
-    front
-}
-
 #[tactic(auto, unfolding(crate::specs::Spelling::position_bytes))]
-fn positions_with(position: u32, upgrade: u32, policies: u32) -> [u8; 28]
+pub(crate) fn positions_with(position: u32, upgrade: u32, policies: u32) -> [u8; 28]
     ensures { result ≡ checkpoint_header ++ position_bytes position upgrade policies }
 {
     let [a, b, c, d] = position.to_be_bytes();
@@ -35,7 +22,7 @@ fn positions_with(position: u32, upgrade: u32, policies: u32) -> [u8; 28]
     ]
 }
 
-fn balances_with(ledger: &Ledger) -> [u8; 35]
+pub(crate) fn balances_with(ledger: &Ledger) -> [u8; 35]
     ensures { result ≡ balance_bytes ledger.now }
 {
     let Ledger {

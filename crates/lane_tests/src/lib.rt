@@ -12,6 +12,10 @@ mod lane_trials;
 #[cfg(test)]
 mod offices;
 #[cfg(test)]
+mod projection_meeting;
+#[cfg(test)]
+mod projection_tests;
+#[cfg(test)]
 mod snapshot_meeting;
 #[cfg(test)]
 mod snapshot_positions;

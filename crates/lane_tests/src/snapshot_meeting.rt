@@ -18,11 +18,11 @@ use std::test::Fail;
 use std::thread::{Threads, join, yield_now};
 use watcher_set::{NoWatchers, Watching};
 
-// A gate that lets another caller go on after the first part, and waits until it is done.
+/// A gate that lets another caller go on after the first part, and waits until it is done.
 #[derive(Drop)]
-struct Meeting {
-    reached: AtomicBool,
-    done: AtomicBool,
+pub(crate) struct Meeting {
+    pub(crate) reached: AtomicBool,
+    pub(crate) done: AtomicBool,
 }
 
 impl Gate for Meeting {
@@ -34,7 +34,7 @@ impl Gate for Meeting {
     }
 }
 
-fn wait_for<R: Wait>(rt: &R, flag: &AtomicBool) {
+pub(crate) fn wait_for<R: Wait>(rt: &R, flag: &AtomicBool) {
     for _ in rt.forever() {
         if flag.load(Ordering::SeqCst) {
             break;

@@ -16,7 +16,7 @@ use Rattle.policy_value.specs.declared.worth.Measure.{Measure}
 use Rattle.watcher_set.specs.Noted.{Auditor}
 use Rattle.office_state.specs.Images.{IsLeftBy}
 use Rattle.life_args.specs.declared.mode.Mode.{Mode}
-use Rattle.life_args.specs.declared.mode.Mode.TheVariants.{Run, Value, State, Generate, Load}
+use Rattle.life_args.specs.declared.mode.Mode.TheVariants.{Run, Value, Project, State, Generate, Load}
 use Rattle.program_endings.specs.declared.ending.Ending.{Ending}
 use Rattle.program_endings.specs.declared.ending.Ending.TheVariants.{Done, BadJournal, WriteFault, DiskFault, NoMemory}
 use Rattle.program_endings.specs.Replies.{IsAnswered}
@@ -28,6 +28,7 @@ use Rattle.script_run.specs.Running.{EndsLanes, EndsRun}
 use Rattle.book_state.specs.Books.{books_text, policy_account}
 use Rattle.book_state.specs.Stating.{EndsState, IsStated}
 use Rattle.book_value.specs.Valuing.{EndsValue, IsValued}
+use Rattle.book_projection.specs.Projecting.{EndsProject, IsProjected}
 use Rattle.trial_load.specs.Loading.{EndsLoad, EndsLoading}
 use Rattle.life_app.specs.Obeys.{Does, EndsMode}
 
@@ -112,6 +113,13 @@ module _ {D : Type 0} (g : Ghosts D) (old new : D) (output : Stream) (rose : g.f
     | inr none ↦ absurd (untouched none.0)
   ]
 
+  project_told : (on : ℤ) (years : ℕ) (name : List ℕ) (shelf : Shelving) (ending : Ending)
+      → EndsProject g old new on years name shelf output ending → IsTold ending
+  project_told on years name shelf ending ends = elim ends [
+    | inl by ↦ read_told (IsProjected g old new on years by.basis) ending (λ is. all_answered is.commands [] tt is.disk) by.ends
+    | inr none ↦ absurd (untouched none.0)
+  ]
+
   state_told : (text_of : List Command → List ℕ) (ending : Ending) → EndsState g old new text_of output ending → IsTold ending
   state_told text_of ending ends = read_told (IsStated g old new text_of) ending (λ is. all_answered is.commands [] tt is.disk) ends
 
@@ -140,6 +148,8 @@ module _ {D : Type 0} (g : Ghosts D) (old new : D) (output : Stream) (rose : g.f
   mode_told (Run name) auditors input shelf InputStays ShelfStays ending ends = run_told name auditors input shelf ShelfStays ending ends
   mode_told (Value on at workers name measure) auditors input shelf InputStays ShelfStays ending ends =
       value_told on at measure name shelf ending ends.1
+  mode_told (Project on years workers name) auditors input shelf InputStays ShelfStays ending ends =
+      project_told on years name shelf ending ends.1
   mode_told (State None) auditors input shelf InputStays ShelfStays ending ends = state_told books_text ending ends.2
   mode_told (State (Some id)) auditors input shelf InputStays ShelfStays ending ends = state_told (policy_account id) ending ends.2
   mode_told (Generate seed count lanes) auditors input shelf InputStays ShelfStays ending ends = absurd (untouched ends.2)

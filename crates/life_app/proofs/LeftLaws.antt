@@ -9,7 +9,7 @@ use Rattle.watcher_set.specs.Noted.{Auditor}
 use Rattle.basis_book.specs.Dated.{Dated}
 use Rattle.policy_value.specs.declared.worth.Measure.{Measure}
 use Rattle.life_args.specs.declared.mode.Mode.{Mode}
-use Rattle.life_args.specs.declared.mode.Mode.TheVariants.{Run, Value, State, Generate, Load}
+use Rattle.life_args.specs.declared.mode.Mode.TheVariants.{Run, Value, Project, State, Generate, Load}
 use Rattle.office_state.specs.Images.{IsLeftAlone, IsLeftBy}
 use Rattle.program_endings.specs.declared.ending.Ending.{Ending}
 use Rattle.program_endings.specs.declared.ending.Ending.TheVariants.{Done, BadJournal, WriteFault, DiskFault, NoMemory}
@@ -20,6 +20,7 @@ use Rattle.script_run.specs.Running.{EndsLanes, EndsRun}
 use Rattle.book_state.specs.Books.{books_text, policy_account}
 use Rattle.book_state.specs.Stating.{IsStated}
 use Rattle.book_value.specs.Valuing.{EndsValue, IsValued}
+use Rattle.book_projection.specs.Projecting.{EndsProject, IsProjected}
 use Rattle.trial_load.specs.Loading.{EndsLoad, EndsLoading, IsLoadOf}
 use Rattle.life_app.specs.Obeys.{Does, EndsMode}
 use Rattle.life_app.specs.Runs.{IsLeftSo}
@@ -93,6 +94,14 @@ module _ {D : Type 0} (g : Ghosts D) (old new : D) where
     | inr none ↦ untouched none.0
   ]
 
+  project_left : (on : ℤ) (years : ℕ) (name : List ℕ) (shelf : Shelving) (output : Stream) (ending : Ending)
+      → EndsProject g old new on years name shelf output ending → Left
+  project_left on years name shelf output ending ends = elim ends [
+    | inl by ↦
+        read_only (IsProjected g old new on years by.basis) output ending (λ Wrote is. by_turns (opened_on is.commands (g.faults old)) [] is.disk) by.ends
+    | inr none ↦ untouched none.0
+  ]
+
   load_of : (lanes : List Lane) (workers : ℕ) (Tells : Opening → List Entry → List ℕ → Type 0) → IsLoadOf g old new lanes workers Tells → Left
   load_of lanes workers Tells load = by_turns (opened_on load.commands (g.faults old)) _ load.disk
 
@@ -126,6 +135,7 @@ module _ {D : Type 0} (g : Ghosts D) (old new : D) where
     mode_left : (mode : Mode) (ending : Ending) → EndsMode g old new mode auditors input output shelf InputStays ShelfStays ending → Left
     mode_left (Run name) ending ends = run_left name auditors input output shelf ShelfStays ending ends
     mode_left (Value on at workers name measure) ending ends = value_left on at measure name shelf output ending ends.1
+    mode_left (Project on years workers name) ending ends = project_left on years name shelf output ending ends.1
     mode_left (State None) ending ends =
         read_only (IsStated g old new books_text) output ending (λ Wrote is. by_turns (opened_on is.commands (g.faults old)) [] is.disk) ends.2
     mode_left (State (Some id)) ending ends =

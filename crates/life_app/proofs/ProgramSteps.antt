@@ -19,7 +19,7 @@ use Rattle.command_csv.specs.Reads.{Reads}
 use Rattle.life_args.proofs.Answering.{ask_once}
 use Rattle.life_args.specs.Words.{AskFor, AskForNothing}
 use Rattle.life_args.specs.declared.mode.Mode.{Mode}
-use Rattle.life_args.specs.declared.mode.Mode.TheVariants.{Run, Value, State, Generate, Load}
+use Rattle.life_args.specs.declared.mode.Mode.TheVariants.{Run, Value, Project, State, Generate, Load}
 use Rattle.office_state.specs.Journals.{Opens, OpensToNone}
 use Rattle.program_endings.specs.declared.ending.Ending.{Ending}
 use Rattle.program_endings.specs.declared.ending.Ending.TheVariants.{Done, Usage, BadScript, BadBasis, BadJournal, ReadFault, DiskFault, NoMemory, Ahead}
@@ -33,12 +33,14 @@ use Rattle.book_state.specs.Books.{books_text, policy_account}
 use Rattle.book_state.proofs.StateStatus.{state_as_before, state_refused, state_to_end}
 use Rattle.book_value.specs.Valuing.{EndsValue, position_of}
 use Rattle.book_value.proofs.ValueStatus.{value_as_before, value_beyond, value_refused, value_to_end, value_unfit}
+use Rattle.book_projection.specs.Projecting.{EndsProject}
+use Rattle.book_projection.proofs.ProjectStatus.{project_as_before, project_refused, project_to_end, project_unfit}
 use Rattle.trial_load.proofs.LoadStatus.{generate_to_end, load_as_before, load_refused, load_to_end, load_unfit}
 use Rattle.life_app.specs.Needs.{filing_between}
 use Rattle.life_app.proofs.FaultsTold.{fault_told}
-use Rattle.life_app.specs.Due.{HasBasis, HasItsJournal, HasItsNeeds, HasNoScript, IsDueEnding, IsHeld, LacksItsBasis, LacksItsJournal}
+use Rattle.life_app.specs.Due.{HasBasis, HasItsJournal, HasItsNeeds, HasJournal, HasNoBasis, HasNoJournal, HasNoScript, IsDueEnding, IsHeld, LacksItsBasis, LacksItsJournal}
 use Rattle.life_app.specs.Obeys.{Does, EndsMode, SaysUnasked}
-use Rattle.life_app.specs.Words.{AskForGenerate, AskForLoad, AskForRun, AskForState, AskForValue}
+use Rattle.life_app.specs.Words.{AskForGenerate, AskForLoad, AskForProject, AskForRun, AskForState, AskForValue}
 
 -- a bad file gives 4, and its line besides
 said : {status : ℕ} (output : Stream) (bad : ABadBasis) → SaysBadFile bad output status ⊎ (status ≡ 9) → (status ≡ 4) ⊎ (status ≡ 9)
@@ -90,6 +92,8 @@ module _ {D : Type 0} (g : Ghosts D) (old new : D) (auditors : List Auditor) whe
     mode_as_before (Run name) ending ends honest none = run_as_before g old new auditors name input output shelf ShelfStays ending ends honest none
     mode_as_before (Value on at workers name measure) ending ends honest none =
         value_as_before g old new on at measure output name shelf ending ends.1 honest none
+    mode_as_before (Project on years workers name) ending ends honest none =
+        project_as_before g old new on years output name shelf ending ends.1 honest none
     mode_as_before (State None) ending ends honest none =
         state_as_before g old new books_text output ending ends.2 honest none
     mode_as_before (State (Some id)) ending ends honest none =
@@ -155,6 +159,37 @@ module _ {D : Type 0} (g : Ghosts D) (old new : D) (auditors : List Auditor) whe
           → (status_of ending ≡ 5) ⊎ (status_of ending ≡ 9)
       unvalued on at name files basis asked told is honest none shelf_held disk_held = elim (valued_so on at name asked) [
         | inl ends ↦ value_refused g old new on at ends.0 output name shelf files told basis is shelf_held honest disk_held ending ends.1 none
+        | inr without ↦ inr without
+      ]
+
+      -- the words ask for a projection, which ended so, or there was no memory to read them
+      projected_so : (on : ℤ) (years : ℕ) (name : List ℕ) → AskForProject words on years name
+          → EndsProject g old new on years name shelf output ending ⊎ (status_of ending ≡ 9)
+      projected_so on years name asked = elim (as_asked ending does (Project on years asked.0 name) asked.1) [
+        | inl ends ↦ inl ends.1
+        | inr none ↦ inr none
+      ]
+
+      unfit_project : (on : ℤ) (years : ℕ) (name : List ℕ) (none : HasNoBasis shelf name) → AskForProject words on years name
+          → SaysBadFile none.bad output (status_of ending) ⊎ (status_of ending ≡ 9)
+      unfit_project on years name none asked = elim (projected_so on years name asked) [
+        | inl ends ↦ project_unfit g old new on years output name shelf none.files none.agree ending none.bad ends none.first none.held
+        | inr without ↦ inr without
+      ]
+
+      projected : (on : ℤ) (years : ℕ) (name : List ℕ) (has : HasBasis shelf name) (commands : List Command)
+          → AskForProject words on years name → HasJournal (filing_between g old new) commands
+          → (Rose output.faults_before output.faults_after → ⊥) → (status_of ending ≡ 0) ⊎ (status_of ending ≡ 9)
+      projected on years name has commands asked file output_held = elim (projected_so on years name asked) [
+        | inl ends ↦ project_to_end g old new on years output name shelf has.files has.agree has.basis has.is has.held file.honest file.held ending commands
+            ends file.opens output_held
+        | inr none ↦ inr none
+      ]
+
+      unprojected : (on : ℤ) (years : ℕ) (name : List ℕ) (has : HasBasis shelf name) → AskForProject words on years name
+          → HasNoJournal (filing_between g old new) → (status_of ending ≡ 5) ⊎ (status_of ending ≡ 9)
+      unprojected on years name has asked none = elim (projected_so on years name asked) [
+        | inl ends ↦ project_refused g old new on years output name shelf has.files has.agree has.basis has.is has.held none.honest none.held ending ends none.none
         | inr without ↦ inr without
       ]
 
@@ -284,6 +319,7 @@ module _ {D : Type 0} (g : Ghosts D) (old new : D) (auditors : List Auditor) whe
           said output none.bad
           (unfit_run script.bytes name lacks.0 none.bad none.files asked script.whole script.read.0 script.read.1 lacks.2 none.agree none.first script.held none.held)
       bad_basis (Value on at workers name measure) asked none = said output none.bad (unfit on at name none.bad none.files (workers, (measure, asked)) none.agree none.first none.held)
+      bad_basis (Project on years workers name) asked none = said output none.bad (unfit_project on years name none (workers, asked))
       bad_basis (Load seed count lanes workers) asked none =
           said output none.bad (unfit_load none.bad none.files (seed, (count, (lanes, (workers, asked)))) none.agree none.first none.held)
       bad_basis _ asked lacks = absurd lacks
@@ -296,6 +332,7 @@ module _ {D : Type 0} (g : Ghosts D) (old new : D) (auditors : List Auditor) whe
           none.honest none.none script.held none.held
       bad_journal (Value on at workers name measure) asked has none =
           unvalued on at name has.files has.basis (workers, (measure, asked)) has.agree has.is none.honest none.none has.held none.held
+      bad_journal (Project on years workers name) asked has none = unprojected on years name has (workers, asked) none
       bad_journal (State id) asked has none = unstated (id, asked) none.honest none.none none.held
       bad_journal (Load seed count lanes workers) asked has none =
           unloaded has.files has.basis (seed, (count, (lanes, (workers, asked)))) has.agree has.is none.honest none.none has.held none.held
@@ -311,6 +348,7 @@ module _ {D : Type 0} (g : Ghosts D) (old new : D) (auditors : List Auditor) whe
       done (Value on at workers name measure) asked has journal output_held =
           let file = journal.1 in
           valued on at name has.files has.basis journal.0 (workers, (measure, asked)) has.agree has.is file.honest file.opens journal.2 has.held output_held file.held
+      done (Project on years workers name) asked has journal output_held = projected on years name has journal.0 (workers, asked) journal.1 output_held
       done (State id) asked has journal output_held = (let file = journal.1 in stated journal.0 (id, asked) file.honest file.opens output_held file.held)
       done (Generate seed count lanes) asked has journal output_held = generated (seed, (count, (lanes, asked))) output_held
       done (Load seed count lanes workers) asked has journal output_held =

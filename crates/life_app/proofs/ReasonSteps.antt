@@ -10,7 +10,7 @@ use Rattle.policy_value.specs.declared.worth.Measure.{Measure}
 use Rattle.watcher_set.specs.Noted.{Auditor}
 use Rattle.life_args.specs.Words.{AskFor}
 use Rattle.life_args.specs.declared.mode.Mode.{Mode}
-use Rattle.life_args.specs.declared.mode.Mode.TheVariants.{Run, Value, State, Generate, Load}
+use Rattle.life_args.specs.declared.mode.Mode.TheVariants.{Run, Value, Project, State, Generate, Load}
 use Rattle.program_endings.specs.declared.ending.Ending.{Ending}
 use Rattle.program_endings.specs.declared.ending.Ending.TheVariants.{Done, Usage, BadScript, BadBasis, BadJournal, ReadFault, WriteFault, DiskFault, NoMemory}
 use Rattle.program_endings.specs.Refusals.{IsRefusedJournal}
@@ -23,6 +23,7 @@ use Rattle.script_run.specs.Script.{EndsUnread, asks_for_values}
 use Rattle.book_state.specs.Books.{books_text, policy_account}
 use Rattle.book_state.specs.Stating.{IsStated}
 use Rattle.book_value.specs.Valuing.{EndsValue, IsAhead, IsValued}
+use Rattle.book_projection.specs.Projecting.{EndsProject, IsProjected}
 use Rattle.trial_load.specs.Generating.{EndsGenerate}
 use Rattle.trial_load.specs.Loading.{EndsLoad, EndsLoading}
 use Rattle.life_app.specs.Needs.{IsPastTheEnd, NeedBasis, filing_between}
@@ -104,6 +105,13 @@ module _ {D : Type 0} (g : Ghosts D) (old new : D) (words : List (String Global)
     | inr none ↦ no_basis name ending (inl (on, (at, (workers, (measure, asked))))) none.1
   ]
 
+  project_reason : (on : ℤ) (years workers : ℕ) (name : List ℕ) (ending : Ending) → AskFor words (Project on years workers name)
+      → EndsProject g old new on years name shelf output ending → Reason ending
+  project_reason on years workers name ending asked ends = elim ends [
+    | inl by ↦ read_only (IsProjected g old new on years by.basis) ending by.ends
+    | inr none ↦ no_basis name ending (inr (inr (inr (on, (years, (workers, asked)))))) none.1
+  ]
+
   generate_reason : (seed count lanes : ℕ) (ending : Ending) → EndsGenerate seed count lanes output ending → Reason ending
   generate_reason seed count lanes Done ends = tt
   generate_reason seed count lanes WriteFault ends = ends.0
@@ -126,13 +134,14 @@ module _ {D : Type 0} (g : Ghosts D) (old new : D) (words : List (String Global)
       | inl load ↦ loading _ workers by.basis ending load
       | inr none ↦ subst (λ (e : Ending). Reason e) (sym none.1) tt
     ]
-    | inr none ↦ no_basis (codes "basis.csv") ending (inr (inr ((seed, (count, (lanes, (workers, asked)))), refl))) none.1
+    | inr none ↦ no_basis (codes "basis.csv") ending (inr (inr (inl ((seed, (count, (lanes, (workers, asked)))), refl)))) none.1
   ]
 
   mode_reason : (mode : Mode) (auditors : List Auditor) (InputStays ShelfStays : Type 0) (ending : Ending) → AskFor words mode
       → EndsMode g old new mode auditors input output shelf InputStays ShelfStays ending → Reason ending
   mode_reason (Run name) auditors InputStays ShelfStays ending asked ends = run_reason name auditors ShelfStays ending asked ends
   mode_reason (Value on at workers name measure) auditors InputStays ShelfStays ending asked ends = value_reason on at workers name measure ending asked ends.1
+  mode_reason (Project on years workers name) auditors InputStays ShelfStays ending asked ends = project_reason on years workers name ending asked ends.1
   mode_reason (State None) auditors InputStays ShelfStays ending asked ends = read_only (IsStated g old new books_text) ending ends.2
   mode_reason (State (Some id)) auditors InputStays ShelfStays ending asked ends = read_only (IsStated g old new (policy_account id)) ending ends.2
   mode_reason (Generate seed count lanes) auditors InputStays ShelfStays ending asked ends = generate_reason seed count lanes ending ends.3

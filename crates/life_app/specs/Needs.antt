@@ -12,15 +12,16 @@ use Rattle.basis_shelf.specs.declared.fault.BadBasis.{BadBasis}
 use Rattle.office_state.specs.Journals.{Opens}
 use Rattle.program_endings.specs.Writing.{Input, Shelving, Stream, WroteOrFailed}
 use Rattle.script_run.specs.Running.{ReadsForValues}
-use Rattle.life_app.specs.Words.{AskForLoad, AskForRun, AskForValue}
+use Rattle.life_app.specs.Words.{AskForLoad, AskForProject, AskForRun, AskForValue}
 
 -- the words need the basis of this name: they ask for values, or to run a script of which a line does, or to run a
--- generated script
+-- generated script, or for a projection
 abbrev pub NeedBasis : List (String Global) → Input → List ℕ → Type 0
 NeedBasis words input name =
     ((on : ℤ) × ((at : At) × AskForValue words on at name))
     ⊎ (AskForRun words name × ReadsForValues input)
     ⊎ (AskForLoad words × (name ≡ codes "basis.csv"))
+    ⊎ ((on : ℤ) × ((years : ℕ) × AskForProject words on years name))
 
 -- the words need a basis of which a file is bad, and the first bad one is named
 abbrev pub HasBadFile : List (String Global) → Input → Shelving → Stream → Type 0

@@ -5,7 +5,7 @@ use Rattle.outside_io.specs.declared.disks.Disk.{Ghosts}
 use Rattle.watcher_set.specs.Noted.{Auditor}
 use Rattle.life_args.specs.Words.{AskFor, AskForNothing}
 use Rattle.life_args.specs.declared.mode.Mode.{Mode}
-use Rattle.life_args.specs.declared.mode.Mode.TheVariants.{Run, Value, State, Generate, Load}
+use Rattle.life_args.specs.declared.mode.Mode.TheVariants.{Run, Value, Project, State, Generate, Load}
 use Rattle.program_endings.specs.Status.{status_of}
 use Rattle.program_endings.specs.Writing.{Input, Shelving, Stream, WroteLine}
 use Rattle.program_endings.specs.declared.ending.Ending.{Ending}
@@ -14,6 +14,7 @@ use Rattle.script_run.specs.Running.{EndsRun}
 use Rattle.book_state.specs.Books.{books_text, policy_account}
 use Rattle.book_state.specs.Stating.{EndsState}
 use Rattle.book_value.specs.Valuing.{EndsValue}
+use Rattle.book_projection.specs.Projecting.{EndsProject}
 use Rattle.trial_load.specs.Generating.{EndsGenerate}
 use Rattle.trial_load.specs.Loading.{EndsLoad}
 
@@ -25,6 +26,8 @@ EndsMode g old new (Run basis) auditors input output shelf InputStays ShelfStays
     EndsRun g old new basis auditors input output shelf ShelfStays ending
 EndsMode g old new (Value on at workers basis measure) auditors input output shelf InputStays ShelfStays ending =
     InputStays × EndsValue g old new on at measure basis shelf output ending
+EndsMode g old new (Project on years workers basis) auditors input output shelf InputStays ShelfStays ending =
+    InputStays × EndsProject g old new on years basis shelf output ending
 EndsMode g old new (State None) auditors input output shelf InputStays ShelfStays ending =
     InputStays × ShelfStays × EndsState g old new books_text output ending
 EndsMode g old new (State (Some id)) auditors input output shelf InputStays ShelfStays ending =

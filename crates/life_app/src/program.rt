@@ -13,6 +13,7 @@ ghost use Rattle.life_app.specs.Obeys.{Does, Obeys};
 ghost use Rattle.life_app.specs.Reasons.{IsReasoned};
 ghost use Rattle.life_app.specs.inside.Unasked.{SaysNoMode};
 
+use book_projection::project;
 use book_state::{account, state};
 use book_value::value;
 use life_args::{Mode, WordsFault, read_words};
@@ -35,8 +36,9 @@ pub struct Ended<D> {
 /// Does what the words ask for. The words `run` read a script from the input to its end, fetch a basis from the shelf where
 /// a line asks for values, open the office on the disk, answer each line, and write the transcript, and behind it what the
 /// watchers report of the accepted postings; `value` fetches a basis from the shelf, opens the office and writes what each
-/// policy is worth; `state` writes the books; `generate` writes a generated script; `load` runs one, values all policies
-/// then, and writes a line about it. But in `run` the watchers are dropped.
+/// policy is worth; `project` does so and writes what is expected to be paid by year; `state` writes the books; `generate`
+/// writes a generated script; `load` runs one, values all policies then, and writes a line about it. But in `run` the
+/// watchers are dropped.
 pub fn life<R: Threads + Wait + Sync, S: Source, K: Sink, H: Shelf, D: Disk + Send, G: Gate + Sync>(
     rt: &R,
     alloc: Global,
@@ -121,6 +123,16 @@ fn obey<
             },
         ) => value(
             rt, alloc, on, at, measure, workers, &basis, shelf, output, disk, gate,
+        ),
+        Ok(
+            Mode::Project {
+                on,
+                years,
+                workers,
+                basis,
+            },
+        ) => project(
+            rt, alloc, on, years, workers, &basis, shelf, output, disk, gate,
         ),
         Ok(Mode::State { id: None }) => state(alloc, output, disk),
         Ok(Mode::State { id: Some(id) }) => account(alloc, id, output, disk),

@@ -9,7 +9,7 @@ use Rattle.policy_types.specs.declared.entry.At.TheVariants.{Now, Position}
 use Rattle.life_args.specs.declared.mode.Mode.{Mode}
 use Rattle.life_args.specs.declared.mode.Mode.TheVariants as mode
 use Rattle.life_args.specs.declared.verb.Verb.{Verb}
-use Rattle.life_args.specs.declared.verb.Verb.TheVariants.{Run, Value, State, Generate, Load}
+use Rattle.life_args.specs.declared.verb.Verb.TheVariants.{Run, Value, Project, State, Generate, Load}
 use Rattle.life_args.specs.Pieces.{WordPiece, bare, apart, joined, flag, spelled, bare_values, option_values, value_under, IsAmong, HasOnly, AtMostOne}
 use Rattle.life_args.specs.Values.{IsPositionOr, AreWorkersOr, IsBasisOr, IsPolicyOr}
 use Rattle.life_args.specs.Words.{AreWords}
@@ -25,6 +25,7 @@ use Rattle.life_args.proofs.Texts.{plain_day, plain_decimal, plain_name}
 pub same_verb : (a b : Verb) → verb_word a ≡ verb_word b → a ≡ b
 same_verb Run Run e = refl
 same_verb Value Value e = refl
+same_verb Project Project e = refl
 same_verb State State e = refl
 same_verb Generate Generate e = refl
 same_verb Load Load e = refl
@@ -33,6 +34,7 @@ same_verb a b e = absurd (differ (verb_word a) (verb_word b) refl e)
 pub simple : (verb : Verb) → is_simple_and_free (line_app (options_of verb)) ≡ true
 simple Run = refl
 simple Value = refl
+simple Project = refl
 simple State = refl
 simple Generate = refl
 simple Load = refl
@@ -53,6 +55,7 @@ a_good name some lacks other = record { named = record { some = some; lacks = la
 all_good : (verb : Verb) → AllOf IsGood (options_of verb).valued
 all_good Run = (a_good (codes "basis") (omega arith) refl refl, tt)
 all_good Value = (a_good (codes "at") (omega arith) refl refl, (a_good (codes "workers") (omega arith) refl refl, (a_good (codes "basis") (omega arith) refl refl, tt)))
+all_good Project = (a_good (codes "workers") (omega arith) refl refl, (a_good (codes "basis") (omega arith) refl refl, tt))
 all_good State = tt
 all_good Generate = tt
 all_good Load = tt
@@ -64,6 +67,7 @@ IsGoodFlag verb name = IsGood name × (arg_by_long (map filled_option (options_o
 all_flags_good : (verb : Verb) → AllOf (IsGoodFlag verb) (options_of verb).flags
 all_flags_good Run = tt
 all_flags_good Value = ((a_good (codes "mean") (omega arith) refl refl, refl), ((a_good (codes "deficiency") (omega arith) refl refl, refl), tt))
+all_flags_good Project = tt
 all_flags_good State = tt
 all_flags_good Generate = tt
 all_flags_good Load = tt
@@ -160,6 +164,17 @@ asked word words (mode.Value on position workers basis measure) are =
         says = ((is.day, is.alone, is.day_is), is.position_is, is.workers_are, is.basis_is, is.measure_is);
       },
     )
+asked word words (mode.Project on years workers basis) are =
+    let is = are.1 in (
+      are.0,
+      record {
+        pieces = is.pieces;
+        spelling = spelling_of (options_of Project) words is.pieces is.spells is.only
+            (subst EachPlain (sym is.alone) (plain_day is.day on is.day_is.1, (plain_number 131 years (omega arith) is.years_in.1, tt)))
+            (plain_lone _ (λ given. AreWorkersOr given workers) is.workers_are (plain_workers workers), (plain_lone _ (λ given. IsBasisOr given basis) is.basis_is (plain_basis basis), tt));
+        says = ((is.day, is.alone, is.day_is, is.years_in), is.workers_are, is.basis_is);
+      },
+    )
 asked word words (mode.State id) are =
     let is = are.1 in (
       are.0,
@@ -221,6 +236,20 @@ asking words (mode.Value on position workers basis measure) is = (
     workers_are = is.says.2;
     basis_is = is.says.3;
     measure_is = is.says.4;
+  },
+)
+asking words (mode.Project on years workers basis) is = (
+  refl,
+  record {
+    pieces = is.pieces;
+    spells = is.spelling.spells;
+    only = is.spelling.only;
+    day = is.says.0.0;
+    alone = is.says.0.1;
+    day_is = is.says.0.2;
+    years_in = is.says.0.3;
+    workers_are = is.says.1;
+    basis_is = is.says.2;
   },
 )
 asking words (mode.State id) is = (refl, record { pieces = is.pieces; spells = is.spelling.spells; only = is.spelling.only; id_is = is.says })

@@ -18,12 +18,12 @@ use Rattle.policy_types.specs.declared.entry.At.TheVariants.{Now, Position}
 use Rattle.life_args.specs.declared.mode.Mode.{Mode}
 use Rattle.life_args.specs.declared.mode.Mode.TheVariants as mode
 use Rattle.life_args.specs.declared.verb.Verb.{Verb}
-use Rattle.life_args.specs.declared.verb.Verb.TheVariants.{Run, Value, State, Generate, Load}
+use Rattle.life_args.specs.declared.verb.Verb.TheVariants.{Run, Value, Project, State, Generate, Load}
 use Rattle.life_args.specs.Pieces.{WordPiece, AtMostOne}
 use Rattle.life_args.specs.Values.{IsDayValue, IsPositionOr, AreWorkersOr, IsBasisOr, IsMeasureBy, IsPolicyOr, IsWorkerCount}
 use Rattle.life_args.specs.Words.{AreWords, AskFor, AskForNothing}
 use Rattle.life_args.specs.inside.Lines.{Spelling, alone_id, has_odd, line_app, values_of}
-use Rattle.life_args.specs.inside.Verbs.{AreDraws, JustOne, SaysMode, options_of, verb_of, verb_word}
+use Rattle.life_args.specs.inside.Verbs.{AreDayAndYears, AreDraws, JustOne, SaysMode, options_of, verb_of, verb_word}
 use Rattle.life_args.proofs.Lines.{spelled_taken, taken_spelled}
 use Rattle.life_args.proofs.Asking.{asked, asking, good}
 use Rattle.life_args.proofs.Answering.{asked_of, odd_refused}
@@ -189,6 +189,22 @@ just_day (x ∷ []) = elim (day x) [
 ]
 just_day (x ∷ y ∷ values) = inr (λ on one. let never = one.1 in cc)
 
+-- just two values, a day and a number of years
+abbrev Ahead : List Text → Type 0
+Ahead values = (on : ℤ) × ((years : ℕ) × AreDayAndYears values on years)
+
+ahead : (values : List Text) → Either (Ahead values)
+ahead (x ∷ y ∷ []) = elim (day x) [
+  | inr none ↦ inr (λ is. let e = is.1.1.1 in let same : is.1.1.0 ≡ x = cc in none is.0 (subst (λ (t : Text). IsDayValue t is.0) same is.1.1.2))
+  | inl on ↦ elim (number 1 131 y) [
+    | inr none ↦ inr (λ is. let e = is.1.1.1 in none is.1.0 is.1.1.3.0 is.1.1.3.1 (cc))
+    | inl years ↦ inl (on.0, (years.0, (x, (let z = years.3 in cc), on.1, (years.1, years.2))))
+  ]
+]
+ahead [] = inr (λ is. let e = is.1.1.1 in cc)
+ahead (x ∷ []) = inr (λ is. let e = is.1.1.1 in cc)
+ahead (x ∷ y ∷ z ∷ values) = inr (λ is. let e = is.1.1.1 in cc)
+
 nothing_in : (values : List Text) → Either (values ≡ [])
 nothing_in [] = inl refl
 nothing_in (x ∷ values) = inr (λ never. cc)
@@ -238,6 +254,7 @@ loaded (a ∷ b ∷ c ∷ d ∷ f ∷ values) = inr (λ is. let e = is.1.1.1.1 i
 abbrev Said : Verb → (Text → List Text) → Type 0
 Said Run values = (given : Text) × SaysMode values (mode.Run given)
 Said Value values = (on : ℤ) × ((at : At) × ((many : ℕ) × ((given : Text) × ((one : Measure) × SaysMode values (mode.Value on at many given one)))))
+Said Project values = (on : ℤ) × ((years : ℕ) × ((many : ℕ) × ((given : Text) × SaysMode values (mode.Project on years many given))))
 Said State values = (id : Option ℕ) × SaysMode values (mode.State id)
 Said Generate values = Drawn (values alone_id)
 Said Load values = Loaded (values alone_id)
@@ -245,6 +262,7 @@ Said Load values = Loaded (values alone_id)
 of_mode : (values : Text → List Text) (one : Mode) → SaysMode values one → Said (verb_of one) values
 of_mode values (mode.Run given) says = (given, says)
 of_mode values (mode.Value on at many given one) says = (on, (at, (many, (given, (one, says)))))
+of_mode values (mode.Project on years many given) says = (on, (years, (many, (given, says))))
 of_mode values (mode.State id) says = (id, says)
 of_mode values (mode.Generate seed count lanes) says = (seed, (count, (lanes, says.0, says.1)))
 of_mode values (mode.Load seed count lanes many) says = (seed, (count, (lanes, (many, says.0, says.1, says.2))))
@@ -252,6 +270,7 @@ of_mode values (mode.Load seed count lanes many) says = (seed, (count, (lanes, (
 a_mode : (values : Text → List Text) (verb : Verb) → Said verb values → (one : Mode) × (verb_of one ≡ verb) × SaysMode values one
 a_mode values Run said = (mode.Run said.0, refl, said.1)
 a_mode values Value said = (mode.Value said.0 said.1.0 said.1.1.0 said.1.1.1.0 said.1.1.1.1.0, refl, said.1.1.1.1.1)
+a_mode values Project said = (mode.Project said.0 said.1.0 said.1.1.0 said.1.1.1.0, refl, said.1.1.1.1)
 a_mode values State said = (mode.State said.0, refl, said.1)
 a_mode values Generate said = (mode.Generate said.0 said.1.0 said.1.1.0, refl, (said.1.1.1, said.1.1.2))
 a_mode values Load said = (mode.Load said.0 said.1.0 said.1.1.0 said.1.1.1.0, refl, (said.1.1.1.1, said.1.1.1.2, said.1.1.1.3))
@@ -277,6 +296,16 @@ said values Value = elim (just_day (values alone_id)) [
           | inl one ↦ inl (on.0, (at.0, (many.0, (given.0, (one.0, (on.1, at.1, many.1, given.1, one.1))))))
         ]
       ]
+    ]
+  ]
+]
+said values Project = elim (ahead (values alone_id)) [
+  | inr none ↦ inr (λ is. none (is.0, (is.1.0, is.1.1.1.1.0)))
+  | inl on ↦ elim (workers (values (codes "workers"))) [
+    | inr none ↦ inr (λ is. none is.1.1.0 is.1.1.1.1.1)
+    | inl many ↦ elim (basis (values (codes "basis"))) [
+      | inr none ↦ inr (λ is. none is.1.1.1.0 is.1.1.1.1.2)
+      | inl given ↦ inl (on.0, (on.1.0, (many.0, (given.0, (on.1.1, many.1, given.1)))))
     ]
   ]
 ]
@@ -338,20 +367,24 @@ named word = elim (same_text word (codes "run")) [
         | inl is ↦ inl (Generate, is)
         | inr generate ↦ elim (same_text word (codes "load")) [
           | inl is ↦ inl (Load, is)
-          | inr load ↦ inr (λ verb is. none verb run value state generate load is)
+          | inr load ↦ elim (same_text word (codes "project")) [
+            | inl is ↦ inl (Project, is)
+            | inr project ↦ inr (λ verb is. none verb run value project state generate load is)
+          ]
         ]
       ]
     ]
   ]
 ]
   where
-    none : (verb : Verb) → (word ≡ codes "run" → ⊥) → (word ≡ codes "value" → ⊥) → (word ≡ codes "state" → ⊥) → (word ≡ codes "generate" → ⊥)
+    none : (verb : Verb) → (word ≡ codes "run" → ⊥) → (word ≡ codes "value" → ⊥) → (word ≡ codes "project" → ⊥) → (word ≡ codes "state" → ⊥) → (word ≡ codes "generate" → ⊥)
         → (word ≡ codes "load" → ⊥) → word ≡ verb_word verb → ⊥
-    none Run run value state generate load is = run is
-    none Value run value state generate load is = value is
-    none State run value state generate load is = state is
-    none Generate run value state generate load is = generate is
-    none Load run value state generate load is = load is
+    none Run run value project state generate load is = run is
+    none Value run value project state generate load is = value is
+    none Project run value project state generate load is = project is
+    none State run value project state generate load is = state is
+    none Generate run value project state generate load is = generate is
+    none Load run value project state generate load is = load is
 
 either_words : (words : List Text) → ((one : Mode) × AreWords words one) ⊎ ((one : Mode) → AreWords words one → ⊥)
 either_words [] = inr (λ one are. are)

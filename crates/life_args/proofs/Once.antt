@@ -100,6 +100,15 @@ same_mode values (mode.Value on position workers basis measure) (mode.Value day 
     let files = one_lone (values (codes "basis")) IsBasisOr basis file (λ o. one_basis o basis file) first.3 other.3 in
     let kinds = one_measure (values (codes "mean")) (values (codes "deficiency")) measure kind first.4 other.4 in
     λ i. mode.Value (days i) (places i) (crews i) (files i) (kinds i)
+same_mode values (mode.Project on years workers basis) (mode.Project day many crew file) e first other =
+    let lists : first.0.0 ∷ decimal years ∷ [] ≡ other.0.0 ∷ decimal many ∷ [] = sym first.0.1 ∙ other.0.1 in
+    let value : first.0.0 ≡ other.0.0 = cc in
+    let text : decimal years ≡ decimal many = cc in
+    let days = same_day on day first.0.2.0 other.0.2.0 (sym first.0.2.1 ∙ value ∙ other.0.2.1) in
+    let counts = decimal_injective years many (omega (arith, first.0.3.1)) (omega (arith, other.0.3.1)) text in
+    let crews = one_lone (values (codes "workers")) AreWorkersOr workers crew (λ o. one_crew o workers crew) first.1 other.1 in
+    let files = one_lone (values (codes "basis")) IsBasisOr basis file (λ o. one_basis o basis file) first.2 other.2 in
+    λ i. mode.Project (days i) (counts i) (crews i) (files i)
 same_mode values (mode.State a) (mode.State b) e first other = ap mode.State (one_lone (values alone_id) IsPolicyOr a b (λ o. one_policy o a b) first other)
 same_mode values (mode.Generate a b c) (mode.Generate x y z) e first other =
     let all = three_draws a b c x y z [] [] (sym first.0 ∙ other.0) first.1 other.1 in

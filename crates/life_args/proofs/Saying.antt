@@ -8,7 +8,7 @@ use Rattle.life_args.specs.declared.fault.WordsFault.{WordsFault}
 use Rattle.life_args.specs.declared.mode.Mode.{Mode}
 use Rattle.life_args.specs.declared.mode.Mode.TheVariants as mode
 use Rattle.life_args.specs.declared.verb.Verb.{Verb}
-use Rattle.life_args.specs.declared.verb.Verb.TheVariants.{Run, Value, State, Generate, Load}
+use Rattle.life_args.specs.declared.verb.Verb.TheVariants.{Run, Value, Project, State, Generate, Load}
 use Rattle.life_args.specs.Pieces.{AtMostOne}
 use Rattle.life_args.specs.Values.{IsPositionOr, AreWorkersOr, IsBasisOr, IsMeasureBy, IsPolicyOr}
 use Rattle.life_args.specs.inside.Lines.{GivesAsked, alone_id, values_named}
@@ -70,6 +70,14 @@ module _ (found : Found) where
   pub value_measure : (one : Mode) → AsksFor Value found one → (measure : Measure) × IsMeasureBy (values_named found (codes "mean")) (values_named found (codes "deficiency")) measure
   value_measure (mode.Value on position workers basis measure) asks = (measure, asks.says.4)
   value_measure one asks = let e = asks.is in absurd (cc)
+
+  pub project_workers : (one : Mode) → AsksFor Project found one → (workers : ℕ) × AtMostOne (values_named found (codes "workers")) (λ o. AreWorkersOr o workers)
+  project_workers (mode.Project on years workers basis) asks = (workers, asks.says.1)
+  project_workers one asks = let e = asks.is in absurd (cc)
+
+  pub project_basis : (one : Mode) → AsksFor Project found one → (basis : Text) × AtMostOne (values_named found (codes "basis")) (λ o. IsBasisOr o basis)
+  project_basis (mode.Project on years workers basis) asks = (basis, asks.says.2)
+  project_basis one asks = let e = asks.is in absurd (cc)
 
   pub state_policy : (one : Mode) → AsksFor State found one → (id : Option ℕ) × AtMostOne (values_named found alone_id) (λ o. IsPolicyOr o id)
   state_policy (mode.State id) asks = (id, asks.says)

@@ -1,10 +1,12 @@
 -- What worked words are told by.
-use Rattle.std.proofs.Common.{◌≡◌, ◌∙◌, ◌++◌, ℕ, List, [], ◌∷◌, All, refl, sym, ap, subst, inl, inr, codes, lit≤, arith}
+use Rattle.std.proofs.Common.{◌≡◌, ◌≤◌, ◌∙◌, ◌++◌, ℕ, List, [], ◌∷◌, All, refl, sym, ap, subst, inl, inr, codes, decimal, lit≤, arith, ℤ}
 use Rattle.std.specs.Prelude.{slice_index}
 use Rattle.std.proofs.lemmas.List.Elements.{All-nil, All-cons}
+use Rattle.std.proofs.lemmas.Fmt.{decimal_injective}
+use Rattle.std.specs.Fmt.{digits}
 use Rattle.basis_book.specs.Name.{IsName, IsNameByte}
 use Rattle.life_args.specs.declared.mode.Mode.{Mode}
-use Rattle.life_args.specs.declared.mode.Mode.TheVariants.{Run, Value, State, Generate, Load}
+use Rattle.life_args.specs.declared.mode.Mode.TheVariants.{Run, Value, Project, State, Generate, Load}
 use Rattle.life_args.specs.Pieces.{WordPiece, bare, apart, joined, flag, spelled, bare_values}
 use Rattle.life_args.specs.Words.{AreWords}
 use Rattle.life_args.specs.Worked.{Ask, AskNothing}
@@ -13,7 +15,7 @@ use Rattle.life_args.specs.declared.verb.Verb.TheVariants as verb
 use Rattle.life_args.specs.Pieces.{option_values}
 use Rattle.life_args.specs.Values.{IsMeasureBy}
 use Rattle.life_args.specs.inside.Lines.{Spelling, line_app, values_of}
-use Rattle.life_args.specs.inside.Verbs.{SaysMode, options_of, verb_of, verb_word}
+use Rattle.life_args.specs.inside.Verbs.{AreDayAndYears, SaysMode, options_of, verb_of, verb_word}
 use Rattle.life_args.proofs.Answering.{asked_of}
 use Rattle.life_args.proofs.Asking.{good}
 use Rattle.life_args.proofs.Lines.{spelled_taken}
@@ -64,6 +66,7 @@ none_of_none mode are = are
 pub none_of_help : (mode : Mode) → AreWords (codes "help" ∷ []) mode → ⊥
 none_of_help (Run basis) are = differ _ _ (λ e. let no : 104 ≡ 114 = e in omega arith) are.0
 none_of_help (Value on position workers basis measure) are = differ _ _ (λ e. let no : 104 ≡ 118 = e in omega arith) are.0
+none_of_help (Project on years workers basis) are = differ _ _ (λ e. let no : 104 ≡ 112 = e in omega arith) are.0
 none_of_help (State id) are = differ _ _ (λ e. let no : 104 ≡ 115 = e in omega arith) are.0
 none_of_help (Generate seed count lanes) are = differ _ _ (λ e. let no : 104 ≡ 103 = e in omega arith) are.0
 none_of_help (Load seed count lanes workers) are = differ _ _ (λ e. let no : 104 ≡ 108 = e in omega arith) are.0
@@ -89,6 +92,7 @@ one_word (flag name ∷ pieces) e none =
 pub none_of_now : (mode : Mode) → AreWords (codes "run" ∷ codes "now" ∷ []) mode → ⊥
 none_of_now (Run basis) are = one_word are.1.pieces are.1.spells are.1.alone
 none_of_now (Value on position workers basis measure) are = differ _ _ (λ e. let no : 114 ≡ 118 = e in omega arith) are.0
+none_of_now (Project on years workers basis) are = differ _ _ (λ e. let no : 114 ≡ 112 = e in omega arith) are.0
 none_of_now (State id) are = differ _ _ (λ e. let no : 114 ≡ 115 = e in omega arith) are.0
 none_of_now (Generate seed count lanes) are = differ _ _ (λ e. let no : 114 ≡ 103 = e in omega arith) are.0
 none_of_now (Load seed count lanes workers) are = differ _ _ (λ e. let no : 114 ≡ 108 = e in omega arith) are.0
@@ -104,6 +108,7 @@ no_word (flag name ∷ pieces) day e is = let no : [] ≡ (codes "--" ++ name) �
 pub none_of_no_day : (mode : Mode) → AreWords (codes "value" ∷ []) mode → ⊥
 none_of_no_day (Run basis) are = differ _ _ (λ e. let no : 118 ≡ 114 = e in omega arith) are.0
 none_of_no_day (Value on position workers basis measure) are = no_word are.1.pieces are.1.day are.1.spells are.1.alone
+none_of_no_day (Project on years workers basis) are = differ _ _ (λ e. let no : 118 ≡ 112 = e in omega arith) are.0
 none_of_no_day (State id) are = differ _ _ (λ e. let no : 118 ≡ 115 = e in omega arith) are.0
 none_of_no_day (Generate seed count lanes) are = differ _ _ (λ e. let no : 118 ≡ 103 = e in omega arith) are.0
 none_of_no_day (Load seed count lanes workers) are = differ _ _ (λ e. let no : 118 ≡ 108 = e in omega arith) are.0
@@ -111,6 +116,7 @@ none_of_no_day (Load seed count lanes workers) are = differ _ _ (λ e. let no : 
 pub none_of_two : (mode : Mode) → AreWords (codes "generate" ∷ codes "1" ∷ codes "1" ∷ []) mode → ⊥
 none_of_two (Run basis) are = differ _ _ (λ e. let no : 103 ≡ 114 = e in omega arith) are.0
 none_of_two (Value on position workers basis measure) are = differ _ _ (λ e. let no : 103 ≡ 118 = e in omega arith) are.0
+none_of_two (Project on years workers basis) are = differ _ _ (λ e. let no : 103 ≡ 112 = e in omega arith) are.0
 none_of_two (State id) are = differ _ _ (λ e. let no : 103 ≡ 115 = e in omega arith) are.0
 none_of_two (Generate seed count lanes) are = let e = are.1.spells in cc
 none_of_two (Load seed count lanes workers) are = differ _ _ (λ e. let no : 103 ≡ 108 = e in omega arith) are.0
@@ -156,3 +162,50 @@ none_of_flag_as_value = refused verb.Value (codes "2021-01-01" ∷ codes "--at" 
 pub none_of_state_flag : (mode : Mode) → AreWords (codes "state" ∷ codes "--mean" ∷ []) mode → ⊥
 unfolding walk_fault walked defaults_fault
 none_of_state_flag = refused verb.State (codes "--mean" ∷ []) (λ none. let no : UnknownArgument ∷ [] ≡ [] = none in cc)
+
+-- ---- projections
+
+-- pieces that spell the words and say no day and years
+projected_so : (words : List (List ℕ)) (pieces : List WordPiece) → Spelling (options_of verb.Project) words pieces
+    → ((on : ℤ) (years : ℕ) → AreDayAndYears (bare_values pieces) on years → ⊥) → (mode : Mode) → AreWords (codes "project" ∷ words) mode → ⊥
+projected_so words pieces spelling none mode are =
+    let asks = asked_of verb.Project words mode are in
+    let these = (spelled_taken (options_of verb.Project) (good verb.Project) words pieces spelling).1 in
+    let those = (spelled_taken (options_of verb.Project) (good verb.Project) words asks.1.0 asks.1.1).1 in
+    by_years mode asks.0 (subst (λ (v : List ℕ → List (List ℕ)). SaysMode v mode) (λ i id. (sym (those id) ∙ these id) i) asks.1.2)
+  where
+    by_years : (one : Mode) → verb_of one ≡ verb.Project → SaysMode (values_of pieces) one → ⊥
+    by_years (Project on years workers basis) e says = none on years says.0
+    by_years one e says = absurd (cc)
+
+-- behind the day stand years that are too few, or too many
+other_years : (text : List ℕ) (n : ℕ) → text ≡ decimal n → n ≤ 132 → (1 ≤ n → n ≤ 131 → ⊥) → (on : ℤ) (years : ℕ) → AreDayAndYears (codes "2021-01-01" ∷ text ∷ []) on years → ⊥
+other_years text n is small out on years are =
+    let lists : codes "2021-01-01" ∷ text ∷ [] ≡ are.0 ∷ decimal years ∷ [] = are.1 in
+    let texts : text ≡ decimal years = cc in
+    let same : n ≡ years = decimal_injective n years (omega (arith, small)) (omega (arith, are.3.1)) (sym is ∙ texts) in
+    out (omega (arith, same, are.3.0)) (omega (arith, same, are.3.1))
+
+pub none_of_no_years : (mode : Mode) → AreWords (codes "project" ∷ codes "2021-01-01" ∷ []) mode → ⊥
+none_of_no_years = projected_so _ (bare (codes "2021-01-01") ∷ []) (record { spells = refl; only = tt; plain = (refl, tt) })
+    (λ on years are. let no : codes "2021-01-01" ∷ [] ≡ are.0 ∷ decimal years ∷ [] = are.1 in cc)
+
+pub none_of_zero_years : (mode : Mode) → AreWords (codes "project" ∷ codes "2021-01-01" ∷ codes "0" ∷ []) mode → ⊥
+unfolding digits
+none_of_zero_years = projected_so _ (bare (codes "2021-01-01") ∷ bare (codes "0") ∷ []) (record { spells = refl; only = tt; plain = (refl, (refl, tt)) })
+    (other_years (codes "0") 0 refl (lit≤ tt) (λ some few. omega (arith, some)))
+
+pub none_of_132_years : (mode : Mode) → AreWords (codes "project" ∷ codes "2021-01-01" ∷ codes "132" ∷ []) mode → ⊥
+unfolding digits
+none_of_132_years = projected_so _ (bare (codes "2021-01-01") ∷ bare (codes "132") ∷ []) (record { spells = refl; only = tt; plain = (refl, (refl, tt)) })
+    (other_years (codes "132") 132 refl (lit≤ tt) (λ some few. omega (arith, few)))
+
+pub none_of_three : (mode : Mode) → AreWords (codes "project" ∷ codes "2021-01-01" ∷ codes "1" ∷ codes "2" ∷ []) mode → ⊥
+none_of_three =
+    projected_so _ (bare (codes "2021-01-01") ∷ bare (codes "1") ∷ bare (codes "2") ∷ []) (record { spells = refl; only = tt; plain = (refl, (refl, (refl, tt))) })
+    (λ on years are. let no : codes "2021-01-01" ∷ codes "1" ∷ codes "2" ∷ [] ≡ are.0 ∷ decimal years ∷ [] = are.1 in cc)
+
+pub none_of_projected_position : (mode : Mode) → AreWords (codes "project" ∷ codes "2021-01-01" ∷ codes "1" ∷ codes "--at" ∷ codes "0" ∷ []) mode → ⊥
+unfolding walk_fault walked defaults_fault
+none_of_projected_position =
+    refused verb.Project (codes "2021-01-01" ∷ codes "1" ∷ codes "--at" ∷ codes "0" ∷ []) (λ none. let no : UnknownArgument ∷ [] ≡ [] = none in cc)

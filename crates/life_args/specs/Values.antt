@@ -23,6 +23,10 @@ abbrev pub AreWorkersOr : Option (List ℕ) → ℕ → Type 0
 AreWorkersOr None workers = workers ≡ 1
 AreWorkersOr (Some value) workers = (1 ≤ workers) × (workers ≤ 64) × (value ≡ decimal workers)
 
+-- the years of a projection, from 1 to 131
+abbrev pub IsYearCount : ℕ → Type 0
+IsYearCount years = (1 ≤ years) × (years ≤ 131)
+
 -- the name of a basis file, and `basis.csv` where none is given
 abbrev pub IsBasisOr : Option (List ℕ) → List ℕ → Type 0
 IsBasisOr None name = name ≡ codes "basis.csv"

@@ -6,9 +6,9 @@ use Rattle.policy_value.specs.declared.worth.Measure.{Measure}
 use Rattle.life_args.specs.declared.fault.WordsFault.{WordsFault}
 use Rattle.life_args.specs.declared.fault.WordsFault.TheVariants.{Usage, NoMemory}
 use Rattle.life_args.specs.declared.mode.Mode.{Mode}
-use Rattle.life_args.specs.declared.mode.Mode.TheVariants.{Run, Value, State, Generate, Load}
+use Rattle.life_args.specs.declared.mode.Mode.TheVariants.{Run, Value, Project, State, Generate, Load}
 use Rattle.life_args.specs.Pieces.{WordPiece, spelled, bare_values, option_values, HasOnly, AtMostOne}
-use Rattle.life_args.specs.Values.{IsDayValue, IsPositionOr, AreWorkersOr, IsBasisOr, IsMeasureBy, IsPolicyOr, IsSeed, IsPolicyCount, IsLaneCount, IsWorkerCount}
+use Rattle.life_args.specs.Values.{IsDayValue, IsPositionOr, AreWorkersOr, IsYearCount, IsBasisOr, IsMeasureBy, IsPolicyOr, IsSeed, IsPolicyCount, IsLaneCount, IsWorkerCount}
 
 -- `run [--basis NAME]`: the words behind `run`
 pub record IsRun (words : List (List ℕ)) (basis : List ℕ) : Type 0 where
@@ -31,6 +31,18 @@ pub record IsValue (words : List (List ℕ)) (on : ℤ) (position : At) (workers
   pub workers_are : AtMostOne (option_values (codes "workers") pieces) (λ given. AreWorkersOr given workers)
   pub basis_is : AtMostOne (option_values (codes "basis") pieces) (λ given. IsBasisOr given basis)
   pub measure_is : IsMeasureBy (option_values (codes "mean") pieces) (option_values (codes "deficiency") pieces) measure
+
+-- `project ON YEARS [--workers N] [--basis NAME]`: the words behind `project`, options anywhere among them
+pub record IsProject (words : List (List ℕ)) (on : ℤ) (years workers : ℕ) (basis : List ℕ) : Type 0 where
+  pub pieces : List WordPiece
+  pub spells : words ≡ spelled pieces
+  pub only : HasOnly (codes "workers" ∷ codes "basis" ∷ []) [] pieces
+  pub day : List ℕ
+  pub alone : bare_values pieces ≡ day ∷ decimal years ∷ []
+  pub day_is : IsDayValue day on
+  pub years_in : IsYearCount years
+  pub workers_are : AtMostOne (option_values (codes "workers") pieces) (λ given. AreWorkersOr given workers)
+  pub basis_is : AtMostOne (option_values (codes "basis") pieces) (λ given. IsBasisOr given basis)
 
 -- `state [ID]`: the words behind `state`
 pub record IsState (words : List (List ℕ)) (id : Option ℕ) : Type 0 where
@@ -60,6 +72,7 @@ AreWords [] mode = ⊥
 AreWords (word ∷ words) (Run basis) = (word ≡ codes "run") × IsRun words basis
 AreWords (word ∷ words) (Value on position workers basis measure) =
     (word ≡ codes "value") × IsValue words on position workers basis measure
+AreWords (word ∷ words) (Project on years workers basis) = (word ≡ codes "project") × IsProject words on years workers basis
 AreWords (word ∷ words) (State id) = (word ≡ codes "state") × IsState words id
 AreWords (word ∷ words) (Generate seed count lanes) = (word ≡ codes "generate") × IsGenerate words seed count lanes
 AreWords (word ∷ words) (Load seed count lanes workers) = (word ≡ codes "load") × IsLoad words seed count lanes workers

@@ -4,7 +4,7 @@ use Rattle.std.specs.Global.{Global}
 use Rattle.policy_types.specs.declared.entry.At.TheVariants.{Now, Position}
 use Rattle.policy_value.specs.declared.worth.Measure.TheVariants.{Terminal, Mean, Deficiency}
 use Rattle.life_args.specs.declared.mode.Mode.{Mode}
-use Rattle.life_args.specs.declared.mode.Mode.TheVariants.{Run, Value, State, Generate, Load}
+use Rattle.life_args.specs.declared.mode.Mode.TheVariants.{Run, Value, Project, State, Generate, Load}
 use Rattle.life_args.specs.Words.{AskFor, AskForNothing}
 
 -- words that are these bytes ask for this
@@ -39,6 +39,20 @@ MeasureNearWords = AskNothing (codes "value" ∷ codes "--mean" ∷ codes "2021-
     × AskNothing (codes "value" ∷ codes "--mean=" ∷ codes "2021-01-01" ∷ [])
     × AskNothing (codes "value" ∷ codes "2021-01-01" ∷ codes "--at" ∷ codes "--mean" ∷ [])
     × AskNothing (codes "state" ∷ codes "--mean" ∷ [])
+
+-- options before the day, in one word, and behind the years
+abbrev pub ProjectWords : Type 0
+ProjectWords = Ask (codes "project" ∷ codes "2021-01-01" ∷ codes "1" ∷ []) (Project (pos 18628) 1 1 (codes "basis.csv"))
+    × Ask (codes "project" ∷ codes "--workers=64" ∷ codes "2021-01-01" ∷ codes "131" ∷ codes "--basis" ∷ codes "b2.csv" ∷ [])
+    (Project (pos 18628) 131 64 (codes "b2.csv"))
+
+-- no years, none and too many of them, a word too many, and a position
+abbrev pub ProjectNearWords : Type 0
+ProjectNearWords = AskNothing (codes "project" ∷ codes "2021-01-01" ∷ [])
+    × AskNothing (codes "project" ∷ codes "2021-01-01" ∷ codes "0" ∷ [])
+    × AskNothing (codes "project" ∷ codes "2021-01-01" ∷ codes "132" ∷ [])
+    × AskNothing (codes "project" ∷ codes "2021-01-01" ∷ codes "1" ∷ codes "2" ∷ [])
+    × AskNothing (codes "project" ∷ codes "2021-01-01" ∷ codes "1" ∷ codes "--at" ∷ codes "0" ∷ [])
 
 abbrev pub StateWords : Type 0
 StateWords = Ask (codes "state" ∷ []) (State None) × Ask (codes "state" ∷ codes "7001" ∷ []) (State (Some 7001))

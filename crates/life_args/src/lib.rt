@@ -12,7 +12,7 @@ mod verb;
 mod worked;
 
 pub use fault::WordsFault;
-pub use laws::words_ask_once;
+pub use laws::{words_ask_once, words_ask_or_not};
 pub use mode::Mode;
 pub use reading::read_words;
 pub use worked::words_by_hand;

@@ -64,6 +64,9 @@ fn command_of<'a>(alloc: Global, verb: Verb) -> Result<Command<'a>, AllocError>
             .arg(option(alloc, "basis"))?
             .arg(flag(alloc, "mean"))?
             .arg(flag(alloc, "deficiency")),
+        Verb::Project => command
+            .arg(option(alloc, "workers"))?
+            .arg(option(alloc, "basis")),
         Verb::State | Verb::Generate | Verb::Load => Ok(command),
     }
 }

@@ -22,6 +22,15 @@ pub enum Mode {
         /// The reserve that is asked for.
         measure: Measure,
     },
+    /// To write what the policies are expected to pay and to be paid in so many years, by year from the one of this day on.
+    Project {
+        /// The day, in days since 1970-01-01.
+        on: i32,
+        years: u8,
+        workers: u8,
+        /// The name of the basis file.
+        basis: Name,
+    },
     /// To write all policies and the balances, or the entries of the policy of this number.
     State {
         id: Option<u32>,

@@ -7,7 +7,7 @@ use crate::fault::WordsFault;
 use crate::mode::Mode;
 use crate::values::{
     basis_of, day_of, four, is_empty, measure_of, number_of, one, policy_of, position_of, three,
-    workers_of,
+    two, workers_of,
 };
 use crate::verb::Verb;
 use clap::ArgMatches;
@@ -20,6 +20,7 @@ pub fn mode_of(alloc: Global, verb: Verb, line: &ArgMatches) -> Result<Mode, Wor
     match verb {
         Verb::Run => run_of(alloc, line),
         Verb::Value => value_of(alloc, line),
+        Verb::Project => project_of(alloc, line),
         Verb::State => state_of(line),
         Verb::Generate => generate_of(line),
         Verb::Load => load_of(line),
@@ -53,6 +54,24 @@ fn value_of(alloc: Global, line: &ArgMatches) -> Result<Mode, WordsFault>
         workers,
         basis,
         measure,
+    })
+}
+
+fn project_of(alloc: Global, line: &ArgMatches) -> Result<Mode, WordsFault>
+    ensures { GivesAsked (AsksFor Verb.Project (found_of line.now)) result }
+{
+    let Some((on, years)) = two(line.get_strs("values")) else {
+        return Err(WordsFault::Usage);
+    };
+    let on = day_of(on)?;
+    let years = number_of(years, 1, 131)?;
+    let workers = workers_of(line.get_strs("workers"))?;
+    let basis = basis_of(alloc, line.get_strs("basis"))?;
+    Ok(Mode::Project {
+        on,
+        years: years as u8,
+        workers,
+        basis,
     })
 }
 

@@ -13,7 +13,7 @@ use policy_types::{At, NoMemory};
 use policy_value::Measure;
 use std::alloc::Global;
 
-/// The day of a valuation, in days since 1970-01-01.
+/// The day of a valuation or projection, in days since 1970-01-01.
 pub fn day_of(value: &str) -> Result<i32, WordsFault>
     ensures { GivesAsked (IsDayValue value.now) result }
 {
@@ -89,6 +89,17 @@ pub fn one<'a>(values: Option<&[&'a str]>) -> Option<&'a str>
 {
     match values {
         Some([value]) => Some(*value),
+        _ => None,
+    }
+}
+
+/// The values, where there are two.
+pub fn two<'a>(values: Option<&[&'a str]>) -> Option<(&'a str, &'a str)>
+    ensures some { IfSome result (λ all. texts_of values.entry ≡ all.0.now ∷ all.1.now ∷ []) }
+    ensures none { IfNone result (length (texts_of values.entry) ≢ 2) }
+{
+    match values {
+        Some([a, b]) => Some((*a, *b)),
         _ => None,
     }
 }

@@ -7,6 +7,7 @@ ghost use Rattle.life_args.specs.inside.Verbs.{verb_word};
 pub enum Verb {
     Run,
     Value,
+    Project,
     State,
     Generate,
     Load,
@@ -22,6 +23,9 @@ pub fn verb_named(word: &str) -> Option<Verb>
     }
     if word == "value" {
         return Some(Verb::Value);
+    }
+    if word == "project" {
+        return Some(Verb::Project);
     }
     if word == "state" {
         return Some(Verb::State);

@@ -1,6 +1,6 @@
 //! Worked words, each a theorem over the definitions alone.
 
-ghost use Rattle.life_args.specs.Worked.{LoadWords, MeasureNearWords, MeasureWords, NearWords, RunWords, StateWords, ValueWords};
+ghost use Rattle.life_args.specs.Worked.{LoadWords, MeasureNearWords, MeasureWords, NearWords, ProjectNearWords, ProjectWords, RunWords, StateWords, ValueWords};
 
 /// The words of each command, and words that are nearly one.
 pub fn words_by_hand()
@@ -8,6 +8,8 @@ pub fn words_by_hand()
     ensures value { ValueWords }
     ensures measure { MeasureWords }
     ensures measure_near { MeasureNearWords }
+    ensures project { ProjectWords }
+    ensures project_near { ProjectNearWords }
     ensures state { StateWords }
     ensures load { LoadWords }
     ensures near { NearWords }

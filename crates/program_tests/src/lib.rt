@@ -26,6 +26,8 @@ mod paid_up_tests;
 #[cfg(test)]
 mod policy_tests;
 #[cfg(test)]
+mod project_tests;
+#[cfg(test)]
 mod run_tests;
 #[cfg(test)]
 mod select_value_tests;

@@ -46,6 +46,14 @@ fn asked(alloc: Global, line: &str) -> Result<String, Fail> {
                 flag
             )?)
         }
+        Ok(
+            Mode::Project {
+                on,
+                years,
+                workers,
+                basis,
+            },
+        ) => Ok(format!(in alloc; "project {} {} {} {}", on, years, workers, basis.text())?),
         Ok(Mode::State { id: None }) => Ok(format!(in alloc; "state")?),
         Ok(Mode::State { id: Some(id) }) => Ok(format!(in alloc; "state {}", id)?),
         Ok(Mode::Generate { seed, count, lanes }) => {
@@ -121,6 +129,16 @@ fn forms_and_mixtures(rt: HostRuntime) -> Result<(), Fail> {
         (
             "value 1970-01-01 --at 5 --workers 2 --deficiency",
             "value 0 5 2 basis.csv deficiency",
+        ),
+        ("project 1970-01-01 1", "project 0 1 1 basis.csv"),
+        ("project 2199-12-31 131", "project 84005 131 1 basis.csv"),
+        (
+            "project --basis b 1900-01-01 --workers=64 40",
+            "project -25567 40 64 b",
+        ),
+        (
+            "project 1970-01-02 2 --basis=b.csv --workers 2",
+            "project 1 2 2 b.csv",
         ),
         ("state", "state"),
         ("state 1", "state 1"),
@@ -253,6 +271,29 @@ fn words_of_no_command(rt: HostRuntime) -> Result<(), Fail> {
         "generate 1 1 1 --mean",
         "load 1 1 1 1 --mean",
         "load --deficiency 1 1 1 1",
+        "project",
+        "project 1970-01-01",
+        "project 1",
+        "project 1 1970-01-01",
+        "project 1970-01-01 0",
+        "project 1970-01-01 132",
+        "project 1970-01-01 257",
+        "project 1970-01-01 01",
+        "project 1970-01-01 +1",
+        "project 1970-01-01 ''",
+        "project 1970-01-01 1 1",
+        "project 1899-12-31 1",
+        "project 2200-01-01 1",
+        "project 2021-02-29 1",
+        "project 1970-01-01 1 --at 1",
+        "project 1970-01-01 1 --mean",
+        "project 1970-01-01 1 --workers 0",
+        "project 1970-01-01 1 --workers 65",
+        "project 1970-01-01 1 --workers 1 --workers 1",
+        "project 1970-01-01 1 --basis .b",
+        "project 1970-01-01 --years 1",
+        "projects 1970-01-01 1",
+        "Project 1970-01-01 1",
         "state 0",
         "state 4294967296",
         "state 01",

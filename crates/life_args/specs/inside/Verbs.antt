@@ -1,19 +1,20 @@
 -- The modes by their first words: the options of each, and what its values have to say
-use Rattle.std.specs.Prelude.{◌≡◌, ◌≤◌, ℕ, List, [], ◌∷◌, codes, decimal, map, option_map, unwrap_or, Option, Some, None, Result, Ok, Err}
+use Rattle.std.specs.Prelude.{◌≡◌, ◌≤◌, ℕ, List, [], ◌∷◌, codes, decimal, map, option_map, unwrap_or, Option, Some, None, Result, Ok, Err, ℤ}
 use Rattle.std.specs.Borrow.{Bor}
 use Rattle.clap.specs.declared.parser.matches.Found.{Found}
 use Rattle.life_args.specs.declared.fault.WordsFault.{WordsFault}
 use Rattle.life_args.specs.declared.mode.Mode.{Mode}
 use Rattle.life_args.specs.declared.mode.Mode.TheVariants as mode
 use Rattle.life_args.specs.declared.verb.Verb.{Verb}
-use Rattle.life_args.specs.declared.verb.Verb.TheVariants.{Run, Value, State, Generate, Load}
+use Rattle.life_args.specs.declared.verb.Verb.TheVariants.{Run, Value, Project, State, Generate, Load}
 use Rattle.life_args.specs.Pieces.{AtMostOne}
-use Rattle.life_args.specs.Values.{IsDayValue, IsPositionOr, AreWorkersOr, IsBasisOr, IsMeasureBy, IsPolicyOr, IsSeed, IsPolicyCount, IsLaneCount, IsWorkerCount}
+use Rattle.life_args.specs.Values.{IsDayValue, IsPositionOr, AreWorkersOr, IsYearCount, IsBasisOr, IsMeasureBy, IsPolicyOr, IsSeed, IsPolicyCount, IsLaneCount, IsWorkerCount}
 use Rattle.life_args.specs.inside.Lines.{GivesAsked, OptionNames, alone_id, no_option_names, values_named}
 
 abbrev pub verb_word : Verb → List ℕ
 verb_word Run = codes "run"
 verb_word Value = codes "value"
+verb_word Project = codes "project"
 verb_word State = codes "state"
 verb_word Generate = codes "generate"
 verb_word Load = codes "load"
@@ -21,6 +22,7 @@ verb_word Load = codes "load"
 abbrev pub verb_of : Mode → Verb
 verb_of (mode.Run basis) = Run
 verb_of (mode.Value on position workers basis measure) = Value
+verb_of (mode.Project on years workers basis) = Project
 verb_of (mode.State id) = State
 verb_of (mode.Generate seed count lanes) = Generate
 verb_of (mode.Load seed count lanes workers) = Load
@@ -32,6 +34,7 @@ options_of Value = record {
   valued = codes "at" ∷ codes "workers" ∷ codes "basis" ∷ [];
   flags = codes "mean" ∷ codes "deficiency" ∷ [];
 }
+options_of Project = record { valued = codes "workers" ∷ codes "basis" ∷ []; flags = [] }
 options_of State = no_option_names
 options_of Generate = no_option_names
 options_of Load = no_option_names
@@ -39,6 +42,11 @@ options_of Load = no_option_names
 -- there is just one value, of which this holds
 abbrev pub JustOne : List (List ℕ) → (List ℕ → Type 0) → Type 0
 JustOne values IsAsked = (value : List ℕ) × (values ≡ value ∷ []) × IsAsked value
+
+-- there are just two values, a day and a number of years
+abbrev pub AreDayAndYears : List (List ℕ) → ℤ → ℕ → Type 0
+AreDayAndYears values on years =
+    (day : List ℕ) × (values ≡ day ∷ decimal years ∷ []) × IsDayValue day on × IsYearCount years
 
 -- the values of an id as they are got, where there may be none
 abbrev pub texts_of : Option (Bor (List (Bor (List ℕ)))) → List (List ℕ)
@@ -78,6 +86,10 @@ SaysMode values (mode.Value on position workers basis measure) =
     × AtMostOne (values (codes "workers")) (λ given. AreWorkersOr given workers)
     × AtMostOne (values (codes "basis")) (λ given. IsBasisOr given basis)
     × IsMeasureBy (values (codes "mean")) (values (codes "deficiency")) measure
+SaysMode values (mode.Project on years workers basis) =
+    AreDayAndYears (values alone_id) on years
+    × AtMostOne (values (codes "workers")) (λ given. AreWorkersOr given workers)
+    × AtMostOne (values (codes "basis")) (λ given. IsBasisOr given basis)
 SaysMode values (mode.State id) = AtMostOne (values alone_id) (λ given. IsPolicyOr given id)
 SaysMode values (mode.Generate seed count lanes) =
     (values alone_id ≡ decimal seed ∷ decimal count ∷ decimal lanes ∷ []) × AreDraws seed count lanes

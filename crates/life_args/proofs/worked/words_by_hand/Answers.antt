@@ -4,7 +4,7 @@ use Rattle.std.proofs.lemmas.Int.{ints}
 use Rattle.life_dates.specs.Calendar.{date_of, date_at, year_of, month_of, days_before, days_before_year, days_of_months}
 use Rattle.life_dates.specs.DayText.{day_text}
 use Rattle.life_args.specs.Pieces.{bare, apart, joined, flag}
-use Rattle.life_args.proofs.WorkedWords.{asks, asks_nothing, b2_name, none_of_both, none_of_flag_as_value, none_of_none, none_of_help, none_of_now, none_of_no_day, none_of_state_flag, none_of_twice, none_of_two, none_of_valued_flag}
+use Rattle.life_args.proofs.WorkedWords.{asks, asks_nothing, b2_name, none_of_both, none_of_flag_as_value, none_of_132_years, none_of_none, none_of_help, none_of_no_years, none_of_now, none_of_no_day, none_of_projected_position, none_of_state_flag, none_of_three, none_of_twice, none_of_two, none_of_valued_flag, none_of_zero_years}
 use Rattle.life_args.proofs.worked.words_by_hand.Goals as goal
 
 pub returns-clause-run : goal.returns-clause-run
@@ -99,6 +99,48 @@ returns-clause-measure_near c = (
   asks_nothing _ none_of_valued_flag,
   asks_nothing _ none_of_flag_as_value,
   asks_nothing _ none_of_state_flag,
+)
+
+pub returns-clause-project : goal.returns-clause-project
+unfolding digits day_text date_of date_at year_of month_of days_before days_before_year days_of_months
+returns-clause-project c = (
+  asks _ _ (
+    refl,
+    record {
+      pieces = bare (codes "2021-01-01") ∷ bare (codes "1") ∷ [];
+      spells = refl;
+      only = tt;
+      day = codes "2021-01-01";
+      alone = refl;
+      day_is = ((omega (arith, ints), omega (arith, ints)), refl);
+      years_in = (lit≤ tt, lit≤ tt);
+      workers_are = refl;
+      basis_is = refl;
+    },
+  ),
+  asks _ _ (
+    refl,
+    record {
+      pieces = joined (codes "workers") (codes "64") ∷ bare (codes "2021-01-01") ∷ bare (codes "131") ∷ apart (codes "basis") (codes "b2.csv") ∷ [];
+      spells = refl;
+      only = (inl refl, (inr (inl refl), tt));
+      day = codes "2021-01-01";
+      alone = refl;
+      day_is = ((omega (arith, ints), omega (arith, ints)), refl);
+      years_in = (lit≤ tt, lit≤ tt);
+      workers_are = (lit≤ tt, lit≤ tt, refl);
+      basis_is = (b2_name, refl);
+    },
+  ),
+)
+
+pub returns-clause-project_near : goal.returns-clause-project_near
+returns-clause-project_near c = (
+  asks_nothing _ none_of_no_years,
+  asks_nothing _ none_of_zero_years,
+  asks_nothing _ none_of_132_years,
+  asks_nothing _ none_of_three,
+  asks_nothing _ none_of_projected_position,
 )
 
 pub returns-clause-state : goal.returns-clause-state

@@ -1,0 +1,2 @@
+pub mod ProjectingSteps
+pub mod ProjectStatus

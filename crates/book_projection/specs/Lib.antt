@@ -1,0 +1,3 @@
+pub mod Projecting
+pub mod Worked
+pub mod inside

@@ -1,0 +1,8 @@
+//! What the policies of the book are expected to pay and to be paid by year, by the basis on the shelf.
+#![tactic(auto)]
+
+mod projecting;
+mod worked;
+
+pub use projecting::project;
+pub use worked::projections_by_hand;

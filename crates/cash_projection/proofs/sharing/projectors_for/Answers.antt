@@ -1,0 +1,16 @@
+use Rattle.std.proofs.Common.{◌≡◌, ◌+◌, ◌∙◌, refl, sym, subst, length-append, ap, length, arith, rules}
+use Rattle.std.specs.List.{AllByRecursion}
+use Rattle.cash_projection.specs.inside.Portions.{IsProjectorFor}
+use Rattle.cash_projection.proofs.Portioning.{all_behind}
+use Rattle.cash_projection.proofs.sharing.projectors_for.Goals as goal
+
+pub loop-preserved : goal.loop-preserved
+loop-preserved c = record {
+  room = search rules;
+  many =
+      let longer : length c.push_reserved.new.self.items ≡ length c.loop.projectors.items + 1 =
+      ap length c.push_reserved.ensures.items ∙ length-append c.loop.projectors.items _ in omega (arith, c.loop.invariant.many, longer);
+  each = subst (AllByRecursion (IsProjectorFor c.args.basis.now _ c.args.years)) (sym c.push_reserved.ensures.items)
+      (all_behind (IsProjectorFor c.args.basis.now _ c.args.years) c.loop.projectors.items _ c.loop.invariant.each
+      (record { right = c.in_ok-paths.ensures _; many = refl; by = λ portion tally given. given }));
+}

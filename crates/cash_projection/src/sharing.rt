@@ -1,0 +1,108 @@
+// The tally of a list of policies, by several workers at the same time.
+ghost use Rattle.std.specs.Prelude.{◌≡◌, ◌≤◌, IfOk, length, ℤ, List};
+ghost use Rattle.std.specs.List.{AllByRecursion};
+ghost use Rattle.basis_book.specs.Dated.{Dated};
+ghost use Rattle.cash_projection.specs.Policies.{IsOfIssue};
+ghost use Rattle.cash_projection.specs.inside.Portions.{AreTallies, AreTalliesOfFew, IsProjectorFor, policies_of_portions};
+ghost use Rattle.cash_projection.specs.inside.Tallies.{IsTallyOf};
+ghost use Rattle.cash_projection.specs.declared.portions.Portion.{Portion as APortion};
+
+use crate::paths::Paths;
+use crate::portions::{Portion, portions_of};
+use crate::projector::Projector;
+use crate::tally::Tally;
+use basis_book::Basis;
+use parallel_value::map_in;
+use policy_types::{NoMemory, Policy};
+use std::alloc::Global;
+use std::thread::Threads;
+
+/// The policies that are worth a worker's thread.
+const POLICIES_TO_A_WORKER: usize = 8_192;
+
+/// The paths that each worker keeps, of some 4 kB each: those of two tables.
+const PATHS_OF_A_WORKER: u16 = 262;
+
+/// The tally of policies on a day, in days since 1970-01-01, by as many workers as are asked for, or fewer where each would
+/// have too few policies. It is the same for any number of them.
+pub fn tally_in<R: Threads + Sync>(
+    rt: &R,
+    alloc: Global,
+    policies: &[Policy],
+    basis: &Basis,
+    on: i32,
+    years: u8,
+    workers: u8,
+) -> Result<Tally, NoMemory>
+    requires sound { AllByRecursion IsOfIssue policies.now }
+    requires few { length policies.now ≤ 4000000 }
+    requires years { years ≤ 131 }
+    requires workers { (1 ≤ workers) × (workers ≤ 64) }
+    ensures { IfOk result (λ tally. IsTallyOf basis.now on years policies.now tally) }
+{
+    let many = (policies.len() / POLICIES_TO_A_WORKER).clamp(1, usize::from(workers));
+    let mut projectors = projectors_for(alloc, basis, on, years, many)?;
+    let portions = portions_of(alloc, policies, many)?;
+    tally_portions(rt, alloc, projectors.as_mut_slice(), portions.as_slice(), years)
+}
+
+// The workers, each with paths of its own.
+fn projectors_for<'a>(
+    alloc: Global,
+    basis: &'a Basis,
+    on: i32,
+    years: u8,
+    many: usize,
+) -> Result<Vec<Projector<'a>>, NoMemory>
+    requires { (1 ≤ many) × (many ≤ 64) }
+    ensures many { IfOk result (λ projectors. length projectors.items ≡ many) }
+    ensures each { IfOk result (λ projectors. AllByRecursion (IsProjectorFor basis.now on years) projectors.items) }
+{
+    let mut projectors = Vec::with_capacity(alloc, many).map_err(|_| NoMemory)?;
+    for _ in 0..many {
+        let paths = Paths::new(alloc, PATHS_OF_A_WORKER)?;
+        projectors.push_reserved(Projector {
+            basis,
+            on,
+            years,
+            paths,
+        });
+    }
+    Ok(projectors)
+}
+
+// The tally of all portions, by all workers.
+fn tally_portions<R: Threads + Sync>(
+    rt: &R,
+    alloc: Global,
+    projectors: &mut [Projector<'_>],
+    portions: &[Portion<'_>],
+    years: u8,
+) -> Result<Tally, NoMemory>
+    requires workers { (1 ≤ length projectors.old) × (length projectors.old ≤ 64) }
+    requires years { years ≤ 131 }
+    requires each { (basis : List Dated) × ((on : ℤ) × AllByRecursion (IsProjectorFor basis on years) projectors.old) }
+    requires sound { AllByRecursion IsOfIssue (policies_of_portions portions.now) }
+    requires few { length (policies_of_portions portions.now) ≤ 4000000 }
+    ensures { (basis : List Dated) (on : ℤ) → AllByRecursion (IsProjectorFor basis on years) projectors.old
+        → IfOk result (λ tally. IsTallyOf basis on years (policies_of_portions portions.now) tally) }
+{
+    match map_in(rt, alloc, projectors, portions) {
+        Ok(tallies) => Ok(joined(years, tallies.as_slice())),
+        Err(_) => Err(NoMemory),
+    }
+}
+
+// All tallies together, in their order.
+fn joined(years: u8, tallies: &[Tally]) -> Tally
+    requires years { years ≤ 131 }
+    requires few { AreTalliesOfFew years tallies.now }
+    ensures { (basis : List Dated) (on : ℤ) (portions : List APortion) → AreTallies basis on years portions tallies.now
+        → IsTallyOf basis on years (policies_of_portions portions) result }
+{
+    let mut all = Tally::new(years);
+    for tally in tallies {
+        all.join(tally);
+    }
+    all
+}

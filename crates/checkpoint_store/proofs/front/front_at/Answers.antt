@@ -1,0 +1,12 @@
+-- Another file was compared with what its figures spell.
+use Rattle.std.proofs.Common.{rules, ◌≡◌, ◌∷◌, ◌∙◌, sym, ap}
+use Rattle.checkpoint_store.specs.declared.front.Front.{Front}
+use Rattle.checkpoint_store.specs.inside.Parsing.{front_of}
+use Rattle.checkpoint_store.proofs.Reading.{front_read}
+use Rattle.checkpoint_store.proofs.front.front_at.Goals as goal
+
+pub returns-else-eq-clause-exact : goal.returns-else-eq-clause-exact
+returns-else-eq-clause-exact c = λ front fits is.
+    let read : c.figures_in-front.result ≡ front = c.figures_in-front.ensures ∙ front_read c.args.bytes.now front fits is in
+    let whole : c.opened_front.result ≡ c.args.bytes.now = c.opened_front.ensures ∙ ap (λ (f : Front). 1 ∷ front_of f) read ∙ sym is in
+    search (rules, whole)

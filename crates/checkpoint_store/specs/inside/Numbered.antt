@@ -1,0 +1,44 @@
+-- What the books by number are the books of, for the contracts of the steps alone
+use Rattle.std.specs.Prelude.{◌≡◌, nat_eq, ℕ, ◌+◌, List, None}
+use Rattle.std.specs.List.{AllByRecursion, IsDistinct}
+use Rattle.std.specs.Map.{keys_of}
+use Rattle.indexmap.specs.IndexMap.{insert_entry}
+use Rattle.money_ledgers.specs.Balances.{balances}
+use Rattle.policy_machine.specs.Book.{IsAccepted, judge}
+use Rattle.policy_types.specs.Accounts.{added, booking_of}
+use Rattle.policy_types.specs.declared.command.Command.{Command}
+use Rattle.policy_types.specs.declared.policy.Policy.{Policy}
+use Rattle.policy_types.specs.Valid.{IsValid, id_of}
+use Rattle.checkpoint_store.specs.declared.numbered.NumberedBooks.{NumberedBooks}
+use Rattle.checkpoint_store.specs.declared.numbered.Untaken.{Untaken}
+use Rattle.checkpoint_store.specs.declared.numbered.Untaken.TheVariants.{Refused, NoMemory}
+use Rattle.checkpoint_store.specs.declared.snapshot.Snapshot.{Snapshot}
+use Rattle.checkpoint_store.specs.Checkpoints.{IsSnapshotOf, IsSoundSnapshot}
+use Rattle.checkpoint_store.specs.inside.Books.{AreKeyed, policies_in}
+
+abbrev pub as_snapshot : NumberedBooks → Snapshot
+as_snapshot books = record { position = books.position; upgrade = books.upgrade; ledger = books.ledger; book = policies_in books.policies.entries }
+
+-- each policy stands under its own number, and together they are a sound snapshot
+pub record AreSoundBooks (books : NumberedBooks) : Type 0 where
+  pub keyed : AreKeyed books.policies.entries
+  pub sound : IsSoundSnapshot (as_snapshot books)
+
+-- the books are those of these commands
+pub record AreBooksOf (commands : List Command) (books : NumberedBooks) : Type 0 where
+  pub valid : AllByRecursion IsValid commands
+  pub accepted : IsAccepted commands
+  pub snapshot : IsSnapshotOf commands (as_snapshot books)
+
+-- the policy that a command left was set
+pub record HasTaken (old new : NumberedBooks) (command : Command) (policy : Policy) : Type 0 where
+  pub entries : new.policies.entries ≡ insert_entry nat_eq old.policies.entries (id_of command) policy
+  pub distinct : IsDistinct nat_eq (keys_of new.policies.entries)
+  pub position : new.position ≡ old.position + 1
+  pub upgrade : new.upgrade ≡ old.upgrade
+  pub ledger : balances new.ledger ≡ added (balances old.ledger) (booking_of command policy)
+
+-- why a command isn't taken after these
+abbrev pub IsUntaken : List Command → Command → Untaken → Type 0
+IsUntaken commands command Refused = judge commands command ≡ None → ⊥
+IsUntaken commands command NoMemory = Unit {0}
