@@ -23,12 +23,13 @@ pub fn map_into<R: Threads + Sync, I: Sync, O: Send + Drop, P: Piece<I, O> + Sen
     ensures function { (f : I → O) → Compute P.gives pieces.old f → values.new ≡ map f items.now }
     ensures pieces { AreAsBefore P.takes P.gives pieces.old pieces.new }
 {
-    fill_halves(rt, pieces, items, values);
+    fill_by_all(rt, pieces, items, values);
 }
 
-// Halves the workers until one is left, and the items and their places in proportion.
+// Sets the worker in front going, with its share of the items and their places, and then the others. So one thread starts
+// all: a thread that starts another at once was seen to stay on one processor with it, while others stood idle.
 #[cycle(filling)]
-fn fill_halves<R: Threads + Sync, I: Sync, O: Send + Drop, P: Piece<I, O> + Send>(
+fn fill_by_all<R: Threads + Sync, I: Sync, O: Send + Drop, P: Piece<I, O> + Send>(
     rt: &R,
     pieces: &mut [P],
     items: &[I],
@@ -45,11 +46,10 @@ fn fill_halves<R: Threads + Sync, I: Sync, O: Send + Drop, P: Piece<I, O> + Send
         fill_by_one(pieces, items, values);
         return;
     }
-    let half = many / 2;
-    let cut = share_of(items.len(), half, many);
+    let cut = share_of(items.len(), 1, many);
     let (first, last) = items.split_at(cut);
     let (to_first, to_last) = values.split_at_mut(cut);
-    let (front, back) = pieces.split_at_mut(half);
+    let (front, back) = pieces.split_at_mut(1);
     fill_both(rt, front, first, to_first, back, last, to_last);
 }
 
@@ -84,7 +84,7 @@ fn fill_both<R: Threads + Sync, I: Sync, O: Send + Drop, P: Piece<I, O> + Send>(
             requires places { length to_first.now ≡ length first.now }
             ensures values { AreValues P.gives front.entry.now first.entry.now to_first.exit.now }
             ensures pieces { AreAsBefore P.takes P.gives front.entry.now front.exit.now }
-        { fill_halves(rt, front, first, to_first) },
+        { fill_by_all(rt, front, first, to_first) },
         &mut ||
             requires sync { IsSync R.row × IsSync I.row × IsSend O.row × IsSend P.row }
             requires workers { (1 ≤ length back.now) × (length back.now ≤ 64) }
@@ -92,7 +92,7 @@ fn fill_both<R: Threads + Sync, I: Sync, O: Send + Drop, P: Piece<I, O> + Send>(
             requires places { length to_last.now ≡ length last.now }
             ensures values { AreValues P.gives back.entry.now last.entry.now to_last.exit.now }
             ensures pieces { AreAsBefore P.takes P.gives back.entry.now back.exit.now }
-        { fill_halves(rt, back, last, to_last) },
+        { fill_by_all(rt, back, last, to_last) },
     );
 }
 

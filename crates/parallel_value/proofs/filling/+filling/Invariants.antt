@@ -10,5 +10,5 @@ decreases-fill_both-join_mut+arg3 g l = 4 * length l.back.now + 1
 abbrev pub decreases-fill_both : goal.decreases-fill_both
 decreases-fill_both g l = 4 * (length l.front.now + length l.back.now) - 1
 
-abbrev pub decreases-fill_halves : goal.decreases-fill_halves
-decreases-fill_halves g l = 4 * length l.pieces.now
+abbrev pub decreases-fill_by_all : goal.decreases-fill_by_all
+decreases-fill_by_all g l = 4 * length l.pieces.now
