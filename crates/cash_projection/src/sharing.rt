@@ -7,6 +7,7 @@ ghost use Rattle.cash_projection.specs.inside.Portions.{AreTallies, AreTalliesOf
 ghost use Rattle.cash_projection.specs.inside.Tallies.{IsTallyOf};
 ghost use Rattle.cash_projection.specs.declared.portions.Portion.{Portion as APortion};
 
+use crate::path::Path;
 use crate::paths::Paths;
 use crate::portions::{Portion, portions_of};
 use crate::projector::Projector;
@@ -15,12 +16,13 @@ use basis_book::Basis;
 use parallel_value::map_into;
 use policy_types::{NoMemory, Policy};
 use std::alloc::Global;
+use std::mem::size_of;
 use std::thread::Threads;
 
 /// The policies that are worth a worker's thread.
 const POLICIES_TO_A_WORKER: usize = 8_192;
 
-/// What all workers keep together, counted in paths of 4,228 bytes each: with 33 kB for all else it stays below 1 MiB.
+/// What all workers keep together, counted in paths.
 const PATHS_TOGETHER: usize = 240;
 
 /// A worker's tally takes no more than so many paths.
@@ -28,6 +30,11 @@ const PATHS_FOR_A_TALLY: usize = 3;
 
 /// With more workers there would be no path left for each.
 const MOST_WORKERS: u8 = 60;
+
+// So it stays below 1 MiB, with 32 KiB for all else.
+const _: () = prove!(PATHS_TOGETHER * size_of::<Path>() <= 1_015_808);
+
+const _: () = prove!(size_of::<Tally>() <= PATHS_FOR_A_TALLY * size_of::<Path>());
 
 /// The tally of policies on a day, in days since 1970-01-01, by as many workers as are asked for, or fewer where each would
 /// have too few policies or no room to keep a path. It is the same for any number of them.
