@@ -1,9 +1,9 @@
-"""Plain drawings as SVG: lines over days, and bars."""
+"""Plain drawings as SVG: lines over days or years, and bars."""
 from __future__ import annotations
 
 import datetime
 from html import escape
-from typing import Sequence
+from typing import Callable, Sequence, Tuple
 
 from formats import money
 
@@ -43,25 +43,34 @@ def place(cents: int, most: int) -> float:
     return HEIGHT - BOTTOM - (HEIGHT - TOP - BOTTOM) * cents / max(most, 1)
 
 
-def lines_over_days(title: str, series: Sequence[tuple[str, list[tuple[datetime.date, int]]]]) -> str:
-    """Each series as a line with a dot for each day, its name at the right."""
-    days = sorted({day for _, points in series for day, _ in points})
-    most = max(cents for _, points in series for _, cents in points)
-    whole = max((days[-1] - days[0]).days, 1)
+# a series: its name, and its points: how far across, and an amount in cents
+Series = Tuple[str, Sequence[Tuple[int, int]]]
 
-    def across(day: datetime.date) -> float:
-        return LEFT + (WIDTH - LEFT - RIGHT) * (day - days[0]).days / whole
+
+def lines_over(title: str, series: Sequence[Series], name_of: Callable[[int], str]) -> str:
+    """Each series as a line with a dot for each point, its name at the right; below are the names of the two ends."""
+    places = sorted({at for _, points in series for at, _ in points})
+    most = max(cents for _, points in series for _, cents in points)
+    whole = max(places[-1] - places[0], 1)
+
+    def across(at: int) -> float:
+        return LEFT + (WIDTH - LEFT - RIGHT) * (at - places[0]) / whole
 
     parts = grid(most)
-    parts += [text(across(day), HEIGHT - BOTTOM + 18, str(day), "middle") for day in dict.fromkeys((days[0], days[-1]))]
+    parts += [text(across(at), HEIGHT - BOTTOM + 18, name_of(at), "middle") for at in dict.fromkeys((places[0], places[-1]))]
     for number, (name, points) in enumerate(series):
         color = COLORS[number % len(COLORS)]
-        placed = [(across(day), place(cents, most)) for day, cents in sorted(points)]
+        placed = [(across(at), place(cents, most)) for at, cents in sorted(points)]
         parts.append(f'<polyline fill="none" stroke="{color}" points="{" ".join(f"{x:.1f},{y:.1f}" for x, y in placed)}"/>')
         parts += [f'<circle cx="{x:.1f}" cy="{y:.1f}" r="2.5" fill="{color}"/>' for x, y in placed]
         parts.append(line(WIDTH - RIGHT + 14, TOP + 16 * number, WIDTH - RIGHT + 30, TOP + 16 * number, color))
         parts.append(text(WIDTH - RIGHT + 36, TOP + 16 * number + 4, name))
     return framed(title, parts)
+
+
+def lines_over_days(title: str, series: Sequence[tuple[str, list[tuple[datetime.date, int]]]]) -> str:
+    by_day = [(name, [(day.toordinal(), cents) for day, cents in points]) for name, points in series]
+    return lines_over(title, by_day, lambda at: str(datetime.date.fromordinal(at)))
 
 
 def bars(title: str, rows: Sequence[tuple[str, int]]) -> str:

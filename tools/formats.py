@@ -23,6 +23,7 @@ MOST_POINTS = 2000
 MOST_VALUATIONS = 16
 MOST_WORKERS = 64
 MOST_LANES = 8
+MOST_YEARS = 131
 
 PLANS = {1: "term", 2: "whole", 3: "endowment", 4: "limited"}
 KINDS = {1: "issue", 2: "premium", 3: "alter", 4: "lapse", 5: "reinstate", 6: "claim", 7: "settle", 8: "mature", 9: "upgrade",

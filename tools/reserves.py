@@ -6,6 +6,7 @@ and Waters (docs/VALUATION.md).
 from __future__ import annotations
 
 import datetime
+from dataclasses import dataclass
 from fractions import Fraction
 from typing import Dict, Sequence, Tuple, Union
 
@@ -110,31 +111,55 @@ def row_for(basis: Sequence[BasisRow], day: datetime.date) -> BasisRow | None:
     return next((row for row in reversed(basis) if row.day <= day), None)
 
 
-def insured_on(policy: Policy, basis: Sequence[BasisRow], on: datetime.date, known: Known) -> tuple[int, Insured | str | None]:
-    """The year, and what the policy's reserve of 1 is worked out from, or the word why there is none, or none at all."""
-    if policy.status not in ("inforce", "paidup") or policy.issued > on:
-        return 0, None
+@dataclass(frozen=True)
+class Terms:
+    """What a policy is insured by: the basis row, the tables of its issue age and of the next one, years and premiums."""
+
+    row: BasisRow
+    table: Table
+    later: Table
+    years: int
+    payments: int
+    matures: bool
+
+
+def terms_of(policy: Policy, basis: Sequence[BasisRow]) -> Terms | str:
+    """What a policy is insured by, or the word why it has no value."""
     row = row_for(basis, policy.issued)
     if row is None:
-        return 0, "nobasis"
+        return "nobasis"
     age = policy.age
     table = row.table.along(age)
     if table is None or age < table.first:
-        return 0, "belowtable"
+        return "belowtable"
     later = row.table.along(age + 1)
     to_end = table.last + 1 - age
     years = to_end if policy.plan in ("whole", "limited") else policy.years
     payments = {"whole": to_end, "limited": min(policy.years, to_end)}.get(policy.plan, policy.years)
     if years > to_end or years < 2 or later is None or not later.holds(age + 1):
-        return 0, "pasttable"
+        return "pasttable"
     if table.rates[age - table.first] > HIGHEST_FIRST_RATE:
-        return 0, "ratehigh"
-    matures, is_paid_up = policy.plan != "term", policy.status == "paidup"
-    case = row.day, age, years, payments, matures, is_paid_up
+        return "ratehigh"
+    return Terms(row, table, later, years, payments, policy.plan != "term")
+
+
+def is_insured(policy: Policy, on: datetime.date) -> bool:
+    return policy.status in ("inforce", "paidup") and policy.issued <= on
+
+
+def insured_on(policy: Policy, basis: Sequence[BasisRow], on: datetime.date, known: Known) -> tuple[int, Insured | str | None]:
+    """The year, and what the policy's reserve of 1 is worked out from, or the word why there is none, or none at all."""
+    if not is_insured(policy, on):
+        return 0, None
+    terms = terms_of(policy, basis)
+    if isinstance(terms, str):
+        return 0, terms
+    is_paid_up = policy.status == "paidup"
+    case = terms.row.day, policy.age, terms.years, terms.payments, terms.matures, is_paid_up
     if case not in known:
-        cover = Cover(table, age, years, payments, matures, row.discount)
-        known[case] = PaidUp(cover) if is_paid_up else InForce(later, cover, age)
-    return min(completed(policy.issued, on), years), known[case]
+        cover = Cover(terms.table, policy.age, terms.years, terms.payments, terms.matures, terms.row.discount)
+        known[case] = PaidUp(cover) if is_paid_up else InForce(terms.later, cover, policy.age)
+    return min(completed(policy.issued, on), terms.years), known[case]
 
 
 def worth(

@@ -214,6 +214,51 @@ assert "whole inforce 2" in words and "25000.00" in words, words
 PY
 refuses "isn't what life state prints" plot_book transcript
 
+go_on "projections"
+"$life" project 2024-06-30 20 </dev/null >projected || complain "project ended with $?"
+says check_projection journal.life basis.csv projected
+# a bound that is off, or too wide; a year twice, or one too few; another number of policies, of words, another position
+sed 's/^\(year,2,.*\),[^,]*$/\1,1.00/' projected >wrong
+refuses "year 2, maturities: .* lie too far apart" check_projection journal.life basis.csv wrong
+sed 's/^\(year,3,[^,]*,[^,]*\),[^,]*,/\1,1870.15,/' projected >wrong
+refuses "year 3, deaths: .*doesn't enclose" check_projection journal.life basis.csv wrong
+sed 's/^year,4,[^,]*,[^,]*,/year,4,0.00,0.00,/' projected >wrong
+refuses "year 4, premiums: .*doesn't enclose" check_projection journal.life basis.csv wrong
+sed '/^year,5,/d' projected >wrong
+refuses "has 22 lines, and this one 21" check_projection journal.life basis.csv wrong
+sed 's/^year,5,/year,4,/' projected >wrong
+refuses "isn't the line of year 5" check_projection journal.life basis.csv wrong
+sed '1s/,6,20$/,7,20/' projected >wrong
+refuses "there are 6 policies, and not 7" check_projection journal.life basis.csv wrong
+sed 's/^unvalued,0$/unvalued,1/' projected >wrong
+refuses "0 policies have a word, and not 1" check_projection journal.life basis.csv wrong
+sed '1s/,27,6,20$/,28,6,20/' projected >wrong
+refuses "28 is no position" check_projection journal.life basis.csv wrong
+sed '1s/,27,6,20$/,26,6,20/' projected >wrong
+refuses "doesn't enclose" check_projection journal.life basis.csv wrong
+refuses "isn't what life project prints" check_projection journal.life basis.csv state
+says plot_projection projected
+python3 - <<'PY' || complain "the drawing of a projection isn't that of its years"
+import xml.dom.minidom
+years = [line.split(",") for line in open("projected") if line.startswith("year,")]
+drawn = xml.dom.minidom.parse("out")
+lines = [line.getAttribute("points").split() for line in drawn.getElementsByTagName("polyline")]
+assert len(lines) == 3 and len(drawn.getElementsByTagName("circle")) == 3 * len(years) == 60
+for points, column in zip(lines, (3, 5, 7)):
+    heights = [float(point.split(",")[1]) for point in points]
+    assert [y for _, y in sorted(zip((-float(year[column]) for year in years), heights))] == sorted(heights)
+words = [it.firstChild.data for it in drawn.getElementsByTagName("text")]
+assert {"premiums", "deaths", "maturities", "year 0", "year 19"} < set(words), words
+assert max((year[5].strip() for year in years), key=float) in words, words
+PY
+sed 's/^year,6,\([^,]*\),[^,]*/year,6,\1,1.00/' projected >wrong
+refuses "a lower bound is above" plot_projection wrong
+refuses "isn't what life project prints" plot_projection valuations
+(mkdir pictures && cd pictures && LIFE_PROGRAM=$life sh "$examples/pictures.sh") || complain "pictures.sh ended with $?"
+for picture in projection reserve; do
+    cmp -s "pictures/$picture.svg" "$examples/$picture.svg" || complain "the shipped $picture.svg isn't what pictures.sh draws"
+done
+
 begin_with_examples "explanations of scripts"
 cp "$examples/bad-day.csv" .
 "$life" run <bad-day.csv >answer

@@ -1,9 +1,10 @@
 """Journals of 4,000,000 records, put together from blocks, since spelling them one after the other takes too long.
 
-usage: python3 big_journals.py policies|alterations|premiums|settlements COUNT FILE
+usage: python3 big_journals.py policies|greatest|alterations|premiums|settlements COUNT FILE
 
-COUNT issues of the ids from 1 on; or one issue and what else COUNT records there are of its policy: alterations by one
-cent each; premiums, which the rules refuse after 131; or a claim, and settlements of one cent.
+COUNT issues of the ids from 1 on, also of the greatest amount and premium; or one issue and what else COUNT records there
+are of its policy: alterations by one cent each; premiums, which the rules refuse after 131; or a claim, and settlements of
+one cent.
 """
 import datetime
 import os
@@ -53,6 +54,10 @@ def write_policies(file, count):
     write_numbered(file, record_of(issue(1)), ID_END, 4, range(1, count + 1))
 
 
+def write_greatest(file, count):
+    write_numbered(file, record_of(issue(1, amount=MOST_CENTS, premium=MOST_CENTS)), ID_END, 4, range(1, count + 1))
+
+
 def write_alterations(file, count):
     file.write(record_of(issue(1, amount=MOST_CENTS)))
     alteration = record_of(Command("alter", 1, DAY, amount=1, premium=1))
@@ -71,7 +76,7 @@ def write_settlements(file, count):
     write_repeated(file, record_of(Command("settle", 1, DAY, amount=1)), count - 2)
 
 
-WRITERS = {"policies": write_policies, "alterations": write_alterations, "premiums": write_premiums,
+WRITERS = {"policies": write_policies, "greatest": write_greatest, "alterations": write_alterations, "premiums": write_premiums,
            "settlements": write_settlements}
 
 

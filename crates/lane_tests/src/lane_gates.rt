@@ -130,3 +130,42 @@ impl Gate for Together {
         }
     }
 }
+
+/// Holds seven lanes before their first line until lane 0 has read a part of a book, and then lane 0 until each of the
+/// seven has posted that line.
+#[derive(Drop)]
+pub struct Seven {
+    parts: AtomicU32,
+    posted: AtomicU32,
+    missed: AtomicU32,
+}
+
+impl Seven {
+    pub fn new() -> Seven {
+        Seven {
+            parts: AtomicU32::new(0),
+            posted: AtomicU32::new(0),
+            missed: AtomicU32::new(0),
+        }
+    }
+
+    pub fn missed(&self) -> u32 {
+        self.missed.load(Ordering::SeqCst)
+    }
+}
+
+impl Gate for Seven {
+    fn at<R: Wait>(&self, _rt: &R, lane: u8, step: u32) {
+        match (lane, step) {
+            (0, 1) => {
+                self.parts.fetch_add(1, Ordering::SeqCst);
+                look_for(&self.posted, 7, &self.missed);
+            }
+            (1.., 0) => look_for(&self.parts, 1, &self.missed),
+            (1.., 1) => {
+                self.posted.fetch_add(1, Ordering::SeqCst);
+            }
+            _ => (),
+        }
+    }
+}

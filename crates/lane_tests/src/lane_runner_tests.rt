@@ -13,8 +13,8 @@ use std::alloc::{AllocError, Global};
 use std::test::Fail;
 use watcher_set::{CountWatcher, PremiumWatcher, Watchers};
 
-// A lane of these lines.
-fn lane(alloc: Global, number: u8, lines: &[Line]) -> Result<Lane, AllocError> {
+/// A lane of these lines.
+pub(crate) fn lane(alloc: Global, number: u8, lines: &[Line]) -> Result<Lane, AllocError> {
     Ok(Lane {
         number,
         lines: Lines::new(lines.to_vec(alloc)?),
@@ -123,7 +123,7 @@ fn value_at(at: At) -> Line {
     }
 }
 
-fn claim(id: u32) -> Line {
+pub(crate) fn claim(id: u32) -> Line {
     Line::Post(Command::Claim { id, day: 18_276 })
 }
 

@@ -74,8 +74,13 @@ fn is_right(line: &Line) -> bool
     }
 }
 
-// Runs lanes where they may be run.
-fn run_right<D: Disk + Send, W: Watching + Send, G: Gate + Sync, R: Threads + Wait + Sync>(
+/// Runs lanes where they may be run and there is memory.
+pub(crate) fn run_right<
+    D: Disk + Send,
+    W: Watching + Send,
+    G: Gate + Sync,
+    R: Threads + Wait + Sync,
+>(
     rt: &R,
     alloc: Global,
     office: &Office<D, W>,
@@ -83,14 +88,14 @@ fn run_right<D: Disk + Send, W: Watching + Send, G: Gate + Sync, R: Threads + Wa
     lanes: &[Lane],
     basis: &Basis,
     gate: &G,
-) -> Result<Transcript, Fail>
+) -> Option<Transcript>
     requires { pass.old.turnstile ≡ office.now }
     ensures { (pass.new.turnstile ≡ pass.old.turnstile) × (pass.new.shares ≡ pass.old.shares) }
 {
     if pass.left() < 1 << 40 || pass.shares() < 1 << 10 || !are_right(lanes) {
-        return Err("right lanes".into());
+        return None;
     }
-    run_lanes(rt, alloc, office, pass, lanes, basis, gate).map_err(|_| "memory".into())
+    run_lanes(rt, alloc, office, pass, lanes, basis, gate).ok()
 }
 
 /// Runs these lanes on an office where the policies of the numbers from 1 to this one were issued, and closes it. Gives what
@@ -113,7 +118,10 @@ pub fn run_watched<W: Watching + Send, G: Gate + Sync, R: Threads + Wait + Sync>
     issue_all(rt, &office, &mut pass, issued);
     let run = run_right(rt, alloc, &office, &mut pass, lanes, &basis, gate);
     let (_, _, reports) = close(office, pass);
-    Ok((run?, reports))
+    match run {
+        Some(transcript) => Ok((transcript, reports)),
+        None => Err("right lanes, and memory".into()),
+    }
 }
 
 /// The same where nobody watches.

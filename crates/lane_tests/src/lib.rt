@@ -12,7 +12,11 @@ mod lane_trials;
 #[cfg(test)]
 mod offices;
 #[cfg(test)]
+mod projection_lanes;
+#[cfg(test)]
 mod projection_meeting;
+#[cfg(test)]
+mod projection_pins;
 #[cfg(test)]
 mod projection_tests;
 #[cfg(test)]

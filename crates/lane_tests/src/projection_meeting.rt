@@ -17,14 +17,15 @@ use std::test::Fail;
 use std::thread::{Threads, join};
 use watcher_set::{NoWatchers, Watching};
 
-// Three hundred issues, and then a claim for one of them.
-const ISSUED: Case = Case {
+/// Three hundred issues.
+pub(crate) const ISSUED: Case = Case {
     position: 300,
     policies: 300,
     insured: 300,
     owing: 300,
     years: 3,
 };
+// And then a claim for one of them.
 const CLAIMED: Case = Case {
     position: 301,
     policies: 300,
@@ -33,8 +34,8 @@ const CLAIMED: Case = Case {
     years: 3,
 };
 
-// Whether the newest position is projected as expected.
-fn project_issues<D: Disk, W: Watching, G: Gate, R: Threads + Wait + Sync>(
+/// Whether the newest position is projected as expected.
+pub(crate) fn project_issues<D: Disk, W: Watching, G: Gate, R: Threads + Wait + Sync>(
     rt: &R,
     alloc: Global,
     office: &Office<D, W>,

@@ -1,6 +1,7 @@
 // What `project` writes after a run, and what it is answered where it can't. The expected payments are worked out by hand
 // from the rates of table Q: 0.1, 0.2, 0.25, 0.5 and 1.
 use crate::devices::run_with;
+use crate::select_value_tests::BY_AXES;
 use crate::value_cases::{
     AT_FIVE, CUT, Case, ENDOWMENT, FLAT, LIMITED, NEXT_YEAR, Q, TERM, WHOLE_AT_4, ends, holds,
     journal_of, shelf_of, value_over, valued,
@@ -11,6 +12,9 @@ use std::alloc::AllocError;
 const PAID: &str = "1,premium,7001,2020-01-01,400.00\n";
 
 const LAPSED: &str = "1,lapse,7001,2020-02-02\n";
+
+// Reduced to 300.00, of which no premium is to come.
+const REDUCED: &str = "1,upgrade\n1,paidup,7001,2020-12-01,300.00\n";
 
 const THREE_YEARS: &str = "project,2020-12-31,1,1,3\nyear,0,400.00,400.00,100.00,100.00,0.00,0.00\n\
     year,1,360.00,360.00,180.00,180.00,0.00,0.00\nyear,2,288.00,288.00,180.00,180.00,540.00,540.00\n\
@@ -65,6 +69,25 @@ fn policies_are_projected(rt: HostRuntime) -> Result<(), AllocError> {
             year,3,0.00,0.00,270.00,270.00,0.00,0.00\nyear,4,0.00,0.00,270.00,270.00,0.00,0.00\n\
             unvalued,0\n",
         ),
+        valued(
+            &[ENDOWMENT, PAID, REDUCED],
+            FLAT,
+            &["project", "2021-01-01", "2"],
+            "project,2021-01-01,4,1,2\nyear,0,0.00,0.00,60.00,60.00,0.00,0.00\n\
+            year,1,0.00,0.00,60.00,60.00,180.00,180.00\nunvalued,0\n",
+        ),
+        // By the rates of the age at issue, 0.05 and 0.1, and behind them by that of the age 2.
+        Case {
+            table: Some(BY_AXES),
+            ..valued(
+                &[ENDOWMENT],
+                AT_FIVE,
+                &["project", "2020-12-31", "3"],
+                "project,2020-12-31,1,1,3\nyear,0,400.00,400.00,50.00,50.00,0.00,0.00\n\
+                year,1,380.00,380.00,95.00,95.00,0.00,0.00\nyear,2,342.00,342.00,213.75,213.75,641.25,641.25\n\
+                unvalued,0\n",
+            )
+        },
     ];
     for case in cases.iter() {
         assert!(rt; holds(&rt, rt.alloc(), case)?);
@@ -94,6 +117,12 @@ fn policies_of_whom_nothing_is_expected(rt: HostRuntime) -> Result<(), AllocErro
             FLAT,
             &["project", "2023-01-01", "1"],
             "project,2023-01-01,1,1,1\nyear,0,0.00,0.00,0.00,0.00,0.00,0.00\nunvalued,0\n",
+        ),
+        valued(
+            &[ENDOWMENT, LAPSED],
+            FLAT,
+            &["project", "2021-01-01", "1"],
+            "project,2021-01-01,2,1,1\nyear,0,0.00,0.00,0.00,0.00,0.00,0.00\nunvalued,0\n",
         ),
         valued(
             &[ENDOWMENT, NEXT_YEAR, LAPSED],

@@ -2,8 +2,8 @@
 use crate::value_cases::{Case, ENDOWMENT, FLAT, holds, unfit, valued};
 use std::alloc::AllocError;
 
-// The axes of the ages at issue, each with an axis of its rates.
-const BY_AXES: &str =
+/// The axes of the ages at issue, each with an axis of its rates.
+pub(crate) const BY_AXES: &str =
     "<XTbML><Table><Values><Axis t=\"0\"><Axis><Y t=\"1\">0.05</Y><Y t=\"2\">0.1</Y></Axis></Axis>\
     <Axis t=\"1\"><Axis><Y t=\"1\">0.1</Y><Y t=\"2\">0.2</Y></Axis></Axis></Values></Table>\
     <Table><Values><Axis><Y t=\"0\">0.1</Y><Y t=\"1\">0.2</Y><Y t=\"2\">0.25</Y><Y t=\"3\">0.5</Y>\
