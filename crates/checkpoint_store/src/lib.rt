@@ -10,6 +10,7 @@ mod number_bytes;
 mod parsing;
 mod pieces;
 mod replaying;
+mod reopening;
 mod saving;
 mod snapshot;
 mod soundness;
@@ -20,5 +21,6 @@ mod stored;
 pub mod worked;
 
 pub use faults::{ReopenFault, StoreFault};
+pub use reopening::reopen;
 pub use snapshot::Snapshot;
 pub use store::Store;

@@ -3,7 +3,7 @@ ghost use Rattle.std.specs.Prelude.{◌≡◌, ◌+◌, ◌*◌, ◌<◌, ◌≤
 ghost use Rattle.posting_journal.specs.Runs.{LooksOn};
 ghost use Rattle.checkpoint_store.specs.declared.faults.ReopenFault.TheVariants.{NoMemory};
 ghost use Rattle.checkpoint_store.specs.inside.Numbered.{AreSoundBooks};
-ghost use Rattle.checkpoint_store.specs.inside.Replaying.{HasCause};
+ghost use Rattle.checkpoint_store.specs.inside.Replaying.{HasReadCause};
 ghost use Rattle.checkpoint_store.specs.inside.Storing.{AreBegun, AreBooksBehind, AreUpTo, BegunNext, DoFit, IsFrontOn, IsStored, UpToNext, WasAdded};
 
 use crate::ReopenFault;
@@ -23,7 +23,7 @@ pub(crate) fn stored<E: Disk>(
     disk: &mut E,
     count: u32,
 ) -> Result<Option<NumberedBooks>, ReopenFault>
-    ensures cause { HasCause (E.faults disk.old) (E.faults disk.new) result }
+    ensures cause { HasReadCause (E.faults disk.old) (E.faults disk.new) result }
     ensures honesty { E.honest disk.new → E.honest disk.old }
     ensures unwritten { E.honest disk.new → LooksOn E.Disk disk.old disk.new }
     ensures sound { IfOk result (λ found. IfSome found (λ books. AreSoundBooks books × (books.position ≤ count))) }
@@ -51,7 +51,7 @@ fn fits(front: Front) -> bool
 // The figures behind an open gate, where there is room for their policies.
 #[tactic(auto, using(crate::proofs::Stored::no_front, crate::proofs::Stored::no_room, crate::proofs::Stored::front_there, crate::proofs::Stored::short_file))]
 fn front_on<E: Disk>(disk: &mut E) -> Result<Option<Front>, ReopenFault>
-    ensures cause { HasCause (E.faults disk.old) (E.faults disk.new) result }
+    ensures cause { HasReadCause (E.faults disk.old) (E.faults disk.new) result }
     ensures honesty { E.honest disk.new → E.honest disk.old }
     ensures unwritten { E.honest disk.new → LooksOn E.Disk disk.old disk.new }
     ensures front { E.honest disk.new → IfOk result (λ found. IsFrontOn (E.reads disk.old) found) }
@@ -80,7 +80,7 @@ fn books_behind<E: Disk>(
 ) -> Result<Option<NumberedBooks>, ReopenFault>
     requires fit { DoFit front }
     requires long { E.honest disk.old → 64 + 48 * front.policies ≤ length (E.reads disk.old) }
-    ensures cause { HasCause (E.faults disk.old) (E.faults disk.new) result }
+    ensures cause { HasReadCause (E.faults disk.old) (E.faults disk.new) result }
     ensures honesty { E.honest disk.new → E.honest disk.old }
     ensures unwritten { E.honest disk.new → LooksOn E.Disk disk.old disk.new }
     ensures sound { IfOk result (λ found. IfSome found (λ books. AreSoundBooks books × (books.position ≡ front.position))) }
@@ -111,7 +111,7 @@ fn add_next<E: Disk>(
     requires within { index < front.policies }
     requires long { E.honest disk.old → 64 + 48 * front.policies ≤ length (E.reads disk.old) }
     requires begun { AreBegun front index books.old }
-    ensures cause { HasCause (E.faults disk.old) (E.faults disk.new) result }
+    ensures cause { HasReadCause (E.faults disk.old) (E.faults disk.new) result }
     ensures honesty { E.honest disk.new → E.honest disk.old }
     ensures unwritten { E.honest disk.new → LooksOn E.Disk disk.old disk.new }
     ensures begun { IfOk result (λ added. BegunNext front index books.new added) }
@@ -143,7 +143,7 @@ impl NumberedBooks {
 
 fn read_policy<E: Disk>(disk: &mut E, index: u32) -> Result<[u8; 48], ReopenFault>
     requires { E.honest disk.old → 64 + 48 * (index + 1) ≤ length (E.reads disk.old) }
-    ensures cause { HasCause (E.faults disk.old) (E.faults disk.new) result }
+    ensures cause { HasReadCause (E.faults disk.old) (E.faults disk.new) result }
     ensures honesty { E.honest disk.new → E.honest disk.old }
     ensures unwritten { E.honest disk.new → LooksOn E.Disk disk.old disk.new }
     ensures bytes { E.honest disk.new → IfOk result (λ bytes. bytes ≡ take 48 (drop (64 + 48 * index) (E.reads disk.old))) }
@@ -154,7 +154,7 @@ fn read_policy<E: Disk>(disk: &mut E, index: u32) -> Result<[u8; 48], ReopenFaul
 }
 
 fn size_of<E: Disk>(disk: &mut E) -> Result<u64, ReopenFault>
-    ensures cause { HasCause (E.faults disk.old) (E.faults disk.new) result }
+    ensures cause { HasReadCause (E.faults disk.old) (E.faults disk.new) result }
     ensures honesty { E.honest disk.new → E.honest disk.old }
     ensures unwritten { E.honest disk.new → LooksOn E.Disk disk.old disk.new }
     ensures length { E.honest disk.new → IfOk result (λ n. n ≡ length (E.reads disk.old)) }
@@ -167,7 +167,7 @@ fn size_of<E: Disk>(disk: &mut E) -> Result<u64, ReopenFault>
 
 fn read<E: Disk>(disk: &mut E, at: u64, buf: &mut [u8]) -> Result<(), ReopenFault>
     requires { E.honest disk.old → at + length buf.old ≤ length (E.reads disk.old) }
-    ensures cause { HasCause (E.faults disk.old) (E.faults disk.new) result }
+    ensures cause { HasReadCause (E.faults disk.old) (E.faults disk.new) result }
     ensures honesty { E.honest disk.new → E.honest disk.old }
     ensures unwritten { E.honest disk.new → LooksOn E.Disk disk.old disk.new }
     ensures bytes { E.honest disk.new → OnOk result (buf.new ≡ take (length buf.old) (drop at (E.reads disk.old))) }
