@@ -7,4 +7,5 @@ pub mod Behind
 pub mod GateSteps
 pub mod Stages
 pub mod Reading
-pub mod Stored
+pub mod InStore
+pub mod StartSteps

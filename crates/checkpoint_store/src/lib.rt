@@ -2,6 +2,7 @@
 //! the truth: what isn't a checkpoint is as good as none.
 #![tactic(auto)]
 
+mod adding;
 mod faults;
 mod front;
 mod gates;
@@ -10,6 +11,7 @@ mod number_bytes;
 mod parsing;
 mod pieces;
 mod replaying;
+mod reopening;
 mod saving;
 mod snapshot;
 mod soundness;
@@ -20,5 +22,6 @@ mod stored;
 pub mod worked;
 
 pub use faults::{ReopenFault, StoreFault};
+pub use reopening::reopen;
 pub use snapshot::Snapshot;
 pub use store::Store;
