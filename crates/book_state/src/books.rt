@@ -67,8 +67,8 @@ fn policies<D: Disk>(
     Ok(text)
 }
 
-// Adds the line of a policy.
-fn add_policy(alloc: Global, policy: &Policy, text: &mut Vec<u8>) -> Result<(), NoMemory>
+/// Adds the line of a policy.
+pub fn add_policy(alloc: Global, policy: &Policy, text: &mut Vec<u8>) -> Result<(), NoMemory>
     requires { IsSound policy.now }
     ensures { OnOk result (text.new.items ≡ text.old.items ++ policy_text policy.now) }
 {

@@ -74,8 +74,8 @@ pub fn read_again<D: Disk>(alloc: Global, id: u32, disk: D) -> Result<ReadAgain<
     }
 }
 
-// The same cause.
-fn cause_of(cause: JournalCause) -> StartCause
+/// The same cause.
+pub fn cause_of(cause: JournalCause) -> StartCause
     ensures { result ≡ as_cause cause }
 {
     match cause {

@@ -9,7 +9,7 @@ use Rattle.policy_types.specs.declared.entry.At.TheVariants.{Now, Position}
 use Rattle.life_args.specs.declared.mode.Mode.{Mode}
 use Rattle.life_args.specs.declared.mode.Mode.TheVariants as mode
 use Rattle.life_args.specs.declared.verb.Verb.{Verb}
-use Rattle.life_args.specs.declared.verb.Verb.TheVariants.{Run, Value, Project, State, Generate, Load}
+use Rattle.life_args.specs.declared.verb.Verb.TheVariants.{Run, Value, Project, State, Checkpoint, Generate, Load}
 use Rattle.life_args.specs.Pieces.{WordPiece, bare, apart, joined, flag, spelled, bare_values, option_values, value_under, IsAmong, HasOnly, AtMostOne}
 use Rattle.life_args.specs.Values.{IsPositionOr, AreWorkersOr, IsBasisOr, IsPolicyOr}
 use Rattle.life_args.specs.Words.{AreWords}
@@ -27,6 +27,7 @@ same_verb Run Run e = refl
 same_verb Value Value e = refl
 same_verb Project Project e = refl
 same_verb State State e = refl
+same_verb Checkpoint Checkpoint e = refl
 same_verb Generate Generate e = refl
 same_verb Load Load e = refl
 same_verb a b e = absurd (differ (verb_word a) (verb_word b) refl e)
@@ -36,6 +37,7 @@ simple Run = refl
 simple Value = refl
 simple Project = refl
 simple State = refl
+simple Checkpoint = refl
 simple Generate = refl
 simple Load = refl
 
@@ -57,6 +59,7 @@ all_good Run = (a_good (codes "basis") (omega arith) refl refl, tt)
 all_good Value = (a_good (codes "at") (omega arith) refl refl, (a_good (codes "workers") (omega arith) refl refl, (a_good (codes "basis") (omega arith) refl refl, tt)))
 all_good Project = (a_good (codes "workers") (omega arith) refl refl, (a_good (codes "basis") (omega arith) refl refl, tt))
 all_good State = tt
+all_good Checkpoint = tt
 all_good Generate = tt
 all_good Load = tt
 
@@ -69,6 +72,7 @@ all_flags_good Run = tt
 all_flags_good Value = ((a_good (codes "mean") (omega arith) refl refl, refl), ((a_good (codes "deficiency") (omega arith) refl refl, refl), tt))
 all_flags_good Project = tt
 all_flags_good State = tt
+all_flags_good Checkpoint = tt
 all_flags_good Generate = tt
 all_flags_good Load = tt
 
@@ -184,6 +188,10 @@ asked word words (mode.State id) are =
         says = is.id_is;
       },
     )
+asked word words mode.Checkpoint are = (
+  are.0,
+  record { pieces = []; spelling = record { spells = are.1; only = tt; plain = tt }; says = refl },
+)
 asked word words (mode.Generate seed count lanes) are =
     let is = are.1 in (
       are.0,
@@ -253,6 +261,7 @@ asking words (mode.Project on years workers basis) is = (
   },
 )
 asking words (mode.State id) is = (refl, record { pieces = is.pieces; spells = is.spelling.spells; only = is.spelling.only; id_is = is.says })
+asking words mode.Checkpoint is = (refl, is.spelling.spells ∙ all_bare is.pieces is.spelling.only ∙ is.says)
 asking words (mode.Generate seed count lanes) is = (
   refl,
   record {

@@ -18,7 +18,7 @@ use Rattle.policy_types.specs.declared.entry.At.TheVariants.{Now, Position}
 use Rattle.life_args.specs.declared.mode.Mode.{Mode}
 use Rattle.life_args.specs.declared.mode.Mode.TheVariants as mode
 use Rattle.life_args.specs.declared.verb.Verb.{Verb}
-use Rattle.life_args.specs.declared.verb.Verb.TheVariants.{Run, Value, Project, State, Generate, Load}
+use Rattle.life_args.specs.declared.verb.Verb.TheVariants.{Run, Value, Project, State, Checkpoint, Generate, Load}
 use Rattle.life_args.specs.Pieces.{WordPiece, AtMostOne}
 use Rattle.life_args.specs.Values.{IsDayValue, IsPositionOr, AreWorkersOr, IsBasisOr, IsMeasureBy, IsPolicyOr, IsWorkerCount}
 use Rattle.life_args.specs.Words.{AreWords, AskFor, AskForNothing}
@@ -256,6 +256,7 @@ Said Run values = (given : Text) × SaysMode values (mode.Run given)
 Said Value values = (on : ℤ) × ((at : At) × ((many : ℕ) × ((given : Text) × ((one : Measure) × SaysMode values (mode.Value on at many given one)))))
 Said Project values = (on : ℤ) × ((years : ℕ) × ((many : ℕ) × ((given : Text) × SaysMode values (mode.Project on years many given))))
 Said State values = (id : Option ℕ) × SaysMode values (mode.State id)
+Said Checkpoint values = values alone_id ≡ []
 Said Generate values = Drawn (values alone_id)
 Said Load values = Loaded (values alone_id)
 
@@ -264,6 +265,7 @@ of_mode values (mode.Run given) says = (given, says)
 of_mode values (mode.Value on at many given one) says = (on, (at, (many, (given, (one, says)))))
 of_mode values (mode.Project on years many given) says = (on, (years, (many, (given, says))))
 of_mode values (mode.State id) says = (id, says)
+of_mode values mode.Checkpoint says = says
 of_mode values (mode.Generate seed count lanes) says = (seed, (count, (lanes, says.0, says.1)))
 of_mode values (mode.Load seed count lanes many) says = (seed, (count, (lanes, (many, says.0, says.1, says.2))))
 
@@ -272,6 +274,7 @@ a_mode values Run said = (mode.Run said.0, refl, said.1)
 a_mode values Value said = (mode.Value said.0 said.1.0 said.1.1.0 said.1.1.1.0 said.1.1.1.1.0, refl, said.1.1.1.1.1)
 a_mode values Project said = (mode.Project said.0 said.1.0 said.1.1.0 said.1.1.1.0, refl, said.1.1.1.1)
 a_mode values State said = (mode.State said.0, refl, said.1)
+a_mode values Checkpoint said = (mode.Checkpoint, refl, said)
 a_mode values Generate said = (mode.Generate said.0 said.1.0 said.1.1.0, refl, (said.1.1.1, said.1.1.2))
 a_mode values Load said = (mode.Load said.0 said.1.0 said.1.1.0 said.1.1.1.0, refl, (said.1.1.1.1, said.1.1.1.2, said.1.1.1.3))
 
@@ -312,6 +315,10 @@ said values Project = elim (ahead (values alone_id)) [
 said values State = elim (policy (values alone_id)) [
   | inl id ↦ inl id
   | inr none ↦ inr (λ is. none is.0 is.1)
+]
+said values Checkpoint = elim (nothing_in (values alone_id)) [
+  | inl none ↦ inl none
+  | inr some ↦ inr some
 ]
 said values Generate = drawn (values alone_id)
 said values Load = loaded (values alone_id)
@@ -369,7 +376,10 @@ named word = elim (same_text word (codes "run")) [
           | inl is ↦ inl (Load, is)
           | inr load ↦ elim (same_text word (codes "project")) [
             | inl is ↦ inl (Project, is)
-            | inr project ↦ inr (λ verb is. none verb run value project state generate load is)
+            | inr project ↦ elim (same_text word (codes "checkpoint")) [
+              | inl is ↦ inl (Checkpoint, is)
+              | inr checkpoint ↦ inr (λ verb is. none verb run value project state checkpoint generate load is)
+            ]
           ]
         ]
       ]
@@ -377,14 +387,15 @@ named word = elim (same_text word (codes "run")) [
   ]
 ]
   where
-    none : (verb : Verb) → (word ≡ codes "run" → ⊥) → (word ≡ codes "value" → ⊥) → (word ≡ codes "project" → ⊥) → (word ≡ codes "state" → ⊥) → (word ≡ codes "generate" → ⊥)
+    none : (verb : Verb) → (word ≡ codes "run" → ⊥) → (word ≡ codes "value" → ⊥) → (word ≡ codes "project" → ⊥) → (word ≡ codes "state" → ⊥) → (word ≡ codes "checkpoint" → ⊥) → (word ≡ codes "generate" → ⊥)
         → (word ≡ codes "load" → ⊥) → word ≡ verb_word verb → ⊥
-    none Run run value project state generate load is = run is
-    none Value run value project state generate load is = value is
-    none Project run value project state generate load is = project is
-    none State run value project state generate load is = state is
-    none Generate run value project state generate load is = generate is
-    none Load run value project state generate load is = load is
+    none Run run value project state checkpoint generate load is = run is
+    none Value run value project state checkpoint generate load is = value is
+    none Project run value project state checkpoint generate load is = project is
+    none State run value project state checkpoint generate load is = state is
+    none Checkpoint run value project state checkpoint generate load is = checkpoint is
+    none Generate run value project state checkpoint generate load is = generate is
+    none Load run value project state checkpoint generate load is = load is
 
 either_words : (words : List Text) → ((one : Mode) × AreWords words one) ⊎ ((one : Mode) → AreWords words one → ⊥)
 either_words [] = inr (λ one are. are)

@@ -110,6 +110,7 @@ same_mode values (mode.Project on years workers basis) (mode.Project day many cr
     let files = one_lone (values (codes "basis")) IsBasisOr basis file (λ o. one_basis o basis file) first.2 other.2 in
     λ i. mode.Project (days i) (counts i) (crews i) (files i)
 same_mode values (mode.State a) (mode.State b) e first other = ap mode.State (one_lone (values alone_id) IsPolicyOr a b (λ o. one_policy o a b) first other)
+same_mode values mode.Checkpoint mode.Checkpoint e first other = refl
 same_mode values (mode.Generate a b c) (mode.Generate x y z) e first other =
     let all = three_draws a b c x y z [] [] (sym first.0 ∙ other.0) first.1 other.1 in
     λ i. mode.Generate (all.0 i) (all.1 i) (all.2 i)

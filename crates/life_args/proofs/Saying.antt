@@ -8,7 +8,7 @@ use Rattle.life_args.specs.declared.fault.WordsFault.{WordsFault}
 use Rattle.life_args.specs.declared.mode.Mode.{Mode}
 use Rattle.life_args.specs.declared.mode.Mode.TheVariants as mode
 use Rattle.life_args.specs.declared.verb.Verb.{Verb}
-use Rattle.life_args.specs.declared.verb.Verb.TheVariants.{Run, Value, Project, State, Generate, Load}
+use Rattle.life_args.specs.declared.verb.Verb.TheVariants.{Run, Value, Project, State, Checkpoint, Generate, Load}
 use Rattle.life_args.specs.Pieces.{AtMostOne}
 use Rattle.life_args.specs.Values.{IsPositionOr, AreWorkersOr, IsBasisOr, IsMeasureBy, IsPolicyOr}
 use Rattle.life_args.specs.inside.Lines.{GivesAsked, alone_id, values_named}

@@ -6,7 +6,7 @@ use Rattle.std.proofs.lemmas.Fmt.{decimal_injective}
 use Rattle.std.specs.Fmt.{digits}
 use Rattle.basis_book.specs.Name.{IsName, IsNameByte}
 use Rattle.life_args.specs.declared.mode.Mode.{Mode}
-use Rattle.life_args.specs.declared.mode.Mode.TheVariants.{Run, Value, Project, State, Generate, Load}
+use Rattle.life_args.specs.declared.mode.Mode.TheVariants.{Run, Value, Project, State, Checkpoint, Generate, Load}
 use Rattle.life_args.specs.Pieces.{WordPiece, bare, apart, joined, flag, spelled, bare_values}
 use Rattle.life_args.specs.Words.{AreWords}
 use Rattle.life_args.specs.Worked.{Ask, AskNothing}
@@ -68,6 +68,7 @@ none_of_help (Run basis) are = differ _ _ (λ e. let no : 104 ≡ 114 = e in ome
 none_of_help (Value on position workers basis measure) are = differ _ _ (λ e. let no : 104 ≡ 118 = e in omega arith) are.0
 none_of_help (Project on years workers basis) are = differ _ _ (λ e. let no : 104 ≡ 112 = e in omega arith) are.0
 none_of_help (State id) are = differ _ _ (λ e. let no : 104 ≡ 115 = e in omega arith) are.0
+none_of_help Checkpoint are = differ _ _ (λ e. let no : 104 ≡ 99 = e in omega arith) are.0
 none_of_help (Generate seed count lanes) are = differ _ _ (λ e. let no : 104 ≡ 103 = e in omega arith) are.0
 none_of_help (Load seed count lanes workers) are = differ _ _ (λ e. let no : 104 ≡ 108 = e in omega arith) are.0
 
@@ -94,6 +95,7 @@ none_of_now (Run basis) are = one_word are.1.pieces are.1.spells are.1.alone
 none_of_now (Value on position workers basis measure) are = differ _ _ (λ e. let no : 114 ≡ 118 = e in omega arith) are.0
 none_of_now (Project on years workers basis) are = differ _ _ (λ e. let no : 114 ≡ 112 = e in omega arith) are.0
 none_of_now (State id) are = differ _ _ (λ e. let no : 114 ≡ 115 = e in omega arith) are.0
+none_of_now Checkpoint are = differ _ _ (λ e. let no : 114 ≡ 99 = e in omega arith) are.0
 none_of_now (Generate seed count lanes) are = differ _ _ (λ e. let no : 114 ≡ 103 = e in omega arith) are.0
 none_of_now (Load seed count lanes workers) are = differ _ _ (λ e. let no : 114 ≡ 108 = e in omega arith) are.0
 
@@ -110,6 +112,7 @@ none_of_no_day (Run basis) are = differ _ _ (λ e. let no : 118 ≡ 114 = e in o
 none_of_no_day (Value on position workers basis measure) are = no_word are.1.pieces are.1.day are.1.spells are.1.alone
 none_of_no_day (Project on years workers basis) are = differ _ _ (λ e. let no : 118 ≡ 112 = e in omega arith) are.0
 none_of_no_day (State id) are = differ _ _ (λ e. let no : 118 ≡ 115 = e in omega arith) are.0
+none_of_no_day Checkpoint are = differ _ _ (λ e. let no : 118 ≡ 99 = e in omega arith) are.0
 none_of_no_day (Generate seed count lanes) are = differ _ _ (λ e. let no : 118 ≡ 103 = e in omega arith) are.0
 none_of_no_day (Load seed count lanes workers) are = differ _ _ (λ e. let no : 118 ≡ 108 = e in omega arith) are.0
 
@@ -118,6 +121,7 @@ none_of_two (Run basis) are = differ _ _ (λ e. let no : 103 ≡ 114 = e in omeg
 none_of_two (Value on position workers basis measure) are = differ _ _ (λ e. let no : 103 ≡ 118 = e in omega arith) are.0
 none_of_two (Project on years workers basis) are = differ _ _ (λ e. let no : 103 ≡ 112 = e in omega arith) are.0
 none_of_two (State id) are = differ _ _ (λ e. let no : 103 ≡ 115 = e in omega arith) are.0
+none_of_two Checkpoint are = differ _ _ (λ e. let no : 103 ≡ 99 = e in omega arith) are.0
 none_of_two (Generate seed count lanes) are = let e = are.1.spells in cc
 none_of_two (Load seed count lanes workers) are = differ _ _ (λ e. let no : 103 ≡ 108 = e in omega arith) are.0
 
@@ -209,3 +213,18 @@ pub none_of_projected_position : (mode : Mode) → AreWords (codes "project" ∷
 unfolding walk_fault walked defaults_fault
 none_of_projected_position =
     refused verb.Project (codes "2021-01-01" ∷ codes "1" ∷ codes "--at" ∷ codes "0" ∷ []) (λ none. let no : UnknownArgument ∷ [] ≡ [] = none in cc)
+
+-- ---- checkpoints
+
+pub none_of_checkpoint_now : (mode : Mode) → AreWords (codes "checkpoint" ∷ codes "now" ∷ []) mode → ⊥
+none_of_checkpoint_now Checkpoint are = let no : codes "now" ∷ [] ≡ [] = are.1 in cc
+none_of_checkpoint_now (Run basis) are = differ _ _ (λ e. let no : 99 ≡ 114 = e in omega arith) are.0
+none_of_checkpoint_now (Value on position workers basis measure) are = differ _ _ (λ e. let no : 99 ≡ 118 = e in omega arith) are.0
+none_of_checkpoint_now (Project on years workers basis) are = differ _ _ (λ e. let no : 99 ≡ 112 = e in omega arith) are.0
+none_of_checkpoint_now (State id) are = differ _ _ (λ e. let no : 99 ≡ 115 = e in omega arith) are.0
+none_of_checkpoint_now (Generate seed count lanes) are = differ _ _ (λ e. let no : 99 ≡ 103 = e in omega arith) are.0
+none_of_checkpoint_now (Load seed count lanes workers) are = differ _ _ (λ e. let no : 99 ≡ 108 = e in omega arith) are.0
+
+pub none_of_checkpoint_at : (mode : Mode) → AreWords (codes "checkpoint" ∷ codes "--at" ∷ codes "0" ∷ []) mode → ⊥
+unfolding walk_fault walked defaults_fault
+none_of_checkpoint_at = refused verb.Checkpoint (codes "--at" ∷ codes "0" ∷ []) (λ none. let no : UnknownArgument ∷ [] ≡ [] = none in cc)

@@ -6,7 +6,7 @@ use Rattle.policy_value.specs.declared.worth.Measure.{Measure}
 use Rattle.life_args.specs.declared.fault.WordsFault.{WordsFault}
 use Rattle.life_args.specs.declared.fault.WordsFault.TheVariants.{Usage, NoMemory}
 use Rattle.life_args.specs.declared.mode.Mode.{Mode}
-use Rattle.life_args.specs.declared.mode.Mode.TheVariants.{Run, Value, Project, State, Generate, Load}
+use Rattle.life_args.specs.declared.mode.Mode.TheVariants.{Run, Value, Project, State, Checkpoint, Generate, Load}
 use Rattle.life_args.specs.Pieces.{WordPiece, spelled, bare_values, option_values, HasOnly, AtMostOne}
 use Rattle.life_args.specs.Values.{IsDayValue, IsPositionOr, AreWorkersOr, IsYearCount, IsBasisOr, IsMeasureBy, IsPolicyOr, IsSeed, IsPolicyCount, IsLaneCount, IsWorkerCount}
 
@@ -74,6 +74,7 @@ AreWords (word ∷ words) (Value on position workers basis measure) =
     (word ≡ codes "value") × IsValue words on position workers basis measure
 AreWords (word ∷ words) (Project on years workers basis) = (word ≡ codes "project") × IsProject words on years workers basis
 AreWords (word ∷ words) (State id) = (word ≡ codes "state") × IsState words id
+AreWords (word ∷ words) Checkpoint = (word ≡ codes "checkpoint") × (words ≡ [])
 AreWords (word ∷ words) (Generate seed count lanes) = (word ≡ codes "generate") × IsGenerate words seed count lanes
 AreWords (word ∷ words) (Load seed count lanes workers) = (word ≡ codes "load") × IsLoad words seed count lanes workers
 

@@ -4,7 +4,7 @@ use Rattle.std.specs.Global.{Global}
 use Rattle.policy_types.specs.declared.entry.At.TheVariants.{Now, Position}
 use Rattle.policy_value.specs.declared.worth.Measure.TheVariants.{Terminal, Mean, Deficiency}
 use Rattle.life_args.specs.declared.mode.Mode.{Mode}
-use Rattle.life_args.specs.declared.mode.Mode.TheVariants.{Run, Value, Project, State, Generate, Load}
+use Rattle.life_args.specs.declared.mode.Mode.TheVariants.{Run, Value, Project, State, Checkpoint, Generate, Load}
 use Rattle.life_args.specs.Words.{AskFor, AskForNothing}
 
 -- words that are these bytes ask for this
@@ -56,6 +56,11 @@ ProjectNearWords = AskNothing (codes "project" ∷ codes "2021-01-01" ∷ [])
 
 abbrev pub StateWords : Type 0
 StateWords = Ask (codes "state" ∷ []) (State None) × Ask (codes "state" ∷ codes "7001" ∷ []) (State (Some 7001))
+
+-- a word too many, and an option
+abbrev pub CheckpointWords : Type 0
+CheckpointWords = Ask (codes "checkpoint" ∷ []) Checkpoint × AskNothing (codes "checkpoint" ∷ codes "now" ∷ [])
+    × AskNothing (codes "checkpoint" ∷ codes "--at" ∷ codes "0" ∷ [])
 
 abbrev pub LoadWords : Type 0
 LoadWords = Ask (codes "generate" ∷ codes "1" ∷ codes "2" ∷ codes "3" ∷ []) (Generate 1 2 3)

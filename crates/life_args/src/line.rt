@@ -67,7 +67,7 @@ fn command_of<'a>(alloc: Global, verb: Verb) -> Result<Command<'a>, AllocError>
         Verb::Project => command
             .arg(option(alloc, "workers"))?
             .arg(option(alloc, "basis")),
-        Verb::State | Verb::Generate | Verb::Load => Ok(command),
+        Verb::State | Verb::Checkpoint | Verb::Generate | Verb::Load => Ok(command),
     }
 }
 

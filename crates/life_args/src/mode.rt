@@ -35,6 +35,8 @@ pub enum Mode {
     State {
         id: Option<u32>,
     },
+    /// To save the books of the journal on the second disk.
+    Checkpoint,
     /// To write the script of so many policies drawn from the seed, dealt out to the lanes.
     Generate {
         seed: u32,

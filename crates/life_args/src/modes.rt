@@ -22,6 +22,7 @@ pub fn mode_of(alloc: Global, verb: Verb, line: &ArgMatches) -> Result<Mode, Wor
         Verb::Value => value_of(alloc, line),
         Verb::Project => project_of(alloc, line),
         Verb::State => state_of(line),
+        Verb::Checkpoint => checkpoint_of(line),
         Verb::Generate => generate_of(line),
         Verb::Load => load_of(line),
     }
@@ -80,6 +81,15 @@ fn state_of(line: &ArgMatches) -> Result<Mode, WordsFault>
 {
     let id = policy_of(line.get_strs("values"))?;
     Ok(Mode::State { id })
+}
+
+fn checkpoint_of(line: &ArgMatches) -> Result<Mode, WordsFault>
+    ensures { GivesAsked (AsksFor Verb.Checkpoint (found_of line.now)) result }
+{
+    if !is_empty(line.get_strs("values")) {
+        return Err(WordsFault::Usage);
+    }
+    Ok(Mode::Checkpoint)
 }
 
 fn generate_of(line: &ArgMatches) -> Result<Mode, WordsFault>

@@ -9,6 +9,7 @@ pub enum Verb {
     Value,
     Project,
     State,
+    Checkpoint,
     Generate,
     Load,
 }
@@ -29,6 +30,9 @@ pub fn verb_named(word: &str) -> Option<Verb>
     }
     if word == "state" {
         return Some(Verb::State);
+    }
+    if word == "checkpoint" {
+        return Some(Verb::Checkpoint);
     }
     if word == "generate" {
         return Some(Verb::Generate);

@@ -1,6 +1,6 @@
 //! Worked words, each a theorem over the definitions alone.
 
-ghost use Rattle.life_args.specs.Worked.{LoadWords, MeasureNearWords, MeasureWords, NearWords, ProjectNearWords, ProjectWords, RunWords, StateWords, ValueWords};
+ghost use Rattle.life_args.specs.Worked.{CheckpointWords, LoadWords, MeasureNearWords, MeasureWords, NearWords, ProjectNearWords, ProjectWords, RunWords, StateWords, ValueWords};
 
 /// The words of each command, and words that are nearly one.
 pub fn words_by_hand()
@@ -11,6 +11,7 @@ pub fn words_by_hand()
     ensures project { ProjectWords }
     ensures project_near { ProjectNearWords }
     ensures state { StateWords }
+    ensures checkpoint { CheckpointWords }
     ensures load { LoadWords }
     ensures near { NearWords }
 {}

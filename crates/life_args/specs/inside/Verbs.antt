@@ -6,7 +6,7 @@ use Rattle.life_args.specs.declared.fault.WordsFault.{WordsFault}
 use Rattle.life_args.specs.declared.mode.Mode.{Mode}
 use Rattle.life_args.specs.declared.mode.Mode.TheVariants as mode
 use Rattle.life_args.specs.declared.verb.Verb.{Verb}
-use Rattle.life_args.specs.declared.verb.Verb.TheVariants.{Run, Value, Project, State, Generate, Load}
+use Rattle.life_args.specs.declared.verb.Verb.TheVariants.{Run, Value, Project, State, Checkpoint, Generate, Load}
 use Rattle.life_args.specs.Pieces.{AtMostOne}
 use Rattle.life_args.specs.Values.{IsDayValue, IsPositionOr, AreWorkersOr, IsYearCount, IsBasisOr, IsMeasureBy, IsPolicyOr, IsSeed, IsPolicyCount, IsLaneCount, IsWorkerCount}
 use Rattle.life_args.specs.inside.Lines.{GivesAsked, OptionNames, alone_id, no_option_names, values_named}
@@ -16,6 +16,7 @@ verb_word Run = codes "run"
 verb_word Value = codes "value"
 verb_word Project = codes "project"
 verb_word State = codes "state"
+verb_word Checkpoint = codes "checkpoint"
 verb_word Generate = codes "generate"
 verb_word Load = codes "load"
 
@@ -24,6 +25,7 @@ verb_of (mode.Run basis) = Run
 verb_of (mode.Value on position workers basis measure) = Value
 verb_of (mode.Project on years workers basis) = Project
 verb_of (mode.State id) = State
+verb_of mode.Checkpoint = Checkpoint
 verb_of (mode.Generate seed count lanes) = Generate
 verb_of (mode.Load seed count lanes workers) = Load
 
@@ -36,6 +38,7 @@ options_of Value = record {
 }
 options_of Project = record { valued = codes "workers" ∷ codes "basis" ∷ []; flags = [] }
 options_of State = no_option_names
+options_of Checkpoint = no_option_names
 options_of Generate = no_option_names
 options_of Load = no_option_names
 
@@ -91,6 +94,7 @@ SaysMode values (mode.Project on years workers basis) =
     × AtMostOne (values (codes "workers")) (λ given. AreWorkersOr given workers)
     × AtMostOne (values (codes "basis")) (λ given. IsBasisOr given basis)
 SaysMode values (mode.State id) = AtMostOne (values alone_id) (λ given. IsPolicyOr given id)
+SaysMode values mode.Checkpoint = values alone_id ≡ []
 SaysMode values (mode.Generate seed count lanes) =
     (values alone_id ≡ decimal seed ∷ decimal count ∷ decimal lanes ∷ []) × AreDraws seed count lanes
 SaysMode values (mode.Load seed count lanes workers) =

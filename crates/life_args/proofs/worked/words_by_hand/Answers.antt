@@ -4,7 +4,7 @@ use Rattle.std.proofs.lemmas.Int.{ints}
 use Rattle.life_dates.specs.Calendar.{date_of, date_at, year_of, month_of, days_before, days_before_year, days_of_months}
 use Rattle.life_dates.specs.DayText.{day_text}
 use Rattle.life_args.specs.Pieces.{bare, apart, joined, flag}
-use Rattle.life_args.proofs.WorkedWords.{asks, asks_nothing, b2_name, none_of_both, none_of_flag_as_value, none_of_132_years, none_of_none, none_of_help, none_of_no_years, none_of_now, none_of_no_day, none_of_projected_position, none_of_state_flag, none_of_three, none_of_twice, none_of_two, none_of_valued_flag, none_of_zero_years}
+use Rattle.life_args.proofs.WorkedWords.{asks, asks_nothing, b2_name, none_of_both, none_of_checkpoint_at, none_of_checkpoint_now, none_of_flag_as_value, none_of_132_years, none_of_none, none_of_help, none_of_no_years, none_of_now, none_of_no_day, none_of_projected_position, none_of_state_flag, none_of_three, none_of_twice, none_of_two, none_of_valued_flag, none_of_zero_years}
 use Rattle.life_args.proofs.worked.words_by_hand.Goals as goal
 
 pub returns-clause-run : goal.returns-clause-run
@@ -148,6 +148,13 @@ unfolding digits
 returns-clause-state c = (
   asks _ _ (refl, record { pieces = []; spells = refl; only = tt; id_is = refl }),
   asks _ _ (refl, record { pieces = bare (codes "7001") ∷ []; spells = refl; only = tt; id_is = ((lit≤ tt, lit≤ tt), refl) }),
+)
+
+pub returns-clause-checkpoint : goal.returns-clause-checkpoint
+returns-clause-checkpoint c = (
+  asks _ _ (refl, refl),
+  asks_nothing _ none_of_checkpoint_now,
+  asks_nothing _ none_of_checkpoint_at,
 )
 
 pub returns-clause-load : goal.returns-clause-load

@@ -1,0 +1,4 @@
+pub mod OpenedTwo
+pub mod SavingSteps
+pub mod EndingSteps
+pub mod EmptyFiles

@@ -1,0 +1,11 @@
+use Rattle.kept_books.proofs.EndingSteps.{checkpoint_unopened, ends_checkpoint}
+use Rattle.kept_books.proofs.checkpointing.checkpoint.Goals as goal
+
+pub returns-in-Ok : goal.returns-in-Ok
+returns-in-Ok g c =
+    ends_checkpoint g.D.Disk g.E.Disk c.args.disk c.args.second c.in-Ok.opened c.in-Ok.ensures.reopened _ g.met.E.Disk.only_now
+    _ c.close.result c.save.result refl c.close.ensures.disk c.close.ensures.second c.close.ensures.ending c.save.ensures
+
+pub returns-in-Err : goal.returns-in-Err
+returns-in-Err g c =
+    checkpoint_unopened g.D.Disk g.E.Disk g.met.E.Disk.only_now _ _ c.in-Err.none.cause c.in-Err.ensures.none c.refuse_journal.result c.refuse_journal.ensures.says

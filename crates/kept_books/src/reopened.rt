@@ -1,0 +1,132 @@
+// The two disks are opened, and the journal's snapshot is read from them.
+ghost use Rattle.std.specs.Prelude.{◌≡◌, ◌<◌, IfErr, IfOk};
+ghost use Rattle.checkpoint_store.specs.Stores.{store_disk};
+ghost use Rattle.posting_journal.specs.States.{disk_of};
+ghost use Rattle.kept_books.specs.inside.Reopened.{HasJournalOn, HasNoSnapshot, HasReopened, HasStoreOn, as_start_cause};
+ghost use Rattle.kept_books.specs.TwoDisks.{TwoDisks};
+
+use crate::finished::FinishedKept;
+use book_state::cause_of;
+use checkpoint_store::{ReopenFault, Snapshot, Store, reopen};
+use office_state::StartCause;
+use outside_io::{Disk, Steps};
+use posting_journal::Journal;
+use program_endings::Ending;
+use std::alloc::Global;
+use std::marker::Brand;
+use std::sync::ledger::{Blank, Ledger};
+
+/// A journal and a store on their disks, and the journal's snapshot.
+#[derive(Drop)]
+pub struct Reopened<D: Disk, E: Disk> {
+    pub snapshot: Snapshot,
+    pub journal: Journal<D>,
+    pub store: Store<E>,
+}
+
+/// Why there is no snapshot, and the two disks.
+#[derive(Drop)]
+pub struct Unopened<D, E> {
+    pub cause: StartCause,
+    pub disk: D,
+    pub second: E,
+}
+
+/// Opens the journal, then the store, and reads the journal's snapshot: from the store's checkpoint on, where it has one.
+pub fn reopen_both<D: Disk, E: Disk>(
+    alloc: Global,
+    disk: D,
+    second: E,
+) -> Result<Reopened<D, E>, Unopened<D, E>>
+    ensures reopened { IfOk result (λ opened. HasReopened disk second opened) }
+    ensures none { IfErr result (λ none. HasNoSnapshot D.Disk E.Disk
+        (record { old = disk; new = none.disk; second = second; kept = none.second }) none.cause) }
+{
+    match Journal::start(disk) {
+        Ok(journal) => start_store(alloc, journal, second),
+        Err(fault) => Err(Unopened {
+            cause: cause_of(fault.cause),
+            disk: fault.disk,
+            second,
+        }),
+    }
+}
+
+// Starts the store, and reads the snapshot.
+fn start_store<D: Disk, E: Disk>(
+    alloc: Global,
+    journal: Journal<D>,
+    second: E,
+) -> Result<Reopened<D, E>, Unopened<D, E>>
+    ensures reopened { (disk : D) → HasJournalOn disk journal → IfOk result (λ opened. HasReopened disk second opened) }
+    ensures none { (disk : D) → HasJournalOn disk journal → IfErr result (λ none. HasNoSnapshot D.Disk E.Disk
+        (record { old = disk; new = none.disk; second = second; kept = none.second }) none.cause) }
+{
+    match Store::start(second) {
+        Ok(store) => read_snapshot::<D, E, Brand>(alloc, journal, store, Blank::new(1)),
+        Err(fault) => Err(Unopened {
+            cause: StartCause::DiskFault(fault.count),
+            disk: journal.release(),
+            second: fault.disk,
+        }),
+    }
+}
+
+// Reads the snapshot, with a ledger for its steps that the blank becomes.
+fn read_snapshot<D: Disk, E: Disk, L: Ledger>(
+    alloc: Global,
+    journal: Journal<D>,
+    store: Store<E>,
+    blank: Blank,
+) -> Result<Reopened<D, E>, Unopened<D, E>>
+    requires name { blank.name ≡ L.name }
+    requires parts { blank.parts ≡ L.parts }
+    requires some { 0 < L.parts }
+    ensures reopened { (disk : D) (second : E) → HasJournalOn disk journal → HasStoreOn second store
+        → IfOk result (λ opened. HasReopened disk second opened) }
+    ensures none { (disk : D) (second : E) → HasJournalOn disk journal → HasStoreOn second store
+        → IfErr result (λ none. HasNoSnapshot D.Disk E.Disk
+        (record { old = disk; new = none.disk; second = second; kept = none.second }) none.cause) }
+{
+    let mut journal = journal;
+    let mut store = store;
+    let mut steps: Steps<L> = Steps::open(blank);
+    match reopen(alloc, &mut store, &mut journal, &mut steps) {
+        Ok(snapshot) => Ok(Reopened {
+            snapshot,
+            journal,
+            store,
+        }),
+        Err(fault) => Err(Unopened {
+            cause: start_cause(fault),
+            disk: journal.release(),
+            second: store.release(),
+        }),
+    }
+}
+
+// The same fault, as a cause.
+fn start_cause(fault: ReopenFault) -> StartCause
+    ensures { result ≡ as_start_cause fault }
+{
+    match fault {
+        ReopenFault::DiskFault(count) => StartCause::DiskFault(count),
+        ReopenFault::BadRecord(n) => StartCause::BadRecord(n),
+        ReopenFault::NoMemory => StartCause::NoMemory,
+    }
+}
+
+impl<D: Disk, E: Disk> Reopened<D, E> {
+    /// Gives the two disks back.
+    pub fn close(self, ending: Ending) -> FinishedKept<D, E>
+        ensures ending { result.ending ≡ ending }
+        ensures disk { result.disk ≡ disk_of self.journal }
+        ensures second { result.second ≡ store_disk self.store }
+    {
+        FinishedKept {
+            ending,
+            disk: self.journal.release(),
+            second: self.store.release(),
+        }
+    }
+}

@@ -1,0 +1,68 @@
+// What an administrator reads: all policies, and the balances.
+ghost use Rattle.std.specs.Prelude.{◌≡◌, IfOk};
+ghost use Rattle.std.specs.List.{AllByRecursion, flat_map};
+ghost use Rattle.policy_machine.specs.Rules.{IsSound};
+ghost use Rattle.statements.specs.Statements.{policy_text};
+ghost use Rattle.checkpoint_store.specs.Checkpoints.{IsSoundSnapshot};
+ghost use Rattle.program_endings.specs.Writing.{between};
+ghost use Rattle.kept_books.specs.Stated.{EndsStateKept, snapshot_text};
+ghost use Rattle.kept_books.specs.TwoDisks.{disks_of};
+
+use crate::finished::FinishedKept;
+use crate::reopened::reopen_both;
+use book_state::add_policy;
+use checkpoint_store::Snapshot;
+use outside_io::{Disk, Sink};
+use policy_types::{NoMemory, Policy};
+use program_endings::{add, refuse_journal, write_text};
+use statements::balance;
+use std::alloc::Global;
+
+/// Writes all policies in order of issue, and the balances. The journal's records are decided anew from the position of
+/// the second disk's checkpoint on, where it has one that isn't above the journal's count, and else from the first on. The
+/// second disk is synced and read, and not written to.
+pub fn state_kept<K: Sink, D: Disk, E: Disk>(
+    alloc: Global,
+    output: &mut K,
+    disk: D,
+    second: E,
+) -> FinishedKept<D, E>
+    ensures { EndsStateKept D.Disk E.Disk (disks_of disk second result)
+        (between K.faults K.written output.old output.new) result.ending }
+{
+    match reopen_both(alloc, disk, second) {
+        Ok(opened) => {
+            let text = text_of(alloc, &opened.snapshot);
+            let ending = write_text(text, output);
+            opened.close(ending)
+        }
+        Err(none) => FinishedKept {
+            ending: refuse_journal(alloc, none.cause, output),
+            disk: none.disk,
+            second: none.second,
+        },
+    }
+}
+
+// The text of a snapshot.
+fn text_of(alloc: Global, snapshot: &Snapshot) -> Result<Vec<u8>, NoMemory>
+    requires { IsSoundSnapshot snapshot.now }
+    ensures { IfOk result (λ text. text.items ≡ snapshot_text snapshot.now) }
+{
+    let mut text = policies_of(alloc, snapshot.book.as_slice())?;
+    let balances = balance(alloc, &snapshot.ledger, snapshot.position)?;
+    add(&mut text, balances.as_slice())?;
+    Ok(text)
+}
+
+// The lines of policies.
+fn policies_of(alloc: Global, policies: &[Policy]) -> Result<Vec<u8>, NoMemory>
+    requires { AllByRecursion IsSound policies.now }
+    ensures { IfOk result (λ text. text.items ≡ flat_map policy_text policies.now) }
+{
+    let mut text = Vec::new(alloc);
+    for index in 0..policies.len() {
+        add_policy(alloc, &policies[index], &mut text)?;
+    }
+    Ok(text)
+}
