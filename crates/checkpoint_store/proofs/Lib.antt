@@ -9,3 +9,4 @@ pub mod Stages
 pub mod Reading
 pub mod InStore
 pub mod StartSteps
+pub mod OneSnapshot

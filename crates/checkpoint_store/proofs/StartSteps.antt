@@ -1,5 +1,5 @@
 -- From where records are decided, and what stands there.
-use Rattle.std.proofs.Common.{◌≡◌, ℕ, ◌≤◌, List, [], ◌++◌, length, take, append-nil, refl, sym, ap, ◌∙◌, subst, Result, Ok, Err, IfOk, IfErr, OnOk}
+use Rattle.std.proofs.Common.{◌≡◌, ℕ, ◌≤◌, List, [], length, take, append-nil, refl, sym, ap, ◌∙◌, subst, Result, Ok, Err, IfOk, IfErr, OnOk}
 use Rattle.std.proofs.lemmas.List.{take_at}
 use Rattle.checkpoint_store.specs.declared.faults.ReopenFault.{ReopenFault}
 use Rattle.checkpoint_store.specs.declared.faults.ReopenFault.TheVariants.{DiskFault, BadRecord, NoMemory}
@@ -9,7 +9,6 @@ use Rattle.checkpoint_store.specs.declared.snapshot.Snapshot.{Snapshot}
 use Rattle.checkpoint_store.specs.Checkpoints.{CheckpointBytes}
 use Rattle.checkpoint_store.specs.Reopening.{IsReopened, IsSnapshotOfAll, IsSnapshotOfFront, IsStartOf}
 use Rattle.checkpoint_store.specs.inside.Numbered.{AreBooksOf, as_snapshot}
-use Rattle.checkpoint_store.specs.inside.Parsing.{front_in}
 use Rattle.checkpoint_store.specs.inside.Replaying.{HasStoreCause, IsFaultFrom}
 use Rattle.checkpoint_store.proofs.InStore.{checkpoint_parts, front_for, front_range}
 use Rattle.checkpoint_store.proofs.Reading.{front_read}

@@ -44,7 +44,10 @@ fn fits(front: Front) -> bool
     front.position <= MOST_COMMANDS
         && front.upgrade <= front.position
         && front.policies <= front.position
-        && are_within(MOST_REINSTATEMENT_CENTS * u64::from(front.position), front.ledger)
+        && are_within(
+            MOST_REINSTATEMENT_CENTS * u64::from(front.position),
+            front.ledger,
+        )
 }
 
 // The figures behind an open gate, where there is room for their policies.

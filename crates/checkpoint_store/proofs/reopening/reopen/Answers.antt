@@ -1,5 +1,5 @@
 -- The records behind the checkpoint are decided anew.
-use Rattle.std.proofs.Common.{rules, ◌≡◌, ◌+◌, ◌-◌, ℕ, List, length, sym, ap, ◌∙◌, subst}
+use Rattle.std.proofs.Common.{◌≡◌, length, sym, ◌∙◌, subst}
 use Rattle.std.proofs.lemmas.Result.{err_from_is_err_and}
 use Rattle.posting_journal.specs.States.{count_of}
 use Rattle.checkpoint_store.specs.Reopening.{IsStartOf, TakesSteps}

@@ -1,6 +1,6 @@
 -- What the file shows.
-use Rattle.std.proofs.Common.{rules, ◌≡◌, Some, None, subst, arith}
-use Rattle.checkpoint_store.specs.inside.Storing.{IsFrontOn, IsStored}
+use Rattle.std.proofs.Common.{rules, subst, arith}
+use Rattle.checkpoint_store.specs.inside.Storing.{IsFrontOn}
 use Rattle.checkpoint_store.proofs.InStore.{none_stored, other_figures, stored_all}
 use Rattle.checkpoint_store.proofs.stored.stored.Goals as goal
 use Rattle.checkpoint_store.proofs.stored.stored.Goals.{then-front-count-via-then-front-count, then-front-count-via-else-front-count+then-not-fits}
@@ -15,8 +15,8 @@ returns-then-front-count-clause-stored g c = λ honest.
     let front = c.in-Some.front in
     let on = subst (λ o. IsFrontOn file o) c.in-Some.is (c.in_ok-front.ensures.front honest) in
     elim c.then-front-count.branch [
-      then-front-count-via-then-front-count w ↦ other_figures file c.args.count front on.1 (λ le fit. omega (arith, le, w.if-front-count))
-    | then-front-count-via-else-front-count+then-not-fits w ↦ other_figures file c.args.count front on.1 (λ le fit. search (rules, fit, w.fits.ensures, w.if-not-fits))
+      | then-front-count-via-then-front-count w ↦ other_figures file c.args.count front on.1 (λ le fit. omega (arith, le, w.if-front-count))
+      | then-front-count-via-else-front-count+then-not-fits w ↦ other_figures file c.args.count front on.1 (λ le fit. search (rules, fit, w.fits.ensures, w.if-not-fits))
     ]
 
 pub returns-clause-stored : goal.returns-clause-stored

@@ -1,5 +1,5 @@
 -- One policy after the other.
-use Rattle.std.proofs.Common.{rules, ◌≡◌, ◌+◌, Bool, true, false, subst, sym, arith}
+use Rattle.std.proofs.Common.{rules, ◌≡◌, ◌+◌, true, false, subst, arith}
 use Rattle.checkpoint_store.specs.inside.Storing.{AreBegun, AreUpTo, BegunNext, UpToNext}
 use Rattle.checkpoint_store.proofs.numbered.NumberedBooks.add_all.Goals as goal
 
@@ -15,12 +15,12 @@ loop-index-preserved c =
     let added : c.in_ok-add_at.field-0 ≡ true = search (rules, c.if-not-branch.false) in
     record {
       begun = λ f first begun.
-      subst (λ b. BegunNext f (first + (c.loop-index.index + 1)) c.add_at.new.self b) added
-      (c.in_ok-add_at.ensures.begun f first (c.loop-index.invariant.begun f first begun));
+          subst (λ b. BegunNext f (first + (c.loop-index.index + 1)) c.add_at.new.self b) added
+          (c.in_ok-add_at.ensures.begun f first (c.loop-index.invariant.begun f first begun));
       next = λ file f first room are begun up.
-      subst (λ b. UpToNext file f (first + (c.loop-index.index + 1)) c.add_at.new.self b) added
-      (c.in_ok-add_at.ensures.next file f first c.args.many c.loop-index-test.true room are (c.loop-index.invariant.begun f first begun)
-      (c.loop-index.invariant.next file f first room are begun up));
+          subst (λ b. UpToNext file f (first + (c.loop-index.index + 1)) c.add_at.new.self b) added
+          (c.in_ok-add_at.ensures.next file f first c.args.many c.loop-index-test.true room are (c.loop-index.invariant.begun f first begun)
+          (c.loop-index.invariant.next file f first room are begun up));
     }
 
 pub returns-clause-begun : goal.returns-clause-begun

@@ -1,5 +1,4 @@
 -- One policy more stands in the books.
-use Rattle.std.proofs.Common.{rules}
 use Rattle.checkpoint_store.proofs.InStore.{up_to_one_more}
 use Rattle.checkpoint_store.proofs.numbered.NumberedBooks.add_at.Goals as goal
 
