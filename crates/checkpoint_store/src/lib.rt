@@ -2,6 +2,7 @@
 //! the truth: what isn't a checkpoint is as good as none.
 #![tactic(auto)]
 
+mod adding;
 mod faults;
 mod front;
 mod gates;

@@ -1,15 +1,14 @@
 // The books of a checkpoint are read from its disk.
-ghost use Rattle.std.specs.Prelude.{◌≡◌, ◌+◌, ◌*◌, ◌<◌, ◌≤◌, ◌↔◌, length, take, drop, IsTrue, IfErr, IfOk, IfSome, OnOk};
+ghost use Rattle.std.specs.Prelude.{◌≡◌, ◌+◌, ◌*◌, ◌≤◌, ◌↔◌, length, take, drop, IsTrue, IfOk, IfSome, OnOk};
 ghost use Rattle.posting_journal.specs.Runs.{LooksOn};
-ghost use Rattle.checkpoint_store.specs.declared.faults.ReopenFault.TheVariants.{NoMemory};
 ghost use Rattle.checkpoint_store.specs.inside.Numbered.{AreSoundBooks};
 ghost use Rattle.checkpoint_store.specs.inside.Replaying.{HasReadCause};
-ghost use Rattle.checkpoint_store.specs.inside.Storing.{AreBegun, AreBooksBehind, AreUpTo, BegunNext, DoFit, IsFrontOn, IsStored, UpToNext, WasAdded};
+ghost use Rattle.checkpoint_store.specs.inside.Storing.{AreBegun, AreBooksBehind, AreUpTo, BegunNext, DoFit, IsFrontOn, IsStored, UpToNext};
 
 use crate::ReopenFault;
 use crate::front::{Front, front_at};
 use crate::numbered::NumberedBooks;
-use crate::parsing::policy_at;
+use crate::pieces::POLICIES;
 use crate::soundness::{MOST_COMMANDS, are_within};
 use indexmap::IndexMap;
 use outside_io::{Disk, Failed};
@@ -71,7 +70,7 @@ fn front_on<E: Disk>(disk: &mut E) -> Result<Option<Front>, ReopenFault>
     Ok(Some(front))
 }
 
-// The policies behind the figures.
+// The policies behind the figures, a piece at a time.
 #[tactic(auto, using(crate::proofs::Stored::all_behind, crate::proofs::Stored::begun_sound))]
 fn books_behind<E: Disk>(
     alloc: Global,
@@ -92,65 +91,41 @@ fn books_behind<E: Disk>(
         upgrade: front.upgrade,
         ledger: front.ledger,
     };
-    for index in 0..front.policies {
-        if !add_next(disk, front, index, &mut books)? {
+    let mut done = 0;
+    while done < front.policies {
+        let many = (front.policies - done).min(POLICIES as u32);
+        if !add_piece(disk, front, done, many, &mut books)? {
             return Ok(None);
         }
+        done += many;
     }
     Ok(Some(books))
 }
 
-// Adds the policy of an index, where there is one of a new number.
-#[tactic(auto, using(crate::proofs::Stored::next_all, crate::proofs::Stored::begun_all))]
-fn add_next<E: Disk>(
+// Reads so many policies, from that of an index on, and adds them, where each is one of a new number.
+#[tactic(auto, using(crate::proofs::Stored::piece_read))]
+fn add_piece<E: Disk>(
     disk: &mut E,
     front: Front,
-    index: u32,
+    first: u32,
+    many: u32,
     books: &mut NumberedBooks,
 ) -> Result<bool, ReopenFault>
-    requires within { index < front.policies }
+    requires few { many ≤ 2048 }
+    requires within { first + many ≤ front.policies }
     requires long { E.honest disk.old → 64 + 48 * front.policies ≤ length (E.reads disk.old) }
-    requires begun { AreBegun front index books.old }
+    requires begun { AreBegun front first books.old }
     ensures cause { HasReadCause (E.faults disk.old) (E.faults disk.new) result }
     ensures honesty { E.honest disk.new → E.honest disk.old }
     ensures unwritten { E.honest disk.new → LooksOn E.Disk disk.old disk.new }
-    ensures begun { IfOk result (λ added. BegunNext front index books.new added) }
-    ensures next { E.honest disk.new → AreUpTo (E.reads disk.old) front index books.old
-        → IfOk result (λ added. UpToNext (E.reads disk.old) front index books.new added) }
+    ensures begun { IfOk result (λ added. BegunNext front (first + many) books.new added) }
+    ensures next { E.honest disk.new → AreUpTo (E.reads disk.old) front first books.old
+        → IfOk result (λ added. UpToNext (E.reads disk.old) front (first + many) books.new added) }
 {
-    let bytes = read_policy(disk, index)?;
-    books.add(&bytes)
-}
-
-impl NumberedBooks {
-    // Adds the policy that these bytes spell, where they spell one of a new number.
-    fn add(&mut self, bytes: &[u8; 48]) -> Result<bool, ReopenFault>
-        ensures memory { IfErr result (λ fault. fault ≡ NoMemory) }
-        ensures added { IfOk result (λ added. WasAdded bytes.now self.old self.new added) }
-    {
-        let Some(policy) = policy_at(bytes) else {
-            return Ok(false);
-        };
-        if self.policies.contains_key(&policy.id) {
-            return Ok(false);
-        }
-        match self.policies.insert(policy.id, policy) {
-            Ok(_) => Ok(true),
-            Err(_) => Err(ReopenFault::NoMemory),
-        }
-    }
-}
-
-fn read_policy<E: Disk>(disk: &mut E, index: u32) -> Result<[u8; 48], ReopenFault>
-    requires { E.honest disk.old → 64 + 48 * (index + 1) ≤ length (E.reads disk.old) }
-    ensures cause { HasReadCause (E.faults disk.old) (E.faults disk.new) result }
-    ensures honesty { E.honest disk.new → E.honest disk.old }
-    ensures unwritten { E.honest disk.new → LooksOn E.Disk disk.old disk.new }
-    ensures bytes { E.honest disk.new → IfOk result (λ bytes. bytes ≡ take 48 (drop (64 + 48 * index) (E.reads disk.old))) }
-{
-    let mut bytes = [0; 48];
-    read(disk, 64 + 48 * u64::from(index), &mut bytes)?;
-    Ok(bytes)
+    let mut piece = [0; 98_304];
+    let bytes = &mut piece[..48 * many as usize];
+    read(disk, 64 + 48 * u64::from(first), bytes)?;
+    books.add_all(bytes, many)
 }
 
 fn size_of<E: Disk>(disk: &mut E) -> Result<u64, ReopenFault>

@@ -74,14 +74,18 @@ pub record AreUpTo (file : List ℕ) (f : Front) (index : ℕ) (books : Numbered
 abbrev pub HasNoPolicies : List ℕ → Front → Type 0
 HasNoPolicies file f = (policies : List Policy) → HasPolicies file f.policies policies → ⊥
 
--- the next policy was added, or there are none
+-- the policies up to an index were added, or there are none
 abbrev pub UpToNext : List ℕ → Front → ℕ → NumberedBooks → Bool → Type 0
-UpToNext file f index books true = AreUpTo file f (index + 1) books
+UpToNext file f index books true = AreUpTo file f index books
 UpToNext file f index books false = HasNoPolicies file f
 
 abbrev pub BegunNext : Front → ℕ → NumberedBooks → Bool → Type 0
-BegunNext f index books true = AreBegun f (index + 1) books
+BegunNext f index books true = AreBegun f index books
 BegunNext f index books false = Unit {0}
+
+-- these bytes are those of so many policies in the file, from that of an index on
+abbrev pub AreBytesOf : List ℕ → (first many : ℕ) → List ℕ → Type 0
+AreBytesOf file first many bytes = bytes ≡ take (48 * many) (drop (64 + 48 * first) file)
 
 -- the books have these figures, and the policies behind them
 pub record HasBooks (file : List ℕ) (f : Front) (books : NumberedBooks) : Type 0 where
