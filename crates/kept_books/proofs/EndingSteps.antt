@@ -69,8 +69,8 @@ module _ {D E : Type 0} (g : Ghosts D) (e : Ghosts E) (disk : D) (second : E) (o
       subst (λ (disks : TwoDisks D E). EndsStateKept g e disks output finished.ending) (same_disks disk second opened finished first kept)
       (subst (EndsStateKept g e (disks_under disk second opened) output) (sym same_ending) (record {
         telling = ends_told g e (disks_under disk second opened) output opened.snapshot snapshot_text text ending reopened.held reopened.quiet same ends;
-        first = reopened.first;
-        second = reopened.second;
+        first = reopened.alone;
+        second = reopened.only_read;
       }))
 
   module _ (only_now : OnlyNow e) (after : Store E e) where
@@ -87,10 +87,10 @@ module _ {D E : Type 0} (g : Ghosts D) (e : Ghosts E) (disk : D) (second : E) (o
           → EndsCheckpoint g e saved_disks output ending
       checkpoint_ends ending telling = record {
         telling = telling;
-        first = reopened.first;
-        honesty = λ honest. reopened.second.honesty (tried.honesty honest);
-        since = since_tried g e only_now saved_disks opened.snapshot still_held opened.store after reopened.second reopened.looked tried refl;
-        now = now_tried g e only_now saved_disks opened.snapshot still_held opened.store after reopened.second reopened.looked tried refl;
+        first = reopened.alone;
+        honesty = λ honest. reopened.only_read.honesty (tried.honesty honest);
+        since = since_tried g e only_now saved_disks opened.snapshot still_held opened.store after reopened.only_read reopened.looked tried refl;
+        now = now_tried g e only_now saved_disks opened.snapshot still_held opened.store after reopened.only_read reopened.looked tried refl;
       }
 
     saved_so : (saved : HasSaved opened.store after opened.snapshot) (Wrote : List ℕ → Type 0) → Wrote (checkpoint_text opened.snapshot)
@@ -118,10 +118,10 @@ module _ {D E : Type 0} (g : Ghosts D) (e : Ghosts E) (disk : D) (second : E) (o
             subst (λ s. EndsCheckpoint g e (record { old = disk; new = disk_of opened.journal; second = second; kept = store_disk s }) output NoMemory) (sym same)
             (record {
               telling = (ends.1, reopened.quiet);
-              first = reopened.first;
-              honesty = reopened.second.honesty;
-              since = since_read g e only_now (disks_under disk second opened) reopened.second;
-              now = now_read g e only_now (disks_under disk second opened) reopened.second;
+              first = reopened.alone;
+              honesty = reopened.only_read.honesty;
+              since = since_read g e only_now (disks_under disk second opened) reopened.only_read;
+              now = now_read g e only_now (disks_under disk second opened) reopened.only_read;
             })
     saving_ends _ ends = absurd ends
 
@@ -152,3 +152,11 @@ module _ {D E : Type 0} (g : Ghosts D) (e : Ghosts E) (only_now : OnlyNow e) (di
     since = since_read g e only_now disks none.second;
     now = now_read g e only_now disks none.second;
   }
+
+-- a snapshot that was saved, and its line, which was written behind it
+pub saving_written : {E : Type 0} {e : Ghosts E} (old new : Store E e) (snapshot : Snapshot) (output : Stream) (line : Vec ℕ Global) (ending : Ending)
+    → HasSaved old new snapshot → line.items ≡ checkpoint_text snapshot → EndsText (Ok line) output ending → EndsSaving old new snapshot output ending
+saving_written old new snapshot output line Done saved same ends = (saved, subst (WroteAll output) same ends)
+saving_written old new snapshot output line WriteFault saved same ends =
+    (saved, ends.0, subst (AppendsPart output.before output.after) same ends.1)
+saving_written old new snapshot output line _ saved same ends = absurd ends
