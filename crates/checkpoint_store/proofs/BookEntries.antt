@@ -1,13 +1,12 @@
 -- The entries of a book by number, in order of issue: what is found in them, and what one more command does to them.
-use Rattle.std.proofs.Common.{◌≡◌, ◌⊎◌, inl, inr, ⊎_elim, nat_eq, ◌==◌, ℕ, ◌+◌, ◌≤◌, Bool, true, false, cond, List, [], ◌∷◌, ◌++◌, length, map, filter_map, refl, sym, ap, subst, ◌∙◌, arith, Option, None, Some, Result, Ok, Err, IfSome}
+use Rattle.std.proofs.Common.{◌≡◌, ◌⊎◌, inl, inr, nat_eq, ◌==◌, ℕ, ◌+◌, ◌≤◌, Bool, true, false, cond, List, [], ◌∷◌, ◌++◌, length, filter_map, refl, sym, ap, subst, ◌∙◌, arith, Option, None, Some, Ok, Err, IfSome}
 use Rattle.std.specs.List.{AllByRecursion, IsDistinct, cons_option, fold}
 use Rattle.std.specs.Map.{keys_of, lookup}
-use Rattle.std.proofs.lemmas.Bool.{cases_eq, eqb-false, eqb-true, eq-eqb, ne_eqb}
+use Rattle.std.proofs.lemmas.Bool.{eqb-false, eqb-true, eq-eqb, ne_eqb}
 use Rattle.std.proofs.lemmas.List.{map-append}
 use Rattle.indexmap.specs.IndexMap.{insert_entry}
 use Rattle.policy_types.specs.declared.command.Command.{Command}
 use Rattle.policy_types.specs.declared.policy.Policy.{Policy}
-use Rattle.policy_types.specs.declared.refusal.Refusal.{Refusal}
 use Rattle.policy_types.specs.declared.refusal.Refusal.TheVariants.{Taken, Unknown}
 use Rattle.policy_types.specs.Valid.{id_of}
 use Rattle.policy_machine.specs.Rules.{IsSound, next}
@@ -154,10 +153,10 @@ module _ (commands : List Command) (command : Command) (after : Policy) (es : En
   on_issue : IsIssueHere command → (policy : Option Policy) → policy_of commands (id_of command) ≡ policy
       → numbered_policies (insert_entry nat_eq es (id_of command) after) ≡ book (commands ++ command ∷ [])
   on_issue c (Some p) found = absurd (
-    let refused : next (Some p) command ≡ Err Taken = ap (next (Some p)) c.is in
-    let done : next (Some p) command ≡ Ok after = ap (λ o. next o command) (sym found) ∙ ok in
-    cc
-  )
+      let refused : next (Some p) command ≡ Err Taken = ap (next (Some p)) c.is in
+      let done : next (Some p) command ≡ Ok after = ap (λ o. next o command) (sym found) ∙ ok in
+      cc
+      )
   on_issue c None found =
       let issue : issue_id command ≡ Some (id_of command) = ap issue_id c.is ∙ ap Some (sym (ap id_of c.is)) in
       ap numbered_policies (insert_new (id_of command) after es (book_lookup commands es keyed same (id_of command) ∙ found))
@@ -168,10 +167,10 @@ module _ (commands : List Command) (command : Command) (after : Policy) (es : En
   on_change : NeedsPolicy command → (policy : Option Policy) → policy_of commands (id_of command) ≡ policy
       → numbered_policies (insert_entry nat_eq es (id_of command) after) ≡ book (commands ++ command ∷ [])
   on_change other None found = absurd (
-    let refused : next None command ≡ Err Unknown = other.refused in
-    let done : next None command ≡ Ok after = ap (λ o. next o command) (sym found) ∙ ok in
-    cc
-  )
+      let refused : next None command ≡ Err Unknown = other.refused in
+      let done : next None command ≡ Ok after = ap (λ o. next o command) (sym found) ∙ ok in
+      cc
+      )
   on_change other (Some before) found =
       let done : next (Some before) command ≡ Ok after = ap (λ o. next o command) (sym found) ∙ ok in
       let change = book-push_change commands command before after accepted other.none found done in

@@ -1,7 +1,7 @@
 -- The books by number after one more command.
-use Rattle.std.proofs.Common.{◌≡◌, nat_eq, ◌==◌, ℕ, ◌+◌, ◌*◌, ◌<◌, ◌≤◌, ◌^◌, ◌-◌, Bool, true, false, cond, List, [], ◌∷◌, ◌++◌, length, refl, sym, ap, subst, ◌∙◌, arith, length-append, Option, None, Some, Result, Ok, Err, IfErr, IfOk, IfSome, OnOk, MatchResult}
+use Rattle.std.proofs.Common.{◌≡◌, nat_eq, ℕ, ◌+◌, ◌*◌, ◌<◌, ◌^◌, ◌-◌, Bool, true, false, cond, List, [], ◌∷◌, ◌++◌, length, refl, sym, ap, subst, ◌∙◌, arith, length-append, Option, None, Some, Result, Ok, Err, IfErr, IfOk, IfSome, OnOk, MatchResult}
 use Rattle.std.specs.List.{AllByRecursion, IsDistinct}
-use Rattle.std.specs.Map.{keys_of, lookup}
+use Rattle.std.specs.Map.{lookup}
 use Rattle.std.proofs.lemmas.Bool.{eqb-true}
 use Rattle.indexmap.specs.IndexMap.{insert_entry}
 use Rattle.money_ledgers.specs.Balances.{HasRoom, balances}
@@ -20,7 +20,7 @@ use Rattle.policy_types.specs.declared.policy.Policy.{Policy}
 use Rattle.policy_types.specs.declared.refusal.Refusal.{Refusal}
 use Rattle.checkpoint_store.specs.declared.numbered.NumberedBooks.{NumberedBooks}
 use Rattle.checkpoint_store.specs.declared.numbered.Untaken.{Untaken}
-use Rattle.checkpoint_store.specs.declared.numbered.Untaken.TheVariants.{Refused, NoMemory}
+use Rattle.checkpoint_store.specs.declared.numbered.Untaken.TheVariants.{NoMemory}
 use Rattle.checkpoint_store.specs.inside.Books.{AreKeyed, Entries, numbered_policies}
 use Rattle.checkpoint_store.specs.inside.Numbered.{AreBooksOf, AreSoundBooks, HasSetPolicy, IsUntaken}
 use Rattle.checkpoint_store.proofs.BookEntries.{book_lookup, book_more, insert_few, insert_keyed, insert_sound, keyed_ids}

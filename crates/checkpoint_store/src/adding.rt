@@ -9,9 +9,9 @@ use crate::numbered::NumberedBooks;
 use crate::parsing::policy_at;
 
 impl NumberedBooks {
-    /// Adds the policies that these bytes spell, one after the other, where each is one of a new number.
+    /// Adds the policies that the first bytes spell, one after the other, where each is one of a new number.
     pub(crate) fn add_all(&mut self, bytes: &[u8], many: u32) -> Result<bool, ReopenFault>
-        requires { length bytes.now ≡ 48 * many }
+        requires { 48 * many ≤ length bytes.now }
         ensures memory { IfErr result (λ fault. fault ≡ NoMemory) }
         ensures begun { (f : Front) (first : ℕ) → AreBegun f first self.old
             → IfOk result (λ added. BegunNext f (first + many) self.new added) }
@@ -28,7 +28,7 @@ impl NumberedBooks {
     }
 
     // Adds the policy of an index among the bytes.
-    #[tactic(auto, using(crate::proofs::Stored::next_all, crate::proofs::Stored::begun_all))]
+    #[tactic(auto, using(crate::proofs::InStore::up_to_one_more, crate::proofs::InStore::begun_one_more))]
     fn add_at(&mut self, bytes: &[u8], index: u32) -> Result<bool, ReopenFault>
         requires { 48 * (index + 1) ≤ length bytes.now }
         ensures memory { IfErr result (λ fault. fault ≡ NoMemory) }
@@ -38,13 +38,11 @@ impl NumberedBooks {
             → AreBegun f (first + index) self.old → AreUpTo file f (first + index) self.old
             → IfOk result (λ added. UpToNext file f (first + (index + 1)) self.new added) }
     {
-        let mut policy = [0; 48];
-        let at = 48 * index as usize;
-        policy.copy_from_slice(&bytes[at..at + 48]);
-        self.add(&policy)
+        self.add(&bytes_at(bytes, index))
     }
 
     // Adds the policy that these bytes spell, where they spell one of a new number.
+    #[tactic(auto, using(crate::proofs::InStore::added_last))]
     fn add(&mut self, bytes: &[u8; 48]) -> Result<bool, ReopenFault>
         ensures memory { IfErr result (λ fault. fault ≡ NoMemory) }
         ensures added { IfOk result (λ added. WasAdded bytes.now self.old self.new added) }
@@ -60,4 +58,15 @@ impl NumberedBooks {
             Err(_) => Err(ReopenFault::NoMemory),
         }
     }
+}
+
+// The bytes of the policy of an index.
+fn bytes_at(bytes: &[u8], index: u32) -> [u8; 48]
+    requires { 48 * (index + 1) ≤ length bytes.now }
+    ensures { result ≡ take 48 (drop (48 * index) bytes.now) }
+{
+    let mut policy = [0; 48];
+    let at = 48 * index as usize;
+    policy.copy_from_slice(&bytes[at..at + 48]);
+    policy
 }

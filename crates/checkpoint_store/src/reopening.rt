@@ -46,6 +46,7 @@ pub fn reopen<E: Disk, D: Disk, L: Ledger>(
 }
 
 // The books of the store's checkpoint, or of no command.
+#[tactic(auto, using(crate::proofs::StartSteps::start_found, crate::proofs::StartSteps::start_none, crate::proofs::StartSteps::front_none))]
 fn begin<E: Disk>(
     alloc: Global,
     store: &mut Store<E>,
@@ -70,14 +71,9 @@ impl NumberedBooks {
         ensures memory { IfErr result (λ fault. fault ≡ NoRoom) }
         ensures same { IfOk result (λ snapshot. snapshot ≡ as_snapshot self) }
     {
-        let many = self.policies.len();
-        let Ok(mut book) = Vec::with_capacity(alloc, many) else {
+        let Ok(book) = Vec::from_slice(alloc, self.policies.values().as_slice()) else {
             return Err(ReopenFault::NoMemory);
         };
-        for index in 0..many {
-            let (_number, policy) = self.policies.get_index(index).unwrap();
-            book.push_reserved(*policy);
-        }
         Ok(Snapshot {
             position: self.position,
             upgrade: self.upgrade,

@@ -3,7 +3,7 @@ ghost use Rattle.std.specs.Prelude.{◌≡◌, ◌+◌, ◌*◌, ◌≤◌, ◌�
 ghost use Rattle.posting_journal.specs.Runs.{LooksOn};
 ghost use Rattle.checkpoint_store.specs.inside.Numbered.{AreSoundBooks};
 ghost use Rattle.checkpoint_store.specs.inside.Replaying.{HasReadCause};
-ghost use Rattle.checkpoint_store.specs.inside.Storing.{AreBegun, AreBooksBehind, AreUpTo, BegunNext, DoFit, IsFrontOn, IsStored, UpToNext};
+ghost use Rattle.checkpoint_store.specs.inside.Storing.{AreBegun, AreBooksBehind, AreBytesOf, AreUpTo, BegunNext, DoFit, IsFrontOn, IsStored, UpToNext};
 
 use crate::ReopenFault;
 use crate::front::{Front, front_at};
@@ -16,7 +16,7 @@ use policy_types::MOST_REINSTATEMENT_CENTS;
 use std::alloc::Global;
 
 /// The books of the disk's checkpoint, where it has one whose position isn't above the count.
-#[tactic(auto, using(crate::proofs::Stored::none_stored, crate::proofs::Stored::other_figures, crate::proofs::Stored::stored_all))]
+#[tactic(auto, using(crate::proofs::InStore::none_stored, crate::proofs::InStore::other_figures, crate::proofs::InStore::stored_all))]
 pub(crate) fn stored<E: Disk>(
     alloc: Global,
     disk: &mut E,
@@ -44,11 +44,14 @@ fn fits(front: Front) -> bool
     front.position <= MOST_COMMANDS
         && front.upgrade <= front.position
         && front.policies <= front.position
-        && are_within(MOST_REINSTATEMENT_CENTS * u64::from(front.position), front.ledger)
+        && are_within(
+            MOST_REINSTATEMENT_CENTS * u64::from(front.position),
+            front.ledger,
+        )
 }
 
 // The figures behind an open gate, where there is room for their policies.
-#[tactic(auto, using(crate::proofs::Stored::no_front, crate::proofs::Stored::no_room, crate::proofs::Stored::front_there, crate::proofs::Stored::short_file))]
+#[tactic(auto, using(crate::proofs::InStore::no_front, crate::proofs::InStore::no_room, crate::proofs::InStore::front_there, crate::proofs::InStore::short_file))]
 fn front_on<E: Disk>(disk: &mut E) -> Result<Option<Front>, ReopenFault>
     ensures cause { HasReadCause (E.faults disk.old) (E.faults disk.new) result }
     ensures honesty { E.honest disk.new → E.honest disk.old }
@@ -71,7 +74,7 @@ fn front_on<E: Disk>(disk: &mut E) -> Result<Option<Front>, ReopenFault>
 }
 
 // The policies behind the figures, a piece at a time.
-#[tactic(auto, using(crate::proofs::Stored::all_behind, crate::proofs::Stored::begun_sound))]
+#[tactic(auto, using(crate::proofs::InStore::all_behind, crate::proofs::InStore::begun_sound))]
 fn books_behind<E: Disk>(
     alloc: Global,
     disk: &mut E,
@@ -103,7 +106,6 @@ fn books_behind<E: Disk>(
 }
 
 // Reads so many policies, from that of an index on, and adds them, where each is one of a new number.
-#[tactic(auto, using(crate::proofs::Stored::piece_read))]
 fn add_piece<E: Disk>(
     disk: &mut E,
     front: Front,
@@ -123,9 +125,26 @@ fn add_piece<E: Disk>(
         → IfOk result (λ added. UpToNext (E.reads disk.old) front (first + many) books.new added) }
 {
     let mut piece = [0; 98_304];
-    let bytes = &mut piece[..48 * many as usize];
-    read(disk, 64 + 48 * u64::from(first), bytes)?;
-    books.add_all(bytes, many)
+    read_piece(disk, first, many, &mut piece)?;
+    books.add_all(&piece, many)
+}
+
+// Reads the bytes of so many policies, from that of an index on.
+fn read_piece<E: Disk>(
+    disk: &mut E,
+    first: u32,
+    many: u32,
+    piece: &mut [u8; 98_304],
+) -> Result<(), ReopenFault>
+    requires few { many ≤ 2048 }
+    requires long { E.honest disk.old → 64 + 48 * (first + many) ≤ length (E.reads disk.old) }
+    ensures cause { HasReadCause (E.faults disk.old) (E.faults disk.new) result }
+    ensures honesty { E.honest disk.new → E.honest disk.old }
+    ensures unwritten { E.honest disk.new → LooksOn E.Disk disk.old disk.new }
+    ensures bytes { E.honest disk.new → OnOk result (AreBytesOf (E.reads disk.old) first many piece.new) }
+{
+    let at = 64 + 48 * u64::from(first);
+    read(disk, at, &mut piece[..48 * many as usize])
 }
 
 fn size_of<E: Disk>(disk: &mut E) -> Result<u64, ReopenFault>

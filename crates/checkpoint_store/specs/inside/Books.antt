@@ -1,5 +1,5 @@
 -- The books by number, while records are decided anew
-use Rattle.std.specs.Prelude.{◌≡◌, ℕ, List, [], ◌∷◌, map}
+use Rattle.std.specs.Prelude.{◌≡◌, ℕ, List, map}
 use Rattle.std.specs.List.{AllByRecursion}
 use Rattle.policy_types.specs.declared.policy.Policy.{Policy}
 

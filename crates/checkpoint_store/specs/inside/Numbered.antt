@@ -1,5 +1,5 @@
 -- What the books by number are the books of, for the contracts of the steps alone
-use Rattle.std.specs.Prelude.{◌≡◌, nat_eq, ℕ, ◌+◌, List, None}
+use Rattle.std.specs.Prelude.{◌≡◌, nat_eq, ◌+◌, List, None}
 use Rattle.std.specs.List.{AllByRecursion, IsDistinct}
 use Rattle.std.specs.Map.{keys_of}
 use Rattle.indexmap.specs.IndexMap.{insert_entry}

@@ -16,9 +16,18 @@ HasReopenCause before now (DiskFault count) = (count ≡ now) × Rose before now
 HasReopenCause before now (BadRecord n) = now ≡ before
 HasReopenCause before now NoMemory = now ≡ before
 
--- a disk fails only with a cause
+-- the records of a journal fail only with a cause
+abbrev pub HasReplayCause : {T : Type 0} → ℕ → ℕ → Result T ReopenFault → Type 0
+HasReplayCause before now result = MatchResult result (λ done. now ≡ before) (λ fault. HasReopenCause before now fault)
+
+-- so does the disk of a store, which has no record
+abbrev pub HasStoreCause : ℕ → ℕ → ReopenFault → Type 0
+HasStoreCause before now (DiskFault count) = (count ≡ now) × Rose before now
+HasStoreCause before now (BadRecord n) = ⊥
+HasStoreCause before now NoMemory = now ≡ before
+
 abbrev pub HasReadCause : {T : Type 0} → ℕ → ℕ → Result T ReopenFault → Type 0
-HasReadCause before now result = MatchResult result (λ done. now ≡ before) (λ fault. HasReopenCause before now fault)
+HasReadCause before now result = MatchResult result (λ done. now ≡ before) (λ fault. HasStoreCause before now fault)
 
 -- what the bodies show of a fault, from a position on
 abbrev pub IsFaultFrom : List (List ℕ) → ℕ → ReopenFault → Type 0

@@ -83,9 +83,9 @@ abbrev pub BegunNext : Front → ℕ → NumberedBooks → Bool → Type 0
 BegunNext f index books true = AreBegun f index books
 BegunNext f index books false = Unit {0}
 
--- these bytes are those of so many policies in the file, from that of an index on
+-- these bytes begin with those of so many policies in the file, from that of an index on
 abbrev pub AreBytesOf : List ℕ → (first many : ℕ) → List ℕ → Type 0
-AreBytesOf file first many bytes = bytes ≡ take (48 * many) (drop (64 + 48 * first) file)
+AreBytesOf file first many bytes = take (48 * many) bytes ≡ take (48 * many) (drop (64 + 48 * first) file)
 
 -- the books have these figures, and the policies behind them
 pub record HasBooks (file : List ℕ) (f : Front) (books : NumberedBooks) : Type 0 where

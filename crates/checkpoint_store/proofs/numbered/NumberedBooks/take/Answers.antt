@@ -1,5 +1,5 @@
 -- What the rules make of the command is set.
-use Rattle.std.proofs.Common.{rules, ◌≡◌, ◌∙◌, sym, ap, Ok, Some, None}
+use Rattle.std.proofs.Common.{rules, ◌∙◌, sym, ap, Ok}
 use Rattle.checkpoint_store.specs.inside.Numbered.{AreBooksOf, AreSoundBooks, HasSetPolicy}
 use Rattle.checkpoint_store.proofs.Taking.{books_more, books_upgraded, left_number, on_map, refused, sound_more, sound_upgraded, taken_or}
 use Rattle.std.proofs.Common.{◌∷◌, ◌++◌, []}

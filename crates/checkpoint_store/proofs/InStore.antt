@@ -1,27 +1,29 @@
 -- What stands in a checkpoint's file, in parts.
 use Rattle.money_ledgers.specs.Balances.{balances}
-use Rattle.std.proofs.Common.{◌≡◌, nat_eq, ℕ, zero, suc, ◌+◌, ◌-◌, ◌*◌, ◌/◌, ◌<◌, ◌≤◌, ◌^◌, min, Bool, true, false, cond, List, [], ◌∷◌, ◌++◌, length, map, take, drop, get_or, slice_index, refl, sym, ap, subst, ◌∙◌, arith, append_assoc, append-nil, length-append, length-drop, Option, Some, None, Result, Ok, Err, IfOk, IfSome, ℤ, FitsSigned, w64}
-use Rattle.std.proofs.lemmas.Bool.{cases_eq, eqb-false, eqb-true, ne_eqb}
+use Rattle.std.proofs.Common.{◌≡◌, nat_eq, ℕ, zero, suc, ◌+◌, ◌-◌, ◌*◌, ◌/◌, ◌<◌, ◌≤◌, min, Bool, true, false, cond, List, [], ◌∷◌, ◌++◌, length, take, drop, get_or, refl, sym, ap, subst, ◌∙◌, arith, append-nil, length-append, length-drop, Option, Some, None, is_some, true≢false, Result, Ok, Err, IfOk, IfSome, ℤ, FitsSigned, w64}
+use Rattle.std.proofs.lemmas.Bool.{eqb-false, ne_eqb}
 use Rattle.std.proofs.lemmas.Grind.{flat_map-append}
 use Rattle.std.proofs.lemmas.Int.{ints}
-use Rattle.std.proofs.lemmas.List.{drop-drop, drop-take, drop_at, get_or-take, length-take, length-take-le, map-append, take-append-drop, take-take, take_at, take_more}
+use Rattle.std.proofs.lemmas.List.{drop-drop, drop-take, drop_at, get_or-take, length-take, map-append, take-append-drop, take-take, take_at, take_more}
 use Rattle.std.proofs.Math.Seq.{drop-append-add, drop-cons}
 use Rattle.std.specs.List.{AllByRecursion, IsDistinct, flat_map}
 use Rattle.std.specs.Map.{keys_of, lookup}
 use Rattle.policy_machine.specs.Rules.{IsSound}
 use Rattle.policy_types.specs.Accounts.{AreWithin, IsWithin}
 use Rattle.policy_types.specs.declared.policy.Policy.{Policy}
+use Rattle.indexmap.proofs.CallerLemmas.{insert_entry-new}
+use Rattle.indexmap.specs.IndexMap.{insert_entry}
 use Rattle.posting_journal.proofs.Bytes.{same_part}
 use Rattle.checkpoint_store.specs.declared.faults.ReopenFault.{ReopenFault}
 use Rattle.checkpoint_store.specs.declared.front.Front.{Front}
 use Rattle.checkpoint_store.specs.declared.numbered.NumberedBooks.{NumberedBooks}
 use Rattle.checkpoint_store.specs.declared.snapshot.Snapshot.{Snapshot}
-use Rattle.checkpoint_store.specs.Checkpoints.{CheckpointBytes, HasFigures, IsSoundSnapshot, policy_ids}
-use Rattle.checkpoint_store.specs.Spelling.{balance_bytes, front_bytes, policy_bytes, position_bytes, snapshot_bytes, StandBehindGate}
+use Rattle.checkpoint_store.specs.Checkpoints.{CheckpointBytes, IsSoundSnapshot, policy_ids}
+use Rattle.checkpoint_store.specs.Spelling.{balance_bytes, policy_bytes, position_bytes}
 use Rattle.checkpoint_store.specs.inside.Books.{AreKeyed, Entries, numbered_policies}
 use Rattle.checkpoint_store.specs.inside.Numbered.{AreSoundBooks, as_snapshot}
 use Rattle.checkpoint_store.specs.inside.Parsing.{IsFrontInRange, front_of, policy_of_bytes}
-use Rattle.checkpoint_store.specs.inside.Storing.{AreBegun, AreBooksBehind, AreUpTo, BegunNext, DoFit, HasBooks, HasFront, HasNoPolicies, HasPolicies, IsAddedTo, IsFrontOn, IsStored, UpToNext, WasAdded}
+use Rattle.checkpoint_store.specs.inside.Storing.{AreBegun, AreBooksBehind, AreBytesOf, AreUpTo, BegunNext, DoFit, HasBooks, HasFront, HasPolicies, IsAddedTo, IsFrontOn, IsStored, UpToNext, WasAdded}
 use Rattle.checkpoint_store.proofs.Behind.{gate_first, length-policies, length-policy_bytes}
 use Rattle.checkpoint_store.proofs.BookEntries.{keyed_ids}
 use Rattle.checkpoint_store.proofs.Reading.{policy_read}
@@ -269,7 +271,7 @@ pub short_file : (file : List ℕ) (size : ℕ) → size ≡ length file → siz
 short_file file size is short = λ f range has. omega (arith, has.long, is, short)
 
 -- the books with one policy more
-pub next_begun : (f : Front) (index : ℕ) (bytes : List ℕ) (old new : NumberedBooks) (added : Bool) → AreBegun f index old → WasAdded bytes old new added → BegunNext f index new added
+next_begun : (f : Front) (index : ℕ) (bytes : List ℕ) (old new : NumberedBooks) (added : Bool) → AreBegun f index old → WasAdded bytes old new added → BegunNext f (index + 1) new added
 next_begun f index bytes old new false begun was = tt
 next_begun f index bytes old new true begun was =
     let es : Entries = old.policies.entries in
@@ -284,8 +286,8 @@ next_begun f index bytes old new true begun was =
       distinct = was.distinct;
     }
 
-pub next_up_to : (file : List ℕ) (f : Front) (index : ℕ) (bytes : List ℕ) (old new : NumberedBooks) (added : Bool) → index < f.policies → AreBegun f index old
-    → AreUpTo file f index old → bytes ≡ take 48 (drop (64 + 48 * index) file) → WasAdded bytes old new added → UpToNext file f index new added
+next_up_to : (file : List ℕ) (f : Front) (index : ℕ) (bytes : List ℕ) (old new : NumberedBooks) (added : Bool) → index < f.policies → AreBegun f index old
+    → AreUpTo file f index old → bytes ≡ take 48 (drop (64 + 48 * index) file) → WasAdded bytes old new added → UpToNext file f (index + 1) new added
 next_up_to file f index bytes old new false within begun up is was = λ ps has.
     none_more file f.policies ps old.policies.entries index bytes has within begun.keyed (up.only ps has) is was
 next_up_to file f index bytes old new true within begun up is was =
@@ -297,16 +299,51 @@ next_up_to file f index bytes old new true within begun up is was =
       only = λ ps has. only_more file f.policies ps (numbered_policies es) was.policy index has within (up.only ps has) was.sound here ∙ sym policies;
     }
 
--- the answer of an addition
-pub next_all : (file : List ℕ) (f : Front) (index : ℕ) (bytes : List ℕ) (old new : NumberedBooks) (r : Result Bool ReopenFault) → index < f.policies → AreBegun f index old
-    → AreUpTo file f index old → bytes ≡ take 48 (drop (64 + 48 * index) file) → IfOk r (λ added. WasAdded bytes old new added) → IfOk r (λ added. UpToNext file f index new added)
-next_all file f index bytes old new (Ok added) within begun up is was = next_up_to file f index bytes old new added within begun up is was
-next_all file f index bytes old new (Err fault) within begun up is was = tt
+-- the bytes of one policy among those of some
+part_of_piece : (file all one : List ℕ) (first many index : ℕ) → index < many → AreBytesOf file first many all → one ≡ take 48 (drop (48 * index) all)
+    → one ≡ take 48 (drop (64 + 48 * (first + index)) file)
+part_of_piece file all one first many index within are is =
+    let rest : List ℕ = drop (64 + 48 * first) file in
+    let place : 64 + 48 * first + 48 * index ≡ 64 + 48 * (first + index) = omega arith in
+    is ∙ same_part (48 * many) (48 * index) 48 rest all are (omega (arith, within))
+    ∙ ap (λ (l : List ℕ). take 48 l) (drop-drop (48 * index) (64 + 48 * first) file)
+    ∙ ap (λ n. take 48 (drop n file)) place
 
-pub begun_all : (f : Front) (index : ℕ) (bytes : List ℕ) (old new : NumberedBooks) (r : Result Bool ReopenFault) → AreBegun f index old
-    → IfOk r (λ added. WasAdded bytes old new added) → IfOk r (λ added. BegunNext f index new added)
-begun_all f index bytes old new (Ok added) begun was = next_begun f index bytes old new added begun was
-begun_all f index bytes old new (Err fault) begun was = tt
+-- a policy of a new number goes last
+pub added_last : (bytes : List ℕ) (old new : NumberedBooks) (policy : Policy) → IsSound policy → bytes ≡ policy_bytes policy
+    → is_some (lookup (nat_eq policy.id) old.policies.entries) ≡ false → new.policies.entries ≡ insert_entry nat_eq old.policies.entries policy.id policy
+    → IsDistinct nat_eq (keys_of new.policies.entries) → new.position ≡ old.position → new.upgrade ≡ old.upgrade → new.ledger ≡ old.ledger → IsAddedTo bytes old new
+added_last bytes old new policy sound is none entries distinct position upgrade ledger = record {
+  policy = policy;
+  sound = sound;
+  spelled = is;
+  entries = entries ∙ insert_entry-new nat_eq old.policies policy.id policy (none_there (lookup (nat_eq policy.id) old.policies.entries) none);
+  distinct = distinct;
+  position = position;
+  upgrade = upgrade;
+  ledger = ledger;
+}
+  where
+    none_there : (o : Option Policy) → is_some o ≡ false → o ≡ None
+    none_there None is = refl
+    none_there (Some p) is = absurd (true≢false is)
+
+-- the answer of an addition
+pub up_to_one_more : (file all one : List ℕ) (f : Front) (first many index : ℕ) (old new : NumberedBooks) (r : Result Bool ReopenFault) → index < many
+    → first + many ≤ f.policies → AreBytesOf file first many all → one ≡ take 48 (drop (48 * index) all) → AreBegun f (first + index) old
+    → AreUpTo file f (first + index) old → IfOk r (λ added. WasAdded one old new added) → IfOk r (λ added. UpToNext file f (first + (index + 1)) new added)
+up_to_one_more file all one f first many index old new (Ok added) within room are is begun up was =
+    let next : first + index + 1 ≡ first + (index + 1) = omega arith in
+    subst (λ n. UpToNext file f n new added) next
+    (next_up_to file f (first + index) one old new added (omega (arith, within, room)) begun up (part_of_piece file all one first many index within are is) was)
+up_to_one_more file all one f first many index old new (Err fault) within room are is begun up was = tt
+
+pub begun_one_more : (one : List ℕ) (f : Front) (first index : ℕ) (old new : NumberedBooks) (r : Result Bool ReopenFault) → AreBegun f (first + index) old
+    → IfOk r (λ added. WasAdded one old new added) → IfOk r (λ added. BegunNext f (first + (index + 1)) new added)
+begun_one_more one f first index old new (Ok added) begun was =
+    let next : first + index + 1 ≡ first + (index + 1) = omega arith in
+    subst (λ n. BegunNext f n new added) next (next_begun f (first + index) one old new added begun was)
+begun_one_more one f first index old new (Err fault) begun was = tt
 
 -- all policies are in the books
 pub all_behind : (file : List ℕ) (f : Front) (books : NumberedBooks) → AreBegun f f.policies books → AreUpTo file f f.policies books → HasBooks file f books
