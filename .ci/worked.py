@@ -28,7 +28,7 @@ EXCEPTIONS = {
         trial_load.specs.Generating.EndsGenerate trial_load.specs.Loading.EndsBegun trial_load.specs.Loading.EndsLoad
         trial_load.specs.Loading.EndsLoadBy trial_load.specs.Loading.EndsLoading trial_load.specs.Loading.IsLoadOf
         book_state.specs.Stating.EndsState book_value.specs.Valuing.EndsByBasis book_value.specs.Valuing.EndsValue
-        book_value.specs.Valuing.EndsValuing program_endings.specs.Texts.EndsReadOnly""",
+        book_value.specs.Valuing.EndsValuing""",
     OF_A_DISK: """
         outside_io.specs.Disks.Elapses outside_io.specs.Disks.Looks outside_io.specs.Disks.Only
         outside_io.specs.Shelves.Files posting_journal.specs.Opening.IsSynced posting_journal.specs.Runs.IsSafe
