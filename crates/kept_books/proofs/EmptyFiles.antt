@@ -24,7 +24,7 @@ use Rattle.program_endings.specs.Writing.{Stream, WroteAll}
 use Rattle.book_state.specs.Books.{books_text}
 use Rattle.kept_books.specs.Saved.{IsSaved, checkpoint_text}
 use Rattle.kept_books.specs.Stated.{EndsStateKept, snapshot_text}
-use Rattle.kept_books.specs.Telling.{EndsTelling, IsTold}
+use Rattle.kept_books.specs.Telling.{EndsTelling, TellsSnapshot}
 use Rattle.kept_books.specs.TwoDisks.{AreTrue, IsSnapshotHeld, TellsTruth, TwoDisks}
 use Rattle.kept_books.specs.Worked.{KeepsAnEmptyFile, TellsNoLie}
 
@@ -40,7 +40,7 @@ text_same commands s of =
 
 -- so `state` writes what it writes without the second disk
 pub stated_so : {D E : Type 0} (g : Ghosts D) (e : Ghosts E) (disks : TwoDisks D E) (Wrote : List ℕ → Type 0) → AreTrue g e disks
-    → IsTold g e disks snapshot_text Wrote → IsStated g disks.old disks.new books_text Wrote
+    → TellsSnapshot g e disks snapshot_text Wrote → IsStated g disks.old disks.new books_text Wrote
 stated_so g e disks Wrote are told =
     let held = told.held are in
     record {
@@ -56,7 +56,7 @@ pub ends_the_same : {D E : Type 0} (g : Ghosts D) (e : Ghosts E) (disks : TwoDis
     → EndsState g disks.old disks.new books_text output ending
 ends_the_same g e disks output ending are held ends = by ending ends.telling
   where
-    by : (ending : Ending) → EndsTelling g e disks (IsTold g e disks snapshot_text) output ending → EndsState g disks.old disks.new books_text output ending
+    by : (ending : Ending) → EndsTelling g e disks (TellsSnapshot g e disks snapshot_text) output ending → EndsState g disks.old disks.new books_text output ending
     by Done told = stated_so g e disks (WroteAll output) are told
     by WriteFault told = (told.0, stated_so g e disks (AppendsPart output.before output.after) are told.1)
     by BadJournal refused = record {

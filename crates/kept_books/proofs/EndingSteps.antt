@@ -20,7 +20,7 @@ use Rattle.program_endings.specs.Texts.{EndsText}
 use Rattle.program_endings.specs.Writing.{Stream, WroteAll}
 use Rattle.kept_books.specs.Saved.{EndsCheckpoint, IsNoneOrEarlierOrHeld, IsSaved, checkpoint_text}
 use Rattle.kept_books.specs.Stated.{EndsStateKept, snapshot_text}
-use Rattle.kept_books.specs.Telling.{EndsTelling, IsTold}
+use Rattle.kept_books.specs.Telling.{EndsTelling, TellsSnapshot}
 use Rattle.kept_books.specs.TwoDisks.{AreBothQuiet, IsHeldWhereTrue, IsOnlyRead, TwoDisks, disks_of}
 use Rattle.kept_books.specs.declared.finished.FinishedKept.{FinishedKept}
 use Rattle.kept_books.specs.declared.reopened.Reopened.{Reopened}
@@ -42,7 +42,7 @@ module _ {D E : Type 0} (g : Ghosts D) (e : Ghosts E) (disks : TwoDisks D E) (ou
   -- the text of a snapshot was made and written
   pub ends_told : (snapshot : Snapshot) (text_of : Snapshot → List ℕ) (text : Result (Vec ℕ Global) Lack) (ending : Ending)
       → IsHeldWhereTrue g e disks snapshot → AreBothQuiet g e disks → IfOk text (λ t. t.items ≡ text_of snapshot)
-      → EndsText text output ending → EndsTelling g e disks (IsTold g e disks text_of) output ending
+      → EndsText text output ending → EndsTelling g e disks (TellsSnapshot g e disks text_of) output ending
   ends_told snapshot text_of (Ok text) Done held quiet same ends =
       record { snapshot = snapshot; wrote = subst (WroteAll output) same ends; held = held; quiet = quiet }
   ends_told snapshot text_of (Ok text) WriteFault held quiet same ends = (
@@ -139,7 +139,7 @@ module _ {D E : Type 0} (g : Ghosts D) (e : Ghosts E) (only_now : OnlyNow e) (di
     (none : HasNoSnapshot g e disks cause) where
   pub state_unopened : (ending : Ending) → SaysUnopened cause output ending → EndsStateKept g e disks output ending
   state_unopened ending said = record {
-    telling = ends_unopened g e disks output (IsTold g e disks snapshot_text) cause ending none said;
+    telling = ends_unopened g e disks output (TellsSnapshot g e disks snapshot_text) cause ending none said;
     first = none.first;
     second = none.second;
   }
