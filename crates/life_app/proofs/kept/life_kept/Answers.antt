@@ -1,0 +1,25 @@
+use Rattle.std.proofs.Common.{inl, inr}
+use Rattle.life_app.proofs.BooksSteps.{due_both, unopened_both}
+use Rattle.life_app.proofs.kept.life_kept.Goals as goal
+
+pub returns-in-Ok-Some-State-clause-due_both : goal.returns-in-Ok-Some-State-clause-due_both
+returns-in-Ok-Some-State-clause-due_both g c wanted both due =
+    due_both g.D.Disk g.E.Disk c.args.disk c.args.second c.state_kept.result c.ended.result c.ended.ensures.status c.ended.ensures.disk c.ended.ensures.second
+    c.args.words.now _ (inl (c.in-Ok-Some-State.ensures, c.state_kept.ensures)) wanted due
+
+pub returns-in-Ok-Some-State-clause-unopened : goal.returns-in-Ok-Some-State-clause-unopened
+returns-in-Ok-Some-State-clause-unopened g c =
+    unopened_both g.D.Disk g.E.Disk c.args.disk c.args.second c.state_kept.result c.ended.result c.ended.ensures.status c.ended.ensures.disk c.ended.ensures.second
+    c.args.words.now _ (inl (c.in-Ok-Some-State.ensures, c.state_kept.ensures))
+
+pub returns-in-Ok-Some-Checkpoint-clause-due_both : goal.returns-in-Ok-Some-Checkpoint-clause-due_both
+returns-in-Ok-Some-Checkpoint-clause-due_both g c wanted both due =
+    let done = c.ended-in-Ok-Some-Checkpoint in
+    due_both g.D.Disk g.E.Disk c.args.disk c.args.second c.checkpoint.result done.result done.ensures.status done.ensures.disk done.ensures.second
+    c.args.words.now _ (inr (c.in-Ok-Some-Checkpoint.ensures, c.checkpoint.ensures)) wanted due
+
+pub returns-in-Ok-Some-Checkpoint-clause-unopened : goal.returns-in-Ok-Some-Checkpoint-clause-unopened
+returns-in-Ok-Some-Checkpoint-clause-unopened g c =
+    let done = c.ended-in-Ok-Some-Checkpoint in
+    unopened_both g.D.Disk g.E.Disk c.args.disk c.args.second c.checkpoint.result done.result done.ensures.status done.ensures.disk done.ensures.second
+    c.args.words.now _ (inr (c.in-Ok-Some-Checkpoint.ensures, c.checkpoint.ensures))
