@@ -88,7 +88,11 @@ module _ {D E : Type 0} (g : Ghosts D) (e : Ghosts E) (disks : TwoDisks D E) (ou
     telling_due DiskFault Done ends due = absurd (due.0.none_failed ends.0)
     telling_due DiskFault BadJournal ends due = absurd (due.0.none_failed ends.0)
     telling_due DiskFault DiskFault ends due = inl refl
-    telling_due _ _ ends due = absurd (cc)
+    telling_due Done _ ends due = absurd due
+    telling_due BadJournal _ ends due = absurd due
+    telling_due WriteFault _ ends due = absurd due
+    telling_due DiskFault _ ends due = absurd due
+    telling_due _ _ ends due = absurd ends
 
   both_due : (words : List (String Global)) (ending wanted : Ending) → EndsByBoth g e disks words output ending → IsDueOfBoth g e disks output wanted
       → (status_of ending ≡ status_of wanted) ⊎ (status_of ending ≡ 9)
