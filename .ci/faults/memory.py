@@ -48,7 +48,7 @@ def modes(program, folder):
     before = file_of(many_policies(BEFORE).commands)
     return [Mode("run", ["run"], eight_clerks(25, BEFORE), before), Mode("value", ["value", "2021-01-01"], b"", before),
             Mode("deficiency", ["value", "2021-01-01", "--deficiency"], b"", before), Mode("state", ["state"], b"", before),
-            Mode("load", ["load", "1", "300", "8", "1"], generated, b"")]
+            Mode("checkpoint", ["checkpoint"], b"", before), Mode("load", ["load", "1", "300", "8", "1"], generated, b"")]
 
 
 class Trial:
