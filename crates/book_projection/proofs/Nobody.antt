@@ -1,5 +1,5 @@
 -- The projection of nobody, and what is told of an empty file
-use Rattle.std.proofs.Common.{◌≡◌, ℕ, zero, suc, ◌<◌, List, [], ◌∷◌, length, ℤ, pos, refl, ap, sym, ◌∙◌, subst, lit<, lit≤, arith}
+use Rattle.std.proofs.Common.{◌≡◌, ℕ, zero, suc, ◌<◌, List, [], ◌∷◌, length, pos, refl, inl, inr, ◌∙◌, subst, lit<, lit≤, arith}
 use Rattle.std.specs.Prelude.{slice_index_or}
 use Rattle.std.specs.List.{AllZip}
 use Rattle.std.specs.Fmt.{digits}
