@@ -1,5 +1,5 @@
 -- A path, one year after the other.
-use Rattle.std.proofs.Common.{◌≡◌, ℕ, zero, suc, ◌+◌, ◌-◌, ◌*◌, ◌<◌, ◌≤◌, refl, ap, sym, ◌∙◌, arith, List, length, slice_set, slice_index_or, subst, inl, inr, add-one, All, le_refl}
+use Rattle.std.proofs.Common.{◌≡◌, ℕ, zero, suc, ◌+◌, ◌-◌, ◌*◌, ◌/◌, ◌%◌, ◌<◌, ◌≤◌, refl, ap, sym, ◌∙◌, arith, List, length, slice_set, slice_index_or, subst, inl, inr, add-one, All, le_refl}
 use Rattle.std.specs.Prelude.{replicate}
 use Rattle.std.proofs.lemmas.List.{get_or-set_same, get_or-set_other, length-replicate, length-set}
 use Rattle.std.proofs.lemmas.Bool.{cases_eq}
@@ -13,6 +13,12 @@ use Rattle.cash_projection.specs.Survival.{alive_by}
 use Rattle.cash_projection.specs.inside.Paths.{alive_pair, dying_pair, KnowsYears, AreRatesOf, IsSurvivalPath, IsPathAt, IsRightPath}
 use Rattle.cash_projection.specs.declared.path.Path.{Path}
 use Rattle.cash_projection.specs.declared.path.PathKey.{PathKey}
+
+-- a part of a number, of what a division gives and of what it leaves
+pub part_apart : (whole part : ℕ) → whole * part ≡ whole / ONE * part * ONE + whole % ONE * part
+part_apart whole part =
+    let cut : whole ≡ whole / ONE * ONE + whole % ONE = omega arith in
+    ap (λ n. n * part) cut ∙ grind arith
 
 same_at : (count k : ℕ) (pair : Pair) → k < count → pair_at (replicate count pair) k ≡ pair
 same_at zero k pair below = absurd (omega (arith, below))

@@ -1,5 +1,5 @@
 -- A projection of policies that were listed.
-use Rattle.std.proofs.Common.{◌≡◌, ℕ, ◌<◌, ◌≤◌, arith, List, [], length, ℤ, subst, sym, ap, ◌∙◌, refl, take, map, Result, Ok, Err, lit<}
+use Rattle.std.proofs.Common.{◌≡◌, ℕ, ◌<◌, arith, List, [], length, ℤ, subst, sym, ap, ◌∙◌, take, map, Result, Ok, Err}
 use Rattle.std.specs.List.{AllByRecursion}
 use Rattle.policy_types.specs.declared.policy.Policy.{Policy}
 use Rattle.policy_types.specs.declared.command.Command.{Command}
@@ -15,7 +15,7 @@ use Rattle.parallel_value.proofs.PieceSteps.{all_more}
 use Rattle.turn_lock.specs.Passes.{Holding}
 use Rattle.shared_office.specs.Offices.{OfficeOpening}
 use Rattle.snapshot_value.specs.Listing.{HasListed, IsBookAt}
-use Rattle.snapshot_value.specs.Reading.{AnswersPinned, HasMadeOfBook}
+use Rattle.snapshot_value.specs.Reading.{AnswersPinned}
 use Rattle.snapshot_value.specs.Valuing.{dry_pins}
 use Rattle.snapshot_value.specs.declared.valuation.Policies.{Policies}
 use Rattle.snapshot_value.specs.declared.valuation.ValueFault.{ValueFault}

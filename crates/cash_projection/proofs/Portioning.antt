@@ -127,7 +127,7 @@ can_join years tallies i none all most of so_far below =
 -- and with it
 pub one_more_joined : (years : ℕ) (tallies : List Tally) (i : ℕ) (none old new : Tally) → AreJoined years tallies i old → i < length tallies
     → ((basis : List Dated) (on : ℤ) (ps qs : List Policy) → IsTallyOf basis on old.years ps old → IsTallyOf basis on old.years qs (get_or tallies i none)
-        → IsTallyOf basis on old.years (ps ++ qs) new)
+    → IsTallyOf basis on old.years (ps ++ qs) new)
     → AreJoined years tallies (i + 1) new
 one_more_joined years tallies i none old new so_far below joins = λ basis on portions each.
     let next = zip_next (λ (portion : Portion) (tally : Tally). IsTallyOf basis on years portion.policies.now tally) portions tallies i none each below in

@@ -5,11 +5,11 @@ ghost use Rattle.present_value.specs.Rounding.{UNIT, down, up};
 ghost use Rattle.present_value.specs.Values.{pair_at};
 ghost use Rattle.cash_projection.specs.inside.Paths.{IsSurvivalPath};
 
-use present_value::{Pair, UNITS_IN_ONE, quotient_down, quotient_up};
+use present_value::{Pair, UNITS_IN_ONE};
 use rate_table::RateTable;
 
 /// The rate of certain death, in units of 10^-9.
-const CERTAIN: u128 = 1_000_000_000;
+const CERTAIN: u64 = 1_000_000_000;
 
 /// No path is of this age.
 const NO_AGE: u8 = 255;
@@ -97,7 +97,26 @@ fn part_of(whole: Pair, part: u32) -> Pair
     ensures hi { result.hi ≡ up (whole.hi * part) ONE }
 {
     Pair {
-        lo: quotient_down(whole.lo as u128 * part as u128, CERTAIN),
-        hi: quotient_up(whole.hi as u128 * part as u128, CERTAIN),
+        lo: part_down(whole.lo, part as u64),
+        hi: part_up(whole.hi, part as u64),
     }
+}
+
+/// So many parts of 10^-9 of a number, rounded down. What its division by 10^9 gives and what that leaves go apart, so
+/// that 64 bits are enough: to divide 128 bits takes ten times as long.
+fn part_down(whole: u64, part: u64) -> u64
+    requires whole { whole ≤ UNIT }
+    requires part { part ≤ ONE }
+    ensures { result ≡ down (whole * part) ONE }
+{
+    whole / CERTAIN * part + whole % CERTAIN * part / CERTAIN
+}
+
+/// The same, rounded up.
+fn part_up(whole: u64, part: u64) -> u64
+    requires whole { whole ≤ UNIT }
+    requires part { part ≤ ONE }
+    ensures { result ≡ up (whole * part) ONE }
+{
+    whole / CERTAIN * part + (whole % CERTAIN * part + (CERTAIN - 1)) / CERTAIN
 }

@@ -1,5 +1,5 @@
 // The tally of a list of policies, by several workers at the same time.
-ghost use Rattle.std.specs.Prelude.{◌≡◌, ◌≤◌, IfOk, length, ℤ, List};
+ghost use Rattle.std.specs.Prelude.{◌≡◌, ◌≤◌, ◌+◌, ◌*◌, IfOk, length, ℤ, List};
 ghost use Rattle.std.specs.List.{AllByRecursion};
 ghost use Rattle.basis_book.specs.Dated.{Dated};
 ghost use Rattle.cash_projection.specs.Policies.{IsOfIssue};
@@ -7,24 +7,37 @@ ghost use Rattle.cash_projection.specs.inside.Portions.{AreTallies, AreTalliesOf
 ghost use Rattle.cash_projection.specs.inside.Tallies.{IsTallyOf};
 ghost use Rattle.cash_projection.specs.declared.portions.Portion.{Portion as APortion};
 
+use crate::path::Path;
 use crate::paths::Paths;
 use crate::portions::{Portion, portions_of};
 use crate::projector::Projector;
 use crate::tally::Tally;
 use basis_book::Basis;
-use parallel_value::map_in;
+use parallel_value::map_into;
 use policy_types::{NoMemory, Policy};
 use std::alloc::Global;
+use std::mem::size_of;
 use std::thread::Threads;
 
 /// The policies that are worth a worker's thread.
 const POLICIES_TO_A_WORKER: usize = 8_192;
 
-/// The paths that each worker keeps, of some 4 kB each: those of two tables.
-const PATHS_OF_A_WORKER: u16 = 262;
+/// What all workers keep together, counted in paths.
+const PATHS_TOGETHER: usize = 240;
 
-/// The tally of policies on a day, in days since 1970-01-01, by as many workers as are asked for, or fewer where each would
-/// have too few policies. It is the same for any number of them.
+/// A worker's tally takes no more than so many paths.
+const PATHS_FOR_A_TALLY: usize = 3;
+
+/// With more workers there would be no path left for each.
+const MOST_WORKERS: u8 = 60;
+
+// So it stays below 1 MiB, with 32 KiB for all else.
+const _: () = prove!(PATHS_TOGETHER * size_of::<Path>() <= 1_015_808);
+
+const _: () = prove!(size_of::<Tally>() <= PATHS_FOR_A_TALLY * size_of::<Path>());
+
+/// The tally of policies on a day, in days since 1970-01-01, by as many workers as are asked for, or fewer where each
+/// would have too few policies or no room to keep a path. It is the same for any number of them.
 pub fn tally_in<R: Threads + Sync>(
     rt: &R,
     alloc: Global,
@@ -40,10 +53,21 @@ pub fn tally_in<R: Threads + Sync>(
     requires workers { (1 ≤ workers) × (workers ≤ 64) }
     ensures { IfOk result (λ tally. IsTallyOf basis.now on years policies.now tally) }
 {
-    let many = (policies.len() / POLICIES_TO_A_WORKER).clamp(1, usize::from(workers));
+    let most = usize::from(workers.min(MOST_WORKERS));
+    let many = (policies.len() / POLICIES_TO_A_WORKER).clamp(1, most);
     let mut projectors = projectors_for(alloc, basis, on, years, many)?;
     let portions = portions_of(alloc, policies, many)?;
-    tally_portions(rt, alloc, projectors.as_mut_slice(), portions.as_slice(), years)
+    let mut tallies = Vec::from_elem(alloc, Tally::new(years), portions.len()).map_err(
+        |_| NoMemory,
+    )?;
+    let workers = projectors.as_mut_slice();
+    Ok(tally_portions(
+        rt,
+        workers,
+        portions.as_slice(),
+        tallies.as_mut_slice(),
+        years,
+    ))
 }
 
 // The workers, each with paths of its own.
@@ -54,13 +78,14 @@ fn projectors_for<'a>(
     years: u8,
     many: usize,
 ) -> Result<Vec<Projector<'a>>, NoMemory>
-    requires { (1 ≤ many) × (many ≤ 64) }
+    requires { (1 ≤ many) × (many ≤ 60) }
     ensures many { IfOk result (λ projectors. length projectors.items ≡ many) }
     ensures each { IfOk result (λ projectors. AllByRecursion (IsProjectorFor basis.now on years) projectors.items) }
 {
+    let paths_kept = paths_of_a_worker(many);
     let mut projectors = Vec::with_capacity(alloc, many).map_err(|_| NoMemory)?;
     for _ in 0..many {
-        let paths = Paths::new(alloc, PATHS_OF_A_WORKER)?;
+        let paths = Paths::new(alloc, paths_kept)?;
         projectors.push_reserved(Projector {
             basis,
             on,
@@ -71,26 +96,34 @@ fn projectors_for<'a>(
     Ok(projectors)
 }
 
-// The tally of all portions, by all workers.
+// The paths that each of so many workers keeps.
+fn paths_of_a_worker(many: usize) -> u16
+    requires { (1 ≤ many) × (many ≤ 60) }
+    ensures some { 1 ≤ result }
+    ensures together { many * (result + 3) ≤ 240 }
+{
+    (PATHS_TOGETHER / many - PATHS_FOR_A_TALLY) as u16
+}
+
+// The tally of all portions, by all workers, each of which writes into places of its own.
 fn tally_portions<R: Threads + Sync>(
     rt: &R,
-    alloc: Global,
     projectors: &mut [Projector<'_>],
     portions: &[Portion<'_>],
+    places: &mut [Tally],
     years: u8,
-) -> Result<Tally, NoMemory>
+) -> Tally
     requires workers { (1 ≤ length projectors.old) × (length projectors.old ≤ 64) }
+    requires places { length places.old ≡ length portions.now }
     requires years { years ≤ 131 }
     requires each { (basis : List Dated) × ((on : ℤ) × AllByRecursion (IsProjectorFor basis on years) projectors.old) }
     requires sound { AllByRecursion IsOfIssue (policies_of_portions portions.now) }
     requires few { length (policies_of_portions portions.now) ≤ 4000000 }
     ensures { (basis : List Dated) (on : ℤ) → AllByRecursion (IsProjectorFor basis on years) projectors.old
-        → IfOk result (λ tally. IsTallyOf basis on years (policies_of_portions portions.now) tally) }
+        → IsTallyOf basis on years (policies_of_portions portions.now) result }
 {
-    match map_in(rt, alloc, projectors, portions) {
-        Ok(tallies) => Ok(joined(years, tallies.as_slice())),
-        Err(_) => Err(NoMemory),
-    }
+    map_into(rt, projectors, portions, places);
+    joined(years, places)
 }
 
 // All tallies together, in their order.

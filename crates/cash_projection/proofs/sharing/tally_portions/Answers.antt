@@ -4,28 +4,25 @@ use Rattle.cash_projection.proofs.Crossing.{projector_crosses}
 use Rattle.cash_projection.proofs.Portioning.{all_take, all_tallied}
 use Rattle.cash_projection.proofs.sharing.tally_portions.Goals as goal
 
-pub map_in-requires-clause-taken : goal.map_in-requires-clause-taken
-map_in-requires-clause-taken g c κs within =
+pub map_into-requires-clause-taken : goal.map_into-requires-clause-taken
+map_into-requires-clause-taken g c κs within =
     all_take c.requires.each.0 c.requires.each.1.0 c.args.years c.requires.years c.args.projectors.now c.args.portions.now c.requires.each.1.1
     c.requires.sound c.requires.few
 
-pub map_in-requires-send-P : goal.map_in-requires-send-P
-map_in-requires-send-P g c κs within = search (projector_crosses, sendable, crosses) depth 20
+pub map_into-requires-send-P : goal.map_into-requires-send-P
+map_into-requires-send-P g c κs within = search (projector_crosses, sendable, crosses) depth 20
 
 pub joined-requires-clause-few : goal.joined-requires-clause-few
-joined-requires-clause-few g c =
-    rw c.as_slice.ensures.value
-    (record {
-      basis = c.requires.each.0;
-      on = c.requires.each.1.0;
-      portions = c.args.portions.now;
-      each = all_tallied c.requires.each.0 c.requires.each.1.0 c.args.years c.args.projectors.now c.args.portions.now c.in-Ok.tallies.items
-          c.requires.each.1.1 c.in-Ok.ensures.values;
-      few = c.requires.few;
-    })
+joined-requires-clause-few g c = record {
+  basis = c.requires.each.0;
+  on = c.requires.each.1.0;
+  portions = c.args.portions.now;
+  each = all_tallied c.requires.each.0 c.requires.each.1.0 c.args.years c.args.projectors.now c.args.portions.now c.map_into.new.values
+      c.requires.each.1.1 c.map_into.ensures.values;
+  few = c.requires.few;
+}
 
-pub returns-in-Ok : goal.returns-in-Ok
-returns-in-Ok g c = λ basis on each.
+pub returns : goal.returns
+returns g c = λ basis on each.
     c.joined.ensures basis on c.args.portions.now
-    (rw c.as_slice.ensures.value
-    (all_tallied basis on c.args.years c.args.projectors.now c.args.portions.now c.in-Ok.tallies.items each c.in-Ok.ensures.values))
+    (all_tallied basis on c.args.years c.args.projectors.now c.args.portions.now c.map_into.new.values each c.map_into.ensures.values)
