@@ -2,3 +2,4 @@ pub mod ValueSteps
 pub mod LoneSteps
 pub mod ValueStatus
 pub mod EmptyFile
+pub mod WorkedValuation
