@@ -20,7 +20,7 @@ use Rattle.program_endings.specs.Texts.{EndsText}
 use Rattle.program_endings.specs.Writing.{Stream, WroteAll}
 use Rattle.kept_books.specs.Saved.{EndsCheckpoint, IsNoneOrEarlierOrHeld, IsSaved, checkpoint_text}
 use Rattle.kept_books.specs.Stated.{EndsStateKept, snapshot_text}
-use Rattle.kept_books.specs.Telling.{EndsTelling, IsTold}
+use Rattle.kept_books.specs.Telling.{EndsTelling, TellsSnapshot}
 use Rattle.kept_books.specs.TwoDisks.{AreBothQuiet, IsHeldWhereTrue, IsOnlyRead, TwoDisks, disks_of}
 use Rattle.kept_books.specs.declared.finished.FinishedKept.{FinishedKept}
 use Rattle.kept_books.specs.declared.reopened.Reopened.{Reopened}
@@ -42,7 +42,7 @@ module _ {D E : Type 0} (g : Ghosts D) (e : Ghosts E) (disks : TwoDisks D E) (ou
   -- the text of a snapshot was made and written
   pub ends_told : (snapshot : Snapshot) (text_of : Snapshot → List ℕ) (text : Result (Vec ℕ Global) Lack) (ending : Ending)
       → IsHeldWhereTrue g e disks snapshot → AreBothQuiet g e disks → IfOk text (λ t. t.items ≡ text_of snapshot)
-      → EndsText text output ending → EndsTelling g e disks (IsTold g e disks text_of) output ending
+      → EndsText text output ending → EndsTelling g e disks (TellsSnapshot g e disks text_of) output ending
   ends_told snapshot text_of (Ok text) Done held quiet same ends =
       record { snapshot = snapshot; wrote = subst (WroteAll output) same ends; held = held; quiet = quiet }
   ends_told snapshot text_of (Ok text) WriteFault held quiet same ends = (
@@ -69,8 +69,8 @@ module _ {D E : Type 0} (g : Ghosts D) (e : Ghosts E) (disk : D) (second : E) (o
       subst (λ (disks : TwoDisks D E). EndsStateKept g e disks output finished.ending) (same_disks disk second opened finished first kept)
       (subst (EndsStateKept g e (disks_under disk second opened) output) (sym same_ending) (record {
         telling = ends_told g e (disks_under disk second opened) output opened.snapshot snapshot_text text ending reopened.held reopened.quiet same ends;
-        first = reopened.first;
-        second = reopened.second;
+        first = reopened.alone;
+        second = reopened.only_read;
       }))
 
   module _ (only_now : OnlyNow e) (after : Store E e) where
@@ -87,10 +87,10 @@ module _ {D E : Type 0} (g : Ghosts D) (e : Ghosts E) (disk : D) (second : E) (o
           → EndsCheckpoint g e saved_disks output ending
       checkpoint_ends ending telling = record {
         telling = telling;
-        first = reopened.first;
-        honesty = λ honest. reopened.second.honesty (tried.honesty honest);
-        since = since_tried g e only_now saved_disks opened.snapshot still_held opened.store after reopened.second reopened.looked tried refl;
-        now = now_tried g e only_now saved_disks opened.snapshot still_held opened.store after reopened.second reopened.looked tried refl;
+        first = reopened.alone;
+        honesty = λ honest. reopened.only_read.honesty (tried.honesty honest);
+        since = since_tried g e only_now saved_disks opened.snapshot still_held opened.store after reopened.only_read reopened.looked tried refl;
+        now = now_tried g e only_now saved_disks opened.snapshot still_held opened.store after reopened.only_read reopened.looked tried refl;
       }
 
     saved_so : (saved : HasSaved opened.store after opened.snapshot) (Wrote : List ℕ → Type 0) → Wrote (checkpoint_text opened.snapshot)
@@ -118,10 +118,10 @@ module _ {D E : Type 0} (g : Ghosts D) (e : Ghosts E) (disk : D) (second : E) (o
             subst (λ s. EndsCheckpoint g e (record { old = disk; new = disk_of opened.journal; second = second; kept = store_disk s }) output NoMemory) (sym same)
             (record {
               telling = (ends.1, reopened.quiet);
-              first = reopened.first;
-              honesty = reopened.second.honesty;
-              since = since_read g e only_now (disks_under disk second opened) reopened.second;
-              now = now_read g e only_now (disks_under disk second opened) reopened.second;
+              first = reopened.alone;
+              honesty = reopened.only_read.honesty;
+              since = since_read g e only_now (disks_under disk second opened) reopened.only_read;
+              now = now_read g e only_now (disks_under disk second opened) reopened.only_read;
             })
     saving_ends _ ends = absurd ends
 
@@ -139,7 +139,7 @@ module _ {D E : Type 0} (g : Ghosts D) (e : Ghosts E) (only_now : OnlyNow e) (di
     (none : HasNoSnapshot g e disks cause) where
   pub state_unopened : (ending : Ending) → SaysUnopened cause output ending → EndsStateKept g e disks output ending
   state_unopened ending said = record {
-    telling = ends_unopened g e disks output (IsTold g e disks snapshot_text) cause ending none said;
+    telling = ends_unopened g e disks output (TellsSnapshot g e disks snapshot_text) cause ending none said;
     first = none.first;
     second = none.second;
   }
@@ -152,3 +152,11 @@ module _ {D E : Type 0} (g : Ghosts D) (e : Ghosts E) (only_now : OnlyNow e) (di
     since = since_read g e only_now disks none.second;
     now = now_read g e only_now disks none.second;
   }
+
+-- a snapshot that was saved, and its line, which was written behind it
+pub saving_written : {E : Type 0} {e : Ghosts E} (old new : Store E e) (snapshot : Snapshot) (output : Stream) (line : Vec ℕ Global) (ending : Ending)
+    → HasSaved old new snapshot → line.items ≡ checkpoint_text snapshot → EndsText (Ok line) output ending → EndsSaving old new snapshot output ending
+saving_written old new snapshot output line Done saved same ends = (saved, subst (WroteAll output) same ends)
+saving_written old new snapshot output line WriteFault saved same ends =
+    (saved, ends.0, subst (AppendsPart output.before output.after) same ends.1)
+saving_written old new snapshot output line _ saved same ends = absurd ends

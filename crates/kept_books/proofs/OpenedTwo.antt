@@ -17,7 +17,7 @@ use Rattle.checkpoint_store.specs.Reopening.{HasCauseOfTwo, IsFirstBadBody, IsRe
 use Rattle.checkpoint_store.specs.Starts.{HasLookedAt}
 use Rattle.checkpoint_store.specs.Stores.{store_disk}
 use Rattle.checkpoint_store.specs.declared.faults.ReopenFault.{ReopenFault}
-use Rattle.checkpoint_store.specs.declared.faults.ReopenFault.TheVariants as fault
+use Rattle.checkpoint_store.specs.declared.faults.ReopenFault.TheVariants as why
 use Rattle.checkpoint_store.specs.declared.snapshot.Snapshot.{Snapshot}
 use Rattle.checkpoint_store.specs.declared.store.Store.{Store}
 use Rattle.std.specs.Prelude.{Result, Ok, Err}
@@ -168,7 +168,7 @@ module _ {D : Type 0} (g : Ghosts D) (reads_image : ReadsImage g) (counts_now : 
     }
 
     snapshot_held : IsSnapshotHeld g disk (disk_of now) snapshot
-    snapshot_held = record { commands = commands; opened = opens; snapshot = all.snapshot; disk = left_by }
+    snapshot_held = record { commands = commands; opened = opens; leave = all.snapshot; disk = left_by }
 
 -- the store behind it
 module _ {E : Type 0} (e : Ghosts E) (second : E) (store after : Store E e) (under : HasStoreOn second store) (keeps : KeepsAsBefore store after) where
@@ -227,7 +227,7 @@ module _ {D E : Type 0} (g : Ghosts D) (e : Ghosts E) (reads_image : ReadsImage 
       λ are. snapshot_held g reads_image counts_now disk journal now on stays only_now quiet.first are.first_honest opened.snapshot
       (answered (Ok opened.snapshot) answers are) in
       by opened.journal opened.store same_journal same_store
-      (record { sound = sound; quiet = quiet; first = first; second = second_read e second store after under keeps; looked = looked e second store after under keeps; held = held })
+      (record { sound = sound; quiet = quiet; alone = first; only_read = second_read e second store after under keeps; looked = looked e second store after under keeps; held = held })
     where
       by : (j : Journal D g) (s : Store E e) → j ≡ now → s ≡ after
           → HasReopened disk second (record { snapshot = opened.snapshot; journal = now; store = after })
@@ -249,13 +249,23 @@ module _ {D E : Type 0} (g : Ghosts D) (e : Ghosts E) (reads_image : ReadsImage 
       told : (fault : ReopenFault)
           → HasCauseOfTwo (e.faults (store_disk store)) (e.faults (store_disk after)) (g.faults (disk_of journal)) (g.faults (disk_of now)) (Err fault)
           → TellsFaultOfOne g e disks (as_start_cause fault)
-      told (fault.DiskFault count) (inl one) = inr (subst (λ n. Rose n (e.faults (store_disk after))) under.quiet one.1)
-      told (fault.DiskFault count) (inr one) = inl (subst (λ n. Rose n (g.faults (disk_of now))) on.quiet one.1)
-      told (fault.BadRecord n) cause = both_quiet cause.0 cause.1
-      told fault.NoMemory cause = both_quiet cause.0 cause.1
+      told (why.DiskFault count) (inl one) = inr (subst (λ n. Rose n (e.faults (store_disk after))) under.quiet one.1)
+      told (why.DiskFault count) (inr one) = inl (subst (λ n. Rose n (g.faults (disk_of now))) on.quiet one.1)
+      told (why.BadRecord n) cause = both_quiet cause.0 cause.1
+      told why.NoMemory cause = both_quiet cause.0 cause.1
 
       shown : (fault : ReopenFault) → {bodies : List (List ℕ)} → IsReopened (e.reads (store_disk store)) bodies (Err fault)
           → OpensToBodies (g.reads disk) bodies → IsShown (g.reads disk) (as_start_cause fault)
-      shown (fault.DiskFault count) answer opened = tt
-      shown (fault.BadRecord n) {bodies} answer opened = unfollowed (g.reads disk) n bodies opened (stopped_at bodies n answer.bad)
-      shown fault.NoMemory answer opened = tt
+      shown (why.DiskFault count) answer opened = tt
+      shown (why.BadRecord n) {bodies} answer opened = unfollowed (g.reads disk) n bodies opened (stopped_at bodies n answer.bad)
+      shown why.NoMemory answer opened = tt
+
+-- the same disks and the same cause by other names
+pub renamed : {D E : Type 0} (g : Ghosts D) (e : Ghosts E) (old new first : D) (second kept other : E) (cause why : StartCause)
+    → first ≡ new → other ≡ kept → why ≡ cause
+    → HasNoSnapshot g e (record { old = old; new = new; second = second; kept = kept }) cause
+    → HasNoSnapshot g e (record { old = old; new = first; second = second; kept = other }) why
+renamed {D = D} {E = E} g e old new first second kept other cause why one two three none =
+    subst (λ (d : D). HasNoSnapshot g e (record { old = old; new = d; second = second; kept = other }) why) (sym one)
+    (subst (λ (d : E). HasNoSnapshot g e (record { old = old; new = new; second = second; kept = d }) why) (sym two)
+    (subst (HasNoSnapshot g e (record { old = old; new = new; second = second; kept = kept })) (sym three) none))

@@ -8,7 +8,7 @@ use Rattle.checkpoint_store.specs.declared.snapshot.Snapshot.{Snapshot}
 use Rattle.office_state.specs.Images.{IsLeftAlone}
 use Rattle.program_endings.specs.Writing.{Stream}
 use Rattle.program_endings.specs.declared.ending.Ending.{Ending}
-use Rattle.kept_books.specs.Telling.{EndsTelling, IsTold}
+use Rattle.kept_books.specs.Telling.{EndsTelling, TellsSnapshot}
 use Rattle.kept_books.specs.TwoDisks.{IsHeldWhereTrue, TwoDisks}
 
 -- the number of commands that were saved
@@ -17,7 +17,7 @@ checkpoint_text s = line_of (codes "checkpoint") (decimal s.position ∷ [])
 
 -- A snapshot was saved, and its line written: each crash leaves its checkpoint from then on.
 pub record IsSaved {D E : Type 0} (g : Ghosts D) (e : Ghosts E) (disks : TwoDisks D E) (Wrote : List ℕ → Type 0) : Type 0 where
-  pub told : IsTold g e disks checkpoint_text Wrote
+  pub told : TellsSnapshot g e disks checkpoint_text Wrote
   pub saved : e.honest disks.kept → (image : List ℕ) → e.may_leave disks.kept image → CheckpointBytes image told.snapshot
 
 -- it is a checkpoint of the snapshot that the journal's commands leave

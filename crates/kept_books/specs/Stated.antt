@@ -8,7 +8,7 @@ use Rattle.checkpoint_store.specs.declared.snapshot.Snapshot.{Snapshot}
 use Rattle.office_state.specs.Images.{IsLeftAlone}
 use Rattle.program_endings.specs.Writing.{Stream}
 use Rattle.program_endings.specs.declared.ending.Ending.{Ending}
-use Rattle.kept_books.specs.Telling.{EndsTelling, IsTold}
+use Rattle.kept_books.specs.Telling.{EndsTelling, TellsSnapshot}
 use Rattle.kept_books.specs.TwoDisks.{IsOnlyRead, TwoDisks}
 
 -- all policies in order of issue, the four balances, and the number of commands
@@ -18,6 +18,6 @@ snapshot_text s = flat_map policy_text s.book ++ balance_text (balances s.ledger
 -- the snapshot's books were written, and the second disk was only read
 pub record EndsStateKept {D E : Type 0} (g : Ghosts D) (e : Ghosts E) (disks : TwoDisks D E) (output : Stream) (ending : Ending)
     : Type 0 where
-  pub telling : EndsTelling g e disks (IsTold g e disks snapshot_text) output ending
+  pub telling : EndsTelling g e disks (TellsSnapshot g e disks snapshot_text) output ending
   pub first : IsLeftAlone g disks.old disks.new
   pub second : IsOnlyRead e disks.second disks.kept

@@ -13,7 +13,7 @@ use Rattle.program_endings.specs.declared.ending.Ending.TheVariants.{Done, BadJo
 use Rattle.kept_books.specs.TwoDisks.{AreBothQuiet, AreTrue, HasOneFailed, IsHeldWhereTrue, TwoDisks}
 
 -- The text of a snapshot was written. Where the disks are true, the snapshot is that of the journal's commands.
-pub record IsTold {D E : Type 0} (g : Ghosts D) (e : Ghosts E) (disks : TwoDisks D E) (text_of : Snapshot → List ℕ)
+pub record TellsSnapshot {D E : Type 0} (g : Ghosts D) (e : Ghosts E) (disks : TwoDisks D E) (text_of : Snapshot → List ℕ)
     (Wrote : List ℕ → Type 0) : Type 0 where
   pub snapshot : Snapshot
   pub wrote : Wrote (text_of snapshot)

@@ -39,7 +39,7 @@ pub record AreTrue {D E : Type 0} (g : Ghosts D) (e : Ghosts E) (disks : TwoDisk
 pub record IsSnapshotHeld {D : Type 0} (g : Ghosts D) (old new : D) (snapshot : Snapshot) : Type 0 where
   pub commands : List Command
   pub opened : Opens (g.reads old) commands
-  pub snapshot : IsSnapshotOf commands snapshot
+  pub leave : IsSnapshotOf commands snapshot
   pub disk : IsLeftBy g old new (opened_on commands (g.faults old)) []
 
 -- it is so wherever the two disks are true

@@ -3,11 +3,13 @@
 
 mod checkpointing;
 mod finished;
+mod laws;
 mod reopened;
 mod stating;
 mod worked;
 
 pub use checkpointing::checkpoint;
 pub use finished::FinishedKept;
+pub use laws::states_the_same;
 pub use stating::state_kept;
 pub use worked::an_empty_file_is_kept;

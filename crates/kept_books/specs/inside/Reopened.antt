@@ -48,8 +48,8 @@ disks_under disk second opened =
 pub record HasReopened {D E : Type 0} {g : Ghosts D} {e : Ghosts E} (disk : D) (second : E) (opened : Reopened D E g e) : Type 0 where
   pub sound : IsSoundSnapshot opened.snapshot
   pub quiet : AreBothQuiet g e (disks_under disk second opened)
-  pub first : IsLeftAlone g disk (disk_of opened.journal)
-  pub second : IsOnlyRead e second (store_disk opened.store)
+  pub alone : IsLeftAlone g disk (disk_of opened.journal)
+  pub only_read : IsOnlyRead e second (store_disk opened.store)
   pub looked : e.honest (store_disk opened.store) → HasLookedAt second opened.store
   pub held : IsHeldWhereTrue g e (disks_under disk second opened) opened.snapshot
 

@@ -3,8 +3,8 @@ use Rattle.kept_books.proofs.stating.state_kept.Goals as goal
 
 pub returns-in-Ok : goal.returns-in-Ok
 returns-in-Ok g c =
-    ends_state g.D.Disk g.E.Disk c.args.disk c.args.second c.in-Ok.opened c.in-Ok.ensures.reopened _ c.close.result c.text_of.result c.write_text.result
-    c.close.ensures.disk c.close.ensures.second c.close.ensures.ending c.text_of.ensures c.write_text.ensures
+    ends_state g.D.Disk g.E.Disk c.args.disk c.args.second c.in-Ok.opened c.in-Ok.ensures.reopened _ c.close.result c.text_of-text.result c.write_text-ending.result
+    c.close.ensures.disk c.close.ensures.second c.close.ensures.ending c.text_of-text.ensures c.write_text-ending.ensures
 
 pub returns-in-Err : goal.returns-in-Err
 returns-in-Err g c =

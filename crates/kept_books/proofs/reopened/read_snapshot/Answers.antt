@@ -1,0 +1,19 @@
+use Rattle.std.proofs.Common.{refl}
+use Rattle.kept_books.proofs.OpenedTwo.{has_no_snapshot, has_reopened, renamed}
+use Rattle.kept_books.proofs.reopened.read_snapshot.Goals as goal
+
+pub returns-in-Ok-clause-reopened : goal.returns-in-Ok-clause-reopened
+returns-in-Ok-clause-reopened g c disk second on under =
+    let done = c.in-Ok.ensures in
+    has_reopened g.D.Disk g.E.Disk g.met.D.Disk.reads_as_image g.met.D.Disk.counts_now disk c.args.journal c.reopen.new.journal on done.journal
+    second c.args.store c.reopen.new.store under done.store g.met.D.Disk.only_now _ refl refl done.sound done.cause
+    (λ bodies faulted second_honest honest stands are. done.reopened bodies faulted second_honest honest stands are)
+
+pub returns-clause-none : goal.returns-clause-none
+returns-clause-none g c disk second on under =
+    let done = c.in-Err.ensures in
+    renamed g.D.Disk g.E.Disk disk _ c.release.result second _ c.release-in-Err.result _ c.start_cause.result
+    c.release.ensures c.release-in-Err.ensures c.start_cause.ensures
+    (has_no_snapshot g.D.Disk g.E.Disk g.met.D.Disk.reads_as_image g.met.D.Disk.counts_now disk c.args.journal c.reopen.new.journal on done.journal
+    second c.args.store c.reopen.new.store under done.store c.in-Err.fault done.cause
+    (λ bodies faulted second_honest honest stands are. done.reopened bodies faulted second_honest honest stands are))
