@@ -16,7 +16,7 @@ use Rattle.policy_value.specs.declared.worth.Measure.{Measure}
 use Rattle.watcher_set.specs.Noted.{Auditor}
 use Rattle.office_state.specs.Images.{IsLeftBy}
 use Rattle.life_args.specs.declared.mode.Mode.{Mode}
-use Rattle.life_args.specs.declared.mode.Mode.TheVariants.{Run, Value, Project, State, Generate, Load}
+use Rattle.life_args.specs.declared.mode.Mode.TheVariants.{Run, Value, Project, State, Checkpoint, Generate, Load}
 use Rattle.program_endings.specs.declared.ending.Ending.{Ending}
 use Rattle.program_endings.specs.declared.ending.Ending.TheVariants.{Done, BadJournal, WriteFault, DiskFault, NoMemory}
 use Rattle.program_endings.specs.Replies.{IsAnswered}
@@ -152,6 +152,7 @@ module _ {D : Type 0} (g : Ghosts D) (old new : D) (output : Stream) (rose : g.f
       project_told on years name shelf ending ends.1
   mode_told (State None) auditors input shelf InputStays ShelfStays ending ends = state_told books_text ending ends.2
   mode_told (State (Some id)) auditors input shelf InputStays ShelfStays ending ends = state_told (policy_account id) ending ends.2
+  mode_told Checkpoint auditors input shelf InputStays ShelfStays ending ends = absurd (untouched ends.2)
   mode_told (Generate seed count lanes) auditors input shelf InputStays ShelfStays ending ends = absurd (untouched ends.2)
   mode_told (Load seed count lanes workers) auditors input shelf InputStays ShelfStays ending ends =
       load_told seed count lanes workers shelf ending ends.1

@@ -9,7 +9,7 @@ use Rattle.watcher_set.specs.Noted.{Auditor}
 use Rattle.basis_book.specs.Dated.{Dated}
 use Rattle.policy_value.specs.declared.worth.Measure.{Measure}
 use Rattle.life_args.specs.declared.mode.Mode.{Mode}
-use Rattle.life_args.specs.declared.mode.Mode.TheVariants.{Run, Value, Project, State, Generate, Load}
+use Rattle.life_args.specs.declared.mode.Mode.TheVariants.{Run, Value, Project, State, Checkpoint, Generate, Load}
 use Rattle.office_state.specs.Images.{IsLeftAlone, IsLeftBy}
 use Rattle.program_endings.specs.declared.ending.Ending.{Ending}
 use Rattle.program_endings.specs.declared.ending.Ending.TheVariants.{Done, BadJournal, WriteFault, DiskFault, NoMemory}
@@ -140,6 +140,7 @@ module _ {D : Type 0} (g : Ghosts D) (old new : D) where
         read_only (IsStated g old new books_text) output ending (λ Wrote is. by_turns (opened_on is.commands (g.faults old)) [] is.disk) ends.2
     mode_left (State (Some id)) ending ends =
         read_only (IsStated g old new (policy_account id)) output ending (λ Wrote is. by_turns (opened_on is.commands (g.faults old)) [] is.disk) ends.2
+    mode_left Checkpoint ending ends = untouched ends.2
     mode_left (Generate seed count lanes) ending ends = untouched ends.2
     mode_left (Load seed count lanes workers) ending ends = load_left seed count lanes workers shelf output ending ends.1
 

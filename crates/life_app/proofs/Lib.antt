@@ -5,3 +5,4 @@ pub mod RunLaws
 pub mod LeftLaws
 pub mod ProgramSteps
 pub mod ReasonSteps
+pub mod BooksSteps

@@ -19,7 +19,7 @@ use Rattle.command_csv.specs.Reads.{Reads}
 use Rattle.life_args.proofs.Answering.{ask_once}
 use Rattle.life_args.specs.Words.{AskFor, AskForNothing}
 use Rattle.life_args.specs.declared.mode.Mode.{Mode}
-use Rattle.life_args.specs.declared.mode.Mode.TheVariants.{Run, Value, Project, State, Generate, Load}
+use Rattle.life_args.specs.declared.mode.Mode.TheVariants.{Run, Value, Project, State, Checkpoint, Generate, Load}
 use Rattle.office_state.specs.Journals.{Opens, OpensToNone}
 use Rattle.program_endings.specs.declared.ending.Ending.{Ending}
 use Rattle.program_endings.specs.declared.ending.Ending.TheVariants.{Done, Usage, BadScript, BadBasis, BadJournal, ReadFault, DiskFault, NoMemory, Ahead}
@@ -98,6 +98,7 @@ module _ {D : Type 0} (g : Ghosts D) (old new : D) (auditors : List Auditor) whe
         state_as_before g old new books_text output ending ends.2 honest none
     mode_as_before (State (Some id)) ending ends honest none =
         state_as_before g old new (policy_account id) output ending ends.2 honest none
+    mode_as_before Checkpoint ending ends honest none = ap g.reads ends.2
     mode_as_before (Generate seed count lanes) ending ends honest none = ap g.reads ends.2
     mode_as_before (Load seed count lanes workers) ending ends honest none =
         load_as_before g old new seed count lanes workers shelf output ending ends.1 honest none
@@ -336,6 +337,7 @@ module _ {D : Type 0} (g : Ghosts D) (old new : D) (auditors : List Auditor) whe
       bad_journal (State id) asked has none = unstated (id, asked) none.honest none.none none.held
       bad_journal (Load seed count lanes workers) asked has none =
           unloaded has.files has.basis (seed, (count, (lanes, (workers, asked)))) has.agree has.is none.honest none.none has.held none.held
+      bad_journal Checkpoint asked has none = absurd has
       bad_journal (Generate seed count lanes) asked has none = absurd none
 
       done : (mode : Mode) → AskFor words mode → HasItsNeeds mode input shelf → HasItsJournal mode (filing_between g old new)
@@ -350,6 +352,7 @@ module _ {D : Type 0} (g : Ghosts D) (old new : D) (auditors : List Auditor) whe
           valued on at name has.files has.basis journal.0 (workers, (measure, asked)) has.agree has.is file.honest file.opens journal.2 has.held output_held file.held
       done (Project on years workers name) asked has journal output_held = projected on years name has journal.0 (workers, asked) journal.1 output_held
       done (State id) asked has journal output_held = (let file = journal.1 in stated journal.0 (id, asked) file.honest file.opens output_held file.held)
+      done Checkpoint asked has journal output_held = absurd has
       done (Generate seed count lanes) asked has journal output_held = generated (seed, (count, (lanes, asked))) output_held
       done (Load seed count lanes workers) asked has journal output_held =
           let file = journal.1 in

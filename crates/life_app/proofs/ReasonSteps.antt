@@ -10,7 +10,7 @@ use Rattle.policy_value.specs.declared.worth.Measure.{Measure}
 use Rattle.watcher_set.specs.Noted.{Auditor}
 use Rattle.life_args.specs.Words.{AskFor}
 use Rattle.life_args.specs.declared.mode.Mode.{Mode}
-use Rattle.life_args.specs.declared.mode.Mode.TheVariants.{Run, Value, Project, State, Generate, Load}
+use Rattle.life_args.specs.declared.mode.Mode.TheVariants.{Run, Value, Project, State, Checkpoint, Generate, Load}
 use Rattle.program_endings.specs.declared.ending.Ending.{Ending}
 use Rattle.program_endings.specs.declared.ending.Ending.TheVariants.{Done, Usage, BadScript, BadBasis, BadJournal, ReadFault, WriteFault, DiskFault, NoMemory}
 use Rattle.program_endings.specs.Refusals.{IsRefusedJournal}
@@ -144,11 +144,12 @@ module _ {D : Type 0} (g : Ghosts D) (old new : D) (words : List (String Global)
   mode_reason (Project on years workers name) auditors InputStays ShelfStays ending asked ends = project_reason on years workers name ending asked ends.1
   mode_reason (State None) auditors InputStays ShelfStays ending asked ends = read_only (IsStated g old new books_text) ending ends.2
   mode_reason (State (Some id)) auditors InputStays ShelfStays ending asked ends = read_only (IsStated g old new (policy_account id)) ending ends.2
+  mode_reason Checkpoint auditors InputStays ShelfStays ending asked ends = subst (λ (e : Ending). Reason e) (sym ends.3) (inr asked)
   mode_reason (Generate seed count lanes) auditors InputStays ShelfStays ending asked ends = generate_reason seed count lanes ending ends.3
   mode_reason (Load seed count lanes workers) auditors InputStays ShelfStays ending asked ends = load_reason seed count lanes workers ending asked ends.1
 
   says_reason : (ending : Ending) → SaysUnasked words output ending → Reason ending
-  says_reason Usage says = says.0
+  says_reason Usage says = inl says.0
   says_reason NoMemory says = tt
   says_reason _ says = absurd says
 

@@ -13,7 +13,7 @@ use Rattle.basis_shelf.specs.FirstBad.{IsFirstBadFile}
 use Rattle.basis_shelf.specs.declared.fault.BadBasis.{BadBasis as ABadBasis}
 use Rattle.life_args.specs.Words.{AskFor, AskForNothing}
 use Rattle.life_args.specs.declared.mode.Mode.{Mode}
-use Rattle.life_args.specs.declared.mode.Mode.TheVariants.{Run, Value, Project, State, Generate, Load}
+use Rattle.life_args.specs.declared.mode.Mode.TheVariants.{Run, Value, Project, State, Checkpoint, Generate, Load}
 use Rattle.office_state.specs.Journals.{Opens, OpensToNone}
 use Rattle.program_endings.specs.Writing.{Input, IsWholeInput, Shelving, Stream}
 use Rattle.program_endings.specs.declared.ending.Ending.{Ending}
@@ -68,13 +68,14 @@ pub record HasNoJournal (disk : Filing) : Type 0 where
   pub none : OpensToNone disk.before
   pub held : IsHeld disk.faults_before disk.faults_after
 
--- the mode has the script and the basis that it needs
+-- the mode has the script and the basis that it needs; `checkpoint` lacks a second disk
 abbrev pub HasItsNeeds : Mode → Input → Shelving → Type 0
 HasItsNeeds (Run name) input shelf =
     (lanes : List Lane) × HasScript input lanes × (asks_for_values lanes ≡ true → HasBasis shelf name)
 HasItsNeeds (Value on at workers name measure) input shelf = HasBasis shelf name
 HasItsNeeds (Project on years workers name) input shelf = HasBasis shelf name
 HasItsNeeds (State id) input shelf = Unit {0}
+HasItsNeeds Checkpoint input shelf = ⊥
 HasItsNeeds (Generate seed count lanes) input shelf = Unit {0}
 HasItsNeeds (Load seed count lanes workers) input shelf = HasBasis shelf (codes "basis.csv")
 
@@ -94,6 +95,7 @@ HasItsJournal (Value on at workers name measure) disk =
     (commands : List Command) × HasJournal disk commands × (position_of at (length commands) ≤ length commands)
 HasItsJournal (Project on years workers name) disk = (commands : List Command) × HasJournal disk commands
 HasItsJournal (State id) disk = (commands : List Command) × HasJournal disk commands
+HasItsJournal Checkpoint disk = ⊥
 HasItsJournal (Generate seed count lanes) disk = Unit {0}
 HasItsJournal (Load seed count lanes workers) disk = (commands : List Command) × HasJournal disk commands
 

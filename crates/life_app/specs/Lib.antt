@@ -3,6 +3,8 @@ pub mod Needs
 pub mod Reasons
 pub mod Due
 pub mod Obeys
+pub mod ObeysKept
+pub mod DueKept
 pub mod Crashes
 pub mod Headline
 pub mod Runs

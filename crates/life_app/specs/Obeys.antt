@@ -5,7 +5,7 @@ use Rattle.outside_io.specs.declared.disks.Disk.{Ghosts}
 use Rattle.watcher_set.specs.Noted.{Auditor}
 use Rattle.life_args.specs.Words.{AskFor, AskForNothing}
 use Rattle.life_args.specs.declared.mode.Mode.{Mode}
-use Rattle.life_args.specs.declared.mode.Mode.TheVariants.{Run, Value, Project, State, Generate, Load}
+use Rattle.life_args.specs.declared.mode.Mode.TheVariants.{Run, Value, Project, State, Checkpoint, Generate, Load}
 use Rattle.program_endings.specs.Status.{status_of}
 use Rattle.program_endings.specs.Writing.{Input, Shelving, Stream, WroteLine}
 use Rattle.program_endings.specs.declared.ending.Ending.{Ending}
@@ -19,7 +19,7 @@ use Rattle.trial_load.specs.Generating.{EndsGenerate}
 use Rattle.trial_load.specs.Loading.{EndsLoad}
 
 -- how each mode ends; `run` alone reads the input and has the auditors told, `state` leaves the shelf, and `generate` the
--- disk too
+-- disk too; `checkpoint` needs a second disk, so over one alone its words aren't obeyed
 abbrev pub EndsMode : {D : Type 0} → Ghosts D → D → D → Mode → List Auditor → Input → Stream → Shelving
     → (InputStays ShelfStays : Type 0) → Ending → Type 0
 EndsMode g old new (Run basis) auditors input output shelf InputStays ShelfStays ending =
@@ -32,6 +32,8 @@ EndsMode g old new (State None) auditors input output shelf InputStays ShelfStay
     InputStays × ShelfStays × EndsState g old new books_text output ending
 EndsMode g old new (State (Some id)) auditors input output shelf InputStays ShelfStays ending =
     InputStays × ShelfStays × EndsState g old new (policy_account id) output ending
+EndsMode g old new Checkpoint auditors input output shelf InputStays ShelfStays ending =
+    InputStays × ShelfStays × (new ≡ old) × (ending ≡ Usage) × WroteLine output (codes "usage")
 EndsMode g old new (Generate seed count lanes) auditors input output shelf InputStays ShelfStays ending =
     InputStays × ShelfStays × (new ≡ old) × EndsGenerate seed count lanes output ending
 EndsMode g old new (Load seed count lanes workers) auditors input output shelf InputStays ShelfStays ending =

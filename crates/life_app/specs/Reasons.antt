@@ -12,13 +12,13 @@ use Rattle.program_endings.specs.declared.ending.Ending.{Ending}
 use Rattle.program_endings.specs.declared.ending.Ending.TheVariants.{Done, Usage, BadScript, BadBasis, BadJournal, ReadFault, WriteFault, DiskFault, NoMemory, Ahead}
 use Rattle.script_run.specs.Script.{IsRefused}
 use Rattle.life_app.specs.Needs.{Filing, HasBadFile, IsPastTheEnd}
-use Rattle.life_app.specs.Words.{AskForRun}
+use Rattle.life_app.specs.Words.{AskForCheckpoint, AskForRun}
 
 -- Why the program ends so: what the words, the script, a basis file or the journal are, and then the line that names it; or
 -- which device's count of faults rose. Want of memory has none that can be shown.
 abbrev pub HasReason : List (String Global) → Input → Stream → Shelving → Filing → Ending → Type 0
 HasReason words input output shelf disk Done = Unit {0}
-HasReason words input output shelf disk Usage = AskForNothing words
+HasReason words input output shelf disk Usage = AskForNothing words ⊎ AskForCheckpoint words
 HasReason words input output shelf disk BadScript = (name : List ℕ) × AskForRun words name × IsRefused input output
 HasReason words input output shelf disk BadBasis = HasBadFile words input shelf output
 HasReason words input output shelf disk BadJournal =

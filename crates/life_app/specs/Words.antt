@@ -4,7 +4,7 @@ use Rattle.std.specs.Global.{Global}
 use Rattle.policy_types.specs.declared.entry.At.{At}
 use Rattle.policy_value.specs.declared.worth.Measure.{Measure}
 use Rattle.life_args.specs.Words.{AskFor}
-use Rattle.life_args.specs.declared.mode.Mode.TheVariants.{Run, Value, Project, State, Generate, Load}
+use Rattle.life_args.specs.declared.mode.Mode.TheVariants.{Run, Value, Project, State, Checkpoint, Generate, Load}
 
 -- the words ask to run a script, with the basis of this name for its valuations
 abbrev pub AskForRun : List (String Global) → List ℕ → Type 0
@@ -21,6 +21,10 @@ AskForValue words on at name = (workers : ℕ) × ((measure : Measure) × AskFor
 -- the words ask for what is expected to be paid from a day on, in so many years, by the basis of this name
 abbrev pub AskForProject : List (String Global) → ℤ → ℕ → List ℕ → Type 0
 AskForProject words on years name = (workers : ℕ) × AskFor words (Project on years workers name)
+
+-- the words ask to save the books
+abbrev pub AskForCheckpoint : List (String Global) → Type 0
+AskForCheckpoint words = AskFor words Checkpoint
 
 -- the words ask to write a generated script
 abbrev pub AskForGenerate : List (String Global) → Type 0

@@ -1,11 +1,13 @@
 //! The program whole: what its words ask for, over any devices.
 #![tactic(auto)]
 
+mod kept;
 mod laws;
 mod program;
 mod promise;
 pub mod worked;
 
+pub use kept::{EndedKept, life_kept};
 pub use laws::{
     crashes_of_a_run, crashes_of_an_opening, runs_after_a_crash, runs_in_a_row,
     scripts_are_read_or_refused,

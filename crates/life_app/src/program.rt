@@ -38,7 +38,7 @@ pub struct Ended<D> {
 /// watchers report of the accepted postings; `value` fetches a basis from the shelf, opens the office and writes what each
 /// policy is worth; `project` does so and writes what is expected to be paid by year; `state` writes the books; `generate`
 /// writes a generated script; `load` runs one, values all policies then, and writes a line about it. But in `run` the
-/// watchers are dropped.
+/// watchers are dropped. `checkpoint` needs a second disk: over one alone these words are refused.
 pub fn life<R: Threads + Wait + Sync, S: Source, K: Sink, H: Shelf, D: Disk + Send, G: Gate + Sync>(
     rt: &R,
     alloc: Global,
@@ -136,6 +136,10 @@ fn obey<
         ),
         Ok(Mode::State { id: None }) => state(alloc, output, disk),
         Ok(Mode::State { id: Some(id) }) => account(alloc, id, output, disk),
+        Ok(Mode::Checkpoint) => Finished {
+            ending: end(output, b"usage\n", Ending::Usage),
+            disk,
+        },
         Ok(Mode::Generate { seed, count, lanes }) => Finished {
             ending: generate(alloc, seed, count, lanes, output),
             disk,

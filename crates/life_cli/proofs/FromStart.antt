@@ -5,7 +5,7 @@ use Rattle.outside_io.specs.Shelves.{Files, Answer, Agrees}
 use Rattle.outside_io.specs.declared.disks.Disk.{Ghosts}
 use Rattle.watcher_set.specs.Noted.{Auditor}
 use Rattle.life_args.specs.declared.mode.Mode.{Mode}
-use Rattle.life_args.specs.declared.mode.Mode.TheVariants.{Run, Value, Project, State, Generate, Load}
+use Rattle.life_args.specs.declared.mode.Mode.TheVariants.{Run, Value, Project, State, Checkpoint, Generate, Load}
 use Rattle.program_endings.specs.Writing.{Input, Shelving, Stream}
 use Rattle.program_endings.specs.declared.ending.Ending.{Ending}
 use Rattle.program_endings.specs.declared.ending.Ending.TheVariants.{NoMemory}
@@ -42,6 +42,7 @@ module _ {D : Type 0} (g : Ghosts D) (old new : D) (words : List (String Global)
   mode_still (Project on years workers basis) ending ends = (f (ends.0), ends.1)
   mode_still (State None) ending ends = (f (ends.0), h (ends.1), ends.2)
   mode_still (State (Some id)) ending ends = (f (ends.0), h (ends.1), ends.2)
+  mode_still Checkpoint ending ends = (f (ends.0), h (ends.1), ends.2, ends.3, ends.4)
   mode_still (Generate seed count lanes) ending ends = (f (ends.0), h (ends.1), ends.2, ends.3)
   mode_still (Load seed count lanes workers) ending ends = (f (ends.0), ends.1)
 

@@ -1,0 +1,149 @@
+// The top call over two disks.
+ghost use Rattle.std.specs.Prelude.{◌≡◌, ◌≤◌, ◌⊎◌, ℕ, [], map, length};
+ghost use Rattle.std.specs.List.{AllByRecursion};
+ghost use Rattle.office_state.specs.Journals.{OpensToNone};
+ghost use Rattle.watcher_set.specs.Limits.{most_watchers};
+ghost use Rattle.program_endings.specs.Status.{status_of};
+ghost use Rattle.program_endings.specs.Writing.{between, input_between, shelf_between};
+ghost use Rattle.program_endings.specs.declared.ending.Ending.{Ending as AnEnding};
+ghost use Rattle.life_app.specs.Due.{IsDueEnding};
+ghost use Rattle.life_app.specs.DueKept.{IsDueOfBoth};
+ghost use Rattle.life_app.specs.Needs.{filing_between};
+ghost use Rattle.life_app.specs.ObeysKept.{AskForBoth, ObeysKept};
+ghost use Rattle.life_app.specs.Reasons.{IsReasoned};
+ghost use Rattle.life_app.specs.inside.Books.{GivesBooks, IsBooksOf, ended_disks};
+
+use crate::program::{Ended, life};
+use kept_books::{FinishedKept, checkpoint, state_kept};
+use life_args::{Mode, WordsFault, read_words};
+use outside_io::{Disk, Gate, Shelf, Sink, Source};
+use policy_types::{NoMemory, Watcher};
+use program_endings::lack_memory;
+use std::alloc::Global;
+use std::sync::Wait;
+use std::thread::Threads;
+
+/// What the program leaves: its exit status, and its two disks.
+pub struct EndedKept<D, E> {
+    pub status: u8,
+    pub disk: D,
+    pub second: E,
+}
+
+/// Which of the modes that open both disks.
+pub enum Books {
+    State,
+    Checkpoint,
+}
+
+/// Does what `life` does, and the words `checkpoint`, with a second disk for a checkpoint of the journal. `state` of all
+/// policies decides the journal's records anew from the checkpoint's position on, where the second disk has one that isn't
+/// above the journal's count, and only syncs and reads the second disk; `checkpoint` saves the books there. In every other
+/// mode the second disk isn't touched.
+pub fn life_kept<
+    R: Threads + Wait + Sync,
+    S: Source,
+    K: Sink,
+    H: Shelf,
+    D: Disk + Send,
+    E: Disk,
+    G: Gate + Sync,
+>(
+    rt: &R,
+    alloc: Global,
+    words: &[String],
+    input: &mut S,
+    output: &mut K,
+    shelf: &mut H,
+    disk: D,
+    second: E,
+    watchers: Vec<Box<dyn Watcher + Send>>,
+    gate: &G,
+) -> EndedKept<D, E>
+    requires few { length watchers.items ≤ most_watchers }
+    requires fresh { AllByRecursion (λ b. noted b ≡ []) watchers.items }
+    ensures obeys { ObeysKept D.Disk E.Disk (ended_disks disk second result) words.now
+        (map (λ b. record { stops = stops b; number = number b }) watchers.items) (input_between S.faults S.left S.given S.ended input.old input.new)
+        (between K.faults K.written output.old output.new)
+        (shelf_between H.faults H.agrees shelf.old shelf.new)
+        (input.new ≡ input.old) (shelf.new ≡ shelf.old) result.status }
+    ensures shelf { H.files shelf.new ≡ H.files shelf.old }
+
+    // Where the words ask for nothing of both disks, each status has its reason, and what is due comes about.
+    ensures reason { ¬ AskForBoth words.now → IsReasoned words.now (input_between S.faults S.left S.given S.ended input.old input.new)
+        (between K.faults K.written output.old output.new)
+        (shelf_between H.faults H.agrees shelf.old shelf.new) (filing_between D.Disk disk result.disk) result.status }
+    ensures due { (ending : AnEnding) → ¬ AskForBoth words.now
+        → IsDueEnding words.now (input_between S.faults S.left S.given S.ended input.old input.new)
+        (between K.faults K.written output.old output.new)
+        (shelf_between H.faults H.agrees shelf.old shelf.new) (filing_between D.Disk disk result.disk) ending
+        → (result.status ≡ status_of ending) ⊎ (result.status ≡ 9) }
+
+    // Where they do, what is due by both disks comes about, but for want of memory.
+    ensures due_both { (ending : AnEnding) → AskForBoth words.now
+        → IsDueOfBoth D.Disk E.Disk (ended_disks disk second result) (between K.faults K.written output.old output.new) ending
+        → (result.status ≡ status_of ending) ⊎ (result.status ≡ 9) }
+
+    // A file that opens to no commands reads as before, however the run ends.
+    ensures unopened { D.honest result.disk → OpensToNone (D.reads disk) → D.reads result.disk ≡ D.reads disk }
+{
+    match books_of(alloc, words) {
+        Ok(Some(Books::State)) => ended(state_kept(alloc, output, disk, second)),
+        Ok(Some(Books::Checkpoint)) => ended(checkpoint(alloc, output, disk, second)),
+        Ok(None) => {
+            let Ended { status, disk } = life(
+                rt, alloc, words, input, output, shelf, disk, watchers, gate,
+            );
+            EndedKept {
+                status,
+                disk,
+                second,
+            }
+        }
+        Err(NoMemory) => EndedKept {
+            status: lack_memory(output).status(),
+            disk,
+            second,
+        },
+    }
+}
+
+// Which of the modes that open both disks the words ask for, if one.
+fn books_of(alloc: Global, words: &[String]) -> Result<Option<Books>, NoMemory>
+    ensures { GivesBooks words.now result }
+{
+    match read_words(alloc, words) {
+        Ok(mode) => Ok(books_in(&mode)),
+        Err(WordsFault::Usage) => Ok(None),
+        Err(WordsFault::NoMemory) => Err(NoMemory),
+    }
+}
+
+// Whether it is one of those modes.
+fn books_in(mode: &Mode) -> Option<Books>
+    ensures { IsBooksOf mode.now result }
+{
+    match mode {
+        Mode::State { id: None } => Some(Books::State),
+        Mode::Checkpoint => Some(Books::Checkpoint),
+        Mode::State { id: Some(_) }
+        | Mode::Run { .. }
+        | Mode::Value { .. }
+        | Mode::Project { .. }
+        | Mode::Generate { .. }
+        | Mode::Load { .. } => None,
+    }
+}
+
+// The same with its status.
+fn ended<D, E>(finished: FinishedKept<D, E>) -> EndedKept<D, E>
+    ensures status { result.status ≡ status_of finished.ending }
+    ensures disk { result.disk ≡ finished.disk }
+    ensures second { result.second ≡ finished.second }
+{
+    EndedKept {
+        status: finished.ending.status(),
+        disk: finished.disk,
+        second: finished.second,
+    }
+}
