@@ -58,6 +58,7 @@ SCENES = [
     Scene("a later run of two clerks", ["run"], TWO_CLERKS, True, OPENS + POSTS + READS_BASIS + READS + [("write", "out")]),
     Scene("values", ["value", "2021-01-01"], b"", True, OPENS + READS_BASIS + READS + [("write", "out")]),
     Scene("mean values", ["value", "2021-01-01", "--mean"], b"", True, OPENS + READS_BASIS + READS + [("write", "out")]),
+    Scene("a projection", ["project", "2021-01-01", "3"], b"", True, OPENS + READS_BASIS + READS + [("write", "out")]),
     Scene("the state", ["state"], b"", True, OPENS + READS + [("write", "out")]),
     Scene("the state of one policy", ["state", "7"], b"", True, OPENS + READS + [("write", "out")]),
 ]
