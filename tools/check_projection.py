@@ -9,12 +9,13 @@ from __future__ import annotations
 
 import argparse
 from fractions import Fraction
+from typing import Sequence
 
 from formats import Wrong, bytes_of, complain, demand, money
 from journals import journal_at
 from projections import KINDS_OF_CASH, Printed, expected_of, printed_projection
-from rules import Book
-from tables import read_basis
+from rules import Book, Policy
+from tables import BasisRow, read_basis
 
 
 def demand_encloses(bounds: tuple[int, int], exact: Fraction, policies: int, what: str) -> None:
@@ -25,16 +26,20 @@ def demand_encloses(bounds: tuple[int, int], exact: Fraction, policies: int, wha
     demand(1000 * (upper - lower) <= 2000 + policies, f"{what}: {money(lower)} and {money(upper)} lie too far apart")
 
 
-def check(journal: str, basis: str, printed: Printed) -> None:
-    commands = journal_at(journal).commands
-    demand(printed.position <= len(commands), f"{printed.position} is no position of {journal}, which has {len(commands)} commands")
-    policies = list(Book(commands[:printed.position]).policies.values())
+def check_years(printed: Printed, policies: Sequence[Policy], basis: Sequence[BasisRow]) -> None:
+    """Checks a projection by the policies at its position."""
     demand(printed.policies == len(policies), f"there are {len(policies)} policies, and not {printed.policies}")
-    found = expected_of(policies, read_basis(basis), printed.day, len(printed.years))
+    found = expected_of(policies, basis, printed.day, len(printed.years))
     for j, (bounds, year) in enumerate(zip(printed.years, found.years)):
         for kind, name in enumerate(KINDS_OF_CASH):
             demand_encloses(bounds[kind], year.exact(j, kind), len(policies), f"year {j}, {name}")
     demand(printed.words == found.words, f"{found.words} policies have a word, and not {printed.words}")
+
+
+def check(journal: str, basis: str, printed: Printed) -> None:
+    commands = journal_at(journal).commands
+    demand(printed.position <= len(commands), f"{printed.position} is no position of {journal}, which has {len(commands)} commands")
+    check_years(printed, list(Book(commands[:printed.position]).policies.values()), read_basis(basis))
 
 
 def main() -> None:

@@ -146,7 +146,7 @@ for seed in 1 2 3 4 5 6; do
 done
 grep -q '^unvalued,[1-9]' "$work/all" || complain "no policy of the drawn books has a word"
 
-# whatever number of a year's line is changed by what a bound may be wide, the judge has to see it
+# whichever bound of a year is changed by more than it may be wide, the judge has to see it
 go_on "a changed line"
 "$life" project 2014-12-31 9 </dev/null >projected
 for field in 3 4 5 6 7 8; do
@@ -159,7 +159,31 @@ done
 sed '/^unvalued/s/.*/unvalued,1000/' projected >wrong
 python3 "$tools/check_projection.py" journal.life basis.csv wrong >verdict 2>&1 && complain "the judge takes a wrong number of words"
 
-# the shipped examples, and a generated book by table G
+# every plan at every age, for short covers and for those to the end of a table and past it; of a table by age, and of a
+# select one whose ultimate rates begin behind some of its issue ages
+begin_with_examples "a grid of ages"
+PYTHONPATH=$tools python3 - <<'PY' >journal.life || complain "no book was made"
+import datetime, sys
+from commands import LAST_AGE, OLDEST_AT_ISSUE, Command, years_fit
+from journals import file_of
+
+book = [(plan, age, years) for age in range(OLDEST_AT_ISSUE + 1) for plan in ("whole", "term", "endowment", "limited")
+        for years in ((0,) if plan == "whole" else (2, 3, 11, 26, 120 - age, 121 - age, 131 - age)) if years_fit(plan, age, years)]
+day = datetime.date(2000, 2, 29)
+sys.stdout.buffer.write(file_of(Command("issue", number, day, plan, age, years, 99999 + 7 * number, 1 + 13 * number)
+                                for number, (plan, age, years) in enumerate(book, 1)))
+PY
+python3 "$root/.ci/tools/made_table.py" 18 70 25 40 118 >made.xml || complain "no table was made"
+for table in g.xml made.xml; do
+    echo "1900-01-01,$table,0" >basis.csv
+    for words in "2000-02-29 131" "2001-02-27 3" "2001-02-28 3" "2011-06-01 30" "2130-01-01 1"; do
+        # shellcheck disable=SC2086
+        "$life" project $words </dev/null >projected || complain "project $words ended with $?"
+        is_right projected "$words by $table"
+    done
+done
+
+# a generated book by table G
 begin_with_examples "a generated book"
 "$life" generate 7 2000 1 </dev/null | "$life" run >out || complain "the run ended with $?"
 for words in "2000-06-01 40" "2009-12-31 101" "2190-01-01 3"; do

@@ -1,6 +1,6 @@
 #!/bin/sh
-# Workers of a valuation, which no contract tells apart: a worker more is a thread more where each has 8,192 policies, as
-# strace counts; and whatever their number, the text is that of one worker.
+# Workers of a valuation and of a projection, which no contract tells apart: a worker more is a thread more where each has
+# 8,192 policies, as strace counts; and whatever their number, the text is that of one worker.
 . "$(dirname "$0")/../common.sh"
 command -v strace >/dev/null || { apt-get update -qq && apt-get install -y -qq strace; } >/dev/null 2>&1
 command -v strace >/dev/null || {
@@ -24,20 +24,28 @@ sys.stdout.buffer.write(file_of(issue(number) for number in range(1, int(sys.arg
 PY
 }
 
-# a valuation by so many workers: it starts so many threads, and its text is that of one
+# what is asked, by so many workers: it starts so many threads, and its text is that of one
 has_threads() {
-    strace -f -qq -o log -e trace=clone,clone3 "$program" value 2020-12-31 --workers "$1" </dev/null >out ||
-        complain "with $1 workers it ended with $?"
+    # shellcheck disable=SC2086
+    strace -f -qq -o log -e trace=clone,clone3 "$program" $asked --workers "$1" </dev/null >out ||
+        complain "$asked with $1 workers ended with $?"
     started=$(grep -c 'clone3*(' log)
-    [ "$started" -eq "$2" ] || complain "with $1 workers it started $started threads, and not $2"
-    cmp -s alone out || complain "with $1 workers the text is another"
+    [ "$started" -eq "$2" ] || complain "$asked with $1 workers started $started threads, and not $2"
+    cmp -s alone out || complain "with $1 workers the text of $asked is another"
+}
+
+# these words, as one worker answers them
+ask() {
+    asked=$*
+    # shellcheck disable=SC2086
+    "$program" $asked </dev/null >alone || complain "$asked ended with $?"
 }
 
 # a book of so many policies, as one worker values it
 begin_with_book() {
     begin_with_examples "workers of $1 policies"
     make_book "$1"
-    "$program" value 2020-12-31 </dev/null >alone || complain "it ended with $?"
+    ask value 2020-12-31
     [ "$(grep -c '^row,' alone)" -eq "$1" ] || complain "there aren't $1 rows"
 }
 
@@ -45,8 +53,13 @@ begin_with_book() {
 # 131,072 in all, then the next; the thread that reads is one of the workers.
 begin_with_book 16383
 has_threads 64 0
+ask project 2020-12-31 40
+has_threads 64 0
 begin_with_book 16384
 has_threads 1 0
+has_threads 2 1
+has_threads 64 1
+ask project 2020-12-31 40
 has_threads 2 1
 has_threads 64 1
 begin_with_book 24577
@@ -60,5 +73,12 @@ has_threads 64 7
 begin_with_book 131073
 has_threads 4 6
 has_threads 64 30
+
+# a projection goes over all that was read at once
+ask project 2020-12-31 40
+[ "$(grep -c '^year,' alone)" -eq 40 ] || complain "there aren't 40 years"
+has_threads 1 0
+has_threads 4 3
+has_threads 64 15
 
 end "each worker has a thread where there is work for it, and the text is the same"

@@ -47,7 +47,8 @@ def modes(program, folder):
     generated = Desk(program, folder).run(["generate", "1", "300", "8"]).text.encode()
     before = file_of(many_policies(BEFORE).commands)
     return [Mode("run", ["run"], eight_clerks(25, BEFORE), before), Mode("value", ["value", "2021-01-01"], b"", before),
-            Mode("deficiency", ["value", "2021-01-01", "--deficiency"], b"", before), Mode("state", ["state"], b"", before),
+            Mode("deficiency", ["value", "2021-01-01", "--deficiency"], b"", before),
+            Mode("project", ["project", "2021-01-01", "90"], b"", before), Mode("state", ["state"], b"", before),
             Mode("checkpoint", ["checkpoint"], b"", before), Mode("load", ["load", "1", "300", "8", "1"], generated, b"")]
 
 

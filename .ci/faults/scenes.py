@@ -67,6 +67,7 @@ SCENES = [
     Scene("a later run of two clerks", ["run"], TWO_CLERKS, True, OPENS + POSTS + READS_BASIS + READS + [("write", "out")]),
     Scene("values", ["value", "2021-01-01"], b"", True, OPENS + READS_BASIS + READS + [("write", "out")]),
     Scene("mean values", ["value", "2021-01-01", "--mean"], b"", True, OPENS + READS_BASIS + READS + [("write", "out")]),
+    Scene("a projection", ["project", "2021-01-01", "3"], b"", True, OPENS + READS_BASIS + READS + [("write", "out")]),
     Scene("the state", ["state"], b"", True, OPENS + READS + OPENS_KEPT + [("write", "out")]),
     Scene("the state behind a checkpoint", ["state"], b"", True, OPENS + OPENS_KEPT + READS + [("pread64", KEPT), ("write", "out")], 4),
     Scene("a checkpoint", ["checkpoint"], b"", True, OPENS + OPENS_KEPT + READS + [("pwrite64", KEPT), ("write", "out")]),

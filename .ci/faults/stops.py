@@ -23,7 +23,7 @@ RUNS, OPENINGS = 24, 12
 BEFORE, EACH, LARGE = 150, 12, 20000
 # what opens a journal and may not change it
 OPENING = [["state"], ["checkpoint"], ["state", "7"], ["value", "2021-01-01"], ["value", "2021-01-01", "--mean"],
-           ["value", "--deficiency", "2021-01-01"], ["run"]]
+           ["value", "--deficiency", "2021-01-01"], ["project", "2021-01-01", "40"], ["run"]]
 
 
 def span_of(desk, words):

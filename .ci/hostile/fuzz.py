@@ -36,18 +36,19 @@ TOKENS = {
               b"</Axis></Values></Table>", b"<Table><Values><Axis>"],
     "journal": [bytes(65), b"\1" * 65, b"\1", b"\0", b"\xff" * 8, b"LIFEJRNL", b"\2"],
 }
-WORDS = [b"run", b"value", b"state", b"generate", b"load", b"help", b"--help", b"-h", b"--", b"-", b"", b"--at", b"--workers", b"--basis",
+WORDS = [b"run", b"value", b"project", b"state", b"generate", b"load", b"help", b"--help", b"-h", b"--", b"-", b"", b"--at", b"--workers", b"--basis",
          b"--at=5", b"--at=40", b"--at=41", b"--at=", b"--at=05", b"--workers=64", b"--workers=65", b"--workers=0", b"--basis=basis.csv",
          b"--basis=none.csv", b"--basis=../basis.csv", b"--basis=", b"0", b"1", b"2", b"7", b"8", b"9", b"40", b"41", b"64", b"65", b"07",
          b"4294967295", b"4294967296", b"2147483647", b"2147483648", b"2021-01-01", b"1900-01-01", b"2199-12-31", b"2200-01-01",
          b"2021-02-29", b"2021-1-1", b"\xff\xfe", b"\xc3\xa9", b"18446744073709551617", b"9" * 500, b"1 ", b" 1", b"+1", b"1.0", b"\n",
-         b"basis.csv", b"none.csv", b"100", b"101", b"x" * 100_000, b"--mean", b"--mean", b"--deficiency", b"--deficiency", b"--mean=",
+         b"basis.csv", b"none.csv", b"100", b"101", b"131", b"132", b"x" * 100_000, b"--mean", b"--mean", b"--deficiency", b"--deficiency", b"--mean=",
          b"--mean=1", b"--deficiency=mean", b"--Mean", b"--mea", b"-mean", b"mean"]
 # words that fit, so that not all are refused
 RIGHT = [[b"run"], [b"run", b"--basis", b"none.csv"], [b"state"], [b"state", b"1"], [b"state", b"9"], [b"value", b"2021-01-01"],
          [b"value", b"2021-01-01", b"--at", b"12"], [b"value", b"2021-01-01", b"--mean"], [b"value", b"--deficiency", b"2021-01-01"],
          [b"value", b"--at=12", b"--mean", b"2030-06-30", b"--workers", b"2"], [b"value", b"2022-01-01", b"--workers=2", b"--deficiency"],
-         [b"value", b"--workers=64", b"2199-12-31", b"--at=41"], [b"generate", b"3", b"7", b"2"],
+         [b"value", b"--workers=64", b"2199-12-31", b"--at=41"], [b"project", b"2021-01-01", b"9"], [b"project", b"2020-06-30", b"131"],
+         [b"project", b"--workers", b"2", b"2022-01-01", b"--basis=basis.csv", b"1"], [b"generate", b"3", b"7", b"2"],
          [b"generate", b"2147483647", b"1000", b"8"], [b"load", b"1", b"5", b"2", b"3"], [b"load", b"0", b"101", b"8", b"64"]]
 SCRIPT = b"1,issue,77,2020-01-01,endowment,0,3,1000.00,400.00\n8,lapse,77,2020-01-01\n"
 

@@ -3,16 +3,17 @@ import re
 from dataclasses import dataclass
 from typing import Callable
 
-from formats import MOST_COMMANDS, MOST_LANES, MOST_NUMBER, MOST_WORKERS, day_of, measure_of, number_of, printed_rows
+from formats import MOST_COMMANDS, MOST_LANES, MOST_NUMBER, MOST_WORKERS, MOST_YEARS, day_of, measure_of, number_of, printed_rows
 from script_lines import Fault, read_script
 from tables import NAME
 
-OPTIONS = {"run": ("--basis",), "value": ("--at", "--workers", "--basis"), "state": (), "generate": (), "load": ()}
+OPTIONS = {"run": ("--basis",), "value": ("--at", "--workers", "--basis"), "project": ("--workers", "--basis"), "state": (), "generate": (),
+           "load": ()}
 # which stand alone; of two such words there is none that fits
 FLAGS = {"value": ("--mean", "--deficiency")}
-PLACES = {"run": [], "value": ["day"], "state": ["id"], "generate": ["seed", "count", "lanes"],
+PLACES = {"run": [], "value": ["day"], "project": ["day", "years"], "state": ["id"], "generate": ["seed", "count", "lanes"],
           "load": ["seed", "count", "lanes", "workers"]}
-LIMITS = {"id": (1, MOST_NUMBER), "seed": (0, 2**31 - 1), "count": (1, 100_000), "lanes": (1, MOST_LANES),
+LIMITS = {"years": (1, MOST_YEARS), "id": (1, MOST_NUMBER), "seed": (0, 2**31 - 1), "count": (1, 100_000), "lanes": (1, MOST_LANES),
           "workers": (1, MOST_WORKERS), "--at": (0, MOST_COMMANDS), "--workers": (1, MOST_WORKERS)}
 AMOUNT = r"(0|[1-9][0-9]*)\.[0-9]{2}"
 
@@ -98,19 +99,36 @@ def is_state(values, _, count):
     return Meaning("state", fits, values[0] if values else 0)
 
 
+def is_by_another_basis(found, name):
+    """Whether an answer fits where the basis isn't basis.csv: there is none but the tables, which may be no basis."""
+    return found[0] == 4 and found[1] == f"badbasis,{name},0,absent\n" or name in ("q.xml", "g.xml", "m.xml", "select.xml")
+
+
 def is_value(values, asked, count):
     position, name = asked.get("--at", count), asked.get("--basis", "basis.csv")
     measure = asked.get("measure", "terminal")
 
     def fits(found):
         if name != "basis.csv":
-            return found[0] == 4 and found[1] == f"badbasis,{name},0,absent\n" or name in ("q.xml", "g.xml", "m.xml", "select.xml")
+            return is_by_another_basis(found, name)
         if position > count:
             return found == (10, f"refused,ahead,{count}\n")
         rows = printed_rows(found[1])
         is_block = rows[0][:4] == ["0", "value", str(values[0]), str(position)] and rows[-1][0] == "total"
         return found[0] == 0 and is_block and measure_of(rows[0]) == measure
     return Meaning("value", fits, measure=measure)
+
+
+def is_project(values, asked, count):
+    name = asked.get("--basis", "basis.csv")
+
+    def fits(found):
+        if name != "basis.csv":
+            return is_by_another_basis(found, name)
+        rows = printed_rows(found[1])
+        is_head = rows[0][:3] == ["project", str(values[0]), str(count)] and rows[0][4:] == [str(values[1])]
+        return found[0] == 0 and is_head and len(rows) == values[1] + 2
+    return Meaning("project", fits)
 
 
 def is_generate(values, _, __):
@@ -131,4 +149,4 @@ def is_load(values, _, __):
     return Meaning("load", fits)
 
 
-SHAPES = {"run": is_run, "state": is_state, "value": is_value, "generate": is_generate, "load": is_load}
+SHAPES = {"run": is_run, "state": is_state, "value": is_value, "project": is_project, "generate": is_generate, "load": is_load}

@@ -12,12 +12,14 @@ import zlib
 ROOT = os.path.abspath(os.path.join(os.path.dirname(os.path.abspath(__file__)), "..", ".."))
 sys.path[:0] = [os.path.join(ROOT, "tools"), os.path.join(ROOT, ".ci", "stress")]
 
+from check_projection import check_years
 from check_transcript import asks_for_values, check
 from check_values import check_block
 from formats import MEASURES, MOST_BASIS_BYTES, Wrong, day_in, demand, money, printed_rows
 from journals import EMPTY, Journal, file_of, gate_of, read_journal
 from plain_tables import read_plain_table
 from plain_words import meaning_of
+from projections import printed_projection
 from rules import Book, balances_of
 from script_lines import Fault, read_script
 from scripts import folder_for
@@ -213,5 +215,7 @@ def judge_words(trial, words, script, book):
     if rows:
         policies = Book(book.commands[:int(rows[0][3])]).policies
         check_block(rows, list(policies.values()), trial.basis(), trial.known, meaning.measure)
+    if meaning.mode == "project" and found[0] == 0:
+        check_years(printed_projection(found[1]), list(book.policies.values()), trial.basis())
     demand(after == file_of(book.commands), f"{words}: journal.life was changed")
     return meaning.mode if meaning.measure == "terminal" else f"{meaning.mode} by {meaning.measure}"

@@ -10,3 +10,4 @@ pub mod Reading
 pub mod InStore
 pub mod StartSteps
 pub mod OneSnapshot
+pub mod ClaimedFile

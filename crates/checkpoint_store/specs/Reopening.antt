@@ -39,15 +39,17 @@ IsTrueCheckpoint file bodies = (s : Snapshot) → CheckpointBytes file s → IsS
 
 -- it is, where its position isn't above the count of the journal
 abbrev pub IsTrueWhereUsed : List ℕ → List (List ℕ) → Type 0
-IsTrueWhereUsed file bodies = (s : Snapshot) → CheckpointBytes file s → s.position ≤ length bodies → IsSnapshotOfFront bodies s
+IsTrueWhereUsed file bodies =
+    (s : Snapshot) → CheckpointBytes file s → s.position ≤ length bodies → IsSnapshotOfFront bodies s
 
--- The position from which records are decided: that of the file's checkpoint, where it has one that isn't above the count
--- of the journal, and else 0.
+-- The position from which records are decided: that of the file's checkpoint, where it has one that isn't above the
+-- count of the journal, and else 0.
 pub record IsStartOf (file : List ℕ) (count start : ℕ) : Type 0 where
   pub found : (s : Snapshot) → CheckpointBytes file s → s.position ≤ count → start ≡ s.position
   pub none : ((s : Snapshot) → CheckpointBytes file s → s.position ≤ count → ⊥) → start ≡ 0
 
--- The bodies before body n spell commands, accepted one after the other, and it spells none that is accepted after them.
+-- The bodies before body n spell commands, accepted one after the other, and it spells none that is accepted after
+-- them.
 pub record IsFirstBadBody (bodies : List (List ℕ)) (n : ℕ) : Type 0 where
   pub commands : List Command
   pub within : n < length bodies
@@ -55,7 +57,8 @@ pub record IsFirstBadBody (bodies : List (List ℕ)) (n : ℕ) : Type 0 where
   pub spelled : take n bodies ≡ map spelling_of commands
   pub valid : AllByRecursion IsValid commands
   pub accepted : IsAccepted commands
-  pub none : (command : Command) → slice_index_or bodies n [] ≡ spelling_of command → IsValid command → judge commands command ≡ None → ⊥
+  pub none : (command : Command) → slice_index_or bodies n [] ≡ spelling_of command → IsValid command
+      → judge commands command ≡ None → ⊥
 
 -- it stands from the start on
 pub record IsBadFromStart (file : List ℕ) (bodies : List (List ℕ)) (n : ℕ) : Type 0 where
@@ -95,7 +98,8 @@ pub record StandsAsBefore {D : Type 0} {g : Ghosts D} (old new : Journal D g) : 
   pub clean : is_clean new ≡ is_clean old
   pub honesty : g.honest (disk_of new) → g.honest (disk_of old)
   pub looks : g.honest (disk_of new) → LooksOn g (disk_of old) (disk_of new)
-  pub stands : (bodies : List (List ℕ)) (faulted : List ℕ) → g.honest (disk_of new) → StandsFor old bodies faulted → StandsFor new bodies faulted
+  pub stands : (bodies : List (List ℕ)) (faulted : List ℕ) → g.honest (disk_of new) → StandsFor old bodies faulted
+      → StandsFor new bodies faulted
 
 -- a store that was only read is what it was
 pub record KeepsAsBefore {E : Type 0} {g : Ghosts E} (old new : Store E g) : Type 0 where

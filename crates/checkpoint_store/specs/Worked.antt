@@ -1,12 +1,16 @@
 -- Worked checkpoints, computed from the definitions alone; the bytes were packed by hand from the table of the format
-use Rattle.std.specs.Prelude.{◌≡◌, ℕ, ◌++◌, List, [], ◌∷◌, pos, negsuc}
+use Rattle.std.specs.Prelude.{◌≡◌, ℕ, ◌++◌, List, [], ◌∷◌, map, pos, negsuc, Ok, Err}
+use Rattle.policy_types.specs.declared.command.Command.{Command}
 use Rattle.policy_types.specs.declared.command.Command.TheVariants.{Issue, Upgrade}
 use Rattle.policy_types.specs.declared.command.Plan.TheVariants.{Endowment}
 use Rattle.policy_types.specs.declared.policy.Policy.{Policy}
 use Rattle.policy_types.specs.declared.policy.Status.TheVariants.{Claimed}
 use Rattle.policy_machine.specs.Rules.{issued}
+use Rattle.record_codec.specs.Spelling.{spelling_of}
+use Rattle.checkpoint_store.specs.declared.faults.ReopenFault.TheVariants.{DiskFault, BadRecord, NoMemory}
 use Rattle.checkpoint_store.specs.declared.snapshot.Snapshot.{Snapshot}
 use Rattle.checkpoint_store.specs.Checkpoints.{CheckpointBytes, IsNoCheckpoint, IsSnapshotOf, IsSoundSnapshot}
+use Rattle.checkpoint_store.specs.Reopening.{HasCauseOfTwo, IsReopened, IsTrueCheckpoint, IsTrueWhereUsed, TakesSteps}
 use Rattle.checkpoint_store.specs.Spelling.{snapshot_bytes}
 
 -- an endowment of 1000.00 for three years at age 0 with a premium of 400.00, number 7001, issued on 2020-01-01, of which
@@ -66,12 +70,55 @@ UnsoundSnapshots =
     (IsSoundSnapshot (record claimed_snapshot { book = claimed_policy ∷ claimed_policy ∷ [] }) → ⊥)
     × (IsSoundSnapshot (record claimed_snapshot { position = 0 }) → ⊥)
 
--- after the issue and an upgrade
+-- the issue of that policy, an upgrade, and what each leaves
+abbrev pub issue_of_7001 : Command
+issue_of_7001 = Issue 7001 (pos 18262) Endowment 0 3 100000 40000
+
+abbrev pub issued_snapshot : Snapshot
+issued_snapshot = record {
+  position = 1;
+  upgrade = 0;
+  ledger = record { cash = pos 0; premiums = pos 0; incurred = pos 0; payable = pos 0 };
+  book = issued 7001 (pos 18262) Endowment 0 3 100000 40000 ∷ [];
+}
+
+abbrev pub upgraded_snapshot : Snapshot
+upgraded_snapshot = record issued_snapshot { position = 2; upgrade = 2 }
+
 abbrev pub SnapshotOfTwo : Type 0
-SnapshotOfTwo = IsSnapshotOf (Issue 7001 (pos 18262) Endowment 0 3 100000 40000 ∷ Upgrade ∷ [])
-    (record {
-      position = 2;
-      upgrade = 2;
-      ledger = record { cash = pos 0; premiums = pos 0; incurred = pos 0; payable = pos 0 };
-      book = issued 7001 (pos 18262) Endowment 0 3 100000 40000 ∷ [];
-    })
+SnapshotOfTwo = IsSnapshotOf (issue_of_7001 ∷ Upgrade ∷ []) upgraded_snapshot
+
+-- with a checkpoint at four of five commands records are decided from there on, and from 0 where it stands above the count
+-- or has a closed gate; one step a record
+abbrev pub StartsByHand : Type 0
+StartsByHand =
+    TakesSteps (1 ∷ claimed_bytes) 5 7 8 × TakesSteps (1 ∷ claimed_bytes) 3 7 10 × TakesSteps (0 ∷ claimed_bytes) 5 7 12
+    × (TakesSteps (0 ∷ claimed_bytes) 5 7 8 → ⊥)
+
+-- a checkpoint behind the first of two commands, and their journal
+abbrev pub issued_file : List ℕ
+issued_file = 1 ∷ snapshot_bytes issued_snapshot
+
+abbrev pub two_bodies : List (List ℕ)
+two_bodies = map spelling_of (issue_of_7001 ∷ Upgrade ∷ [])
+
+-- it is true of that journal, and of none that has no such front, where it isn't used
+abbrev pub TrueByHand : Type 0
+TrueByHand = IsTrueWhereUsed issued_file two_bodies × IsTrueWhereUsed issued_file [] × (IsTrueCheckpoint issued_file [] → ⊥)
+
+-- the snapshot is that of both commands
+abbrev pub ReopenedByHand : Type 0
+ReopenedByHand =
+    IsReopened issued_file two_bodies (Ok upgraded_snapshot) × (IsReopened issued_file two_bodies (Ok issued_snapshot) → ⊥)
+
+-- a number that is issued twice is refused
+abbrev pub BadByHand : Type 0
+BadByHand =
+    IsReopened [] (map spelling_of (issue_of_7001 ∷ issue_of_7001 ∷ [])) (Err (BadRecord 1))
+    × (IsReopened [] two_bodies (Err (BadRecord 1)) → ⊥)
+
+-- a fault of either disk has its count, which rose
+abbrev pub FaultsOfTwo : Type 0
+FaultsOfTwo =
+    HasCauseOfTwo 0 1 3 3 (Err (DiskFault 1)) × HasCauseOfTwo 0 0 3 4 (Err (DiskFault 4))
+    × (HasCauseOfTwo 0 0 3 3 (Err (DiskFault 3)) → ⊥) × (HasCauseOfTwo 0 1 3 3 (Err NoMemory) → ⊥)

@@ -1,4 +1,6 @@
 // A store and a journal are reopened: with a checkpoint of the count, with one that is out of date, and with none.
+ghost use Rattle.std.specs.Prelude.{◌≡◌, ◌<◌, ◌≤◌};
+
 use checkpoint_store::{ReopenFault, Snapshot, Store, reopen};
 use memory_disk::{DiskCall, MemoryDisk};
 use money_ledgers::Ledger;
@@ -18,13 +20,16 @@ const JOURNAL_HEAD: &[u8] = b"\x01\x4c\x49\x46\x45\x4a\x52\x4e\x4c\x00\x01\x00\x
 const CHECKPOINT_HEAD: &[u8] = b"\x4c\x49\x46\x45\x43\x48\x4b\x50\x00\x01\x00\x30\x00\x00\x00\x00";
 
 // 0.00, -400.00, 1000.00 and -600.00; three zeros.
-const CLAIMED_BALANCES: &[u8] =
-    b"\x00\x00\x00\x00\x00\x00\x00\x00\xff\xff\xff\xff\xff\xff\x63\xc0\x00\x00\x00\x00\x00\x01\x86\xa0\xff\xff\xff\xff\xff\xff\x15\xa0\x00\x00\x00";
+const CLAIMED_BALANCES: [u8; 35] =
+    *b"\x00\x00\x00\x00\x00\x00\x00\x00\xff\xff\xff\xff\xff\xff\x63\xc0\x00\x00\x00\x00\x00\x01\x86\xa0\xff\xff\xff\xff\xff\xff\x15\xa0\x00\x00\x00";
 
 // An endowment of 1000.00 for three years at age 0 with a premium of 400.00, number 7001, issued on 2020-01-01, of which
 // 600.00 of a claim are outstanding on 2020-07-01.
-const CLAIMED_POLICY: &[u8] =
-    b"\x00\x00\x1b\x59\x03\x00\x03\x01\x03\x00\x00\x00\x00\x00\x47\x56\x00\x00\x48\x0c\x00\x00\x00\x00\x00\x01\x86\xa0\x00\x00\x00\x00\x00\x00\x9c\x40\x00\x00\x00\x00\x00\x00\xea\x60\x00\x00\x00\x00";
+const CLAIMED_POLICY: [u8; 48] =
+    *b"\x00\x00\x1b\x59\x03\x00\x03\x01\x03\x00\x00\x00\x00\x00\x47\x56\x00\x00\x48\x0c\x00\x00\x00\x00\x00\x01\x86\xa0\x00\x00\x00\x00\x00\x00\x9c\x40\x00\x00\x00\x00\x00\x00\xea\x60\x00\x00\x00\x00";
+
+// No place in a journal.
+const NONE: usize = usize::MAX;
 
 // The issue, the premium, the claim, and settlements of 400.00 and 600.00.
 const SETTLED: [Command; 5] = [
@@ -66,40 +71,51 @@ fn file_of(alloc: Global, parts: &[&[u8]]) -> Result<Vec<u8>, AllocError> {
     Ok(bytes)
 }
 
-fn journal_of(alloc: Global, commands: &[Command]) -> Result<Vec<u8>, Fail> {
+// A journal of these commands, but for one whose body spells nothing.
+fn journal_of(alloc: Global, commands: &[Command], hidden: usize) -> Result<Vec<u8>, Fail> {
     let mut bytes = Vec::from_slice(alloc, JOURNAL_HEAD)?;
-    for command in commands {
+    for (n, command) in commands.iter().enumerate() {
         if !command.is_valid() {
             return Err(Fail::new("not valid"));
         }
+        let body = if n == hidden {
+            [0; 64]
+        } else {
+            encode(command)
+        };
         bytes.push(1)?;
-        bytes.extend_from_slice(encode(command).as_slice())?;
+        bytes.extend_from_slice(&body)?;
     }
     bytes.push(0)?;
     Ok(bytes)
 }
 
-// The checkpoint of the first four commands, with another gate, another position, or other policies behind it.
+// The checkpoint of the first four commands, with another gate, another position, other balances or other policies.
 fn checkpoint(
     alloc: Global,
     gate: u8,
     position: u8,
+    balances: &[u8; 35],
     policies: &[&[u8]],
 ) -> Result<Vec<u8>, AllocError> {
-    let many = policies.len() as u8;
+    let many = policies.len().min(2) as u8;
     let mut bytes = file_of(
         alloc,
         &[
             &[gate],
             CHECKPOINT_HEAD,
             &[0, 0, 0, position, 0, 0, 0, 0, 0, 0, 0, many],
-            CLAIMED_BALANCES,
+            balances,
         ],
     )?;
     for policy in policies {
         bytes.extend_from_slice(policy)?;
     }
     Ok(bytes)
+}
+
+fn checkpoint_at_four(alloc: Global) -> Result<Vec<u8>, AllocError> {
+    checkpoint(alloc, 1, 4, &CLAIMED_BALANCES, &[&CLAIMED_POLICY])
 }
 
 fn disk_of(alloc: Global, bytes: &[u8], failing: &[u64]) -> Result<MemoryDisk, AllocError> {
@@ -193,89 +209,107 @@ fn settled() -> Policy {
 }
 
 // Whether the books are those of all commands, after so many bodies were read, and no more of the journal.
-fn is_reopened_after(
-    alloc: Global,
-    second: &[u8],
-    bodies: usize,
-) -> Result<bool, Fail> {
-    let file = journal_of(alloc, &SETTLED)?;
+fn is_reopened_after(alloc: Global, second: &[u8], bodies: usize) -> Result<bool, Fail>
+    requires { bodies ≤ 5 }
+{
+    let file = journal_of(alloc, &SETTLED, NONE)?;
     let before = calls_of_start(disk_of(alloc, file.as_slice(), &[])?);
     let seconds = disk_of(alloc, second, &[])?;
     let firsts = disk_of(alloc, file.as_slice(), &[])?;
-    let Outcome::Answered(Ok(snapshot), seconds, firsts) =
-        reopened::<Brand>(alloc, seconds, firsts, Blank::new(1))
-    else {
+    let Outcome::Answered(answer, seconds, firsts) = reopened::<Brand>(
+        alloc,
+        seconds,
+        firsts,
+        Blank::new(1),
+    ) else {
         return Ok(false);
     };
-    let wanted = if bodies == 0 {
-        (u64::MAX, 0)
-    } else {
-        (17 + 65 * (5 - bodies as u64), 65 * bodies)
+    let Ok(snapshot) = answer else {
+        return Ok(false);
     };
-    Ok(is_settled(&snapshot)
-        && before <= firsts.made().len()
-        && bytes_read(&firsts.made()[before..]) == Some(wanted)
-        && seconds.bytes() == second
-        && firsts.bytes() == file.as_slice())
+    let from = 17 + 65 * (5 - bodies as u64);
+    Ok(
+        is_settled(&snapshot)
+            && before <= firsts.made().len()
+            && bytes_read(&firsts.made()[before..]) == Some((from, 65 * bodies))
+            && seconds.bytes() == second
+            && firsts.bytes() == file.as_slice(),
+    )
 }
 
-// With a checkpoint at four of the five one body is read; with what is none, or stands above the count, all five.
+// With a checkpoint at four of the five one body is read, whatever stands behind it.
 #[test]
 fn a_checkpoint_spares_reading(rt: HostRuntime) -> Result<(), Fail> {
     let alloc = rt.alloc();
-    let whole = checkpoint(alloc, 1, 4, &[CLAIMED_POLICY])?;
-    assert!(rt; is_reopened_after(alloc, whole.as_slice(), 1)?);
-    let longer = file_of(alloc, &[whole.as_slice(), &[9; 7]])?;
+    let four = checkpoint_at_four(alloc)?;
+    assert!(rt; is_reopened_after(alloc, four.as_slice(), 1)?);
+    let longer = file_of(alloc, &[four.as_slice(), &[9; 7]])?;
     assert!(rt; is_reopened_after(alloc, longer.as_slice(), 1)?);
-    assert!(rt; is_reopened_after(alloc, &[], 5)?);
-    assert!(rt; is_reopened_after(alloc, &whole.as_slice()[..111], 5)?);
-    assert!(rt; is_reopened_after(alloc, &whole.as_slice()[..63], 5)?);
-    let mut broken = [0; 48];
-    broken.copy_from_slice(CLAIMED_POLICY);
+    Ok(())
+}
+
+// With what is none, or stands above the count, all five are.
+#[test]
+fn what_is_no_checkpoint_is_not_taken(rt: HostRuntime) -> Result<(), Fail> {
+    let alloc = rt.alloc();
+    let mut broken = CLAIMED_POLICY;
     broken[8] = 1;
-    let mut filled = [0; 48];
-    filled.copy_from_slice(CLAIMED_POLICY);
+    let mut filled = CLAIMED_POLICY;
     filled[47] = 1;
-    let others = [
-        checkpoint(alloc, 0, 4, &[CLAIMED_POLICY])?,
-        checkpoint(alloc, 2, 4, &[CLAIMED_POLICY])?,
-        checkpoint(alloc, 1, 6, &[CLAIMED_POLICY])?,
-        checkpoint(alloc, 1, 0, &[CLAIMED_POLICY])?,
-        checkpoint(alloc, 1, 4, &[CLAIMED_POLICY, CLAIMED_POLICY])?,
-        checkpoint(alloc, 1, 4, &[&broken])?,
-        checkpoint(alloc, 1, 4, &[&filled])?,
+    let policy: &[u8] = &CLAIMED_POLICY;
+    let files = [
+        Vec::new(alloc),
+        file_of(alloc, &[&[1], CHECKPOINT_HEAD])?,
+        checkpoint(alloc, 1, 4, &CLAIMED_BALANCES, &[&policy[..47]])?,
+        checkpoint(alloc, 0, 4, &CLAIMED_BALANCES, &[policy])?,
+        checkpoint(alloc, 2, 4, &CLAIMED_BALANCES, &[policy])?,
+        checkpoint(alloc, 1, 6, &CLAIMED_BALANCES, &[policy])?,
+        checkpoint(alloc, 1, 0, &CLAIMED_BALANCES, &[policy])?,
+        checkpoint(alloc, 1, 4, &CLAIMED_BALANCES, &[policy, policy])?,
+        checkpoint(alloc, 1, 4, &CLAIMED_BALANCES, &[&broken])?,
+        checkpoint(alloc, 1, 4, &CLAIMED_BALANCES, &[&filled])?,
     ];
-    for other in others {
-        assert!(rt; is_reopened_after(alloc, other.as_slice(), 5)?);
+    for file in files {
+        assert!(rt; is_reopened_after(alloc, file.as_slice(), 5)?);
     }
     Ok(())
 }
 
-// A balance of more than 4 * 10^10 cents a command is none of a checkpoint.
+// Nor is one with a balance of more than 4 * 10^10 cents a command.
 #[test]
 fn a_balance_out_of_bounds_is_not_taken(rt: HostRuntime) -> Result<(), Fail> {
     let alloc = rt.alloc();
-    for (balance, bodies) in [(160_000_000_001_i64, 5), (-160_000_000_001, 5)] {
+    for balance in [160_000_000_001_i64, -160_000_000_001] {
         for account in 0..4_usize {
-            let mut bytes = checkpoint(alloc, 1, 4, &[CLAIMED_POLICY])?;
-            let at = 29 + 8 * account;
-            bytes.as_mut_slice()[at..at + 8].copy_from_slice(&balance.to_be_bytes());
-            assert!(rt; is_reopened_after(alloc, bytes.as_slice(), bodies)?);
+            let mut balances = CLAIMED_BALANCES;
+            let at = 8 * account;
+            balances[at..at + 8].copy_from_slice(&balance.to_be_bytes());
+            let file = checkpoint(alloc, 1, 4, &balances, &[&CLAIMED_POLICY])?;
+            assert!(rt; is_reopened_after(alloc, file.as_slice(), 5)?);
         }
     }
     Ok(())
 }
 
-// What reopening answers of these commands over a checkpoint at four, or over none: the record, or the count of a fault.
-fn fault_of(
-    alloc: Global,
-    second: MemoryDisk,
-    first: MemoryDisk,
-) -> Result<u64, u64> {
+// What reopening answers where it fails: the record, or the count of a fault.
+fn fault_of(alloc: Global, second: MemoryDisk, first: MemoryDisk) -> Option<ReopenFault> {
     match reopened::<Brand>(alloc, second, first, Blank::new(1)) {
-        Outcome::Answered(Err(ReopenFault::BadRecord(n)), ..) => Ok(u64::from(n)),
-        Outcome::Answered(Err(ReopenFault::DiskFault(count)), ..) => Err(count),
-        _ => Ok(u64::MAX),
+        Outcome::Answered(answer, _second, _first) => answer.err(),
+        Outcome::NotStarted => None,
+    }
+}
+
+fn is_bad_record(fault: Option<ReopenFault>, n: u32) -> bool {
+    match fault {
+        Some(ReopenFault::BadRecord(record)) => record == n,
+        _ => false,
+    }
+}
+
+fn is_first_fault(fault: Option<ReopenFault>) -> bool {
+    match fault {
+        Some(ReopenFault::DiskFault(count)) => count == 1,
+        _ => false,
     }
 }
 
@@ -283,23 +317,23 @@ fn fault_of(
 #[test]
 fn records_from_the_start_on_are_tested(rt: HostRuntime) -> Result<(), Fail> {
     let alloc = rt.alloc();
-    let four = checkpoint(alloc, 1, 4, &[CLAIMED_POLICY])?;
+    let four = checkpoint_at_four(alloc)?;
     let mut refused = SETTLED;
     refused[4] = SETTLED[1];
-    let file = journal_of(alloc, &refused)?;
-    let mut stray = journal_of(alloc, &SETTLED)?;
-    stray.as_mut_slice()[17 + 65] = 1;
-    stray.as_mut_slice()[18 + 65] = 0;
+    let file = journal_of(alloc, &refused, NONE)?;
+    let stray = journal_of(alloc, &SETTLED, 1)?;
     let none: &[u8] = &[];
-    for (second, bytes, answer) in [
+    for (second, bytes, n) in [
         (four.as_slice(), file.as_slice(), 4),
         (none, file.as_slice(), 4),
         (none, stray.as_slice(), 1),
-        (four.as_slice(), stray.as_slice(), u64::MAX),
     ] {
         let (second, first) = (disk_of(alloc, second, &[])?, disk_of(alloc, bytes, &[])?);
-        assert!(rt; fault_of(alloc, second, first) == Ok(answer));
+        assert!(rt; is_bad_record(fault_of(alloc, second, first), n));
     }
+    let second = disk_of(alloc, four.as_slice(), &[])?;
+    let first = disk_of(alloc, stray.as_slice(), &[])?;
+    assert!(rt; fault_of(alloc, second, first).is_none());
     Ok(())
 }
 
@@ -307,16 +341,19 @@ fn records_from_the_start_on_are_tested(rt: HostRuntime) -> Result<(), Fail> {
 #[test]
 fn a_fault_of_either_disk_is_told(rt: HostRuntime) -> Result<(), Fail> {
     let alloc = rt.alloc();
-    let four = checkpoint(alloc, 1, 4, &[CLAIMED_POLICY])?;
-    let file = journal_of(alloc, &SETTLED)?;
+    let four = checkpoint_at_four(alloc)?;
+    let file = journal_of(alloc, &SETTLED, NONE)?;
     let before = calls_of_start(disk_of(alloc, file.as_slice(), &[])?) as u64;
     for call in 4..7_u64 {
         let second = disk_of(alloc, four.as_slice(), &[call])?;
         let first = disk_of(alloc, file.as_slice(), &[])?;
-        assert!(rt; fault_of(alloc, second, first) == Err(1), "call {call}");
+        assert!(rt;
+            is_first_fault(fault_of(alloc, second, first)),
+            "call {call}"
+        );
     }
     let second = disk_of(alloc, four.as_slice(), &[])?;
-    let first = disk_of(alloc, file.as_slice(), &[before + 1])?;
-    assert!(rt; fault_of(alloc, second, first) == Err(1));
+    let first = disk_of(alloc, file.as_slice(), &[before.saturating_add(1)])?;
+    assert!(rt; is_first_fault(fault_of(alloc, second, first)));
     Ok(())
 }

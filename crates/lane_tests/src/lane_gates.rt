@@ -132,11 +132,11 @@ impl Gate for Together {
 }
 
 /// Holds seven lanes before their first line until lane 0 has read a part of a book, and then lane 0 until each of the
-/// seven has posted that line.
+/// seven is before its third line.
 #[derive(Drop)]
 pub struct Seven {
     parts: AtomicU32,
-    posted: AtomicU32,
+    lines: AtomicU32,
     missed: AtomicU32,
 }
 
@@ -144,7 +144,7 @@ impl Seven {
     pub fn new() -> Seven {
         Seven {
             parts: AtomicU32::new(0),
-            posted: AtomicU32::new(0),
+            lines: AtomicU32::new(0),
             missed: AtomicU32::new(0),
         }
     }
@@ -159,11 +159,11 @@ impl Gate for Seven {
         match (lane, step) {
             (0, 1) => {
                 self.parts.fetch_add(1, Ordering::SeqCst);
-                look_for(&self.posted, 7, &self.missed);
+                look_for(&self.lines, 21, &self.missed);
             }
-            (1.., 0) => look_for(&self.parts, 1, &self.missed),
-            (1.., 1) => {
-                self.posted.fetch_add(1, Ordering::SeqCst);
+            (1.., 0) => {
+                self.lines.fetch_add(1, Ordering::SeqCst);
+                look_for(&self.parts, 1, &self.missed);
             }
             _ => (),
         }

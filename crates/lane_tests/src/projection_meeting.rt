@@ -74,7 +74,7 @@ fn claim_between<D: Disk, W: Watching, R: Wait>(
         pass,
         &Command::Claim {
             id: 300,
-            day: 18_300,
+            day: 18_276,
         },
     );
     meeting.done.store(true, Ordering::SeqCst);

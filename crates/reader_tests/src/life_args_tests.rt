@@ -56,6 +56,7 @@ fn asked(alloc: Global, line: &str) -> Result<String, Fail> {
         ) => Ok(format!(in alloc; "project {} {} {} {}", on, years, workers, basis.text())?),
         Ok(Mode::State { id: None }) => Ok(format!(in alloc; "state")?),
         Ok(Mode::State { id: Some(id) }) => Ok(format!(in alloc; "state {}", id)?),
+        Ok(Mode::Checkpoint) => Ok(format!(in alloc; "checkpoint")?),
         Ok(Mode::Generate { seed, count, lanes }) => {
             Ok(format!(in alloc; "generate {} {} {}", seed, count, lanes)?)
         }
@@ -143,6 +144,7 @@ fn forms_and_mixtures(rt: HostRuntime) -> Result<(), Fail> {
         ("state", "state"),
         ("state 1", "state 1"),
         ("state 4294967295", "state 4294967295"),
+        ("checkpoint", "checkpoint"),
         ("generate 0 1 1", "generate 0 1 1"),
         (
             "generate 2147483647 100000 8",
@@ -308,6 +310,14 @@ fn words_of_no_command(rt: HostRuntime) -> Result<(), Fail> {
         "state -- 1",
         "state -h",
         "state help",
+        "checkpoint 4",
+        "checkpoint ''",
+        "checkpoint --",
+        "checkpoint --at 4",
+        "checkpoint checkpoint",
+        "checkpoints",
+        "Checkpoint",
+        "state checkpoint",
         "generate",
         "generate 1 1",
         "generate 1 1 1 1",

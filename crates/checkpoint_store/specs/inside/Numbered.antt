@@ -17,7 +17,12 @@ use Rattle.checkpoint_store.specs.Checkpoints.{IsSnapshotOf, IsSoundSnapshot}
 use Rattle.checkpoint_store.specs.inside.Books.{AreKeyed, numbered_policies}
 
 abbrev pub as_snapshot : NumberedBooks → Snapshot
-as_snapshot books = record { position = books.position; upgrade = books.upgrade; ledger = books.ledger; book = numbered_policies books.policies.entries }
+as_snapshot books = record {
+  position = books.position;
+  upgrade = books.upgrade;
+  ledger = books.ledger;
+  book = numbered_policies books.policies.entries;
+}
 
 -- each policy stands under its own number, and together they are a sound snapshot
 pub record AreSoundBooks (books : NumberedBooks) : Type 0 where

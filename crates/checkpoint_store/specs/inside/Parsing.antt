@@ -10,12 +10,14 @@ use Rattle.checkpoint_store.specs.declared.front.Front.{Front}
 use Rattle.checkpoint_store.specs.Spelling.{balance_bytes, checkpoint_header, position_bytes}
 
 abbrev pub four_bytes_at : List ℕ → ℕ → List ℕ
-four_bytes_at bytes at = slice_index bytes at ∷ slice_index bytes (at + 1) ∷ slice_index bytes (at + 2) ∷ slice_index bytes (at + 3) ∷ []
+four_bytes_at bytes at =
+    slice_index bytes at ∷ slice_index bytes (at + 1) ∷ slice_index bytes (at + 2) ∷ slice_index bytes (at + 3) ∷ []
 
 abbrev pub eight_bytes_at : List ℕ → ℕ → List ℕ
 eight_bytes_at bytes at =
     slice_index bytes at ∷ slice_index bytes (at + 1) ∷ slice_index bytes (at + 2) ∷ slice_index bytes (at + 3)
-    ∷ slice_index bytes (at + 4) ∷ slice_index bytes (at + 5) ∷ slice_index bytes (at + 6) ∷ slice_index bytes (at + 7) ∷ []
+    ∷ slice_index bytes (at + 4) ∷ slice_index bytes (at + 5) ∷ slice_index bytes (at + 6)
+    ∷ slice_index bytes (at + 7) ∷ []
 
 -- the bytes between the gate and the policies
 abbrev pub front_of : Front → List ℕ

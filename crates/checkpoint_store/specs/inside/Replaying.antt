@@ -36,7 +36,10 @@ IsFaultFrom bodies start (BadRecord n) = (start ≤ n) × IsFirstBadBody bodies 
 IsFaultFrom bodies start NoMemory = Unit {0}
 
 -- the books, which were those of a journal's front, are those of a longer one, or its next record is none
-abbrev pub ReplaysOn : {D T : Type 0} {g : Ghosts D} → Journal D g → Journal D g → NumberedBooks → NumberedBooks → Result T ReopenFault → Type 0
+abbrev pub ReplaysOn : {D T : Type 0} {g : Ghosts D} → Journal D g → Journal D g → NumberedBooks → NumberedBooks
+    → Result T ReopenFault → Type 0
 ReplaysOn {g = g} old new before after result =
-    (bodies : List (List ℕ)) (faulted : List ℕ) → g.honest (disk_of new) → StandsFor old bodies faulted → IsSnapshotOfFront bodies (as_snapshot before)
-    → MatchResult result (λ done. IsSnapshotOfFront bodies (as_snapshot after)) (λ fault. IsFaultFrom bodies before.position fault)
+    (bodies : List (List ℕ)) (faulted : List ℕ) → g.honest (disk_of new) → StandsFor old bodies faulted
+    → IsSnapshotOfFront bodies (as_snapshot before)
+    → MatchResult result (λ done. IsSnapshotOfFront bodies (as_snapshot after))
+    (λ fault. IsFaultFrom bodies before.position fault)

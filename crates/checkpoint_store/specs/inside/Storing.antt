@@ -54,7 +54,9 @@ pub record IsAddedTo (bytes : List ℕ) (old new : NumberedBooks) : Type 0 where
 -- or the bytes spell none of a new number
 abbrev pub WasAdded : List ℕ → NumberedBooks → NumberedBooks → Bool → Type 0
 WasAdded bytes old new true = IsAddedTo bytes old new
-WasAdded bytes old new false = (policy : Policy) → IsSound policy → bytes ≡ policy_bytes policy → lookup (nat_eq policy.id) old.policies.entries ≡ None → ⊥
+WasAdded bytes old new false =
+    (policy : Policy) → IsSound policy → bytes ≡ policy_bytes policy
+    → lookup (nat_eq policy.id) old.policies.entries ≡ None → ⊥
 
 -- the books have these figures and so many sound policies, each of its own number
 pub record AreBegun (f : Front) (index : ℕ) (books : NumberedBooks) : Type 0 where
@@ -69,7 +71,8 @@ pub record AreBegun (f : Front) (index : ℕ) (books : NumberedBooks) : Type 0 w
 -- those are what stands in the file, and nothing else can stand there
 pub record AreUpTo (file : List ℕ) (f : Front) (index : ℕ) (books : NumberedBooks) : Type 0 where
   pub spelled : take (48 * index) (drop 64 file) ≡ flat_map policy_bytes (numbered_policies books.policies.entries)
-  pub only : (policies : List Policy) → HasPolicies file f.policies policies → take index policies ≡ numbered_policies books.policies.entries
+  pub only : (policies : List Policy) → HasPolicies file f.policies policies
+      → take index policies ≡ numbered_policies books.policies.entries
 
 abbrev pub HasNoPolicies : List ℕ → Front → Type 0
 HasNoPolicies file f = (policies : List Policy) → HasPolicies file f.policies policies → ⊥
