@@ -89,6 +89,7 @@ module _ {D E : Type 0} (g : Ghosts D) (e : Ghosts E) (disk : D) (second : E) (o
         telling = telling;
         first = reopened.alone;
         honesty = λ honest. reopened.only_read.honesty (tried.honesty honest);
+        order = λ honest second_honest. inr (reopened.safe honest);
         since = since_tried g e only_now saved_disks opened.snapshot still_held opened.store after reopened.only_read reopened.looked tried refl;
         now = now_tried g e only_now saved_disks opened.snapshot still_held opened.store after reopened.only_read reopened.looked tried refl;
       }
@@ -120,6 +121,7 @@ module _ {D E : Type 0} (g : Ghosts D) (e : Ghosts E) (disk : D) (second : E) (o
               telling = (ends.1, reopened.quiet);
               first = reopened.alone;
               honesty = reopened.only_read.honesty;
+              order = λ honest second_honest. inl reopened.only_read;
               since = since_read g e only_now (disks_under disk second opened) reopened.only_read;
               now = now_read g e only_now (disks_under disk second opened) reopened.only_read;
             })
@@ -149,6 +151,7 @@ module _ {D E : Type 0} (g : Ghosts D) (e : Ghosts E) (only_now : OnlyNow e) (di
     telling = ends_unopened g e disks output (IsSaved g e disks) cause ending none said;
     first = none.first;
     honesty = none.second.honesty;
+    order = λ honest second_honest. inl none.second;
     since = since_read g e only_now disks none.second;
     now = now_read g e only_now disks none.second;
   }

@@ -32,7 +32,7 @@ use Rattle.office_state.proofs.ImageSteps.{holds_now}
 use Rattle.office_state.proofs.KeptSteps.{keeps_first, kept_now}
 use Rattle.office_state.proofs.OpeningSteps.{CountsNow, IsStarted, OnlyNow, ReadsImage, holds_once, looked_alone, looked_ever, not_started, opening_keeps, opens_commands, started_later, synced_images}
 use Rattle.office_state.proofs.ReplaySteps.{stopped_shown}
-use Rattle.kept_books.specs.TwoDisks.{AreBothQuiet, AreTrue, HasOneFailed, IsHeldWhereTrue, IsOnlyRead, IsSnapshotHeld, TwoDisks}
+use Rattle.kept_books.specs.TwoDisks.{AreBothQuiet, AreTrue, HasOneFailed, IsHeldWhereTrue, IsMadeSafe, IsOnlyRead, IsSnapshotHeld, TwoDisks}
 use Rattle.kept_books.specs.declared.reopened.Reopened.{Reopened}
 use Rattle.kept_books.specs.inside.Reopened.{HasJournalOn, HasNoSnapshot, HasReopened, HasStoreOn, TellsFaultOfOne, as_start_cause, disks_under}
 
@@ -93,7 +93,6 @@ module _ {D E : Type 0} (g : Ghosts D) (e : Ghosts E) (reads_image : ReadsImage 
       second = read;
     }
 
-
 -- the journal behind the call that reads the snapshot
 module _ {D : Type 0} (g : Ghosts D) (reads_image : ReadsImage g) (counts_now : CountsNow g) (disk : D) (journal now : Journal D g)
     (on : HasJournalOn disk journal) (stays : StandsAsBefore journal now) where
@@ -102,6 +101,9 @@ module _ {D : Type 0} (g : Ghosts D) (reads_image : ReadsImage g) (counts_now : 
 
   first_alone : IsLeftAlone g disk (disk_of now)
   first_alone = looked_alone g disk journal (started on) counts_now reads_image (disk_of now) looked_at
+
+  made_safe : g.honest (disk_of now) → IsMadeSafe g disk (disk_of now)
+  made_safe honest = synced_images g disk journal (started on) counts_now (disk_of now) honest looked_at
 
   opened_so : g.honest (disk_of now) → HasStarted disk journal
   opened_so honest = on.opened (stays.honesty honest)
@@ -227,7 +229,7 @@ module _ {D E : Type 0} (g : Ghosts D) (e : Ghosts E) (reads_image : ReadsImage 
       λ are. snapshot_held g reads_image counts_now disk journal now on stays only_now quiet.first are.first_honest opened.snapshot
       (answered (Ok opened.snapshot) answers are) in
       by opened.journal opened.store same_journal same_store
-      (record { sound = sound; quiet = quiet; alone = first; only_read = second_read e second store after under keeps; looked = looked e second store after under keeps; held = held })
+      (record { sound = sound; quiet = quiet; alone = first; safe = made_safe g reads_image counts_now disk journal now on stays; only_read = second_read e second store after under keeps; looked = looked e second store after under keeps; held = held })
     where
       by : (j : Journal D g) (s : Store E e) → j ≡ now → s ≡ after
           → HasReopened disk second (record { snapshot = opened.snapshot; journal = now; store = after })

@@ -9,7 +9,7 @@ use Rattle.office_state.specs.Images.{IsLeftAlone}
 use Rattle.program_endings.specs.Writing.{Stream}
 use Rattle.program_endings.specs.declared.ending.Ending.{Ending}
 use Rattle.kept_books.specs.Telling.{EndsTelling, TellsSnapshot}
-use Rattle.kept_books.specs.TwoDisks.{IsHeldWhereTrue, TwoDisks}
+use Rattle.kept_books.specs.TwoDisks.{IsHeldWhereTrue, IsMadeSafe, IsOnlyRead, TwoDisks}
 
 -- the number of commands that were saved
 abbrev pub checkpoint_text : Snapshot → List ℕ
@@ -35,5 +35,7 @@ pub record EndsCheckpoint {D E : Type 0} (g : Ghosts D) (e : Ghosts E) (disks : 
   pub telling : EndsTelling g e disks (IsSaved g e disks) output ending
   pub first : IsLeftAlone g disks.old disks.new
   pub honesty : e.honest disks.kept → e.honest disks.second
+  -- nothing was written to the second disk before the journal's was made safe
+  pub order : g.honest disks.new → e.honest disks.kept → IsOnlyRead e disks.second disks.kept ⊎ IsMadeSafe g disks.old disks.new
   pub since : e.honest disks.kept → Leaves e disks.second disks.kept (IsNoneOrEarlierOrHeld g e disks)
   pub now : e.honest disks.kept → (image : List ℕ) → e.may_leave disks.kept image → IsNoneOrEarlierOrHeld g e disks image

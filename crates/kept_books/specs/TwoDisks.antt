@@ -5,6 +5,7 @@ use Rattle.outside_io.specs.declared.disks.Disk.{Ghosts}
 use Rattle.policy_types.specs.declared.command.Command.{Command}
 use Rattle.policy_machine.specs.History.{opened_on}
 use Rattle.posting_journal.specs.Creation.{OpensToBodies}
+use Rattle.posting_journal.specs.Opening.{IsOpenedOn, IsSynced}
 use Rattle.posting_journal.specs.Runs.{LooksOn}
 use Rattle.checkpoint_store.specs.Checkpoints.{IsSnapshotOf}
 use Rattle.checkpoint_store.specs.Reopening.{IsTrueWhereUsed}
@@ -50,6 +51,12 @@ IsHeldWhereTrue g e disks snapshot = AreTrue g e disks → IsSnapshotHeld g disk
 pub record IsOnlyRead {E : Type 0} (e : Ghosts E) (old new : E) : Type 0 where
   pub honesty : e.honest new → e.honest old
   pub looks : e.honest new → LooksOn e old new
+
+-- The journal's disk was made safe: from the end of a sync on a crash leaves the file as it was, or a creation that goes on or
+-- has just ended.
+abbrev pub IsMadeSafe : {D : Type 0} → Ghosts D → D → D → Type 0
+IsMadeSafe {D} g old new =
+    (mid : D) × IsSynced g old mid new × ((image : List ℕ) → g.left_since new (g.clock mid) image → IsOpenedOn (g.reads old) image)
 
 -- neither disk failed
 pub record AreBothQuiet {D E : Type 0} (g : Ghosts D) (e : Ghosts E) (disks : TwoDisks D E) : Type 0 where

@@ -6,3 +6,4 @@ pub mod LeftLaws
 pub mod ProgramSteps
 pub mod ReasonSteps
 pub mod BooksSteps
+pub mod KeptRunLaws

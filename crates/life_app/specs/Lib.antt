@@ -8,5 +8,6 @@ pub mod DueKept
 pub mod Crashes
 pub mod Headline
 pub mod Runs
+pub mod KeptRuns
 pub mod Worked
 pub mod inside

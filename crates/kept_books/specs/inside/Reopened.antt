@@ -17,7 +17,7 @@ use Rattle.office_state.specs.Journals.{IsShown}
 use Rattle.office_state.specs.declared.faults.StartCause.{StartCause}
 use Rattle.office_state.specs.declared.faults.StartCause.TheVariants.{DiskFault, BadRecord, NoMemory, NotAJournal}
 use Rattle.kept_books.specs.declared.reopened.Reopened.{Reopened}
-use Rattle.kept_books.specs.TwoDisks.{AreBothQuiet, AreTrue, HasOneFailed, IsHeldWhereTrue, IsOnlyRead, TwoDisks}
+use Rattle.kept_books.specs.TwoDisks.{AreBothQuiet, AreTrue, HasOneFailed, IsHeldWhereTrue, IsMadeSafe, IsOnlyRead, TwoDisks}
 
 -- the same fault, as a cause
 abbrev pub as_start_cause : ReopenFault → StartCause
@@ -49,6 +49,7 @@ pub record HasReopened {D E : Type 0} {g : Ghosts D} {e : Ghosts E} (disk : D) (
   pub sound : IsSoundSnapshot opened.snapshot
   pub quiet : AreBothQuiet g e (disks_under disk second opened)
   pub alone : IsLeftAlone g disk (disk_of opened.journal)
+  pub safe : g.honest (disk_of opened.journal) → IsMadeSafe g disk (disk_of opened.journal)
   pub only_read : IsOnlyRead e second (store_disk opened.store)
   pub looked : e.honest (store_disk opened.store) → HasLookedAt second opened.store
   pub held : IsHeldWhereTrue g e (disks_under disk second opened) opened.snapshot
