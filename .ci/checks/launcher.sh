@@ -1,7 +1,7 @@
 #!/bin/sh
 # The launcher, in a copy of the repository that has no program: wrong words build nothing; a preview is built once, runs
-# on copies, and is never taken for the proved program; only the proved program makes journal.life; and a program that is
-# older than a source, contract or proof of its crates isn't run.
+# on copies, and is never taken for the proved program; only the proved program makes journal.life and checkpoint.life; and a
+# program that is older than a source, contract or proof of its crates isn't run.
 . "$(dirname "$0")/../common.sh"
 copy=$work/copy
 mkdir "$copy"
@@ -42,6 +42,11 @@ leaves_none
 launch state </dev/null
 tail -n 1 out | grep -q '^count,4$' || complain "the next preview doesn't see the postings: $(cat out)"
 [ "$(wc -l <notes)" = 2 ] || complain "the preview was built again: $(cat notes)"
+echo checkpoint,4 >wanted
+launch checkpoint </dev/null
+judge "$status" 0 wanted
+[ ! -e checkpoint.life ] || complain "a preview made checkpoint.life"
+[ -f "$(find "$copy/out/preview/rooms" -name preview.checkpoint)" ] || complain "the preview's checkpoint isn't kept apart"
 launch value 2021-02-29 </dev/null
 echo usage >wanted
 judge "$status" 2 wanted
@@ -78,6 +83,16 @@ leaves before
 "$life" run <"$examples/second-day.csv" >transcript
 launch state </dev/null
 tail -n 1 out | grep -q '^count,5$' || complain "the preview doesn't begin anew with the changed journal: $(tail -n 1 out)"
+# the preview's checkpoint goes with the preview's journal
+launch run <"$examples/short-premium.csv"
+launch checkpoint </dev/null
+"$life" checkpoint </dev/null >out
+cp checkpoint.life kept.before
+"$life" run <"$examples/whole-life.csv" >transcript
+"$life" state </dev/null >wanted
+launch state </dev/null
+judge "$status" 0 wanted
+cmp -s kept.before checkpoint.life || complain "a preview touched checkpoint.life"
 
 begin "the proved program"
 mkdir -p "$copy/crates/life_cli/out" && cp "$program" "$copy/crates/life_cli/out/life_cli"
@@ -187,8 +202,14 @@ with open("journal.life") as file:
     status, said = on_a_terminal("state")
     holder = f"journal.life is held by process {os.getpid()}, "
     assert status == 8 and said.startswith("diskfault") and holder in said, (status, said)
+with open("checkpoint.life", "w") as file:
+    fcntl.flock(file, fcntl.LOCK_EX)
+    for word in ("state", "checkpoint"):
+        status, said = on_a_terminal(word)
+        holder = f"checkpoint.life is held by process {os.getpid()}, "
+        assert status == 8 and said.startswith("diskfault") and holder in said, (status, said)
 status, said = on_a_terminal("state", "0")
 assert status == 2 and said.startswith("usage") and "life: the words" in said, (status, said)
 PY
 
-end "wrong words build nothing, previews touch no journal, and only a current proof is run"
+end "wrong words build nothing, previews touch no journal and no checkpoint, and only a current proof is run"

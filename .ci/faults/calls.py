@@ -16,8 +16,8 @@ from dataclasses import dataclass
 
 from judge import Wrong, demand, demand_file, commands_in, judge_early_end, judge_transcript, judge_unanswered, reason
 from journals import file_of
-from runs import JOURNAL, Desk
-from scenes import SCENES, book_before
+from runs import JOURNAL, KEPT, Desk
+from scenes import SCENES, book_before, checkpoint_before
 from tables import read_basis
 
 AT_ONCE = 2
@@ -46,7 +46,7 @@ class Target:
 
 def names_in(desk):
     """The files that are watched, each by the names under which strace may see it."""
-    names = {name: [name, desk.path(name)] for name in ("basis.csv", "q.xml", "g.xml", JOURNAL, "script.csv", "out")}
+    names = {name: [name, desk.path(name)] for name in ("basis.csv", "q.xml", "g.xml", JOURNAL, KEPT, "script.csv", "out")}
     return {**names, "folder": [".", desk.folder]}
 
 
@@ -97,6 +97,7 @@ class Trial:
     def __init__(self, program, folder, scene):
         self.program, self.folder, self.scene = program, folder, scene
         self.before = file_of(book_before().commands) if scene.has_journal else b""
+        self.kept = checkpoint_before(scene.kept)
         desk = self.desk("recorded")
         self.basis, self.known = read_basis(desk.path("basis.csv")), {}
         self.undisturbed = desk.run(scene.words)
@@ -110,7 +111,7 @@ class Trial:
         return desk
 
     def lay(self, desk):
-        desk.lay(self.before, self.scene.script)
+        desk.lay(self.before, self.scene.script, self.kept)
 
     def is_posting(self, target):
         """Whether the call may be a posting's: one behind those that open the journal."""
@@ -139,7 +140,7 @@ class Trial:
             self.judge_undisturbed(ended)
         elif target.file == "out":
             self.judge_cut(ended)
-        elif target.file in (JOURNAL, "folder"):
+        elif target.file in (JOURNAL, KEPT, "folder"):
             self.judge_disk(target, hits, ended)
         else:
             judge_early_end(ended, 6, self.before)

@@ -49,7 +49,7 @@ def modes(program, folder):
     return [Mode("run", ["run"], eight_clerks(25, BEFORE), before), Mode("value", ["value", "2021-01-01"], b"", before),
             Mode("deficiency", ["value", "2021-01-01", "--deficiency"], b"", before),
             Mode("project", ["project", "2021-01-01", "90"], b"", before), Mode("state", ["state"], b"", before),
-            Mode("load", ["load", "1", "300", "8", "1"], generated, b"")]
+            Mode("checkpoint", ["checkpoint"], b"", before), Mode("load", ["load", "1", "300", "8", "1"], generated, b"")]
 
 
 class Trial:

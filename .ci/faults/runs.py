@@ -12,6 +12,7 @@ from journals import read_journal
 
 ROOT = os.path.join(os.path.dirname(os.path.abspath(__file__)), "..", "..")
 JOURNAL = "journal.life"
+KEPT = "checkpoint.life"
 LONGEST_SECONDS = 60
 
 
@@ -55,12 +56,13 @@ class Desk:
     def journal(self):
         return read_bytes(self.path(JOURNAL))
 
-    def lay(self, journal, script=b""):
-        """Puts this journal there, or none where it is empty, and this script."""
-        if os.path.exists(self.path(JOURNAL)):
-            os.remove(self.path(JOURNAL))
-        if journal:
-            write_bytes(self.path(JOURNAL), journal)
+    def lay(self, journal, script=b"", kept=b""):
+        """Puts this journal and this checkpoint there, or none where they are empty, and this script."""
+        for name, data in ((JOURNAL, journal), (KEPT, kept)):
+            if os.path.exists(self.path(name)):
+                os.remove(self.path(name))
+            if data:
+                write_bytes(self.path(name), data)
         write_bytes(self.path("script.csv"), script)
 
     def start(self, words, before=()):
@@ -88,6 +90,15 @@ class Desk:
         wanted = f"1,issue,4294967295,accepted,{count + 1}\nwatcher,1,1,1\nwatcher,2,1,0\n"
         demand((again.status, again.text) == (0, wanted), f"reopened, it ended with {again.status}: {again.text[:200]!r}")
         demand(len(read_journal(again.after).commands) == count + 1, "the record after reopening isn't there")
+        self.judge_kept()
+
+    def judge_kept(self):
+        """What is left of a checkpoint changes nothing of the state."""
+        if os.path.exists(self.path(KEPT)):
+            beside = self.run(["state"])
+            os.remove(self.path(KEPT))
+            alone = self.run(["state"])
+            demand((beside.status, beside.text) == (0, alone.text), f"with the checkpoint the state is {beside.text[:200]!r}")
 
 
 def default_signals():

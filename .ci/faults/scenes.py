@@ -1,7 +1,8 @@
 """What is run while something fails: the words, the script, whether there is a journal, and the calls that must be made."""
 from dataclasses import dataclass
 
-from runs import JOURNAL  # noqa: F401: it also puts tools/ on the path
+from runs import JOURNAL, KEPT  # noqa: F401: it also puts tools/ on the path
+from checkpoints import bytes_of_checkpoint, checkpoint_of
 from commands import Command
 from formats import day_in
 from rules import Book
@@ -29,6 +30,7 @@ READS_BASIS = [(kind, file) for kind in ("openat", "read") for file in BASIS_FIL
 OPENS = [(kind, JOURNAL) for kind in ("openat", "flock", "fsync", "statx")] + [("openat", "folder"), ("fsync", "folder")]
 POSTS = [("pwrite64", JOURNAL), ("fsync", JOURNAL), ("read", "script.csv")]
 READS = [("pread64", JOURNAL)]
+OPENS_KEPT = [(kind, KEPT) for kind in ("openat", "flock", "fsync", "statx")]
 
 
 @dataclass(frozen=True)
@@ -38,6 +40,8 @@ class Scene:
     script: bytes
     has_journal: bool
     makes: list
+    # of how many commands there is a checkpoint, if there is one
+    kept: int | None = None
 
     @property
     def posts(self):
@@ -52,6 +56,11 @@ def book_before():
     return Book([*issues, Command("premium", 7, day, amount=40000), Command("claim", 9, day_in("2020-01-20"))])
 
 
+def checkpoint_before(count):
+    """That of the first so many commands of the book before."""
+    return b"" if count is None else bytes_of_checkpoint(checkpoint_of(book_before().commands[:count]))
+
+
 SCENES = [
     Scene("a first run of one clerk", ["run"], ONE_CLERK, False, OPENS + POSTS + [("write", "out")]),
     Scene("a first run of two clerks", ["run"], TWO_CLERKS, False, OPENS + POSTS + READS_BASIS + [("write", "out")]),
@@ -59,7 +68,11 @@ SCENES = [
     Scene("values", ["value", "2021-01-01"], b"", True, OPENS + READS_BASIS + READS + [("write", "out")]),
     Scene("mean values", ["value", "2021-01-01", "--mean"], b"", True, OPENS + READS_BASIS + READS + [("write", "out")]),
     Scene("a projection", ["project", "2021-01-01", "3"], b"", True, OPENS + READS_BASIS + READS + [("write", "out")]),
-    Scene("the state", ["state"], b"", True, OPENS + READS + [("write", "out")]),
+    Scene("the state", ["state"], b"", True, OPENS + READS + OPENS_KEPT + [("write", "out")]),
+    Scene("the state behind a checkpoint", ["state"], b"", True, OPENS + OPENS_KEPT + READS + [("pread64", KEPT), ("write", "out")], 4),
+    Scene("a checkpoint", ["checkpoint"], b"", True, OPENS + OPENS_KEPT + READS + [("pwrite64", KEPT), ("write", "out")]),
+    Scene("a later checkpoint", ["checkpoint"], b"", True,
+          OPENS + OPENS_KEPT + READS + [("pread64", KEPT), ("pwrite64", KEPT), ("write", "out")], 3),
     Scene("the state of one policy", ["state", "7"], b"", True, OPENS + READS + [("write", "out")]),
 ]
 

@@ -22,7 +22,7 @@ SIGNALS = [signal.SIGTERM, signal.SIGINT, signal.SIGKILL]
 RUNS, OPENINGS = 24, 12
 BEFORE, EACH, LARGE = 150, 12, 20000
 # what opens a journal and may not change it
-OPENING = [["state"], ["state", "7"], ["value", "2021-01-01"], ["value", "2021-01-01", "--mean"],
+OPENING = [["state"], ["checkpoint"], ["state", "7"], ["value", "2021-01-01"], ["value", "2021-01-01", "--mean"],
            ["value", "--deficiency", "2021-01-01"], ["project", "2021-01-01", "40"], ["run"]]
 
 

@@ -1,18 +1,22 @@
 -- What the top call promises of devices between two moments, said of devices from their start.
-use Rattle.std.proofs.Common.{◌≡◌, inl, inr, ℕ, List, [], ◌∷◌, ◌++◌, map, refl, Option, Some, None, String}
+use Rattle.std.proofs.Common.{◌≡◌, ◌⊎◌, inl, inr, ℕ, List, [], ◌∷◌, ◌++◌, map, refl, Option, Some, None, String}
 use Rattle.std.specs.Global.{Global}
 use Rattle.outside_io.specs.Shelves.{Files, Answer, Agrees}
 use Rattle.outside_io.specs.declared.disks.Disk.{Ghosts}
 use Rattle.watcher_set.specs.Noted.{Auditor}
 use Rattle.life_args.specs.declared.mode.Mode.{Mode}
 use Rattle.life_args.specs.declared.mode.Mode.TheVariants.{Run, Value, Project, State, Checkpoint, Generate, Load}
+use Rattle.program_endings.specs.Status.{status_of}
 use Rattle.program_endings.specs.Writing.{Input, Shelving, Stream}
 use Rattle.program_endings.specs.declared.ending.Ending.{Ending}
 use Rattle.program_endings.specs.declared.ending.Ending.TheVariants.{NoMemory}
 use Rattle.script_run.specs.Running.{EndsLanes, EndsRun}
 use Rattle.policy_types.specs.declared.script.Lane.{Lane}
+use Rattle.kept_books.specs.TwoDisks.{TwoDisks}
+use Rattle.life_app.specs.DueKept.{IsDueOfBoth}
 use Rattle.life_app.specs.Needs.{Filing}
 use Rattle.life_app.specs.Obeys.{Does, EndsMode, Obeys}
+use Rattle.life_app.specs.ObeysKept.{AskForBoth, ObeysKept}
 use Rattle.life_cli.specs.Completing.{EndsDuly}
 use Rattle.life_cli.specs.Shipped.{filing_from_start, input_from_start, output_from_start, shelf_from_start}
 
@@ -53,6 +57,22 @@ module _ {D : Type 0} (g : Ghosts D) (old new : D) (words : List (String Global)
   pub obeys_still : (status : ℕ) → Obeys g old new words auditors input output shelf A B status → Obeys g old new words auditors input output shelf A' B' status
   obeys_still status obeys = record { ending = obeys.ending; exits = obeys.exits; does = does_still obeys.ending obeys.does }
 
+-- The same over two disks.
+module _ {D E : Type 0} (g : Ghosts D) (e : Ghosts E) (disks : TwoDisks D E) (words : List (String Global)) (auditors : List Auditor) (input : Input) (output : Stream)
+    (shelf : Shelving) (A B A' B' : Type 0) (f : A → A') (h : B → B') where
+  pub kept_still : (status : ℕ) → ObeysKept g e disks words auditors input output shelf A B status → ObeysKept g e disks words auditors input output shelf A' B' status
+  kept_still status (inl both) = inl (record { ending = both.ending; exits = both.exits; input = f both.input; shelf = h both.shelf; ends = both.ends })
+  kept_still status (inr (inl one)) = inr (inl (record {
+    other = one.other;
+    obeys = obeys_still g disks.old disks.new words auditors input output shelf A B A' B' f h status one.obeys;
+    second = one.second;
+  }))
+  kept_still status (inr (inr unread)) = inr (inr (record {
+    exits = unread.exits;
+    unasked = record { disk = unread.unasked.disk; input = f unread.unasked.input; shelf = h unread.unasked.shelf; says = unread.unasked.says };
+    second = unread.second;
+  }))
+
 -- A shelf that answered nothing agrees with all files.
 pub agrees_with_all : (answers : List Answer) → answers ≡ [] → (files : Files) → Agrees answers files
 agrees_with_all answers none files = rw none tt
@@ -63,23 +83,35 @@ pub seen_of_two : {X Y : Type 0} → (see : X → Y) (none ready one two : List 
 seen_of_two see none ready one two first second a b e₁ e₂ e₃ e₄ is_a is_b = rw (e₁, e₂, e₃, e₄, is_a, is_b) refl
 
 -- The auditors that were handed over are these.
-module _ {D : Type 0} (g : Ghosts D) (old new : D) (words : List (String Global)) (input : Input) (output : Stream) (shelf : Shelving) (A B : Type 0) (status : ℕ) where
-  pub obeys_with : (auditors others : List Auditor) → auditors ≡ others → Obeys g old new words auditors input output shelf A B status
-      → Obeys g old new words others input output shelf A B status
+module _ {D E : Type 0} (g : Ghosts D) (e : Ghosts E) (disks : TwoDisks D E) (words : List (String Global)) (input : Input) (output : Stream) (shelf : Shelving)
+    (A B : Type 0) (status : ℕ) where
+  pub obeys_with : (auditors others : List Auditor) → auditors ≡ others → ObeysKept g e disks words auditors input output shelf A B status
+      → ObeysKept g e disks words others input output shelf A B status
   obeys_with auditors others same obeys = rw same at obeys
 
 -- Devices that had no fault at the start, and through which nothing had passed.
-module _ {D : Type 0} (g : Ghosts D) (old new : D) (words : List (String Global)) (auditors : List Auditor) (A B : Type 0) (status : ℕ) where
+module _ {D E : Type 0} (g : Ghosts D) (e : Ghosts E) (disks : TwoDisks D E) (words : List (String Global)) (auditors : List Auditor) (A B : Type 0) (status : ℕ) where
   pub obeys_from_start : (input_faults input_then output_faults output_then shelf_faults shelf_then : ℕ) (given given_then : List ℕ) (Ended : Type 0)
       (written written_then : Option (List ℕ)) (Agrees : Files → Type 0)
       → input_faults ≡ 0 → given ≡ [] → output_faults ≡ 0 → written ≡ Some [] → shelf_faults ≡ 0
-      → Obeys g old new words auditors
+      → ObeysKept g e disks words auditors
       (record { faults_before = input_faults; faults_after = input_then; left_before = None; left_after = None; given_before = given; given_after = given_then; Ended = Ended })
       (record { faults_before = output_faults; faults_after = output_then; before = written; after = written_then })
       (record { faults_before = shelf_faults; faults_after = shelf_then; Agrees = Agrees }) A B status
-      → Obeys g old new words auditors (input_from_start input_then given_then Ended) (output_from_start output_then written_then) (shelf_from_start shelf_then Agrees) A B status
+      → ObeysKept g e disks words auditors (input_from_start input_then given_then Ended) (output_from_start output_then written_then) (shelf_from_start shelf_then Agrees)
+      A B status
   obeys_from_start input_faults input_then output_faults output_then shelf_faults shelf_then given given_then Ended written written_then Agrees
       e₁ e₂ e₃ e₄ e₅ obeys = rw (e₁, e₂, e₃, e₄, e₅) at obeys
+
+-- What is due by both disks, of an output from its start.
+module _ {D E : Type 0} (g : Ghosts D) (e : Ghosts E) (disks : TwoDisks D E) (words : List (String Global)) (status : ℕ) where
+  pub due_from_start : (output_faults output_then : ℕ) (written written_then : Option (List ℕ)) → output_faults ≡ 0 → written ≡ Some []
+      → ((ending : Ending) → AskForBoth words
+      → IsDueOfBoth g e disks (record { faults_before = output_faults; faults_after = output_then; before = written; after = written_then }) ending
+      → (status ≡ status_of ending) ⊎ (status ≡ 9))
+      → (ending : Ending) → AskForBoth words → IsDueOfBoth g e disks (output_from_start output_then written_then) ending
+      → (status ≡ status_of ending) ⊎ (status ≡ 9)
+  due_from_start output_faults output_then written written_then e₁ e₂ due = rw (e₁, e₂) at due
 
 module _ (words : List (String Global)) (status : ℕ) where
   pub ends_from_start : (input_faults input_then output_faults output_then shelf_faults shelf_then disk_faults disk_then : ℕ) (given given_then : List ℕ) (Ended : Type 0)
@@ -99,7 +131,7 @@ module _ (words : List (String Global)) (status : ℕ) where
 module _ (words : List (String Global)) (input : Input) (output : Stream) (shelf : Shelving) (disk : Filing) (status : ℕ) where
   pub ends_with_9 : status ≡ 9 → disk.after ≡ disk.before → EndsDuly words input output shelf disk status
   ends_with_9 nine same = record {
-    reason = (NoMemory, nine, tt);
-    due = λ ending is. inr nine;
+    reason = λ other. (NoMemory, nine, tt);
+    due = λ ending other is. inr nine;
     unopened = λ honest none. same;
   }

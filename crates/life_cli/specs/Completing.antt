@@ -7,14 +7,15 @@ use Rattle.program_endings.specs.Writing.{Input, Shelving, Stream}
 use Rattle.program_endings.specs.declared.ending.Ending.{Ending}
 use Rattle.life_app.specs.Due.{IsDueEnding}
 use Rattle.life_app.specs.Needs.{Filing}
+use Rattle.life_app.specs.ObeysKept.{AskForBoth}
 use Rattle.life_app.specs.Reasons.{IsReasoned}
 
 pub record EndsDuly (words : List (String Global)) (input : Input) (output : Stream) (shelf : Shelving) (disk : Filing)
     (status : ℕ) : Type 0 where
-  -- the status has its reason
-  pub reason : IsReasoned words input output shelf disk status
-  -- an ending that is due comes about, but for want of memory
-  pub due : (ending : Ending) → IsDueEnding words input output shelf disk ending
+  -- where the words open the journal's disk alone, the status has its reason
+  pub reason : ¬ AskForBoth words → IsReasoned words input output shelf disk status
+  -- and an ending that is due comes about, but for want of memory
+  pub due : (ending : Ending) → ¬ AskForBoth words → IsDueEnding words input output shelf disk ending
       → (status ≡ status_of ending) ⊎ (status ≡ 9)
   -- a file that opens to no commands reads as before
   pub unopened : disk.Honest → OpensToNone disk.before → disk.after ≡ disk.before

@@ -25,11 +25,13 @@ fn main(rt: HostRuntime) -> ExitCode {
                 output,
                 shelf,
                 disk,
-            } = run_shipped(&rt, rt, &words, AnyFile);
+                second,
+            } = run_shipped(&rt, rt, &words, AnyFile, AnyFile);
             drop(input);
             drop(output);
             drop(shelf);
             drop(disk);
+            drop(second);
             status
         }
         Err(AllocError) => {

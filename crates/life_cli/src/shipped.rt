@@ -1,13 +1,16 @@
 // All of the program but what the system hands it, on the devices that it is shipped with.
-ghost use Rattle.std.specs.Prelude.{◌≡◌, List, []};
+ghost use Rattle.std.specs.Prelude.{◌≡◌, ◌⊎◌, List, []};
 ghost use Rattle.outside_io.specs.Shelves.{Files};
+ghost use Rattle.program_endings.specs.Status.{status_of};
 ghost use Rattle.program_endings.specs.Writing.{between, input_between, shelf_between};
-ghost use Rattle.life_app.specs.Obeys.{Obeys};
+ghost use Rattle.program_endings.specs.declared.ending.Ending.{Ending as AnEnding};
+ghost use Rattle.life_app.specs.DueKept.{IsDueOfBoth};
 ghost use Rattle.life_app.specs.Needs.{filing_between};
+ghost use Rattle.life_app.specs.ObeysKept.{AskForBoth, ObeysKept};
 ghost use Rattle.life_cli.specs.Completing.{EndsDuly};
-ghost use Rattle.life_cli.specs.Shipped.{ObeysFromStart, filing_from_start, shipped_auditors, input_from_start, output_from_start, shelf_from_start};
+ghost use Rattle.life_cli.specs.Shipped.{ObeysFromStart, filing_from_start, shipped_auditors, input_from_start, output_from_start, shelf_from_start, two_disks};
 
-use life_app::{Ended, life};
+use life_app::{EndedKept, life_kept};
 use outside_io::{
     Disk, FileDisk, FolderShelf, FoundFile, OpenGate, Shelf, Sink, Source, StdSink, StdSource,
 };
@@ -22,6 +25,9 @@ use watcher_set::{CountWatcher, PremiumWatcher};
 /// The file in which the policies are kept, in the folder in which the program runs.
 const JOURNAL: &str = "journal.life";
 
+/// The file in which the books are kept, at some position of the journal.
+const CHECKPOINT: &str = "checkpoint.life";
+
 /// The count of commands at which the first auditor is done.
 const MOST_COUNTED: u32 = 4_000_000;
 
@@ -35,25 +41,29 @@ pub type Output = StdSink<Stdout>;
 pub type Folder = FolderShelf<HostRuntime>;
 
 /// What the program leaves: its exit status, and its devices with what they noted.
-pub struct Left<F: FoundFile> {
+pub struct Left<F: FoundFile, C: FoundFile> {
     pub status: u8,
     pub input: Input,
     pub output: Output,
     pub shelf: Folder,
     pub disk: FileDisk<HostRuntime, F>,
+    pub second: FileDisk<HostRuntime, C>,
 }
 
-/// Does what the words ask for, over standard input and output, the folder and its `journal.life`.
+/// Does what the words ask for, over standard input and output, the folder and its `journal.life` and `checkpoint.life`.
 ///
-/// What it promises is said of what these devices noted, and holds whatever the file was before (`F`). The one premise on
-/// them is that each answer of the file is one that the disk model allows, and it is asked only of what is said of the file.
-pub fn run_shipped<R: Threads + Wait + Sync, F: FoundFile>(
+/// What it promises is said of what these devices noted, and holds whatever the two files were before (`F`, `C`). The one
+/// premise on them is that each answer of a file is one that the disk model allows, and it is asked only of what is said of
+/// that file.
+pub fn run_shipped<R: Threads + Wait + Sync, F: FoundFile, C: FoundFile>(
     rt: &R,
     system: HostRuntime,
     words: &[String],
     found: F,
-) -> Left<F>
-    ensures obeys { ObeysFromStart ⟦<FileDisk<HostRuntime, F> as Disk>⟧ F.bytes result.disk words.now
+    kept: C,
+) -> Left<F, C>
+    ensures obeys { ObeysFromStart ⟦<FileDisk<HostRuntime, F> as Disk>⟧ ⟦<FileDisk<HostRuntime, C> as Disk>⟧ F.bytes C.bytes
+        result.disk result.second words.now
         (input_from_start (⟦<Input as Source>⟧.faults result.input) (⟦<Input as Source>⟧.given result.input)
         (⟦<Input as Source>⟧.ended result.input))
         (output_from_start (⟦<Output as Sink>⟧.faults result.output) (⟦<Output as Sink>⟧.written result.output))
@@ -74,18 +84,33 @@ pub fn run_shipped<R: Threads + Wait + Sync, F: FoundFile>(
     let mut output = StdSink::new(system.stdout());
     let mut shelf = FolderShelf::new(system);
     let disk = FileDisk::at(system, JOURNAL, found);
-    let Ended { status, disk } = obey(rt, alloc, words, &mut input, &mut output, &mut shelf, disk);
+    let second = FileDisk::at(system, CHECKPOINT, kept);
+    let EndedKept {
+        status,
+        disk,
+        second,
+    } = obey(
+        rt,
+        alloc,
+        words,
+        &mut input,
+        &mut output,
+        &mut shelf,
+        disk,
+        second,
+    );
     Left {
         status,
         input,
         output,
         shelf,
         disk,
+        second,
     }
 }
 
 // The same over devices as they are: the top call with the two auditors, or 9 where these find no memory.
-fn obey<R: Threads + Wait + Sync, F: FoundFile>(
+fn obey<R: Threads + Wait + Sync, F: FoundFile, C: FoundFile>(
     rt: &R,
     alloc: Global,
     words: &[String],
@@ -93,8 +118,10 @@ fn obey<R: Threads + Wait + Sync, F: FoundFile>(
     output: &mut Output,
     shelf: &mut Folder,
     disk: FileDisk<HostRuntime, F>,
-) -> Ended<FileDisk<HostRuntime, F>>
-    ensures obeys { Obeys ⟦<FileDisk<HostRuntime, F> as Disk>⟧ disk result.disk words.now shipped_auditors
+    second: FileDisk<HostRuntime, C>,
+) -> EndedKept<FileDisk<HostRuntime, F>, FileDisk<HostRuntime, C>>
+    ensures obeys { ObeysKept ⟦<FileDisk<HostRuntime, F> as Disk>⟧ ⟦<FileDisk<HostRuntime, C> as Disk>⟧
+        (two_disks disk result.disk second result.second) words.now shipped_auditors
         (input_between (⟦<Input as Source>⟧.faults) (⟦<Input as Source>⟧.left) (⟦<Input as Source>⟧.given)
         (⟦<Input as Source>⟧.ended) input.old input.new)
         (between (⟦<Output as Sink>⟧.faults) (⟦<Output as Sink>⟧.written) output.old output.new)
@@ -106,6 +133,11 @@ fn obey<R: Threads + Wait + Sync, F: FoundFile>(
         (between (⟦<Output as Sink>⟧.faults) (⟦<Output as Sink>⟧.written) output.old output.new)
         (shelf_between (⟦<Folder as Shelf>⟧.faults) (⟦<Folder as Shelf>⟧.agrees) shelf.old shelf.new)
         (filing_between ⟦<FileDisk<HostRuntime, F> as Disk>⟧ disk result.disk) result.status }
+    ensures due { (ending : AnEnding) → AskForBoth words.now
+        → IsDueOfBoth ⟦<FileDisk<HostRuntime, F> as Disk>⟧ ⟦<FileDisk<HostRuntime, C> as Disk>⟧
+        (two_disks disk result.disk second result.second)
+        (between (⟦<Output as Sink>⟧.faults) (⟦<Output as Sink>⟧.written) output.old output.new) ending
+        → (result.status ≡ status_of ending) ⊎ (result.status ≡ 9) }
 {
     let counting = Box::new(alloc, CountWatcher::new(alloc, MOST_COUNTED));
     let adding = Box::new(alloc, PremiumWatcher::new(alloc));
@@ -113,11 +145,15 @@ fn obey<R: Threads + Wait + Sync, F: FoundFile>(
     let room = auditors.reserve(2);
     let (Ok(counting), Ok(adding), Ok(())) = (counting, adding, room) else {
         let status = lack_memory(output).status();
-        return Ended { status, disk };
+        return EndedKept {
+            status,
+            disk,
+            second,
+        };
     };
     auditors.push_reserved(counting);
     auditors.push_reserved(adding);
-    life(
-        rt, alloc, words, input, output, shelf, disk, auditors, &OpenGate,
+    life_kept(
+        rt, alloc, words, input, output, shelf, disk, second, auditors, &OpenGate,
     )
 }

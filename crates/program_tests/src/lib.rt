@@ -16,6 +16,12 @@ mod hostile_tests;
 #[cfg(test)]
 mod load_tests;
 #[cfg(test)]
+mod kept;
+#[cfg(test)]
+mod kept_crash_tests;
+#[cfg(test)]
+mod kept_tests;
+#[cfg(test)]
 mod lying_disk;
 #[cfg(test)]
 mod lying_disk_tests;

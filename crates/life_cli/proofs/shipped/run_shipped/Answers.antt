@@ -2,7 +2,8 @@ use Rattle.std.proofs.Common.{◌≡◌, List, [], length, Some, ap}
 use Rattle.outside_io.specs.FileCalls.{FileCall, file_reads, AreAllowed}
 use Rattle.outside_io.specs.Shelves.{Files, Agrees}
 use Rattle.outside_io.specs.Streams.{StreamPiece, passed_bytes, HasEnd}
-use Rattle.life_cli.proofs.FromStart.{obeys_still, obeys_from_start, ends_from_start, agrees_with_all}
+use Rattle.life_cli.specs.Shipped.{two_disks}
+use Rattle.life_cli.proofs.FromStart.{due_from_start, ends_from_start, agrees_with_all, kept_still, obeys_from_start}
 use Rattle.life_cli.proofs.shipped.run_shipped.Goals as goal
 
 pub returns-clause-obeys : goal.returns-clause-obeys
@@ -14,20 +15,33 @@ returns-clause-obeys g c =
     let output' = c.obey-status.new.output in
     let shelf' = c.obey-status.new.shelf in
     let gave = ap (λ (pieces : List StreamPiece). passed_bytes pieces) c.new-input.ensures.given in
+    let disk = c.at-disk.result in
+    let second = c.at-second.result in
+    let disks = two_disks disk c.obey-status.result.disk second c.obey-status.result.second in
+    let took = ap (λ (pieces : List StreamPiece). Some (passed_bytes pieces)) c.new-output.ensures.taken in
     record {
-      old = c.at-disk.result;
-      faultless = c.at-disk.ensures.faults;
-      first = ap (λ (calls : List FileCall). length calls) c.at-disk.ensures.calls;
-      reads = ap (λ (calls : List FileCall). file_reads g.F.FoundFile.bytes g.F.FoundFile.torn calls) c.at-disk.ensures.calls;
+      old = disk;
+      second = second;
+      found = record {
+        faultless = c.at-disk.ensures.faults;
+        first = ap (λ (calls : List FileCall). length calls) c.at-disk.ensures.calls;
+        reads = ap (λ (calls : List FileCall). file_reads g.F.FoundFile.bytes g.F.FoundFile.torn calls) c.at-disk.ensures.calls;
+      };
+      second_found = record {
+        faultless = c.at-second.ensures.faults;
+        first = ap (λ (calls : List FileCall). length calls) c.at-second.ensures.calls;
+        reads = ap (λ (calls : List FileCall). file_reads g.C.FoundFile.bytes g.C.FoundFile.torn calls) c.at-second.ensures.calls;
+      };
       obeys = obeys_from_start _ _ _ _ _ _ _ _ input.faults input'.faults output.faults output'.faults shelf.faults shelf'.faults
           (passed_bytes input.given) (passed_bytes input'.given) (HasEnd input'.given) (Some (passed_bytes output.taken)) (Some (passed_bytes output'.taken))
           (λ files. Agrees shelf'.answers files)
-          c.new-input.ensures.faults gave c.new-output.ensures.faults
-          (ap (λ (pieces : List StreamPiece). Some (passed_bytes pieces)) c.new-output.ensures.taken) c.new-shelf.ensures.faults
+          c.new-input.ensures.faults gave c.new-output.ensures.faults took c.new-shelf.ensures.faults
           (
-          obeys_still _ _ _ _ _ _ _ _ (input' ≡ input) (shelf' ≡ shelf) (passed_bytes input'.given ≡ []) ((files : Files) → Agrees shelf'.answers files)
+          kept_still _ _ disks _ _ _ _ _ (input' ≡ input) (shelf' ≡ shelf) (passed_bytes input'.given ≡ []) ((files : Files) → Agrees shelf'.answers files)
           (λ stays. cc (gave)) (λ stays. agrees_with_all shelf'.answers (cc (c.new-shelf.ensures.answers))) _ c.obey-status.ensures.obeys
           );
+      due = due_from_start _ _ disks _ _ output.faults output'.faults (Some (passed_bytes output.taken)) (Some (passed_bytes output'.taken))
+          c.new-output.ensures.faults took c.obey-status.ensures.due;
     }
 
 pub returns-clause-ends : goal.returns-clause-ends

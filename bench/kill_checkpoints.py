@@ -1,0 +1,116 @@
+#!/usr/bin/env python3
+"""Kills `life checkpoint`, and `life run` beside a checkpoint, with SIGKILL at random moments, and judges each time that
+`state` writes what it writes without the checkpoint, and that the file holds no checkpoint or one of the journal's front.
+
+usage: python3 bench/kill_checkpoints.py PROGRAM FOLDER KILLS SEED     (python3 and its standard library)
+
+FOLDER is made, and is left as it is. The seed fixes what is drawn, not where a kill falls.
+"""
+import os
+import random
+import shutil
+import signal
+import subprocess
+import sys
+import time
+
+sys.path.insert(0, os.path.join(os.path.dirname(os.path.dirname(os.path.abspath(__file__))), "tools"))
+
+from checkpoints import checkpoint_in, checkpoint_of
+from formats import Wrong, demand
+from journals import read_journal
+
+POLICIES = 4000
+JOURNAL, KEPT = "journal.life", "checkpoint.life"
+
+
+class Office:
+    def __init__(self, program, folder):
+        self.program, self.folder, self.given = program, folder, 0
+        self.kinds = {"no file": 0, "no checkpoint": 0, "older": 0, "of the count": 0}
+
+    def path(self, name):
+        return os.path.join(self.folder, name)
+
+    def read(self, name):
+        if not os.path.exists(self.path(name)):
+            return None
+        with open(self.path(name), "rb") as file:
+            return file.read()
+
+    def start(self, words, script=b""):
+        with open(self.path("script"), "wb") as file:
+            file.write(script)
+        with open(self.path("script"), "rb") as given, open(self.path("out"), "wb") as out:
+            return subprocess.Popen([self.program, *words], stdin=given, stdout=out, cwd=self.folder)
+
+    def issues(self, many):
+        first, self.given = self.given, self.given + many
+        rows = (f"1,issue,{n},2020-01-01,endowment,0,3,1000.00,400.00\n" for n in range(first + 1, self.given + 1))
+        return "".join(rows).encode()
+
+    def run(self, words, script=b""):
+        status = self.start(words, script).wait()
+        demand(status == 0, f"{words} ended with {status}: {self.read('out')[:80]!r}")
+        return self.read("out")
+
+    def kill(self, words, script, delay):
+        made = self.start(words, script)
+        time.sleep(delay)
+        made.send_signal(signal.SIGKILL)
+        return made.wait() != 0
+
+    def judge(self):
+        """What the killed program left of both files, before anything is repaired."""
+        journal, kept = self.read(JOURNAL), self.read(KEPT)
+        commands = read_journal(journal or b"").commands
+        try:
+            checkpoint = checkpoint_in(kept or b"")
+        except Wrong:
+            self.kinds["no file" if kept is None else "no checkpoint"] += 1
+        else:
+            demand(checkpoint.position <= len(commands), f"a checkpoint of {checkpoint.position} commands, and {len(commands)} are there")
+            demand(checkpoint == checkpoint_of(commands[:checkpoint.position]), "a checkpoint of other books")
+            self.kinds["of the count" if checkpoint.position == len(commands) else "older"] += 1
+        stated = self.run(["state"])
+        alone = Office(self.program, self.path("alone"))
+        os.mkdir(alone.folder)
+        if journal is not None:
+            with open(alone.path(JOURNAL), "wb") as file:
+                file.write(journal)
+        demand(stated == alone.run(["state"]), "state writes other books than without the checkpoint")
+        shutil.rmtree(alone.folder)
+
+
+def seconds_of(office, words, script=b""):
+    start = time.perf_counter()
+    office.run(words, script)
+    return time.perf_counter() - start
+
+
+def main():
+    program, folder, kills, seed = os.path.abspath(sys.argv[1]), sys.argv[2], int(sys.argv[3]), sys.argv[4]
+    draw = random.Random(seed)
+    os.mkdir(folder)
+    office = Office(program, folder)
+    office.run(["run"], office.issues(POLICIES))
+    span = seconds_of(office, ["checkpoint"])
+    long = seconds_of(office, ["run"], office.issues(200))
+    killed = 0
+    for number in range(kills):
+        if draw.random() < 0.2 and os.path.exists(office.path(KEPT)):
+            os.remove(office.path(KEPT))
+        if draw.random() < 0.3:
+            killed += office.kill(["run"], office.issues(200), draw.uniform(0, long))
+        else:
+            office.run(["run"], office.issues(5))
+            killed += office.kill(["checkpoint"], b"", draw.uniform(0, span))
+        try:
+            office.judge()
+        except Wrong as wrong:
+            sys.exit(f"kill_checkpoints: round {number} of seed {seed}: {wrong}; the files are kept in {folder}")
+    demand(killed > kills // 4, f"of {kills} rounds {killed} were killed before their end")
+    print(f"{killed} of {kills} killed; left: {office.kinds}")
+
+
+main()

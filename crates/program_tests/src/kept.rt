@@ -1,0 +1,106 @@
+// The program over two disks in memory: the journal's, and the one of its checkpoints.
+use crate::devices::words_of;
+use crate::value_cases::{FLAT, Q, add};
+use life_app::{EndedKept, life_kept};
+use memory_disk::MemoryDisk;
+use outside_io::{BytesSink, BytesSource, MapShelf, OpenGate};
+use std::alloc::{AllocError, Global};
+use std::collections::BTreeMap;
+use std::sync::Wait;
+use std::thread::Threads;
+
+// What a run ended with and wrote, and its two disks.
+#[derive(Drop)]
+pub(crate) struct Kept {
+    pub status: u8,
+    pub output: BytesSink,
+    pub disk: MemoryDisk,
+    pub second: MemoryDisk,
+}
+
+// Does what the words ask for over two disks, beside a shelf with a basis, with an output that fails at these calls.
+pub(crate) fn keep_beside<R: Threads + Wait + Sync>(
+    rt: &R,
+    alloc: Global,
+    words: &[&str],
+    script: &[&str],
+    failing_writes: &[u64],
+    disk: MemoryDisk,
+    second: MemoryDisk,
+) -> Result<Kept, AllocError> {
+    let words = words_of(alloc, words)?;
+    let mut bytes = Vec::new(alloc);
+    for piece in script {
+        bytes.extend_from_slice(piece.as_bytes())?;
+    }
+    let mut files = BTreeMap::new(alloc);
+    add(alloc, &mut files, "basis.csv", FLAT)?;
+    add(alloc, &mut files, "q.xml", Q)?;
+    let mut shelf = MapShelf::new(files, Vec::new(alloc));
+    let mut input = BytesSource::new(bytes, Vec::new(alloc));
+    let mut output = BytesSink::new(alloc, Vec::from_slice(alloc, failing_writes)?);
+    let EndedKept {
+        status,
+        disk,
+        second,
+    } = life_kept(
+        rt,
+        alloc,
+        &words,
+        &mut input,
+        &mut output,
+        &mut shelf,
+        disk,
+        second,
+        Vec::new(alloc),
+        &OpenGate,
+    );
+    Ok(Kept {
+        status,
+        output,
+        disk,
+        second,
+    })
+}
+
+// The same with an output that doesn't fail.
+pub(crate) fn keep<R: Threads + Wait + Sync>(
+    rt: &R,
+    alloc: Global,
+    words: &[&str],
+    script: &[&str],
+    disk: MemoryDisk,
+    second: MemoryDisk,
+) -> Result<Kept, AllocError> {
+    keep_beside(rt, alloc, words, script, &[], disk, second)
+}
+
+// A disk with these bytes, which fails at these calls.
+pub(crate) fn disk_of(
+    alloc: Global,
+    bytes: &[u8],
+    failing: &[u64],
+) -> Result<MemoryDisk, AllocError> {
+    Ok(MemoryDisk::new(
+        alloc,
+        Vec::from_slice(alloc, bytes)?,
+        Vec::from_slice(alloc, failing)?,
+    ))
+}
+
+// What a script leaves of an empty disk.
+pub(crate) fn journal_of<R: Threads + Wait + Sync>(
+    rt: &R,
+    alloc: Global,
+    script: &[&str],
+) -> Result<MemoryDisk, AllocError> {
+    let (disk, second) = (disk_of(alloc, &[], &[])?, disk_of(alloc, &[], &[])?);
+    let ran = keep(rt, alloc, &["run"], script, disk, second)?;
+    Ok(ran.disk)
+}
+
+impl Kept {
+    pub(crate) fn wrote(&self, status: u8, text: &str) -> bool {
+        self.status == status && self.output.bytes() == text.as_bytes()
+    }
+}
