@@ -7,3 +7,4 @@ pub mod ProgramSteps
 pub mod ReasonSteps
 pub mod BooksSteps
 pub mod KeptRunLaws
+pub mod WorkedBoth

@@ -10,4 +10,5 @@ pub mod Headline
 pub mod Runs
 pub mod KeptRuns
 pub mod Worked
+pub mod WorkedKept
 pub mod inside
