@@ -1,6 +1,6 @@
 """Which definitions under the promise no worked case rests on.
 
-A worked case is a definition of a file specs/Worked.antt, or specs/Worked/*.antt, that a contract names: a theorem on small
+A worked case is a definition of a file specs/Worked*.antt, or specs/Worked/*.antt, that a contract names: a theorem on small
 values from outside. It holds what its words name, and so on down, but for what is said of a disk, whatever it is: a case
 that names that says nothing of it. Each definition under `Obeys` has to be held so, or to stand below with the reason; and
 none that is held may stand there.
@@ -28,7 +28,7 @@ EXCEPTIONS = {
         trial_load.specs.Generating.EndsGenerate trial_load.specs.Loading.EndsBegun trial_load.specs.Loading.EndsLoad
         trial_load.specs.Loading.EndsLoadBy trial_load.specs.Loading.EndsLoading trial_load.specs.Loading.IsLoadOf
         book_state.specs.Stating.EndsState book_value.specs.Valuing.EndsByBasis book_value.specs.Valuing.EndsValue
-        book_value.specs.Valuing.EndsValuing program_endings.specs.Texts.EndsReadOnly""",
+        book_value.specs.Valuing.EndsValuing""",
     OF_A_DISK: """
         outside_io.specs.Disks.Elapses outside_io.specs.Disks.Looks outside_io.specs.Disks.Only
         outside_io.specs.Shelves.Files posting_journal.specs.Opening.IsSynced posting_journal.specs.Runs.IsSafe
@@ -43,7 +43,7 @@ def cases_of(definitions):
     named = set()
     for path in known.TOP.glob("crates/*/src/**/*.rt"):
         for meaning in known.imports_of(path.read_text(encoding="utf-8")).values():
-            if re.search(r"\.specs\.(?:\w+\.)*Worked\b", meaning) and meaning in definitions:
+            if re.search(r"\.specs\.(?:\w+\.)*Worked\w*", meaning) and meaning in definitions:
                 named.add(meaning)
     return named
 

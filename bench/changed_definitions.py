@@ -1,135 +1,201 @@
-"""Changes of what definitions mean, one at a time: the worked case of the crate has to refuse each.
+"""Twenty changes of what definitions mean, one at a time: a worked case has to refuse each.
 
-usage: python3 bench/changed_definitions.py [FIRST [LAST]]
+usage: python3 bench/changed_definitions.py [--processes N] [NUMBER..]
 
-Each change is made, `rt check --only` tries the worked case, and the file is put back. The crates below have to be proved.
-It takes half a minute for each on a quiet machine. Run it in a clone that nothing else runs in.
+Each change is made in a copy of the crates, and there the worked case is checked: the crates from the changed one up to
+that of the case are read as source, and all others are taken as they stand built here (run `rt check` in crates/life_app
+first). A change counts as refused where the case isn't proved, and antt takes each file of specs/ as it is: so the
+change is well-typed, and what fails is what the case says. It takes some ten seconds of a processor for each, three times
+that where the case is of a valuation.
 """
+import argparse
+import concurrent.futures
 import os
+import queue
+import re
+import shutil
 import subprocess
 import sys
+import tempfile
 
-TOP = os.path.join(os.path.dirname(os.path.abspath(__file__)), "..", "crates")
-# crate, file of specs/, what stands there, what is put in its place, and the worked case
+TOP = os.path.realpath(os.path.join(os.path.dirname(os.path.abspath(__file__)), ".."))
+# The kit's own list of the words with which it calls its prover.
+sys.path.insert(0, os.path.dirname(os.path.realpath(shutil.which("rt") or "rt")))
+import rtlib  # pylint: disable=import-error,wrong-import-position
+
+# what is changed; the file below crates/; what stands there and what is put in its place, in pairs; the crate that has the
+# worked case, and the case
 CHANGES = [
-    ("watcher_set", "Noted.antt",
-     "    command ∷ (if stops (command ∷ []) then [] else noted_of (λ list. stops (command ∷ list)) later)",
-     "    if stops (command ∷ []) then [] else command ∷ noted_of (λ list. stops (command ∷ list)) later",
-     "auditors_of_four_commands"),
-    ("watcher_set", "Premiums.antt",
-     "paid_by (Reinstate id day amount) = amount",
-     "paid_by (Reinstate id day amount) = 0",
-     "auditors_of_four_commands"),
-    ("basis_book", "Points.antt",
-     "pub most : points ≤ 2000",
-     "pub most : points ≤ 2001",
-     "refused_bases_by_hand"),
-    ("basis_book", "Name.antt",
-     "pub first : IsAsciiAlphanumeric (slice_index bytes 0)",
-     "pub first : IsNameByte (slice_index bytes 0)",
-     "refused_bases_by_hand"),
-    ("basis_book", "Rows.antt",
-     "pub falls : day ≤ℤ last.from_day",
-     "pub falls : day <ℤ last.from_day",
-     "refused_bases_by_hand"),
-    ("basis_book", "Rows.antt",
-     "IsRowsFault rows TooManyRows = 1000 < length rows",
-     "IsRowsFault rows TooManyRows = 1001 < length rows",
-     "refused_bases_by_hand"),
-    ("decimal_text", "Decimal.antt",
-     "lower_e = 101",
-     "lower_e = 102",
-     "rates_by_hand"),
-    ("decimal_text", "Rate.antt",
-     "denominator decimal = 10 ^ (length decimal.fraction + decimal.lowered)",
-     "denominator decimal = 10 ^ length decimal.fraction",
-     "rates_by_hand"),
-    ("xtbml_subset", "Checks.antt",
-     "if nat_le age 130 then Some age else None",
-     "if nat_le age 131 then Some age else None",
-     "refused_tables_by_hand"),
-    ("xtbml_subset", "Checks.antt",
-     "is_due (Some due) age = age == due",
-     "is_due (Some due) age = nat_le due age",
-     "refused_tables_by_hand"),
-    ("xtbml_subset", "Checks.antt",
-     'first (asks.children (codes "MetaData") table)',
-     'first (asks.children (codes "Metadata") table)',
-     "refused_tables_by_hand"),
-    ("xtbml_subset", "Classes.antt",
-     "is_in White b = b == 9 || b == 10 || b == 13 || b == 32",
-     "is_in White b = b == 9 || b == 10 || b == 13",
-     "a_table_by_hand"),
-    ("posting_journal", "Layout.antt",
-     "78 ∷ 76 ∷ 0 ∷ 1 ∷ 0 ∷ 64",
-     "78 ∷ 76 ∷ 0 ∷ 2 ∷ 0 ∷ 64",
-     "journals_by_hand"),
-    ("posting_journal", "Layout.antt",
-     "gate_place n = 17 + 65 * n",
-     "gate_place n = 17 + 64 * n",
-     "journals_by_hand"),
-    ("posting_journal", "Creation.antt",
-     "pub short : length bytes ≤ 18",
-     "pub short : length bytes ≤ 19",
-     "creations_by_hand"),
-    ("posting_journal", "Files.antt",
-     "pub closed : slice_index bytes (gate_place n) ≢ 1",
-     "pub closed : slice_index bytes (gate_place n) ≡ 0",
-     "journals_by_hand"),
-    ("life_args", "Values.antt",
-     "IsPositionOr None position = position ≡ Now",
-     "IsPositionOr None position = position ≡ Position 0",
-     "words_by_hand"),
-    ("life_args", "Values.antt",
-     "AreWorkersOr (Some value) workers = (1 ≤ workers) × (workers ≤ 64)",
-     "AreWorkersOr (Some value) workers = (1 ≤ workers) × (workers ≤ 63)",
-     "words_by_hand"),
-    ("life_args", "Words.antt",
-     "words ≡ decimal seed ∷ decimal count ∷ decimal lanes ∷ []",
-     "words ≡ decimal count ∷ decimal seed ∷ decimal lanes ∷ []",
-     "words_by_hand"),
-    ("basis_shelf", "FirstBad.antt",
-     "IsBadTable files name number Absent place = IsAbsent files name × (place ≡ number)",
-     "IsBadTable files name number Absent place = IsAbsent files name × (place ≡ 0)",
-     "shelves_by_hand"),
+    ("a benefit that falls due is booked on the other side of incurred", "policy_types/specs/Accounts.antt",
+     ["incurred = pos cents; payable = against cents", "incurred = against cents; payable = pos cents"],
+     "policy_machine", "worked::balances::claims_booked"),
+    ("a year is completed on the day after the anniversary", "life_dates/specs/Anniversary.antt",
+     ["pub reached : anniversary_of issued t ≤ℤ on", "pub reached : anniversary_of issued t <ℤ on",
+      "◌≤ℤ◌}", "◌≤ℤ◌, ◌<ℤ◌}"],
+     "book_value", "worked::endowments_valued"),
+    ("the days of grace are 32", "policy_machine/specs/Rules.antt",
+     ["grace_end_of p = due_of p +ℤ pos 31", "grace_end_of p = due_of p +ℤ pos 32"],
+     "policy_machine", "worked::premiums::grace"),
+    ("a policy that is made paid up keeps its amount", "policy_machine/specs/Rules.antt",
+     ["record p { last = day; status = PaidUp; amount = amount }", "record p { last = day; status = PaidUp }"],
+     "policy_machine", "worked::paid_ups::made_paid_up"),
+    ("a lane's lines are answered in the other order", "policy_machine/specs/Merge.antt",
+     ["(turns ≡ first ++ rest)", "(turns ≡ rest ++ first)"],
+     "policy_machine", "worked::merges::whole_merge"),
+    ("a record's gate stands a byte before", "posting_journal/specs/Layout.antt",
+     ["gate_place n = 17 + 65 * n", "gate_place n = 16 + 65 * n"],
+     "posting_journal", "worked::journals_by_hand"),
+    ("a gap between the ages of a table is none", "xtbml_subset/specs/Checks.antt",
+     ["is_due (Some due) age = age == due", "is_due (Some due) age = nat_le due age"],
+     "xtbml_subset", "worked::refused_tables_by_hand"),
+    ("the select period ends a year early", "select_rates/specs/Select.antt",
+     ["slice_index_or (select_rates table age) duration (", "slice_index_or (select_rates table age) (duration + 1) ("],
+     "select_rates", "worked::rates_of_the_first_issue_age"),
+    ("a mean is a third of the sum", "present_value/specs/Mean.antt",
+     ["half a = record { num = a.num; den = 2 * a.den }", "half a = record { num = a.num; den = 3 * a.den }"],
+     "present_value", "worked::mean_reserves_by_hand"),
+    ("a reserve's lower bound is rounded up", "crvm_reserve/specs/Rounded.antt",
+     ["amount_lo c cap amount t = down (", "amount_lo c cap amount t = up ("],
+     "deficiency_reserve", "worked::minimums_by_hand"),
+    ("a premium that is just the net premium is short", "deficiency_reserve/specs/Premiums.antt",
+     ["if nat_lt (premium * UNIT) (amount * lo) then Short", "if nat_le (premium * UNIT) (amount * lo) then Short"],
+     "deficiency_reserve", "worked::premiums_by_hand"),
+    ("the first age of a table lies below it", "plan_benefits/specs/Shapes.antt",
+     ["if nat_lt shape.age table.first_age\n", "if nat_le shape.age table.first_age\n"],
+     "book_value", "worked::endowments_valued"),
+    ("of too many rows the first bad one is named too", "basis_book/specs/Rows.antt",
+     ["(BadBasisRow n) = (length rows ≤ 1000) × IsFirstBad rows n", "(BadBasisRow n) = IsFirstBad rows n"],
+     "basis_book", "worked::refused_bases_by_hand"),
+    ("a row is of the year after", "policy_value/specs/Rows.antt",
+     ["(t ≡ min years n)", "(t ≡ min (years + 1) n)", "ℕ, ◌≤◌,", "ℕ, ◌+◌, ◌≤◌,"],
+     "book_value", "worked::endowments_valued"),
+    ("the line of a refused valuation lacks its word", "transcript_text/specs/Transcript.antt",
+     ["codes \"refused\" ∷ pin_refusal_fields refusal)", "pin_refusal_fields refusal)"],
+     "life_app", "worked::other_lines"),
+    ("the statuses 8 and 9 are exchanged", "program_endings/specs/Status.antt",
+     ["status_of DiskFault = 8", "status_of DiskFault = 9", "status_of NoMemory = 9", "status_of NoMemory = 8"],
+     "program_endings", "worked::statuses_of_endings"),
+    ("a script of 16 MiB is too long", "script_run/specs/Script.antt",
+     ["most_script_bytes = 16777216", "most_script_bytes = 16777215"],
+     "script_run", "worked::scripts_by_hand"),
+    ("the sums of a load stand in the other order", "trial_load/specs/Loading.antt",
+     ["cents_text (lower_sum rows) ∷ cents_text (upper_sum rows)", "cents_text (upper_sum rows) ∷ cents_text (lower_sum rows)"],
+     "trial_load", "worked::loads_by_hand"),
+    ("`generate` is called `make`", "life_args/specs/Words.antt",
+     ["(word ≡ codes \"generate\")", "(word ≡ codes \"make\")"],
+     "life_args", "worked::words_by_hand"),
+    ("the last line tells the position asked for, and not the count", "book_value/specs/Valuing.antt",
+     ["(codes \"refused,ahead,\" ++ decimal (length commands))", "(codes \"refused,ahead,\" ++ decimal (position_of at (length commands)))"],
+     "book_value", "worked::valuations_by_hand"),
 ]
 
 
-def is_proved(crate, case):
-    """Whether the worked case proves as the files are."""
-    told = subprocess.run(["timeout", "900", "rt", "check", "--only", f"{crate}::worked::{case}"], cwd=os.path.join(TOP, crate),
-                          stdout=subprocess.PIPE, stderr=subprocess.STDOUT, check=False)
-    return b"proved=1" in told.stdout
+def copied_to(folder):
+    """Copies what a check reads of the repository, and nothing that was built."""
+    for name in os.listdir(os.path.join(TOP, "crates")):
+        for part in ("src", "specs", "proofs"):
+            source = os.path.join(TOP, "crates", name, part)
+            if os.path.isdir(source):
+                shutil.copytree(source, os.path.join(folder, "crates", name, part))
+    shutil.copy(os.path.join(TOP, "crates.txt"), folder)
 
 
-def is_refused(crate, file, old, new, case):
-    """Whether the worked case doesn't prove where the one text is changed to the other."""
-    path = os.path.join(TOP, crate, "specs", file)
+def words_of(crate, changed, folder):
+    """The prover's words for a check of the crate in the copy, where the changed one and those above it are source."""
+    below = crate.below()
+    source = [it for it in below if it.name == changed or changed in [low.name for low in it.below()]]
+    names = {it.name for it in source}
+    built = [it for it in below if it.name not in names]
+    for it in built:
+        if not os.path.isdir(it.rlib):
+            sys.exit(f"changed_definitions: {it.name} isn't built: run `rt check` in crates/life_app first")
+    direct = {low.name for it in [crate, *source] for low in it.deps}
+    kit = {name for it in [crate, *source] for name in it.of_kit} | {"core"}
+    words = ["--crate-name", crate.name, "src/lib.rt"]
+    for name in sorted(kit):
+        words += ["--extern", f"{name}={rtlib.KIT}/rlibs/{name}.rlib"]
+    words += ["-L", f"dependency={rtlib.KIT}/rlibs"]
+    for it in built:
+        words += ["--extern", f"{it.name}={it.rlib}"] if it.name in direct else []
+        words += ["-L", f"dependency={os.path.dirname(it.rlib)}"]
+    for it in source:
+        uses = dict.fromkeys(["core", *it.of_kit, *[low.name for low in it.deps]])
+        words += ["--lib", f"{it.name}:{','.join(uses)}={folder}/crates/{it.name}/src/lib.rt"]
+    words += ["--antt-project", f"{rtlib.KIT}/rattle/logic/antt-project.json", "--logic-built", f"{rtlib.KIT}/logic_built"]
+    return words + ["--incremental", f"{folder}/kept/{crate.name}", "--jobs", "1"]
+
+
+def checked(crate_name, changed, case, folder):
+    """What the prover says of the case in the copy."""
+    here = os.path.join(TOP, "crates", crate_name)
+    crate = rtlib.Crate(here, TOP, {})
+    os.makedirs(f"{folder}/kept/{crate_name}", exist_ok=True)
+    told = subprocess.run(["timeout", "1800", rtlib.RATTLE, "check", *words_of(crate, changed, folder), "--only", case],
+                          cwd=f"{folder}/crates/{crate_name}", stdout=subprocess.PIPE, stderr=subprocess.STDOUT, check=False)
+    return told.stdout.decode("utf-8", "replace")
+
+
+def verdict(said, crate_name, case):
+    """`refused` with the clauses that failed, or what else became of the case."""
+    line = re.search(rf"^fn {crate_name}::{case}: (proved|not proved|no proof)", said, re.M)
+    if not line:
+        return "NO VERDICT"
+    if line.group(1) == "proved":
+        return "STILL PROVED"
+    if re.search(r"^\S*specs/\S*\.antt:\d+:\d+: error", said, re.M):
+        return "NOT WELL-TYPED"
+    failed = re.findall(r"^(\S+\.antt):(\d+):\d+: error: `([^`]+)`", said, re.M)
+    failed += re.findall(r"^note: (\S+\.rt):(\d+):\d+: it is not proved .*\(`([^`]+)`\)", said, re.M)
+    return "refused: " + ", ".join(f"{name} ({os.path.basename(file)}:{at})" for file, at, name in dict.fromkeys(failed))
+
+
+def tried(change, folder):
+    """Makes the change in the copy, has the case checked there, and puts the file back."""
+    _, file, pairs, crate_name, case = change
+    path = os.path.join(folder, "crates", file)
     with open(path, encoding="utf-8") as given:
-        text = given.read()
-    if text.count(old) != 1:
-        sys.exit(f"changed_definitions: {path} has {old!r} {text.count(old)} times")
+        before = text = given.read()
+    for old, new in zip(pairs[::2], pairs[1::2]):
+        if text.count(old) != 1:
+            sys.exit(f"changed_definitions: {file} has {old!r} {text.count(old)} times")
+        text = text.replace(old, new)
     try:
         with open(path, "w", encoding="utf-8") as changed:
-            changed.write(text.replace(old, new))
-        return not is_proved(crate, case)
+            changed.write(text)
+        said = checked(crate_name, file.split("/")[0], case, folder)
     finally:
         with open(path, "w", encoding="utf-8") as back:
-            back.write(text)
+            back.write(before)
+    return verdict(said, crate_name, case), said
 
 
 def main():
-    first, last = (int(it) for it in (sys.argv[1:3] + ["1", str(len(CHANGES))][len(sys.argv[1:3]):]))
-    proved, right = 0, set()
-    for number, change in enumerate(CHANGES[first - 1:last], first):
-        case = change[0], change[4]
-        if case not in right and not is_proved(*case):
-            sys.exit(f"changed_definitions: {'::'.join(case)} isn't proved as it stands")
-        right.add(case)
-        refused = is_refused(*change)
-        proved += not refused
-        print(f"{number} {change[0]} {change[1]}: {'refused' if refused else 'STILL PROVED'} by {change[4]}", flush=True)
-    sys.exit(1 if proved else 0)
+    reader = argparse.ArgumentParser()
+    reader.add_argument("--processes", type=int, default=1)
+    reader.add_argument("--logs", help="a folder for what the prover says of each change")
+    reader.add_argument("numbers", type=int, nargs="*")
+    given = reader.parse_args()
+    copies, bad = queue.Queue(), 0
+    with tempfile.TemporaryDirectory() as folder, concurrent.futures.ThreadPoolExecutor(given.processes) as pool:
+        for number in range(given.processes):
+            copied_to(f"{folder}/{number}")
+            copies.put(f"{folder}/{number}")
+
+        def work(number):
+            place = copies.get()
+            try:
+                return number, *tried(CHANGES[number - 1], place)
+            finally:
+                copies.put(place)
+
+        for number, answer, said in pool.map(work, given.numbers or range(1, len(CHANGES) + 1)):
+            what, file, _, crate_name, case = CHANGES[number - 1]
+            bad += not answer.startswith("refused")
+            print(f"{number} {what} ({file}) | {crate_name}::{case} | {answer}", flush=True)
+            if given.logs:
+                with open(os.path.join(given.logs, f"{number}.log"), "w", encoding="utf-8") as log:
+                    log.write(said)
+    sys.exit(1 if bad else 0)
 
 
 if __name__ == "__main__":

@@ -52,6 +52,16 @@ grace_of_a_paid_up_policy       policy_machine/grace_asked_of_a_paid_up_policy p
 a_paid_up_term_matured          policy_machine/paid_up_term_matured
 premiums_off_a_paid_up_reserve  policy_value/paid_up_reserve_less_premiums
 paid_up_read_as_an_upgrade      record_codec/paid_up_read_as_an_upgrade
+deaths_by_the_next_year's_rate  cash_projection/deaths_by_the_next_years_rate
+a_maturity_paid_to_the_dead     cash_projection/maturity_paid_to_the_dead
+premiums_that_aren't_due        cash_projection/premiums_after_the_last cash_projection/paid_premium_counted
+a_lower_total_rounded_up        cash_projection/lower_total_rounded_up
+bounds_swapped_in_one_column    cash_projection/bounds_of_maturities_swapped
+projected_from_the_next_year    cash_projection/projected_from_the_next_year
+a_lapsed_policy_counted         cash_projection/lapsed_policies_counted
+a_last_portion_dropped          cash_projection/last_portion_dropped
+years_numbered_from_1           cash_projection/years_numbered_from_1
+a_made-up_fault_of_the_output   book_projection/made_up_write_fault
 watchers_told_of_refusals       office_state/told_of_refused_commands watcher_set/a_done_watcher_is_kept
 EDITS
 

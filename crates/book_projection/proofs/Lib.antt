@@ -1,2 +1,3 @@
+pub mod Nobody
 pub mod ProjectingSteps
 pub mod ProjectStatus

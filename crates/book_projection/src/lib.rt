@@ -5,4 +5,4 @@ mod projecting;
 mod worked;
 
 pub use projecting::project;
-pub use worked::projections_by_hand;
+pub use worked::{an_empty_file_is_projected, projections_by_hand};

@@ -18,7 +18,7 @@ use Rattle.program_endings.specs.Writing.{Stream, WroteAll}
 use Rattle.book_value.specs.Valuing.{IsBeyond, IsValuation}
 use Rattle.book_value.specs.Worked.{IsAheadOfAnEmptyFile, ValuesAnEmptyFile}
 
-no_commands : (bytes : List ℕ) (commands : List Command) → bytes ≡ [] → Opens bytes commands → commands ≡ []
+pub no_commands : (bytes : List ℕ) (commands : List Command) → bytes ≡ [] → Opens bytes commands → commands ≡ []
 no_commands bytes commands empty opens =
     opens_to_one [] commands [] (subst (λ (xs : List ℕ). Opens xs commands) empty opens) (inr (refl, inl (lit≤ tt)))
 

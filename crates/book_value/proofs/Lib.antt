@@ -3,3 +3,4 @@ pub mod LoneTurns
 pub mod LoneSteps
 pub mod ValueStatus
 pub mod EmptyFile
+pub mod WorkedValuation

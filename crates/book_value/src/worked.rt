@@ -1,6 +1,7 @@
 //! Worked valuations, each a theorem over the definitions alone.
 
 ghost use Rattle.book_value.specs.Worked.{AheadOfNone, IsAheadOfAnEmptyFile, NobodyValued, PositionsAsked, ValuesAnEmptyFile};
+ghost use Rattle.book_value.specs.Worked.Valued.{Caps, FiveEndowmentsValued};
 
 use outside_io::Disk;
 
@@ -15,4 +16,15 @@ pub fn valuations_by_hand()
 pub fn an_empty_file_is_valued<D: Disk>()
     ensures valued { ValuesAnEmptyFile D.Disk }
     ensures ahead { IsAheadOfAnEmptyFile D.Disk }
+{}
+
+/// A valuation of five policies on an anniversary: one in force, one below its table, one from before the basis, one not
+/// yet issued, one paid up.
+pub fn endowments_valued()
+    ensures { FiveEndowmentsValued }
+{}
+
+/// The years and the premiums of what limits a net premium.
+pub fn caps()
+    ensures { Caps }
 {}

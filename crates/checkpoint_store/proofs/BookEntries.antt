@@ -1,13 +1,12 @@
 -- The entries of a book by number, in order of issue: what is found in them, and what one more command does to them.
-use Rattle.std.proofs.Common.{◌≡◌, ◌⊎◌, inl, inr, ⊎_elim, nat_eq, ◌==◌, ℕ, ◌+◌, ◌≤◌, Bool, true, false, cond, List, [], ◌∷◌, ◌++◌, length, map, filter_map, refl, sym, ap, subst, ◌∙◌, arith, Option, None, Some, Result, Ok, Err, IfSome}
+use Rattle.std.proofs.Common.{◌≡◌, ◌⊎◌, inl, inr, nat_eq, ◌==◌, ℕ, ◌+◌, ◌≤◌, Bool, true, false, cond, List, [], ◌∷◌, ◌++◌, length, filter_map, refl, sym, ap, subst, ◌∙◌, arith, Option, None, Some, Ok, Err, IfSome}
 use Rattle.std.specs.List.{AllByRecursion, IsDistinct, cons_option, fold}
 use Rattle.std.specs.Map.{keys_of, lookup}
-use Rattle.std.proofs.lemmas.Bool.{cases_eq, eqb-false, eqb-true, eq-eqb, ne_eqb}
+use Rattle.std.proofs.lemmas.Bool.{eqb-false, eqb-true, eq-eqb, ne_eqb}
 use Rattle.std.proofs.lemmas.List.{map-append}
 use Rattle.indexmap.specs.IndexMap.{insert_entry}
 use Rattle.policy_types.specs.declared.command.Command.{Command}
 use Rattle.policy_types.specs.declared.policy.Policy.{Policy}
-use Rattle.policy_types.specs.declared.refusal.Refusal.{Refusal}
 use Rattle.policy_types.specs.declared.refusal.Refusal.TheVariants.{Taken, Unknown}
 use Rattle.policy_types.specs.Valid.{id_of}
 use Rattle.policy_machine.specs.Rules.{IsSound, next}
@@ -16,7 +15,7 @@ use Rattle.policy_machine.proofs.AcceptedLemmas.{IsIssueHere, NeedsPolicy, issue
 use Rattle.policy_machine.proofs.BookGrowth.{IsThere, book-ids, book-push_change, book-push_issue, distinct_issues, policies_there}
 use Rattle.policy_machine.proofs.BookLemmas.{policy_of-own}
 use Rattle.checkpoint_store.specs.Checkpoints.{policy_ids}
-use Rattle.checkpoint_store.specs.inside.Books.{AreKeyed, Entries, policies_in}
+use Rattle.checkpoint_store.specs.inside.Books.{AreKeyed, Entries, numbered_policies}
 
 -- a number that wasn't issued has no policy
 all_tail : (P : ℕ → Type 0) (first : Option ℕ) (ids : List ℕ) → AllByRecursion P (cons_option first ids) → AllByRecursion P ids
@@ -49,7 +48,7 @@ unissued (command ∷ rest) id apart = split (unissued rest id (all_tail (λ k. 
 abbrev Found : (ℕ → Option Policy) → Entries → List ℕ → ℕ → Type 0
 Found f es ids k = (lookup (nat_eq k) es ≡ f k) ⊎ ((lookup (nat_eq k) es ≡ None) × AllByRecursion (λ id. nat_eq k id ≡ false) ids)
 
-look : (f : ℕ → Option Policy) (ids : List ℕ) (es : Entries) → AreKeyed es → policies_in es ≡ filter_map f ids
+look : (f : ℕ → Option Policy) (ids : List ℕ) (es : Entries) → AreKeyed es → numbered_policies es ≡ filter_map f ids
     → AllByRecursion (λ id. IsThere id (f id)) ids → (k : ℕ) → Found f es ids k
 look f [] [] keyed same there k = inr (refl, tt)
 look f [] (e ∷ es) keyed same there k = absurd (cc)
@@ -68,18 +67,18 @@ look f (id ∷ ids) es keyed same there k = with_first (λ es keyed same. look f
           | inr none ↦ inr (past ∙ none.0, (ap (nat_eq k) (sym number) ∙ other, none.1))
         ]
 
-    with_first : ((es : Entries) → AreKeyed es → policies_in es ≡ filter_map f ids → Found f es ids k)
-        → (es : Entries) → AreKeyed es → policies_in es ≡ filter_map f (id ∷ ids) → (first : Option Policy) → f id ≡ first → IsThere id first → Found f es (id ∷ ids) k
+    with_first : ((es : Entries) → AreKeyed es → numbered_policies es ≡ filter_map f ids → Found f es ids k)
+        → (es : Entries) → AreKeyed es → numbered_policies es ≡ filter_map f (id ∷ ids) → (first : Option Policy) → f id ≡ first → IsThere id first → Found f es (id ∷ ids) k
     with_first onward es keyed same None none there = absurd there
     with_first onward [] keyed same (Some p) found own_id = absurd (let whole : [] ≡ p ∷ filter_map f ids = same ∙ ap (λ o. cons_option o (filter_map f ids)) found in cc)
     with_first onward (e ∷ es) keyed same (Some p) found own_id =
-        let whole : e.1 ∷ policies_in es ≡ p ∷ filter_map f ids = same ∙ ap (λ o. cons_option o (filter_map f ids)) found in
+        let whole : e.1 ∷ numbered_policies es ≡ p ∷ filter_map f ids = same ∙ ap (λ o. cons_option o (filter_map f ids)) found in
         let is : e.1 ≡ p = cc in
-        let rest : policies_in es ≡ filter_map f ids = cc in
+        let rest : numbered_policies es ≡ filter_map f ids = cc in
         with_entry e es p found own_id is keyed.0 (onward es keyed.1 rest) (nat_eq k e.0) refl
 
 -- the policy of a number
-pub book_lookup : (commands : List Command) (es : Entries) → AreKeyed es → policies_in es ≡ book commands → (k : ℕ) → lookup (nat_eq k) es ≡ policy_of commands k
+pub book_lookup : (commands : List Command) (es : Entries) → AreKeyed es → numbered_policies es ≡ book commands → (k : ℕ) → lookup (nat_eq k) es ≡ policy_of commands k
 book_lookup commands es keyed same k = elim (look (policy_of commands) (filter_map issue_id commands) es keyed same (policies_there commands) k) [
   | inl found ↦ found
   | inr none ↦ none.0 ∙ sym (unissued commands k none.1)
@@ -97,23 +96,23 @@ insert_new k after (e ∷ es) none = by_test (insert_new k after es) (nat_eq k e
         ap (λ b. cond b ((e.0, after) ∷ es) (e ∷ insert_entry nat_eq es k after)) other ∙ ap (λ l. e ∷ l) (onward (sym past ∙ none))
 
 -- a policy is replaced where it stands
-insert_present : (k : ℕ) (before after : Policy) (front back : List Policy) (es : Entries) → AreKeyed es → policies_in es ≡ front ++ before ∷ back → before.id ≡ k
-    → IsDistinct nat_eq (policy_ids (front ++ before ∷ back)) → policies_in (insert_entry nat_eq es k after) ≡ front ++ after ∷ back
+insert_present : (k : ℕ) (before after : Policy) (front back : List Policy) (es : Entries) → AreKeyed es → numbered_policies es ≡ front ++ before ∷ back → before.id ≡ k
+    → IsDistinct nat_eq (policy_ids (front ++ before ∷ back)) → numbered_policies (insert_entry nat_eq es k after) ≡ front ++ after ∷ back
 unfolding IsDistinct
 insert_present k before after [] back [] keyed same number distinct = absurd (cc)
 insert_present k before after [] back (e ∷ es) keyed same number distinct =
     let is : e.1 ≡ before = cc in
-    let rest : policies_in es ≡ back = cc in
+    let rest : numbered_policies es ≡ back = cc in
     let key : nat_eq k e.0 ≡ true = eq-eqb k e.0 (sym number ∙ sym (ap (λ (q : Policy). q.id) is) ∙ sym keyed.0) in
-    ap (λ b. policies_in (cond b ((e.0, after) ∷ es) (e ∷ insert_entry nat_eq es k after))) key ∙ ap (λ (l : List Policy). after ∷ l) rest
+    ap (λ b. numbered_policies (cond b ((e.0, after) ∷ es) (e ∷ insert_entry nat_eq es k after))) key ∙ ap (λ (l : List Policy). after ∷ l) rest
 insert_present k before after (first ∷ front) back [] keyed same number distinct = absurd (cc)
 insert_present k before after (first ∷ front) back (e ∷ es) keyed same number distinct =
     let is : e.1 ≡ first = cc in
-    let rest : policies_in es ≡ front ++ before ∷ back = cc in
+    let rest : numbered_policies es ≡ front ++ before ∷ back = cc in
     let apart : nat_eq first.id before.id ≡ false = middle front distinct.0 in
     let key : nat_eq k e.0 ≡ false = ne_eqb k e.0 (λ same. eqb-false first.id before.id apart (sym (ap (λ (q : Policy). q.id) is) ∙ sym keyed.0 ∙ sym same ∙ sym number)) in
-    ap (λ b. policies_in (cond b ((e.0, after) ∷ es) (e ∷ insert_entry nat_eq es k after))) key
-    ∙ ap (λ (p : Policy). p ∷ policies_in (insert_entry nat_eq es k after)) is
+    ap (λ b. numbered_policies (cond b ((e.0, after) ∷ es) (e ∷ insert_entry nat_eq es k after))) key
+    ∙ ap (λ (p : Policy). p ∷ numbered_policies (insert_entry nat_eq es k after)) is
     ∙ ap (λ (l : List Policy). first ∷ l) (insert_present k before after front back es keyed.1 rest number distinct.1)
   where
     middle : (front : List Policy) → AllByRecursion (λ y. nat_eq first.id y ≡ false) (policy_ids (front ++ before ∷ back)) → nat_eq first.id before.id ≡ false
@@ -128,50 +127,50 @@ insert_keyed k after (e ∷ es) number keyed = by_test (insert_keyed k after es 
     by_test later true same = subst (λ b. AreKeyed (cond b ((e.0, after) ∷ es) (e ∷ insert_entry nat_eq es k after))) (sym same) (sym (eqb-true k e.0 same) ∙ sym number, keyed.1)
     by_test later false other = subst (λ b. AreKeyed (cond b ((e.0, after) ∷ es) (e ∷ insert_entry nat_eq es k after))) (sym other) (keyed.0, later)
 
-pub insert_sound : (k : ℕ) (after : Policy) (es : Entries) → IsSound after → AllByRecursion IsSound (policies_in es) → AllByRecursion IsSound (policies_in (insert_entry nat_eq es k after))
+pub insert_sound : (k : ℕ) (after : Policy) (es : Entries) → IsSound after → AllByRecursion IsSound (numbered_policies es) → AllByRecursion IsSound (numbered_policies (insert_entry nat_eq es k after))
 insert_sound k after [] here sound = (here, tt)
 insert_sound k after (e ∷ es) here sound = by_test (insert_sound k after es here sound.1) (nat_eq k e.0) refl
   where
-    by_test : AllByRecursion IsSound (policies_in (insert_entry nat_eq es k after)) → (b : Bool) → nat_eq k e.0 ≡ b → AllByRecursion IsSound (policies_in (insert_entry nat_eq (e ∷ es) k after))
-    by_test later true same = subst (λ b. AllByRecursion IsSound (policies_in (cond b ((e.0, after) ∷ es) (e ∷ insert_entry nat_eq es k after)))) (sym same) (here, sound.1)
-    by_test later false other = subst (λ b. AllByRecursion IsSound (policies_in (cond b ((e.0, after) ∷ es) (e ∷ insert_entry nat_eq es k after)))) (sym other) (sound.0, later)
+    by_test : AllByRecursion IsSound (numbered_policies (insert_entry nat_eq es k after)) → (b : Bool) → nat_eq k e.0 ≡ b → AllByRecursion IsSound (numbered_policies (insert_entry nat_eq (e ∷ es) k after))
+    by_test later true same = subst (λ b. AllByRecursion IsSound (numbered_policies (cond b ((e.0, after) ∷ es) (e ∷ insert_entry nat_eq es k after)))) (sym same) (here, sound.1)
+    by_test later false other = subst (λ b. AllByRecursion IsSound (numbered_policies (cond b ((e.0, after) ∷ es) (e ∷ insert_entry nat_eq es k after)))) (sym other) (sound.0, later)
 
-pub insert_few : (k : ℕ) (after : Policy) (es : Entries) → length (policies_in (insert_entry nat_eq es k after)) ≤ length (policies_in es) + 1
+pub insert_few : (k : ℕ) (after : Policy) (es : Entries) → length (numbered_policies (insert_entry nat_eq es k after)) ≤ length (numbered_policies es) + 1
 insert_few k after [] = omega arith
 insert_few k after (e ∷ es) = by_test (insert_few k after es) (nat_eq k e.0) refl
   where
-    by_test : length (policies_in (insert_entry nat_eq es k after)) ≤ length (policies_in es) + 1 → (b : Bool) → nat_eq k e.0 ≡ b → length (policies_in (insert_entry nat_eq (e ∷ es) k after)) ≤ length (policies_in (e ∷ es)) + 1
-    by_test few true same = subst (λ b. length (policies_in (cond b ((e.0, after) ∷ es) (e ∷ insert_entry nat_eq es k after))) ≤ length (policies_in (e ∷ es)) + 1) (sym same) (omega arith)
-    by_test few false other = subst (λ b. length (policies_in (cond b ((e.0, after) ∷ es) (e ∷ insert_entry nat_eq es k after))) ≤ length (policies_in (e ∷ es)) + 1) (sym other) (omega (arith, few))
+    by_test : length (numbered_policies (insert_entry nat_eq es k after)) ≤ length (numbered_policies es) + 1 → (b : Bool) → nat_eq k e.0 ≡ b → length (numbered_policies (insert_entry nat_eq (e ∷ es) k after)) ≤ length (numbered_policies (e ∷ es)) + 1
+    by_test few true same = subst (λ b. length (numbered_policies (cond b ((e.0, after) ∷ es) (e ∷ insert_entry nat_eq es k after))) ≤ length (numbered_policies (e ∷ es)) + 1) (sym same) (omega arith)
+    by_test few false other = subst (λ b. length (numbered_policies (cond b ((e.0, after) ∷ es) (e ∷ insert_entry nat_eq es k after))) ≤ length (numbered_policies (e ∷ es)) + 1) (sym other) (omega (arith, few))
 
-pub keyed_ids : (es : Entries) → AreKeyed es → keys_of es ≡ policy_ids (policies_in es)
+pub keyed_ids : (es : Entries) → AreKeyed es → keys_of es ≡ policy_ids (numbered_policies es)
 keyed_ids [] keyed = refl
 keyed_ids (e ∷ es) keyed = ap (λ (k : ℕ). k ∷ keys_of es) keyed.0 ∙ ap (λ (l : List ℕ). e.1.id ∷ l) (keyed_ids es keyed.1)
 
 -- the book after one more accepted command
 module _ (commands : List Command) (command : Command) (after : Policy) (es : Entries) (accepted : IsAccepted commands) (keyed : AreKeyed es)
-    (same : policies_in es ≡ book commands) (ok : next (policy_of commands (id_of command)) command ≡ Ok after) where
+    (same : numbered_policies es ≡ book commands) (ok : next (policy_of commands (id_of command)) command ≡ Ok after) where
   on_issue : IsIssueHere command → (policy : Option Policy) → policy_of commands (id_of command) ≡ policy
-      → policies_in (insert_entry nat_eq es (id_of command) after) ≡ book (commands ++ command ∷ [])
+      → numbered_policies (insert_entry nat_eq es (id_of command) after) ≡ book (commands ++ command ∷ [])
   on_issue c (Some p) found = absurd (
-    let refused : next (Some p) command ≡ Err Taken = ap (next (Some p)) c.is in
-    let done : next (Some p) command ≡ Ok after = ap (λ o. next o command) (sym found) ∙ ok in
-    cc
-  )
+      let refused : next (Some p) command ≡ Err Taken = ap (next (Some p)) c.is in
+      let done : next (Some p) command ≡ Ok after = ap (λ o. next o command) (sym found) ∙ ok in
+      cc
+      )
   on_issue c None found =
       let issue : issue_id command ≡ Some (id_of command) = ap issue_id c.is ∙ ap Some (sym (ap id_of c.is)) in
-      ap policies_in (insert_new (id_of command) after es (book_lookup commands es keyed same (id_of command) ∙ found))
+      ap numbered_policies (insert_new (id_of command) after es (book_lookup commands es keyed same (id_of command) ∙ found))
       ∙ map-append (λ (e : ℕ × Policy). e.1) es ((id_of command, after) ∷ [])
       ∙ ap (λ (l : List Policy). l ++ after ∷ []) same
       ∙ sym (book-push_issue commands command (id_of command) after issue ok)
 
   on_change : NeedsPolicy command → (policy : Option Policy) → policy_of commands (id_of command) ≡ policy
-      → policies_in (insert_entry nat_eq es (id_of command) after) ≡ book (commands ++ command ∷ [])
+      → numbered_policies (insert_entry nat_eq es (id_of command) after) ≡ book (commands ++ command ∷ [])
   on_change other None found = absurd (
-    let refused : next None command ≡ Err Unknown = other.refused in
-    let done : next None command ≡ Ok after = ap (λ o. next o command) (sym found) ∙ ok in
-    cc
-  )
+      let refused : next None command ≡ Err Unknown = other.refused in
+      let done : next None command ≡ Ok after = ap (λ o. next o command) (sym found) ∙ ok in
+      cc
+      )
   on_change other (Some before) found =
       let done : next (Some before) command ≡ Ok after = ap (λ o. next o command) (sym found) ∙ ok in
       let change = book-push_change commands command before after accepted other.none found done in
@@ -180,7 +179,7 @@ module _ (commands : List Command) (command : Command) (after : Policy) (es : En
       subst (IsDistinct nat_eq) (sym (book-ids commands) ∙ ap policy_ids change.was) (distinct_issues commands accepted) in
       insert_present (id_of command) before after change.front change.back es keyed (same ∙ change.was) number distinct ∙ sym change.now
 
-  pub book_more : policies_in (insert_entry nat_eq es (id_of command) after) ≡ book (commands ++ command ∷ [])
+  pub book_more : numbered_policies (insert_entry nat_eq es (id_of command) after) ≡ book (commands ++ command ∷ [])
   book_more = elim (issue_or_other command) [
     | inl c ↦ on_issue c (policy_of commands (id_of command)) refl
     | inr other ↦ on_change other (policy_of commands (id_of command)) refl

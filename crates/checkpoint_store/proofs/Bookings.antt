@@ -9,7 +9,6 @@ use Rattle.policy_types.specs.declared.policy.Policy.{Policy}
 use Rattle.policy_types.specs.declared.policy.Status.{Status}
 use Rattle.policy_types.specs.declared.policy.Status.TheVariants.{InForce, Lapsed, Claimed, Matured, Expired, Settled, PaidUp}
 
-
 debit_within : (most cents : ℕ) → cents ≤ most → IsWithin most (pos cents)
 debit_within most cents few = (omega (arith, ints), omega (arith, ints))
 
@@ -65,7 +64,6 @@ IsWithin-added m n a b first second =
 AreWithin-added : (m n : ℕ) (a b : Booking) → AreWithin m a → AreWithin n b → AreWithin (m + n) (added a b)
 AreWithin-added m n a b first second =
     (IsWithin-added m n a.cash b.cash first.0 second.0, IsWithin-added m n a.premiums b.premiums first.1 second.1, IsWithin-added m n a.incurred b.incurred first.2 second.2, IsWithin-added m n a.payable b.payable first.3 second.3)
-
 
 -- one more
 pub within_added : (position : ℕ) (b : Booking) (command : Command) (after : Policy) → IsValid command → after.amount ≤ 10000000000

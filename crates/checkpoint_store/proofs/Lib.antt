@@ -7,4 +7,6 @@ pub mod Behind
 pub mod GateSteps
 pub mod Stages
 pub mod Reading
-pub mod Stored
+pub mod InStore
+pub mod StartSteps
+pub mod OneSnapshot

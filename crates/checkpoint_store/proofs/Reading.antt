@@ -1,9 +1,8 @@
 -- What bytes say is what they were spelled from.
-use Rattle.std.proofs.Common.{◌≡◌, ℕ, ◌+◌, ◌<◌, ◌≤◌, ◌^◌, List, [], ◌∷◌, ◌++◌, get_or, Option, Some, refl, sym, ap, subst, ◌∙◌, arith, ℤ, FitsSigned, to_z-of_z}
+use Rattle.std.proofs.Common.{◌≡◌, ℕ, List, ◌∷◌, get_or, Some, refl, sym, ap, subst, ◌∙◌, arith, ℤ, FitsSigned, to_z-of_z}
 use Rattle.std.specs.Int.{w32, w64, from_be_bytes, to_be_bytes, cast_signed, cast_unsigned}
 use Rattle.std.proofs.lemmas.Int.{ints}
 use Rattle.std.proofs.lemmas.Nat.{from_be_bytes-to_be_bytes_4, from_be_bytes-to_be_bytes_8}
-use Rattle.money_ledgers.specs.declared.ledger.Ledger.{Ledger}
 use Rattle.policy_machine.specs.Rules.{IsSound}
 use Rattle.policy_types.specs.declared.command.Plan.{Plan}
 use Rattle.policy_types.specs.declared.command.Plan.TheVariants.{Term, Whole, Endowment, Limited}

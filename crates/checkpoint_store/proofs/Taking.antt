@@ -1,7 +1,7 @@
 -- The books by number after one more command.
-use Rattle.std.proofs.Common.{◌≡◌, nat_eq, ◌==◌, ℕ, ◌+◌, ◌*◌, ◌<◌, ◌≤◌, ◌^◌, ◌-◌, Bool, true, false, cond, List, [], ◌∷◌, ◌++◌, length, refl, sym, ap, subst, ◌∙◌, arith, length-append, Option, None, Some, Result, Ok, Err, IfErr, IfOk, IfSome, OnOk, MatchResult}
+use Rattle.std.proofs.Common.{◌≡◌, nat_eq, ℕ, ◌+◌, ◌*◌, ◌<◌, ◌^◌, ◌-◌, Bool, true, false, cond, List, [], ◌∷◌, ◌++◌, length, refl, sym, ap, subst, ◌∙◌, arith, length-append, Option, None, Some, Result, Ok, Err, IfErr, IfOk, IfSome, OnOk, MatchResult}
 use Rattle.std.specs.List.{AllByRecursion, IsDistinct}
-use Rattle.std.specs.Map.{keys_of, lookup}
+use Rattle.std.specs.Map.{lookup}
 use Rattle.std.proofs.lemmas.Bool.{eqb-true}
 use Rattle.indexmap.specs.IndexMap.{insert_entry}
 use Rattle.money_ledgers.specs.Balances.{HasRoom, balances}
@@ -20,9 +20,9 @@ use Rattle.policy_types.specs.declared.policy.Policy.{Policy}
 use Rattle.policy_types.specs.declared.refusal.Refusal.{Refusal}
 use Rattle.checkpoint_store.specs.declared.numbered.NumberedBooks.{NumberedBooks}
 use Rattle.checkpoint_store.specs.declared.numbered.Untaken.{Untaken}
-use Rattle.checkpoint_store.specs.declared.numbered.Untaken.TheVariants.{Refused, NoMemory}
-use Rattle.checkpoint_store.specs.inside.Books.{AreKeyed, Entries, policies_in}
-use Rattle.checkpoint_store.specs.inside.Numbered.{AreBooksOf, AreSoundBooks, HasTaken, IsUntaken}
+use Rattle.checkpoint_store.specs.declared.numbered.Untaken.TheVariants.{NoMemory}
+use Rattle.checkpoint_store.specs.inside.Books.{AreKeyed, Entries, numbered_policies}
+use Rattle.checkpoint_store.specs.inside.Numbered.{AreBooksOf, AreSoundBooks, HasSetPolicy, IsUntaken}
 use Rattle.checkpoint_store.proofs.BookEntries.{book_lookup, book_more, insert_few, insert_keyed, insert_sound, keyed_ids}
 use Rattle.checkpoint_store.proofs.Bookings.{within_added}
 
@@ -34,7 +34,7 @@ look_own k (e ∷ es) keyed = by_test (nat_eq k e.0) refl (look_own k es keyed.1
     by_test true same later = sym keyed.0 ∙ sym (eqb-true k e.0 same)
     by_test false other later = later
 
-pub look_sound : (k : ℕ) (es : Entries) → AllByRecursion IsSound (policies_in es) → IfSome (lookup (nat_eq k) es) IsSound
+pub look_sound : (k : ℕ) (es : Entries) → AllByRecursion IsSound (numbered_policies es) → IfSome (lookup (nat_eq k) es) IsSound
 look_sound k [] sound = tt
 look_sound k (e ∷ es) sound = by_test (nat_eq k e.0) (look_sound k es sound.1)
   where
@@ -46,14 +46,14 @@ pub has_room : (books : NumberedBooks) → AreSoundBooks books → HasRoom books
 has_room books sound = let few = sound.sound.figures.position_in in
     AreWithin-wider (40000000000 * books.position) (2 ^ 63 - 1 - 40000000000) (balances books.ledger) (omega (arith, few)) sound.sound.figures.balances_in
 
-pub sound_more : (old new : NumberedBooks) (command : Command) (policy : Policy) → AreSoundBooks old → HasTaken old new command policy → IsSound policy
+pub sound_more : (old new : NumberedBooks) (command : Command) (policy : Policy) → AreSoundBooks old → HasSetPolicy old new command policy → IsSound policy
     → policy.id ≡ id_of command → IsValid command → old.position < most_commands → AreSoundBooks new
 sound_more old new command policy sound taken here number valid fewer =
     let es : Entries = old.policies.entries in
     let figures = sound.sound.figures in
     let keyed : AreKeyed new.policies.entries = subst AreKeyed (sym taken.entries) (insert_keyed (id_of command) policy es number sound.keyed) in
     let few = insert_few (id_of command) policy es in
-    let many : length (policies_in new.policies.entries) ≡ length (policies_in (insert_entry nat_eq es (id_of command) policy)) = ap (λ (l : Entries). length (policies_in l)) taken.entries in
+    let many : length (numbered_policies new.policies.entries) ≡ length (numbered_policies (insert_entry nat_eq es (id_of command) policy)) = ap (λ (l : Entries). length (numbered_policies l)) taken.entries in
     record {
       keyed = keyed;
       sound = record {
@@ -65,7 +65,7 @@ sound_more old new command policy sound taken here number valid fewer =
               (subst (AreWithin (40000000000 * (old.position + 1))) (sym taken.ledger)
               (within_added old.position (balances old.ledger) command policy valid here.issue_in.amount_in.1 figures.balances_in));
         };
-        sound = subst (λ (l : Entries). AllByRecursion IsSound (policies_in l)) (sym taken.entries) (insert_sound (id_of command) policy es here sound.sound.sound);
+        sound = subst (λ (l : Entries). AllByRecursion IsSound (numbered_policies l)) (sym taken.entries) (insert_sound (id_of command) policy es here sound.sound.sound);
         distinct = subst (IsDistinct nat_eq) (keyed_ids new.policies.entries keyed) taken.distinct;
       };
     }
@@ -122,7 +122,7 @@ left_named books command policy is =
     next-no_upgrade before command policy (judged_some books.upgrade before command policy is)
 
 pub books_more : (commands : List Command) (old new : NumberedBooks) (command : Command) (policy : Policy) → AreBooksOf commands old → AreKeyed old.policies.entries
-    → judged old.upgrade (lookup (nat_eq (id_of command)) old.policies.entries) command ≡ Ok (Some policy) → HasTaken old new command policy → IsValid command
+    → judged old.upgrade (lookup (nat_eq (id_of command)) old.policies.entries) command ≡ Ok (Some policy) → HasSetPolicy old new command policy → IsValid command
     → AreBooksOf (commands ++ command ∷ []) new
 books_more commands old new command policy of keyed is taken valid =
     let same : judged_after commands command ≡ Ok (Some policy) = sym (judged_same commands old command of keyed) ∙ is in
@@ -136,7 +136,7 @@ books_more commands old new command policy of keyed is taken valid =
         position = omega (arith, taken.position, of.snapshot.position, length-append commands (command ∷ []));
         upgrade = taken.upgrade ∙ of.snapshot.upgrade ∙ sym (upgrade_from-other 1 commands command named);
         ledger = taken.ledger ∙ ap (λ b. added b (booking_of command policy)) of.snapshot.ledger ∙ sym (ledger_of-push commands command policy ok);
-        policies = ap policies_in taken.entries ∙ book_more commands command policy old.policies.entries of.accepted keyed of.snapshot.policies ok;
+        policies = ap numbered_policies taken.entries ∙ book_more commands command policy old.policies.entries of.accepted keyed of.snapshot.policies ok;
       };
     }
 

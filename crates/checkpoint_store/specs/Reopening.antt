@@ -1,15 +1,21 @@
 -- What reopening answers: the snapshot of a journal, or why there is none
-use Rattle.std.specs.Prelude.{◌≡◌, ℕ, ◌<◌, ◌≤◌, List, [], length, map, take, None, slice_index_or}
+use Rattle.std.specs.Prelude.{◌≡◌, ◌⊎◌, ℕ, ◌+◌, ◌-◌, ◌<◌, ◌≤◌, List, [], length, map, take, None, slice_index_or, Result, Ok, Err}
 use Rattle.std.specs.List.{AllByRecursion}
 use Rattle.outside_io.specs.Faults.{Rose}
+use Rattle.outside_io.specs.declared.disks.Disk.{Ghosts}
 use Rattle.policy_machine.specs.Book.{IsAccepted, judge}
 use Rattle.policy_types.specs.declared.command.Command.{Command}
 use Rattle.policy_types.specs.Valid.{IsValid}
+use Rattle.posting_journal.specs.Runs.{LooksOn}
+use Rattle.posting_journal.specs.States.{StandsFor, count_of, disk_of, is_clean}
+use Rattle.posting_journal.specs.declared.journal.Journal.{Journal}
 use Rattle.record_codec.specs.Spelling.{spelling_of}
 use Rattle.checkpoint_store.specs.declared.faults.ReopenFault.{ReopenFault}
 use Rattle.checkpoint_store.specs.declared.faults.ReopenFault.TheVariants.{DiskFault, BadRecord, NoMemory}
 use Rattle.checkpoint_store.specs.declared.snapshot.Snapshot.{Snapshot}
+use Rattle.checkpoint_store.specs.declared.store.Store.{Store}
 use Rattle.checkpoint_store.specs.Checkpoints.{CheckpointBytes, IsSnapshotOf}
+use Rattle.checkpoint_store.specs.Stores.{Knows, MightLeave, store_disk}
 
 -- The first so many bodies spell commands, accepted one after the other, and the snapshot is theirs.
 pub record IsSnapshotOfFront (bodies : List (List ℕ)) (s : Snapshot) : Type 0 where
@@ -19,8 +25,30 @@ pub record IsSnapshotOfFront (bodies : List (List ℕ)) (s : Snapshot) : Type 0 
   pub accepted : IsAccepted commands
   pub snapshot : IsSnapshotOf commands s
 
+-- All bodies do, and the snapshot is theirs.
+pub record IsSnapshotOfAll (bodies : List (List ℕ)) (s : Snapshot) : Type 0 where
+  pub commands : List Command
+  pub spelled : bodies ≡ map spelling_of commands
+  pub valid : AllByRecursion IsValid commands
+  pub accepted : IsAccepted commands
+  pub snapshot : IsSnapshotOf commands s
+
+-- a checkpoint that the file holds is one of the journal's front
+abbrev pub IsTrueCheckpoint : List ℕ → List (List ℕ) → Type 0
+IsTrueCheckpoint file bodies = (s : Snapshot) → CheckpointBytes file s → IsSnapshotOfFront bodies s
+
+-- it is, where its position isn't above the count of the journal
+abbrev pub IsTrueWhereUsed : List ℕ → List (List ℕ) → Type 0
+IsTrueWhereUsed file bodies = (s : Snapshot) → CheckpointBytes file s → s.position ≤ length bodies → IsSnapshotOfFront bodies s
+
+-- The position from which records are decided: that of the file's checkpoint, where it has one that isn't above the count
+-- of the journal, and else 0.
+pub record IsStartOf (file : List ℕ) (count start : ℕ) : Type 0 where
+  pub found : (s : Snapshot) → CheckpointBytes file s → s.position ≤ count → start ≡ s.position
+  pub none : ((s : Snapshot) → CheckpointBytes file s → s.position ≤ count → ⊥) → start ≡ 0
+
 -- The bodies before body n spell commands, accepted one after the other, and it spells none that is accepted after them.
-pub record IsFirstBad (bodies : List (List ℕ)) (n : ℕ) : Type 0 where
+pub record IsFirstBadBody (bodies : List (List ℕ)) (n : ℕ) : Type 0 where
   pub commands : List Command
   pub within : n < length bodies
   pub counted : length commands ≡ n
@@ -29,14 +57,49 @@ pub record IsFirstBad (bodies : List (List ℕ)) (n : ℕ) : Type 0 where
   pub accepted : IsAccepted commands
   pub none : (command : Command) → slice_index_or bodies n [] ≡ spelling_of command → IsValid command → judge commands command ≡ None → ⊥
 
--- what the bodies show of a fault, from a position on
-abbrev pub IsFaultOf : List (List ℕ) → ℕ → ReopenFault → Type 0
-IsFaultOf bodies start (DiskFault count) = Unit {0}
-IsFaultOf bodies start (BadRecord n) = (start ≤ n) × IsFirstBad bodies n
-IsFaultOf bodies start NoMemory = Unit {0}
+-- it stands from the start on
+pub record IsBadFromStart (file : List ℕ) (bodies : List (List ℕ)) (n : ℕ) : Type 0 where
+  pub start : ℕ
+  pub begun : IsStartOf file (length bodies) start
+  pub from : start ≤ n
+  pub bad : IsFirstBadBody bodies n
 
--- a fault of a disk has its count, which rose; any other leaves it
-abbrev pub HasReopenCause : ℕ → ℕ → ReopenFault → Type 0
-HasReopenCause before now (DiskFault count) = (count ≡ now) × Rose before now
-HasReopenCause before now (BadRecord n) = now ≡ before
-HasReopenCause before now NoMemory = now ≡ before
+-- the snapshot of the whole journal, or what its bodies show of a fault
+abbrev pub IsReopened : List ℕ → List (List ℕ) → Result Snapshot ReopenFault → Type 0
+IsReopened file bodies (Ok s) = IsSnapshotOfAll bodies s
+IsReopened file bodies (Err (DiskFault count)) = Unit {0}
+IsReopened file bodies (Err (BadRecord n)) = IsBadFromStart file bodies n
+IsReopened file bodies (Err NoMemory) = Unit {0}
+
+-- one for each record from the start on
+pub record TakesSteps (file : List ℕ) (count before now : ℕ) : Type 0 where
+  pub start : ℕ
+  pub begun : IsStartOf file count start
+  pub steps : now ≡ before + (count - start)
+
+-- one disk failed, this is its count, and the other's stays
+abbrev pub IsFaultOfTwo : (before now other_before other_now count : ℕ) → Type 0
+IsFaultOfTwo before now other_before other_now count = (count ≡ now) × Rose before now × (other_now ≡ other_before)
+
+-- A fault of a disk has its count, which rose: that of the store or that of the journal. All else leaves both.
+abbrev pub HasCauseOfTwo : (before now first_before first_now : ℕ) → Result Snapshot ReopenFault → Type 0
+HasCauseOfTwo before now first_before first_now (Err (DiskFault count)) =
+    IsFaultOfTwo before now first_before first_now count ⊎ IsFaultOfTwo first_before first_now before now count
+HasCauseOfTwo before now first_before first_now (Ok s) = (now ≡ before) × (first_now ≡ first_before)
+HasCauseOfTwo before now first_before first_now (Err (BadRecord n)) = (now ≡ before) × (first_now ≡ first_before)
+HasCauseOfTwo before now first_before first_now (Err NoMemory) = (now ≡ before) × (first_now ≡ first_before)
+
+-- a journal that was only read is what it was
+pub record StandsAsBefore {D : Type 0} {g : Ghosts D} (old new : Journal D g) : Type 0 where
+  pub counted : count_of new ≡ count_of old
+  pub clean : is_clean new ≡ is_clean old
+  pub honesty : g.honest (disk_of new) → g.honest (disk_of old)
+  pub looks : g.honest (disk_of new) → LooksOn g (disk_of old) (disk_of new)
+  pub stands : (bodies : List (List ℕ)) (faulted : List ℕ) → g.honest (disk_of new) → StandsFor old bodies faulted → StandsFor new bodies faulted
+
+-- a store that was only read is what it was
+pub record KeepsAsBefore {E : Type 0} {g : Ghosts E} (old new : Store E g) : Type 0 where
+  pub honesty : g.honest (store_disk new) → g.honest (store_disk old)
+  pub looks : g.honest (store_disk new) → LooksOn g (store_disk old) (store_disk new)
+  pub knows : g.honest (store_disk new) → Knows old → Knows new
+  pub leaves : (image : List ℕ) → g.honest (store_disk new) → MightLeave new image → MightLeave old image

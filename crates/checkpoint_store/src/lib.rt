@@ -2,13 +2,16 @@
 //! the truth: what isn't a checkpoint is as good as none.
 #![tactic(auto)]
 
+mod adding;
 mod faults;
 mod front;
 mod gates;
-mod numbered;
+pub mod laws;
 mod number_bytes;
+mod numbered;
 mod parsing;
 mod pieces;
+mod reopening;
 mod replaying;
 mod saving;
 mod snapshot;
@@ -20,5 +23,6 @@ mod stored;
 pub mod worked;
 
 pub use faults::{ReopenFault, StoreFault};
+pub use reopening::reopen;
 pub use snapshot::Snapshot;
 pub use store::Store;

@@ -7,7 +7,7 @@ ghost use Rattle.policy_types.specs.Valid.{IsValid, id_of, is_upgrade};
 ghost use Rattle.policy_machine.specs.Book.{judged};
 ghost use Rattle.policy_machine.specs.Rules.{IsSound};
 ghost use Rattle.checkpoint_store.specs.declared.numbered.Untaken.TheVariants.{NoMemory};
-ghost use Rattle.checkpoint_store.specs.inside.Numbered.{AreBooksOf, AreSoundBooks, HasTaken, IsUntaken};
+ghost use Rattle.checkpoint_store.specs.inside.Numbered.{AreBooksOf, AreSoundBooks, HasSetPolicy, IsUntaken};
 
 use indexmap::IndexMap;
 use money_ledgers::Ledger;
@@ -88,7 +88,7 @@ impl NumberedBooks {
         requires few { self.old.position < most_commands }
         requires policy { IsSound policy }
         requires named { is_upgrade command.now ≡ false }
-        ensures taken { OnOk result (HasTaken self.old self.new command.now policy) }
+        ensures taken { OnOk result (HasSetPolicy self.old self.new command.now policy) }
         ensures memory { IfErr result (λ why. why ≡ NoMemory) }
     {
         self.ledger.post(command, &policy);

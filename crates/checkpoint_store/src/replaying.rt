@@ -3,7 +3,8 @@ ghost use Rattle.std.specs.Prelude.{◌≡◌, ◌+◌, ◌-◌, ◌<◌, ◌≤
 ghost use Rattle.posting_journal.specs.Pieces.{IsPartOf};
 ghost use Rattle.posting_journal.specs.States.{count_of, disk_of};
 ghost use Rattle.checkpoint_store.specs.inside.Numbered.{AreSoundBooks};
-ghost use Rattle.checkpoint_store.specs.inside.Replaying.{HasCause, ReplaysOn, StandsAsBefore};
+ghost use Rattle.checkpoint_store.specs.Reopening.{StandsAsBefore};
+ghost use Rattle.checkpoint_store.specs.inside.Replaying.{HasReplayCause, ReplaysOn};
 
 use crate::ReopenFault;
 use crate::numbered::{NumberedBooks, Untaken};
@@ -20,7 +21,7 @@ pub(crate) fn replay<D: Disk, L: Ledger>(
 ) -> Result<(), ReopenFault>
     requires sound { AreSoundBooks books.old }
     requires within { books.old.position ≤ count_of journal.old }
-    ensures cause { HasCause (D.faults (disk_of journal.old)) (D.faults (disk_of journal.new)) result }
+    ensures cause { HasReplayCause (D.faults (disk_of journal.old)) (D.faults (disk_of journal.new)) result }
     ensures stays { StandsAsBefore journal.old journal.new }
     ensures sound { OnOk result (AreSoundBooks books.new) }
     ensures position { OnOk result (books.new.position ≡ count_of journal.old) }
@@ -46,7 +47,7 @@ fn replay_record<D: Disk, L: Ledger>(
     requires sound { AreSoundBooks books.old }
     requires position { books.old.position ≡ n }
     requires part { D.honest (disk_of journal.old) → IsPartOf piece.old (D.reads (disk_of journal.old)) }
-    ensures cause { HasCause (D.faults (disk_of journal.old)) (D.faults (disk_of journal.new)) result }
+    ensures cause { HasReplayCause (D.faults (disk_of journal.old)) (D.faults (disk_of journal.new)) result }
     ensures stays { StandsAsBefore journal.old journal.new }
     ensures sound { OnOk result (AreSoundBooks books.new) }
     ensures position { OnOk result (books.new.position ≡ n + 1) }

@@ -9,9 +9,9 @@ ghost use Rattle.checkpoint_store.specs.Spelling.{policy_bytes, snapshot_bytes, 
 ghost use Rattle.checkpoint_store.specs.Stores.{AreShut, IsKeptBy, IsKeptOrSavedBy, Knows, MightLeave, store_disk};
 ghost use Rattle.checkpoint_store.specs.inside.Steps.{OpensGateOn, StaysShut};
 
+use crate::front::{Front, front_with};
 use crate::gates::{make_safe, put_gate, write_behind};
 use crate::pieces::{POLICIES, fill};
-use crate::front::{Front, front_with};
 use crate::spelling::{CLOSED, OPEN};
 use crate::{Snapshot, Store};
 use outside_io::{Disk, Failed};

@@ -1,15 +1,14 @@
 // The books of a checkpoint are read from its disk.
-ghost use Rattle.std.specs.Prelude.{◌≡◌, ◌+◌, ◌*◌, ◌<◌, ◌≤◌, ◌↔◌, length, take, drop, IsTrue, IfErr, IfOk, IfSome, OnOk};
+ghost use Rattle.std.specs.Prelude.{◌≡◌, ◌+◌, ◌*◌, ◌≤◌, ◌↔◌, length, take, drop, IsTrue, IfOk, IfSome, OnOk};
 ghost use Rattle.posting_journal.specs.Runs.{LooksOn};
-ghost use Rattle.checkpoint_store.specs.declared.faults.ReopenFault.TheVariants.{NoMemory};
 ghost use Rattle.checkpoint_store.specs.inside.Numbered.{AreSoundBooks};
-ghost use Rattle.checkpoint_store.specs.inside.Replaying.{HasCause};
-ghost use Rattle.checkpoint_store.specs.inside.Storing.{AreBegun, AreBooksBehind, AreUpTo, BegunNext, DoFit, IsFrontOn, IsStored, UpToNext, WasAdded};
+ghost use Rattle.checkpoint_store.specs.inside.Replaying.{HasReadCause};
+ghost use Rattle.checkpoint_store.specs.inside.Storing.{AreBegun, AreBooksBehind, AreBytesOf, AreUpTo, BegunNext, DoFit, IsFrontOn, IsStored, UpToNext};
 
 use crate::ReopenFault;
 use crate::front::{Front, front_at};
 use crate::numbered::NumberedBooks;
-use crate::parsing::policy_at;
+use crate::pieces::POLICIES;
 use crate::soundness::{MOST_COMMANDS, are_within};
 use indexmap::IndexMap;
 use outside_io::{Disk, Failed};
@@ -17,13 +16,13 @@ use policy_types::MOST_REINSTATEMENT_CENTS;
 use std::alloc::Global;
 
 /// The books of the disk's checkpoint, where it has one whose position isn't above the count.
-#[tactic(auto, using(crate::proofs::Stored::none_stored, crate::proofs::Stored::other_figures, crate::proofs::Stored::stored_all))]
+#[tactic(auto, using(crate::proofs::InStore::none_stored, crate::proofs::InStore::other_figures, crate::proofs::InStore::stored_all))]
 pub(crate) fn stored<E: Disk>(
     alloc: Global,
     disk: &mut E,
     count: u32,
 ) -> Result<Option<NumberedBooks>, ReopenFault>
-    ensures cause { HasCause (E.faults disk.old) (E.faults disk.new) result }
+    ensures cause { HasReadCause (E.faults disk.old) (E.faults disk.new) result }
     ensures honesty { E.honest disk.new → E.honest disk.old }
     ensures unwritten { E.honest disk.new → LooksOn E.Disk disk.old disk.new }
     ensures sound { IfOk result (λ found. IfSome found (λ books. AreSoundBooks books × (books.position ≤ count))) }
@@ -45,13 +44,16 @@ fn fits(front: Front) -> bool
     front.position <= MOST_COMMANDS
         && front.upgrade <= front.position
         && front.policies <= front.position
-        && are_within(MOST_REINSTATEMENT_CENTS * u64::from(front.position), front.ledger)
+        && are_within(
+            MOST_REINSTATEMENT_CENTS * u64::from(front.position),
+            front.ledger,
+        )
 }
 
 // The figures behind an open gate, where there is room for their policies.
-#[tactic(auto, using(crate::proofs::Stored::no_front, crate::proofs::Stored::no_room, crate::proofs::Stored::front_there, crate::proofs::Stored::short_file))]
+#[tactic(auto, using(crate::proofs::InStore::no_front, crate::proofs::InStore::no_room, crate::proofs::InStore::front_there, crate::proofs::InStore::short_file))]
 fn front_on<E: Disk>(disk: &mut E) -> Result<Option<Front>, ReopenFault>
-    ensures cause { HasCause (E.faults disk.old) (E.faults disk.new) result }
+    ensures cause { HasReadCause (E.faults disk.old) (E.faults disk.new) result }
     ensures honesty { E.honest disk.new → E.honest disk.old }
     ensures unwritten { E.honest disk.new → LooksOn E.Disk disk.old disk.new }
     ensures front { E.honest disk.new → IfOk result (λ found. IsFrontOn (E.reads disk.old) found) }
@@ -71,8 +73,8 @@ fn front_on<E: Disk>(disk: &mut E) -> Result<Option<Front>, ReopenFault>
     Ok(Some(front))
 }
 
-// The policies behind the figures.
-#[tactic(auto, using(crate::proofs::Stored::all_behind, crate::proofs::Stored::begun_sound))]
+// The policies behind the figures, a piece at a time.
+#[tactic(auto, using(crate::proofs::InStore::all_behind, crate::proofs::InStore::begun_sound))]
 fn books_behind<E: Disk>(
     alloc: Global,
     disk: &mut E,
@@ -80,7 +82,7 @@ fn books_behind<E: Disk>(
 ) -> Result<Option<NumberedBooks>, ReopenFault>
     requires fit { DoFit front }
     requires long { E.honest disk.old → 64 + 48 * front.policies ≤ length (E.reads disk.old) }
-    ensures cause { HasCause (E.faults disk.old) (E.faults disk.new) result }
+    ensures cause { HasReadCause (E.faults disk.old) (E.faults disk.new) result }
     ensures honesty { E.honest disk.new → E.honest disk.old }
     ensures unwritten { E.honest disk.new → LooksOn E.Disk disk.old disk.new }
     ensures sound { IfOk result (λ found. IfSome found (λ books. AreSoundBooks books × (books.position ≡ front.position))) }
@@ -92,69 +94,61 @@ fn books_behind<E: Disk>(
         upgrade: front.upgrade,
         ledger: front.ledger,
     };
-    for index in 0..front.policies {
-        if !add_next(disk, front, index, &mut books)? {
+    let mut done = 0;
+    while done < front.policies {
+        let many = (front.policies - done).min(POLICIES as u32);
+        if !add_piece(disk, front, done, many, &mut books)? {
             return Ok(None);
         }
+        done += many;
     }
     Ok(Some(books))
 }
 
-// Adds the policy of an index, where there is one of a new number.
-#[tactic(auto, using(crate::proofs::Stored::next_all, crate::proofs::Stored::begun_all))]
-fn add_next<E: Disk>(
+// Reads so many policies, from that of an index on, and adds them, where each is one of a new number.
+fn add_piece<E: Disk>(
     disk: &mut E,
     front: Front,
-    index: u32,
+    first: u32,
+    many: u32,
     books: &mut NumberedBooks,
 ) -> Result<bool, ReopenFault>
-    requires within { index < front.policies }
+    requires few { many ≤ 2048 }
+    requires within { first + many ≤ front.policies }
     requires long { E.honest disk.old → 64 + 48 * front.policies ≤ length (E.reads disk.old) }
-    requires begun { AreBegun front index books.old }
-    ensures cause { HasCause (E.faults disk.old) (E.faults disk.new) result }
+    requires begun { AreBegun front first books.old }
+    ensures cause { HasReadCause (E.faults disk.old) (E.faults disk.new) result }
     ensures honesty { E.honest disk.new → E.honest disk.old }
     ensures unwritten { E.honest disk.new → LooksOn E.Disk disk.old disk.new }
-    ensures begun { IfOk result (λ added. BegunNext front index books.new added) }
-    ensures next { E.honest disk.new → AreUpTo (E.reads disk.old) front index books.old
-        → IfOk result (λ added. UpToNext (E.reads disk.old) front index books.new added) }
+    ensures begun { IfOk result (λ added. BegunNext front (first + many) books.new added) }
+    ensures next { E.honest disk.new → AreUpTo (E.reads disk.old) front first books.old
+        → IfOk result (λ added. UpToNext (E.reads disk.old) front (first + many) books.new added) }
 {
-    let bytes = read_policy(disk, index)?;
-    books.add(&bytes)
+    let mut piece = [0; 98_304];
+    read_piece(disk, first, many, &mut piece)?;
+    books.add_all(&piece, many)
 }
 
-impl NumberedBooks {
-    // Adds the policy that these bytes spell, where they spell one of a new number.
-    fn add(&mut self, bytes: &[u8; 48]) -> Result<bool, ReopenFault>
-        ensures memory { IfErr result (λ fault. fault ≡ NoMemory) }
-        ensures added { IfOk result (λ added. WasAdded bytes.now self.old self.new added) }
-    {
-        let Some(policy) = policy_at(bytes) else {
-            return Ok(false);
-        };
-        if self.policies.contains_key(&policy.id) {
-            return Ok(false);
-        }
-        match self.policies.insert(policy.id, policy) {
-            Ok(_) => Ok(true),
-            Err(_) => Err(ReopenFault::NoMemory),
-        }
-    }
-}
-
-fn read_policy<E: Disk>(disk: &mut E, index: u32) -> Result<[u8; 48], ReopenFault>
-    requires { E.honest disk.old → 64 + 48 * (index + 1) ≤ length (E.reads disk.old) }
-    ensures cause { HasCause (E.faults disk.old) (E.faults disk.new) result }
+// Reads the bytes of so many policies, from that of an index on.
+fn read_piece<E: Disk>(
+    disk: &mut E,
+    first: u32,
+    many: u32,
+    piece: &mut [u8; 98_304],
+) -> Result<(), ReopenFault>
+    requires few { many ≤ 2048 }
+    requires long { E.honest disk.old → 64 + 48 * (first + many) ≤ length (E.reads disk.old) }
+    ensures cause { HasReadCause (E.faults disk.old) (E.faults disk.new) result }
     ensures honesty { E.honest disk.new → E.honest disk.old }
     ensures unwritten { E.honest disk.new → LooksOn E.Disk disk.old disk.new }
-    ensures bytes { E.honest disk.new → IfOk result (λ bytes. bytes ≡ take 48 (drop (64 + 48 * index) (E.reads disk.old))) }
+    ensures bytes { E.honest disk.new → OnOk result (AreBytesOf (E.reads disk.old) first many piece.new) }
 {
-    let mut bytes = [0; 48];
-    read(disk, 64 + 48 * u64::from(index), &mut bytes)?;
-    Ok(bytes)
+    let at = 64 + 48 * u64::from(first);
+    read(disk, at, &mut piece[..48 * many as usize])
 }
 
 fn size_of<E: Disk>(disk: &mut E) -> Result<u64, ReopenFault>
-    ensures cause { HasCause (E.faults disk.old) (E.faults disk.new) result }
+    ensures cause { HasReadCause (E.faults disk.old) (E.faults disk.new) result }
     ensures honesty { E.honest disk.new → E.honest disk.old }
     ensures unwritten { E.honest disk.new → LooksOn E.Disk disk.old disk.new }
     ensures length { E.honest disk.new → IfOk result (λ n. n ≡ length (E.reads disk.old)) }
@@ -167,7 +161,7 @@ fn size_of<E: Disk>(disk: &mut E) -> Result<u64, ReopenFault>
 
 fn read<E: Disk>(disk: &mut E, at: u64, buf: &mut [u8]) -> Result<(), ReopenFault>
     requires { E.honest disk.old → at + length buf.old ≤ length (E.reads disk.old) }
-    ensures cause { HasCause (E.faults disk.old) (E.faults disk.new) result }
+    ensures cause { HasReadCause (E.faults disk.old) (E.faults disk.new) result }
     ensures honesty { E.honest disk.new → E.honest disk.old }
     ensures unwritten { E.honest disk.new → LooksOn E.Disk disk.old disk.new }
     ensures bytes { E.honest disk.new → OnOk result (buf.new ≡ take (length buf.old) (drop at (E.reads disk.old))) }

@@ -11,3 +11,5 @@ mod outside_io_tests;
 mod posting_journal_tests;
 #[cfg(test)]
 mod record_codec_tests;
+#[cfg(test)]
+mod reopening_tests;

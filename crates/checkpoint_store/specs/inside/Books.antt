@@ -1,5 +1,5 @@
 -- The books by number, while records are decided anew
-use Rattle.std.specs.Prelude.{◌≡◌, ℕ, List, [], ◌∷◌, map}
+use Rattle.std.specs.Prelude.{◌≡◌, ℕ, List, map}
 use Rattle.std.specs.List.{AllByRecursion}
 use Rattle.policy_types.specs.declared.policy.Policy.{Policy}
 
@@ -7,8 +7,8 @@ abbrev pub Entries : Type 0
 Entries = List (ℕ × Policy)
 
 -- the policies, in order
-abbrev pub policies_in : Entries → List Policy
-policies_in entries = map (λ (e : ℕ × Policy). e.1) entries
+abbrev pub numbered_policies : Entries → List Policy
+numbered_policies entries = map (λ (e : ℕ × Policy). e.1) entries
 
 -- each policy stands under its own number
 abbrev pub AreKeyed : Entries → Type 0

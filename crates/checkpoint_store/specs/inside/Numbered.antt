@@ -1,5 +1,5 @@
 -- What the books by number are the books of, for the contracts of the steps alone
-use Rattle.std.specs.Prelude.{◌≡◌, nat_eq, ℕ, ◌+◌, List, None}
+use Rattle.std.specs.Prelude.{◌≡◌, nat_eq, ◌+◌, List, None}
 use Rattle.std.specs.List.{AllByRecursion, IsDistinct}
 use Rattle.std.specs.Map.{keys_of}
 use Rattle.indexmap.specs.IndexMap.{insert_entry}
@@ -14,10 +14,10 @@ use Rattle.checkpoint_store.specs.declared.numbered.Untaken.{Untaken}
 use Rattle.checkpoint_store.specs.declared.numbered.Untaken.TheVariants.{Refused, NoMemory}
 use Rattle.checkpoint_store.specs.declared.snapshot.Snapshot.{Snapshot}
 use Rattle.checkpoint_store.specs.Checkpoints.{IsSnapshotOf, IsSoundSnapshot}
-use Rattle.checkpoint_store.specs.inside.Books.{AreKeyed, policies_in}
+use Rattle.checkpoint_store.specs.inside.Books.{AreKeyed, numbered_policies}
 
 abbrev pub as_snapshot : NumberedBooks → Snapshot
-as_snapshot books = record { position = books.position; upgrade = books.upgrade; ledger = books.ledger; book = policies_in books.policies.entries }
+as_snapshot books = record { position = books.position; upgrade = books.upgrade; ledger = books.ledger; book = numbered_policies books.policies.entries }
 
 -- each policy stands under its own number, and together they are a sound snapshot
 pub record AreSoundBooks (books : NumberedBooks) : Type 0 where
@@ -31,7 +31,7 @@ pub record AreBooksOf (commands : List Command) (books : NumberedBooks) : Type 0
   pub snapshot : IsSnapshotOf commands (as_snapshot books)
 
 -- the policy that a command left was set
-pub record HasTaken (old new : NumberedBooks) (command : Command) (policy : Policy) : Type 0 where
+pub record HasSetPolicy (old new : NumberedBooks) (command : Command) (policy : Policy) : Type 0 where
   pub entries : new.policies.entries ≡ insert_entry nat_eq old.policies.entries (id_of command) policy
   pub distinct : IsDistinct nat_eq (keys_of new.policies.entries)
   pub position : new.position ≡ old.position + 1

@@ -1,7 +1,6 @@
 -- What the bytes of a checkpoint say at their places
-use Rattle.std.specs.Prelude.{ℕ, ◌+◌, ◌*◌, ◌<◌, ◌^◌, ◌==◌, ◌++◌, if◌then◌else◌, FitsSigned, List, [], ◌∷◌, slice_index, Option, Some, None}
+use Rattle.std.specs.Prelude.{ℕ, ◌+◌, ◌<◌, ◌^◌, ◌==◌, ◌++◌, if◌then◌else◌, FitsSigned, List, [], ◌∷◌, slice_index, Option, Some, None}
 use Rattle.std.specs.Int.{w32, w64, cast_signed, from_be_bytes}
-use Rattle.money_ledgers.specs.declared.ledger.Ledger.{Ledger}
 use Rattle.policy_types.specs.declared.command.Plan.{Plan}
 use Rattle.policy_types.specs.declared.command.Plan.TheVariants.{Term, Whole, Endowment, Limited}
 use Rattle.policy_types.specs.declared.policy.Policy.{Policy}

@@ -12,7 +12,7 @@ use Rattle.checkpoint_store.specs.declared.numbered.NumberedBooks.{NumberedBooks
 use Rattle.checkpoint_store.specs.declared.snapshot.Snapshot.{Snapshot}
 use Rattle.checkpoint_store.specs.Checkpoints.{CheckpointBytes, policy_ids}
 use Rattle.checkpoint_store.specs.Spelling.{policy_bytes}
-use Rattle.checkpoint_store.specs.inside.Books.{AreKeyed, policies_in}
+use Rattle.checkpoint_store.specs.inside.Books.{AreKeyed, numbered_policies}
 use Rattle.checkpoint_store.specs.inside.Numbered.{as_snapshot}
 use Rattle.checkpoint_store.specs.inside.Parsing.{IsFrontInRange, front_of}
 
@@ -61,34 +61,38 @@ pub record AreBegun (f : Front) (index : ℕ) (books : NumberedBooks) : Type 0 w
   pub position : books.position ≡ f.position
   pub upgrade : books.upgrade ≡ f.upgrade
   pub ledger : books.ledger ≡ f.ledger
-  pub counted : length (policies_in books.policies.entries) ≡ index
+  pub counted : length (numbered_policies books.policies.entries) ≡ index
   pub keyed : AreKeyed books.policies.entries
-  pub sound : AllByRecursion IsSound (policies_in books.policies.entries)
+  pub sound : AllByRecursion IsSound (numbered_policies books.policies.entries)
   pub distinct : IsDistinct nat_eq (keys_of books.policies.entries)
 
 -- those are what stands in the file, and nothing else can stand there
 pub record AreUpTo (file : List ℕ) (f : Front) (index : ℕ) (books : NumberedBooks) : Type 0 where
-  pub spelled : take (48 * index) (drop 64 file) ≡ flat_map policy_bytes (policies_in books.policies.entries)
-  pub only : (policies : List Policy) → HasPolicies file f.policies policies → take index policies ≡ policies_in books.policies.entries
+  pub spelled : take (48 * index) (drop 64 file) ≡ flat_map policy_bytes (numbered_policies books.policies.entries)
+  pub only : (policies : List Policy) → HasPolicies file f.policies policies → take index policies ≡ numbered_policies books.policies.entries
 
 abbrev pub HasNoPolicies : List ℕ → Front → Type 0
 HasNoPolicies file f = (policies : List Policy) → HasPolicies file f.policies policies → ⊥
 
--- the next policy was added, or there are none
+-- the policies up to an index were added, or there are none
 abbrev pub UpToNext : List ℕ → Front → ℕ → NumberedBooks → Bool → Type 0
-UpToNext file f index books true = AreUpTo file f (index + 1) books
+UpToNext file f index books true = AreUpTo file f index books
 UpToNext file f index books false = HasNoPolicies file f
 
 abbrev pub BegunNext : Front → ℕ → NumberedBooks → Bool → Type 0
-BegunNext f index books true = AreBegun f (index + 1) books
+BegunNext f index books true = AreBegun f index books
 BegunNext f index books false = Unit {0}
+
+-- these bytes begin with those of so many policies in the file, from that of an index on
+abbrev pub AreBytesOf : List ℕ → (first many : ℕ) → List ℕ → Type 0
+AreBytesOf file first many bytes = take (48 * many) bytes ≡ take (48 * many) (drop (64 + 48 * first) file)
 
 -- the books have these figures, and the policies behind them
 pub record HasBooks (file : List ℕ) (f : Front) (books : NumberedBooks) : Type 0 where
   pub position : books.position ≡ f.position
   pub upgrade : books.upgrade ≡ f.upgrade
   pub ledger : books.ledger ≡ f.ledger
-  pub policies : HasPolicies file f.policies (policies_in books.policies.entries)
+  pub policies : HasPolicies file f.policies (numbered_policies books.policies.entries)
 
 abbrev pub AreBooksBehind : List ℕ → Front → Option NumberedBooks → Type 0
 AreBooksBehind file f (Some books) = HasBooks file f books

@@ -1,10 +1,9 @@
 -- The records so far are in the books, and the piece is one of the journal.
 use Rattle.std.proofs.Common.{◌≡◌, ℕ, ◌+◌, ◌-◌, ◌≤◌, List}
 use Rattle.posting_journal.specs.Pieces.{IsPartOf}
-use Rattle.posting_journal.specs.States.{StandsFor, count_of, disk_of}
-use Rattle.checkpoint_store.specs.Reopening.{IsSnapshotOfFront}
+use Rattle.posting_journal.specs.States.{StandsFor, disk_of}
+use Rattle.checkpoint_store.specs.Reopening.{IsSnapshotOfFront, StandsAsBefore}
 use Rattle.checkpoint_store.specs.inside.Numbered.{AreSoundBooks, as_snapshot}
-use Rattle.checkpoint_store.specs.inside.Replaying.{StandsAsBefore}
 use Rattle.checkpoint_store.proofs.replaying.replay.Given as goal
 
 abbrev pub invariant-loop-n : goal.invariant-loop-n

@@ -1,10 +1,7 @@
 -- The policy that the command names is among the books.
-use Rattle.std.proofs.Common.{◌≡◌, IfSome, sym, subst, option_copied, rules}
-use Rattle.std.specs.Map.{lookup}
-use Rattle.policy_machine.specs.Rules.{IsSound}
+use Rattle.std.proofs.Common.{rules}
 use Rattle.policy_types.specs.Valid.{id_of}
-use Rattle.policy_types.specs.declared.policy.Policy.{Policy}
-use Rattle.checkpoint_store.proofs.Taking.{look_own, look_sound}
+use Rattle.checkpoint_store.proofs.Taking.{look_own}
 use Rattle.checkpoint_store.proofs.numbered.NumberedBooks.judgement.Goals as goal
 
 pub judge-requires-clause-own : goal.judge-requires-clause-own

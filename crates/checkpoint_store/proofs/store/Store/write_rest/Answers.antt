@@ -1,8 +1,9 @@
 -- All that is written stands behind the gate, which stays closed.
-use Rattle.std.proofs.Common.{List, [], ◌++◌, refl, sym, subst, arith}
+use Rattle.std.proofs.Common.{◌≡◌, List, [], ◌++◌, length, refl, sym, ap, subst, ◌∙◌, arith}
 use Rattle.std.specs.List.{flat_map}
 use Rattle.policy_types.specs.declared.policy.Policy.{Policy}
-use Rattle.checkpoint_store.specs.Spelling.{policy_bytes, snapshot_bytes, StandBehindGate}
+use Rattle.checkpoint_store.specs.Spelling.{front_bytes, policy_bytes, snapshot_bytes, StandBehindGate}
+use Rattle.checkpoint_store.specs.inside.Parsing.{front_of}
 use Rattle.posting_journal.specs.Runs.{IsSafe}
 use Rattle.checkpoint_store.proofs.Behind.{behind_more}
 use Rattle.checkpoint_store.proofs.GateSteps.{shut_on}
@@ -39,9 +40,11 @@ returns-clause-written g c = λ honest knows.
     let began : StandBehindGate front (g.E.Disk.reads c.write_behind.new.disk) =
     behind_more [] front (g.E.Disk.reads old.disk) (g.E.Disk.reads c.write_behind.new.disk) 1 refl (old.there (c.write_behind.ensures.honesty honest_1) c.requires.closed) refl (c.in_ok-write_behind.ensures.written honest_1) in
     let stands : StandBehindGate (front ++ flat_map policy_bytes s.book) (g.E.Disk.reads c.write_policies.new.disk) =
-    subst (λ (l : List Policy). StandBehindGate (front ++ flat_map policy_bytes l) (g.E.Disk.reads c.write_policies.new.disk)) c.as_slice.ensures
+    subst (λ (l : List Policy). StandBehindGate (front ++ flat_map policy_bytes l) (g.E.Disk.reads c.write_policies.new.disk)) c.as_slice-2.ensures
     (c.in_ok-write_policies.ensures.written front honest_2 (omega arith) began) in
+    let spelled : front ≡ front_bytes s =
+    c.front_with.ensures ∙ ap (λ (l : List Policy). front_of (record { position = s.position; upgrade = s.upgrade; policies = length l; ledger = s.ledger })) c.as_slice.ensures in
     let all : StandBehindGate (snapshot_bytes s) (g.E.Disk.reads c.write_policies.new.disk) =
-    subst (λ f. StandBehindGate (f ++ flat_map policy_bytes s.book) (g.E.Disk.reads c.write_policies.new.disk)) c.front_with.ensures stands in
+    subst (λ f. StandBehindGate (f ++ flat_map policy_bytes s.book) (g.E.Disk.reads c.write_policies.new.disk)) spelled stands in
     ok_both c.make_safe.result (StandBehindGate (snapshot_bytes s) (g.E.Disk.reads c.make_safe.new.disk)) (IsSafe g.E.Disk c.make_safe.new.disk)
     (subst (λ b. StandBehindGate (snapshot_bytes s) b) (sym (c.make_safe.ensures.reads honest)) all) (c.make_safe.ensures.safe honest)

@@ -1,27 +1,29 @@
 -- What stands in a checkpoint's file, in parts.
 use Rattle.money_ledgers.specs.Balances.{balances}
-use Rattle.std.proofs.Common.{◌≡◌, nat_eq, ℕ, zero, suc, ◌+◌, ◌-◌, ◌*◌, ◌/◌, ◌<◌, ◌≤◌, ◌^◌, min, Bool, true, false, cond, List, [], ◌∷◌, ◌++◌, length, map, take, drop, get_or, slice_index, refl, sym, ap, subst, ◌∙◌, arith, append_assoc, append-nil, length-append, length-drop, Option, Some, None, Result, Ok, Err, IfOk, IfSome, ℤ, FitsSigned, w64}
-use Rattle.std.proofs.lemmas.Bool.{cases_eq, eqb-false, eqb-true, ne_eqb}
+use Rattle.std.proofs.Common.{◌≡◌, nat_eq, ℕ, zero, suc, ◌+◌, ◌-◌, ◌*◌, ◌/◌, ◌<◌, ◌≤◌, min, Bool, true, false, cond, List, [], ◌∷◌, ◌++◌, length, take, drop, get_or, refl, sym, ap, subst, ◌∙◌, arith, append-nil, length-append, length-drop, Option, Some, None, is_some, true≢false, Result, Ok, Err, IfOk, IfSome, ℤ, FitsSigned, w64}
+use Rattle.std.proofs.lemmas.Bool.{eqb-false, ne_eqb}
 use Rattle.std.proofs.lemmas.Grind.{flat_map-append}
 use Rattle.std.proofs.lemmas.Int.{ints}
-use Rattle.std.proofs.lemmas.List.{drop-drop, drop-take, drop_at, get_or-take, length-take, length-take-le, map-append, take-append-drop, take-take, take_at, take_more}
+use Rattle.std.proofs.lemmas.List.{drop-drop, drop-take, drop_at, get_or-take, length-take, map-append, take-append-drop, take-take, take_at, take_more}
 use Rattle.std.proofs.Math.Seq.{drop-append-add, drop-cons}
 use Rattle.std.specs.List.{AllByRecursion, IsDistinct, flat_map}
 use Rattle.std.specs.Map.{keys_of, lookup}
 use Rattle.policy_machine.specs.Rules.{IsSound}
 use Rattle.policy_types.specs.Accounts.{AreWithin, IsWithin}
 use Rattle.policy_types.specs.declared.policy.Policy.{Policy}
+use Rattle.indexmap.proofs.CallerLemmas.{insert_entry-new}
+use Rattle.indexmap.specs.IndexMap.{insert_entry}
 use Rattle.posting_journal.proofs.Bytes.{same_part}
 use Rattle.checkpoint_store.specs.declared.faults.ReopenFault.{ReopenFault}
 use Rattle.checkpoint_store.specs.declared.front.Front.{Front}
 use Rattle.checkpoint_store.specs.declared.numbered.NumberedBooks.{NumberedBooks}
 use Rattle.checkpoint_store.specs.declared.snapshot.Snapshot.{Snapshot}
-use Rattle.checkpoint_store.specs.Checkpoints.{CheckpointBytes, HasFigures, IsSoundSnapshot, policy_ids}
-use Rattle.checkpoint_store.specs.Spelling.{balance_bytes, front_bytes, policy_bytes, position_bytes, snapshot_bytes, StandBehindGate}
-use Rattle.checkpoint_store.specs.inside.Books.{AreKeyed, Entries, policies_in}
+use Rattle.checkpoint_store.specs.Checkpoints.{CheckpointBytes, IsSoundSnapshot, policy_ids}
+use Rattle.checkpoint_store.specs.Spelling.{balance_bytes, policy_bytes, position_bytes}
+use Rattle.checkpoint_store.specs.inside.Books.{AreKeyed, Entries, numbered_policies}
 use Rattle.checkpoint_store.specs.inside.Numbered.{AreSoundBooks, as_snapshot}
 use Rattle.checkpoint_store.specs.inside.Parsing.{IsFrontInRange, front_of, policy_of_bytes}
-use Rattle.checkpoint_store.specs.inside.Storing.{AreBegun, AreBooksBehind, AreUpTo, BegunNext, DoFit, HasBooks, HasFront, HasNoPolicies, HasPolicies, IsAddedTo, IsFrontOn, IsStored, UpToNext, WasAdded}
+use Rattle.checkpoint_store.specs.inside.Storing.{AreBegun, AreBooksBehind, AreBytesOf, AreUpTo, BegunNext, DoFit, HasBooks, HasFront, HasPolicies, IsAddedTo, IsFrontOn, IsStored, UpToNext, WasAdded}
 use Rattle.checkpoint_store.proofs.Behind.{gate_first, length-policies, length-policy_bytes}
 use Rattle.checkpoint_store.proofs.BookEntries.{keyed_ids}
 use Rattle.checkpoint_store.proofs.Reading.{policy_read}
@@ -92,11 +94,11 @@ only_more file many ps before p i has within same sound is =
     take_more ps i p inside ∙ (λ j. same j ++ here j ∷ [])
 
 -- a number that isn't among those before it isn't found
-not_found : (es : Entries) (p : Policy) (back : List Policy) → AreKeyed es → IsDistinct nat_eq (policy_ids (policies_in es ++ p ∷ back)) → lookup (nat_eq p.id) es ≡ None
+not_found : (es : Entries) (p : Policy) (back : List Policy) → AreKeyed es → IsDistinct nat_eq (policy_ids (numbered_policies es ++ p ∷ back)) → lookup (nat_eq p.id) es ≡ None
 unfolding IsDistinct
 not_found [] p back keyed distinct = refl
 not_found (e ∷ es) p back keyed distinct =
-    let apart : nat_eq e.1.id p.id ≡ false = middle (policies_in es) distinct.0 in
+    let apart : nat_eq e.1.id p.id ≡ false = middle (numbered_policies es) distinct.0 in
     let key : nat_eq p.id e.0 ≡ false = ne_eqb p.id e.0 (λ same. eqb-false e.1.id p.id apart (sym (same ∙ keyed.0))) in
     ap (λ b. cond b (Some e.1) (lookup (nat_eq p.id) es)) key ∙ not_found es p back keyed.1 distinct.1
   where
@@ -106,15 +108,15 @@ not_found (e ∷ es) p back keyed distinct =
 
 -- where the next policy can't be added there are none
 pub none_more : (file : List ℕ) (many : ℕ) (ps : List Policy) (es : Entries) (i : ℕ) (bytes : List ℕ) → HasPolicies file many ps → i < many
-    → AreKeyed es → take i ps ≡ policies_in es → bytes ≡ take 48 (drop (64 + 48 * i) file)
+    → AreKeyed es → take i ps ≡ numbered_policies es → bytes ≡ take 48 (drop (64 + 48 * i) file)
     → ((policy : Policy) → IsSound policy → bytes ≡ policy_bytes policy → lookup (nat_eq policy.id) es ≡ None → ⊥) → ⊥
 none_more file many [] es i bytes has within keyed same is none = absurd (omega (arith, within, has.counted))
 none_more file many (first ∷ rest) es i bytes has within keyed same is none =
     let ps : List Policy = first ∷ rest in
     let p : Policy = get_or ps i first in
     let inside : i < length ps = omega (arith, within, has.counted) in
-    let split : ps ≡ policies_in es ++ p ∷ drop (suc i) ps =
-    sym (take-append-drop i ps) ∙ (λ j. same j ++ drop i ps) ∙ ap (λ (l : List Policy). policies_in es ++ l) (drop-cons ps i first inside) in
+    let split : ps ≡ numbered_policies es ++ p ∷ drop (suc i) ps =
+    sym (take-append-drop i ps) ∙ (λ j. same j ++ drop i ps) ∙ ap (λ (l : List Policy). numbered_policies es ++ l) (drop-cons ps i first inside) in
     none p (all_at IsSound ps i first inside has.sound) (is ∙ chunk file many ps i first has within)
     (not_found es p (drop (suc i) ps) keyed (subst (λ (l : List Policy). IsDistinct nat_eq (policy_ids l)) split has.distinct))
 
@@ -186,7 +188,7 @@ checkpoint_made file s has policies sound =
 
 -- the books that stand behind fitting figures are sound
 pub sound_stored : (f : Front) (books : NumberedBooks) → DoFit f → books.position ≡ f.position → books.upgrade ≡ f.upgrade → books.ledger ≡ f.ledger
-    → length (policies_in books.policies.entries) ≡ f.policies → AreKeyed books.policies.entries → AllByRecursion IsSound (policies_in books.policies.entries)
+    → length (numbered_policies books.policies.entries) ≡ f.policies → AreKeyed books.policies.entries → AllByRecursion IsSound (numbered_policies books.policies.entries)
     → IsDistinct nat_eq (keys_of books.policies.entries) → AreSoundBooks books
 sound_stored f books fit position upgrade ledger counted keyed sound distinct = record {
   keyed = keyed;
@@ -206,11 +208,11 @@ pub keyed_more : (es : Entries) (p : Policy) → AreKeyed es → AreKeyed (es ++
 keyed_more [] p keyed = (refl, tt)
 keyed_more (e ∷ es) p keyed = (keyed.0, keyed_more es p keyed.1)
 
-pub sound_push : (es : Entries) (p : Policy) → AllByRecursion IsSound (policies_in es) → IsSound p → AllByRecursion IsSound (policies_in (es ++ (p.id, p) ∷ []))
+pub sound_push : (es : Entries) (p : Policy) → AllByRecursion IsSound (numbered_policies es) → IsSound p → AllByRecursion IsSound (numbered_policies (es ++ (p.id, p) ∷ []))
 sound_push [] p sound here = (here, tt)
 sound_push (e ∷ es) p sound here = (sound.0, sound_push es p sound.1 here)
 
-pub policies_push : (es : Entries) (p : Policy) → policies_in (es ++ (p.id, p) ∷ []) ≡ policies_in es ++ p ∷ []
+pub policies_push : (es : Entries) (p : Policy) → numbered_policies (es ++ (p.id, p) ∷ []) ≡ numbered_policies es ++ p ∷ []
 policies_push es p = map-append (λ (e : ℕ × Policy). e.1) es ((p.id, p) ∷ [])
 
 -- what is stored
@@ -269,44 +271,79 @@ pub short_file : (file : List ℕ) (size : ℕ) → size ≡ length file → siz
 short_file file size is short = λ f range has. omega (arith, has.long, is, short)
 
 -- the books with one policy more
-pub next_begun : (f : Front) (index : ℕ) (bytes : List ℕ) (old new : NumberedBooks) (added : Bool) → AreBegun f index old → WasAdded bytes old new added → BegunNext f index new added
+next_begun : (f : Front) (index : ℕ) (bytes : List ℕ) (old new : NumberedBooks) (added : Bool) → AreBegun f index old → WasAdded bytes old new added → BegunNext f (index + 1) new added
 next_begun f index bytes old new false begun was = tt
 next_begun f index bytes old new true begun was =
     let es : Entries = old.policies.entries in
-    let policies : policies_in new.policies.entries ≡ policies_in es ++ was.policy ∷ [] = ap policies_in was.entries ∙ policies_push es was.policy in
+    let policies : numbered_policies new.policies.entries ≡ numbered_policies es ++ was.policy ∷ [] = ap numbered_policies was.entries ∙ policies_push es was.policy in
     record {
       position = was.position ∙ begun.position;
       upgrade = was.upgrade ∙ begun.upgrade;
       ledger = was.ledger ∙ begun.ledger;
-      counted = omega (arith, ap (λ (l : List Policy). length l) policies, length-append (policies_in es) (was.policy ∷ []), begun.counted);
+      counted = omega (arith, ap (λ (l : List Policy). length l) policies, length-append (numbered_policies es) (was.policy ∷ []), begun.counted);
       keyed = subst AreKeyed (sym was.entries) (keyed_more es was.policy begun.keyed);
-      sound = subst (λ (l : Entries). AllByRecursion IsSound (policies_in l)) (sym was.entries) (sound_push es was.policy begun.sound was.sound);
+      sound = subst (λ (l : Entries). AllByRecursion IsSound (numbered_policies l)) (sym was.entries) (sound_push es was.policy begun.sound was.sound);
       distinct = was.distinct;
     }
 
-pub next_up_to : (file : List ℕ) (f : Front) (index : ℕ) (bytes : List ℕ) (old new : NumberedBooks) (added : Bool) → index < f.policies → AreBegun f index old
-    → AreUpTo file f index old → bytes ≡ take 48 (drop (64 + 48 * index) file) → WasAdded bytes old new added → UpToNext file f index new added
+next_up_to : (file : List ℕ) (f : Front) (index : ℕ) (bytes : List ℕ) (old new : NumberedBooks) (added : Bool) → index < f.policies → AreBegun f index old
+    → AreUpTo file f index old → bytes ≡ take 48 (drop (64 + 48 * index) file) → WasAdded bytes old new added → UpToNext file f (index + 1) new added
 next_up_to file f index bytes old new false within begun up is was = λ ps has.
     none_more file f.policies ps old.policies.entries index bytes has within begun.keyed (up.only ps has) is was
 next_up_to file f index bytes old new true within begun up is was =
     let es : Entries = old.policies.entries in
-    let policies : policies_in new.policies.entries ≡ policies_in es ++ was.policy ∷ [] = ap policies_in was.entries ∙ policies_push es was.policy in
+    let policies : numbered_policies new.policies.entries ≡ numbered_policies es ++ was.policy ∷ [] = ap numbered_policies was.entries ∙ policies_push es was.policy in
     let here : take 48 (drop (64 + 48 * index) file) ≡ policy_bytes was.policy = sym is ∙ was.spelled in
     record {
-      spelled = spelled_more file (policies_in es) was.policy index up.spelled here ∙ ap (λ (l : List Policy). flat_map policy_bytes l) (sym policies);
-      only = λ ps has. only_more file f.policies ps (policies_in es) was.policy index has within (up.only ps has) was.sound here ∙ sym policies;
+      spelled = spelled_more file (numbered_policies es) was.policy index up.spelled here ∙ ap (λ (l : List Policy). flat_map policy_bytes l) (sym policies);
+      only = λ ps has. only_more file f.policies ps (numbered_policies es) was.policy index has within (up.only ps has) was.sound here ∙ sym policies;
     }
 
--- the answer of an addition
-pub next_all : (file : List ℕ) (f : Front) (index : ℕ) (bytes : List ℕ) (old new : NumberedBooks) (r : Result Bool ReopenFault) → index < f.policies → AreBegun f index old
-    → AreUpTo file f index old → bytes ≡ take 48 (drop (64 + 48 * index) file) → IfOk r (λ added. WasAdded bytes old new added) → IfOk r (λ added. UpToNext file f index new added)
-next_all file f index bytes old new (Ok added) within begun up is was = next_up_to file f index bytes old new added within begun up is was
-next_all file f index bytes old new (Err fault) within begun up is was = tt
+-- the bytes of one policy among those of some
+part_of_piece : (file all one : List ℕ) (first many index : ℕ) → index < many → AreBytesOf file first many all → one ≡ take 48 (drop (48 * index) all)
+    → one ≡ take 48 (drop (64 + 48 * (first + index)) file)
+part_of_piece file all one first many index within are is =
+    let rest : List ℕ = drop (64 + 48 * first) file in
+    let place : 64 + 48 * first + 48 * index ≡ 64 + 48 * (first + index) = omega arith in
+    is ∙ same_part (48 * many) (48 * index) 48 rest all are (omega (arith, within))
+    ∙ ap (λ (l : List ℕ). take 48 l) (drop-drop (48 * index) (64 + 48 * first) file)
+    ∙ ap (λ n. take 48 (drop n file)) place
 
-pub begun_all : (f : Front) (index : ℕ) (bytes : List ℕ) (old new : NumberedBooks) (r : Result Bool ReopenFault) → AreBegun f index old
-    → IfOk r (λ added. WasAdded bytes old new added) → IfOk r (λ added. BegunNext f index new added)
-begun_all f index bytes old new (Ok added) begun was = next_begun f index bytes old new added begun was
-begun_all f index bytes old new (Err fault) begun was = tt
+-- a policy of a new number goes last
+pub added_last : (bytes : List ℕ) (old new : NumberedBooks) (policy : Policy) → IsSound policy → bytes ≡ policy_bytes policy
+    → is_some (lookup (nat_eq policy.id) old.policies.entries) ≡ false → new.policies.entries ≡ insert_entry nat_eq old.policies.entries policy.id policy
+    → IsDistinct nat_eq (keys_of new.policies.entries) → new.position ≡ old.position → new.upgrade ≡ old.upgrade → new.ledger ≡ old.ledger → IsAddedTo bytes old new
+added_last bytes old new policy sound is none entries distinct position upgrade ledger = record {
+  policy = policy;
+  sound = sound;
+  spelled = is;
+  entries = entries ∙ insert_entry-new nat_eq old.policies policy.id policy (none_there (lookup (nat_eq policy.id) old.policies.entries) none);
+  distinct = distinct;
+  position = position;
+  upgrade = upgrade;
+  ledger = ledger;
+}
+  where
+    none_there : (o : Option Policy) → is_some o ≡ false → o ≡ None
+    none_there None is = refl
+    none_there (Some p) is = absurd (true≢false is)
+
+-- the answer of an addition
+pub up_to_one_more : (file all one : List ℕ) (f : Front) (first many index : ℕ) (old new : NumberedBooks) (r : Result Bool ReopenFault) → index < many
+    → first + many ≤ f.policies → AreBytesOf file first many all → one ≡ take 48 (drop (48 * index) all) → AreBegun f (first + index) old
+    → AreUpTo file f (first + index) old → IfOk r (λ added. WasAdded one old new added) → IfOk r (λ added. UpToNext file f (first + (index + 1)) new added)
+up_to_one_more file all one f first many index old new (Ok added) within room are is begun up was =
+    let next : first + index + 1 ≡ first + (index + 1) = omega arith in
+    subst (λ n. UpToNext file f n new added) next
+    (next_up_to file f (first + index) one old new added (omega (arith, within, room)) begun up (part_of_piece file all one first many index within are is) was)
+up_to_one_more file all one f first many index old new (Err fault) within room are is begun up was = tt
+
+pub begun_one_more : (one : List ℕ) (f : Front) (first index : ℕ) (old new : NumberedBooks) (r : Result Bool ReopenFault) → AreBegun f (first + index) old
+    → IfOk r (λ added. WasAdded one old new added) → IfOk r (λ added. BegunNext f (first + (index + 1)) new added)
+begun_one_more one f first index old new (Ok added) begun was =
+    let next : first + index + 1 ≡ first + (index + 1) = omega arith in
+    subst (λ n. BegunNext f n new added) next (next_begun f (first + index) one old new added begun was)
+begun_one_more one f first index old new (Err fault) begun was = tt
 
 -- all policies are in the books
 pub all_behind : (file : List ℕ) (f : Front) (books : NumberedBooks) → AreBegun f f.policies books → AreUpTo file f f.policies books → HasBooks file f books

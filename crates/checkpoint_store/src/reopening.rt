@@ -1,0 +1,84 @@
+// A store and a journal are reopened.
+ghost use Rattle.std.specs.Prelude.{◌≡◌, ℕ, ◌≤◌, List, length, IfErr, IfOk, OnOk};
+ghost use Rattle.posting_journal.specs.Runs.{LooksOn};
+ghost use Rattle.posting_journal.specs.States.{StandsFor, count_of, disk_of};
+ghost use Rattle.checkpoint_store.specs.Checkpoints.{IsSoundSnapshot};
+ghost use Rattle.checkpoint_store.specs.Reopening.{HasCauseOfTwo, IsReopened, IsSnapshotOfFront, IsStartOf, IsTrueWhereUsed, KeepsAsBefore, StandsAsBefore, TakesSteps};
+ghost use Rattle.checkpoint_store.specs.Stores.{store_disk};
+ghost use Rattle.checkpoint_store.specs.declared.faults.ReopenFault.TheVariants.{NoMemory as NoRoom};
+ghost use Rattle.checkpoint_store.specs.inside.Numbered.{AreSoundBooks, as_snapshot};
+ghost use Rattle.checkpoint_store.specs.inside.Replaying.{HasReadCause};
+
+use crate::numbered::NumberedBooks;
+use crate::replaying::replay;
+use crate::stored::stored;
+use crate::{ReopenFault, Snapshot, Store};
+use outside_io::{Disk, Steps};
+use policy_types::Slice;
+use posting_journal::Journal;
+use std::alloc::Global;
+use std::sync::ledger::Ledger;
+
+/// The snapshot of a journal. Its records are decided anew from the position of the store's checkpoint on, where there is
+/// one and it isn't above the journal's count, and else from the first on; each that is read is a step. A fault of a disk
+/// has that disk's count, which rose in this call; `BadRecord(n)` is the first record from there on that spells no command
+/// which can follow. Neither disk is written to.
+pub fn reopen<E: Disk, D: Disk, L: Ledger>(
+    alloc: Global,
+    store: &mut Store<E>,
+    journal: &mut Journal<D>,
+    steps: &mut Steps<L>,
+) -> Result<Snapshot, ReopenFault>
+    ensures cause { HasCauseOfTwo (E.faults (store_disk store.old)) (E.faults (store_disk store.new))
+        (D.faults (disk_of journal.old)) (D.faults (disk_of journal.new)) result }
+    ensures store { KeepsAsBefore store.old store.new }
+    ensures journal { StandsAsBefore journal.old journal.new }
+    ensures sound { IfOk result IsSoundSnapshot }
+    ensures few { E.honest (store_disk store.new)
+        → OnOk result (TakesSteps (E.reads (store_disk store.old)) (count_of journal.old) steps.old steps.new) }
+    ensures reopened { (bodies : List (List ℕ)) (faulted : List ℕ) → E.honest (store_disk store.new) → D.honest (disk_of journal.new)
+        → StandsFor journal.old bodies faulted → IsTrueWhereUsed (E.reads (store_disk store.old)) bodies
+        → IsReopened (E.reads (store_disk store.old)) bodies result }
+{
+    let mut books = begin(alloc, store, journal.count())?;
+    replay(journal, &mut books, steps)?;
+    books.into_snapshot(alloc)
+}
+
+// The books of the store's checkpoint, or of no command.
+#[tactic(auto, using(crate::proofs::StartSteps::start_found, crate::proofs::StartSteps::start_none, crate::proofs::StartSteps::front_none))]
+fn begin<E: Disk>(
+    alloc: Global,
+    store: &mut Store<E>,
+    count: u32,
+) -> Result<NumberedBooks, ReopenFault>
+    ensures cause { HasReadCause (E.faults (store_disk store.old)) (E.faults (store_disk store.new)) result }
+    ensures store { KeepsAsBefore store.old store.new }
+    ensures sound { IfOk result (λ books. AreSoundBooks books × (books.position ≤ count)) }
+    ensures start { E.honest (store_disk store.new) → IfOk result (λ books. IsStartOf (E.reads (store_disk store.old)) count books.position) }
+    ensures front { (bodies : List (List ℕ)) → E.honest (store_disk store.new) → length bodies ≡ count
+        → IsTrueWhereUsed (E.reads (store_disk store.old)) bodies → IfOk result (λ books. IsSnapshotOfFront bodies (as_snapshot books)) }
+{
+    match stored(alloc, &mut store.disk, count)? {
+        Some(books) => Ok(books),
+        None => Ok(NumberedBooks::new(alloc)),
+    }
+}
+
+impl NumberedBooks {
+    // The snapshot of the books.
+    fn into_snapshot(self, alloc: Global) -> Result<Snapshot, ReopenFault>
+        ensures memory { IfErr result (λ fault. fault ≡ NoRoom) }
+        ensures same { IfOk result (λ snapshot. snapshot ≡ as_snapshot self) }
+    {
+        let Ok(book) = Vec::from_slice(alloc, self.policies.values().as_slice()) else {
+            return Err(ReopenFault::NoMemory);
+        };
+        Ok(Snapshot {
+            position: self.position,
+            upgrade: self.upgrade,
+            ledger: self.ledger,
+            book: Slice::new(book),
+        })
+    }
+}
