@@ -1,0 +1,49 @@
+// How keys are hashed. Keys are numbers that are mostly given in a row: so eight neighbours stand side by side in the
+// map's index, and a key is looked up in memory that the one before it has just used.
+ghost use Rattle.std.specs.Prelude.{◌+◌, ◌*◌, ◌/◌, ◌%◌, ◌^◌, bit_xor, fold};
+
+use std::hash::{BuildHasher, Hasher};
+
+/// A hasher of keys of four bytes, of which it knows those last written. It is fixed: keys that are picked against it can
+/// make a map slow, and no answer wrong.
+#[derive(Clone, Copy)]
+pub(crate) struct KeyHasher {
+    key: u32,
+}
+
+impl Hasher for KeyHasher {
+    ghost write = { λ h bytes. record { key = fold (λ key b. key / 256 + b * 2 ^ 24) h.key bytes } };
+
+    ghost finish = { λ h. bit_xor ((h.key / 8 * 0xd6e8_feb8_6659_fd93) % 2 ^ 64) (h.key % 8 * 2 ^ 29) };
+
+    // The row of eight in which a key is picks its place, and its number in the row is the highest bits of what the map
+    // keeps of a hash: these tell keys in one place apart.
+    #[inline(always)]
+    fn finish(&self) -> u64 {
+        let row = (self.key / 8) as u64;
+        row.wrapping_mul(0xd6e8_feb8_6659_fd93) ^ ((self.key % 8) as u64) * 0x2000_0000
+    }
+
+    // The lowest byte comes first.
+    #[inline(always)]
+    fn write(&mut self, bytes: &[u8]) {
+        for b in bytes {
+            self.key = self.key / 256 + (*b as u32) * 0x0100_0000;
+        }
+    }
+}
+
+/// Makes hashers of keys.
+#[derive(Clone, Copy)]
+pub(crate) struct KeyHashing;
+
+impl BuildHasher for KeyHashing {
+    type Hasher = KeyHasher;
+
+    ghost build_hasher = { λ _. record { key = 0 } };
+
+    #[inline(always)]
+    fn build_hasher(&self) -> KeyHasher {
+        KeyHasher { key: 0 }
+    }
+}
