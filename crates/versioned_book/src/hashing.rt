@@ -1,6 +1,7 @@
 // How keys are hashed. Keys are numbers that are mostly given in a row: so eight neighbours stand side by side in the
 // map's index, and a key is looked up in memory that the one before it has just used.
-ghost use Rattle.std.specs.Prelude.{◌+◌, ◌*◌, ◌/◌, ◌%◌, ◌^◌, bit_xor, fold};
+ghost use Rattle.std.specs.Prelude.{◌≡◌, ◌+◌, ◌*◌, ◌/◌, ◌%◌, ◌^◌, bit_xor, fold};
+ghost use Rattle.versioned_book.specs.Hashing.{spread};
 
 use std::hash::{BuildHasher, Hasher};
 
@@ -14,14 +15,13 @@ pub(crate) struct KeyHasher {
 impl Hasher for KeyHasher {
     ghost write = { λ h bytes. record { key = fold (λ key b. key / 256 + b * 2 ^ 24) h.key bytes } };
 
-    ghost finish = { λ h. bit_xor ((h.key / 8 * 0xd6e8_feb8_6659_fd93) % 2 ^ 64) (h.key % 8 * 2 ^ 29) };
+    ghost finish = { λ h. bit_xor (spread (h.key / 8)) (h.key % 8 * 2 ^ 29) };
 
     // The row of eight in which a key is picks its place, and its number in the row is the highest bits of what the map
     // keeps of a hash: these tell keys in one place apart.
     #[inline(always)]
     fn finish(&self) -> u64 {
-        let row = (self.key / 8) as u64;
-        row.wrapping_mul(0xd6e8_feb8_6659_fd93) ^ ((self.key % 8) as u64) * 0x2000_0000
+        spread((self.key / 8) as u64) ^ ((self.key % 8) as u64) * 0x2000_0000
     }
 
     // The lowest byte comes first.
@@ -31,6 +31,15 @@ impl Hasher for KeyHasher {
             self.key = self.key / 256 + (*b as u32) * 0x0100_0000;
         }
     }
+}
+
+// Rows that follow one another, or come at equal steps, lie far apart: a product by a fixed factor, and its halves joined.
+#[inline(always)]
+fn spread(row: u64) -> u64
+    ensures { result ≡ spread row }
+{
+    let product = row as u128 * 0x9e37_79b9_7f4a_7c15;
+    (product % 0x1_0000_0000_0000_0000) as u64 ^ (product >> 64) as u64
 }
 
 /// Makes hashers of keys.
