@@ -1,4 +1,4 @@
 pub mod Versions
 pub mod Settings
 pub mod Books
-pub mod Hashing
+pub mod inside

@@ -1,7 +1,7 @@
 // How keys are hashed. Keys are numbers that are mostly given in a row: so eight neighbours stand side by side in the
 // map's index, and a key is looked up in memory that the one before it has just used.
 ghost use Rattle.std.specs.Prelude.{◌≡◌, ◌+◌, ◌*◌, ◌/◌, ◌%◌, ◌^◌, bit_xor, fold};
-ghost use Rattle.versioned_book.specs.Hashing.{spread};
+ghost use Rattle.versioned_book.specs.inside.Hashing.{spread};
 
 use std::hash::{BuildHasher, Hasher};
 
