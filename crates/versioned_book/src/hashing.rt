@@ -1,12 +1,12 @@
-// How keys are hashed. Keys are numbers that are mostly given in a row: so eight neighbours stand side by side in the
-// map's index, and a key is looked up in memory that the one before it has just used.
+// How keys are hashed. Keys are numbers that are mostly given in a row: so four neighbours stand side by side in the
+// map's index, and a key is looked up in memory that the one before it has just used. More than four would crowd there.
 ghost use Rattle.std.specs.Prelude.{◌≡◌, ◌+◌, ◌*◌, ◌/◌, ◌%◌, ◌^◌, bit_xor, fold};
 ghost use Rattle.versioned_book.specs.inside.Hashing.{spread};
 
 use std::hash::{BuildHasher, Hasher};
 
-/// A hasher of keys of four bytes, of which it knows those last written. It is fixed: keys that are picked against it can
-/// make a map slow, and no answer wrong.
+/// A hasher of keys of four bytes, of which it knows those last written. It is fixed, as the kit's own hasher is: keys that
+/// are picked against either can make a map slow, and no answer wrong.
 #[derive(Clone, Copy)]
 pub(crate) struct KeyHasher {
     key: u32,
@@ -15,13 +15,13 @@ pub(crate) struct KeyHasher {
 impl Hasher for KeyHasher {
     ghost write = { λ h bytes. record { key = fold (λ key b. key / 256 + b * 2 ^ 24) h.key bytes } };
 
-    ghost finish = { λ h. bit_xor (spread (h.key / 8)) (h.key % 8 * 2 ^ 29) };
+    ghost finish = { λ h. bit_xor (spread (h.key / 4)) (h.key % 4 * 2 ^ 30) };
 
-    // The row of eight in which a key is picks its place, and its number in the row is the highest bits of what the map
+    // The row of four in which a key is picks its place, and its number in the row is the highest bits of what the map
     // keeps of a hash: these tell keys in one place apart.
     #[inline(always)]
     fn finish(&self) -> u64 {
-        spread((self.key / 8) as u64) ^ ((self.key % 8) as u64) * 0x2000_0000
+        spread((self.key / 4) as u64) ^ ((self.key % 4) as u64) * 0x4000_0000
     }
 
     // The lowest byte comes first.
