@@ -12,10 +12,10 @@ use Rattle.cash_projection.specs.Policies.{IsCashOf}
 use Rattle.cash_projection.specs.Text.{IsTellable}
 use Rattle.cash_projection.specs.declared.printing.Projection.{Projection}
 
--- the position, the day, how many policies there are and how many of them have a word, and their cash in each of so many
--- years; its bounds can be printed
-pub record IsProjectionAt (basis : List Dated) (on : ℤ) (years position : ℕ) (policies : List Policy) (projection : Projection)
-    : Type 0 where
+-- the position, the day, how many policies there are and how many of them have a word, and their cash in each of so
+-- many years; its bounds can be printed
+pub record IsProjectionAt (basis : List Dated) (on : ℤ) (years position : ℕ) (policies : List Policy)
+    (projection : Projection) : Type 0 where
   pub pinned : projection.position ≡ position
   pub day : projection.on ≡ on
   pub counted : projection.policies ≡ length policies
@@ -23,6 +23,7 @@ pub record IsProjectionAt (basis : List Dated) (on : ℤ) (years position : ℕ)
   pub tellable : All IsTellable projection.years
 
 -- a caller projected the policies at the position that was pinned
-abbrev pub HasProjected : {D W : Type 0} → List Dated → ℤ → ℕ → At → Holding (OfficeOpening D W) → Holding (OfficeOpening D W)
-    → ℕ → Result Projection ValueFault → Type 0
-HasProjected basis on years at old new turn answer = HasMadeOfBook (IsProjectionAt basis on years) at old new turn answer
+abbrev pub HasProjected : {D W : Type 0} → List Dated → ℤ → ℕ → At → Holding (OfficeOpening D W)
+    → Holding (OfficeOpening D W) → ℕ → Result Projection ValueFault → Type 0
+HasProjected basis on years at old new turn answer =
+    HasMadeOfBook (IsProjectionAt basis on years) at old new turn answer

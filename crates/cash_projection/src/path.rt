@@ -102,8 +102,8 @@ fn part_of(whole: Pair, part: u32) -> Pair
     }
 }
 
-/// So many parts of 10^-9 of a number, rounded down. What of it a division by 10^9 gives and what it leaves go apart, so
-/// that 64 bits are enough: to divide 128 bits takes ten times as long.
+/// So many parts of 10^-9 of a number, rounded down. What its division by 10^9 gives and what that leaves go apart, so
+/// that 64 bits are enough: to divide 128 bits takes longer.
 fn part_down(whole: u64, part: u64) -> u64
     requires whole { whole ≤ UNIT }
     requires part { part ≤ ONE }

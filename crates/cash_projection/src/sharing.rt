@@ -36,8 +36,8 @@ const _: () = prove!(PATHS_TOGETHER * size_of::<Path>() <= 1_015_808);
 
 const _: () = prove!(size_of::<Tally>() <= PATHS_FOR_A_TALLY * size_of::<Path>());
 
-/// The tally of policies on a day, in days since 1970-01-01, by as many workers as are asked for, or fewer where each would
-/// have too few policies or no room to keep a path. It is the same for any number of them.
+/// The tally of policies on a day, in days since 1970-01-01, by as many workers as are asked for, or fewer where each
+/// would have too few policies or no room to keep a path. It is the same for any number of them.
 pub fn tally_in<R: Threads + Sync>(
     rt: &R,
     alloc: Global,

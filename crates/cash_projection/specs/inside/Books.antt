@@ -9,6 +9,7 @@ use Rattle.cash_projection.specs.declared.printing.Projection.{Projection}
 
 -- their projection, or want of memory
 abbrev pub AnswersBook : List Dated → ℤ → (years position : ℕ) → List Policy → Result Projection ValueFault → Type 0
-AnswersBook basis on years position policies (Ok projection) = IsProjectionAt basis on years position policies projection
+AnswersBook basis on years position policies (Ok projection) =
+    IsProjectionAt basis on years position policies projection
 AnswersBook basis on years position policies (Err NoMemory) = Unit {0}
 AnswersBook basis on years position policies (Err (Pin refusal)) = ⊥

@@ -24,17 +24,20 @@ pub record TakesPortion (projector : Projector) (portion : Portion) : Type 0 whe
 
 -- and what it gives
 abbrev pub GivesTally : Projector → Portion → Tally → Type 0
-GivesTally projector portion tally = IsTallyOf projector.basis.now projector.on projector.years portion.policies.now tally
+GivesTally projector portion tally =
+    IsTallyOf projector.basis.now projector.on projector.years portion.policies.now tally
 
 -- the worker is right for this basis, day and number of years
 pub record IsProjectorFor (basis : List Dated) (on : ℤ) (years : ℕ) (projector : Projector) : Type 0 where
   pub right : ArePaths projector.basis.now projector.paths
   pub many : projector.years ≡ years
-  pub by : (portion : Portion) (tally : Tally) → GivesTally projector portion tally → IsTallyOf basis on years portion.policies.now tally
+  pub by : (portion : Portion) (tally : Tally) → GivesTally projector portion tally
+      → IsTallyOf basis on years portion.policies.now tally
 
 -- each portion has its tally
 abbrev pub AreTallies : List Dated → ℤ → ℕ → List Portion → List Tally → Type 0
-AreTallies basis on years portions tallies = AllZip (λ (portion : Portion) (tally : Tally). IsTallyOf basis on years portion.policies.now tally) portions tallies
+AreTallies basis on years portions tallies =
+    AllZip (λ (portion : Portion) (tally : Tally). IsTallyOf basis on years portion.policies.now tally) portions tallies
 
 -- the tallies are those of portions of at most 4,000,000 policies
 pub record AreTalliesOfFew (years : ℕ) (tallies : List Tally) : Type 0 where
