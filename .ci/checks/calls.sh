@@ -1,6 +1,6 @@
 #!/bin/sh
-# The calls that the program makes on a real file, recorded by strace: just those that the journal allows, in order and
-# number. A sync that is left out, or made too late, is seen here and by no proof.
+# The calls that the program makes on real files, recorded by strace: just those that the journal and its checkpoint allow,
+# in order and number. A sync that is left out, or made too late, is seen here and by no proof.
 . "$(dirname "$0")/../common.sh"
 # where it is missing and this may install it, it is installed
 command -v strace >/dev/null || { apt-get update -qq && apt-get install -y -qq strace; } >/dev/null 2>&1
@@ -13,21 +13,28 @@ head -n 3 "$examples/first-issues.csv" >three
 "$life" run <three >expected || exit 2
 rm journal.life
 
+# into this file those of this mode
 record() {
-    strace -f -s 128 -xx -o "$1" -e trace=openat,flock,pread64,read,pwrite64,write,fsync,fdatasync,ftruncate,close,dup,dup2 \
-        "$program" run <three >out || {
+    strace -f -s 400 -xx -o "$1" -e trace=openat,flock,pread64,read,pwrite64,write,fsync,fdatasync,ftruncate,close,dup,dup2 \
+        "$program" "$2" <three >out || {
         echo "calls: the program could not be recorded" >&2
         exit 1
     }
 }
-record fresh
+record fresh run
 cmp -s expected out || { echo "calls: another transcript under strace" >&2; exit 1; }
-record again
+record again run
+record unkept state
+rm checkpoint.life
+record kept checkpoint
+record stated state
+record replaced checkpoint
+record beside run
 python3 - <<'PY' || exit 1
 import re, sys
 
 def calls(name):
-    """The calls on the folder, the journal and the output, each with what it wrote and where."""
+    """The calls on the folder, the two files and the output, each with what it wrote and where."""
     roles, found = {}, []
     for line in open(name):
         call = re.match(r"\d+ +(\w+)\((.*)\) += (-?\d+)", line)
@@ -36,7 +43,7 @@ def calls(name):
         word, args, result = call[1], call[2], int(call[3])
         if word == "openat":
             path = bytes.fromhex(re.search(r'"((?:\\x[0-9a-f]{2})*)"', args)[1].replace("\\x", "")).decode()
-            roles[result] = {".": "folder", "journal.life": "journal"}.get(path, "other")
+            roles[result] = {".": "folder", "journal.life": "journal", "checkpoint.life": "checkpoint"}.get(path, "other")
             if roles[result] != "other":
                 found.append(f"open {roles[result]}")
             continue
@@ -57,8 +64,12 @@ def calls(name):
     return found
 
 HELD = ["open folder"] * 3
-OPENED = ["open journal", "lock journal LOCK_EX|LOCK_NB", "open folder", "fsync folder", "close folder", "fsync journal"]
+def opened(file):
+    return [f"open {file}", f"lock {file} LOCK_EX|LOCK_NB", "open folder", "fsync folder", "close folder", f"fsync {file}"]
+OPENED = opened("journal")
 ENDED = ["write output", "close journal"] + ["close folder"] * 3
+BOTH = HELD + OPENED + opened("checkpoint")
+BOTH_ENDED = ["write output", "close journal", "close checkpoint"] + ["close folder"] * 3
 bytes_kept = open("journal.life", "rb").read()
 created = []
 for at, written in ((0, b"\0"), (1, b"LIFEJRNL\0\1\0\x40\0\0\0\0\0"), (0, b"\1")):
@@ -76,6 +87,15 @@ def judge(name, wanted):
 
 judge("fresh", HELD + OPENED + created + posted + ENDED)
 judge("again", HELD + OPENED + ENDED)
+# the gate is closed, all else is written, the gate is opened, each safe before the next; of an empty file and of a checkpoint
+kept = open("checkpoint.life", "rb").read()
+saved = ["write checkpoint 0 00", "fsync checkpoint", f"write checkpoint 1 {kept[1:64].hex()}",
+         f"write checkpoint 64 {kept[64:].hex()}", "fsync checkpoint", "write checkpoint 0 01", "fsync checkpoint"]
+judge("kept", BOTH + saved + BOTH_ENDED)
+judge("replaced", BOTH + saved + BOTH_ENDED)
+for name in ("unkept", "stated"):
+    judge(name, BOTH + BOTH_ENDED)
+judge("beside", HELD + OPENED + ENDED)
 PY
 
 # A journal of 20,000 records is read by pieces, twice: for its gates, and for its bodies. For the account of one policy
@@ -96,4 +116,14 @@ strace -f -o reads -e trace=pread64 "$program" state 7 </dev/null >out || compla
 reads=$(grep -c 'pread64(' reads)
 [ "$reads" -le $((2 * ($(wc -c <journal.life) / 32768 + 40))) ] || complain "it is opened and read again by $reads reads"
 [ "$(wc -l <out)" = 2 ] || complain "another account"
-end "the program syncs each write before the next, and its records before its transcript; it reads a journal by pieces"
+
+go_on "a long checkpoint"
+strace -f -o writes -P checkpoint.life -P "$PWD/checkpoint.life" -e trace=pwrite64 "$program" checkpoint </dev/null >out || complain "it isn't made"
+writes=$(grep -c 'pwrite64(' writes)
+[ "$(wc -c <checkpoint.life)" = 960064 ] && [ "$writes" -le $((960064 / 65536 + 4)) ] || complain "it is made by $writes writes"
+# with it the gates of all records are read, and no body
+strace -f -o reads -e trace=pread64 "$program" state </dev/null >out || complain "it isn't used"
+reads=$(grep -c 'pread64(' reads)
+[ "$reads" -le $(($(wc -c <journal.life) / 65536 + 960064 / 65536 + 20)) ] || complain "with a checkpoint there are $reads reads"
+[ "$(tail -n 1 out)" = count,20000 ] || complain "another number of records with a checkpoint"
+end "the program syncs each write before the next, and its records before its transcript; it reads and writes by pieces"

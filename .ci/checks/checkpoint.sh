@@ -230,6 +230,12 @@ rmdir checkpoint.life
 ln -s nowhere/checkpoint.life checkpoint.life
 fails_by_the_second ""
 rm checkpoint.life
+# the journal itself under the other name is locked already
+for link in "ln" "ln -s"; do
+    $link journal.life checkpoint.life
+    fails_by_the_second ""
+    rm checkpoint.life
+done
 echo diskfault >wanted
 (ulimit -f 0 && exec "$life" checkpoint </dev/null >out)
 [ $? = 8 ] && [ "$(wc -c <checkpoint.life)" = 0 ] || complain "a checkpoint was made in a file that can't grow"

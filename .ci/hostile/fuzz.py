@@ -1,4 +1,4 @@
-"""Drawn scripts, words, journals, basis files and tables, most of them spoilt: the program has to answer each as
+"""Drawn scripts, words, journals, checkpoints, basis files and tables, most of them spoilt: the program has to answer each as
 docs/FORMATS.md says, without a signal, a word on standard error, or a hang.
 
 usage: python3 fuzz.py PROGRAM FOLDER SECONDS SEED [CASE]
@@ -16,11 +16,12 @@ from changed_bytes import BASIS, SELECT, TABLE, book_of_forty, book_of_values, s
 from formats import Wrong
 from rules import Book
 from scripts import MIDDLE, make_script
-from trial import ROOT, Trial, file_of, judge_basis, judge_journal, judge_posting, judge_script, judge_table, judge_words
+from trial import (ROOT, Trial, bytes_of_checkpoint, checkpoint_of, file_of, judge_basis, judge_checkpoint, judge_journal, judge_posting,
+                   judge_script, judge_table, judge_words)
 
 LEAST = 200
 MOST = 12_000
-KINDS = ("script", "words", "journal", "basis", "table")
+KINDS = ("script", "words", "journal", "checkpoint", "basis", "table")
 TOKENS = {
     "script": [b",", b",,", b'"', b'""', b"\n", b"\r", b"\r\n", b"\xef\xbb\xbf", b"\0", b" ", b"1,trim\n", b"8,value,2021-01-01,now,1\n",
                b"1,value,2020-02-30,0,64\n", b"2100-02-29", b"2000-02-29", b"1899-12-31", b"2199-12-31", b"2200-01-01", b"4294967296",
@@ -35,8 +36,9 @@ TOKENS = {
               b"<Axis t='0'>", b"<Axis t='1'>", b"<Axis t='2'>", b"<Axis><Y t='1'>.1</Y></Axis>", b"<Y t='2'>.5</Y>", b"<Y t='0'/>", b"</Axis></Axis>",
               b"</Axis></Values></Table>", b"<Table><Values><Axis>"],
     "journal": [bytes(65), b"\1" * 65, b"\1", b"\0", b"\xff" * 8, b"LIFEJRNL", b"\2"],
+    "checkpoint": [bytes(48), b"\1", b"\0", b"\xff" * 8, b"LIFECHKP", b"\2", bytes(3), bytes(8)],
 }
-WORDS = [b"run", b"value", b"project", b"state", b"generate", b"load", b"help", b"--help", b"-h", b"--", b"-", b"", b"--at", b"--workers", b"--basis",
+WORDS = [b"run", b"value", b"project", b"state", b"checkpoint", b"generate", b"load", b"help", b"--help", b"-h", b"--", b"-", b"", b"--at", b"--workers", b"--basis",
          b"--at=5", b"--at=40", b"--at=41", b"--at=", b"--at=05", b"--workers=64", b"--workers=65", b"--workers=0", b"--basis=basis.csv",
          b"--basis=none.csv", b"--basis=../basis.csv", b"--basis=", b"0", b"1", b"2", b"7", b"8", b"9", b"40", b"41", b"64", b"65", b"07",
          b"4294967295", b"4294967296", b"2147483647", b"2147483648", b"2021-01-01", b"1900-01-01", b"2199-12-31", b"2200-01-01",
@@ -44,7 +46,7 @@ WORDS = [b"run", b"value", b"project", b"state", b"generate", b"load", b"help", 
          b"basis.csv", b"none.csv", b"100", b"101", b"131", b"132", b"x" * 100_000, b"--mean", b"--mean", b"--deficiency", b"--deficiency", b"--mean=",
          b"--mean=1", b"--deficiency=mean", b"--Mean", b"--mea", b"-mean", b"mean"]
 # words that fit, so that not all are refused
-RIGHT = [[b"run"], [b"run", b"--basis", b"none.csv"], [b"state"], [b"state", b"1"], [b"state", b"9"], [b"value", b"2021-01-01"],
+RIGHT = [[b"run"], [b"run", b"--basis", b"none.csv"], [b"state"], [b"checkpoint"], [b"state", b"1"], [b"state", b"9"], [b"value", b"2021-01-01"],
          [b"value", b"2021-01-01", b"--at", b"12"], [b"value", b"2021-01-01", b"--mean"], [b"value", b"--deficiency", b"2021-01-01"],
          [b"value", b"--at=12", b"--mean", b"2030-06-30", b"--workers", b"2"], [b"value", b"2022-01-01", b"--workers=2", b"--deficiency"],
          [b"value", b"--workers=64", b"2199-12-31", b"--at=41"], [b"project", b"2021-01-01", b"9"], [b"project", b"2020-06-30", b"131"],
@@ -94,6 +96,20 @@ def drawn_journal(draw, book):
     return spoilt(draw, data, TOKENS["journal"], draw.choice([0, 1, 2, 3]))
 
 
+def drawn_checkpoint(draw, book):
+    """That of a front of the book or of another book, or of more commands, with bytes spoilt."""
+    commands = list(book.commands[:draw.randrange(41)])
+    if draw.random() < 0.2:
+        commands = list(book_of_values().commands)
+    data = bytes_of_checkpoint(checkpoint_of(commands)) + draw.choice([b"", b"", bytes(60), bytes(draw.randrange(256) for _ in range(100))])
+    if draw.random() < 0.5:
+        # one byte of it alone, so that most of the rest is still right
+        data = bytearray(data)
+        data[draw.randrange(len(data))] = draw.choice([0, 1, 2, 3, 255, draw.randrange(256)])
+        return bytes(data)
+    return spoilt(draw, data, TOKENS["checkpoint"], draw.choice([0, 1, 2, 3]))
+
+
 def drawn_words(draw):
     if draw.random() < 0.2:
         return [draw.choice(WORDS) for _ in range(draw.randrange(6))]
@@ -122,6 +138,8 @@ def judge(trials, book, draw, kind):
         return judge_words(trial, drawn_words(draw), SCRIPT, book)
     if kind == "journal":
         return draw.choice([judge_journal, judge_posting])(trial, drawn_journal(draw, book))
+    if kind == "checkpoint":
+        return judge_checkpoint(trial, drawn_checkpoint(draw, book), book)
     if kind == "basis":
         return judge_basis(trial, spoilt(draw, BASIS, TOKENS["basis"], 3), book_of_values())
     return judge_table(trial, spoilt(draw, draw.choice(tables(ROOT)), TOKENS["table"], 4), book_of_values())

@@ -7,11 +7,11 @@ from formats import MOST_COMMANDS, MOST_LANES, MOST_NUMBER, MOST_WORKERS, MOST_Y
 from script_lines import Fault, read_script
 from tables import NAME
 
-OPTIONS = {"run": ("--basis",), "value": ("--at", "--workers", "--basis"), "project": ("--workers", "--basis"), "state": (), "generate": (),
-           "load": ()}
+OPTIONS = {"run": ("--basis",), "value": ("--at", "--workers", "--basis"), "project": ("--workers", "--basis"), "state": (), "checkpoint": (),
+           "generate": (), "load": ()}
 # which stand alone; of two such words there is none that fits
 FLAGS = {"value": ("--mean", "--deficiency")}
-PLACES = {"run": [], "value": ["day"], "project": ["day", "years"], "state": ["id"], "generate": ["seed", "count", "lanes"],
+PLACES = {"run": [], "value": ["day"], "project": ["day", "years"], "state": ["id"], "checkpoint": [], "generate": ["seed", "count", "lanes"],
           "load": ["seed", "count", "lanes", "workers"]}
 LIMITS = {"years": (1, MOST_YEARS), "id": (1, MOST_NUMBER), "seed": (0, 2**31 - 1), "count": (1, 100_000), "lanes": (1, MOST_LANES),
           "workers": (1, MOST_WORKERS), "--at": (0, MOST_COMMANDS), "--workers": (1, MOST_WORKERS)}
@@ -99,6 +99,10 @@ def is_state(values, _, count):
     return Meaning("state", fits, values[0] if values else 0)
 
 
+def is_checkpoint(_, __, count):
+    return Meaning("checkpoint", lambda found: found == (0, f"checkpoint,{count}\n"))
+
+
 def is_by_another_basis(found, name):
     """Whether an answer fits where the basis isn't basis.csv: there is none but the tables, which may be no basis."""
     return found[0] == 4 and found[1] == f"badbasis,{name},0,absent\n" or name in ("q.xml", "g.xml", "m.xml", "select.xml")
@@ -149,4 +153,5 @@ def is_load(values, _, __):
     return Meaning("load", fits)
 
 
-SHAPES = {"run": is_run, "state": is_state, "value": is_value, "project": is_project, "generate": is_generate, "load": is_load}
+SHAPES = {"run": is_run, "state": is_state, "checkpoint": is_checkpoint, "value": is_value, "project": is_project, "generate": is_generate,
+          "load": is_load}

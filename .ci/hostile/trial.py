@@ -15,12 +15,13 @@ sys.path[:0] = [os.path.join(ROOT, "tools"), os.path.join(ROOT, ".ci", "stress")
 from check_projection import check_years
 from check_transcript import asks_for_values, check
 from check_values import check_block
+from checkpoints import Checkpoint, bytes_of_checkpoint, checkpoint_in, checkpoint_of
 from formats import MEASURES, MOST_BASIS_BYTES, Wrong, day_in, demand, money, printed_rows
 from journals import EMPTY, Journal, file_of, gate_of, read_journal
 from plain_tables import read_plain_table
 from plain_words import meaning_of
 from projections import printed_projection
-from rules import Book, balances_of
+from rules import Book, Policy, Refusal, balances_of, booking_of
 from script_lines import Fault, read_script
 from scripts import folder_for
 from tables import NotXml, BasisRow, Table, read_basis, read_table
@@ -78,13 +79,13 @@ def demand_answer(found, status, text, words):
 
 # --- journals ---
 
-def state_of(book):
-    """What `state` prints of a book."""
+def state_of(book, balances=None):
+    """What `state` prints of a book, with its own balances or these."""
     lines = []
     for it in book.policies.values():
         lines.append(f"policy,{it.number},{it.status},{it.plan},{it.age},{it.years},{money(it.amount)},{money(it.premium)},"
                      f"{it.issued},{it.paid},{money(it.outstanding)}")
-    lines += [f"balance,{account},{money(cents)}" for account, cents in balances_of(book.commands).items()]
+    lines += [f"balance,{account},{money(cents)}" for account, cents in (balances or balances_of(book.commands)).items()]
     return "\n".join([*lines, f"count,{len(book.commands)}"]) + "\n"
 
 
@@ -99,6 +100,48 @@ def judge_journal(trial, data):
         demand_answer(found, 0, state_of(journal.book), "state")
     demand(trial.read("journal.life") == (EMPTY if journal.is_unfinished else data), "state changed the file")
     return journal.refused.rsplit(",", 1)[0] or "opened"
+
+
+def state_from(checkpoint: Checkpoint, commands):
+    """The status and text of `state` where it begins with these books, be they of this journal or not."""
+    book, balances = Book(), dict(checkpoint.balances)
+    book.policies = {policy.number: policy for policy in checkpoint.policies}
+    book.upgrade, book.commands = checkpoint.upgrade, list(commands[:checkpoint.position])
+    for record in range(checkpoint.position, len(commands)):
+        command = commands[record]
+        after = book.decide(command)
+        if isinstance(after, Refusal):
+            return 5, f"badjournal,badrecord,{record}\n"
+        book.take(command, after)
+        for account, cents in booking_of(command, after if isinstance(after, Policy) else None).items():
+            balances[account] += cents
+    return 0, state_of(book, balances)
+
+
+def judge_checkpoint(trial, data, book):
+    """Any bytes as checkpoint.life beside the journal of the book: the state, and the checkpoint that is made then."""
+    trial.write("journal.life", file_of(book.commands))
+    trial.write("checkpoint.life", data)
+    try:
+        checkpoint = checkpoint_in(data)
+    except Wrong:
+        checkpoint = None
+    is_used = checkpoint is not None and checkpoint.position <= len(book.commands)
+    wanted = state_from(checkpoint, book.commands) if is_used else (0, state_of(book))
+    demand_answer(trial.run("state"), *wanted, "state")
+    demand(trial.read("checkpoint.life") == data, "state changed the checkpoint")
+    found = trial.run("checkpoint")
+    demand_answer(found, wanted[0], wanted[1] if wanted[0] else f"checkpoint,{len(book.commands)}\n", "checkpoint")
+    if wanted[0] == 0:
+        demand_answer(trial.run("state"), *wanted, "state by the checkpoint that was made")
+    if not is_used:
+        made = bytes_of_checkpoint(checkpoint_of(book.commands))
+        demand(trial.read("checkpoint.life") == made + data[len(made):], "another checkpoint was made")
+    demand(trial.read("journal.life") == file_of(book.commands), "the journal was changed")
+    trial.remove("checkpoint.life")
+    if not is_used:
+        return "unused"
+    return "this book's" if wanted == (0, state_of(book)) else f"of another book, {wanted[0]}"
 
 
 def judge_posting(trial, data):
@@ -208,6 +251,10 @@ def judge_words(trial, words, script, book):
         if meaning.mode == "run":
             check(script, found[1], file_of(book.commands), after, [])
         return meaning.mode
+    if meaning.mode == "checkpoint":
+        made = bytes_of_checkpoint(checkpoint_of(book.commands))
+        demand(trial.read("checkpoint.life")[:len(made)] == made, "another checkpoint was made")
+        trial.remove("checkpoint.life")
     if meaning.mode == "state" and not meaning.number:
         demand_answer(found, 0, state_of(book), words)
     demand(meaning.fits(found), f"{words}: the answer is {found[0]}, {found[1][-300:]!r}, and the words are {meaning.mode}")
