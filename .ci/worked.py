@@ -20,8 +20,8 @@ OF_A_DISK = "Of a disk, whatever it is: disks in memory, and files that are hone
 # Held by no worked case, for good, by the reason.
 EXCEPTIONS = {
     "A whole run, or how a mode ends: it puts together what is held apart, and says no value of its own.": """
-        life_app.specs.Obeys.Obeys life_app.specs.Obeys.Does life_app.specs.Obeys.EndsMode life_app.specs.Obeys.EndsUnasked
-        life_app.specs.Obeys.SaysUnasked
+        life_app.specs.Obeys.Obeys life_app.specs.Obeys.Does life_app.specs.Obeys.EndsMode
+        life_app.specs.ObeysKept.ObeysKept life_app.specs.ObeysKept.ObeysByBoth life_app.specs.ObeysKept.ObeysByOne
         script_run.specs.Outcome.EndsScript script_run.specs.Outcome.IsRunOf script_run.specs.Running.EndsByName
         script_run.specs.Running.EndsLanes script_run.specs.Running.EndsRead script_run.specs.Running.EndsRun
         script_run.specs.Running.EndsScriptBy script_run.specs.Script.IsReadAs

@@ -1,12 +1,12 @@
 """Twenty changes of what definitions mean, one at a time: a worked case has to refuse each.
 
-usage: python3 bench/changed_definitions.py [--processes N] [NUMBER..]
+usage: python3 bench/changed_definitions.py [--processes N] [--logs FOLDER] [NUMBER..]
 
 Each change is made in a copy of the crates, and there the worked case is checked: the crates from the changed one up to
 that of the case are read as source, and all others are taken as they stand built here (run `rt check` in crates/life_app
-first). A change counts as refused where the case isn't proved, and antt takes each file of specs/ as it is: so the
-change is well-typed, and what fails is what the case says. It takes some ten seconds of a processor for each, three times
-that where the case is of a valuation.
+first). A change counts as refused where the case isn't proved, each file of specs/ is well-typed, and what fails is in
+the files of worked cases: no lemma of the code, but what the case says. It takes some ten seconds of a processor for
+each, three times that where the case is of a valuation.
 """
 import argparse
 import concurrent.futures
@@ -63,8 +63,8 @@ CHANGES = [
     ("the first age of a table lies below it", "plan_benefits/specs/Shapes.antt",
      ["if nat_lt shape.age table.first_age\n", "if nat_le shape.age table.first_age\n"],
      "book_value", "worked::endowments_valued"),
-    ("of too many rows the first bad one is named too", "basis_book/specs/Rows.antt",
-     ["(BadBasisRow n) = (length rows ≤ 1000) × IsFirstBad rows n", "(BadBasisRow n) = IsFirstBad rows n"],
+    ("of 1,001 rows the first bad one is named, too", "basis_book/specs/Rows.antt",
+     ["(BadBasisRow n) = (length rows ≤ 1000) ×", "(BadBasisRow n) = (length rows ≤ 1001) ×"],
      "basis_book", "worked::refused_bases_by_hand"),
     ("a row is of the year after", "policy_value/specs/Rows.antt",
      ["(t ≡ min years n)", "(t ≡ min (years + 1) n)", "ℕ, ◌≤◌,", "ℕ, ◌+◌, ◌≤◌,"],
@@ -146,7 +146,8 @@ def verdict(said, crate_name, case):
         return "NOT WELL-TYPED"
     failed = re.findall(r"^(\S+\.antt):(\d+):\d+: error: `([^`]+)`", said, re.M)
     failed += re.findall(r"^note: (\S+\.rt):(\d+):\d+: it is not proved .*\(`([^`]+)`\)", said, re.M)
-    return "refused: " + ", ".join(f"{name} ({os.path.basename(file)}:{at})" for file, at, name in dict.fromkeys(failed))
+    own = [f"{name} ({os.path.basename(file)}:{at})" for file, at, name in dict.fromkeys(failed) if "orked" in file]
+    return f"refused: {', '.join(own)}" if own else "NOT REFUSED BY ITSELF"
 
 
 def tried(change, folder):

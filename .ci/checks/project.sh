@@ -193,23 +193,12 @@ for words in "2000-06-01 40" "2009-12-31 101" "2190-01-01 3"; do
 done
 
 # a worker more is worth its thread for 8,192 policies
-begin_with_examples "workers"
-PYTHONPATH=$tools python3 - 40001 >journal.life <<'PY' || complain "no book was made"
-import datetime, sys
-from commands import PLANS, Command
-from journals import file_of
-
-first, plans = datetime.date(2000, 1, 1), sorted(PLANS.values())
-def issue(number):
-    plan = plans[number % len(plans)]
-    return Command("issue", number, first + datetime.timedelta(days=number * 37 % 7305), plan, 20 + number * 13 % 50,
-                   0 if plan == "whole" else 2 + number * 7 % 40, 100000 * (1 + number % 900), 2000 * (1 + number % 900))
-sys.stdout.buffer.write(file_of(issue(number) for number in range(1, int(sys.argv[1]) + 1)))
-PY
-"$life" project 2020-12-31 40 </dev/null >alone || complain "it ended with $?"
+begin "workers"
+python3 "$root/.ci/tools/drawn_book.py" "$root" 7 40001 0 >out || complain "no book was drawn"
+"$life" project 2014-12-31 40 </dev/null >alone || complain "it ended with $?"
 is_right alone "40,001 policies"
 for workers in 1 2 3 8 64; do
-    "$life" project 2020-12-31 40 --workers $workers </dev/null | cmp -s alone - || complain "$workers workers write another text"
+    "$life" project 2014-12-31 40 --workers $workers </dev/null | cmp -s alone - || complain "$workers workers write another text"
 done
 
 # 4,000,000 policies of the greatest amount and premium: the sums are the greatest that there are, by hand

@@ -1,10 +1,10 @@
 -- What the worked valuation is computed from.
-use Rattle.std.proofs.Common.{◌≡◌, ◌<◌, ◌≤◌, ◌+◌, ◌≤ℤ◌, ◌<ℤ◌, ℕ, ℤ, pos, true, List, [], ◌∷◌, All, Ok, Err, inl, inr, refl, subst, lit≤, lit<, arith}
+use Rattle.std.proofs.Common.{◌≡◌, ◌≤◌, ◌≤ℤ◌, ◌<ℤ◌, ℕ, ℤ, pos, true, List, [], ◌∷◌, All, Ok, inl, inr, refl, subst, lit≤, lit<, arith}
 use Rattle.std.proofs.lemmas.Bool.{cases_lt}
 use Rattle.std.proofs.lemmas.Int.{ints}
 use Rattle.std.proofs.lemmas.List.Elements.{All-nil, All-cons}
 use Rattle.life_dates.specs.Calendar.{IsDay, day_number, date_of, date_at, year_of, month_of, days_before, days_before_year, days_of_months}
-use Rattle.life_dates.specs.Anniversary.{anniversary_of, IsCompleted}
+use Rattle.life_dates.specs.Anniversary.{anniversary_of}
 use Rattle.life_dates.proofs.AnniversaryLemmas.{anniversary_lt}
 use Rattle.policy_types.specs.declared.command.Plan.TheVariants.{Endowment}
 use Rattle.policy_types.specs.declared.policy.Policy.{Policy}

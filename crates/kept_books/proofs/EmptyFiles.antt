@@ -16,17 +16,19 @@ use Rattle.book_state.specs.Stating.{EndsState, IsStated}
 use Rattle.statements.specs.Statements.{account_line, balance_text, count_text, policy_text}
 use Rattle.checkpoint_store.specs.Checkpoints.{IsSnapshotOf}
 use Rattle.checkpoint_store.specs.declared.snapshot.Snapshot.{Snapshot}
+use Rattle.office_state.specs.Images.{IsLeftAlone}
 use Rattle.office_state.specs.Journals.{Opens}
+use Rattle.program_endings.proofs.WorkedEndings.{refuses_hello}
 use Rattle.office_state.proofs.JournalLaws.{opens_to_one}
 use Rattle.program_endings.specs.declared.ending.Ending.{Ending}
 use Rattle.program_endings.specs.declared.ending.Ending.TheVariants.{Done, BadJournal, WriteFault, DiskFault, NoMemory}
-use Rattle.program_endings.specs.Writing.{Stream, WroteAll}
+use Rattle.program_endings.specs.Writing.{Stream, WroteAll, WroteLine}
 use Rattle.book_state.specs.Books.{books_text}
 use Rattle.kept_books.specs.Saved.{IsSaved, checkpoint_text}
 use Rattle.kept_books.specs.Stated.{EndsStateKept, snapshot_text}
-use Rattle.kept_books.specs.Telling.{EndsTelling, TellsSnapshot}
-use Rattle.kept_books.specs.TwoDisks.{AreTrue, IsSnapshotHeld, TellsTruth, TwoDisks}
-use Rattle.kept_books.specs.Worked.{KeepsAnEmptyFile, TellsNoLie}
+use Rattle.kept_books.specs.Telling.{EndsTelling, IsRefusedByTwo, TellsSnapshot}
+use Rattle.kept_books.specs.TwoDisks.{AreTrue, IsHeldWhereTrue, IsSnapshotHeld, TellsTruth, TwoDisks}
+use Rattle.kept_books.specs.Worked.{KeepsAnEmptyFile, RefusesHelloByTwo, SavesNothing, TellsNoLie}
 
 no_commands : (bytes : List ℕ) (commands : List Command) → bytes ≡ [] → Opens bytes commands → commands ≡ []
 no_commands bytes commands empty opens =
@@ -90,3 +92,37 @@ keeps_nothing g e disks output are empty = (
 
 pub no_lie : TellsNoLie
 no_lie bytes bodies opened s is within = let no : 0 ≡ 1 = is.opened in absurd (omega (arith, no))
+
+empty_position : {D E : Type 0} (g : Ghosts D) (e : Ghosts E) (disks : TwoDisks D E) (s : Snapshot) → AreTrue g e disks → g.reads disks.old ≡ []
+    → IsHeldWhereTrue g e disks s → s.position ≡ 0
+empty_position g e disks s are empty held =
+    let of = held are in
+    of.leave.position ∙ ap length (no_commands (g.reads disks.old) of.commands empty of.opened)
+
+pub saves_nothing : {D E : Type 0} (g : Ghosts D) (e : Ghosts E) → SavesNothing g e
+saves_nothing g e disks output image are empty left = (
+  λ ends.
+      let saved = ends.telling in
+      (saved.told.snapshot, saved.saved are.second_honest image left, empty_position g e disks saved.told.snapshot are empty saved.told.held),
+  λ ends. elim (ends.now are.second_honest image left) [
+    | inl none ↦ inl none
+    | inr (inl earlier) ↦ inr (inl earlier)
+    | inr (inr held) ↦ inr (inr (held.0, held.1, empty_position g e disks held.0 are empty held.2))
+  ],
+)
+
+-- a file that is no journal is refused as one alone is
+pub hello_refused : {D E : Type 0} (g : Ghosts D) (e : Ghosts E) (disks : TwoDisks D E) (output : Stream) → AreTrue g e disks
+    → g.reads disks.old ≡ codes "hello" → IsLeftAlone g disks.old disks.new → IsRefusedByTwo g e disks output
+    → WroteLine output (codes "badjournal,notajournal")
+hello_refused g e disks output are reads alone refused = refuses_hello g disks.old disks.new output are.first_honest reads (record {
+  cause = refused.cause;
+  line = refused.line;
+  shown = λ honest. refused.shown are;
+  quiet = refused.quiet.first;
+  alone = alone;
+})
+
+pub refuses_by_two : {D E : Type 0} (g : Ghosts D) (e : Ghosts E) → RefusesHelloByTwo g e
+refuses_by_two g e disks output are reads ends =
+    (hello_refused g e disks output are reads ends.first ends.telling, (ends.second.looks are.second_honest).facts.reads)

@@ -93,7 +93,6 @@ module _ {D E : Type 0} (g : Ghosts D) (e : Ghosts E) (reads_image : ReadsImage 
       second = read;
     }
 
-
 -- the journal behind the call that reads the snapshot
 module _ {D : Type 0} (g : Ghosts D) (reads_image : ReadsImage g) (counts_now : CountsNow g) (disk : D) (journal now : Journal D g)
     (on : HasJournalOn disk journal) (stays : StandsAsBefore journal now) where

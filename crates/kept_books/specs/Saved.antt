@@ -16,13 +16,16 @@ abbrev pub checkpoint_text : Snapshot → List ℕ
 checkpoint_text s = line_of (codes "checkpoint") (decimal s.position ∷ [])
 
 -- A snapshot was saved, and its line written: each crash leaves its checkpoint from then on.
-pub record IsSaved {D E : Type 0} (g : Ghosts D) (e : Ghosts E) (disks : TwoDisks D E) (Wrote : List ℕ → Type 0) : Type 0 where
+pub record IsSaved {D E : Type 0} (g : Ghosts D) (e : Ghosts E) (disks : TwoDisks D E) (Wrote : List ℕ → Type 0)
+    : Type 0 where
   pub told : TellsSnapshot g e disks checkpoint_text Wrote
-  pub saved : e.honest disks.kept → (image : List ℕ) → e.may_leave disks.kept image → CheckpointBytes image told.snapshot
+  pub saved : e.honest disks.kept → (image : List ℕ) → e.may_leave disks.kept image
+      → CheckpointBytes image told.snapshot
 
 -- it is a checkpoint of the snapshot that the journal's commands leave
 abbrev pub IsCheckpointHeld : {D E : Type 0} → Ghosts D → Ghosts E → TwoDisks D E → List ℕ → Type 0
-IsCheckpointHeld g e disks image = (snapshot : Snapshot) × CheckpointBytes image snapshot × IsHeldWhereTrue g e disks snapshot
+IsCheckpointHeld g e disks image =
+    (snapshot : Snapshot) × CheckpointBytes image snapshot × IsHeldWhereTrue g e disks snapshot
 
 -- no checkpoint, or one that a crash might have left before the call, or that of the journal
 abbrev pub IsNoneOrEarlierOrHeld : {D E : Type 0} → Ghosts D → Ghosts E → TwoDisks D E → List ℕ → Type 0
@@ -30,12 +33,14 @@ IsNoneOrEarlierOrHeld g e disks image =
     IsNoCheckpoint image ⊎ e.may_leave disks.second image ⊎ IsCheckpointHeld g e disks image
 
 -- the journal's snapshot was saved, and whatever the ending, a crash since the call leaves one of the three
-pub record EndsCheckpoint {D E : Type 0} (g : Ghosts D) (e : Ghosts E) (disks : TwoDisks D E) (output : Stream) (ending : Ending)
-    : Type 0 where
+pub record EndsCheckpoint {D E : Type 0} (g : Ghosts D) (e : Ghosts E) (disks : TwoDisks D E) (output : Stream)
+    (ending : Ending) : Type 0 where
   pub telling : EndsTelling g e disks (IsSaved g e disks) output ending
   pub first : IsLeftAlone g disks.old disks.new
   pub honesty : e.honest disks.kept → e.honest disks.second
   -- nothing was written to the second disk before the journal's was made safe
-  pub order : g.honest disks.new → e.honest disks.kept → IsOnlyRead e disks.second disks.kept ⊎ IsMadeSafe g disks.old disks.new
+  pub order : g.honest disks.new → e.honest disks.kept
+      → IsOnlyRead e disks.second disks.kept ⊎ IsMadeSafe g disks.old disks.new
   pub since : e.honest disks.kept → Leaves e disks.second disks.kept (IsNoneOrEarlierOrHeld g e disks)
-  pub now : e.honest disks.kept → (image : List ℕ) → e.may_leave disks.kept image → IsNoneOrEarlierOrHeld g e disks image
+  pub now : e.honest disks.kept → (image : List ℕ) → e.may_leave disks.kept image
+      → IsNoneOrEarlierOrHeld g e disks image

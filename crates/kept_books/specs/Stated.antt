@@ -16,8 +16,8 @@ abbrev pub snapshot_text : Snapshot → List ℕ
 snapshot_text s = flat_map policy_text s.book ++ balance_text (balances s.ledger) s.position
 
 -- the snapshot's books were written, and the second disk was only read
-pub record EndsStateKept {D E : Type 0} (g : Ghosts D) (e : Ghosts E) (disks : TwoDisks D E) (output : Stream) (ending : Ending)
-    : Type 0 where
+pub record EndsStateKept {D E : Type 0} (g : Ghosts D) (e : Ghosts E) (disks : TwoDisks D E) (output : Stream)
+    (ending : Ending) : Type 0 where
   pub telling : EndsTelling g e disks (TellsSnapshot g e disks snapshot_text) output ending
   pub first : IsLeftAlone g disks.old disks.new
   pub second : IsOnlyRead e disks.second disks.kept

@@ -25,8 +25,8 @@ pub record TwoDisks (D E : Type 0) : Type 0 where
 abbrev pub disks_of : {D E : Type 0} → D → E → FinishedKept D E → TwoDisks D E
 disks_of disk second finished = record { old = disk; new = finished.disk; second = second; kept = finished.second }
 
--- A checkpoint in the file tells the truth of the journal in these bytes: it has more commands than the journal, or is the
--- snapshot of the journal's first ones. Every file that is no checkpoint does so.
+-- A checkpoint in the file tells the truth of the journal in these bytes: it has more commands than the journal, or is
+-- the snapshot of the journal's first ones. Every file that is no checkpoint does so.
 abbrev pub TellsTruth : List ℕ → List ℕ → Type 0
 TellsTruth file bytes = (bodies : List (List ℕ)) → OpensToBodies bytes bodies → IsTrueWhereUsed file bodies
 
@@ -52,11 +52,12 @@ pub record IsOnlyRead {E : Type 0} (e : Ghosts E) (old new : E) : Type 0 where
   pub honesty : e.honest new → e.honest old
   pub looks : e.honest new → LooksOn e old new
 
--- The journal's disk was made safe: from the end of a sync on a crash leaves the file as it was, or a creation that goes on or
--- has just ended.
+-- The journal's disk was made safe: from the end of a sync on a crash leaves the file as it was, or a creation that goes
+-- on or has just ended.
 abbrev pub IsMadeSafe : {D : Type 0} → Ghosts D → D → D → Type 0
 IsMadeSafe {D} g old new =
-    (mid : D) × IsSynced g old mid new × ((image : List ℕ) → g.left_since new (g.clock mid) image → IsOpenedOn (g.reads old) image)
+    (mid : D) × IsSynced g old mid new
+    × ((image : List ℕ) → g.left_since new (g.clock mid) image → IsOpenedOn (g.reads old) image)
 
 -- neither disk failed
 pub record AreBothQuiet {D E : Type 0} (g : Ghosts D) (e : Ghosts E) (disks : TwoDisks D E) : Type 0 where
@@ -65,4 +66,5 @@ pub record AreBothQuiet {D E : Type 0} (g : Ghosts D) (e : Ghosts E) (disks : Tw
 
 -- one of them did
 abbrev pub HasOneFailed : {D E : Type 0} → Ghosts D → Ghosts E → TwoDisks D E → Type 0
-HasOneFailed g e disks = Rose (g.faults disks.old) (g.faults disks.new) ⊎ Rose (e.faults disks.second) (e.faults disks.kept)
+HasOneFailed g e disks =
+    Rose (g.faults disks.old) (g.faults disks.new) ⊎ Rose (e.faults disks.second) (e.faults disks.kept)

@@ -1,9 +1,12 @@
 -- Worked texts over an empty file, put down by hand from the format
-use Rattle.std.specs.Prelude.{◌≡◌, ℕ, List, [], ◌∷◌, ◌++◌, codes}
+use Rattle.std.specs.Prelude.{◌≡◌, ◌⊎◌, ℕ, List, [], ◌∷◌, ◌++◌, codes}
 use Rattle.outside_io.specs.declared.disks.Disk.{Ghosts}
-use Rattle.program_endings.specs.Writing.{Stream, WroteAll}
-use Rattle.kept_books.specs.Saved.{IsSaved}
-use Rattle.kept_books.specs.Stated.{snapshot_text}
+use Rattle.checkpoint_store.specs.Checkpoints.{CheckpointBytes, IsNoCheckpoint}
+use Rattle.checkpoint_store.specs.declared.snapshot.Snapshot.{Snapshot}
+use Rattle.program_endings.specs.declared.ending.Ending.TheVariants.{BadJournal, DiskFault, Done}
+use Rattle.program_endings.specs.Writing.{Stream, WroteAll, WroteLine}
+use Rattle.kept_books.specs.Saved.{EndsCheckpoint, IsSaved}
+use Rattle.kept_books.specs.Stated.{EndsStateKept, snapshot_text}
 use Rattle.kept_books.specs.Telling.{TellsSnapshot}
 use Rattle.kept_books.specs.TwoDisks.{AreTrue, TellsTruth, TwoDisks}
 
@@ -18,3 +21,21 @@ KeepsAnEmptyFile {D} {E} g e = (disks : TwoDisks D E) (output : Stream) → AreT
 -- an empty second file is no checkpoint, so it tells the truth of any journal
 abbrev pub TellsNoLie : Type 0
 TellsNoLie = (bytes : List ℕ) → TellsTruth [] bytes
+
+-- whatever the disks, over five bytes that are no journal `state` is refused with that line, and the second file stays
+abbrev pub RefusesHelloByTwo : {D E : Type 0} → Ghosts D → Ghosts E → Type 0
+RefusesHelloByTwo {D} {E} g e = (disks : TwoDisks D E) (output : Stream) → AreTrue g e disks
+    → g.reads disks.old ≡ codes "hello" → EndsStateKept g e disks output BadJournal
+    → WroteLine output (codes "badjournal,notajournal") × (e.reads disks.kept ≡ e.reads disks.second)
+
+-- a checkpoint of no command
+abbrev pub IsEmptyCheckpoint : List ℕ → Type 0
+IsEmptyCheckpoint image = (s : Snapshot) × CheckpointBytes image s × (s.position ≡ 0)
+
+-- over an empty file `checkpoint` leaves that in each image, once it is done; where a disk failed, none but that is new
+abbrev pub SavesNothing : {D E : Type 0} → Ghosts D → Ghosts E → Type 0
+SavesNothing {D} {E} g e = (disks : TwoDisks D E) (output : Stream) (image : List ℕ) → AreTrue g e disks
+    → g.reads disks.old ≡ [] → e.may_leave disks.kept image
+    → (EndsCheckpoint g e disks output Done → IsEmptyCheckpoint image)
+    × (EndsCheckpoint g e disks output DiskFault
+    → IsNoCheckpoint image ⊎ e.may_leave disks.second image ⊎ IsEmptyCheckpoint image)

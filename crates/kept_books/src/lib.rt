@@ -12,4 +12,4 @@ pub use checkpointing::checkpoint;
 pub use finished::FinishedKept;
 pub use laws::states_the_same;
 pub use stating::state_kept;
-pub use worked::an_empty_file_is_kept;
+pub use worked::{an_empty_file_is_kept, no_journal_is_stated};

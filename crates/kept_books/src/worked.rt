@@ -1,6 +1,6 @@
-//! Worked texts over an empty file, each a theorem over the definitions alone.
+//! Worked cases over an empty file and over one that is no journal, each a theorem over the definitions alone.
 
-ghost use Rattle.kept_books.specs.Worked.{KeepsAnEmptyFile, TellsNoLie};
+ghost use Rattle.kept_books.specs.Worked.{KeepsAnEmptyFile, RefusesHelloByTwo, SavesNothing, TellsNoLie};
 
 use outside_io::Disk;
 
@@ -8,4 +8,10 @@ use outside_io::Disk;
 pub fn an_empty_file_is_kept<D: Disk, E: Disk>()
     ensures texts { KeepsAnEmptyFile D.Disk E.Disk }
     ensures truth { TellsNoLie }
+    ensures saved { SavesNothing D.Disk E.Disk }
+{}
+
+/// Over any disks, a file of five bytes that are no journal.
+pub fn no_journal_is_stated<D: Disk, E: Disk>()
+    ensures { RefusesHelloByTwo D.Disk E.Disk }
 {}

@@ -6,3 +6,5 @@ pub mod LeftLaws
 pub mod ProgramSteps
 pub mod ReasonSteps
 pub mod BooksSteps
+pub mod KeptRunLaws
+pub mod WorkedBoth

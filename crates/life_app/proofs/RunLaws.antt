@@ -21,7 +21,7 @@ pub record Starts {D : Type 0} (g : Ghosts D) (P : List Command → Type 0) (dis
       × ((commands ≡ base) ⊎ ((command : Command) × (commands ≡ base ++ command ∷ [])))
 
 -- what has P, and behind it what a run adds
-abbrev Grown : {D : Type 0} → (List Command → Type 0) → OneRun D → List Command → Type 0
+abbrev pub Grown : {D : Type 0} → (List Command → Type 0) → OneRun D → List Command → Type 0
 Grown P run commands =
     (before held more : List Command) × P before × AddsCommands run held more × (commands ≡ before ++ held ++ more)
 
@@ -271,7 +271,7 @@ module _ {D : Type 0} (g : Ghosts D) (facts : Facts g) (P : List Command → Typ
         ] in
         from_safe g P run (Grown P run) run.next held.0 cut.safe held.1 held.2
 
-  one_more_run : IsLeftSo g old run.new run.opening run.history → HasReturned run ⊎ WasCut g old run → Starts g (Grown P run) run.next
+  pub one_more_run : IsLeftSo g old run.new run.opening run.history → HasReturned run ⊎ WasCut g old run → Starts g (Grown P run) run.next
   one_more_run (inl left) ended = opened left ended
   one_more_run (inr (inl alone)) ended = unopened alone.0 (alone_later alone.1) (alone_image alone.1) ended
   one_more_run (inr (inr same)) ended = unopened same.0 (rw same.1 (omega arith)) (same_image same.1) ended

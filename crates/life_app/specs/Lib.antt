@@ -8,5 +8,7 @@ pub mod DueKept
 pub mod Crashes
 pub mod Headline
 pub mod Runs
+pub mod KeptRuns
 pub mod Worked
+pub mod WorkedKept
 pub mod inside

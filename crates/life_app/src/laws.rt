@@ -7,6 +7,9 @@ ghost use Rattle.policy_machine.specs.History.{Opening};
 ghost use Rattle.posting_journal.specs.Runs.{IsSafe};
 ghost use Rattle.command_csv.specs.Reads.{IsFirstScriptFault};
 ghost use Rattle.life_app.specs.Crashes.{AreAllHeld, AreHeld, HasRun};
+ghost use Rattle.kept_books.specs.TwoDisks.{TellsTruth, TwoDisks};
+ghost use Rattle.life_app.specs.KeptRuns.{AreRunsOfTwo, IsLeftByCall, OneRunOfTwo, SavedOfFirst};
+ghost use Rattle.life_app.specs.ObeysKept.{ObeysKept};
 ghost use Rattle.life_app.specs.Runs.{AreLeft, AreRuns, IsLeftSo, OneRun};
 ghost use Rattle.life_app.specs.Obeys.{Obeys};
 ghost use Rattle.program_endings.specs.Writing.{between, input_between, shelf_between};
@@ -66,4 +69,22 @@ pub fn runs_in_a_row<S: Source, K: Sink, H: Shelf, D: Disk>()
         (between K.faults K.written output written) (shelf_between H.faults H.agrees shelf asked)
         (read ≡ input) (asked ≡ shelf) status
         → (opening : Opening) × ((history : List Entry) × IsLeftSo D.Disk old new opening history) }
+{}
+
+/// The runs of a list over both disks, each ended by its return or by a crash at any moment, leave a second disk that tells
+/// the truth of the journal: each checkpoint that it may leave is the snapshot of the first of the commands to which the
+/// journal's file opens, whatever the two disks leave. The first run begins with disks of which a crash leaves just what is
+/// read, and where a checkpoint on the second, if there is one, is so too. Each call of the program over both disks leaves
+/// them as such a run does.
+pub fn runs_over_both<S: Source, K: Sink, H: Shelf, D: Disk, E: Disk>()
+    ensures left { (first last : D) (second last_second : E) (commands : List Command) (runs : List (OneRunOfTwo D E)) (image file : List ℕ)
+        → IsSafe D.Disk first → IsSafe E.Disk second → Opens (D.reads first) commands → SavedOfFirst (E.reads second) commands
+        → AreRunsOfTwo D.Disk E.Disk first second runs last last_second → D.may_leave last image → E.may_leave last_second file
+        → (held : List Command) × Opens image held × SavedOfFirst file held × TellsTruth file image }
+    ensures so { (disks : TwoDisks D E) (input read : S) (output written : K) (shelf asked : H) (words : List (String Global))
+        (auditors : List Auditor) (status : ℕ) → D.honest disks.new → E.honest disks.kept
+        → ObeysKept D.Disk E.Disk disks words auditors (input_between S.faults S.left S.given S.ended input read)
+        (between K.faults K.written output written) (shelf_between H.faults H.agrees shelf asked)
+        (read ≡ input) (asked ≡ shelf) status
+        → IsLeftByCall D.Disk E.Disk disks }
 {}

@@ -9,7 +9,7 @@ pub mod worked;
 
 pub use kept::{EndedKept, life_kept};
 pub use laws::{
-    crashes_of_a_run, crashes_of_an_opening, runs_after_a_crash, runs_in_a_row,
+    crashes_of_a_run, crashes_of_an_opening, runs_after_a_crash, runs_in_a_row, runs_over_both,
     scripts_are_read_or_refused,
 };
 pub use program::{Ended, life};

@@ -1,6 +1,9 @@
 //! Worked cases of what a run and `state` write, each a theorem over the definitions alone.
 
 ghost use Rattle.life_app.specs.Worked.{ClaimedBooks, ClaimedEntries, OtherLines, PostingLines, RefusalTexts, StatusTexts, TwoClerks, UpgradeLines, WatcherLines};
+ghost use Rattle.life_app.specs.WorkedKept.{BothRefuseHello, BothWords, NoWordsLine};
+
+use outside_io::Disk;
 
 /// Each refusal has its word, and its value where it has one.
 pub fn refusal_texts()
@@ -45,4 +48,11 @@ pub fn claimed_books()
 /// The entries of a policy that is claimed, and a number of no policy.
 pub fn claimed_entries()
     ensures { ClaimedEntries }
+{}
+
+/// Which words ask for both disks, and how these modes end over a file that is no journal, or without memory.
+pub fn words_for_both<D: Disk, E: Disk>()
+    ensures words { BothWords }
+    ensures refused { BothRefuseHello D.Disk E.Disk }
+    ensures unread { NoWordsLine D E }
 {}

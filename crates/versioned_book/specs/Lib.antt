@@ -1,3 +1,4 @@
 pub mod Versions
 pub mod Settings
 pub mod Books
+pub mod inside

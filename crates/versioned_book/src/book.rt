@@ -6,6 +6,7 @@ ghost use Rattle.versioned_book.specs.Settings.{Setting, settings_after, keys_of
 ghost use Rattle.versioned_book.specs.Versions.{AreFewSteps, IsRisingTo, newest_of, versions_from, value_at};
 
 use crate::Chain;
+use crate::hashing::KeyHashing;
 use indexmap::IndexMap;
 use outside_io::Steps;
 use std::alloc::{AllocError, Global};
@@ -14,7 +15,7 @@ use std::sync::ledger::Ledger;
 /// Values by key, with their past from the floor on.
 #[derive(Drop)]
 pub struct VersionedBook<V: Copy> {
-    chains: IndexMap<u32, Chain<V>>,
+    chains: IndexMap<u32, Chain<V>, KeyHashing>,
     // The position at which each key was first set.
     firsts: Vec<u32>,
     // The places of the keys that have several versions.
@@ -32,7 +33,7 @@ impl<V: Copy> VersionedBook<V> {
         ensures floor { (result.floor ≡ 0) × (result.last ≡ 0) }
     {
         VersionedBook {
-            chains: IndexMap::new(alloc),
+            chains: IndexMap::with_hasher(alloc, KeyHashing),
             firsts: Vec::new(alloc),
             several: Vec::new(alloc),
             floor: 0,
@@ -164,14 +165,14 @@ impl<V: Copy> VersionedBook<V> {
 }
 
 // Keeps those of the places whose entries have several versions.
-fn keep_several<V: Copy>(chains: &IndexMap<u32, Chain<V>>, several: &mut Vec<u32>)
+fn keep_several<V: Copy>(chains: &IndexMap<u32, Chain<V>, KeyHashing>, several: &mut Vec<u32>)
     ensures { several.new.items ≡ filter (λ i. has_several (slice_get chains.now.entries i)) several.old.items }
 {
     several.retain(|index| has_more(chains, *index));
 }
 
 // Whether the entry at a place has several versions.
-fn has_more<V: Copy>(chains: &IndexMap<u32, Chain<V>>, index: u32) -> bool
+fn has_more<V: Copy>(chains: &IndexMap<u32, Chain<V>, KeyHashing>, index: u32) -> bool
     ensures { result ≡ has_several (slice_get chains.now.entries index) }
 {
     match chains.get_index(index as usize) {

@@ -3,6 +3,7 @@
 
 mod book;
 mod chain;
+mod hashing;
 
 pub use book::VersionedBook;
 pub use chain::Chain;

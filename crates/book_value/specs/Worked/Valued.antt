@@ -5,7 +5,7 @@ use Rattle.policy_types.specs.declared.command.Command.{Command}
 use Rattle.policy_types.specs.declared.command.Command.TheVariants.{Issue, Premium, PaidUp, Upgrade}
 use Rattle.policy_types.specs.declared.command.Plan.TheVariants.{Endowment}
 use Rattle.policy_types.specs.declared.entry.At.TheVariants.{Now}
-use Rattle.rate_table.specs.declared.shape.Shape.{Shape}
+use Rattle.rate_table.specs.Rates.{Rates}
 use Rattle.select_rates.specs.declared.any.AnyTable.TheVariants.{Aggregate}
 use Rattle.present_value.specs.Premium.{cap_shape}
 use Rattle.present_value.specs.Worked.{five_ages}
@@ -19,14 +19,18 @@ from_2000 = record { from_day = pos 10957; table = Aggregate five_ages; bp = 0 }
 
 -- and from 2020-01-02 on a rate of the age 60 alone
 abbrev pub from_2020 : Dated
-from_2020 = record { from_day = pos 18263; table = Aggregate (record { first_age = 60; rates = 1000000000 ∷ [] }); bp = 400 }
+from_2020 = record {
+  from_day = pos 18263;
+  table = Aggregate (record { first_age = 60; rates = 1000000000 ∷ [] });
+  bp = 400;
+}
 
 -- an endowment of 1000.00 for three years at age 0, with a premium of 400.00
 abbrev pub endowment_on : ℕ → ℤ → Command
 endowment_on id day = Issue id day Endowment 0 3 100000 40000
 
--- Issued on 2020-01-01, on 2020-01-02, the day before the basis begins, and the day after the valuation; and once more on
--- 2020-01-01, and made paid up for 300.00 within the year.
+-- Issued on 2020-01-01, on 2020-01-02, the day before the basis begins, and the day after the valuation; and once more
+-- on 2020-01-01, and made paid up for 300.00 within the year.
 abbrev pub five_endowments : List Command
 five_endowments = endowment_on 7001 (pos 18262) ∷ endowment_on 7002 (pos 18263) ∷ endowment_on 7003 (pos 10956)
     ∷ endowment_on 7004 (pos 18629) ∷ endowment_on 7005 (pos 18262) ∷ Premium 7005 (pos 18262) 40000 ∷ Upgrade
@@ -41,8 +45,12 @@ FiveEndowmentsValued = IsValuation five_endowments (pos 18628) Now Terminal (fro
     ++ codes "row,7004,inforce,0,0.00,0.00" ++ (10 ∷ []) ++ codes "row,7005,paidup,1,300.00,300.00" ++ (10 ∷ [])
     ++ codes "total,427.22,427.23,2" ++ 10 ∷ [])
 
--- what limits the net premium: whole life a year later, by a table that ends at age 130, with nineteen premiums, or with
--- fewer where it ends sooner
+-- rates of the ages 0 to 130
+abbrev pub to_130 : Rates
+to_130 = record { first_age = 0; rates = replicate 131 1 }
+
+-- what limits the net premium: whole life a year later, to the table's end, with nineteen premiums, or with fewer where
+-- there are fewer years
 abbrev pub Caps : Type 0
-Caps = (cap_shape (record { first_age = 0; rates = replicate 131 1 }) 30 ≡ record { age = 31; n = 100; h = 19; matures = true })
-    × (cap_shape (record { first_age = 0; rates = replicate 131 1 }) 115 ≡ record { age = 116; n = 15; h = 15; matures = true })
+Caps = (cap_shape to_130 30 ≡ record { age = 31; n = 100; h = 19; matures = true })
+    × (cap_shape to_130 115 ≡ record { age = 116; n = 15; h = 15; matures = true })

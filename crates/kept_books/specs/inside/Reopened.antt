@@ -45,7 +45,8 @@ disks_under disk second opened =
     record { old = disk; new = disk_of opened.journal; second = second; kept = store_disk opened.store }
 
 -- The snapshot was read, with neither disk failing. Both were only looked at, but for a creation that was ended.
-pub record HasReopened {D E : Type 0} {g : Ghosts D} {e : Ghosts E} (disk : D) (second : E) (opened : Reopened D E g e) : Type 0 where
+pub record HasReopened {D E : Type 0} {g : Ghosts D} {e : Ghosts E} (disk : D) (second : E)
+    (opened : Reopened D E g e) : Type 0 where
   pub sound : IsSoundSnapshot opened.snapshot
   pub quiet : AreBothQuiet g e (disks_under disk second opened)
   pub alone : IsLeftAlone g disk (disk_of opened.journal)
@@ -60,7 +61,8 @@ TellsFaultOfOne g e disks (DiskFault count) = HasOneFailed g e disks
 TellsFaultOfOne g e disks cause = AreBothQuiet g e disks
 
 -- no snapshot was read, for this cause
-pub record HasNoSnapshot {D E : Type 0} (g : Ghosts D) (e : Ghosts E) (disks : TwoDisks D E) (cause : StartCause) : Type 0 where
+pub record HasNoSnapshot {D E : Type 0} (g : Ghosts D) (e : Ghosts E) (disks : TwoDisks D E)
+    (cause : StartCause) : Type 0 where
   pub told : TellsFaultOfOne g e disks cause
   pub shown : AreTrue g e disks → IsShown (g.reads disks.old) cause
   pub first : IsLeftAlone g disks.old disks.new

@@ -16,14 +16,17 @@ use Rattle.kept_books.specs.Saved.{checkpoint_text}
 -- whether or not the saving succeeded, a crash leaves no checkpoint, or an earlier one, or the new one
 pub record HasTried {E : Type 0} {e : Ghosts E} (old new : Store E e) (snapshot : Snapshot) : Type 0 where
   pub honesty : e.honest (store_disk new) → e.honest (store_disk old)
-  pub moments : e.honest (store_disk new) → Knows old → Leaves e (store_disk old) (store_disk new) (IsKeptOrSavedBy old snapshot)
-  pub kept : (image : List ℕ) → e.honest (store_disk new) → Knows old → MightLeave new image → IsKeptOrSavedBy old snapshot image
+  pub moments : e.honest (store_disk new) → Knows old
+      → Leaves e (store_disk old) (store_disk new) (IsKeptOrSavedBy old snapshot)
+  pub kept : (image : List ℕ) → e.honest (store_disk new) → Knows old → MightLeave new image
+      → IsKeptOrSavedBy old snapshot image
 
 -- it did
 pub record HasSaved {E : Type 0} {e : Ghosts E} (old new : Store E e) (snapshot : Snapshot) : Type 0 where
   pub tried : HasTried old new snapshot
   pub quiet : e.faults (store_disk new) ≡ e.faults (store_disk old)
-  pub saved : e.honest (store_disk new) → Knows old → (image : List ℕ) → e.may_leave (store_disk new) image → CheckpointBytes image snapshot
+  pub saved : e.honest (store_disk new) → Knows old → (image : List ℕ)
+      → e.may_leave (store_disk new) image → CheckpointBytes image snapshot
 
 -- the line of the snapshot was written behind it, or a front of the line; or the disk failed, or there was no memory
 abbrev pub EndsSaving : {E : Type 0} {e : Ghosts E} → Store E e → Store E e → Snapshot → Stream → Ending → Type 0
@@ -32,6 +35,7 @@ EndsSaving old new snapshot output WriteFault =
     HasSaved old new snapshot × Rose output.faults_before output.faults_after
     × AppendsPart output.before output.after (checkpoint_text snapshot)
 EndsSaving {e = e} old new snapshot output DiskFault =
-    HasTried old new snapshot × Rose (e.faults (store_disk old)) (e.faults (store_disk new)) × WroteLine output (codes "diskfault")
+    HasTried old new snapshot × Rose (e.faults (store_disk old)) (e.faults (store_disk new))
+    × WroteLine output (codes "diskfault")
 EndsSaving old new snapshot output NoMemory = (new ≡ old) × WroteLine output (codes "nomemory")
 EndsSaving old new snapshot output _ = ⊥

@@ -15,10 +15,10 @@ unfolding row_text heading_text total_text day_text anniversary_of day_number da
 returns c = record {
   reached = lit≤ tt;
   rows = (record { id = 7001; status = InForce; t = 1; worth = Bounds 12722 12723 })
-  ∷ (record { id = 7002; status = InForce; t = 0; worth = Word BelowTable })
-  ∷ (record { id = 7003; status = InForce; t = 0; worth = Word NoBasis })
-  ∷ (record { id = 7004; status = InForce; t = 0; worth = Bounds 0 0 })
-  ∷ (record { id = 7005; status = PaidUp; t = 1; worth = Bounds 30000 30000 }) ∷ [];
+      ∷ (record { id = 7002; status = InForce; t = 0; worth = Word BelowTable })
+      ∷ (record { id = 7003; status = InForce; t = 0; worth = Word NoBasis })
+      ∷ (record { id = 7004; status = InForce; t = 0; worth = Bounds 0 0 })
+      ∷ (record { id = 7005; status = PaidUp; t = 1; worth = Bounds 30000 30000 }) ∷ [];
   each = (first_row, (second_row, (third_row, (fourth_row, (fifth_row, tt)))));
   wrote = refl;
 }

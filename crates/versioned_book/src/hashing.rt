@@ -1,0 +1,58 @@
+// How keys are hashed. Keys are numbers that are mostly given in a row: so four neighbours stand side by side in the
+// map's index, and a key is looked up in memory that the one before it has just used. More than four would crowd there.
+ghost use Rattle.std.specs.Prelude.{◌≡◌, ◌+◌, ◌*◌, ◌/◌, ◌%◌, ◌^◌, bit_xor, fold};
+ghost use Rattle.versioned_book.specs.inside.Hashing.{spread};
+
+use std::hash::{BuildHasher, Hasher};
+
+/// A hasher of keys of four bytes, of which it knows those last written. It is fixed, as the kit's own hasher is: keys that
+/// are picked against either can make a map slow, and no answer wrong.
+#[derive(Clone, Copy)]
+pub(crate) struct KeyHasher {
+    key: u32,
+}
+
+impl Hasher for KeyHasher {
+    ghost write = { λ h bytes. record { key = fold (λ key b. key / 256 + b * 2 ^ 24) h.key bytes } };
+
+    ghost finish = { λ h. bit_xor (spread (h.key / 4)) (h.key % 4 * 2 ^ 30) };
+
+    // The row of four in which a key is picks its place, and its number in the row is the highest bits of what the map
+    // keeps of a hash: these tell keys in one place apart.
+    #[inline(always)]
+    fn finish(&self) -> u64 {
+        spread((self.key / 4) as u64) ^ ((self.key % 4) as u64) * 0x4000_0000
+    }
+
+    // The lowest byte comes first.
+    #[inline(always)]
+    fn write(&mut self, bytes: &[u8]) {
+        for b in bytes {
+            self.key = self.key / 256 + (*b as u32) * 0x0100_0000;
+        }
+    }
+}
+
+// Rows that follow one another, or come at equal steps, lie far apart: a product by a fixed factor, and its halves joined.
+#[inline(always)]
+fn spread(row: u64) -> u64
+    ensures { result ≡ spread row }
+{
+    let product = row as u128 * 0x9e37_79b9_7f4a_7c15;
+    (product % 0x1_0000_0000_0000_0000) as u64 ^ (product >> 64) as u64
+}
+
+/// Makes hashers of keys.
+#[derive(Clone, Copy)]
+pub(crate) struct KeyHashing;
+
+impl BuildHasher for KeyHashing {
+    type Hasher = KeyHasher;
+
+    ghost build_hasher = { λ _. record { key = 0 } };
+
+    #[inline(always)]
+    fn build_hasher(&self) -> KeyHasher {
+        KeyHasher { key: 0 }
+    }
+}
