@@ -6,6 +6,7 @@ use Rattle.policy_value.specs.declared.worth.Measure.TheVariants.{Terminal, Mean
 use Rattle.program_endings.specs.Worked.{output_with}
 use Rattle.program_endings.specs.Writing.{Stream, WroteAll, WroteLine}
 use Rattle.book_value.specs.Valuing.{IsAhead, IsBeyond, IsValuation, IsValued, position_of}
+pub mod Files
 pub mod Valued
 
 abbrev pub PositionsAsked : Type 0

@@ -1,6 +1,7 @@
 //! Worked valuations, each a theorem over the definitions alone.
 
 ghost use Rattle.book_value.specs.Worked.{AheadOfNone, IsAheadOfAnEmptyFile, NobodyValued, PositionsAsked, ValuesAnEmptyFile};
+ghost use Rattle.book_value.specs.Worked.Files.{LongBases, LongTables, NotAtRow1000};
 ghost use Rattle.book_value.specs.Worked.Valued.{Caps, FiveEndowmentsValued};
 
 use outside_io::Disk;
@@ -27,4 +28,11 @@ pub fn endowments_valued()
 /// The years and the premiums of what limits a net premium.
 pub fn caps()
     ensures { Caps }
+{}
+
+/// How long a basis's files may be, and where it is told that they are longer.
+pub fn limits_of_files()
+    ensures bases { LongBases }
+    ensures tables { LongTables }
+    ensures rows { NotAtRow1000 }
 {}
