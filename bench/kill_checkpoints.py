@@ -18,9 +18,10 @@ sys.path.insert(0, os.path.join(os.path.dirname(os.path.dirname(os.path.abspath(
 
 from checkpoints import checkpoint_in, checkpoint_of
 from formats import Wrong, demand
-from journals import read_journal
+from journals import file_of, read_journal
+from script_lines import read_script
 
-POLICIES = 4000
+POLICIES = 1500
 JOURNAL, KEPT = "journal.life", "checkpoint.life"
 
 
@@ -93,18 +94,19 @@ def main():
     draw = random.Random(seed)
     os.mkdir(folder)
     office = Office(program, folder)
-    office.run(["run"], office.issues(POLICIES))
+    with open(office.path(JOURNAL), "wb") as file:
+        file.write(file_of(line.command for line in read_script(office.issues(POLICIES))))
     span = seconds_of(office, ["checkpoint"])
-    long = seconds_of(office, ["run"], office.issues(200))
+    long = seconds_of(office, ["run"], office.issues(40))
     killed = 0
     for number in range(kills):
         if draw.random() < 0.2 and os.path.exists(office.path(KEPT)):
             os.remove(office.path(KEPT))
         if draw.random() < 0.3:
-            killed += office.kill(["run"], office.issues(200), draw.uniform(0, long))
+            killed += office.kill(["run"], office.issues(40), draw.uniform(0, 1.2 * long))
         else:
             office.run(["run"], office.issues(5))
-            killed += office.kill(["checkpoint"], b"", draw.uniform(0, span))
+            killed += office.kill(["checkpoint"], b"", draw.uniform(0, 1.5 * span))
         try:
             office.judge()
         except Wrong as wrong:

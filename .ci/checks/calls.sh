@@ -118,7 +118,7 @@ reads=$(grep -c 'pread64(' reads)
 [ "$(wc -l <out)" = 2 ] || complain "another account"
 
 go_on "a long checkpoint"
-strace -f -o writes -P checkpoint.life -P "$PWD/checkpoint.life" -e trace=pwrite64 "$program" checkpoint </dev/null >out || complain "it isn't made"
+strace -f -o writes -P "$PWD/checkpoint.life" -e trace=pwrite64 "$program" checkpoint </dev/null >out || complain "it isn't made"
 writes=$(grep -c 'pwrite64(' writes)
 [ "$(wc -c <checkpoint.life)" = 960064 ] && [ "$writes" -le $((960064 / 65536 + 4)) ] || complain "it is made by $writes writes"
 # with it the gates of all records are read, and no body
