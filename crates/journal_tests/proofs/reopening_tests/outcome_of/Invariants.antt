@@ -2,4 +2,4 @@
 use Rattle.journal_tests.proofs.reopening_tests.outcome_of.Given as goal
 
 abbrev pub ghosts-reopened : goal.ghosts-reopened
-ghosts-reopened g a = record { name = a.blank.name; parts = a.blank.parts }
+ghosts-reopened a = record { name = a.blank.name; parts = a.blank.parts }
