@@ -154,6 +154,10 @@ fn reopened<L: StepLedger>(
     Outcome::Answered(answer, store.release(), journal.release())
 }
 
+fn outcome_of(alloc: Global, second: MemoryDisk, first: MemoryDisk) -> Outcome {
+    reopened::<Brand>(alloc, second, first, Blank::new(1))
+}
+
 // How many calls a journal that is started makes.
 fn calls_of_start(first: MemoryDisk) -> usize {
     match Journal::start(first) {
@@ -216,12 +220,7 @@ fn is_reopened_after(alloc: Global, second: &[u8], bodies: usize) -> Result<bool
     let before = calls_of_start(disk_of(alloc, file.as_slice(), &[])?);
     let seconds = disk_of(alloc, second, &[])?;
     let firsts = disk_of(alloc, file.as_slice(), &[])?;
-    let Outcome::Answered(answer, seconds, firsts) = reopened::<Brand>(
-        alloc,
-        seconds,
-        firsts,
-        Blank::new(1),
-    ) else {
+    let Outcome::Answered(answer, seconds, firsts) = outcome_of(alloc, seconds, firsts) else {
         return Ok(false);
     };
     let Ok(snapshot) = answer else {
@@ -293,7 +292,7 @@ fn a_balance_out_of_bounds_is_not_taken(rt: HostRuntime) -> Result<(), Fail> {
 
 // What reopening answers where it fails: the record, or the count of a fault.
 fn fault_of(alloc: Global, second: MemoryDisk, first: MemoryDisk) -> Option<ReopenFault> {
-    match reopened::<Brand>(alloc, second, first, Blank::new(1)) {
+    match outcome_of(alloc, second, first) {
         Outcome::Answered(answer, _second, _first) => answer.err(),
         Outcome::NotStarted => None,
     }
