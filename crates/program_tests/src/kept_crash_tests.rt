@@ -49,10 +49,12 @@ fn is_stated_alike<R: Threads + Wait + Sync>(
     let with = keep(rt, alloc, &["state"], &[], disk, second)?;
     let (disk, second) = (disk_of(alloc, journal, &[])?, disk_of(alloc, &[], &[])?);
     let without = keep(rt, alloc, &["state"], &[], disk, second)?;
-    Ok(with.status == 0
-        && without.status == 0
-        && with.output.bytes() == without.output.bytes()
-        && with.second.bytes() == kept)
+    Ok(
+        with.status == 0
+            && without.status == 0
+            && with.output.bytes() == without.output.bytes()
+            && with.second.bytes() == kept,
+    )
 }
 
 // Sixty lines are drawn, each run by itself; behind about every fifth a checkpoint is made, so that it is out of date, or
@@ -74,14 +76,7 @@ fn drawn_scripts_are_stated_alike(rt: HostRuntime) -> Result<(), AllocError> {
             ended = keep(&rt, alloc, &["run"], &[line], ended.disk, ended.second)?;
             assert!(rt; ended.status == 0);
             if draw(&mut state, 5) == 0 {
-                ended = keep(
-                    &rt,
-                    alloc,
-                    &["checkpoint"],
-                    &[],
-                    ended.disk,
-                    ended.second,
-                )?;
+                ended = keep(&rt, alloc, &["checkpoint"], &[], ended.disk, ended.second)?;
                 assert!(rt; ended.status == 0);
                 made = 1;
             }
@@ -101,9 +96,7 @@ fn images_of(alloc: Global, disk: &MemoryDisk) -> Result<Vec<Vec<u8>>, Fail> {
     let mut images = Vec::new(alloc);
     for moment in 0..=disk.calls() {
         for keep in [0, 1, 2] {
-            let image = disk
-                .image(alloc, moment, keep)
-                .map_err(|_| "no memory")?;
+            let image = disk.image(alloc, moment, keep).map_err(|_| "no memory")?;
             add_new(&mut images, image)?;
         }
         for reached in [1, 50] {

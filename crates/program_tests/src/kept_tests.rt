@@ -221,7 +221,10 @@ fn each_failing_call_of_either_disk_is_answered(rt: HostRuntime) -> Result<(), A
                     let fails = first > 0 && first <= u64::from(firsts)
                         || second > 0 && second <= u64::from(seconds);
                     assert!(rt; fails == (ended.status == 8), "{word}, call {call}");
-                    assert!(rt; !fails || ended.wrote(8, "diskfault\n"), "{word}, call {call}");
+                    assert!(rt;
+                        !fails || ended.wrote(8, "diskfault\n"),
+                        "{word}, call {call}"
+                    );
                     assert!(rt; ended.disk.bytes() == journal.bytes());
                     let Kept { disk, second, .. } = ended;
                     let (disk, second) = (
@@ -272,14 +275,7 @@ fn what_is_no_checkpoint_is_as_good_as_none(rt: HostRuntime) -> Result<(), Alloc
     for length in 0..112_usize {
         let disk = disk_of(alloc, journal.bytes(), &[])?;
         let cut = CHECKPOINT.get(..length).unwrap_or(&[]);
-        let stated = keep(
-            &rt,
-            alloc,
-            &["state"],
-            &[],
-            disk,
-            disk_of(alloc, cut, &[])?,
-        )?;
+        let stated = keep(&rt, alloc, &["state"], &[], disk, disk_of(alloc, cut, &[])?)?;
         assert!(rt; stated.wrote(0, CLAIMED_BOOKS), "{length} bytes");
     }
     Ok(())

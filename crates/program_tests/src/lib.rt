@@ -14,13 +14,13 @@ mod full_shelf_tests;
 #[cfg(test)]
 mod hostile_tests;
 #[cfg(test)]
-mod load_tests;
-#[cfg(test)]
 mod kept;
 #[cfg(test)]
 mod kept_crash_tests;
 #[cfg(test)]
 mod kept_tests;
+#[cfg(test)]
+mod load_tests;
 #[cfg(test)]
 mod lying_disk;
 #[cfg(test)]
