@@ -62,6 +62,15 @@ a_lapsed_policy_counted         cash_projection/lapsed_policies_counted
 a_last_portion_dropped          cash_projection/last_portion_dropped
 years_numbered_from_1           cash_projection/years_numbered_from_1
 a_made-up_fault_of_the_output   book_projection/made_up_write_fault
+the_closed_gate_always_first    checkpoint_store/closed_gate_always_written_first
+the_gate_before_the_rest        checkpoint_store/gate_opened_before_the_rest_is_safe
+a_checkpoint_above_the_count    checkpoint_store/checkpoint_above_the_count_used
+a_replay_begun_late             checkpoint_store/replay_begun_one_late
+a_body_read_uncounted           checkpoint_store/body_read_uncounted
+a_checkpoint's_ledger_unchecked checkpoint_store/ledger_not_checked
+an_upgrade_forgotten            checkpoint_store/upgrade_forgotten
+a_second_disk_touched_by_run    life_app/second_disk_touched_by_run
+a_second_disk's_fault_not_told  kept_books/second_disks_fault_told_as_want_of_memory
 watchers_told_of_refusals       office_state/told_of_refused_commands watcher_set/a_done_watcher_is_kept
 EDITS
 
