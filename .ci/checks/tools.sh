@@ -232,9 +232,10 @@ sed '1s/,6,20$/,7,20/' projected >wrong
 refuses "there are 6 policies, and not 7" check_projection journal.life basis.csv wrong
 sed 's/^unvalued,0$/unvalued,1/' projected >wrong
 refuses "0 policies have a word, and not 1" check_projection journal.life basis.csv wrong
-sed '1s/,27,6,20$/,28,6,20/' projected >wrong
-refuses "28 is no position" check_projection journal.life basis.csv wrong
-sed '1s/,27,6,20$/,26,6,20/' projected >wrong
+position=$(sed -n '1s/^project,[^,]*,\([0-9]*\),6,20$/\1/p' projected)
+sed "1s/,$position,6,20\$/,$((position + 1)),6,20/" projected >wrong
+refuses "$((position + 1)) is no position" check_projection journal.life basis.csv wrong
+sed "1s/,$position,6,20\$/,$((position - 1)),6,20/" projected >wrong
 refuses "doesn't enclose" check_projection journal.life basis.csv wrong
 refuses "isn't what life project prints" check_projection journal.life basis.csv state
 says plot_projection projected
