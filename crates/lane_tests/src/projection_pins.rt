@@ -45,6 +45,27 @@ fn projected_beside<D: Disk, W: Watching, R: Threads + Wait + Sync>(
     }
 }
 
+// The same, where the pass has turns enough for it.
+fn found_beside<D: Disk, W: Watching, R: Threads + Wait + Sync>(
+    rt: &R,
+    alloc: Global,
+    office: &Office<D, W>,
+    pass: &mut OfficePass<D, W>,
+    basis: &Basis,
+    pins: u32,
+) -> Option<Result<u32, ValueFault>>
+    requires { pass.old.turnstile ≡ office.now }
+    ensures { (pass.new.turnstile ≡ pass.old.turnstile) × (pass.new.shares ≡ pass.old.shares) }
+{
+    if pins > 16 {
+        return None;
+    }
+    if pass.left() < 17_000 {
+        return None;
+    }
+    Some(projected_beside(rt, alloc, office, pass, basis, pins))
+}
+
 #[test]
 fn a_projection_needs_a_pin(rt: HostRuntime) -> Result<(), Fail> {
     let alloc = rt.alloc();
@@ -54,17 +75,12 @@ fn a_projection_needs_a_pin(rt: HostRuntime) -> Result<(), Fail> {
         return Err("an office".into());
     };
     issue_all(&rt, &office, &mut pass, 2);
-    for (pins, due) in [
-        (15, Ok(2)),
-        (16, Err(ValueFault::Pin(PinRefusal::PinsFull))),
-        (0, Ok(2)),
-    ] {
-        if pins > 16 || pass.left() < 17_000 {
-            panic!(rt; "no turns");
-        }
-        let found = projected_beside(&rt, alloc, &office, &mut pass, &basis, pins);
-        assert_eq!(rt; found, due);
-    }
+    let fifteen = found_beside(&rt, alloc, &office, &mut pass, &basis, 15);
+    let sixteen = found_beside(&rt, alloc, &office, &mut pass, &basis, 16);
+    let none = found_beside(&rt, alloc, &office, &mut pass, &basis, 0);
     close(office, pass);
+    assert_eq!(rt; fifteen, Some(Ok(2)));
+    assert_eq!(rt; sixteen, Some(Err(ValueFault::Pin(PinRefusal::PinsFull))));
+    assert_eq!(rt; none, Some(Ok(2)));
     Ok(())
 }
