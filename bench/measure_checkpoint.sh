@@ -40,6 +40,8 @@ def write_journal(commands):
 
 def timed(words):
     """Seconds by the clock and of processor time, the peak memory in MiB, and what was written."""
+    if os.path.exists("written"):
+        os.remove("written")
     before, start = resource.getrusage(resource.RUSAGE_CHILDREN), time.perf_counter()
     with open("written", "wb") as out:
         ran = subprocess.run(["/usr/bin/time", "-f", "%M", program, *words], stdin=subprocess.DEVNULL, stdout=out, stderr=subprocess.PIPE)

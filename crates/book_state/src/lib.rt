@@ -7,6 +7,6 @@ mod rereading;
 mod worked;
 
 pub use accounts::account;
-pub use books::{add_policy, state};
+pub use books::state;
 pub use rereading::{Account, cause_of};
 pub use worked::{an_empty_file_is_stated, balances_are_added};

@@ -50,11 +50,9 @@ impl NumberedBooks {
         let Some(policy) = policy_at(bytes) else {
             return Ok(false);
         };
-        if self.policies.contains_key(&policy.id) {
-            return Ok(false);
-        }
         match self.policies.insert(policy.id, policy) {
-            Ok(_) => Ok(true),
+            Ok(None) => Ok(true),
+            Ok(Some(_)) => Ok(false),
             Err(_) => Err(ReopenFault::NoMemory),
         }
     }

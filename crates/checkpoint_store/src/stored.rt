@@ -88,8 +88,11 @@ fn books_behind<E: Disk>(
     ensures sound { IfOk result (λ found. IfSome found (λ books. AreSoundBooks books × (books.position ≡ front.position))) }
     ensures behind { E.honest disk.new → IfOk result (λ found. AreBooksBehind (E.reads disk.old) front found) }
 {
+    let Ok(policies) = IndexMap::with_capacity(alloc, front.policies as usize) else {
+        return Err(ReopenFault::NoMemory);
+    };
     let mut books = NumberedBooks {
-        policies: IndexMap::new(alloc),
+        policies,
         position: front.position,
         upgrade: front.upgrade,
         ledger: front.ledger,

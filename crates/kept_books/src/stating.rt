@@ -10,13 +10,13 @@ ghost use Rattle.kept_books.specs.TwoDisks.{disks_of};
 
 use crate::finished::FinishedKept;
 use crate::reopened::reopen_both;
-use book_state::add_policy;
 use checkpoint_store::Snapshot;
 use outside_io::{Disk, Sink};
 use policy_types::{NoMemory, Policy};
 use program_endings::{add, refuse_journal, write_text};
-use statements::balance;
+use statements::{PolicyLines, balance};
 use std::alloc::Global;
+use text_lines::Text;
 
 /// Writes all policies in order of issue, and the balances. The journal's records are decided anew from the position of
 /// the second disk's checkpoint on, where it has one that isn't above the journal's count, and else from the first on. The
@@ -49,20 +49,20 @@ fn text_of(alloc: Global, snapshot: &Snapshot) -> Result<Vec<u8>, NoMemory>
     requires { IsSoundSnapshot snapshot.now }
     ensures { IfOk result (λ text. text.items ≡ snapshot_text snapshot.now) }
 {
-    let mut text = policies_of(alloc, snapshot.book.as_slice())?;
+    let mut text = policies_of(alloc, snapshot.book.as_slice())?.into_vec();
     let balances = balance(alloc, &snapshot.ledger, snapshot.position)?;
     add(&mut text, balances.as_slice())?;
     Ok(text)
 }
 
 // The lines of policies.
-fn policies_of(alloc: Global, policies: &[Policy]) -> Result<Vec<u8>, NoMemory>
+fn policies_of(alloc: Global, policies: &[Policy]) -> Result<Text, NoMemory>
     requires { AllByRecursion IsSound policies.now }
-    ensures { IfOk result (λ text. text.items ≡ flat_map policy_text policies.now) }
+    ensures { IfOk result (λ text. text ≡ flat_map policy_text policies.now) }
 {
-    let mut text = Vec::new(alloc);
+    let mut lines = PolicyLines::new(alloc);
     for index in 0..policies.len() {
-        add_policy(alloc, &policies[index], &mut text)?;
+        lines.add(&policies[index])?;
     }
-    Ok(text)
+    Ok(lines.into_text())
 }

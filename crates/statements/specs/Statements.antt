@@ -1,5 +1,5 @@
 -- The texts of statements and balances
-use Rattle.std.specs.Prelude.{ℕ, ℤ, ◌≤◌, List, [], ◌∷◌, ◌++◌, codes, decimal}
+use Rattle.std.specs.Prelude.{ℕ, ℤ, List, [], ◌∷◌, ◌++◌, codes, decimal}
 use Rattle.std.specs.List.{flat_map}
 use Rattle.policy_types.specs.declared.command.Command.{Command}
 use Rattle.policy_types.specs.declared.policy.Policy.{Policy}
@@ -45,7 +45,3 @@ balance_text ledger count =
     account_line (codes "cash") ledger.cash ++ account_line (codes "premiums") ledger.premiums
     ++ account_line (codes "incurred") ledger.incurred ++ account_line (codes "payable") ledger.payable
     ++ count_text count
-
--- a policy's amounts, none above 100,000,000.00
-abbrev pub AreAmounts : Policy → Type 0
-AreAmounts p = (p.amount ≤ 10000000000) × (p.premium ≤ 10000000000) × (p.outstanding ≤ 10000000000)

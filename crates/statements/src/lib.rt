@@ -3,8 +3,10 @@
 
 mod balances;
 mod entries;
+mod last_day;
+mod line_end;
 mod policies;
 
 pub use balances::balance;
 pub use entries::print_entry;
-pub use policies::statement;
+pub use policies::{PolicyLines, statement};

@@ -1,15 +1,21 @@
 // Policies as their commands left them.
-ghost use Rattle.std.specs.Prelude.{◌≡◌, ◌++◌, ◌≤◌, ℕ, IfOk, OnOk};
+ghost use Rattle.std.specs.Prelude.{◌≡◌, ◌+◌, ◌++◌, ◌≤◌, [], ◌∷◌, ℕ, length, IfOk, OnOk};
 ghost use Rattle.std.specs.List.{All};
 ghost use Rattle.policy_types.specs.Valid.{IsCommandDay, IsValid};
+ghost use Rattle.policy_types.specs.Words.{plan_word, status_word};
 ghost use Rattle.policy_types.specs.declared.command.Command.{Command as ACommand};
+ghost use Rattle.life_dates.specs.DayText.{day_text};
+ghost use Rattle.text_lines.specs.Fields.{insurance_fields};
 ghost use Rattle.text_lines.specs.Lines.{behind_commas};
-ghost use Rattle.statements.specs.Statements.{AreAmounts, policy_text, progress_fields, statement_text};
+ghost use Rattle.statements.specs.Statements.{policy_text, progress_fields, statement_text};
 
 use crate::entries::write_entry;
-use policy_types::{Command, NoMemory, Policy};
+use crate::last_day::LastDay;
+use crate::line_end::LineEnd;
+use policy_types::{Command, NoMemory, Plan, Policy, Status};
 use std::alloc::Global;
-use text_lines::{LineWriter, Text, status_word};
+use std::marker::Model;
+use text_lines::{LineWriter, Text};
 
 /// The lines of a policy's accepted commands, each with its number among all accepted commands, and then the line of
 /// the policy as they left it.
@@ -20,45 +26,139 @@ pub fn statement(
 ) -> Result<Text, NoMemory>
     requires entries { All (λ (entry : ℕ × ACommand). IsValid entry.1) entries.now }
     requires issued { IsCommandDay policy.now.issued }
-    requires amounts { AreAmounts policy.now }
     ensures { IfOk result (λ text. text ≡ statement_text entries.now policy.now) }
 {
     let mut lines = LineWriter::new(alloc);
     for (position, command) in entries {
         write_entry(&mut lines, *position, command)?;
     }
-    write_policy(&mut lines, policy)?;
-    Ok(lines.into_text())
+    let mut policies = PolicyLines::behind(lines.into_text());
+    policies.add(policy)?;
+    Ok(policies.into_text())
 }
 
-// Adds the line of a policy.
+/// Lines of policies in the making. Contracts see the bytes written so far. A million of them are written one after the
+/// other, each in room of its own and then at once behind those before it.
+#[derive(Drop)]
+pub struct PolicyLines {
+    bytes: Vec<u8>,
+    line: LineEnd,
+    issued: LastDay,
+}
+
+impl Model for PolicyLines {
+    ghost use Rattle.std.specs.Prelude.{List, ℕ};
+
+    ghost Value = { List ℕ };
+
+    ghost view = { λ p. p.bytes.items };
+}
+
+impl PolicyLines {
+    pub fn new(alloc: Global) -> PolicyLines
+        ensures { result ≡ [] }
+    {
+        PolicyLines::behind(Text::new(Vec::new(alloc)))
+    }
+
+    /// Lines behind a text.
+    pub fn behind(text: Text) -> PolicyLines
+        ensures { result ≡ text }
+    {
+        PolicyLines {
+            bytes: text.into_vec(),
+            line: LineEnd::new(),
+            issued: LastDay::new(),
+        }
+    }
+
+    /// Adds the line of a policy. After `NoMemory` none of it was written.
+    pub fn add(&mut self, policy: &Policy) -> Result<(), NoMemory>
+        requires { IsCommandDay policy.now.issued }
+        ensures { OnOk result (self.new ≡ self.old ++ policy_text policy.now) }
+    {
+        let issued = self.issued.text_of(policy.issued);
+        write_policy(&mut self.line, policy, &issued);
+        match self.bytes.extend_from_slice(self.line.as_slice()) {
+            Ok(()) => Ok(()),
+            Err(_) => Err(NoMemory),
+        }
+    }
+
+    /// The lines.
+    pub fn into_text(self) -> Text
+        ensures { result ≡ self }
+    {
+        let PolicyLines { bytes, .. } = self;
+        Text::new(bytes)
+    }
+}
+
+// The line of a policy, which was issued on a day of this text.
 #[tactic(auto, unfolding(crate::specs::Statements::policy_text))]
-fn write_policy(lines: &mut LineWriter, policy: &Policy) -> Result<(), NoMemory>
-    requires issued { IsCommandDay policy.now.issued }
-    requires amounts { AreAmounts policy.now }
-    ensures { OnOk result (lines.new ≡ lines.old ++ policy_text policy.now) }
+fn write_policy(line: &mut LineEnd, policy: &Policy, issued: &[u8; 10])
+    requires { issued.now ≡ day_text policy.now.issued }
+    ensures { line.new ≡ policy_text policy.now }
 {
-    lines.first("policy")?;
-    lines.number(policy.id)?;
-    lines.word(status_word(policy.status))?;
-    lines.insurance(
-        policy.plan,
-        policy.age,
-        policy.years,
-        policy.amount,
-        policy.premium,
-    )?;
-    write_progress(lines, policy)?;
-    lines.end()
+    line.begin();
+    write_progress(line, policy, issued);
+    write_insurance(line, policy);
+    write_status(line, policy.status);
+    line.number(policy.id as u64);
+    line.put(b"policy");
 }
 
-// Adds when a policy was issued, how many premiums were paid, and what is still to be paid out.
-fn write_progress(lines: &mut LineWriter, policy: &Policy) -> Result<(), NoMemory>
-    requires issued { IsCommandDay policy.now.issued }
-    requires amounts { AreAmounts policy.now }
-    ensures { OnOk result (lines.new ≡ lines.old ++ behind_commas (progress_fields policy.now)) }
+// When a policy was issued, how many premiums were paid, and what is still to be paid out.
+fn write_progress(line: &mut LineEnd, policy: &Policy, issued: &[u8; 10])
+    requires issued { issued.now ≡ day_text policy.now.issued }
+    requires room { 56 + length line.old ≤ 256 }
+    ensures written { line.new ≡ behind_commas (progress_fields policy.now) ++ line.old }
+    ensures short { length line.new ≤ length line.old + 56 }
 {
-    lines.day(policy.issued)?;
-    lines.number(policy.paid as u32)?;
-    lines.cents(policy.outstanding as i64)
+    line.cents(policy.outstanding);
+    line.number(policy.paid as u64);
+    line.field(issued);
+}
+
+// The terms of a policy's insurance.
+fn write_insurance(line: &mut LineEnd, policy: &Policy)
+    requires room { 108 + length line.old ≤ 256 }
+    ensures written { line.new ≡ behind_commas
+        (insurance_fields policy.now.plan policy.now.age policy.now.years policy.now.amount policy.now.premium) ++ line.old }
+    ensures short { length line.new ≤ length line.old + 108 }
+{
+    line.cents(policy.premium);
+    line.cents(policy.amount);
+    line.number(policy.years as u64);
+    line.number(policy.age as u64);
+    write_plan(line, policy.plan);
+}
+
+fn write_plan(line: &mut LineEnd, plan: Plan)
+    requires room { 10 + length line.old ≤ 256 }
+    ensures written { line.new ≡ 44 ∷ (plan_word plan ++ line.old) }
+    ensures short { length line.new ≤ length line.old + 10 }
+{
+    match plan {
+        Plan::Term => line.field(b"term"),
+        Plan::Whole => line.field(b"whole"),
+        Plan::Endowment => line.field(b"endowment"),
+        Plan::Limited => line.field(b"limited"),
+    }
+}
+
+fn write_status(line: &mut LineEnd, status: Status)
+    requires room { 8 + length line.old ≤ 256 }
+    ensures written { line.new ≡ 44 ∷ (status_word status ++ line.old) }
+    ensures short { length line.new ≤ length line.old + 8 }
+{
+    match status {
+        Status::InForce => line.field(b"inforce"),
+        Status::Lapsed => line.field(b"lapsed"),
+        Status::Claimed => line.field(b"claimed"),
+        Status::Matured => line.field(b"matured"),
+        Status::Expired => line.field(b"expired"),
+        Status::Settled => line.field(b"settled"),
+        Status::PaidUp => line.field(b"paidup"),
+    }
 }

@@ -1,4 +1,3 @@
-use Rattle.std.proofs.Common.{arith}
 use Rattle.policy_machine.specs.Rules.{IsSound}
 use Rattle.book_state.proofs.ReadingSteps.{account_sound, account_valid}
 use Rattle.book_state.proofs.accounts.text_of.Goals as goal
@@ -10,8 +9,3 @@ pub statement-requires-clause-issued : goal.statement-requires-clause-issued
 statement-requires-clause-issued c =
     let sound : IsSound c.in-Some.policy = rw c.in-Some.is at (account_sound c.args.account.now c.requires.0 c.requires.1) in
     sound.issue_in.day_in
-
-pub statement-requires-clause-amounts : goal.statement-requires-clause-amounts
-statement-requires-clause-amounts c =
-    let sound : IsSound c.in-Some.policy = rw c.in-Some.is at (account_sound c.args.account.now c.requires.0 c.requires.1) in
-    (sound.issue_in.amount_in.1, sound.issue_in.premium_in.1, omega (arith, sound.outstanding_in, sound.issue_in.amount_in.1))

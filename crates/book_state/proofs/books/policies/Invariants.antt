@@ -6,4 +6,4 @@ use Rattle.statements.specs.Statements.{policy_text}
 use Rattle.book_state.proofs.books.policies.Given as goal
 
 abbrev pub invariant-loop-index : goal.invariant-loop-index
-invariant-loop-index g l = l.text.items ≡ flat_map policy_text (take l.index (book (commands_of l.office)))
+invariant-loop-index g l = l.lines ≡ flat_map policy_text (take l.index (book (commands_of l.office)))

@@ -4,4 +4,4 @@ use Rattle.statements.specs.Statements.{policy_text}
 use Rattle.kept_books.proofs.stating.policies_of.Given as goal
 
 abbrev pub invariant-loop-index : goal.invariant-loop-index
-invariant-loop-index l = l.text.items ≡ flat_map policy_text (take l.index l.fn.policies)
+invariant-loop-index l = l.lines ≡ flat_map policy_text (take l.index l.fn.policies)

@@ -1,0 +1,89 @@
+// A line that is written from its end to its start, so that the digits of a number are written where they stay.
+ghost use Rattle.std.specs.Prelude.{◌≡◌, ◌+◌, ◌≤◌, ◌++◌, [], ◌∷◌, length, decimal};
+ghost use Rattle.money_core.specs.CentsText.{cents_text};
+
+use itoa::write_digits;
+use std::marker::Model;
+
+/// The end of a line, of at most 256 bytes. Contracts see its bytes.
+#[derive(Drop)]
+pub(crate) struct LineEnd {
+    bytes: [u8; 256],
+    at: usize,
+    ghost within: { at ≤ 256 },
+}
+
+impl Model for LineEnd {
+    ghost use Rattle.std.specs.Prelude.{List, ℕ, drop};
+
+    ghost Value = { List ℕ };
+
+    ghost view = { λ l. drop l.at l.bytes };
+}
+
+impl LineEnd {
+    pub(crate) fn new() -> LineEnd
+        ensures { result ≡ [] }
+    {
+        LineEnd {
+            bytes: [0; 256],
+            at: 256,
+        }
+    }
+
+    /// Begins another line, with the line feed.
+    pub(crate) fn begin(&mut self)
+        ensures { self.new ≡ 10 ∷ [] }
+    {
+        self.bytes[255] = b'\n';
+        self.at = 255;
+    }
+
+    /// Bytes before those that stand.
+    pub(crate) fn put(&mut self, bytes: &[u8])
+        requires { length bytes.now + length self.old ≤ 256 }
+        ensures { self.new ≡ bytes.now ++ self.old }
+    {
+        let end = self.at;
+        let start = end - bytes.len();
+        self.bytes[start..end].copy_from_slice(bytes);
+        self.at = start;
+    }
+
+    /// A field behind its comma.
+    pub(crate) fn field(&mut self, field: &[u8])
+        requires { 1 + length field.now + length self.old ≤ 256 }
+        ensures { self.new ≡ 44 ∷ (field.now ++ self.old) }
+    {
+        self.put(field);
+        self.put(b",");
+    }
+
+    /// A field, a whole number.
+    pub(crate) fn number(&mut self, number: u64)
+        requires { 21 + length self.old ≤ 256 }
+        ensures written { self.new ≡ 44 ∷ (decimal number ++ self.old) }
+        ensures short { length self.new ≤ length self.old + 21 }
+    {
+        self.at = write_digits(number, &mut self.bytes, self.at);
+        self.put(b",");
+    }
+
+    /// A field, an amount in cents, as `127.22`.
+    pub(crate) fn cents(&mut self, cents: u64)
+        requires { 24 + length self.old ≤ 256 }
+        ensures written { self.new ≡ 44 ∷ (cents_text cents ++ self.old) }
+        ensures short { length self.new ≤ length self.old + 24 }
+    {
+        let hundredths = (cents % 100) as u8;
+        self.put(&[b'.', b'0' + hundredths / 10, b'0' + hundredths % 10]);
+        self.number(cents / 100);
+    }
+
+    /// The line.
+    pub(crate) fn as_slice(&self) -> &[u8]
+        ensures { result.now ≡ self.now }
+    {
+        &self.bytes[self.at..]
+    }
+}
