@@ -3,6 +3,7 @@
 #![tactic(auto)]
 
 mod adding;
+mod books;
 mod faults;
 mod front;
 mod gates;
@@ -22,7 +23,8 @@ mod store;
 mod stored;
 pub mod worked;
 
+pub use books::Books;
 pub use faults::{ReopenFault, StoreFault};
-pub use reopening::reopen;
+pub use reopening::{reopen, reopen_books};
 pub use snapshot::Snapshot;
 pub use store::Store;

@@ -14,11 +14,12 @@ use money_ledgers::Ledger;
 use policy_machine::judge;
 use policy_types::{Command, Policy, Refusal};
 use std::alloc::Global;
+use versioned_book::KeyHashing;
 
 /// The policies by number, in order of issue, and what else a snapshot has.
 #[derive(Drop)]
 pub(crate) struct NumberedBooks {
-    pub(crate) policies: IndexMap<u32, Policy>,
+    pub(crate) policies: IndexMap<u32, Policy, KeyHashing>,
     pub(crate) position: u32,
     // The place of the upgrade, or 0.
     pub(crate) upgrade: u32,
@@ -39,7 +40,7 @@ impl NumberedBooks {
         ensures none { AreBooksOf [] result }
     {
         NumberedBooks {
-            policies: IndexMap::new(alloc),
+            policies: IndexMap::with_hasher(alloc, KeyHashing),
             position: 0,
             upgrade: 0,
             ledger: Ledger::new(),

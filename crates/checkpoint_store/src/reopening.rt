@@ -12,17 +12,39 @@ ghost use Rattle.checkpoint_store.specs.inside.Replaying.{HasReadCause};
 use crate::numbered::NumberedBooks;
 use crate::replaying::replay;
 use crate::stored::stored;
-use crate::{ReopenFault, Snapshot, Store};
+use crate::{Books, ReopenFault, Snapshot, Store};
 use outside_io::{Disk, Steps};
-use policy_types::Slice;
 use posting_journal::Journal;
 use std::alloc::Global;
 use std::sync::ledger::Ledger;
 
-/// The snapshot of a journal. Its records are decided anew from the position of the store's checkpoint on, where there is
+/// The books of a journal. Its records are decided anew from the position of the store's checkpoint on, where there is
 /// one and it isn't above the journal's count, and else from the first on; each that is read is a step. A fault of a disk
 /// has that disk's count, which rose in this call; `BadRecord(n)` is the first record from there on that spells no command
 /// which can follow. Neither disk is written to.
+pub fn reopen_books<E: Disk, D: Disk, L: Ledger>(
+    alloc: Global,
+    store: &mut Store<E>,
+    journal: &mut Journal<D>,
+    steps: &mut Steps<L>,
+) -> Result<Books, ReopenFault>
+    ensures cause { HasCauseOfTwo (E.faults (store_disk store.old)) (E.faults (store_disk store.new))
+        (D.faults (disk_of journal.old)) (D.faults (disk_of journal.new)) result }
+    ensures store { KeepsAsBefore store.old store.new }
+    ensures journal { StandsAsBefore journal.old journal.new }
+    ensures sound { IfOk result IsSoundSnapshot }
+    ensures few { E.honest (store_disk store.new)
+        → OnOk result (TakesSteps (E.reads (store_disk store.old)) (count_of journal.old) steps.old steps.new) }
+    ensures reopened { (bodies : List (List ℕ)) (faulted : List ℕ) → E.honest (store_disk store.new) → D.honest (disk_of journal.new)
+        → StandsFor journal.old bodies faulted → IsTrueWhereUsed (E.reads (store_disk store.old)) bodies
+        → IsReopened (E.reads (store_disk store.old)) bodies result }
+{
+    let mut books = begin(alloc, store, journal.count())?;
+    replay(journal, &mut books, steps)?;
+    Ok(Books::new(books))
+}
+
+/// The snapshot of a journal, by `reopen_books`.
 pub fn reopen<E: Disk, D: Disk, L: Ledger>(
     alloc: Global,
     store: &mut Store<E>,
@@ -40,9 +62,11 @@ pub fn reopen<E: Disk, D: Disk, L: Ledger>(
         → StandsFor journal.old bodies faulted → IsTrueWhereUsed (E.reads (store_disk store.old)) bodies
         → IsReopened (E.reads (store_disk store.old)) bodies result }
 {
-    let mut books = begin(alloc, store, journal.count())?;
-    replay(journal, &mut books, steps)?;
-    books.into_snapshot(alloc)
+    let books = reopen_books(alloc, store, journal, steps)?;
+    match books.snapshot(alloc) {
+        Ok(snapshot) => Ok(snapshot),
+        Err(_) => Err(ReopenFault::NoMemory),
+    }
 }
 
 // The books of the store's checkpoint, or of no command.
@@ -62,23 +86,5 @@ fn begin<E: Disk>(
     match stored(alloc, &mut store.disk, count)? {
         Some(books) => Ok(books),
         None => Ok(NumberedBooks::new(alloc)),
-    }
-}
-
-impl NumberedBooks {
-    // The snapshot of the books.
-    fn into_snapshot(self, alloc: Global) -> Result<Snapshot, ReopenFault>
-        ensures memory { IfErr result (λ fault. fault ≡ NoRoom) }
-        ensures same { IfOk result (λ snapshot. snapshot ≡ as_snapshot self) }
-    {
-        let Ok(book) = Vec::from_slice(alloc, self.policies.values().as_slice()) else {
-            return Err(ReopenFault::NoMemory);
-        };
-        Ok(Snapshot {
-            position: self.position,
-            upgrade: self.upgrade,
-            ledger: self.ledger,
-            book: Slice::new(book),
-        })
     }
 }

@@ -14,6 +14,7 @@ use indexmap::IndexMap;
 use outside_io::{Disk, Failed};
 use policy_types::MOST_REINSTATEMENT_CENTS;
 use std::alloc::Global;
+use versioned_book::KeyHashing;
 
 /// The books of the disk's checkpoint, where it has one whose position isn't above the count.
 #[tactic(auto, using(crate::proofs::InStore::none_stored, crate::proofs::InStore::other_figures, crate::proofs::InStore::stored_all))]
@@ -88,7 +89,8 @@ fn books_behind<E: Disk>(
     ensures sound { IfOk result (λ found. IfSome found (λ books. AreSoundBooks books × (books.position ≡ front.position))) }
     ensures behind { E.honest disk.new → IfOk result (λ found. AreBooksBehind (E.reads disk.old) front found) }
 {
-    let Ok(policies) = IndexMap::with_capacity(alloc, front.policies as usize) else {
+    let many = front.policies as usize;
+    let Ok(policies) = IndexMap::with_capacity_and_hasher(alloc, many, KeyHashing) else {
         return Err(ReopenFault::NoMemory);
     };
     let mut books = NumberedBooks {

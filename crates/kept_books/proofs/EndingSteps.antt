@@ -63,12 +63,12 @@ module _ {D E : Type 0} (g : Ghosts D) (e : Ghosts E) (disk : D) (second : E) (o
     (output : Stream) where
   pub ends_state : (finished : FinishedKept D E) (text : Result (Vec ℕ Global) Lack) (ending : Ending)
       → finished.disk ≡ disk_of opened.journal → finished.second ≡ store_disk opened.store → finished.ending ≡ ending
-      → IfOk text (λ t. t.items ≡ snapshot_text opened.snapshot) → EndsText text output ending
+      → IfOk text (λ t. t.items ≡ snapshot_text opened.books) → EndsText text output ending
       → EndsStateKept g e (disks_of disk second finished) output finished.ending
   ends_state finished text ending first kept same_ending same ends =
       subst (λ (disks : TwoDisks D E). EndsStateKept g e disks output finished.ending) (same_disks disk second opened finished first kept)
       (subst (EndsStateKept g e (disks_under disk second opened) output) (sym same_ending) (record {
-        telling = ends_told g e (disks_under disk second opened) output opened.snapshot snapshot_text text ending reopened.held reopened.quiet same ends;
+        telling = ends_told g e (disks_under disk second opened) output opened.books snapshot_text text ending reopened.held reopened.quiet same ends;
         first = reopened.alone;
         second = reopened.only_read;
       }))
@@ -78,8 +78,8 @@ module _ {D E : Type 0} (g : Ghosts D) (e : Ghosts E) (disk : D) (second : E) (o
     saved_disks = record { old = disk; new = disk_of opened.journal; second = second; kept = store_disk after }
 
     -- what is said of the saving, with the disks as they are behind it
-    module _ (tried : HasTried opened.store after opened.snapshot) where
-      still_held : IsHeldWhereTrue g e saved_disks opened.snapshot
+    module _ (tried : HasTried opened.store after opened.books) where
+      still_held : IsHeldWhereTrue g e saved_disks opened.books
       still_held are =
           reopened.held (record { first_honest = are.first_honest; second_honest = tried.honesty are.second_honest; truth = are.truth })
 
@@ -90,15 +90,15 @@ module _ {D E : Type 0} (g : Ghosts D) (e : Ghosts E) (disk : D) (second : E) (o
         first = reopened.alone;
         honesty = λ honest. reopened.only_read.honesty (tried.honesty honest);
         order = λ honest second_honest. inr (reopened.safe honest);
-        since = since_tried g e only_now saved_disks opened.snapshot still_held opened.store after reopened.only_read reopened.looked tried refl;
-        now = now_tried g e only_now saved_disks opened.snapshot still_held opened.store after reopened.only_read reopened.looked tried refl;
+        since = since_tried g e only_now saved_disks opened.books still_held opened.store after reopened.only_read reopened.looked tried refl;
+        now = now_tried g e only_now saved_disks opened.books still_held opened.store after reopened.only_read reopened.looked tried refl;
       }
 
-    saved_so : (saved : HasSaved opened.store after opened.snapshot) (Wrote : List ℕ → Type 0) → Wrote (checkpoint_text opened.snapshot)
+    saved_so : (saved : HasSaved opened.store after opened.books) (Wrote : List ℕ → Type 0) → Wrote (checkpoint_text opened.books)
         → IsSaved g e saved_disks Wrote
     saved_so saved Wrote wrote = record {
       told = record {
-        snapshot = opened.snapshot;
+        snapshot = opened.books;
         wrote = wrote;
         held = still_held saved.tried;
         quiet = record { first = reopened.quiet.first; second = saved.quiet ∙ reopened.quiet.second };
@@ -106,7 +106,7 @@ module _ {D E : Type 0} (g : Ghosts D) (e : Ghosts E) (disk : D) (second : E) (o
       saved = λ honest image left. saved.saved honest (reopened.looked (saved.tried.honesty honest)).knows image left;
     }
 
-    saving_ends : (ending : Ending) → EndsSaving opened.store after opened.snapshot output ending → EndsCheckpoint g e saved_disks output ending
+    saving_ends : (ending : Ending) → EndsSaving opened.store after opened.books output ending → EndsCheckpoint g e saved_disks output ending
     saving_ends Done ends = checkpoint_ends ends.0.tried Done (saved_so ends.0 (WroteAll output) ends.1)
     saving_ends WriteFault ends =
         checkpoint_ends ends.0.tried WriteFault (ends.1, saved_so ends.0 (AppendsPart output.before output.after) ends.2)
@@ -129,7 +129,7 @@ module _ {D E : Type 0} (g : Ghosts D) (e : Ghosts E) (disk : D) (second : E) (o
 
   pub ends_checkpoint : OnlyNow e → (now : Reopened D E g e) (finished : FinishedKept D E) (ending : Ending) → now.journal ≡ opened.journal
       → finished.disk ≡ disk_of now.journal → finished.second ≡ store_disk now.store → finished.ending ≡ ending
-      → EndsSaving opened.store now.store opened.snapshot output ending → EndsCheckpoint g e (disks_of disk second finished) output finished.ending
+      → EndsSaving opened.store now.store opened.books output ending → EndsCheckpoint g e (disks_of disk second finished) output finished.ending
   ends_checkpoint only_now now finished ending same first kept same_ending ends =
       let disks : saved_disks only_now now.store ≡ disks_of disk second finished =
       ap₂ (λ new kept. record { old = disk; new = new; second = second; kept = kept }) (ap disk_of (sym same) ∙ sym first) (sym kept) in

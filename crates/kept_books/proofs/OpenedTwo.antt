@@ -219,24 +219,24 @@ module _ {D E : Type 0} (g : Ghosts D) (e : Ghosts E) (reads_image : ReadsImage 
   both_quiet second_quiet first_quiet = record { first = first_quiet ∙ on.quiet; second = second_quiet ∙ under.quiet }
 
   pub has_reopened : OnlyNow g → (opened : Reopened D E g e) → opened.journal ≡ now → opened.store ≡ after
-      → IsSoundSnapshot opened.snapshot
-      → HasCauseOfTwo (e.faults (store_disk store)) (e.faults (store_disk after)) (g.faults (disk_of journal)) (g.faults (disk_of now)) (Ok opened.snapshot)
-      → Answers journal now store after (Ok opened.snapshot) → HasReopened disk second opened
+      → IsSoundSnapshot opened.books
+      → HasCauseOfTwo (e.faults (store_disk store)) (e.faults (store_disk after)) (g.faults (disk_of journal)) (g.faults (disk_of now)) (Ok opened.books)
+      → Answers journal now store after (Ok opened.books) → HasReopened disk second opened
   has_reopened only_now opened same_journal same_store sound cause answers =
       let quiet = both_quiet cause.0 cause.1 in
       let first : IsLeftAlone g disk (disk_of now) = first_alone g reads_image counts_now disk journal now on stays in
-      let held : IsHeldWhereTrue g e disks opened.snapshot =
-      λ are. snapshot_held g reads_image counts_now disk journal now on stays only_now quiet.first are.first_honest opened.snapshot
-      (answered (Ok opened.snapshot) answers are) in
+      let held : IsHeldWhereTrue g e disks opened.books =
+      λ are. snapshot_held g reads_image counts_now disk journal now on stays only_now quiet.first are.first_honest opened.books
+      (answered (Ok opened.books) answers are) in
       by opened.journal opened.store same_journal same_store
       (record { sound = sound; quiet = quiet; alone = first; safe = made_safe g reads_image counts_now disk journal now on stays; only_read = second_read e second store after under keeps; looked = looked e second store after under keeps; held = held })
     where
       by : (j : Journal D g) (s : Store E e) → j ≡ now → s ≡ after
-          → HasReopened disk second (record { snapshot = opened.snapshot; journal = now; store = after })
-          → HasReopened disk second (record { snapshot = opened.snapshot; journal = j; store = s })
+          → HasReopened disk second (record { books = opened.books; journal = now; store = after })
+          → HasReopened disk second (record { books = opened.books; journal = j; store = s })
       by j s same other h =
-          subst (λ j. HasReopened disk second (record { snapshot = opened.snapshot; journal = j; store = s })) (sym same)
-          (subst (λ s. HasReopened disk second (record { snapshot = opened.snapshot; journal = now; store = s })) (sym other) h)
+          subst (λ j. HasReopened disk second (record { books = opened.books; journal = j; store = s })) (sym same)
+          (subst (λ s. HasReopened disk second (record { books = opened.books; journal = now; store = s })) (sym other) h)
 
   pub has_no_snapshot : (fault : ReopenFault)
       → HasCauseOfTwo (e.faults (store_disk store)) (e.faults (store_disk after)) (g.faults (disk_of journal)) (g.faults (disk_of now)) (Err fault)

@@ -8,7 +8,7 @@ ghost use Rattle.kept_books.specs.inside.Saving.{EndsSaving};
 
 use crate::finished::FinishedKept;
 use crate::reopened::reopen_both;
-use checkpoint_store::{Snapshot, Store};
+use checkpoint_store::{Books, Store};
 use outside_io::{Disk, Sink};
 use policy_types::NoMemory;
 use program_endings::{Ending, end, lack_memory, refuse_journal, write_text};
@@ -29,7 +29,7 @@ pub fn checkpoint<K: Sink, D: Disk, E: Disk>(
     match reopen_both(alloc, disk, second) {
         Ok(opened) => {
             let mut opened = opened;
-            let ending = save(alloc, &opened.snapshot, &mut opened.store, output);
+            let ending = save(alloc, &opened.books, &mut opened.store, output);
             opened.close(ending)
         }
         Err(none) => FinishedKept {
@@ -40,33 +40,33 @@ pub fn checkpoint<K: Sink, D: Disk, E: Disk>(
     }
 }
 
-// Saves a snapshot, and writes its line. Without memory for the line nothing is saved.
+// Saves the books' snapshot, and writes its line. Without memory for both nothing is saved.
 fn save<K: Sink, E: Disk>(
     alloc: Global,
-    snapshot: &Snapshot,
+    books: &Books,
     store: &mut Store<E>,
     output: &mut K,
 ) -> Ending
-    requires { IsSoundSnapshot snapshot.now }
-    ensures { EndsSaving store.old store.new snapshot.now
+    requires { IsSoundSnapshot books.now }
+    ensures { EndsSaving store.old store.new books.now
         (between K.faults K.written output.old output.new) result }
 {
-    let Ok(line) = line_of(alloc, snapshot) else {
+    let (Ok(snapshot), Ok(line)) = (books.snapshot(alloc), line_of(alloc, books)) else {
         return lack_memory(output);
     };
-    match store.save(snapshot) {
+    match store.save(&snapshot) {
         Ok(()) => write_text(Ok(line), output),
         Err(_) => end(output, b"diskfault\n", Ending::DiskFault),
     }
 }
 
 // The line of a snapshot that was saved.
-fn line_of(alloc: Global, snapshot: &Snapshot) -> Result<Vec<u8>, NoMemory>
-    ensures { IfOk result (λ text. text.items ≡ checkpoint_text snapshot.now) }
+fn line_of(alloc: Global, books: &Books) -> Result<Vec<u8>, NoMemory>
+    ensures { IfOk result (λ text. text.items ≡ checkpoint_text books.now) }
 {
     let mut line = LineWriter::new(alloc);
     line.first("checkpoint")?;
-    line.number(snapshot.position)?;
+    line.number(books.position())?;
     line.end()?;
     Ok(line.into_text().into_vec())
 }

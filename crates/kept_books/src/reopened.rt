@@ -7,7 +7,7 @@ ghost use Rattle.kept_books.specs.TwoDisks.{TwoDisks};
 
 use crate::finished::FinishedKept;
 use book_state::cause_of;
-use checkpoint_store::{ReopenFault, Snapshot, Store, reopen};
+use checkpoint_store::{Books, ReopenFault, Store, reopen_books};
 use office_state::StartCause;
 use outside_io::{Disk, Steps};
 use posting_journal::Journal;
@@ -16,10 +16,10 @@ use std::alloc::Global;
 use std::marker::Brand;
 use std::sync::ledger::{Blank, Ledger};
 
-/// A journal and a store on their disks, and the journal's snapshot.
+/// A journal and a store on their disks, and the journal's books.
 #[derive(Drop)]
 pub struct Reopened<D: Disk, E: Disk> {
-    pub snapshot: Snapshot,
+    pub books: Books,
     pub journal: Journal<D>,
     pub store: Store<E>,
 }
@@ -91,9 +91,9 @@ fn read_snapshot<D: Disk, E: Disk, L: Ledger>(
     let mut journal = journal;
     let mut store = store;
     let mut steps: Steps<L> = Steps::open(blank);
-    match reopen(alloc, &mut store, &mut journal, &mut steps) {
-        Ok(snapshot) => Ok(Reopened {
-            snapshot,
+    match reopen_books(alloc, &mut store, &mut journal, &mut steps) {
+        Ok(books) => Ok(Reopened {
+            books,
             journal,
             store,
         }),

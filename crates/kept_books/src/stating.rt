@@ -10,7 +10,7 @@ ghost use Rattle.kept_books.specs.TwoDisks.{disks_of};
 
 use crate::finished::FinishedKept;
 use crate::reopened::reopen_both;
-use checkpoint_store::Snapshot;
+use checkpoint_store::Books;
 use outside_io::{Disk, Sink};
 use policy_types::{NoMemory, Policy};
 use program_endings::{add, refuse_journal, write_text};
@@ -32,7 +32,7 @@ pub fn state_kept<K: Sink, D: Disk, E: Disk>(
 {
     match reopen_both(alloc, disk, second) {
         Ok(opened) => {
-            let text = text_of(alloc, &opened.snapshot);
+            let text = text_of(alloc, &opened.books);
             let ending = write_text(text, output);
             opened.close(ending)
         }
@@ -44,13 +44,13 @@ pub fn state_kept<K: Sink, D: Disk, E: Disk>(
     }
 }
 
-// The text of a snapshot.
-fn text_of(alloc: Global, snapshot: &Snapshot) -> Result<Vec<u8>, NoMemory>
-    requires { IsSoundSnapshot snapshot.now }
-    ensures { IfOk result (λ text. text.items ≡ snapshot_text snapshot.now) }
+// The text of the books.
+fn text_of(alloc: Global, books: &Books) -> Result<Vec<u8>, NoMemory>
+    requires { IsSoundSnapshot books.now }
+    ensures { IfOk result (λ text. text.items ≡ snapshot_text books.now) }
 {
-    let mut text = policies_of(alloc, snapshot.book.as_slice())?.into_vec();
-    let balances = balance(alloc, &snapshot.ledger, snapshot.position)?;
+    let mut text = policies_of(alloc, books.policies())?.into_vec();
+    let balances = balance(alloc, &books.ledger(), books.position())?;
     add(&mut text, balances.as_slice())?;
     Ok(text)
 }

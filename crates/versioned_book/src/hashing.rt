@@ -8,7 +8,7 @@ use std::hash::{BuildHasher, Hasher};
 /// A hasher of keys of four bytes, of which it knows those last written. It is fixed, as the kit's own hasher is: keys that
 /// are picked against either can make a map slow, and no answer wrong.
 #[derive(Clone, Copy)]
-pub(crate) struct KeyHasher {
+pub struct KeyHasher {
     key: u32,
 }
 
@@ -44,7 +44,7 @@ fn spread(row: u64) -> u64
 
 /// Makes hashers of keys.
 #[derive(Clone, Copy)]
-pub(crate) struct KeyHashing;
+pub struct KeyHashing;
 
 impl BuildHasher for KeyHashing {
     type Hasher = KeyHasher;

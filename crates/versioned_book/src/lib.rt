@@ -7,3 +7,4 @@ mod hashing;
 
 pub use book::VersionedBook;
 pub use chain::Chain;
+pub use hashing::{KeyHasher, KeyHashing};

@@ -47,13 +47,13 @@ disks_under disk second opened =
 -- The snapshot was read, with neither disk failing. Both were only looked at, but for a creation that was ended.
 pub record HasReopened {D E : Type 0} {g : Ghosts D} {e : Ghosts E} (disk : D) (second : E)
     (opened : Reopened D E g e) : Type 0 where
-  pub sound : IsSoundSnapshot opened.snapshot
+  pub sound : IsSoundSnapshot opened.books
   pub quiet : AreBothQuiet g e (disks_under disk second opened)
   pub alone : IsLeftAlone g disk (disk_of opened.journal)
   pub safe : g.honest (disk_of opened.journal) → IsMadeSafe g disk (disk_of opened.journal)
   pub only_read : IsOnlyRead e second (store_disk opened.store)
   pub looked : e.honest (store_disk opened.store) → HasLookedAt second opened.store
-  pub held : IsHeldWhereTrue g e (disks_under disk second opened) opened.snapshot
+  pub held : IsHeldWhereTrue g e (disks_under disk second opened) opened.books
 
 -- one of the disks failed, or neither, by the cause
 abbrev pub TellsFaultOfOne : {D E : Type 0} → Ghosts D → Ghosts E → TwoDisks D E → StartCause → Type 0
