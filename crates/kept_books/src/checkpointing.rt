@@ -8,7 +8,7 @@ ghost use Rattle.kept_books.specs.inside.Saving.{EndsSaving};
 
 use crate::finished::FinishedKept;
 use crate::reopened::reopen_both;
-use checkpoint_store::{Books, Store};
+use checkpoint_store::{Books, Snapshot, Store};
 use outside_io::{Disk, Sink};
 use policy_types::NoMemory;
 use program_endings::{Ending, end, lack_memory, refuse_journal, write_text};
@@ -29,7 +29,7 @@ pub fn checkpoint<K: Sink, D: Disk, E: Disk>(
     match reopen_both(alloc, disk, second) {
         Ok(opened) => {
             let mut opened = opened;
-            let ending = save(alloc, &opened.books, &mut opened.store, output);
+            let ending = save_books(alloc, &opened.books, &mut opened.store, output);
             opened.close(ending)
         }
         Err(none) => FinishedKept {
@@ -40,8 +40,8 @@ pub fn checkpoint<K: Sink, D: Disk, E: Disk>(
     }
 }
 
-// Saves the books' snapshot, and writes its line. Without memory for both nothing is saved.
-fn save<K: Sink, E: Disk>(
+// Saves the books' snapshot, and writes its line. Without memory for it nothing is saved.
+fn save_books<K: Sink, E: Disk>(
     alloc: Global,
     books: &Books,
     store: &mut Store<E>,
@@ -51,22 +51,39 @@ fn save<K: Sink, E: Disk>(
     ensures { EndsSaving store.old store.new books.now
         (between K.faults K.written output.old output.new) result }
 {
-    let (Ok(snapshot), Ok(line)) = (books.snapshot(alloc), line_of(alloc, books)) else {
+    match books.snapshot(alloc) {
+        Ok(snapshot) => save(alloc, &snapshot, store, output),
+        Err(_) => lack_memory(output),
+    }
+}
+
+// Saves a snapshot, and writes its line. Without memory for the line nothing is saved.
+fn save<K: Sink, E: Disk>(
+    alloc: Global,
+    snapshot: &Snapshot,
+    store: &mut Store<E>,
+    output: &mut K,
+) -> Ending
+    requires { IsSoundSnapshot snapshot.now }
+    ensures { EndsSaving store.old store.new snapshot.now
+        (between K.faults K.written output.old output.new) result }
+{
+    let Ok(line) = line_of(alloc, snapshot) else {
         return lack_memory(output);
     };
-    match store.save(&snapshot) {
+    match store.save(snapshot) {
         Ok(()) => write_text(Ok(line), output),
         Err(_) => end(output, b"diskfault\n", Ending::DiskFault),
     }
 }
 
 // The line of a snapshot that was saved.
-fn line_of(alloc: Global, books: &Books) -> Result<Vec<u8>, NoMemory>
-    ensures { IfOk result (λ text. text.items ≡ checkpoint_text books.now) }
+fn line_of(alloc: Global, snapshot: &Snapshot) -> Result<Vec<u8>, NoMemory>
+    ensures { IfOk result (λ text. text.items ≡ checkpoint_text snapshot.now) }
 {
     let mut line = LineWriter::new(alloc);
     line.first("checkpoint")?;
-    line.number(books.position())?;
+    line.number(snapshot.position)?;
     line.end()?;
     Ok(line.into_text().into_vec())
 }

@@ -5,8 +5,8 @@ use Rattle.kept_books.proofs.reopened.read_snapshot.Goals as goal
 pub returns-in-Ok-clause-reopened : goal.returns-in-Ok-clause-reopened
 returns-in-Ok-clause-reopened g c disk second on under =
     let done = c.in-Ok.ensures in
-    has_reopened g.D.Disk g.E.Disk g.met.D.Disk.reads_as_image g.met.D.Disk.counts_now disk c.args.journal c.reopen.new.journal on done.journal
-    second c.args.store c.reopen.new.store under done.store g.met.D.Disk.only_now _ refl refl done.sound done.cause
+    has_reopened g.D.Disk g.E.Disk g.met.D.Disk.reads_as_image g.met.D.Disk.counts_now disk c.args.journal c.reopen_books.new.journal on done.journal
+    second c.args.store c.reopen_books.new.store under done.store g.met.D.Disk.only_now _ refl refl done.sound done.cause
     (λ bodies faulted second_honest honest stands are. done.reopened bodies faulted second_honest honest stands are)
 
 pub returns-clause-none : goal.returns-clause-none
@@ -14,6 +14,6 @@ returns-clause-none g c disk second on under =
     let done = c.in-Err.ensures in
     renamed g.D.Disk g.E.Disk disk _ c.release.result second _ c.release-in-Err.result _ c.start_cause.result
     c.release.ensures c.release-in-Err.ensures c.start_cause.ensures
-    (has_no_snapshot g.D.Disk g.E.Disk g.met.D.Disk.reads_as_image g.met.D.Disk.counts_now disk c.args.journal c.reopen.new.journal on done.journal
-    second c.args.store c.reopen.new.store under done.store c.in-Err.fault done.cause
+    (has_no_snapshot g.D.Disk g.E.Disk g.met.D.Disk.reads_as_image g.met.D.Disk.counts_now disk c.args.journal c.reopen_books.new.journal on done.journal
+    second c.args.store c.reopen_books.new.store under done.store c.in-Err.fault done.cause
     (λ bodies faulted second_honest honest stands are. done.reopened bodies faulted second_honest honest stands are))
