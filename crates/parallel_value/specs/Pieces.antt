@@ -35,3 +35,7 @@ module _ {P I O : Type 0} where
 abbrev pub AreBoth : {O : Type 0} → Result (Vec O Global) NoMemory → Result (Vec O Global) NoMemory → List O → Type 0
 AreBoth (Ok front) (Ok back) values = values ≡ front.items ++ back.items
 AreBoth _ _ _ = ⊥
+
+-- such values were added behind those that were there
+abbrev pub Adds : {O : Type 0} → (List O → Type 0) → (old new : List O) → Type 0
+Adds {O} AreSuch old new = (added : List O) × (new ≡ old ++ added) × AreSuch added

@@ -5,7 +5,9 @@ mod filling;
 mod mapping;
 mod piece;
 mod share;
+mod sharing;
 
 pub use filling::map_into;
 pub use mapping::map_in;
 pub use piece::{NoMemory, Piece};
+pub use sharing::map_onto;

@@ -104,7 +104,7 @@ fn map_by_one<I, O: Drop, P: Piece<I, O>>(
 }
 
 // The values of the items by one worker.
-fn map_alone<I, O: Drop, P: Piece<I, O>>(
+pub(crate) fn map_alone<I, O: Drop, P: Piece<I, O>>(
     alloc: Global,
     piece: &mut P,
     items: &[I],
@@ -123,7 +123,7 @@ fn map_alone<I, O: Drop, P: Piece<I, O>>(
 }
 
 // Both lists, one behind the other.
-fn both<O: Drop>(
+pub(crate) fn both<O: Drop>(
     front: Result<Vec<O>, NoMemory>,
     back: Result<Vec<O>, NoMemory>,
 ) -> Result<Vec<O>, NoMemory>

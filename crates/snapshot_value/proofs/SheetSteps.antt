@@ -26,19 +26,6 @@ pub still_with : (workers : Vec Worker Global) (new : List Worker) → AreAsBefo
 still_with workers new still =
     rw (with_items_is workers new (AllZip-long (IsAsBefore TakesPolicy GivesRow) workers.items new still ∙ sym workers.ok.0)) still
 
--- room is made behind the rows
-pub rows_made : {A E : Type 0} (all : ℕ) (old blank new : List Row) (result : Result A E) → is_ok result ≡ true → length old ≤ all
-    → new ≡ cond (is_ok result) (take all old ++ blank) old → new ≡ old ++ blank
-rows_made all old blank new (Ok done) ok fits made = made ∙ ap (λ front. front ++ blank) (take_all all old fits)
-rows_made all old blank new (Err fault) ok fits made = let no : false ≡ true = ok in absurd (cc)
-
--- the rows that were written behind those that were there
-pub rows_behind : (rows : Vec Row Global) (old blank new : List Row) (valued : ℕ) → valued ≡ length old → rows.items ≡ old ++ blank
-    → length new ≡ length rows.items → take valued new ≡ take valued rows.items → (with_items rows new).items ≡ old ++ drop valued new
-rows_behind rows old blank new valued many room long kept =
-    with_items_is rows new (long ∙ sym rows.ok.0) ∙ sym (take-append-drop valued new)
-    ∙ ap (λ front. front ++ drop valued new) (kept ∙ ap (take valued) room ∙ take_at old blank valued (sym many))
-
 -- after they were valued, policies can be read and valued again
 pub can_valued : (old new : Worksheet) → IsSheetReady old → AreAsBefore TakesPolicy GivesRow old.workers.items new.workers.items → new.read.items ≡ []
     → IsSheetReady new

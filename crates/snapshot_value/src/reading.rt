@@ -48,10 +48,10 @@ pub fn rows_of<D: Disk, W: Watching, G: Gate, R: Threads + Wait + Sync>(
     let mut sheet = Worksheet::new(alloc, basis, on, measure, workers, pin.policies() as usize)?;
     for k in 0..pin.policies().div_ceil(POLICIES_PER_READ) {
         read_part(rt, office, pass, pin, k, &mut batch);
-        sheet.add(rt, batch.policies())?;
+        sheet.add(rt, alloc, batch.policies())?;
         gate.at(rt, lane, k + 1);
     }
-    sheet.value_read(rt)?;
+    sheet.value_read(rt, alloc)?;
     Ok(Rows::new(sheet.into_rows()))
 }
 

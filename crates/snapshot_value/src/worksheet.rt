@@ -2,7 +2,7 @@
 ghost use Rattle.std.specs.Prelude.{◌≡◌, ◌≤◌, ℤ, List, [], ◌++◌, ◌+◌, ◌*◌, IfOk, OnOk, length, min, take, drop};
 ghost use Rattle.std.specs.List.{AllByRecursion};
 ghost use Rattle.basis_book.specs.Dated.{Dated};
-ghost use Rattle.parallel_value.specs.Pieces.{AreAsBefore};
+ghost use Rattle.parallel_value.specs.Pieces.{Adds, AreAsBefore};
 ghost use Rattle.policy_machine.specs.Rules.{IsSound};
 ghost use Rattle.policy_types.specs.declared.policy.Policy.{Policy as APolicy};
 ghost use Rattle.policy_value.specs.declared.worth.Measure.{Measure as AMeasure};
@@ -11,9 +11,9 @@ ghost use Rattle.snapshot_value.specs.inside.Workers.{GivesRow, IsReadyWorker, T
 
 use crate::worker::Worker;
 use basis_book::Basis;
-use parallel_value::map_into;
-use policy_types::{NoMemory, Policy, Status};
-use policy_value::{ColumnCache, Measure, Row, Worth};
+use parallel_value::map_onto;
+use policy_types::{NoMemory, Policy};
+use policy_value::{ColumnCache, Measure, Row};
 use std::alloc::Global;
 use std::thread::Threads;
 
@@ -26,14 +26,6 @@ const POLICIES_READ_FOR_A_WORKER: usize = 32_768;
 
 /// The most policies that are read before they are valued.
 const POLICIES_TOGETHER: usize = 131_072;
-
-/// What stands in a row's place until it is valued.
-const BLANK: Row = Row {
-    id: 0,
-    status: Status::InForce,
-    t: 0,
-    worth: Worth::Bounds { lo: 0, hi: 0 },
-};
 
 /// The columns of present values that all workers together keep, of some 2 kB each.
 const COLUMNS_KEPT: u32 = 8_192;
@@ -76,7 +68,12 @@ impl<'a> Worksheet<'a> {
     }
 
     /// Adds policies to those that were read, which are valued first where they are enough.
-    pub fn add<R: Threads + Sync>(&mut self, rt: &R, part: &[Policy]) -> Result<(), NoMemory>
+    pub fn add<R: Threads + Sync>(
+        &mut self,
+        rt: &R,
+        alloc: Global,
+        part: &[Policy],
+    ) -> Result<(), NoMemory>
         requires can { IsSheetReady self.old }
         requires sound { AllByRecursion IsSound part.now }
         ensures made { (basis : List Dated) (on : ℤ) (measure : AMeasure) (policies : List APolicy)
@@ -84,13 +81,13 @@ impl<'a> Worksheet<'a> {
             → OnOk result (HasMade basis on measure (policies ++ part.now) self.new) }
     {
         if together(self.workers.len()) <= self.read.len() {
-            self.value_read(rt)?;
+            self.value_read(rt, alloc)?;
         }
         self.put(part)
     }
 
-    /// Values the policies that were read: the workers write the rows behind those that are there.
-    pub fn value_read<R: Threads + Sync>(&mut self, rt: &R) -> Result<(), NoMemory>
+    /// Values the policies that were read: the workers add the rows to those that are there.
+    pub fn value_read<R: Threads + Sync>(&mut self, rt: &R, alloc: Global) -> Result<(), NoMemory>
         requires can { IsSheetReady self.old }
         ensures can { OnOk result (IsSheetReady self.new) }
         ensures none { OnOk result (self.new.read.items ≡ []) }
@@ -98,14 +95,9 @@ impl<'a> Worksheet<'a> {
             → HasMade basis on measure policies self.old
             → OnOk result (HasMade basis on measure policies self.new) }
     {
-        let valued = self.rows.len();
-        let all = valued + self.read.len();
-        if self.rows.resize(all, BLANK).is_err() {
-            return Err(NoMemory);
-        }
         let policies = self.read.as_slice();
-        let rows = self.rows.as_mut_slice();
-        value_all(rt, self.workers.as_mut_slice(), policies, valued, rows);
+        let workers = self.workers.as_mut_slice();
+        value_all(rt, alloc, workers, policies, &mut self.rows)?;
         self.read.clear();
         Ok(())
     }
@@ -164,24 +156,24 @@ fn workers_for<'a>(
     Ok(workers)
 }
 
-// Writes the rows of policies behind the first so many rows, by all workers.
+// Adds the rows of policies, by all workers.
 fn value_all<R: Threads + Sync>(
     rt: &R,
+    alloc: Global,
     workers: &mut [Worker<'_>],
     policies: &[Policy],
-    valued: usize,
-    rows: &mut [Row],
-)
+    rows: &mut Vec<Row>,
+) -> Result<(), NoMemory>
     requires some { 1 ≤ length workers.old }
     requires few { length workers.old ≤ 64 }
     requires ready { AllByRecursion IsReadyWorker workers.old }
     requires sound { AllByRecursion IsSound policies.now }
-    requires places { length rows.old ≡ valued + length policies.now }
-    ensures valued { take valued rows.new ≡ take valued rows.old }
     ensures rows { (basis : List Dated) (on : ℤ) (measure : AMeasure) → AllByRecursion (ValuesBy basis on measure) workers.old
-        → AreSmallRows basis on measure policies.now (drop valued rows.new) }
+        → OnOk result (Adds (AreSmallRows basis on measure policies.now) rows.old.items rows.new.items) }
     ensures workers { AreAsBefore TakesPolicy GivesRow workers.old workers.new }
 {
-    let (_, places) = rows.split_at_mut(valued);
-    map_into(rt, workers, policies, places);
+    match map_onto(rt, alloc, workers, policies, rows) {
+        Ok(()) => Ok(()),
+        Err(_) => Err(NoMemory),
+    }
 }

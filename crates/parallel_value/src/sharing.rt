@@ -1,0 +1,266 @@
+// The items are cut into parts, and each worker takes the next part that none has taken, until none is left. So a worker
+// whose processor is slow, or has other work, delays nobody.
+//
+// Which parts a worker takes is told by no clause, and needn't be: what it made of a part are that part's values, whoever
+// made them, and each part's are looked for in the end. One that wasn't found would be made then.
+ghost use Rattle.std.specs.Prelude.{◌≡◌, ◌≤◌, ◌++◌, ℕ, List, IfOk, IfSome, OnOk, length, take, drop};
+ghost use Rattle.std.specs.List.{AllByRecursion, AllZip, IsAmong};
+ghost use Rattle.std.specs.Thread.{IsSync, IsSend};
+ghost use Rattle.parallel_value.specs.Pieces.{Adds, AreAsBefore, AreValues, IsAsBefore, TakeAll};
+ghost use Rattle.parallel_value.specs.inside.Parts.{AreMade, IsMade, IsOneOf};
+
+use crate::mapping::{both, map_alone};
+use crate::{NoMemory, Piece};
+use std::alloc::Global;
+use std::sync::atomic::{AtomicUsize, Ordering};
+use std::thread::{Threads, join_mut};
+
+/// The items of a part: so few that the last parts take no time, and so many that taking one does not count.
+const ITEMS_IN_PART: usize = 512;
+
+/// What one worker made of one part: the values of its items, from the first on.
+#[derive(Drop)]
+pub(crate) struct Made<O> {
+    first: usize,
+    values: Vec<O>,
+}
+
+/// Adds the values of the items to those that are there, in their order. Each worker but one has a thread of its own; one
+/// worker alone starts no thread.
+pub fn map_onto<R: Threads + Sync, I: Sync, O: Copy + Send + Drop, P: Piece<I, O> + Send>(
+    rt: &R,
+    alloc: Global,
+    pieces: &mut [P],
+    items: &[I],
+    values: &mut Vec<O>,
+) -> Result<(), NoMemory>
+    requires workers { (1 ≤ length pieces.old) × (length pieces.old ≤ 64) }
+    requires taken { TakeAll P.takes pieces.old items.now }
+    ensures values { OnOk result (Adds (AreValues P.gives pieces.old items.now) values.old.items values.new.items) }
+    ensures pieces { AreAsBefore P.takes P.gives pieces.old pieces.new }
+{
+    if pieces.len() < 2 {
+        return add_by_one(pieces, items, values);
+    }
+    let made = make_parts(rt, alloc, pieces, items, &AtomicUsize::new(0))?;
+    add_parts(&mut pieces[0], items, made.as_slice(), values)
+}
+
+// Sets the worker in front going, and then the others.
+#[cycle(sharing)]
+fn make_parts<R: Threads + Sync, I: Sync, O: Copy + Send + Drop, P: Piece<I, O> + Send>(
+    rt: &R,
+    alloc: Global,
+    pieces: &mut [P],
+    items: &[I],
+    next: &AtomicUsize,
+) -> Result<Vec<Made<O>>, NoMemory>
+    requires workers { (1 ≤ length pieces.old) × (length pieces.old ≤ 64) }
+    requires taken { TakeAll P.takes pieces.old items.now }
+    ensures made { IfOk result (λ made. AreMade P.gives pieces.old items.now made.items) }
+    ensures pieces { AreAsBefore P.takes P.gives pieces.old pieces.new }
+{
+    if pieces.len() < 2 {
+        return make_by_one(alloc, pieces, items, next);
+    }
+    let (front, back) = pieces.split_at_mut(1);
+    make_both(rt, alloc, front, back, items, next)
+}
+
+// Parts are made by the workers in front and by those behind at the same time.
+#[cycle(sharing)]
+fn make_both<R: Threads + Sync, I: Sync, O: Copy + Send + Drop, P: Piece<I, O> + Send>(
+    rt: &R,
+    alloc: Global,
+    front: &mut [P],
+    back: &mut [P],
+    items: &[I],
+    next: &AtomicUsize,
+) -> Result<Vec<Made<O>>, NoMemory>
+    requires front { (1 ≤ length front.old) × (length front.old ≤ 64) }
+    requires back { (1 ≤ length back.old) × (length back.old ≤ 64) }
+    requires first { TakeAll P.takes front.old items.now }
+    requires last { TakeAll P.takes back.old items.now }
+    ensures made { IfOk result (λ made. AreMade P.gives (front.old ++ back.old) items.now made.items) }
+    ensures front { AreAsBefore P.takes P.gives front.old front.new }
+    ensures back { AreAsBefore P.takes P.gives back.old back.new }
+{
+    let (left, right) = join_mut(
+        rt,
+        &mut || -> Result<Vec<Made<O>>, NoMemory>
+            requires sync { IsSync R.row × IsSync I.row × IsSend O.row × IsSend P.row }
+            requires workers { (1 ≤ length front.now) × (length front.now ≤ 64) }
+            requires taken { TakeAll P.takes front.now items.now }
+            ensures made { IfOk result (λ made. AreMade P.gives front.entry.now items.entry.now made.items) }
+            ensures pieces { AreAsBefore P.takes P.gives front.entry.now front.exit.now }
+        { make_parts(rt, alloc, front, items, next) },
+        &mut || -> Result<Vec<Made<O>>, NoMemory>
+            requires sync { IsSync R.row × IsSync I.row × IsSend O.row × IsSend P.row }
+            requires workers { (1 ≤ length back.now) × (length back.now ≤ 64) }
+            requires taken { TakeAll P.takes back.now items.now }
+            ensures made { IfOk result (λ made. AreMade P.gives back.entry.now items.entry.now made.items) }
+            ensures pieces { AreAsBefore P.takes P.gives back.entry.now back.exit.now }
+        { make_parts(rt, alloc, back, items, next) },
+    );
+    both(left, right)
+}
+
+// The one worker makes parts.
+fn make_by_one<I, O: Drop, P: Piece<I, O>>(
+    alloc: Global,
+    pieces: &mut [P],
+    items: &[I],
+    next: &AtomicUsize,
+) -> Result<Vec<Made<O>>, NoMemory>
+    requires one { length pieces.old ≡ 1 }
+    requires taken { TakeAll P.takes pieces.old items.now }
+    ensures made { IfOk result (λ made. AreMade P.gives pieces.old items.now made.items) }
+    ensures pieces { AreAsBefore P.takes P.gives pieces.old pieces.new }
+{
+    make_alone(alloc, &mut pieces[0], items, next)
+}
+
+// Takes one part after the other, until none is left.
+fn make_alone<I, O: Drop, P: Piece<I, O>>(
+    alloc: Global,
+    piece: &mut P,
+    items: &[I],
+    next: &AtomicUsize,
+) -> Result<Vec<Made<O>>, NoMemory>
+    requires taken { AllByRecursion (P.takes piece.old) items.now }
+    ensures made { IfOk result (λ made. AllByRecursion (IsMade (P.gives piece.old) items.now) made.items) }
+    ensures piece { IsAsBefore P.takes P.gives piece.old piece.new }
+{
+    let parts = items.len().div_ceil(ITEMS_IN_PART);
+    let mut made = Vec::new(alloc);
+    for _ in 0..parts {
+        let part = next.fetch_add(1, Ordering::SeqCst);
+        if part >= parts {
+            break;
+        }
+        let one = make_part(alloc, piece, items, part * ITEMS_IN_PART)?;
+        if made.push(one).is_err() {
+            return Err(NoMemory);
+        }
+    }
+    Ok(made)
+}
+
+// Makes the part of this first item.
+fn make_part<I, O: Drop, P: Piece<I, O>>(
+    alloc: Global,
+    piece: &mut P,
+    items: &[I],
+    first: usize,
+) -> Result<Made<O>, NoMemory>
+    requires within { first ≤ length items.now }
+    requires taken { AllByRecursion (P.takes piece.old) items.now }
+    ensures made { IfOk result (IsMade (P.gives piece.old) items.now) }
+    ensures piece { IsAsBefore P.takes P.gives piece.old piece.new }
+{
+    let values = map_alone(alloc, piece, part_at(items, first))?;
+    Ok(Made { first, values })
+}
+
+// The items of the part of this first item.
+fn part_at<I>(items: &[I], first: usize) -> &[I]
+    requires { first ≤ length items.now }
+    ensures { result.now ≡ take 512 (drop first items.now) }
+{
+    let left = &items[first..];
+    &left[..left.len().min(ITEMS_IN_PART)]
+}
+
+// Adds the values of all parts, in their order. The worker makes those that aren't there.
+fn add_parts<I, O: Copy + Drop, P: Piece<I, O>>(
+    piece: &mut P,
+    items: &[I],
+    made: &[Made<O>],
+    values: &mut Vec<O>,
+) -> Result<(), NoMemory>
+    requires taken { AllByRecursion (P.takes piece.old) items.now }
+    ensures values { (workers : List P) → IsOneOf P.gives workers piece.old → AreMade P.gives workers items.now made.now
+        → OnOk result (Adds (AreValues P.gives workers items.now) values.old.items values.new.items) }
+    ensures piece { IsAsBefore P.takes P.gives piece.old piece.new }
+{
+    let mut first = 0;
+    while first < items.len() {
+        let part = part_at(items, first);
+        add_part(piece, part, found(made, first), values)?;
+        first += part.len();
+    }
+    Ok(())
+}
+
+// Adds the values of a part, which the worker makes where they aren't there.
+fn add_part<I, O: Copy + Drop, P: Piece<I, O>>(
+    piece: &mut P,
+    part: &[I],
+    made: Option<&Made<O>>,
+    values: &mut Vec<O>,
+) -> Result<(), NoMemory>
+    requires taken { AllByRecursion (P.takes piece.old) part.now }
+    ensures values { (workers : List P) → IsOneOf P.gives workers piece.old
+        → IfSome made.entry (λ one. AreValues P.gives workers part.now one.now.values.items)
+        → OnOk result (Adds (AreValues P.gives workers part.now) values.old.items values.new.items) }
+    ensures piece { IsAsBefore P.takes P.gives piece.old piece.new }
+{
+    match made {
+        Some(made) => add_made(made, values),
+        None => add_alone(piece, part, values),
+    }
+}
+
+// Adds the values of a part that was made.
+fn add_made<O: Copy + Drop>(made: &Made<O>, values: &mut Vec<O>) -> Result<(), NoMemory>
+    ensures { OnOk result (values.new.items ≡ values.old.items ++ made.now.values.items) }
+{
+    match values.extend_from_slice(made.values.as_slice()) {
+        Ok(()) => Ok(()),
+        Err(_) => Err(NoMemory),
+    }
+}
+
+// The part of this first item, where it was made.
+fn found<O>(made: &[Made<O>], first: usize) -> Option<&Made<O>>
+    ensures { IfSome result (λ one. IsAmong made.now one.now × (one.now.first ≡ first)) }
+{
+    for one in made {
+        if one.first == first {
+            return Some(one);
+        }
+    }
+    None
+}
+
+// The one worker adds the values of all items.
+fn add_by_one<I, O: Drop, P: Piece<I, O>>(
+    pieces: &mut [P],
+    items: &[I],
+    values: &mut Vec<O>,
+) -> Result<(), NoMemory>
+    requires one { length pieces.old ≡ 1 }
+    requires taken { TakeAll P.takes pieces.old items.now }
+    ensures values { OnOk result (Adds (AreValues P.gives pieces.old items.now) values.old.items values.new.items) }
+    ensures pieces { AreAsBefore P.takes P.gives pieces.old pieces.new }
+{
+    add_alone(&mut pieces[0], items, values)
+}
+
+// A worker adds the values of items one after the other.
+fn add_alone<I, O: Drop, P: Piece<I, O>>(
+    piece: &mut P,
+    items: &[I],
+    values: &mut Vec<O>,
+) -> Result<(), NoMemory>
+    requires taken { AllByRecursion (P.takes piece.old) items.now }
+    ensures values { OnOk result (Adds (AllZip (P.gives piece.old) items.now) values.old.items values.new.items) }
+    ensures piece { IsAsBefore P.takes P.gives piece.old piece.new }
+{
+    for item in items {
+        if values.push(piece.one(item)).is_err() {
+            return Err(NoMemory);
+        }
+    }
+    Ok(())
+}
