@@ -5,7 +5,7 @@ use Rattle.kept_books.proofs.checkpointing.checkpoint.Goals as goal
 pub returns-in-Ok : goal.returns-in-Ok
 returns-in-Ok g c =
     ends_checkpoint g.D.Disk g.E.Disk c.args.disk c.args.second c.in-Ok.opened c.in-Ok.ensures.reopened _ g.met.E.Disk.only_now
-    (record { snapshot = c.in-Ok.opened.books; journal = c.in-Ok.opened.journal; store = c.save_books-ending.new.store }) c.close.result c.save_books-ending.result refl c.close.ensures.disk c.close.ensures.second c.close.ensures.ending c.save_books-ending.ensures
+    (record { books = c.in-Ok.opened.books; journal = c.in-Ok.opened.journal; store = c.save_books-ending.new.store }) c.close.result c.save_books-ending.result refl c.close.ensures.disk c.close.ensures.second c.close.ensures.ending c.save_books-ending.ensures
 
 pub returns-in-Err : goal.returns-in-Err
 returns-in-Err g c =
