@@ -10,13 +10,17 @@ use Rattle.life_args.proofs.Lexing.{IsNamed, Seen, alone, apart, joined, seen, p
 use Rattle.life_args.proofs.Rules.{AreGood, IsKnown, add, alone_known, filled_flag, flag_is, long_found, long_is, option_known}
 use Rattle.life_args.proofs.Steps.{Goes, IsFaulty, IsFree, IsUse, Use, all_rows, c, s, stand, want, no_owing, alone_goes, name_goes, value_goes, joined_goes, flag_goes, unknown_faulty, valued_flag_faulty, wanting_faulty, wanting_flag_faulty, unfilled}
 
+-- the id and the value of a piece
+abbrev pub use_of : WordPiece → Use
+use_of (bare value) = (alone_id, value)
+use_of (apart_piece name value) = (name, value)
+use_of (joined_piece name value) = (name, value)
+use_of (flag name) = (name, [])
+
 -- the rows after the uses of pieces
 abbrev pub put : List WordPiece → List Row → List Row
 put [] rows = rows
-put (bare value ∷ pieces) rows = put pieces (add alone_id value rows)
-put (apart_piece name value ∷ pieces) rows = put pieces (add name value rows)
-put (joined_piece name value ∷ pieces) rows = put pieces (add name value rows)
-put (flag name ∷ pieces) rows = put pieces (add name [] rows)
+put (piece ∷ pieces) rows = put pieces (add (use_of piece).0 (use_of piece).1 rows)
 
 pub none_second : (a b : Kinds) → or_else a b ≡ [] → b ≡ []
 none_second [] b e = e
