@@ -36,23 +36,6 @@ pub refused : {T U : Type 0} (P : T → Type 0) (Q : U → Type 0) (r : Result U
 refused P Q r Usage is none part = handed_on r Usage Q is (λ usage answer asked. let of_it = part answer asked in none of_it.0 of_it.1)
 refused P Q r NoMemory is none part = handed_on r NoMemory Q is (λ usage. cc)
 
--- ---- one value at most
-
-lone : (values : List Text) (P : Option Text → Type 0) → AtMostOne values P → (given : Option Text) × IsLone values given
-lone [] P asked = (None, refl)
-lone (value ∷ []) P asked = (Some value, refl)
-lone (value ∷ other ∷ values) P asked = absurd asked
-
-pub lone_refused : {T : Type 0} (values : List Text) (P : Option Text → T → Type 0) (r : Result T WordsFault) (fault : WordsFault) → IsErrAnd r (λ y. y ≡ fault)
-    → GivesAsked (IsLone values) (Err fault) → GivesAsked (λ answer. AtMostOne values (λ o. P o answer)) r
-lone_refused values P r fault is none =
-    refused (IsLone values) (λ answer. AtMostOne values (λ o. P o answer)) r fault is none (λ answer asked. lone values (λ o. P o answer) asked)
-
-pub lone_gives : {T : Type 0} (values : List Text) (given : Option Text) (P : Option Text → T → Type 0) (r : Result T WordsFault) → IsLone values given → GivesAsked (P given) r
-    → GivesAsked (λ answer. AtMostOne values (λ o. P o answer)) r
-lone_gives values None P r is gives = subst (λ vs. GivesAsked (λ answer. AtMostOne vs (λ o. P o answer)) r) (sym is) gives
-lone_gives values (Some value) P r is gives = subst (λ vs. GivesAsked (λ answer. AtMostOne vs (λ o. P o answer)) r) (sym is) gives
-
 -- ---- a measure
 
 -- each flag stands once at most

@@ -36,12 +36,7 @@ mode_with Load all = mode.Load all.0 all.1 all.2 all.3
 
 pub its_verb : (verb : Verb) (all : Fields verb) → verb_of (mode_with verb all) ≡ verb
 its_verb Run all = refl
-its_verb Value all = refl
-its_verb Project all = refl
-its_verb State all = refl
-its_verb Checkpoint all = refl
-its_verb Generate all = refl
-its_verb Load all = refl
+its_verb verb all = refl
 
 -- the values of each id say one of the verb's modes
 abbrev pub Said : Verb → (Text → List Text) → Type 0

@@ -1,5 +1,6 @@
 -- `clap`'s walk over the words that pieces spell, and the pieces of the words that it takes
 use Rattle.std.proofs.Common.{◌≡◌, ◌||◌, Bool, true, false, fold, List, [], ◌∷◌, ◌++◌, Option, Some, None, refl, sym, ap, ap₂, ◌∙◌, inl, inr, true≢false}
+use Rattle.std.proofs.lemmas.Bool.{or_parts}
 use Rattle.clap.specs.Walk.{Row, Text, Waiting, Walk, arg_by_long, idle, positional, walked}
 use Rattle.clap.specs.Faults.{settle_fault, walk_fault}
 use Rattle.clap.specs.Kinds.{Kinds, or_else}
@@ -157,10 +158,6 @@ module _ (names : OptionNames) (good : AreGood names) where
       go (apart name same is) = absurd (stops (want rows one) word words (wrong name None is) taken)
       go (joined name value same is) = absurd (stops (want rows one) word words (wrong name (Some value) is) taken)
 
-  not_either : (a b : Bool) → (a || b) ≡ false → (a ≡ false) × (b ≡ false)
-  not_either true b e = absurd (true≢false e)
-  not_either false b e = (refl, e)
-
   both : (words : List Text) → has_odd words ≡ false → Idle words × Wanting words
   unfolding walk_fault
   both [] even = (
@@ -168,7 +165,7 @@ module _ (names : OptionNames) (good : AreGood names) where
     λ rows one among taken. let none : _ ≡ [] = sym (unfilled names rows one (known one among)) ∙ taken in absurd (cc),
   )
   both (word ∷ words) even =
-      let each = not_either (is_odd word) (has_odd words) even in
+      let each = or_parts (is_odd word) (has_odd words) even in
       let rest = both words each.1 in
       (idle_word word words each.0 rest.0 rest.1, wanting_word word words each.0 rest.0)
 
