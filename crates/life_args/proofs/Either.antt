@@ -1,10 +1,11 @@
 -- Words ask for one mode, or for nothing: each part of them says something, or nothing
-use Rattle.std.proofs.Common.{◌≡◌, ℕ, zero, suc, ◌+◌, ◌<◌, ◌≤◌, ◌⊎◌, ℤ, pos, negsuc, false, List, [], ◌∷◌, length, map, string_bytes, String, Option, Some, None, refl, sym, ◌∙◌, subst, inl, inr, bytes_eq, codes, decimal, arith, true≢false}
+use Rattle.std.proofs.Common.{◌≡◌, ℕ, zero, suc, ◌+◌, ◌-◌, ◌<◌, ◌≤◌, ◌⊎◌, ℤ, ◌-ℤ◌, pos, negsuc, false, List, [], ◌∷◌, length, map, string_bytes, String, Option, Some, None, refl, sym, ap, ◌∙◌, subst, inl, inr, bytes_eq, codes, decimal, arith, true≢false}
 use Rattle.std.specs.Prelude.{All, slice_index}
 use Rattle.std.specs.Global.{Global}
 use Rattle.std.specs.Char.{IsAsciiAlphanumeric}
-use Rattle.std.proofs.lemmas.Bool.{cases_Bool, cases_lt}
+use Rattle.std.proofs.lemmas.Bool.{cases_Bool, cases_eq, cases_lt}
 use Rattle.std.proofs.lemmas.Int.{ints}
+use Rattle.std.proofs.lemmas.List.Elements.{All-nil, All-cons, All-head, All-tail}
 use Rattle.std.proofs.lemmas.Slice.Eq.{bytes_eq-Decides}
 use Rattle.clap.specs.Walk.{Text}
 use Rattle.clap.specs.Faults.{fault_of}
@@ -66,12 +67,6 @@ at_most n m = elim (cases_lt m n) [
   | inr under ↦ inl under
 ]
 
-same_number : (n m : ℕ) → Either (n ≡ m)
-same_number n m = elim (both (at_most n m) (at_most m n)) [
-  | inl pair ↦ inl (let low = pair.0 in let high = pair.1 in omega (arith, low, high))
-  | inr not ↦ inr (λ same. not (omega (arith, same), omega (arith, same)))
-]
-
 same_text : (xs ys : Text) → Either (xs ≡ ys)
 same_text xs ys = elim (cases_Bool (bytes_eq xs ys)) [
   | inl same ↦ inl ((bytes_eq-Decides xs ys).0 same)
@@ -84,55 +79,31 @@ number least most text = mapped (search (λ n. (least ≤ n) × (text ≡ decima
     (λ found. (found.0, found.2.0, (let below = found.1 in omega (arith, below)), found.2.1))
     (λ one. (one.0, (let high = one.2 in omega (arith, high)), (one.1, one.3)))
 
--- or of a day, or of none
+-- or of a day, or of none. Days are tried from 1900-01-01 on.
 day : (text : Text) → Either ((on : ℤ) × IsDayValue text on)
-day text = elim (search (λ n. IsDayValue text (pos n)) (λ n. both (inside_pos n) (same_text text (day_text (pos n)))) 84006) [
-  | inl found ↦ inl (pos found.0, found.2)
-  | inr none ↦ elim (search (λ n. IsDayValue text (negsuc n)) (λ n. both (inside_neg n) (same_text text (day_text (negsuc n)))) 25567) [
-    | inl found ↦ inl (negsuc found.0, found.2)
-    | inr never ↦ inr (λ one. neither one.0 one.1 none never)
-  ]
-]
+day text = mapped (search (λ n. text ≡ day_text (pos n -ℤ pos 25567)) (λ n. same_text text (day_text (pos n -ℤ pos 25567))) 109573)
+    (λ found. (pos found.0 -ℤ pos 25567, ((omega (arith, ints, found.1), omega (arith, ints, found.1)), found.2)))
+    (λ one. let n = place one.0 one.1.0 in (n.0, n.1, one.1.1 ∙ ap day_text n.2))
   where
-    inside_pos : (n : ℕ) → Either (IsDay (pos n))
-    inside_pos n = elim (at_most n 84005) [
-      | inl under ↦ inl (omega (arith, ints, under), omega (arith, ints, under))
-      | inr over ↦ inr (λ is. over (let high = is.1 in omega (arith, ints, high)))
-    ]
-
-    inside_neg : (n : ℕ) → Either (IsDay (negsuc n))
-    inside_neg n = elim (at_most n 25566) [
-      | inl under ↦ inl (omega (arith, ints, under), omega (arith, ints, under))
-      | inr over ↦ inr (λ is. over (let low = is.0 in omega (arith, ints, low)))
-    ]
-
-    neither : (on : ℤ) → IsDayValue text on → ((n : ℕ) × (n < 84006) × IsDayValue text (pos n) → ⊥) → ((n : ℕ) × (n < 25567) × IsDayValue text (negsuc n) → ⊥) → ⊥
-    neither (pos n) is none never = none (n, (let high = is.0.1 in omega (arith, ints, high)), is)
-    neither (negsuc n) is none never = never (n, (let low = is.0.0 in omega (arith, ints, low)), is)
+    place : (on : ℤ) → IsDay on → (n : ℕ) × (n < 109573) × (on ≡ pos n -ℤ pos 25567)
+    place (pos n) is = (n + 25567, (let high = is.1 in omega (arith, ints, high)), omega (arith, ints))
+    place (negsuc n) is = (25566 - n, (let low = is.0 in omega (arith, ints, low)), (let low = is.0 in omega (arith, ints, low)))
 
 -- a name or none
 letter : (c : ℕ) → Either (IsAsciiAlphanumeric c)
 letter c = one_of (one_of (both (at_most 48 c) (at_most c 57)) (both (at_most 65 c) (at_most c 90))) (both (at_most 97 c) (at_most c 122))
 
 name_byte : (c : ℕ) → Either (IsNameByte c)
-name_byte c = one_of (letter c) (one_of (same_number c 46) (one_of (same_number c 95) (same_number c 45)))
+name_byte c = one_of (letter c) (one_of (cases_eq c 46) (one_of (cases_eq c 95) (cases_eq c 45)))
 
-all_more : (P : ℕ → Type 0) (x : ℕ) (xs : Text) → P x → All P xs → All P (x ∷ xs)
-all_more P x xs is all zero d low = is
-all_more P x xs is all (suc k) d low = all k d (omega (arith, low))
-
-each : (P : ℕ → Type 0) → ((n : ℕ) → Either (P n)) → (xs : Text) → Either (All P xs)
-each P decide [] = inl (λ k d low. absurd (omega (arith, low)))
-each P decide (x ∷ xs) = elim (both (decide x) (each P decide xs)) [
-  | inl is ↦ inl (all_more P x xs is.0 is.1)
-  | inr not ↦ inr (λ all. not (all 0 x (omega arith), λ k d low. all (suc k) d (omega (arith, low))))
-]
+name_bytes : (text : Text) → Either (All IsNameByte text)
+name_bytes [] = inl (All-nil IsNameByte)
+name_bytes (c ∷ text) = mapped (both (name_byte c) (name_bytes text)) (λ is. All-cons IsNameByte c text is.0 is.1)
+    (λ all. (All-head IsNameByte c text all, All-tail IsNameByte c text all))
 
 name : (text : Text) → Either (IsName text)
-name text = elim (both (both (at_most 1 (length text)) (at_most (length text) 64)) (both (letter (slice_index text 0)) (each IsNameByte name_byte text))) [
-  | inl is ↦ inl (record { some = is.0.0; short = is.0.1; first = is.1.0; each = is.1.1 })
-  | inr not ↦ inr (λ is. not ((is.some, is.short), (is.first, is.each)))
-]
+name text = mapped (both (both (at_most 1 (length text)) (at_most (length text) 64)) (both (letter (slice_index text 0)) (name_bytes text)))
+    (λ is. record { some = is.0.0; short = is.0.1; first = is.1.0; each = is.1.1 }) (λ is. ((is.some, is.short), (is.first, is.each)))
 
 -- ---- the values of each id
 

@@ -1,6 +1,6 @@
 -- What worked words are told by.
-use Rattle.std.proofs.Common.{◌≡◌, ◌≤◌, ◌∙◌, ℕ, List, [], ◌∷◌, All, refl, sym, ap, subst, inl, inr, codes, decimal, lit≤, arith, pos, ℤ}
-use Rattle.std.proofs.lemmas.List.Elements.{All-nil, All-cons}
+use Rattle.std.proofs.Common.{◌≡◌, ◌≤◌, ◌∙◌, ℕ, List, [], ◌∷◌, refl, sym, ap, subst, inl, inr, codes, decimal, lit≤, arith, pos, ℤ}
+use Rattle.std.proofs.lemmas.List.Elements.{All-from_recursion}
 use Rattle.std.proofs.lemmas.Fmt.{decimal_injective}
 use Rattle.std.proofs.lemmas.Int.{ints}
 use Rattle.std.specs.Fmt.{digits}
@@ -62,20 +62,12 @@ pub new_year : IsDayValue (codes "2021-01-01") (pos 18628)
 unfolding digits day_text date_of date_at year_of month_of days_before days_before_year days_of_months
 new_year = ((omega (arith, ints), omega (arith, ints)), refl)
 
-abbrev AreNameBytes : List ℕ → Type 0
-AreNameBytes [] = Unit {0}
-AreNameBytes (b ∷ bytes) = IsNameByte b × AreNameBytes bytes
-
-name_bytes : (bytes : List ℕ) → AreNameBytes bytes → All IsNameByte bytes
-name_bytes [] h = All-nil IsNameByte
-name_bytes (b ∷ bytes) h = All-cons IsNameByte b bytes h.0 (name_bytes bytes h.1)
-
 pub b2_name : IsName (codes "b2.csv")
 b2_name = record {
   some = lit≤ tt;
   short = lit≤ tt;
   first = inr (lit≤ tt, lit≤ tt);
-  each = name_bytes (codes "b2.csv") (
+  each = All-from_recursion IsNameByte (codes "b2.csv") (
     inl (inr (lit≤ tt, lit≤ tt)),
     (
       inl (inl (inl (lit≤ tt, lit≤ tt))),
