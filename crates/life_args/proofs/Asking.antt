@@ -148,27 +148,35 @@ asked word words (mode.Run basis) are =
 asked word words (mode.Value on position workers basis measure) are =
     let is = are.1 in
     let alone = subst EachPlain (sym is.alone) (plain_day is.day on is.day_is.1, tt) in
-    let at = plain_lone _ (λ given. IsPositionOr given position) is.position_is (plain_position position) in
-    (are.0, asked_so (mode.Value on position workers basis measure) words is.pieces is.spells is.only alone (at, (plain_workers workers _ is.workers_are, (plain_basis basis _ is.basis_is, tt)))
-    ((is.day, is.alone, is.day_is), is.position_is, is.workers_are, is.basis_is, is.measure_is))
+    let at = plain_lone _ (λ given. IsPositionOr given position) is.position_is (plain_position position) in (
+      are.0,
+      asked_so (mode.Value on position workers basis measure) words is.pieces is.spells is.only alone (at, (plain_workers workers _ is.workers_are, (plain_basis basis _ is.basis_is, tt)))
+          ((is.day, is.alone, is.day_is), is.position_is, is.workers_are, is.basis_is, is.measure_is),
+    )
 asked word words (mode.Project on years workers basis) are =
     let is = are.1 in
-    let alone = subst EachPlain (sym is.alone) (plain_day is.day on is.day_is.1, (plain_number 131 years (omega arith) is.years_in.1, tt)) in
-    (are.0, asked_so (mode.Project on years workers basis) words is.pieces is.spells is.only alone (plain_workers workers _ is.workers_are, (plain_basis basis _ is.basis_is, tt))
-    ((is.day, is.alone, is.day_is, is.years_in), is.workers_are, is.basis_is))
+    let alone = subst EachPlain (sym is.alone) (plain_day is.day on is.day_is.1, (plain_number 131 years (omega arith) is.years_in.1, tt)) in (
+      are.0,
+      asked_so (mode.Project on years workers basis) words is.pieces is.spells is.only alone (plain_workers workers _ is.workers_are, (plain_basis basis _ is.basis_is, tt))
+          ((is.day, is.alone, is.day_is, is.years_in), is.workers_are, is.basis_is),
+    )
 asked word words (mode.State id) are =
     let is = are.1 in
     (are.0, asked_so (mode.State id) words is.pieces is.spells is.only (plain_lone _ (λ given. IsPolicyOr given id) is.id_is (plain_policy id)) tt is.id_is)
 asked word words mode.Checkpoint are = (are.0, asked_so mode.Checkpoint words [] are.1 tt tt tt refl)
 asked word words (mode.Generate seed count lanes) are =
-    let is = are.1 in
-    (are.0, asked_so (mode.Generate seed count lanes) words (bare (decimal seed) ∷ bare (decimal count) ∷ bare (decimal lanes) ∷ []) is.spells tt
-    (plain_draws seed count lanes [] is.seed_in is.count_in is.lanes_in tt) tt (refl, (is.seed_in, is.count_in, is.lanes_in)))
+    let is = are.1 in (
+      are.0,
+      asked_so (mode.Generate seed count lanes) words (bare (decimal seed) ∷ bare (decimal count) ∷ bare (decimal lanes) ∷ []) is.spells tt
+          (plain_draws seed count lanes [] is.seed_in is.count_in is.lanes_in tt) tt (refl, (is.seed_in, is.count_in, is.lanes_in)),
+    )
 asked word words (mode.Load seed count lanes workers) are =
     let is = are.1 in
-    let crew = plain_number 64 workers (omega arith) is.workers_in.1 in
-    (are.0, asked_so (mode.Load seed count lanes workers) words (bare (decimal seed) ∷ bare (decimal count) ∷ bare (decimal lanes) ∷ bare (decimal workers) ∷ []) is.spells tt
-    (plain_draws seed count lanes (decimal workers ∷ []) is.seed_in is.count_in is.lanes_in (crew, tt)) tt (refl, (is.seed_in, is.count_in, is.lanes_in), is.workers_in))
+    let crew = plain_number 64 workers (omega arith) is.workers_in.1 in (
+      are.0,
+      asked_so (mode.Load seed count lanes workers) words (bare (decimal seed) ∷ bare (decimal count) ∷ bare (decimal lanes) ∷ bare (decimal workers) ∷ []) is.spells tt
+          (plain_draws seed count lanes (decimal workers ∷ []) is.seed_in is.count_in is.lanes_in (crew, tt)) tt (refl, (is.seed_in, is.count_in, is.lanes_in), is.workers_in),
+    )
 
 -- without options each piece is a word
 all_bare : (pieces : List WordPiece) → HasOnly [] [] pieces → spelled pieces ≡ bare_values pieces

@@ -85,10 +85,13 @@ module _ (test : Rule → Bool) (rule : Text → Rule) (name : Text) (tests : (o
       go : (b : Bool) → bytes_eq one name ≡ b → Looked names → Looked (one ∷ names)
       go true e rest = let is = same one name e in inl (rw (tests one ∙ e) (ap (λ (n : Text). Some (rule n)) is), inl (sym is))
       go false e (inl is) = inl (rw (tests one ∙ e) is.0, inr is.1)
-      go false e (inr none) = inr (rw (tests one ∙ e) none.0, λ among. elim among [
-        | inl is ↦ true≢false (sym (own name) ∙ ap (λ (n : Text). bytes_eq n name) is ∙ e)
-        | inr more ↦ none.1 more
-      ])
+      go false e (inr none) = inr (
+        rw (tests one ∙ e) none.0,
+        λ among. elim among [
+          | inl is ↦ true≢false (sym (own name) ∙ ap (λ (n : Text). bytes_eq n name) is ∙ e)
+          | inr more ↦ none.1 more
+        ],
+      )
 
   present : (names : List Text) → IsAmong names name → find test (map rule names) ≡ Some (rule name)
   present names among = elim (looked names) [

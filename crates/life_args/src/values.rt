@@ -112,28 +112,6 @@ pub fn is_empty(values: Option<&[&str]>) -> bool
     }
 }
 
-/// The value, where there is just one.
-pub fn one<'a>(values: Option<&[&'a str]>) -> Option<&'a str>
-    ensures some { IfSome result (λ value. texts_of values.entry ≡ value.now ∷ []) }
-    ensures none { IfNone result (length (texts_of values.entry) ≢ 1) }
-{
-    match values {
-        Some([value]) => Some(*value),
-        _ => None,
-    }
-}
-
-/// The values, where there are two.
-pub fn two<'a>(values: Option<&[&'a str]>) -> Option<(&'a str, &'a str)>
-    ensures some { IfSome result (λ all. texts_of values.entry ≡ all.0.now ∷ all.1.now ∷ []) }
-    ensures none { IfNone result (length (texts_of values.entry) ≢ 2) }
-{
-    match values {
-        Some([a, b]) => Some((*a, *b)),
-        _ => None,
-    }
-}
-
 /// The values, where there are three.
 pub fn three<'a>(values: Option<&[&'a str]>) -> Option<(&'a str, &'a str, &'a str)>
     ensures some { IfSome result (λ all. texts_of values.entry ≡ all.0.now ∷ all.1.now ∷ all.2.now ∷ []) }

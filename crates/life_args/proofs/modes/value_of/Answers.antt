@@ -1,9 +1,6 @@
-use Rattle.std.proofs.Common.{◌≡◌, ◌∙◌, ap, arith, codes, of_z, refl, subst, sym, to_z, unwrap_or, w32, []}
-use Rattle.std.proofs.lemmas.Int.{ints}
+use Rattle.std.proofs.Common.{ap, codes, subst, sym, unwrap_or, []}
 use Rattle.clap.specs.Words.{found_of}
-use Rattle.life_args.specs.declared.mode.Mode.TheVariants as mode
 use Rattle.life_args.specs.declared.verb.Verb.TheVariants.{Value}
-use Rattle.life_args.specs.Pieces.{AtMostOne}
 use Rattle.life_args.specs.Values.{IsPositionOr, AreWorkersOr, IsBasisOr, IsMeasureBy}
 use Rattle.life_args.specs.inside.Lines.{values_named}
 use Rattle.life_args.specs.inside.Verbs.{AsksFor, texts_of}
@@ -35,20 +32,3 @@ pub returns-in_err-basis : goal.returns-in_err-basis
 returns-in_err-basis c =
     option_refused Value (found_of c.args.line.now) (codes "basis") IsBasisOr (texts_of c.get_strs-6.result) c.from_residual-in_err-basis.result c.in_err-basis.field-0.0 c.from_residual-in_err-basis.ensures.1
     (ap (λ o. unwrap_or o []) c.get_strs-6.ensures) c.in_err-basis.ensures (λ said. (said.0.3, said.1.3))
-
-pub returns : goal.returns
-returns c =
-    let found = found_of c.args.line.now in
-    let day = c.in_ok-on.ensures.0 in
-    let cast : to_z w32 (of_z w32 c.in_ok-on.on) ≡ c.in_ok-on.on = omega (arith, ints, day.0, day.1) in
-    subst (λ on. AsksFor Value found (mode.Value on c.in_ok-at.at c.in_ok-workers.workers c.in_ok-basis.basis c.in_ok-measure.measure)) (sym cast) (record {
-      is = refl;
-      says = (
-        (c.in-Some.on.now, sym (ap (λ o. unwrap_or o []) c.get_strs.ensures) ∙ c.in-Some.ensures.some, c.in_ok-on.ensures),
-        subst (λ vs. AtMostOne vs (λ o. IsPositionOr o c.in_ok-at.at)) (ap (λ o. unwrap_or o []) c.get_strs-2.ensures) c.in_ok-at.ensures,
-        subst (λ vs. AtMostOne vs (λ o. AreWorkersOr o c.in_ok-workers.workers)) (ap (λ o. unwrap_or o []) c.get_strs-3.ensures) c.in_ok-workers.ensures,
-        subst (λ vs. AtMostOne vs (λ o. IsBasisOr o c.in_ok-basis.basis)) (ap (λ o. unwrap_or o []) c.get_strs-6.ensures) c.in_ok-basis.ensures,
-        subst (λ vs. IsMeasureBy vs (values_named found (codes "deficiency")) c.in_ok-measure.measure) (ap (λ o. unwrap_or o []) c.get_strs-4.ensures)
-            (subst (λ vs. IsMeasureBy (texts_of c.get_strs-4.result) vs c.in_ok-measure.measure) (ap (λ o. unwrap_or o []) c.get_strs-5.ensures) c.in_ok-measure.ensures),
-      );
-    })
