@@ -34,11 +34,11 @@ pub fn read_line<'a>(
 fn has_odd(words: &[String]) -> bool
     ensures { result ≡ list_any (λ word. lines.is_odd (string_bytes word)) words.now }
 {
-    words.iter().any(|word| is_odd(word))
+    words.iter().any(|word| is_odd(word.as_str()))
 }
 
-fn is_odd(word: &String) -> bool
-    ensures { result ≡ lines.is_odd (string_bytes word.now) }
+fn is_odd(word: &str) -> bool
+    ensures { result ≡ lines.is_odd word.now }
 {
     match word.as_bytes() {
         [b'-', b'-', _, ..] => false,
