@@ -26,10 +26,7 @@ pub fn position_of(values: Option<&[&str]>) -> Result<At, WordsFault>
 {
     match values {
         None | Some([]) => Ok(At::Now),
-        Some([text]) => match parse_number(text.as_bytes(), 4_000_000) {
-            Some(position) => Ok(At::Position(position as u32)),
-            None => Err(WordsFault::Usage),
-        },
+        Some([text]) => Ok(At::Position(number_of(text, 0, 4_000_000)? as u32)),
         _ => Err(WordsFault::Usage),
     }
 }
@@ -40,10 +37,7 @@ pub fn workers_of(values: Option<&[&str]>) -> Result<u8, WordsFault>
 {
     match values {
         None | Some([]) => Ok(1),
-        Some([text]) => match parse_count(text, 64) {
-            Some(workers) => Ok(workers as u8),
-            None => Err(WordsFault::Usage),
-        },
+        Some([text]) => Ok(number_of(text, 1, 64)? as u8),
         _ => Err(WordsFault::Usage),
     }
 }
