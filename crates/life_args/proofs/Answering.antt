@@ -9,7 +9,7 @@ use Rattle.life_args.specs.declared.fault.WordsFault.{WordsFault}
 use Rattle.life_args.specs.declared.fault.WordsFault.TheVariants.{Usage, NoMemory}
 use Rattle.life_args.specs.declared.mode.Mode.{Mode}
 use Rattle.life_args.specs.declared.verb.Verb.{Verb}
-use Rattle.life_args.specs.Pieces.{WordPiece, AtMostOne}
+use Rattle.life_args.specs.Pieces.{WordPiece}
 use Rattle.life_args.specs.Words.{AreWords, AskFor, AskForNothing, IsFaultOf}
 use Rattle.life_args.specs.inside.Lines.{GivesAsked, IsLine, ReadsLine, Spelling, TakesWords, has_odd, line_app, values_of}
 use Rattle.life_args.specs.inside.Verbs.{AsksFor, IsLone, SaysMode, options_of, verb_of, verb_word}

@@ -1,5 +1,5 @@
 -- What a verb's values say, value by value
-use Rattle.std.proofs.Common.{◌≡◌, ℕ, ℤ, arith, decimal, refl, sym, subst, List, [], ◌∷◌, Option, Result, Err, IsErrAnd}
+use Rattle.std.proofs.Common.{◌≡◌, ℕ, ℤ, arith, decimal, refl, sym, subst, List, ◌∷◌, Option, Result, Err, IsErrAnd}
 use Rattle.std.specs.Prelude.{⊤}
 use Rattle.clap.specs.Words.{Text}
 use Rattle.clap.specs.declared.parser.matches.Found.{Found}

@@ -1,5 +1,5 @@
 -- `clap`'s walk over the words that pieces spell, and the pieces of the words that it takes
-use Rattle.std.proofs.Common.{◌≡◌, ◌||◌, Bool, true, false, fold, List, [], ◌∷◌, ◌++◌, Option, Some, None, refl, sym, ap, ap₂, ◌∙◌, inl, inr, true≢false}
+use Rattle.std.proofs.Common.{◌≡◌, false, fold, List, [], ◌∷◌, ◌++◌, Option, Some, None, refl, sym, ap, ap₂, ◌∙◌, inl, inr}
 use Rattle.std.proofs.lemmas.Bool.{or_parts}
 use Rattle.clap.specs.Walk.{Row, Text, Waiting, Walk, arg_by_long, idle, positional, walked}
 use Rattle.clap.specs.Faults.{settle_fault, walk_fault}
