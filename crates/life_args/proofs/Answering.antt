@@ -9,7 +9,7 @@ use Rattle.life_args.specs.declared.fault.WordsFault.{WordsFault}
 use Rattle.life_args.specs.declared.fault.WordsFault.TheVariants.{Usage, NoMemory}
 use Rattle.life_args.specs.declared.mode.Mode.{Mode}
 use Rattle.life_args.specs.declared.verb.Verb.{Verb}
-use Rattle.life_args.specs.Pieces.{WordPiece, AtMostOne}
+use Rattle.life_args.specs.Pieces.{WordPiece}
 use Rattle.life_args.specs.Words.{AreWords, AskFor, AskForNothing, IsFaultOf}
 use Rattle.life_args.specs.inside.Lines.{GivesAsked, IsLine, ReadsLine, Spelling, TakesWords, has_odd, line_app, values_of}
 use Rattle.life_args.specs.inside.Verbs.{AsksFor, IsLone, SaysMode, options_of, verb_of, verb_word}
@@ -30,26 +30,11 @@ handed_on (Ok answer) fault Q is none = absurd is
 handed_on (Err Usage) fault Q is none = none (sym is)
 handed_on (Err NoMemory) fault Q is none = tt
 
-pub refusal : {T : Type 0} (P : T → Type 0) (fault : WordsFault) → GivesAsked P (Err fault) → fault ≡ Usage → (answer : T) → P answer → ⊥
-refusal P Usage given is = given
-refusal P NoMemory given is = cc
-
--- ---- one value at most
-
-lone : (values : List Text) (P : Option Text → Type 0) → AtMostOne values P → (given : Option Text) × IsLone values given
-lone [] P asked = (None, refl)
-lone (value ∷ []) P asked = (Some value, refl)
-lone (value ∷ other ∷ values) P asked = absurd asked
-
-pub lone_refused : {T : Type 0} (values : List Text) (P : Option Text → T → Type 0) (r : Result T WordsFault) (fault : WordsFault) → IsErrAnd r (λ y. y ≡ fault)
-    → GivesAsked (IsLone values) (Err fault) → GivesAsked (λ answer. AtMostOne values (λ o. P o answer)) r
-lone_refused values P r fault is none = handed_on r fault (λ answer. AtMostOne values (λ o. P o answer)) is (λ usage answer asked.
-    let one = lone values (λ o. P o answer) asked in refusal (IsLone values) fault none usage one.0 one.1)
-
-pub lone_gives : {T : Type 0} (values : List Text) (given : Option Text) (P : Option Text → T → Type 0) (r : Result T WordsFault) → IsLone values given → GivesAsked (P given) r
-    → GivesAsked (λ answer. AtMostOne values (λ o. P o answer)) r
-lone_gives values None P r is gives = subst (λ vs. GivesAsked (λ answer. AtMostOne vs (λ o. P o answer)) r) (sym is) gives
-lone_gives values (Some value) P r is gives = subst (λ vs. GivesAsked (λ answer. AtMostOne vs (λ o. P o answer)) r) (sym is) gives
+-- so is the fault of a part that each answer has
+pub refused : {T U : Type 0} (P : T → Type 0) (Q : U → Type 0) (r : Result U WordsFault) (fault : WordsFault) → IsErrAnd r (λ y. y ≡ fault) → GivesAsked P (Err fault)
+    → ((answer : U) → Q answer → (part : T) × P part) → GivesAsked Q r
+refused P Q r Usage is none part = handed_on r Usage Q is (λ usage answer asked. let of_it = part answer asked in none of_it.0 of_it.1)
+refused P Q r NoMemory is none part = handed_on r NoMemory Q is (λ usage. cc)
 
 -- ---- a measure
 
@@ -98,6 +83,22 @@ asked_of verb words one are =
     (same, (asks.1.pieces, subst (λ v. Spelling (options_of v) words asks.1.pieces) same asks.1.spelling, asks.1.says))
 
 module _ (verb : Verb) (words : List Text) where
+  -- pieces that spell the words say what the words ask for
+  pub asked_by : (pieces : List WordPiece) → Spelling (options_of verb) words pieces → (one : Mode) → AreWords (verb_word verb ∷ words) one
+      → (verb_of one ≡ verb) × SaysMode (values_of pieces) one
+  asked_by pieces spelling one are =
+      let asks = asked_of verb words one are in
+      let these = (spelled_taken (options_of verb) (good verb) words pieces spelling).1 in
+      let those = (spelled_taken (options_of verb) (good verb) words asks.1.0 asks.1.1).1 in
+      (asks.0, subst (λ (v : Text → List Text). SaysMode v one) (λ i id. (sym (those id) ∙ these id) i) asks.1.2)
+
+  -- and the words ask for what they say
+  pub asking_by : (pieces : List WordPiece) → Spelling (options_of verb) words pieces → (one : Mode) → verb_of one ≡ verb → SaysMode (values_of pieces) one
+      → AreWords (verb_word verb ∷ words) one
+  asking_by pieces spelling one is says =
+      let of_its = subst (λ v. Spelling (options_of v) words pieces) (sym is) spelling in
+      subst (λ v. AreWords (verb_word v ∷ words) one) is (asking words one (record { pieces = pieces; spelling = of_its; says = says }))
+
   pub line_refused : (r : Result Mode WordsFault) (fault : WordsFault) → IsErrAnd r (λ y. y ≡ fault) → ReadsLine (options_of verb) words (Err fault) → GivesAsked (AreWords (verb_word verb ∷ words)) r
   line_refused r fault is reads = handed_on r fault (AreWords (verb_word verb ∷ words)) is (λ usage one are.
       let asks = asked_of verb words one are in
@@ -105,9 +106,7 @@ module _ (verb : Verb) (words : List Text) where
 
   pub mode_given : (line : ArgMatches) (r : Result Mode WordsFault) → IsLine (options_of verb) words line → GivesAsked (AsksFor verb (found_of line)) r → GivesAsked (AreWords (verb_word verb ∷ words)) r
   mode_given line (Ok one) read gives =
-      let says = subst (λ (v : Text → List Text). SaysMode v one) (λ i id. read.every read.pieces read.spelling id i) gives.says in
-      let spelling = subst (λ v. Spelling (options_of v) words read.pieces) (sym gives.is) read.spelling in
-      subst (λ v. AreWords (verb_word v ∷ words) one) gives.is (asking words one (record { pieces = read.pieces; spelling = spelling; says = says }))
+      asking_by read.pieces read.spelling one gives.is (subst (λ (v : Text → List Text). SaysMode v one) (λ i id. read.every read.pieces read.spelling id i) gives.says)
   mode_given line (Err Usage) read gives = λ one are.
       let asks = asked_of verb words one are in
       gives one (record { is = asks.0; says = subst (λ (v : Text → List Text). SaysMode v one) (λ i id. (sym (read.every asks.1.0 asks.1.1 id)) i) asks.1.2 })
@@ -148,8 +147,5 @@ ask_once [] one two first second = absurd first
 ask_once (word ∷ words) one two first second =
     let is = (asked word words one first).0 in
     let a = asked_of (verb_of one) words one (subst (λ w. AreWords (w ∷ words) one) is first) in
-    let b = asked_of (verb_of one) words two (subst (λ w. AreWords (w ∷ words) two) is second) in
-    let names = options_of (verb_of one) in
-    let these = (spelled_taken names (good (verb_of one)) words a.1.0 a.1.1).1 in
-    let those = (spelled_taken names (good (verb_of one)) words b.1.0 b.1.1).1 in
-    same_mode (values_of a.1.0) one two (sym b.0) a.1.2 (subst (λ (v : Text → List Text). SaysMode v two) (λ i id. (sym (those id) ∙ these id) i) b.1.2)
+    let b = asked_by (verb_of one) words a.1.0 a.1.1 two (subst (λ w. AreWords (w ∷ words) two) is second) in
+    same_mode (values_of a.1.0) one two (sym b.0) a.1.2 b.1

@@ -11,7 +11,7 @@ use Rattle.life_args.specs.declared.mode.Mode.TheVariants as mode
 use Rattle.life_args.specs.declared.verb.Verb.{Verb}
 use Rattle.life_args.specs.declared.verb.Verb.TheVariants.{Run, Value, Project, State, Checkpoint, Generate, Load}
 use Rattle.life_args.specs.Pieces.{WordPiece, bare, apart, joined, flag, spelled, bare_values, option_values, value_under, IsAmong, HasOnly, AtMostOne}
-use Rattle.life_args.specs.Values.{IsPositionOr, AreWorkersOr, IsBasisOr, IsPolicyOr}
+use Rattle.life_args.specs.Values.{IsPositionOr, AreWorkersOr, IsBasisOr, IsPolicyOr, IsSeed, IsPolicyCount, IsLaneCount}
 use Rattle.life_args.specs.Words.{AreWords}
 use Rattle.life_args.specs.inside.Lines.{ArePlain, IsPlainText, OptionNames, Spelling, alone_id, line_app, values_of}
 use Rattle.life_args.specs.inside.Verbs.{SaysMode, options_of, verb_of, verb_word}
@@ -34,12 +34,7 @@ same_verb a b e = absurd (differ (verb_word a) (verb_word b) refl e)
 
 pub simple : (verb : Verb) → is_simple_and_free (line_app (options_of verb)) ≡ true
 simple Run = refl
-simple Value = refl
-simple Project = refl
-simple State = refl
-simple Checkpoint = refl
-simple Generate = refl
-simple Load = refl
+simple verb = refl
 
 -- what holds of each name
 abbrev AllOf : (Text → Type 0) → List Text → Type 0
@@ -58,23 +53,15 @@ all_good : (verb : Verb) → AllOf IsGood (options_of verb).valued
 all_good Run = (a_good (codes "basis") (omega arith) refl refl, tt)
 all_good Value = (a_good (codes "at") (omega arith) refl refl, (a_good (codes "workers") (omega arith) refl refl, (a_good (codes "basis") (omega arith) refl refl, tt)))
 all_good Project = (a_good (codes "workers") (omega arith) refl refl, (a_good (codes "basis") (omega arith) refl refl, tt))
-all_good State = tt
-all_good Checkpoint = tt
-all_good Generate = tt
-all_good Load = tt
+all_good verb = tt
 
 -- a flag's name is good, and no option's
 abbrev IsGoodFlag : Verb → Text → Type 0
 IsGoodFlag verb name = IsGood name × (arg_by_long (map filled_option (options_of verb).valued) name ≡ None)
 
 all_flags_good : (verb : Verb) → AllOf (IsGoodFlag verb) (options_of verb).flags
-all_flags_good Run = tt
 all_flags_good Value = ((a_good (codes "mean") (omega arith) refl refl, refl), ((a_good (codes "deficiency") (omega arith) refl refl, refl), tt))
-all_flags_good Project = tt
-all_flags_good State = tt
-all_flags_good Checkpoint = tt
-all_flags_good Generate = tt
-all_flags_good Load = tt
+all_flags_good verb = tt
 
 pub good : (verb : Verb) → AreGood (options_of verb)
 good verb = record {
@@ -98,11 +85,11 @@ plain_position : (position : At) (value : Text) → IsPositionOr (Some value) po
 plain_position Now value asked = absurd asked
 plain_position (Position n) value asked = plain_decimal value n (omega (arith, asked.0)) asked.1
 
-plain_workers : (workers : ℕ) (value : Text) → AreWorkersOr (Some value) workers → IsPlainText value
-plain_workers workers value asked = plain_decimal value workers (omega (arith, asked.1)) asked.2
+plain_workers : (workers : ℕ) (values : List Text) → AtMostOne values (λ given. AreWorkersOr given workers) → EachPlain values
+plain_workers workers values asked = plain_lone values (λ given. AreWorkersOr given workers) asked (λ value is. plain_decimal value workers (omega (arith, is.1)) is.2)
 
-plain_basis : (basis : Text) (value : Text) → IsBasisOr (Some value) basis → IsPlainText value
-plain_basis basis value asked = plain_name value asked.0
+plain_basis : (basis : Text) (values : List Text) → AtMostOne values (λ given. IsBasisOr given basis) → EachPlain values
+plain_basis basis values asked = plain_lone values (λ given. IsBasisOr given basis) asked (λ value is. plain_name value is.0)
 
 plain_policy : (id : Option ℕ) (value : Text) → IsPolicyOr (Some value) id → IsPlainText value
 plain_policy None value asked = absurd asked
@@ -134,11 +121,6 @@ are_plain names (joined one value ∷ pieces) only alone options =
 are_plain names (flag one ∷ pieces) only alone options =
     are_plain names pieces only.1 alone (λ name among. rest_plain name one [] (option_values name pieces) (options name among))
 
-spelling_of : (names : OptionNames) (words : List Text) (pieces : List WordPiece) → words ≡ spelled pieces → HasOnly names.valued names.flags pieces → EachPlain (bare_values pieces)
-    → AllOf (λ name. EachPlain (option_values name pieces)) names.valued → Spelling names words pieces
-spelling_of names words pieces spells only alone options =
-    record { spells = spells; only = only; plain = are_plain names pieces only alone (each (λ name. EachPlain (option_values name pieces)) names.valued options) }
-
 -- ---- the words of a mode
 
 pub record Asked (mode : Mode) (words : List Text) : Type 0 where
@@ -146,79 +128,54 @@ pub record Asked (mode : Mode) (words : List Text) : Type 0 where
   pub spelling : Spelling (options_of (verb_of mode)) words pieces
   pub says : SaysMode (values_of pieces) mode
 
+-- pieces that spell the words say the mode, and their values are plain
+asked_so : (one : Mode) (words : List Text) (pieces : List WordPiece) → words ≡ spelled pieces → HasOnly (options_of (verb_of one)).valued (options_of (verb_of one)).flags pieces
+    → EachPlain (bare_values pieces) → AllOf (λ name. EachPlain (option_values name pieces)) (options_of (verb_of one)).valued → SaysMode (values_of pieces) one → Asked one words
+asked_so one words pieces spells only alone options says =
+    let names = options_of (verb_of one) in
+    let plain = are_plain names pieces only alone (each (λ name. EachPlain (option_values name pieces)) names.valued options) in
+    record { pieces = pieces; spelling = record { spells = spells; only = only; plain = plain }; says = says }
+
+plain_draws : (seed count lanes : ℕ) (values : List Text) → IsSeed seed → IsPolicyCount count → IsLaneCount lanes → EachPlain values
+    → EachPlain (decimal seed ∷ decimal count ∷ decimal lanes ∷ values)
+plain_draws seed count lanes values a b c more =
+    (plain_number 2147483647 seed (omega arith) a, (plain_number 100000 count (omega arith) b.1, (plain_number 8 lanes (omega arith) c.1, more)))
+
 pub asked : (word : Text) (words : List Text) (one : Mode) → AreWords (word ∷ words) one → (word ≡ verb_word (verb_of one)) × Asked one words
 asked word words (mode.Run basis) are =
-    let is = are.1 in (
-      are.0,
-      record {
-        pieces = is.pieces;
-        spelling = spelling_of (options_of Run) words is.pieces is.spells is.only (subst EachPlain (sym is.alone) tt) (plain_lone _ (λ given. IsBasisOr given basis) is.basis_is (plain_basis basis), tt);
-        says = (is.alone, is.basis_is);
-      },
-    )
+    let is = are.1 in
+    (are.0, asked_so (mode.Run basis) words is.pieces is.spells is.only (subst EachPlain (sym is.alone) tt) (plain_basis basis _ is.basis_is, tt) (is.alone, is.basis_is))
 asked word words (mode.Value on position workers basis measure) are =
-    let is = are.1 in (
+    let is = are.1 in
+    let alone = subst EachPlain (sym is.alone) (plain_day is.day on is.day_is.1, tt) in
+    let at = plain_lone _ (λ given. IsPositionOr given position) is.position_is (plain_position position) in (
       are.0,
-      record {
-        pieces = is.pieces;
-        spelling = spelling_of (options_of Value) words is.pieces is.spells is.only (subst EachPlain (sym is.alone) (plain_day is.day on is.day_is.1, tt)) (
-          plain_lone _ (λ given. IsPositionOr given position) is.position_is (plain_position position),
-          (plain_lone _ (λ given. AreWorkersOr given workers) is.workers_are (plain_workers workers), (plain_lone _ (λ given. IsBasisOr given basis) is.basis_is (plain_basis basis), tt)),
-        );
-        says = ((is.day, is.alone, is.day_is), is.position_is, is.workers_are, is.basis_is, is.measure_is);
-      },
+      asked_so (mode.Value on position workers basis measure) words is.pieces is.spells is.only alone (at, (plain_workers workers _ is.workers_are, (plain_basis basis _ is.basis_is, tt)))
+          ((is.day, is.alone, is.day_is), is.position_is, is.workers_are, is.basis_is, is.measure_is),
     )
 asked word words (mode.Project on years workers basis) are =
-    let is = are.1 in (
+    let is = are.1 in
+    let alone = subst EachPlain (sym is.alone) (plain_day is.day on is.day_is.1, (plain_number 131 years (omega arith) is.years_in.1, tt)) in (
       are.0,
-      record {
-        pieces = is.pieces;
-        spelling = spelling_of (options_of Project) words is.pieces is.spells is.only
-            (subst EachPlain (sym is.alone) (plain_day is.day on is.day_is.1, (plain_number 131 years (omega arith) is.years_in.1, tt)))
-            (plain_lone _ (λ given. AreWorkersOr given workers) is.workers_are (plain_workers workers), (plain_lone _ (λ given. IsBasisOr given basis) is.basis_is (plain_basis basis), tt));
-        says = ((is.day, is.alone, is.day_is, is.years_in), is.workers_are, is.basis_is);
-      },
+      asked_so (mode.Project on years workers basis) words is.pieces is.spells is.only alone (plain_workers workers _ is.workers_are, (plain_basis basis _ is.basis_is, tt))
+          ((is.day, is.alone, is.day_is, is.years_in), is.workers_are, is.basis_is),
     )
 asked word words (mode.State id) are =
-    let is = are.1 in (
-      are.0,
-      record {
-        pieces = is.pieces;
-        spelling = spelling_of (options_of State) words is.pieces is.spells is.only (plain_lone _ (λ given. IsPolicyOr given id) is.id_is (plain_policy id)) tt;
-        says = is.id_is;
-      },
-    )
-asked word words mode.Checkpoint are = (
-  are.0,
-  record { pieces = []; spelling = record { spells = are.1; only = tt; plain = tt }; says = refl },
-)
+    let is = are.1 in
+    (are.0, asked_so (mode.State id) words is.pieces is.spells is.only (plain_lone _ (λ given. IsPolicyOr given id) is.id_is (plain_policy id)) tt is.id_is)
+asked word words mode.Checkpoint are = (are.0, asked_so mode.Checkpoint words [] are.1 tt tt tt refl)
 asked word words (mode.Generate seed count lanes) are =
     let is = are.1 in (
       are.0,
-      record {
-        pieces = bare (decimal seed) ∷ bare (decimal count) ∷ bare (decimal lanes) ∷ [];
-        spelling = record { spells = is.spells; only = tt; plain = (plain_number 2147483647 seed (omega arith) is.seed_in, (plain_number 100000 count (omega arith) is.count_in.1, (plain_number 8 lanes (omega arith) is.lanes_in.1, tt))) };
-        says = (refl, (is.seed_in, is.count_in, is.lanes_in));
-      },
+      asked_so (mode.Generate seed count lanes) words (bare (decimal seed) ∷ bare (decimal count) ∷ bare (decimal lanes) ∷ []) is.spells tt
+          (plain_draws seed count lanes [] is.seed_in is.count_in is.lanes_in tt) tt (refl, (is.seed_in, is.count_in, is.lanes_in)),
     )
 asked word words (mode.Load seed count lanes workers) are =
-    let is = are.1 in (
+    let is = are.1 in
+    let crew = plain_number 64 workers (omega arith) is.workers_in.1 in (
       are.0,
-      record {
-        pieces = bare (decimal seed) ∷ bare (decimal count) ∷ bare (decimal lanes) ∷ bare (decimal workers) ∷ [];
-        spelling = record {
-          spells = is.spells;
-          only = tt;
-          plain = (
-            plain_number 2147483647 seed (omega arith) is.seed_in,
-            (
-              plain_number 100000 count (omega arith) is.count_in.1,
-              (plain_number 8 lanes (omega arith) is.lanes_in.1, (plain_number 64 workers (omega arith) is.workers_in.1, tt)),
-            ),
-          );
-        };
-        says = (refl, (is.seed_in, is.count_in, is.lanes_in), is.workers_in);
-      },
+      asked_so (mode.Load seed count lanes workers) words (bare (decimal seed) ∷ bare (decimal count) ∷ bare (decimal lanes) ∷ bare (decimal workers) ∷ []) is.spells tt
+          (plain_draws seed count lanes (decimal workers ∷ []) is.seed_in is.count_in is.lanes_in (crew, tt)) tt (refl, (is.seed_in, is.count_in, is.lanes_in), is.workers_in),
     )
 
 -- without options each piece is a word

@@ -1,6 +1,8 @@
 -- What a line's command makes of words: it takes those that pieces spell, and finds the pieces' values
 use Rattle.std.proofs.Common.{◌≡◌, ◌&&◌, ◌||◌, Bool, true, false, cond, fold, not, List, [], ◌∷◌, ◌++◌, map, None, is_some, unwrap_or, refl, sym, ap, ap₂, ◌∙◌, subst, bytes_eq, append-nil, append_assoc, arith, true≢false}
 use Rattle.std.specs.List.{list_any}
+use Rattle.std.proofs.Math.Bool.{or-true}
+use Rattle.std.proofs.lemmas.Bool.{false_from_ne_true}
 use Rattle.clap.specs.Walk.{Row, Rule, Text, Walk, all_of, idle, settled, finished, with_default, has_row, rows_after, nothing_held}
 use Rattle.clap.specs.Simple.{App, built, entered, matches_of}
 use Rattle.clap.specs.Takes.{is_given}
@@ -11,7 +13,7 @@ use Rattle.life_args.specs.inside.Lines.{ArePlain, IsPlainText, OptionNames, Spe
 use Rattle.life_args.proofs.Lexing.{IsOptionName}
 use Rattle.life_args.proofs.Rules.{AreGood, IsGood, add, filled_alone, filled_flag, filled_option, filled_options, own, rules, same}
 use Rattle.life_args.proofs.Steps.{leaf, settles, stand}
-use Rattle.life_args.proofs.Walks.{ends, none_first, none_second, pieces_of, put, reads}
+use Rattle.life_args.proofs.Walks.{ends, none_first, none_second, pieces_of, put, reads, use_of}
 
 -- ---- the values of rows
 
@@ -19,11 +21,7 @@ abbrev pub values_in : Text → List Row → List Text
 values_in id rows = unwrap_or (all_of id rows) []
 
 apart_names : (a b : Text) → (a ≡ b → ⊥) → bytes_eq a b ≡ false
-apart_names a b other = go (bytes_eq a b) refl
-  where
-    go : (t : Bool) → bytes_eq a b ≡ t → t ≡ false
-    go true e = absurd (other (same a b e))
-    go false e = refl
+apart_names a b other = false_from_ne_true (bytes_eq a b) (λ e. other (same a b e))
 
 pub differ : (a b : Text) → bytes_eq a b ≡ false → a ≡ b → ⊥
 differ a b e is = true≢false (sym (own b) ∙ ap (λ (x : Text). bytes_eq x b) (sym is) ∙ e)
@@ -49,10 +47,7 @@ values_added id name value (r ∷ rows) = go (bytes_eq r.id name) (bytes_eq r.id
 -- the values that pieces give an id
 abbrev picked : Text → List WordPiece → List Text
 picked id [] = []
-picked id (bare value ∷ pieces) = value_under id alone_id value (picked id pieces)
-picked id (apart name value ∷ pieces) = value_under id name value (picked id pieces)
-picked id (joined name value ∷ pieces) = value_under id name value (picked id pieces)
-picked id (flag name ∷ pieces) = value_under id name [] (picked id pieces)
+picked id (piece ∷ pieces) = value_under id (use_of piece).0 (use_of piece).1 (picked id pieces)
 
 one_more : (t : Bool) (value : Text) (values more : List Text) → (values ++ cond t (value ∷ []) []) ++ more ≡ values ++ cond t (value ∷ more) more
 one_more true value values more = append_assoc values (value ∷ []) more
@@ -60,18 +55,10 @@ one_more false value values more = ap (λ vs. vs ++ more) (append-nil values)
 
 put_values : (id : Text) (pieces : List WordPiece) (rows : List Row) → values_in id (put pieces rows) ≡ values_in id rows ++ picked id pieces
 put_values id [] rows = sym (append-nil (values_in id rows))
-put_values id (bare value ∷ pieces) rows =
-    put_values id pieces (add alone_id value rows) ∙ ap (λ vs. vs ++ picked id pieces) (values_added id alone_id value rows)
-    ∙ one_more (bytes_eq alone_id id) value (values_in id rows) (picked id pieces)
-put_values id (apart name value ∷ pieces) rows =
-    put_values id pieces (add name value rows) ∙ ap (λ vs. vs ++ picked id pieces) (values_added id name value rows)
-    ∙ one_more (bytes_eq name id) value (values_in id rows) (picked id pieces)
-put_values id (joined name value ∷ pieces) rows =
-    put_values id pieces (add name value rows) ∙ ap (λ vs. vs ++ picked id pieces) (values_added id name value rows)
-    ∙ one_more (bytes_eq name id) value (values_in id rows) (picked id pieces)
-put_values id (flag name ∷ pieces) rows =
-    put_values id pieces (add name [] rows) ∙ ap (λ vs. vs ++ picked id pieces) (values_added id name [] rows)
-    ∙ one_more (bytes_eq name id) [] (values_in id rows) (picked id pieces)
+put_values id (piece ∷ pieces) rows =
+    let u = use_of piece in
+    put_values id pieces (add u.0 u.1 rows) ∙ ap (λ vs. vs ++ picked id pieces) (values_added id u.0 u.1 rows)
+    ∙ one_more (bytes_eq u.0 id) u.1 (values_in id rows) (picked id pieces)
 
 passed : (id name value : Text) (values : List Text) → bytes_eq name id ≡ false → value_under id name value values ≡ values
 passed id name value values other = ap (λ (t : Bool). cond t (value ∷ values) values) other
@@ -89,10 +76,6 @@ same_either : (t : Bool) (rows : List Row) → cond t rows rows ≡ rows
 same_either true rows = refl
 same_either false rows = refl
 
-or_true : (t : Bool) → (t || true) ≡ true
-or_true true = refl
-or_true false = refl
-
 no_flag_defaults : (flags : List Text) (rows : List Row) → fold with_default rows (map filled_flag flags) ≡ rows
 no_flag_defaults [] rows = refl
 no_flag_defaults (name ∷ flags) rows = ap (λ (r : List Row). fold with_default r (map filled_flag flags)) (same_either (has_row name rows) rows) ∙ no_flag_defaults flags rows
@@ -108,7 +91,7 @@ all_finished names rows =
     ∙ no_defaults names.valued names.flags rows
 
 default_fits : (argument : Rule) (t : Bool) → cond (t || true) [] (given_default_fault argument []) ≡ []
-default_fits argument t = ap (λ (b : Bool). cond b [] (given_default_fault argument [])) (or_true t)
+default_fits argument t = ap (λ (b : Bool). cond b [] (given_default_fault argument [])) (or-true t)
 
 flag_defaults_fit : (flags : List Text) (rows : List Row) → defaults_fault rows (map filled_flag flags) ≡ []
 unfolding defaults_fault

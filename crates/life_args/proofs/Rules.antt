@@ -1,9 +1,10 @@
 -- The arguments of a line's command, as `clap` fills them in
-use Rattle.std.proofs.Common.{◌≡◌, ◌⊎◌, ℕ, Bool, true, false, List, [], ◌∷◌, ◌++◌, map, Some, None, refl, sym, ap, ap₂, ◌∙◌, inl, inr, bytes_eq, true≢false}
+use Rattle.std.proofs.Common.{◌≡◌, ◌⊎◌, ◌&&◌, ℕ, Bool, true, false, find, is_some, not, List, [], ◌∷◌, ◌++◌, map, Some, None, refl, sym, ap, ap₂, ◌∙◌, inl, inr, bytes_eq, true≢false}
 use Rattle.std.specs.Option.{option_or}
+use Rattle.std.proofs.Math.Bool.{or-false}
 use Rattle.std.proofs.lemmas.List.Folds.{find-append}
 use Rattle.std.proofs.lemmas.Slice.Eq.{bytes_eq-Decides}
-use Rattle.clap.specs.Walk.{Row, Rule, Text, arg_by_id, arg_by_long, most_values, used, with_values}
+use Rattle.clap.specs.Walk.{Row, Rule, Text, arg_by_id, arg_by_long, has_long, most_values, used, with_values}
 use Rattle.clap.specs.Simple.{filled, filled_from, with_index}
 use Rattle.clap.specs.Faults.{use_fault}
 use Rattle.clap.specs.declared.builder.value_parser.Reading.TheVariants.{AsWritten}
@@ -70,79 +71,72 @@ pub record IsKnown (names : OptionNames) (id : Text) : Type 0 where
 pub alone_known : (names : OptionNames) → IsKnown names alone_id
 alone_known names = record { argument = filled_alone; found = refl; is = refl; one = refl; adds = λ value rows. refl; fits = λ value rows. refl; wants = λ rows. refl }
 
--- the flag of a name is found by it, where there is one
-flag_found : (flags : List Text) (name : Text)
-    → ((arg_by_long (map filled_flag flags) name ≡ Some (filled_flag name)) × IsAmong flags name) ⊎ (arg_by_long (map filled_flag flags) name ≡ None)
-flag_found [] name = inr refl
-flag_found (one ∷ flags) name = go (bytes_eq one name) refl (flag_found flags name)
-  where
-    go : (b : Bool) → bytes_eq one name ≡ b
-        → ((arg_by_long (map filled_flag flags) name ≡ Some (filled_flag name)) × IsAmong flags name) ⊎ (arg_by_long (map filled_flag flags) name ≡ None)
-        → ((arg_by_long (map filled_flag (one ∷ flags)) name ≡ Some (filled_flag name)) × IsAmong (one ∷ flags) name) ⊎ (arg_by_long (map filled_flag (one ∷ flags)) name ≡ None)
-    go true e h = let is = same one name e in inl (rw e (ap (λ (n : Text). Some (filled_flag n)) is), inl (sym is))
-    go false e (inl h) = inl (rw e h.0, inr h.1)
-    go false e (inr h) = inr (rw e h)
+-- ---- names
 
--- so is the option of a name, and the flag where it is no option's
-abbrev Longs : (valued flags : List Text) → Text → Type 0
-Longs valued flags name = ((arg_by_long (map filled_option valued ++ map filled_flag flags) name ≡ Some (filled_option name)) × IsAmong valued name)
-    ⊎ (((arg_by_long (map filled_option valued ++ map filled_flag flags) name ≡ Some (filled_flag name)) × IsAmong flags name)
-    ⊎ (arg_by_long (map filled_option valued ++ map filled_flag flags) name ≡ None))
+-- rules that have names are found by them
+module _ (test : Rule → Bool) (rule : Text → Rule) (name : Text) (tests : (one : Text) → test (rule one) ≡ bytes_eq one name) where
+  abbrev Looked : List Text → Type 0
+  Looked names = ((find test (map rule names) ≡ Some (rule name)) × IsAmong names name) ⊎ ((find test (map rule names) ≡ None) × (IsAmong names name → ⊥))
 
-longs : (valued flags : List Text) (name : Text) → Longs valued flags name
-longs [] flags name = inr (flag_found flags name)
-longs (one ∷ valued) flags name = go (bytes_eq one name) refl (longs valued flags name)
-  where
-    go : (b : Bool) → bytes_eq one name ≡ b → Longs valued flags name → Longs (one ∷ valued) flags name
-    go true e h = let is = same one name e in inl (rw e (ap (λ (n : Text). Some (filled_option n)) is), inl (sym is))
-    go false e (inl h) = inl (rw e h.0, inr h.1)
-    go false e (inr (inl h)) = inr (inl (rw e h.0, h.1))
-    go false e (inr (inr h)) = inr (inr (rw e h))
+  looked : (names : List Text) → Looked names
+  looked [] = inr (refl, λ never. never)
+  looked (one ∷ names) = go (bytes_eq one name) refl (looked names)
+    where
+      go : (b : Bool) → bytes_eq one name ≡ b → Looked names → Looked (one ∷ names)
+      go true e rest = let is = same one name e in inl (rw (tests one ∙ e) (ap (λ (n : Text). Some (rule n)) is), inl (sym is))
+      go false e (inl is) = inl (rw (tests one ∙ e) is.0, inr is.1)
+      go false e (inr none) = inr (
+        rw (tests one ∙ e) none.0,
+        λ among. elim among [
+          | inl is ↦ true≢false (sym (own name) ∙ ap (λ (n : Text). bytes_eq n name) is ∙ e)
+          | inr more ↦ none.1 more
+        ],
+      )
 
-pub long_found : (names : OptionNames) (name : Text)
-    → ((arg_by_long (rules names) name ≡ Some (filled_option name)) × IsAmong names.valued name)
-    ⊎ (((arg_by_long (rules names) name ≡ Some (filled_flag name)) × IsAmong names.flags name) ⊎ (arg_by_long (rules names) name ≡ None))
-long_found names name = longs names.valued names.flags name
+  present : (names : List Text) → IsAmong names name → find test (map rule names) ≡ Some (rule name)
+  present names among = elim (looked names) [
+    | inl is ↦ is.0
+    | inr none ↦ absurd (none.1 among)
+  ]
 
--- the option of each name of the command is found by it
-long_in : (rest : List Rule) (valued : List Text) (name : Text) → IsAmong valued name → arg_by_long (map filled_option valued ++ rest) name ≡ Some (filled_option name)
-long_in rest [] name among = absurd among
-long_in rest (one ∷ valued) name among = go (bytes_eq one name) refl among (long_in rest valued name)
-  where
-    go : (b : Bool) → bytes_eq one name ≡ b → IsAmong (one ∷ valued) name → (IsAmong valued name → arg_by_long (map filled_option valued ++ rest) name ≡ Some (filled_option name))
-        → arg_by_long (map filled_option (one ∷ valued) ++ rest) name ≡ Some (filled_option name)
-    go true e h more = rw e (ap (λ (n : Text). Some (filled_option n)) (same one name e))
-    go false e (inl is) more = absurd (true≢false (sym (own name) ∙ ap (λ (n : Text). bytes_eq n name) is ∙ e))
-    go false e (inr others) more = rw e (more others)
+abbrev is_long : Text → Rule → Bool
+is_long name a = not (is_some a.index) && has_long a name
 
-pub long_is : (names : OptionNames) (name : Text) → IsAmong names.valued name → arg_by_long (rules names) name ≡ Some (filled_option name)
-long_is names name among = long_in (map filled_flag names.flags) names.valued name among
+module _ (names : OptionNames) (name : Text) where
+  abbrev options : List Rule
+  options = map filled_option names.valued
 
--- and the flag of each name
-flag_in : (flags : List Text) (name : Text) → IsAmong flags name → arg_by_long (map filled_flag flags) name ≡ Some (filled_flag name)
-flag_in [] name among = absurd among
-flag_in (one ∷ flags) name among = go (bytes_eq one name) refl among (flag_in flags name)
-  where
-    go : (b : Bool) → bytes_eq one name ≡ b → IsAmong (one ∷ flags) name → (IsAmong flags name → arg_by_long (map filled_flag flags) name ≡ Some (filled_flag name))
-        → arg_by_long (map filled_flag (one ∷ flags)) name ≡ Some (filled_flag name)
-    go true e h more = rw e (ap (λ (n : Text). Some (filled_flag n)) (same one name e))
-    go false e (inl is) more = absurd (true≢false (sym (own name) ∙ ap (λ (n : Text). bytes_eq n name) is ∙ e))
-    go false e (inr others) more = rw e (more others)
+  abbrev flags : List Rule
+  flags = map filled_flag names.flags
 
-pub flag_is : (names : OptionNames) (name : Text) → AreGood names → IsAmong names.flags name → arg_by_long (rules names) name ≡ Some (filled_flag name)
-flag_is names name good among =
-    find-append _ (map filled_option names.valued) (map filled_flag names.flags) ∙ ap₂ option_or (good.apart name among) (flag_in names.flags name among)
+  -- an option is looked for first, and then a flag
+  apart : arg_by_long (rules names) name ≡ option_or (arg_by_long options name) (arg_by_long flags name)
+  apart = find-append _ options flags
 
-option_is : (rest : List Rule) (valued : List Text) (name : Text) → IsAmong valued name → arg_by_id (map filled_option valued ++ rest) name ≡ Some (filled_option name)
-option_is rest [] name among = absurd among
-option_is rest (one ∷ valued) name among = go (bytes_eq one name) refl among (option_is rest valued name)
-  where
-    go : (b : Bool) → bytes_eq one name ≡ b → IsAmong (one ∷ valued) name → (IsAmong valued name → arg_by_id (map filled_option valued ++ rest) name ≡ Some (filled_option name))
-        → arg_by_id (map filled_option (one ∷ valued) ++ rest) name ≡ Some (filled_option name)
-    go true e h more = rw e (ap (λ (n : Text). Some (filled_option n)) (same one name e))
-    go false e (inl is) more = absurd (true≢false (sym (own name) ∙ ap (λ (n : Text). bytes_eq n name) is ∙ e))
-    go false e (inr others) more = rw e (more others)
+  pub long_found : ((arg_by_long (rules names) name ≡ Some (filled_option name)) × IsAmong names.valued name)
+      ⊎ (((arg_by_long (rules names) name ≡ Some (filled_flag name)) × IsAmong names.flags name) ⊎ (arg_by_long (rules names) name ≡ None))
+  long_found = elim (looked (is_long name) filled_option name (λ one. or-false (bytes_eq one name)) names.valued) [
+    | inl is ↦ inl (apart ∙ ap (λ o. option_or o (arg_by_long flags name)) is.0, is.1)
+    | inr none ↦ elim (looked (is_long name) filled_flag name (λ one. or-false (bytes_eq one name)) names.flags) [
+      | inl is ↦ inr (inl (apart ∙ ap₂ option_or none.0 is.0, is.1))
+      | inr neither ↦ inr (inr (apart ∙ ap₂ option_or none.0 neither.0))
+    ]
+  ]
 
-pub option_known : (names : OptionNames) (name : Text) → bytes_eq alone_id name ≡ false → IsAmong names.valued name → IsKnown names name
-option_known names name other among =
-    record { argument = filled_option name; found = rw other (option_is (map filled_flag names.flags) names.valued name among); is = refl; one = refl; adds = λ value rows. refl; fits = λ value rows. refl; wants = λ rows. refl }
+  pub long_is : IsAmong names.valued name → arg_by_long (rules names) name ≡ Some (filled_option name)
+  long_is among = apart ∙ ap (λ o. option_or o (arg_by_long flags name)) (present (is_long name) filled_option name (λ one. or-false (bytes_eq one name)) names.valued among)
+
+  pub flag_is : AreGood names → IsAmong names.flags name → arg_by_long (rules names) name ≡ Some (filled_flag name)
+  flag_is good among = apart ∙ ap₂ option_or (good.apart name among) (present (is_long name) filled_flag name (λ one. or-false (bytes_eq one name)) names.flags among)
+
+  pub option_known : bytes_eq alone_id name ≡ false → IsAmong names.valued name → IsKnown names name
+  option_known other among = record {
+    argument = filled_option name;
+    found = rw other (find-append _ options flags
+        ∙ ap (λ o. option_or o (arg_by_id flags name)) (present (λ a. bytes_eq a.id name) filled_option name (λ one. refl) names.valued among));
+    is = refl;
+    one = refl;
+    adds = λ value rows. refl;
+    fits = λ value rows. refl;
+    wants = λ rows. refl;
+  }

@@ -1,6 +1,7 @@
 -- One word of `clap`'s walk over a line
-use Rattle.std.proofs.Common.{◌≡◌, ◌&&◌, ℕ, Bool, true, false, cond, List, [], ◌∷◌, Option, Some, None, option_map, refl, ap, ap₂, ◌∙◌, bytes_eq, codes, nat_lt}
+use Rattle.std.proofs.Common.{◌≡◌, ℕ, Bool, true, false, cond, List, [], ◌∷◌, Option, Some, None, option_map, refl, ap, ap₂, ◌∙◌, bytes_eq, codes, nat_lt}
 use Rattle.std.specs.Prelude.{⊤}
+use Rattle.std.proofs.Math.Bool.{and-false}
 use Rattle.std.specs.Option.{option_map_or}
 use Rattle.clap.specs.Lexer.{long_of}
 use Rattle.clap.specs.Walk.{Held, Row, Rule, Step, Text, Waiting, Walk, idle, option, positional, next, settled, settled_rows, value, used, walked, arg_by_id, arg_by_long, is_pending, word_met, plain_word, option_word, pushed, after_step, after_flag, long_met, long_or_other, long_word, short_or_plain, subcommand_met, subcommand_or_other, to_positional, trailing}
@@ -52,14 +53,6 @@ all_rows rows (Some u) = add u.0 u.1 rows
 abbrev pub IsFree : Waiting → Type 0
 IsFree (option name) = ⊥
 IsFree _ = ⊤
-
-and_false : (b : Bool) → (b && false) ≡ false
-and_false true = refl
-and_false false = refl
-
-pub or_else_nil : (a : Kinds) → or_else a [] ≡ a
-or_else_nil [] = refl
-or_else_nil (k ∷ ks) = refl
 
 no_subcommand : (waiting : Waiting) (word : Text) → subcommand_met [] waiting word ≡ None
 no_subcommand idle word = refl
@@ -147,7 +140,7 @@ module _ (names : OptionNames) where
   alone_goes rows last waiting word free known is =
       let h : Held = held rows last in
       let turn = turn_is rows h.pending waiting word (h, value) [] (value_met waiting word h is ∙ free_word waiting word h free) (value_fault waiting word h is) in
-      let none = and_false (is_pending filled_alone h.pending) in
+      let none = and-false (is_pending filled_alone h.pending) in
       record {
         fault = turn.0 ∙ ap (λ (b : Bool). cond b [] (settle_fault c false h)) none ∙ no_owing rows last known;
         walk = turn.1 ∙ ap (λ (b : Bool). alone_walk word (cond b h (settled c h))) none ∙ ap (alone_walk word) (settles rows last known);

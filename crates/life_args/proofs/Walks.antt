@@ -1,5 +1,6 @@
 -- `clap`'s walk over the words that pieces spell, and the pieces of the words that it takes
-use Rattle.std.proofs.Common.{◌≡◌, ◌||◌, Bool, true, false, fold, List, [], ◌∷◌, ◌++◌, Option, Some, None, refl, sym, ap, ap₂, ◌∙◌, inl, inr, true≢false}
+use Rattle.std.proofs.Common.{◌≡◌, false, fold, List, [], ◌∷◌, ◌++◌, Option, Some, None, refl, sym, ap, ap₂, ◌∙◌, inl, inr}
+use Rattle.std.proofs.lemmas.Bool.{or_parts}
 use Rattle.clap.specs.Walk.{Row, Text, Waiting, Walk, arg_by_long, idle, positional, walked}
 use Rattle.clap.specs.Faults.{settle_fault, walk_fault}
 use Rattle.clap.specs.Kinds.{Kinds, or_else}
@@ -10,13 +11,17 @@ use Rattle.life_args.proofs.Lexing.{IsNamed, Seen, alone, apart, joined, seen, p
 use Rattle.life_args.proofs.Rules.{AreGood, IsKnown, add, alone_known, filled_flag, flag_is, long_found, long_is, option_known}
 use Rattle.life_args.proofs.Steps.{Goes, IsFaulty, IsFree, IsUse, Use, all_rows, c, s, stand, want, no_owing, alone_goes, name_goes, value_goes, joined_goes, flag_goes, unknown_faulty, valued_flag_faulty, wanting_faulty, wanting_flag_faulty, unfilled}
 
+-- the id and the value of a piece
+abbrev pub use_of : WordPiece → Use
+use_of (bare value) = (alone_id, value)
+use_of (apart_piece name value) = (name, value)
+use_of (joined_piece name value) = (name, value)
+use_of (flag name) = (name, [])
+
 -- the rows after the uses of pieces
 abbrev pub put : List WordPiece → List Row → List Row
 put [] rows = rows
-put (bare value ∷ pieces) rows = put pieces (add alone_id value rows)
-put (apart_piece name value ∷ pieces) rows = put pieces (add name value rows)
-put (joined_piece name value ∷ pieces) rows = put pieces (add name value rows)
-put (flag name ∷ pieces) rows = put pieces (add name [] rows)
+put (piece ∷ pieces) rows = put pieces (add (use_of piece).0 (use_of piece).1 rows)
 
 pub none_second : (a b : Kinds) → or_else a b ≡ [] → b ≡ []
 none_second [] b e = e
@@ -153,10 +158,6 @@ module _ (names : OptionNames) (good : AreGood names) where
       go (apart name same is) = absurd (stops (want rows one) word words (wrong name None is) taken)
       go (joined name value same is) = absurd (stops (want rows one) word words (wrong name (Some value) is) taken)
 
-  not_either : (a b : Bool) → (a || b) ≡ false → (a ≡ false) × (b ≡ false)
-  not_either true b e = absurd (true≢false e)
-  not_either false b e = (refl, e)
-
   both : (words : List Text) → has_odd words ≡ false → Idle words × Wanting words
   unfolding walk_fault
   both [] even = (
@@ -164,7 +165,7 @@ module _ (names : OptionNames) (good : AreGood names) where
     λ rows one among taken. let none : _ ≡ [] = sym (unfilled names rows one (known one among)) ∙ taken in absurd (cc),
   )
   both (word ∷ words) even =
-      let each = not_either (is_odd word) (has_odd words) even in
+      let each = or_parts (is_odd word) (has_odd words) even in
       let rest = both words each.1 in
       (idle_word word words each.0 rest.0 rest.1, wanting_word word words each.0 rest.0)
 

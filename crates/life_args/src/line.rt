@@ -1,5 +1,6 @@
 // What stands behind the first word: values that stand alone, and options with their values.
 ghost use Rattle.std.specs.Prelude.{◌≡◌, [], true, IfOk, false, map, string_bytes};
+ghost use Rattle.std.specs.List.{list_any};
 ghost use Rattle.clap.specs.Words.{app_of, is_simple_and_free, rule_of};
 ghost use Rattle.life_args.specs.inside.Lines as lines;
 ghost use Rattle.life_args.specs.inside.Lines.{ReadsLine, TakesWords, flag_rule, line_app, no_option_names, option_rule};
@@ -31,14 +32,9 @@ pub fn read_line<'a>(
 
 // Whether a word begins with a hyphen and is no option. `clap` would take `--`, and reads `-x` as a flag.
 fn has_odd(words: &[String]) -> bool
-    ensures { result ≡ lines.has_odd (map string_bytes words.now) }
+    ensures { result ≡ list_any (λ word. lines.is_odd (string_bytes word)) words.now }
 {
-    for word in words {
-        if is_odd(word.as_str()) {
-            return true;
-        }
-    }
-    false
+    words.iter().any(|word| is_odd(word.as_str()))
 }
 
 fn is_odd(word: &str) -> bool

@@ -6,8 +6,8 @@ ghost use Rattle.life_args.specs.inside.Verbs.{AreDrawn, AsksFor};
 use crate::fault::WordsFault;
 use crate::mode::Mode;
 use crate::values::{
-    basis_of, day_of, four, is_empty, measure_of, number_of, one, policy_of, position_of, three,
-    two, workers_of,
+    basis_of, day_of, four, is_empty, measure_of, number_of, policy_of, position_of, three,
+    workers_of,
 };
 use crate::verb::Verb;
 use clap::ArgMatches;
@@ -41,7 +41,7 @@ fn run_of(alloc: Global, line: &ArgMatches) -> Result<Mode, WordsFault>
 fn value_of(alloc: Global, line: &ArgMatches) -> Result<Mode, WordsFault>
     ensures { GivesAsked (AsksFor Verb.Value (found_of line.now)) result }
 {
-    let Some(on) = one(line.get_strs("values")) else {
+    let Some([on]) = line.get_strs("values") else {
         return Err(WordsFault::Usage);
     };
     let on = day_of(on)?;
@@ -61,7 +61,7 @@ fn value_of(alloc: Global, line: &ArgMatches) -> Result<Mode, WordsFault>
 fn project_of(alloc: Global, line: &ArgMatches) -> Result<Mode, WordsFault>
     ensures { GivesAsked (AsksFor Verb.Project (found_of line.now)) result }
 {
-    let Some((on, years)) = two(line.get_strs("values")) else {
+    let Some([on, years]) = line.get_strs("values") else {
         return Err(WordsFault::Usage);
     };
     let on = day_of(on)?;

@@ -1,5 +1,5 @@
 // What the values of a command line say.
-ghost use Rattle.std.specs.Prelude.{◌≡◌, ◌≢◌, ◌≤◌, ◌↔◌, ℕ, [], ◌∷◌, length, IsTrue, IfSome, IfNone, decimal, option_map};
+ghost use Rattle.std.specs.Prelude.{◌≡◌, ◌≢◌, ◌≤◌, ◌↔◌, ℕ, [], ◌∷◌, length, IsTrue, IfSome, IfNone, decimal};
 ghost use Rattle.life_args.specs.Pieces.{AtMostOne};
 ghost use Rattle.life_args.specs.Values.{IsDayValue, IsPositionOr, AreWorkersOr, IsBasisOr, IsMeasureBy, IsPolicyOr};
 ghost use Rattle.life_args.specs.inside.Lines.{GivesAsked};
@@ -24,21 +24,38 @@ pub fn day_of(value: &str) -> Result<i32, WordsFault>
 pub fn position_of(values: Option<&[&str]>) -> Result<At, WordsFault>
     ensures { GivesAsked (λ at. AtMostOne (texts_of values.entry) (λ given. IsPositionOr given at)) result }
 {
-    position_or(lone(values)?)
+    match values {
+        None | Some([]) => Ok(At::Now),
+        Some([text]) => Ok(At::Position(number_of(text, 0, 4_000_000)? as u32)),
+        _ => Err(WordsFault::Usage),
+    }
 }
 
 /// The number of workers: 1 where none is given.
 pub fn workers_of(values: Option<&[&str]>) -> Result<u8, WordsFault>
     ensures { GivesAsked (λ workers. AtMostOne (texts_of values.entry) (λ given. AreWorkersOr given workers)) result }
 {
-    workers_or(lone(values)?)
+    match values {
+        None | Some([]) => Ok(1),
+        Some([text]) => Ok(number_of(text, 1, 64)? as u8),
+        _ => Err(WordsFault::Usage),
+    }
 }
 
 /// The name of the basis file: `basis.csv` where none is given.
 pub fn basis_of(alloc: Global, values: Option<&[&str]>) -> Result<Name, WordsFault>
     ensures { GivesAsked (λ basis. AtMostOne (texts_of values.entry) (λ given. IsBasisOr given basis)) result }
 {
-    basis_or(alloc, lone(values)?)
+    let text = match values {
+        None | Some([]) => "basis.csv",
+        Some([text]) => *text,
+        _ => return Err(WordsFault::Usage),
+    };
+    match Name::of(alloc, text.as_bytes()) {
+        Ok(Some(name)) => Ok(name),
+        Ok(None) => Err(WordsFault::Usage),
+        Err(NoMemory) => Err(WordsFault::NoMemory),
+    }
 }
 
 /// The reserve that is asked for, by the uses of `--mean` and those of `--deficiency`: of both flags one at most, once.
@@ -59,7 +76,14 @@ pub fn measure_of(mean: Option<&[&str]>, deficiency: Option<&[&str]>) -> Result<
 pub fn policy_of(values: Option<&[&str]>) -> Result<Option<u32>, WordsFault>
     ensures { GivesAsked (λ id. AtMostOne (texts_of values.entry) (λ given. IsPolicyOr given id)) result }
 {
-    policy_or(lone(values)?)
+    match values {
+        None | Some([]) => Ok(None),
+        Some([text]) => match parse_count(text, 4_294_967_295) {
+            Some(id) => Ok(Some(id as u32)),
+            None => Err(WordsFault::Usage),
+        },
+        _ => Err(WordsFault::Usage),
+    }
 }
 
 /// A number from `least` to `most`.
@@ -79,28 +103,6 @@ pub fn is_empty(values: Option<&[&str]>) -> bool
     match values {
         None | Some([]) => true,
         _ => false,
-    }
-}
-
-/// The value, where there is just one.
-pub fn one<'a>(values: Option<&[&'a str]>) -> Option<&'a str>
-    ensures some { IfSome result (λ value. texts_of values.entry ≡ value.now ∷ []) }
-    ensures none { IfNone result (length (texts_of values.entry) ≢ 1) }
-{
-    match values {
-        Some([value]) => Some(*value),
-        _ => None,
-    }
-}
-
-/// The values, where there are two.
-pub fn two<'a>(values: Option<&[&'a str]>) -> Option<(&'a str, &'a str)>
-    ensures some { IfSome result (λ all. texts_of values.entry ≡ all.0.now ∷ all.1.now ∷ []) }
-    ensures none { IfNone result (length (texts_of values.entry) ≢ 2) }
-{
-    match values {
-        Some([a, b]) => Some((*a, *b)),
-        _ => None,
     }
 }
 
@@ -134,56 +136,6 @@ fn lone<'a>(values: Option<&[&'a str]>) -> Result<Option<&'a str>, WordsFault>
         None | Some([]) => Ok(None),
         Some([value]) => Ok(Some(*value)),
         _ => Err(WordsFault::Usage),
-    }
-}
-
-fn position_or(value: Option<&str>) -> Result<At, WordsFault>
-    ensures { GivesAsked (IsPositionOr (option_map (λ text. text.now) value.entry)) result }
-{
-    let Some(text) = value else {
-        return Ok(At::Now);
-    };
-    match parse_number(text.as_bytes(), 4_000_000) {
-        Some(position) => Ok(At::Position(position as u32)),
-        None => Err(WordsFault::Usage),
-    }
-}
-
-fn workers_or(value: Option<&str>) -> Result<u8, WordsFault>
-    ensures { GivesAsked (AreWorkersOr (option_map (λ text. text.now) value.entry)) result }
-{
-    let Some(text) = value else {
-        return Ok(1);
-    };
-    match parse_count(text, 64) {
-        Some(workers) => Ok(workers as u8),
-        None => Err(WordsFault::Usage),
-    }
-}
-
-fn basis_or(alloc: Global, value: Option<&str>) -> Result<Name, WordsFault>
-    ensures { GivesAsked (IsBasisOr (option_map (λ text. text.now) value.entry)) result }
-{
-    let text = match value {
-        Some(text) => text,
-        None => "basis.csv",
-    };
-    match Name::of(alloc, text.as_bytes()) {
-        Ok(Some(name)) => Ok(name),
-        Ok(None) => Err(WordsFault::Usage),
-        Err(NoMemory) => Err(WordsFault::NoMemory),
-    }
-}
-
-fn policy_or(value: Option<&str>) -> Result<Option<u32>, WordsFault>
-    ensures { GivesAsked (IsPolicyOr (option_map (λ text. text.now) value.entry)) result }
-{
-    let Some(text) = value else {
-        return Ok(None);
-    };
-    match parse_count(text, 4_294_967_295) {
-        Some(id) => Ok(Some(id as u32)),
-        None => Err(WordsFault::Usage),
     }
 }
 

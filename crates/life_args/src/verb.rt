@@ -19,26 +19,14 @@ pub fn verb_named(word: &str) -> Option<Verb>
     ensures some { IfSome result (λ verb. word.now ≡ verb_word verb) }
     ensures none { IfNone result ((verb : Verb) → word.now ≢ verb_word verb) }
 {
-    if word == "run" {
-        return Some(Verb::Run);
+    match word.as_bytes() {
+        b"run" => Some(Verb::Run),
+        b"value" => Some(Verb::Value),
+        b"project" => Some(Verb::Project),
+        b"state" => Some(Verb::State),
+        b"checkpoint" => Some(Verb::Checkpoint),
+        b"generate" => Some(Verb::Generate),
+        b"load" => Some(Verb::Load),
+        _ => None,
     }
-    if word == "value" {
-        return Some(Verb::Value);
-    }
-    if word == "project" {
-        return Some(Verb::Project);
-    }
-    if word == "state" {
-        return Some(Verb::State);
-    }
-    if word == "checkpoint" {
-        return Some(Verb::Checkpoint);
-    }
-    if word == "generate" {
-        return Some(Verb::Generate);
-    }
-    if word == "load" {
-        return Some(Verb::Load);
-    }
-    None
 }

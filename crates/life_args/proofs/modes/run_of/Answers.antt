@@ -2,13 +2,11 @@ use Rattle.std.proofs.Common.{ap, codes, unwrap_or, []}
 use Rattle.clap.specs.Words.{found_of}
 use Rattle.life_args.specs.declared.verb.Verb.TheVariants.{Run}
 use Rattle.life_args.specs.Values.{IsBasisOr}
-use Rattle.life_args.specs.inside.Lines.{values_named}
 use Rattle.life_args.specs.inside.Verbs.{texts_of}
-use Rattle.life_args.proofs.Saying.{option_refused, run_basis}
+use Rattle.life_args.proofs.Saying.{option_refused}
 use Rattle.life_args.proofs.modes.run_of.Goals as goal
 
 pub returns-in_err-basis : goal.returns-in_err-basis
 returns-in_err-basis c =
-    let found = found_of c.args.line.now in
-    option_refused (texts_of c.get_strs-2.result) (values_named found (codes "basis")) IsBasisOr Run found c.from_residual.result c.in_err-basis.field-0.0 c.from_residual.ensures.1
-    (ap (λ o. unwrap_or o []) c.get_strs-2.ensures) c.in_err-basis.ensures (run_basis found)
+    option_refused Run (found_of c.args.line.now) (codes "basis") IsBasisOr (texts_of c.get_strs-2.result) c.from_residual.result c.in_err-basis.field-0.0 c.from_residual.ensures.1
+    (ap (λ o. unwrap_or o []) c.get_strs-2.ensures) c.in_err-basis.ensures (λ said. (said.0, said.1.1))

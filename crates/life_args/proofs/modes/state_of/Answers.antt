@@ -2,13 +2,12 @@ use Rattle.std.proofs.Common.{ap, unwrap_or, []}
 use Rattle.clap.specs.Words.{found_of}
 use Rattle.life_args.specs.declared.verb.Verb.TheVariants.{State}
 use Rattle.life_args.specs.Values.{IsPolicyOr}
-use Rattle.life_args.specs.inside.Lines.{alone_id, values_named}
+use Rattle.life_args.specs.inside.Lines.{alone_id}
 use Rattle.life_args.specs.inside.Verbs.{texts_of}
-use Rattle.life_args.proofs.Saying.{option_refused, state_policy}
+use Rattle.life_args.proofs.Saying.{option_refused}
 use Rattle.life_args.proofs.modes.state_of.Goals as goal
 
 pub returns-in_err-id : goal.returns-in_err-id
 returns-in_err-id c =
-    let found = found_of c.args.line.now in
-    option_refused (texts_of c.get_strs.result) (values_named found alone_id) IsPolicyOr State found c.from_residual.result c.in_err-id.field-0.0 c.from_residual.ensures.1
-    (ap (λ o. unwrap_or o []) c.get_strs.ensures) c.in_err-id.ensures (state_policy found)
+    option_refused State (found_of c.args.line.now) alone_id IsPolicyOr (texts_of c.get_strs.result) c.from_residual.result c.in_err-id.field-0.0 c.from_residual.ensures.1
+    (ap (λ o. unwrap_or o []) c.get_strs.ensures) c.in_err-id.ensures (λ said. said)

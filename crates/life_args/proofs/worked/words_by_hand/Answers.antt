@@ -1,183 +1,108 @@
-use Rattle.std.proofs.Common.{[], ◌∷◌, refl, inl, inr, codes, lit≤, arith}
+use Rattle.std.proofs.Common.{◌≡◌, ℕ, List, [], ◌∷◌, refl, inl, inr, codes, decimal, lit≤, arith, pos, None, Some}
 use Rattle.std.specs.Fmt.{digits}
-use Rattle.std.proofs.lemmas.Int.{ints}
-use Rattle.life_dates.specs.Calendar.{date_of, date_at, year_of, month_of, days_before, days_before_year, days_of_months}
-use Rattle.life_dates.specs.DayText.{day_text}
+use Rattle.clap.specs.Faults.{defaults_fault, walk_fault}
+use Rattle.clap.specs.Walk.{walked}
+use Rattle.clap.specs.declared.error.kind.ErrorKind.TheVariants.{InvalidValue, TooManyValues, UnknownArgument}
+use Rattle.policy_types.specs.declared.entry.At.TheVariants.{Now, Position}
+use Rattle.policy_value.specs.declared.worth.Measure.TheVariants.{Terminal, Mean, Deficiency}
+use Rattle.life_args.specs.declared.mode.Mode.TheVariants as mode
+use Rattle.life_args.specs.declared.verb.Verb.TheVariants.{Run, Value, Project, State, Checkpoint, Generate}
 use Rattle.life_args.specs.Pieces.{bare, apart, joined, flag}
-use Rattle.life_args.proofs.WorkedWords.{asks, asks_nothing, b2_name, none_of_both, none_of_checkpoint_at, none_of_checkpoint_now, none_of_flag_as_value, none_of_132_years, none_of_none, none_of_help, none_of_no_years, none_of_now, none_of_no_day, none_of_projected_position, none_of_state_flag, none_of_three, none_of_twice, none_of_two, none_of_valued_flag, none_of_zero_years}
+use Rattle.life_args.proofs.WorkedWords.{asks_nothing, b2_name, new_year, no_help, other_years, refused, told, unnamed, untold}
 use Rattle.life_args.proofs.worked.words_by_hand.Goals as goal
+
+abbrev day : List ℕ
+day = codes "2021-01-01"
 
 pub returns-clause-run : goal.returns-clause-run
 returns-clause-run c = (
-  asks _ _ (refl, record { pieces = []; spells = refl; only = tt; alone = refl; basis_is = refl }),
-  asks _ _ (
-    refl,
-    record {
-      pieces = apart (codes "basis") (codes "b2.csv") ∷ [];
-      spells = refl;
-      only = (inl refl, tt);
-      alone = refl;
-      basis_is = (b2_name, refl);
-    },
-  ),
+  told (mode.Run (codes "basis.csv")) [] tt tt (refl, refl),
+  told (mode.Run (codes "b2.csv")) (apart (codes "basis") (codes "b2.csv") ∷ []) (inl refl, tt) (refl, tt) (refl, (b2_name, refl)),
 )
 
 pub returns-clause-value : goal.returns-clause-value
-unfolding digits day_text date_of date_at year_of month_of days_before days_before_year days_of_months
+unfolding digits
 returns-clause-value c = (
-  asks _ _ (
-    refl,
-    record {
-      pieces = bare (codes "2021-01-01") ∷ [];
-      spells = refl;
-      only = tt;
-      day = codes "2021-01-01";
-      alone = refl;
-      day_is = ((omega (arith, ints), omega (arith, ints)), refl);
-      position_is = refl;
-      workers_are = refl;
-      basis_is = refl;
-      measure_is = refl;
-    },
-  ),
-  asks _ _ (
-    refl,
-    record {
-      pieces = joined (codes "at") (codes "5") ∷ bare (codes "2021-01-01") ∷ apart (codes "workers") (codes "64") ∷ [];
-      spells = refl;
-      only = (inl refl, (inr (inl refl), tt));
-      day = codes "2021-01-01";
-      alone = refl;
-      day_is = ((omega (arith, ints), omega (arith, ints)), refl);
-      position_is = (lit≤ tt, refl);
-      workers_are = (lit≤ tt, lit≤ tt, refl);
-      basis_is = refl;
-      measure_is = refl;
-    },
-  ),
+  told (mode.Value (pos 18628) Now 1 (codes "basis.csv") Terminal) (bare day ∷ []) tt (refl, tt) ((day, refl, new_year), refl, refl, refl, refl),
+  told (mode.Value (pos 18628) (Position 5) 64 (codes "basis.csv") Terminal)
+      (joined (codes "at") (codes "5") ∷ bare day ∷ apart (codes "workers") (codes "64") ∷ []) (inl refl, (inr (inl refl), tt)) (refl, (refl, tt))
+      ((day, refl, new_year), (lit≤ tt, refl), (lit≤ tt, lit≤ tt, refl), refl, refl),
 )
 
 pub returns-clause-measure : goal.returns-clause-measure
-unfolding digits day_text date_of date_at year_of month_of days_before days_before_year days_of_months
+unfolding digits
 returns-clause-measure c = (
-  asks _ _ (
-    refl,
-    record {
-      pieces = flag (codes "mean") ∷ bare (codes "2021-01-01") ∷ [];
-      spells = refl;
-      only = (inl refl, tt);
-      day = codes "2021-01-01";
-      alone = refl;
-      day_is = ((omega (arith, ints), omega (arith, ints)), refl);
-      position_is = refl;
-      workers_are = refl;
-      basis_is = refl;
-      measure_is = refl;
-    },
-  ),
-  asks _ _ (
-    refl,
-    record {
-      pieces = bare (codes "2021-01-01") ∷ apart (codes "at") (codes "5") ∷ flag (codes "deficiency") ∷ [];
-      spells = refl;
-      only = (inl refl, (inr (inl refl), tt));
-      day = codes "2021-01-01";
-      alone = refl;
-      day_is = ((omega (arith, ints), omega (arith, ints)), refl);
-      position_is = (lit≤ tt, refl);
-      workers_are = refl;
-      basis_is = refl;
-      measure_is = refl;
-    },
-  ),
+  told (mode.Value (pos 18628) Now 1 (codes "basis.csv") Mean) (flag (codes "mean") ∷ bare day ∷ []) (inl refl, tt) (refl, tt)
+      ((day, refl, new_year), refl, refl, refl, refl),
+  told (mode.Value (pos 18628) (Position 5) 1 (codes "basis.csv") Deficiency)
+      (bare day ∷ apart (codes "at") (codes "5") ∷ flag (codes "deficiency") ∷ []) (inl refl, (inr (inl refl), tt)) (refl, (refl, tt))
+      ((day, refl, new_year), (lit≤ tt, refl), refl, refl, refl),
 )
 
 pub returns-clause-measure_near : goal.returns-clause-measure_near
+unfolding walk_fault walked defaults_fault
 returns-clause-measure_near c = (
-  asks_nothing _ none_of_both,
-  asks_nothing _ none_of_twice,
-  asks_nothing _ none_of_valued_flag,
-  asks_nothing _ none_of_flag_as_value,
-  asks_nothing _ none_of_state_flag,
+  untold Value (flag (codes "mean") ∷ bare day ∷ flag (codes "deficiency") ∷ []) (inl refl, (inr (inl refl), tt)) (refl, tt) (λ said. said.1.4),
+  untold Value (flag (codes "mean") ∷ bare day ∷ flag (codes "mean") ∷ []) (inl refl, (inl refl, tt)) (refl, tt) (λ said. said.1.4),
+  refused Value (codes "--mean=" ∷ day ∷ []) TooManyValues [] refl,
+  refused Value (day ∷ codes "--at" ∷ codes "--mean" ∷ []) InvalidValue [] refl,
+  refused State (codes "--mean" ∷ []) UnknownArgument [] refl,
 )
 
 pub returns-clause-project : goal.returns-clause-project
-unfolding digits day_text date_of date_at year_of month_of days_before days_before_year days_of_months
+unfolding digits
 returns-clause-project c = (
-  asks _ _ (
-    refl,
-    record {
-      pieces = bare (codes "2021-01-01") ∷ bare (codes "1") ∷ [];
-      spells = refl;
-      only = tt;
-      day = codes "2021-01-01";
-      alone = refl;
-      day_is = ((omega (arith, ints), omega (arith, ints)), refl);
-      years_in = (lit≤ tt, lit≤ tt);
-      workers_are = refl;
-      basis_is = refl;
-    },
-  ),
-  asks _ _ (
-    refl,
-    record {
-      pieces = joined (codes "workers") (codes "64") ∷ bare (codes "2021-01-01") ∷ bare (codes "131") ∷ apart (codes "basis") (codes "b2.csv") ∷ [];
-      spells = refl;
-      only = (inl refl, (inr (inl refl), tt));
-      day = codes "2021-01-01";
-      alone = refl;
-      day_is = ((omega (arith, ints), omega (arith, ints)), refl);
-      years_in = (lit≤ tt, lit≤ tt);
-      workers_are = (lit≤ tt, lit≤ tt, refl);
-      basis_is = (b2_name, refl);
-    },
-  ),
+  told (mode.Project (pos 18628) 1 1 (codes "basis.csv")) (bare day ∷ bare (codes "1") ∷ []) tt (refl, (refl, tt))
+      ((day, refl, new_year, (lit≤ tt, lit≤ tt)), refl, refl),
+  told (mode.Project (pos 18628) 131 64 (codes "b2.csv"))
+      (joined (codes "workers") (codes "64") ∷ bare day ∷ bare (codes "131") ∷ apart (codes "basis") (codes "b2.csv") ∷ [])
+      (inl refl, (inr (inl refl), tt)) (refl, (refl, (refl, tt)))
+      ((day, refl, new_year, (lit≤ tt, lit≤ tt)), (lit≤ tt, lit≤ tt, refl), (b2_name, refl)),
 )
 
 pub returns-clause-project_near : goal.returns-clause-project_near
+unfolding digits walk_fault walked defaults_fault
 returns-clause-project_near c = (
-  asks_nothing _ none_of_no_years,
-  asks_nothing _ none_of_zero_years,
-  asks_nothing _ none_of_132_years,
-  asks_nothing _ none_of_three,
-  asks_nothing _ none_of_projected_position,
+  untold Project (bare day ∷ []) tt (refl, tt) (λ said. let no : day ∷ [] ≡ said.1.0.0 ∷ decimal said.0.1 ∷ [] = said.1.0.1 in cc),
+  untold Project (bare day ∷ bare (codes "0") ∷ []) tt (refl, (refl, tt))
+      (λ said. other_years (codes "0") 0 refl (lit≤ tt) (λ some few. omega (arith, some)) said.0.0 said.0.1 said.1.0),
+  untold Project (bare day ∷ bare (codes "132") ∷ []) tt (refl, (refl, tt))
+      (λ said. other_years (codes "132") 132 refl (lit≤ tt) (λ some few. omega (arith, few)) said.0.0 said.0.1 said.1.0),
+  untold Project (bare day ∷ bare (codes "1") ∷ bare (codes "2") ∷ []) tt (refl, (refl, (refl, tt)))
+      (λ said. let no : day ∷ codes "1" ∷ codes "2" ∷ [] ≡ said.1.0.0 ∷ decimal said.0.1 ∷ [] = said.1.0.1 in cc),
+  refused Project (day ∷ codes "1" ∷ codes "--at" ∷ codes "0" ∷ []) UnknownArgument [] refl,
 )
 
 pub returns-clause-state : goal.returns-clause-state
 unfolding digits
 returns-clause-state c = (
-  asks _ _ (refl, record { pieces = []; spells = refl; only = tt; id_is = refl }),
-  asks _ _ (refl, record { pieces = bare (codes "7001") ∷ []; spells = refl; only = tt; id_is = ((lit≤ tt, lit≤ tt), refl) }),
+  told (mode.State None) [] tt tt refl,
+  told (mode.State (Some 7001)) (bare (codes "7001") ∷ []) tt (refl, tt) ((lit≤ tt, lit≤ tt), refl),
 )
 
 pub returns-clause-checkpoint : goal.returns-clause-checkpoint
+unfolding walk_fault walked defaults_fault
 returns-clause-checkpoint c = (
-  asks _ _ (refl, refl),
-  asks_nothing _ none_of_checkpoint_now,
-  asks_nothing _ none_of_checkpoint_at,
+  told mode.Checkpoint [] tt tt refl,
+  untold Checkpoint (bare (codes "now") ∷ []) tt (refl, tt) (λ said. let no : codes "now" ∷ [] ≡ [] = said.1 in cc),
+  refused Checkpoint (codes "--at" ∷ codes "0" ∷ []) UnknownArgument [] refl,
 )
 
 pub returns-clause-load : goal.returns-clause-load
 unfolding digits
 returns-clause-load c = (
-  asks _ _ (refl, record { spells = refl; seed_in = lit≤ tt; count_in = (lit≤ tt, lit≤ tt); lanes_in = (lit≤ tt, lit≤ tt) }),
-  asks _ _ (
-    refl,
-    record {
-      spells = refl;
-      seed_in = lit≤ tt;
-      count_in = (lit≤ tt, lit≤ tt);
-      lanes_in = (lit≤ tt, lit≤ tt);
-      workers_in = (lit≤ tt, lit≤ tt);
-    },
-  ),
+  told (mode.Generate 1 2 3) (bare (codes "1") ∷ bare (codes "2") ∷ bare (codes "3") ∷ []) tt (refl, (refl, (refl, tt)))
+      (refl, (lit≤ tt, (lit≤ tt, lit≤ tt), (lit≤ tt, lit≤ tt))),
+  told (mode.Load 0 100000 8 64) (bare (codes "0") ∷ bare (codes "100000") ∷ bare (codes "8") ∷ bare (codes "64") ∷ []) tt
+      (refl, (refl, (refl, (refl, tt)))) (refl, (lit≤ tt, (lit≤ tt, lit≤ tt), (lit≤ tt, lit≤ tt)), (lit≤ tt, lit≤ tt)),
 )
 
 pub returns-clause-near : goal.returns-clause-near
 returns-clause-near c = (
-  asks_nothing _ none_of_none,
-  asks_nothing _ none_of_now,
-  asks_nothing _ none_of_no_day,
-  asks_nothing _ none_of_two,
-  asks_nothing _ none_of_help,
+  asks_nothing [] (λ mode are. are),
+  untold Run (bare (codes "now") ∷ []) tt (refl, tt) (λ said. let no : codes "now" ∷ [] ≡ [] = said.1.0 in cc),
+  untold Value [] tt tt (λ said. let no : [] ≡ said.1.0.0 ∷ [] = said.1.0.1 in cc),
+  untold Generate (bare (codes "1") ∷ bare (codes "1") ∷ []) tt (refl, (refl, tt))
+      (λ said. let no : codes "1" ∷ codes "1" ∷ [] ≡ decimal said.0.0 ∷ decimal said.0.1 ∷ decimal said.0.2 ∷ [] = said.1.0 in cc),
+  unnamed (codes "help") [] no_help,
 )
