@@ -4,10 +4,10 @@ use Rattle.std.proofs.lemmas.List.{append_assoc, length-take, take_min}
 use Rattle.std.proofs.lemmas.List.Elements.{All-from_recursion}
 use Rattle.std.proofs.Math.Seq.{take-add}
 use Rattle.std.specs.List.{AllByRecursion, AllZip, IsAmong}
-use Rattle.parallel_value.specs.Pieces.{Adds, AreBoth, AreValues, IsAsBefore, MayGive, TakeAll}
+use Rattle.parallel_value.specs.Pieces.{AddsBehind, AreBoth, AreValues, IsAsBefore, MayGive, TakeAll}
 use Rattle.parallel_value.specs.declared.piece.NoMemory.{NoMemory}
 use Rattle.parallel_value.specs.declared.sharing.Made.{Made}
-use Rattle.parallel_value.specs.inside.Parts.{AreMade, IsMade, IsOneOf}
+use Rattle.parallel_value.specs.inside.Parts.{AreMadeParts, IsMadePart, IsOneOf}
 use Rattle.parallel_value.proofs.PieceSteps.{all_more, may_alone, may_back, may_front, still_as_before, values_next, zip_append, zip_more}
 
 all_drop : {X : Type 0} (P : X → Type 0) (n : ℕ) (xs : List X) → AllByRecursion P xs → AllByRecursion P (drop n xs)
@@ -42,12 +42,12 @@ take_part xs part first is =
     ∙ ap (λ l. take first xs ++ l) (ap (λ n. take n rest) long ∙ take_min 512 rest ∙ sym is)
 
 module _ {I O : Type 0} (Gives : I → O → Type 0) where
-  pub adds_none : (items : List I) (old : List O) → Adds (AllZip Gives (take 0 items)) old old
+  pub adds_none : (items : List I) (old : List O) → AddsBehind (AllZip Gives (take 0 items)) old old
   adds_none items old = ([], sym (append-nil old), tt)
 
   -- one value more
   pub adds_next : (items : List I) (i : ℕ) (x : I) (old ys zs : List O) (y : O) → i < length items → x ≡ get_or items i x
-      → Adds (AllZip Gives (take i items)) old ys → zs ≡ ys ++ y ∷ [] → Gives x y → Adds (AllZip Gives (take (i + 1) items)) old zs
+      → AddsBehind (AllZip Gives (take i items)) old ys → zs ≡ ys ++ y ∷ [] → Gives x y → AddsBehind (AllZip Gives (take (i + 1) items)) old zs
   adds_next items i x old ys zs y within here adds longer given = (
     adds.0 ++ y ∷ [],
     longer ∙ ap (λ l. l ++ y ∷ []) adds.1 ∙ append_assoc old adds.0 (y ∷ []),
@@ -56,8 +56,8 @@ module _ {I O : Type 0} (Gives : I → O → Type 0) where
 
   -- the values of one part more
   pub adds_part : (items part : List I) (first : ℕ) (old ys zs : List O) → part ≡ take 512 (drop first items)
-      → Adds (AllZip Gives (take first items)) old ys → Adds (AllZip Gives part) ys zs
-      → Adds (AllZip Gives (take (first + length part) items)) old zs
+      → AddsBehind (AllZip Gives (take first items)) old ys → AddsBehind (AllZip Gives part) ys zs
+      → AddsBehind (AllZip Gives (take (first + length part) items)) old zs
   adds_part items part first old ys zs is adds more = (
     adds.0 ++ more.0,
     more.1 ∙ ap (λ l. l ++ more.0) adds.1 ∙ append_assoc old adds.0 more.0,
@@ -68,38 +68,38 @@ module _ {I O : Type 0} (Gives : I → O → Type 0) where
 module _ {P I O : Type 0} (takes : P → I → Type 0) (gives : P → I → O → Type 0) where
   -- what was made with fewer workers
   made_more : (G H : I → O → Type 0) (items : List I) (all : List (Made O)) → ((item : I) (value : O) → G item value → H item value)
-      → AllByRecursion (IsMade G items) all → AllByRecursion (IsMade H items) all
+      → AllByRecursion (IsMadePart G items) all → AllByRecursion (IsMadePart H items) all
   made_more G H items all more made = all_more _ _ all (λ m is. (is.0, zip_more G H _ _ more is.1)) made
 
-  pub made_before : (one two : P) (items : List I) (m : Made O) → IsAsBefore takes gives one two → IsMade (gives two) items m → IsMade (gives one) items m
+  pub made_before : (one two : P) (items : List I) (m : Made O) → IsAsBefore takes gives one two → IsMadePart (gives two) items m → IsMadePart (gives one) items m
   made_before one two items m before is = (is.0, zip_more (gives two) (gives one) _ _ (λ item value given. before.gives_only item value given) is.1)
 
   pub made_alone : (ps : List P) (d : P) (items : List I) (result : Result (Vec (Made O) Global) NoMemory) → length ps ≡ 1
-      → IfOk result (λ made. AllByRecursion (IsMade (gives (get_or ps 0 d)) items) made.items) → IfOk result (λ made. AreMade gives ps items made.items)
+      → IfOk result (λ made. AllByRecursion (IsMadePart (gives (get_or ps 0 d)) items) made.items) → IfOk result (λ made. AreMadeParts gives ps items made.items)
   made_alone ps d items (Ok made) one is = made_more _ _ items made.items (may_alone takes gives ps d one) is
   made_alone ps d items (Err fault) one is = tt
 
-  made_append : (ps qs : List P) (items : List I) (front back : List (Made O)) → AreMade gives ps items front → AreMade gives qs items back
-      → AreMade gives (ps ++ qs) items (front ++ back)
+  made_append : (ps qs : List P) (items : List I) (front back : List (Made O)) → AreMadeParts gives ps items front → AreMadeParts gives qs items back
+      → AreMadeParts gives (ps ++ qs) items (front ++ back)
   made_append ps qs items front back first last =
       all_append _ front back (made_more _ _ items front (may_front takes gives ps qs) first) (made_more _ _ items back (may_back takes gives ps qs) last)
 
   pub made_of_both : (ps qs : List P) (items : List I) (left right result : Result (Vec (Made O) Global) NoMemory)
-      → IfOk left (λ one. AreMade gives ps items one.items) → IfOk right (λ other. AreMade gives qs items other.items)
-      → IfOk result (λ made. AreBoth left right made.items) → IfOk result (λ made. AreMade gives (ps ++ qs) items made.items)
+      → IfOk left (λ one. AreMadeParts gives ps items one.items) → IfOk right (λ other. AreMadeParts gives qs items other.items)
+      → IfOk result (λ made. AreBoth left right made.items) → IfOk result (λ made. AreMadeParts gives (ps ++ qs) items made.items)
   made_of_both ps qs items (Ok one) (Ok other) (Ok made) first last both =
-      subst (λ l. AreMade gives (ps ++ qs) items l) (sym both) (made_append ps qs items one.items other.items first last)
+      subst (λ l. AreMadeParts gives (ps ++ qs) items l) (sym both) (made_append ps qs items one.items other.items first last)
   made_of_both ps qs items (Ok one) (Err fault) (Ok made) first last both = absurd both
   made_of_both ps qs items (Err fault) right (Ok made) first last both = absurd both
   made_of_both ps qs items left right (Err fault) first last both = tt
 
   -- values of one worker, as those of the workers that it is one of
-  pub adds_of_one : (ps : List P) (piece : P) (items : List I) (old ys : List O) → IsOneOf gives ps piece → Adds (AllZip (gives piece) items) old ys
-      → Adds (AreValues gives ps items) old ys
+  pub adds_of_one : (ps : List P) (piece : P) (items : List I) (old ys : List O) → IsOneOf gives ps piece → AddsBehind (AllZip (gives piece) items) old ys
+      → AddsBehind (AreValues gives ps items) old ys
   adds_of_one ps piece items old ys one adds = (adds.0, adds.1, zip_more _ _ items adds.0 one adds.2)
 
   pub adds_of_result : (ps : List P) (piece : P) (items : List I) (old ys : List O) {U : Type 0} (result : Result U NoMemory) → IsOneOf gives ps piece
-      → OnOk result (Adds (AllZip (gives piece) items) old ys) → OnOk result (Adds (AreValues gives ps items) old ys)
+      → OnOk result (AddsBehind (AllZip (gives piece) items) old ys) → OnOk result (AddsBehind (AreValues gives ps items) old ys)
   adds_of_result ps piece items old ys (Ok u) one adds = adds_of_one ps piece items old ys one adds
   adds_of_result ps piece items old ys (Err fault) one adds = tt
 
@@ -120,12 +120,12 @@ module _ {P I O : Type 0} (takes : P → I → Type 0) (gives : P → I → O �
   first_before (p ∷ ps) (q ∷ qs) d after before some last = (still_as_before takes gives p q after before.0 last, before.1)
 
   -- a part that was found
-  pub found_made : (ps : List P) (items : List I) (all : List (Made O)) (m : Made O) (first : ℕ) → AreMade gives ps items all → IsAmong all m
+  pub found_made : (ps : List P) (items : List I) (all : List (Made O)) (m : Made O) (first : ℕ) → AreMadeParts gives ps items all → IsAmong all m
       → m.first ≡ first → AllZip (MayGive gives ps) (take 512 (drop first items)) m.values.items
   found_made ps items all m first made among is =
       subst (λ n. AllZip (MayGive gives ps) (take 512 (drop n items)) m.values.items) is (all_among _ all m among made).1
 
-  pub found_part : (ps : List P) (items part : List I) (all : List (Made O)) (first : ℕ) (found : Option (Bor (Made O))) → AreMade gives ps items all
+  pub found_part : (ps : List P) (items part : List I) (all : List (Made O)) (first : ℕ) (found : Option (Bor (Made O))) → AreMadeParts gives ps items all
       → part ≡ take 512 (drop first items) → IfSome found (λ one. IsAmong all one.now × (one.now.first ≡ first))
       → IfSome found (λ one. AreValues gives ps part one.now.values.items)
   found_part ps items part all first (Some one) made is there =

@@ -37,5 +37,5 @@ AreBoth (Ok front) (Ok back) values = values ≡ front.items ++ back.items
 AreBoth _ _ _ = ⊥
 
 -- such values were added behind those that were there
-abbrev pub Adds : {O : Type 0} → (List O → Type 0) → (old new : List O) → Type 0
-Adds {O} AreSuch old new = (added : List O) × (new ≡ old ++ added) × AreSuch added
+abbrev pub AddsBehind : {O : Type 0} → (List O → Type 0) → (old new : List O) → Type 0
+AddsBehind {O} AreSuch old new = (added : List O) × (new ≡ old ++ added) × AreSuch added

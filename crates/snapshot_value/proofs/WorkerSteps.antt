@@ -2,7 +2,7 @@
 use Rattle.std.proofs.Common.{List, [], ◌∷◌, ℤ, inl, inr}
 use Rattle.std.specs.List.{AllByRecursion}
 use Rattle.basis_book.specs.Dated.{Dated}
-use Rattle.parallel_value.specs.Pieces.{Adds, AreAsBefore, AreValues, MayGive, TakeAll}
+use Rattle.parallel_value.specs.Pieces.{AddsBehind, AreAsBefore, AreValues, MayGive, TakeAll}
 use Rattle.parallel_value.proofs.PieceSteps.{all_more, zip_more}
 use Rattle.policy_types.specs.declared.policy.Policy.{Policy}
 use Rattle.policy_machine.specs.Rules.{IsSound}
@@ -51,5 +51,5 @@ module _ (basis : List Dated) (on : ℤ) (measure : Measure) where
 
   -- rows that they added
   pub added_rows : (workers : List Worker) (policies : List Policy) (old new : List Row) → AllByRecursion (ValuesBy basis on measure) workers
-      → Adds (AreValues GivesRow workers policies) old new → Adds (AreSmallRows basis on measure policies) old new
+      → AddsBehind (AreValues GivesRow workers policies) old new → AddsBehind (AreSmallRows basis on measure policies) old new
   added_rows workers policies old new by added = (added.0, added.1, given_rows workers policies added.0 by added.2)

@@ -2,7 +2,7 @@
 ghost use Rattle.std.specs.Prelude.{◌≡◌, ◌≤◌, ℤ, List, [], ◌++◌, ◌+◌, ◌*◌, IfOk, OnOk, length, min, take, drop};
 ghost use Rattle.std.specs.List.{AllByRecursion};
 ghost use Rattle.basis_book.specs.Dated.{Dated};
-ghost use Rattle.parallel_value.specs.Pieces.{Adds, AreAsBefore};
+ghost use Rattle.parallel_value.specs.Pieces.{AddsBehind, AreAsBefore};
 ghost use Rattle.policy_machine.specs.Rules.{IsSound};
 ghost use Rattle.policy_types.specs.declared.policy.Policy.{Policy as APolicy};
 ghost use Rattle.policy_value.specs.declared.worth.Measure.{Measure as AMeasure};
@@ -169,7 +169,7 @@ fn value_all<R: Threads + Sync>(
     requires ready { AllByRecursion IsReadyWorker workers.old }
     requires sound { AllByRecursion IsSound policies.now }
     ensures rows { (basis : List Dated) (on : ℤ) (measure : AMeasure) → AllByRecursion (ValuesBy basis on measure) workers.old
-        → OnOk result (Adds (AreSmallRows basis on measure policies.now) rows.old.items rows.new.items) }
+        → OnOk result (AddsBehind (AreSmallRows basis on measure policies.now) rows.old.items rows.new.items) }
     ensures workers { AreAsBefore TakesPolicy GivesRow workers.old workers.new }
 {
     match map_onto(rt, alloc, workers, policies, rows) {

@@ -6,12 +6,12 @@ use Rattle.parallel_value.specs.declared.sharing.Made.{Made}
 
 module _ {I O : Type 0} where
   -- the values are those of the part of this first item
-  abbrev pub IsMade : (I → O → Type 0) → List I → Made O → Type 0
-  IsMade Gives items made = (made.first ≤ length items) × AllZip Gives (take 512 (drop made.first items)) made.values.items
+  abbrev pub IsMadePart : (I → O → Type 0) → List I → Made O → Type 0
+  IsMadePart Gives items made = (made.first ≤ length items) × AllZip Gives (take 512 (drop made.first items)) made.values.items
 
   -- each part was made by one of the workers
-  abbrev pub AreMade : {P : Type 0} → (P → I → O → Type 0) → List P → List I → List (Made O) → Type 0
-  AreMade gives pieces items made = AllByRecursion (IsMade (MayGive gives pieces) items) made
+  abbrev pub AreMadeParts : {P : Type 0} → (P → I → O → Type 0) → List P → List I → List (Made O) → Type 0
+  AreMadeParts gives pieces items made = AllByRecursion (IsMadePart (MayGive gives pieces) items) made
 
   -- it gives only what one of the workers may give
   abbrev pub IsOneOf : {P : Type 0} → (P → I → O → Type 0) → List P → P → Type 0

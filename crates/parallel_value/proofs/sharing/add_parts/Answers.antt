@@ -1,6 +1,6 @@
-use Rattle.std.proofs.Common.{◌≡◌, ◌∙◌, ◌-◌, ◌<◌, ◌^◌, ap, subst, length, length-drop, min, drop, take, arith, rules}
+use Rattle.std.proofs.Common.{◌≡◌, ◌∙◌, ◌<◌, ◌^◌, ap, subst, length, length-drop, min, drop, take, arith, rules}
 use Rattle.std.proofs.lemmas.List.{length-take, take_all}
-use Rattle.parallel_value.specs.Pieces.{Adds, AreValues}
+use Rattle.parallel_value.specs.Pieces.{AddsBehind, AreValues}
 use Rattle.parallel_value.specs.inside.Parts.{IsOneOf}
 use Rattle.parallel_value.proofs.PartSteps.{adds_part, all_part, found_part}
 use Rattle.parallel_value.proofs.PieceSteps.{all_more, still_as_before}
@@ -41,5 +41,5 @@ pub returns-clause-values : goal.returns-clause-values
 returns-clause-values g c = λ workers one made.
     let items = c.args.items.now in
     let all : take c.loop-first.first items ≡ items = take_all c.loop-first.first items (omega (arith, c.loop-first-test.false)) in
-    subst (λ l. Adds (AreValues g.P.Piece.gives workers l) c.args.values.now.items c.loop-first.values.items) all
+    subst (λ l. AddsBehind (AreValues g.P.Piece.gives workers l) c.args.values.now.items c.loop-first.values.items) all
     (c.loop-first.invariant.values workers one made)

@@ -1,14 +1,14 @@
 use Rattle.std.proofs.Common.{◌≤◌, ◌-◌, List, length, take}
-use Rattle.parallel_value.specs.Pieces.{Adds, AreValues, IsAsBefore}
-use Rattle.parallel_value.specs.inside.Parts.{AreMade, IsOneOf}
+use Rattle.parallel_value.specs.Pieces.{AddsBehind, AreValues, IsAsBefore}
+use Rattle.parallel_value.specs.inside.Parts.{AreMadeParts, IsOneOf}
 use Rattle.parallel_value.proofs.sharing.add_parts.Given as goal
 
 abbrev pub invariant-loop-first : goal.invariant-loop-first
 invariant-loop-first g l = record {
   within : l.first ≤ length l.items;
   piece : IsAsBefore g.P.Piece.takes g.P.Piece.gives l.fn.piece l.piece;
-  values : (workers : List _) → IsOneOf g.P.Piece.gives workers l.fn.piece → AreMade g.P.Piece.gives workers l.items l.made
-      → Adds (AreValues g.P.Piece.gives workers (take l.first l.items)) l.fn.values.items l.values.items;
+  values : (workers : List _) → IsOneOf g.P.Piece.gives workers l.fn.piece → AreMadeParts g.P.Piece.gives workers l.items l.made
+      → AddsBehind (AreValues g.P.Piece.gives workers (take l.first l.items)) l.fn.values.items l.values.items;
 }
 
 abbrev pub decreases-loop-first : goal.decreases-loop-first

@@ -1,10 +1,10 @@
 use Rattle.std.specs.List.{AllByRecursion}
 use Rattle.parallel_value.specs.Pieces.{IsAsBefore}
-use Rattle.parallel_value.specs.inside.Parts.{IsMade}
+use Rattle.parallel_value.specs.inside.Parts.{IsMadePart}
 use Rattle.parallel_value.proofs.sharing.make_alone.Given as goal
 
 abbrev pub invariant-loop : goal.invariant-loop
 invariant-loop g l = record {
   piece : IsAsBefore g.P.Piece.takes g.P.Piece.gives l.fn.piece l.piece;
-  made : AllByRecursion (IsMade (g.P.Piece.gives l.fn.piece) l.items) l.made.items;
+  made : AllByRecursion (IsMadePart (g.P.Piece.gives l.fn.piece) l.items) l.made.items;
 }
