@@ -4,14 +4,19 @@
 # and workers (plain_value.rs), which tells what the machine gives to several threads. The journal is written in one go.
 # usage: sh bench/measure_workers.sh [ROUNDS]   (needs python3, rustc and GNU time; nothing else should be at work)
 root=$(cd "$(dirname "$0")/.." && pwd) || exit 2
-sh "$root/life" prove || exit 2
+if [ -n "${LIFE_PROGRAM:-}" ]; then
+    program=$(readlink -f -- "$LIFE_PROGRAM")
+else
+    sh "$root/life" prove || exit 2
+    program=$root/crates/life_cli/out/life_cli
+fi
 work=$(mktemp -d) || exit 2
 trap 'rm -rf "$work"' EXIT
 rustc -O -o "$work/plain_value" "$root/bench/plain_value.rs" || exit 2
 cp "$root/examples/g.xml" "$work/g.xml" || exit 2
 cd "$work" || exit 2
 printf '1900-01-01,g.xml,400\n' >basis.csv
-python3 - "$root/crates/life_cli/out/life_cli" "${1:-5}" <<'PY'
+python3 - "$program" "${1:-5}" <<'PY'
 import re, statistics, subprocess, sys, time
 
 program, rounds = sys.argv[1], int(sys.argv[2])

@@ -11,7 +11,7 @@ use std::thread::{Threads, join_mut};
 
 /// The values of the items, in their order. Each worker goes through as many items on end as any other, or one more, in
 /// a thread of its own; one worker alone starts no thread. It is for values that have no places yet: each worker makes a
-/// list in its own thread. No program uses it; a valuation writes by `map_into`.
+/// list in its own thread. No program uses it.
 pub fn map_in<R: Threads + Sync, I: Sync, O: Send + Drop, P: Piece<I, O> + Send>(
     rt: &R,
     alloc: Global,

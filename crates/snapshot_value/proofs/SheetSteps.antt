@@ -1,8 +1,8 @@
 -- What a valuation has at hand, before and after it reads and values
-use Rattle.std.proofs.Common.{◌≡◌, ◌≤◌, ℤ, List, [], ◌++◌, ℕ, take, drop, length, arith, ap, sym, ◌∙◌, subst, append-nil, append_assoc, true, false, cond, is_ok, Result, Ok, Err, Vec, Global}
+use Rattle.std.proofs.Common.{◌≡◌, ◌≤◌, ℤ, List, [], ◌++◌, length, arith, ap, sym, ◌∙◌, subst, append-nil, append_assoc, Vec, Global}
 use Rattle.std.specs.Vec.{with_items}
 use Rattle.std.specs.List.{AllByRecursion}
-use Rattle.std.proofs.lemmas.List.{take-append-drop, take_all, take_at, with_items_is}
+use Rattle.std.proofs.lemmas.List.{with_items_is}
 use Rattle.std.proofs.lemmas.Slice.Zip.{AllZip-long}
 use Rattle.basis_book.specs.Dated.{Dated}
 use Rattle.parallel_value.specs.Pieces.{AreAsBefore, IsAsBefore}

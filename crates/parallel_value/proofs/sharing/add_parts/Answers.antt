@@ -1,4 +1,4 @@
-use Rattle.std.proofs.Common.{◌≡◌, ◌∙◌, ◌-◌, ◌<◌, ◌^◌, ap, subst, length, length-drop, min, drop, take, arith, rules}
+use Rattle.std.proofs.Common.{◌≡◌, ◌∙◌, ◌<◌, ◌^◌, ap, subst, length, length-drop, min, drop, take, arith, rules}
 use Rattle.std.proofs.lemmas.List.{length-take, take_all}
 use Rattle.parallel_value.specs.Pieces.{AddsBehind, AreValues}
 use Rattle.parallel_value.specs.inside.Parts.{IsOneOf}

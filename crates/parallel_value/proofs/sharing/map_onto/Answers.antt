@@ -1,4 +1,3 @@
-use Rattle.std.proofs.Common.{ap}
 use Rattle.parallel_value.proofs.PartSteps.{first_before, first_takes, one_of_old}
 use Rattle.parallel_value.proofs.sharing.map_onto.Goals as goal
 
