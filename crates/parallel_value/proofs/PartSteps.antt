@@ -7,11 +7,7 @@ use Rattle.std.specs.List.{AllByRecursion, AllZip, IsAmong}
 use Rattle.parallel_value.specs.Pieces.{AddsBehind, AreBoth, AreValues, IsAsBefore, MayGive, TakeAll}
 use Rattle.parallel_value.specs.declared.piece.NoMemory.{NoMemory}
 use Rattle.parallel_value.specs.declared.sharing.Made.{Made}
-<<<<<<< HEAD
-use Rattle.parallel_value.specs.inside.Parts.{ArePartsMade, IsPartMade, IsOneOf}
-=======
 use Rattle.parallel_value.specs.inside.Parts.{AreMadeParts, IsMadePart, IsOneOf}
->>>>>>> 25ab0df1a89ae4f996dec80305ad38c2ad5bdb0f
 use Rattle.parallel_value.proofs.PieceSteps.{all_more, may_alone, may_back, may_front, still_as_before, values_next, zip_append, zip_more}
 
 all_drop : {X : Type 0} (P : X → Type 0) (n : ℕ) (xs : List X) → AllByRecursion P xs → AllByRecursion P (drop n xs)
@@ -72,21 +68,6 @@ module _ {I O : Type 0} (Gives : I → O → Type 0) where
 module _ {P I O : Type 0} (takes : P → I → Type 0) (gives : P → I → O → Type 0) where
   -- what was made with fewer workers
   made_more : (G H : I → O → Type 0) (items : List I) (all : List (Made O)) → ((item : I) (value : O) → G item value → H item value)
-<<<<<<< HEAD
-      → AllByRecursion (IsPartMade G items) all → AllByRecursion (IsPartMade H items) all
-  made_more G H items all more made = all_more _ _ all (λ m is. (is.0, zip_more G H _ _ more is.1)) made
-
-  pub made_before : (one two : P) (items : List I) (m : Made O) → IsAsBefore takes gives one two → IsPartMade (gives two) items m → IsPartMade (gives one) items m
-  made_before one two items m before is = (is.0, zip_more (gives two) (gives one) _ _ (λ item value given. before.gives_only item value given) is.1)
-
-  pub made_alone : (ps : List P) (d : P) (items : List I) (result : Result (Vec (Made O) Global) NoMemory) → length ps ≡ 1
-      → IfOk result (λ made. AllByRecursion (IsPartMade (gives (get_or ps 0 d)) items) made.items) → IfOk result (λ made. ArePartsMade gives ps items made.items)
-  made_alone ps d items (Ok made) one is = made_more _ _ items made.items (may_alone takes gives ps d one) is
-  made_alone ps d items (Err fault) one is = tt
-
-  made_append : (ps qs : List P) (items : List I) (front back : List (Made O)) → ArePartsMade gives ps items front → ArePartsMade gives qs items back
-      → ArePartsMade gives (ps ++ qs) items (front ++ back)
-=======
       → AllByRecursion (IsMadePart G items) all → AllByRecursion (IsMadePart H items) all
   made_more G H items all more made = all_more _ _ all (λ m is. (is.0, zip_more G H _ _ more is.1)) made
 
@@ -100,22 +81,14 @@ module _ {P I O : Type 0} (takes : P → I → Type 0) (gives : P → I → O �
 
   made_append : (ps qs : List P) (items : List I) (front back : List (Made O)) → AreMadeParts gives ps items front → AreMadeParts gives qs items back
       → AreMadeParts gives (ps ++ qs) items (front ++ back)
->>>>>>> 25ab0df1a89ae4f996dec80305ad38c2ad5bdb0f
   made_append ps qs items front back first last =
       all_append _ front back (made_more _ _ items front (may_front takes gives ps qs) first) (made_more _ _ items back (may_back takes gives ps qs) last)
 
   pub made_of_both : (ps qs : List P) (items : List I) (left right result : Result (Vec (Made O) Global) NoMemory)
-<<<<<<< HEAD
-      → IfOk left (λ one. ArePartsMade gives ps items one.items) → IfOk right (λ other. ArePartsMade gives qs items other.items)
-      → IfOk result (λ made. AreBoth left right made.items) → IfOk result (λ made. ArePartsMade gives (ps ++ qs) items made.items)
-  made_of_both ps qs items (Ok one) (Ok other) (Ok made) first last both =
-      subst (λ l. ArePartsMade gives (ps ++ qs) items l) (sym both) (made_append ps qs items one.items other.items first last)
-=======
       → IfOk left (λ one. AreMadeParts gives ps items one.items) → IfOk right (λ other. AreMadeParts gives qs items other.items)
       → IfOk result (λ made. AreBoth left right made.items) → IfOk result (λ made. AreMadeParts gives (ps ++ qs) items made.items)
   made_of_both ps qs items (Ok one) (Ok other) (Ok made) first last both =
       subst (λ l. AreMadeParts gives (ps ++ qs) items l) (sym both) (made_append ps qs items one.items other.items first last)
->>>>>>> 25ab0df1a89ae4f996dec80305ad38c2ad5bdb0f
   made_of_both ps qs items (Ok one) (Err fault) (Ok made) first last both = absurd both
   made_of_both ps qs items (Err fault) right (Ok made) first last both = absurd both
   made_of_both ps qs items left right (Err fault) first last both = tt
@@ -147,20 +120,12 @@ module _ {P I O : Type 0} (takes : P → I → Type 0) (gives : P → I → O �
   first_before (p ∷ ps) (q ∷ qs) d after before some last = (still_as_before takes gives p q after before.0 last, before.1)
 
   -- a part that was found
-<<<<<<< HEAD
-  pub found_made : (ps : List P) (items : List I) (all : List (Made O)) (m : Made O) (first : ℕ) → ArePartsMade gives ps items all → IsAmong all m
-=======
   pub found_made : (ps : List P) (items : List I) (all : List (Made O)) (m : Made O) (first : ℕ) → AreMadeParts gives ps items all → IsAmong all m
->>>>>>> 25ab0df1a89ae4f996dec80305ad38c2ad5bdb0f
       → m.first ≡ first → AllZip (MayGive gives ps) (take 512 (drop first items)) m.values.items
   found_made ps items all m first made among is =
       subst (λ n. AllZip (MayGive gives ps) (take 512 (drop n items)) m.values.items) is (all_among _ all m among made).1
 
-<<<<<<< HEAD
-  pub found_part : (ps : List P) (items part : List I) (all : List (Made O)) (first : ℕ) (found : Option (Bor (Made O))) → ArePartsMade gives ps items all
-=======
   pub found_part : (ps : List P) (items part : List I) (all : List (Made O)) (first : ℕ) (found : Option (Bor (Made O))) → AreMadeParts gives ps items all
->>>>>>> 25ab0df1a89ae4f996dec80305ad38c2ad5bdb0f
       → part ≡ take 512 (drop first items) → IfSome found (λ one. IsAmong all one.now × (one.now.first ≡ first))
       → IfSome found (λ one. AreValues gives ps part one.now.values.items)
   found_part ps items part all first (Some one) made is there =

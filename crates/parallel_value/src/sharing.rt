@@ -7,11 +7,7 @@ ghost use Rattle.std.specs.Prelude.{◌≡◌, ◌≤◌, ◌++◌, ℕ, List, I
 ghost use Rattle.std.specs.List.{AllByRecursion, AllZip, IsAmong};
 ghost use Rattle.std.specs.Thread.{IsSync, IsSend};
 ghost use Rattle.parallel_value.specs.Pieces.{AddsBehind, AreAsBefore, AreValues, IsAsBefore, TakeAll};
-<<<<<<< HEAD
-ghost use Rattle.parallel_value.specs.inside.Parts.{ArePartsMade, IsPartMade, IsOneOf};
-=======
 ghost use Rattle.parallel_value.specs.inside.Parts.{AreMadeParts, IsMadePart, IsOneOf};
->>>>>>> 25ab0df1a89ae4f996dec80305ad38c2ad5bdb0f
 
 use crate::mapping::{both, map_alone};
 use crate::{NoMemory, Piece};
@@ -29,7 +25,7 @@ pub(crate) struct Made<O> {
     values: Vec<O>,
 }
 
-/// AddsBehind the values of the items to those that are there, in their order. Each worker but one has a thread of its own; one
+/// Adds the values of the items to those that are there, in their order. Each worker but one has a thread of its own; one
 /// worker alone starts no thread.
 pub fn map_onto<R: Threads + Sync, I: Sync, O: Copy + Send + Drop, P: Piece<I, O> + Send>(
     rt: &R,
@@ -61,11 +57,7 @@ fn make_parts<R: Threads + Sync, I: Sync, O: Copy + Send + Drop, P: Piece<I, O> 
 ) -> Result<Vec<Made<O>>, NoMemory>
     requires workers { (1 ≤ length pieces.old) × (length pieces.old ≤ 64) }
     requires taken { TakeAll P.takes pieces.old items.now }
-<<<<<<< HEAD
-    ensures made { IfOk result (λ made. ArePartsMade P.gives pieces.old items.now made.items) }
-=======
     ensures made { IfOk result (λ made. AreMadeParts P.gives pieces.old items.now made.items) }
->>>>>>> 25ab0df1a89ae4f996dec80305ad38c2ad5bdb0f
     ensures pieces { AreAsBefore P.takes P.gives pieces.old pieces.new }
 {
     if pieces.len() < 2 {
@@ -89,11 +81,7 @@ fn make_both<R: Threads + Sync, I: Sync, O: Copy + Send + Drop, P: Piece<I, O> +
     requires back { (1 ≤ length back.old) × (length back.old ≤ 64) }
     requires first { TakeAll P.takes front.old items.now }
     requires last { TakeAll P.takes back.old items.now }
-<<<<<<< HEAD
-    ensures made { IfOk result (λ made. ArePartsMade P.gives (front.old ++ back.old) items.now made.items) }
-=======
     ensures made { IfOk result (λ made. AreMadeParts P.gives (front.old ++ back.old) items.now made.items) }
->>>>>>> 25ab0df1a89ae4f996dec80305ad38c2ad5bdb0f
     ensures front { AreAsBefore P.takes P.gives front.old front.new }
     ensures back { AreAsBefore P.takes P.gives back.old back.new }
 {
@@ -103,22 +91,14 @@ fn make_both<R: Threads + Sync, I: Sync, O: Copy + Send + Drop, P: Piece<I, O> +
             requires sync { IsSync R.row × IsSync I.row × IsSend O.row × IsSend P.row }
             requires workers { (1 ≤ length front.now) × (length front.now ≤ 64) }
             requires taken { TakeAll P.takes front.now items.now }
-<<<<<<< HEAD
-            ensures made { IfOk result (λ made. ArePartsMade P.gives front.entry.now items.entry.now made.items) }
-=======
             ensures made { IfOk result (λ made. AreMadeParts P.gives front.entry.now items.entry.now made.items) }
->>>>>>> 25ab0df1a89ae4f996dec80305ad38c2ad5bdb0f
             ensures pieces { AreAsBefore P.takes P.gives front.entry.now front.exit.now }
         { make_parts(rt, alloc, front, items, next) },
         &mut || -> Result<Vec<Made<O>>, NoMemory>
             requires sync { IsSync R.row × IsSync I.row × IsSend O.row × IsSend P.row }
             requires workers { (1 ≤ length back.now) × (length back.now ≤ 64) }
             requires taken { TakeAll P.takes back.now items.now }
-<<<<<<< HEAD
-            ensures made { IfOk result (λ made. ArePartsMade P.gives back.entry.now items.entry.now made.items) }
-=======
             ensures made { IfOk result (λ made. AreMadeParts P.gives back.entry.now items.entry.now made.items) }
->>>>>>> 25ab0df1a89ae4f996dec80305ad38c2ad5bdb0f
             ensures pieces { AreAsBefore P.takes P.gives back.entry.now back.exit.now }
         { make_parts(rt, alloc, back, items, next) },
     );
@@ -134,11 +114,7 @@ fn make_by_one<I, O: Drop, P: Piece<I, O>>(
 ) -> Result<Vec<Made<O>>, NoMemory>
     requires one { length pieces.old ≡ 1 }
     requires taken { TakeAll P.takes pieces.old items.now }
-<<<<<<< HEAD
-    ensures made { IfOk result (λ made. ArePartsMade P.gives pieces.old items.now made.items) }
-=======
     ensures made { IfOk result (λ made. AreMadeParts P.gives pieces.old items.now made.items) }
->>>>>>> 25ab0df1a89ae4f996dec80305ad38c2ad5bdb0f
     ensures pieces { AreAsBefore P.takes P.gives pieces.old pieces.new }
 {
     make_alone(alloc, &mut pieces[0], items, next)
@@ -152,11 +128,7 @@ fn make_alone<I, O: Drop, P: Piece<I, O>>(
     next: &AtomicUsize,
 ) -> Result<Vec<Made<O>>, NoMemory>
     requires taken { AllByRecursion (P.takes piece.old) items.now }
-<<<<<<< HEAD
-    ensures made { IfOk result (λ made. AllByRecursion (IsPartMade (P.gives piece.old) items.now) made.items) }
-=======
     ensures made { IfOk result (λ made. AllByRecursion (IsMadePart (P.gives piece.old) items.now) made.items) }
->>>>>>> 25ab0df1a89ae4f996dec80305ad38c2ad5bdb0f
     ensures piece { IsAsBefore P.takes P.gives piece.old piece.new }
 {
     let parts = items.len().div_ceil(ITEMS_IN_PART);
@@ -183,11 +155,7 @@ fn make_part<I, O: Drop, P: Piece<I, O>>(
 ) -> Result<Made<O>, NoMemory>
     requires within { first ≤ length items.now }
     requires taken { AllByRecursion (P.takes piece.old) items.now }
-<<<<<<< HEAD
-    ensures made { IfOk result (IsPartMade (P.gives piece.old) items.now) }
-=======
     ensures made { IfOk result (IsMadePart (P.gives piece.old) items.now) }
->>>>>>> 25ab0df1a89ae4f996dec80305ad38c2ad5bdb0f
     ensures piece { IsAsBefore P.takes P.gives piece.old piece.new }
 {
     let values = map_alone(alloc, piece, part_at(items, first))?;
@@ -203,7 +171,7 @@ fn part_at<I>(items: &[I], first: usize) -> &[I]
     &left[..left.len().min(ITEMS_IN_PART)]
 }
 
-// AddsBehind the values of all parts, in their order. The worker makes those that aren't there.
+// Adds the values of all parts, in their order. The worker makes those that aren't there.
 fn add_parts<I, O: Copy + Drop, P: Piece<I, O>>(
     piece: &mut P,
     items: &[I],
@@ -211,11 +179,7 @@ fn add_parts<I, O: Copy + Drop, P: Piece<I, O>>(
     values: &mut Vec<O>,
 ) -> Result<(), NoMemory>
     requires taken { AllByRecursion (P.takes piece.old) items.now }
-<<<<<<< HEAD
-    ensures values { (workers : List P) → IsOneOf P.gives workers piece.old → ArePartsMade P.gives workers items.now made.now
-=======
     ensures values { (workers : List P) → IsOneOf P.gives workers piece.old → AreMadeParts P.gives workers items.now made.now
->>>>>>> 25ab0df1a89ae4f996dec80305ad38c2ad5bdb0f
         → OnOk result (AddsBehind (AreValues P.gives workers items.now) values.old.items values.new.items) }
     ensures piece { IsAsBefore P.takes P.gives piece.old piece.new }
 {
@@ -228,7 +192,7 @@ fn add_parts<I, O: Copy + Drop, P: Piece<I, O>>(
     Ok(())
 }
 
-// AddsBehind the values of a part, which the worker makes where they aren't there.
+// Adds the values of a part, which the worker makes where they aren't there.
 fn add_part<I, O: Copy + Drop, P: Piece<I, O>>(
     piece: &mut P,
     part: &[I],
@@ -247,7 +211,7 @@ fn add_part<I, O: Copy + Drop, P: Piece<I, O>>(
     }
 }
 
-// AddsBehind the values of a part that was made.
+// Adds the values of a part that was made.
 fn add_made<O: Copy + Drop>(made: &Made<O>, values: &mut Vec<O>) -> Result<(), NoMemory>
     ensures { OnOk result (values.new.items ≡ values.old.items ++ made.now.values.items) }
 {

@@ -67,7 +67,7 @@ impl<'a> Worksheet<'a> {
         })
     }
 
-    /// AddsBehind policies to those that were read, which are valued first where they are enough.
+    /// Adds policies to those that were read, which are valued first where they are enough.
     pub fn add<R: Threads + Sync>(
         &mut self,
         rt: &R,
@@ -156,7 +156,7 @@ fn workers_for<'a>(
     Ok(workers)
 }
 
-// AddsBehind the rows of policies, by all workers.
+// Adds the rows of policies, by all workers.
 fn value_all<R: Threads + Sync>(
     rt: &R,
     alloc: Global,

@@ -6,21 +6,12 @@ use Rattle.parallel_value.specs.declared.sharing.Made.{Made}
 
 module _ {I O : Type 0} where
   -- the values are those of the part of this first item
-<<<<<<< HEAD
-  abbrev pub IsPartMade : (I → O → Type 0) → List I → Made O → Type 0
-  IsPartMade Gives items made = (made.first ≤ length items) × AllZip Gives (take 512 (drop made.first items)) made.values.items
-
-  -- each part was made by one of the workers
-  abbrev pub ArePartsMade : {P : Type 0} → (P → I → O → Type 0) → List P → List I → List (Made O) → Type 0
-  ArePartsMade gives pieces items made = AllByRecursion (IsPartMade (MayGive gives pieces) items) made
-=======
   abbrev pub IsMadePart : (I → O → Type 0) → List I → Made O → Type 0
   IsMadePart Gives items made = (made.first ≤ length items) × AllZip Gives (take 512 (drop made.first items)) made.values.items
 
   -- each part was made by one of the workers
   abbrev pub AreMadeParts : {P : Type 0} → (P → I → O → Type 0) → List P → List I → List (Made O) → Type 0
   AreMadeParts gives pieces items made = AllByRecursion (IsMadePart (MayGive gives pieces) items) made
->>>>>>> 25ab0df1a89ae4f996dec80305ad38c2ad5bdb0f
 
   -- it gives only what one of the workers may give
   abbrev pub IsOneOf : {P : Type 0} → (P → I → O → Type 0) → List P → P → Type 0
