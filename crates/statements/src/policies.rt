@@ -72,7 +72,7 @@ impl PolicyLines {
         }
     }
 
-    /// Adds the line of a policy. After `NoMemory` none of it was written.
+    /// Adds the line of a policy.
     pub fn add(&mut self, policy: &Policy) -> Result<(), NoMemory>
         requires { IsCommandDay policy.now.issued }
         ensures { OnOk result (self.new ≡ self.old ++ policy_text policy.now) }
