@@ -1,6 +1,6 @@
 //! Civil days, as days since 1970-01-01: the anniversaries of an issue day, and the texts of days.
 //!
-//! The calendar's arithmetic is `jiff`'s; `specs/Calendar.antt` states the calendar anew.
+//! The calendar's arithmetic is `jiff_core`'s; `specs/Calendar.antt` states the calendar anew.
 #![tactic(auto)]
 
 mod calendar;

@@ -3,8 +3,8 @@ ghost use Rattle.std.specs.Prelude.{◌≡◌, ◌-◌, ◌≤◌, min, ◌≤�
 ghost use Rattle.life_dates.specs.Calendar.{IsDay, IsTermDay, date_of};
 ghost use Rattle.life_dates.specs.Anniversary.{anniversary_of, IsCompleted};
 
-use crate::calendar::{civil_date, number_of, year_month_day};
-use jiff::ToSpan;
+use crate::calendar::{civil_date, year_month_day};
+use jiff_core::civil::Date;
 
 const LAST_TERM_DAY: i32 = 157_053;
 
@@ -16,8 +16,8 @@ pub fn anniversary(issued: i32, t: u8) -> i32
     ensures value { result ≡ anniversary_of issued t }
     ensures range { IsTermDay result }
 {
-    let years = (t as i64).years();
-    number_of(civil_date(issued).checked_add(years).unwrap())
+    let date = civil_date(issued);
+    Date::constrain(date.year + t as i16, date.month, date.day).to_unix_epoch_day()
 }
 
 /// How many whole years, up to 131, have passed on a day since the issue day: the greatest number

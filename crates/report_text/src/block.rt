@@ -10,7 +10,7 @@ use itoa::Buffer;
 use policy_types::NoMemory;
 use policy_value::{Measure, Rows};
 use std::alloc::Global;
-use text_lines::{LineWriter, Text};
+use text_lines::{LineEnd, LineWriter, Text};
 
 /// The whole of a valuation: a line like `1,value,2021-01-01,300,25`, with the lane that asked for it, its day,
 /// the position of the journal that is valued and the number of policies, and `mean` or `deficiency` where that is the
@@ -33,8 +33,10 @@ pub fn print_block(
     let mut lines = LineWriter::new(alloc);
     let policies = rows.as_slice().len() as u32;
     write_heading(&mut lines, lane, on, position, policies, measure)?;
+    let mut line = LineEnd::new();
     for row in rows.as_slice() {
-        write_row(&mut lines, row)?;
+        write_row(&mut line, row);
+        lines.line(&line)?;
     }
     write_total(&mut lines, rows, measure)?;
     Ok(lines.into_text())

@@ -1,50 +1,48 @@
-// The rows of a valuation.
-ghost use Rattle.std.specs.Prelude.{◌≡◌, ◌++◌, IfOk, OnOk};
+// The rows of a valuation, each written from its end to its start.
+ghost use Rattle.std.specs.Prelude.{◌≡◌, ◌≤◌, ◌+◌, ◌++◌, ◌∷◌, [], length, IfOk};
+ghost use Rattle.money_core.specs.CentsText.{cents_text};
 ghost use Rattle.text_lines.specs.Lines.{behind_commas};
-ghost use Rattle.report_text.specs.Block as spec;
-ghost use Rattle.report_text.specs.Block.{row_text, worth_fields, IsSummable};
+ghost use Rattle.report_text.specs.Block.{adequacy_word, reason_word, row_text, worth_fields};
 
 use policy_types::NoMemory;
 use policy_value::{Adequacy, NotValued, Row, Worth};
 use std::alloc::Global;
-use text_lines::{LineWriter, Text, status_word};
+use text_lines::{LineEnd, LineWriter, Text};
 
 /// The row of a policy, as `row,7001,inforce,1,127.22,127.23`, with the minimum reserve as
 /// `row,7001,inforce,1,127.22,127.23,280.00,280.00,short`, or with a word for why it has no value, as
 /// `row,7001,inforce,0,pasttable`. It ends with a line feed.
 pub fn print_row(alloc: Global, row: &Row) -> Result<Text, NoMemory>
-    requires { IsSummable row.now.worth }
     ensures { IfOk result (λ text. text ≡ row_text row.now) }
 {
+    let mut line = LineEnd::new();
+    write_row(&mut line, row);
     let mut lines = LineWriter::new(alloc);
-    write_row(&mut lines, row)?;
+    lines.line(&line)?;
     Ok(lines.into_text())
 }
 
-// Adds the row of a policy.
+// The row of a policy.
 #[tactic(auto, unfolding(crate::specs::Block::row_text))]
-pub fn write_row(lines: &mut LineWriter, row: &Row) -> Result<(), NoMemory>
-    requires { IsSummable row.now.worth }
-    ensures { OnOk result (lines.new ≡ lines.old ++ row_text row.now) }
+pub fn write_row(line: &mut LineEnd, row: &Row)
+    ensures { line.new ≡ row_text row.now }
 {
-    lines.first("row")?;
-    lines.number(row.id)?;
-    lines.word(status_word(row.status))?;
-    lines.number(row.t as u32)?;
-    write_worth(lines, row.worth)?;
-    lines.end()
+    line.begin();
+    write_worth(line, row.worth);
+    line.number(row.t as u64);
+    line.status(row.status);
+    line.number(row.id as u64);
+    line.put(b"row");
 }
 
-// Adds the bounds, and those of the minimum reserve, or the word.
-fn write_worth(lines: &mut LineWriter, worth: Worth) -> Result<(), NoMemory>
-    requires { IsSummable worth }
-    ensures { OnOk result (lines.new ≡ lines.old ++ behind_commas (worth_fields worth)) }
+// The bounds, and those of the minimum reserve, or the word.
+fn write_worth(line: &mut LineEnd, worth: Worth)
+    requires room { 103 + length line.old ≤ 256 }
+    ensures written { line.new ≡ behind_commas (worth_fields worth) ++ line.old }
+    ensures short { length line.new ≤ length line.old + 103 }
 {
     match worth {
-        Worth::Bounds { lo, hi } => {
-            lines.cents(lo as i64)?;
-            lines.cents(hi as i64)
-        }
+        Worth::Bounds { lo, hi } => write_bounds(line, lo, hi),
         Worth::Both {
             lo,
             hi,
@@ -52,35 +50,47 @@ fn write_worth(lines: &mut LineWriter, worth: Worth) -> Result<(), NoMemory>
             min_hi,
             test,
         } => {
-            lines.cents(lo as i64)?;
-            lines.cents(hi as i64)?;
-            lines.cents(min_lo as i64)?;
-            lines.cents(min_hi as i64)?;
-            lines.word(adequacy_word(test))
+            write_adequacy(line, test);
+            write_bounds(line, min_lo, min_hi);
+            write_bounds(line, lo, hi);
         }
-        Worth::Word(reason) => lines.word(reason_word(reason)),
+        Worth::Word(reason) => write_reason(line, reason),
     }
 }
 
+// Bounds in cents.
+fn write_bounds(line: &mut LineEnd, lo: u64, hi: u64)
+    requires room { 48 + length line.old ≤ 256 }
+    ensures written { line.new ≡ behind_commas (cents_text lo ∷ cents_text hi ∷ []) ++ line.old }
+    ensures short { length line.new ≤ length line.old + 48 }
+{
+    line.cents(hi);
+    line.cents(lo);
+}
+
 // The word for how a premium lies to the net premium.
-fn adequacy_word(test: Adequacy) -> &'static str
-    ensures { result.now ≡ spec.adequacy_word test }
+fn write_adequacy(line: &mut LineEnd, test: Adequacy)
+    requires room { 7 + length line.old ≤ 256 }
+    ensures written { line.new ≡ 44 ∷ (adequacy_word test ++ line.old) }
+    ensures short { length line.new ≤ length line.old + 7 }
 {
     match test {
-        Adequacy::Short => "short",
-        Adequacy::Enough => "enough",
-        Adequacy::Close => "close",
+        Adequacy::Short => line.field(b"short"),
+        Adequacy::Enough => line.field(b"enough"),
+        Adequacy::Close => line.field(b"close"),
     }
 }
 
 // The word for why a policy has no value.
-fn reason_word(reason: NotValued) -> &'static str
-    ensures { result.now ≡ spec.reason_word reason }
+fn write_reason(line: &mut LineEnd, reason: NotValued)
+    requires room { 11 + length line.old ≤ 256 }
+    ensures written { line.new ≡ 44 ∷ (reason_word reason ++ line.old) }
+    ensures short { length line.new ≤ length line.old + 11 }
 {
     match reason {
-        NotValued::NoBasis => "nobasis",
-        NotValued::BelowTable => "belowtable",
-        NotValued::PastTable => "pasttable",
-        NotValued::RateHigh => "ratehigh",
+        NotValued::NoBasis => line.field(b"nobasis"),
+        NotValued::BelowTable => line.field(b"belowtable"),
+        NotValued::PastTable => line.field(b"pasttable"),
+        NotValued::RateHigh => line.field(b"ratehigh"),
     }
 }

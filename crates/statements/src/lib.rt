@@ -4,7 +4,6 @@
 mod balances;
 mod entries;
 mod last_day;
-mod line_end;
 mod policies;
 
 pub use balances::balance;

@@ -2,7 +2,7 @@
 ghost use Rattle.std.specs.Prelude.{◌≡◌, ◌+◌, ◌++◌, ◌≤◌, [], ◌∷◌, ℕ, length, IfOk, OnOk};
 ghost use Rattle.std.specs.List.{All};
 ghost use Rattle.policy_types.specs.Valid.{IsCommandDay, IsValid};
-ghost use Rattle.policy_types.specs.Words.{plan_word, status_word};
+ghost use Rattle.policy_types.specs.Words.{plan_word};
 ghost use Rattle.policy_types.specs.declared.command.Command.{Command as ACommand};
 ghost use Rattle.life_dates.specs.DayText.{day_text};
 ghost use Rattle.text_lines.specs.Fields.{insurance_fields};
@@ -11,11 +11,10 @@ ghost use Rattle.statements.specs.Statements.{policy_text, progress_fields, stat
 
 use crate::entries::write_entry;
 use crate::last_day::LastDay;
-use crate::line_end::LineEnd;
-use policy_types::{Command, NoMemory, Plan, Policy, Status};
+use policy_types::{Command, NoMemory, Plan, Policy};
 use std::alloc::Global;
 use std::marker::Model;
-use text_lines::{LineWriter, Text};
+use text_lines::{LineEnd, LineWriter, Text};
 
 /// The lines of a policy's accepted commands, each with its number among all accepted commands, and then the line of
 /// the policy as they left it.
@@ -103,7 +102,7 @@ fn write_policy(line: &mut LineEnd, policy: &Policy, issued: &[u8; 10])
     line.begin();
     write_progress(line, policy, issued);
     write_insurance(line, policy);
-    write_status(line, policy.status);
+    line.status(policy.status);
     line.number(policy.id as u64);
     line.put(b"policy");
 }
@@ -144,21 +143,5 @@ fn write_plan(line: &mut LineEnd, plan: Plan)
         Plan::Whole => line.field(b"whole"),
         Plan::Endowment => line.field(b"endowment"),
         Plan::Limited => line.field(b"limited"),
-    }
-}
-
-fn write_status(line: &mut LineEnd, status: Status)
-    requires room { 8 + length line.old ≤ 256 }
-    ensures written { line.new ≡ 44 ∷ (status_word status ++ line.old) }
-    ensures short { length line.new ≤ length line.old + 8 }
-{
-    match status {
-        Status::InForce => line.field(b"inforce"),
-        Status::Lapsed => line.field(b"lapsed"),
-        Status::Claimed => line.field(b"claimed"),
-        Status::Matured => line.field(b"matured"),
-        Status::Expired => line.field(b"expired"),
-        Status::Settled => line.field(b"settled"),
-        Status::PaidUp => line.field(b"paidup"),
     }
 }

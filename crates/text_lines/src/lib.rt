@@ -2,9 +2,11 @@
 #![tactic(auto)]
 
 mod bytes;
+mod line_end;
 mod words;
 mod writer;
 
 pub use bytes::Text;
+pub use line_end::LineEnd;
 pub use words::{kind_word, plan_word, status_word};
 pub use writer::LineWriter;

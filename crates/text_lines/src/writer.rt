@@ -7,6 +7,7 @@ ghost use Rattle.text_lines.specs.Fields.{insurance_fields};
 ghost use Rattle.text_lines.specs.Lines.{behind_commas};
 
 use crate::bytes::Text;
+use crate::line_end::LineEnd;
 use crate::words::plan_word;
 use itoa::Buffer;
 use life_dates::print_day;
@@ -101,6 +102,13 @@ impl LineWriter {
         self.number(years as u32)?;
         self.cents(amount as i64)?;
         self.cents(premium as i64)
+    }
+
+    /// A whole line.
+    pub fn line(&mut self, line: &LineEnd) -> Result<(), NoMemory>
+        ensures { OnOk result (self.new ≡ self.old ++ line.now) }
+    {
+        self.add(line.as_slice())
     }
 
     /// Ends the line.

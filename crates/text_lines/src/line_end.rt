@@ -1,13 +1,15 @@
 // A line that is written from its end to its start, so that the digits of a number are written where they stay.
 ghost use Rattle.std.specs.Prelude.{◌≡◌, ◌+◌, ◌≤◌, ◌++◌, [], ◌∷◌, length, decimal};
 ghost use Rattle.money_core.specs.CentsText.{cents_text};
+ghost use Rattle.policy_types.specs.Words.{status_word};
 
 use itoa::write_digits;
+use policy_types::Status;
 use std::marker::Model;
 
 /// The end of a line, of at most 256 bytes. Contracts see its bytes.
 #[derive(Drop)]
-pub(crate) struct LineEnd {
+pub struct LineEnd {
     bytes: [u8; 256],
     at: usize,
     ghost within: { at ≤ 256 },
@@ -22,7 +24,7 @@ impl Model for LineEnd {
 }
 
 impl LineEnd {
-    pub(crate) fn new() -> LineEnd
+    pub fn new() -> LineEnd
         ensures { result ≡ [] }
     {
         LineEnd {
@@ -32,7 +34,7 @@ impl LineEnd {
     }
 
     /// Begins another line, with the line feed.
-    pub(crate) fn begin(&mut self)
+    pub fn begin(&mut self)
         ensures { self.new ≡ 10 ∷ [] }
     {
         self.bytes[255] = b'\n';
@@ -40,7 +42,7 @@ impl LineEnd {
     }
 
     /// Bytes before those that stand.
-    pub(crate) fn put(&mut self, bytes: &[u8])
+    pub fn put(&mut self, bytes: &[u8])
         requires { length bytes.now + length self.old ≤ 256 }
         ensures { self.new ≡ bytes.now ++ self.old }
     {
@@ -51,7 +53,7 @@ impl LineEnd {
     }
 
     /// A field behind its comma.
-    pub(crate) fn field(&mut self, field: &[u8])
+    pub fn field(&mut self, field: &[u8])
         requires { 1 + length field.now + length self.old ≤ 256 }
         ensures { self.new ≡ 44 ∷ (field.now ++ self.old) }
     {
@@ -60,7 +62,7 @@ impl LineEnd {
     }
 
     /// A field, a whole number.
-    pub(crate) fn number(&mut self, number: u64)
+    pub fn number(&mut self, number: u64)
         requires { 21 + length self.old ≤ 256 }
         ensures written { self.new ≡ 44 ∷ (decimal number ++ self.old) }
         ensures short { length self.new ≤ length self.old + 21 }
@@ -70,7 +72,7 @@ impl LineEnd {
     }
 
     /// A field, an amount in cents, as `127.22`.
-    pub(crate) fn cents(&mut self, cents: u64)
+    pub fn cents(&mut self, cents: u64)
         requires { 24 + length self.old ≤ 256 }
         ensures written { self.new ≡ 44 ∷ (cents_text cents ++ self.old) }
         ensures short { length self.new ≤ length self.old + 24 }
@@ -80,8 +82,25 @@ impl LineEnd {
         self.number(cents / 100);
     }
 
+    /// A field, the word of a status.
+    pub fn status(&mut self, status: Status)
+        requires { 8 + length self.old ≤ 256 }
+        ensures written { self.new ≡ 44 ∷ (status_word status ++ self.old) }
+        ensures short { length self.new ≤ length self.old + 8 }
+    {
+        match status {
+            Status::InForce => self.field(b"inforce"),
+            Status::Lapsed => self.field(b"lapsed"),
+            Status::Claimed => self.field(b"claimed"),
+            Status::Matured => self.field(b"matured"),
+            Status::Expired => self.field(b"expired"),
+            Status::Settled => self.field(b"settled"),
+            Status::PaidUp => self.field(b"paidup"),
+        }
+    }
+
     /// The line.
-    pub(crate) fn as_slice(&self) -> &[u8]
+    pub fn as_slice(&self) -> &[u8]
         ensures { result.now ≡ self.now }
     {
         &self.bytes[self.at..]

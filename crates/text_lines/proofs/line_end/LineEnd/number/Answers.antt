@@ -1,7 +1,7 @@
 use Rattle.std.proofs.Common.{◌<◌, ◌≤◌, ◌^◌, ℕ, length, decimal, arith, rules}
 use Rattle.std.proofs.lemmas.Fmt.{length-decimal-le}
 use Rattle.std.proofs.lemmas.List.{length-drop}
-use Rattle.statements.proofs.line_end.LineEnd.number.Goals as goal
+use Rattle.text_lines.proofs.line_end.LineEnd.number.Goals as goal
 
 short : (n : ℕ) → n < 2 ^ 64 → length (decimal n) ≤ 20
 short n fits = length-decimal-le 20 n (omega arith) (omega (arith, fits)) fits
