@@ -22,6 +22,10 @@ mod policy_value_tests;
 #[cfg(test)]
 mod present_value_tests;
 #[cfg(test)]
+mod projection_sums_tests;
+#[cfg(test)]
+mod projection_text_tests;
+#[cfg(test)]
 mod report_text_tests;
 #[cfg(test)]
 mod select_value_tests;
