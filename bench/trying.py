@@ -1,0 +1,122 @@
+"""Tries texts of a crate in place of its own over what its check kept, as the kit's `rt must-fail` does.
+
+For twins.py and wrong_bodies.py.
+"""
+from __future__ import annotations
+
+import importlib.machinery
+import os
+import re
+import resource
+import shutil
+import subprocess
+import tempfile
+import types
+from collections.abc import Iterator
+from contextlib import contextmanager
+from dataclasses import dataclass
+from typing import Any
+
+ROOT = os.path.dirname(os.path.dirname(os.path.abspath(__file__)))
+BODIES = f"{ROOT}/bench/wrong_bodies"
+ONE_JOB = ["--jobs", "1"]
+
+
+def kit_of_rt() -> Any:
+    """The kit's command `rt` as a module, so that an edit is read, tried and judged here as the gate does it."""
+    page = subprocess.run(["rt", "doc"], capture_output=True, text=True, check=True).stdout.strip()
+    loader = importlib.machinery.SourceFileLoader("rt_of_the_kit", f"{os.path.dirname(page)}/bin/rt")
+    made = types.ModuleType("rt_of_the_kit")
+    made.__file__ = loader.path
+    loader.exec_module(made)
+    return made
+
+
+@dataclass
+class Ended:
+    """What the prover said of one text, and the processor seconds that it took."""
+
+    status: int
+    said: str
+    seconds: float
+
+    def proved(self) -> bool:
+        return self.status == 0
+
+    def unread(self) -> bool:
+        """Whether the compiler refused the text, so that nothing was proved or refused."""
+        return self.status == 1 and "logic=not-proved" not in self.said
+
+    def first_goals(self, most: int = 3) -> str:
+        """The places and goals at which it was refused, the first of them."""
+        lines = [it.strip() for it in self.said.split("\n") if re.match(r"(note: )?\S+:\d+:\d+:", it)]
+        told = [it for it in lines if ": error" in it or it.startswith("note: ")] or lines
+        told = told or self.said.strip().split("\n")[:1]
+        return " | ".join(" ".join(it.split())[:200] for it in told[:most])
+
+
+def edits_of(crate: str) -> list[str]:
+    """The crate's wrong bodies: those that the gate tries and those that only wrong_bodies.py tries."""
+    found = []
+    for folder in (f"{ROOT}/crates/{crate}/must-fail", f"{BODIES}/{crate}"):
+        names = sorted(os.listdir(folder)) if os.path.isdir(folder) else []
+        found += [f"{folder}/{name}" for name in names if name.endswith(".edit")]
+    return sorted(found, key=os.path.basename)
+
+
+def text_of(path: str) -> str:
+    with open(path, encoding="utf-8") as file:
+        return file.read()
+
+
+class Seed:
+    """A crate that is proved as it stands, and what its check kept: each text is tried over a copy of that."""
+
+    def __init__(self, kit: Any, crate: Any, room: str) -> None:
+        self.kit, self.crate, self.room = kit, crate, room
+
+    def read(self, text: str) -> tuple[dict[str, str] | None, str]:
+        """The files of the crate as an edit of this text leaves them, or why it can't be applied."""
+        texts, why = self.kit.edited(text, self.crate.folder)
+        return texts, why or ""
+
+    def tried(self, texts: dict[str, str]) -> Ended:
+        over = tempfile.mkdtemp(prefix="over-", dir=self.room)
+        before = resource.getrusage(resource.RUSAGE_CHILDREN)
+        try:
+            self.kit.linked(f"{self.room}/seed", f"{over}/kept")
+            ran = self.kit.checked(self.crate, texts, ONE_JOB, f"{over}/kept")
+        finally:
+            shutil.rmtree(over, ignore_errors=True)
+        after = resource.getrusage(resource.RUSAGE_CHILDREN)
+        return Ended(ran.returncode, ran.stdout, after.ru_utime + after.ru_stime - before.ru_utime - before.ru_stime)
+
+
+@contextmanager
+def seed_of(kit: Any, name: str) -> Iterator[Seed | None]:
+    """The crate's seed, begun with what a check in any checkout of this machine kept; None if the crate isn't proved as it stands."""
+    crate = next(it for it in kit.rtlib.crates_below(ROOT) if it.name == name)
+    kit.adopt(crate, is_alone=False)
+    start = f"{crate.folder}/out/incremental"
+    room = None
+    if not any(below.build_rlib(ONE_JOB, anew=False) for below in crate.below()):
+        room = kit.seeded(crate, ONE_JOB, start if os.path.isdir(start) else None)
+    try:
+        yield Seed(kit, crate, room) if room else None
+    finally:
+        shutil.rmtree(room or "", ignore_errors=True)
+
+
+def ready_kit() -> Any:
+    """The kit with its checks sharing what the checkouts of this machine kept."""
+    kit = kit_of_rt()
+    kit.share_work(False)
+    made = kit.rtlib.Crate.__init__
+
+    def make(crate: Any, *given: Any, **named: Any) -> None:
+        made(crate, *given, **named)
+        kit.read_files(crate)
+
+    kit.rtlib.Crate.__init__ = make
+    os.chdir(ROOT)
+    return kit

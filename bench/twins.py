@@ -1,0 +1,262 @@
+#!/usr/bin/env python3
+"""Tries of each wrong body whether it is refused for what it means or only for its form, and keeps the answer in twins.csv.
+
+usage: python3 bench/twins.py [--list] [--edits] [--table FILE] [CRATE..]    (rt; the crates are checked by `rt check`)
+
+An edit that exchanges a name, a literal or an operator for another keeps the form of the source: its twin is the source, which is
+proved. Any other edit needs a twin: an edit of the same form that changes nothing, which has to be accepted. A rule makes it, or
+the file bench/twins/CRATE/NAME.edit holds it, or that file says "none: WHY" where there can be none. `--edits` tries the edits
+themselves too, and notes what refuses them and the processor seconds; `--list` tries nothing and prints the kinds.
+"""
+from __future__ import annotations
+
+import csv
+import fcntl
+import os
+import re
+import sys
+from collections.abc import Callable
+from dataclasses import dataclass
+from difflib import SequenceMatcher
+
+from trying import ROOT, Seed, edits_of, ready_kit, seed_of, text_of
+
+TWINS = f"{ROOT}/bench/twins"
+COLUMNS = ["crate", "edit", "kind", "twin", "verdict", "refused_at", "seconds"]
+PATH = r"[&*]*[A-Za-z_]\w*(?:(?:::|\.)[A-Za-z_]\w*)*(?![\w!(.:])"
+OPERAND = PATH + r"|\d[\w_]*|b?\"(?:[^\"\\]|\\.)*\"|b?'(?:[^'\\]|\\.)'"
+TOKEN = re.compile(OPERAND + r"|[A-Za-z_]\w*!?|::|->|=>|[=!<>]=|&&|\|\||\.\.=|\.\.|[-+*/%]=|\S")
+OPERANDS = rf"\((?:{OPERAND})(?:, (?:{OPERAND}))*\)"
+FIELDS = rf" \{{ (?:\w+(?:: (?:{OPERAND}))?,? |\.\. )+\}}"
+PLAIN_VALUE = re.compile(rf"\b(?:[A-Za-z_]\w*::)*[A-Z]\w*(?:{OPERANDS}|{FIELDS})")
+OPERATORS = {"==", "!=", "<", "<=", ">", ">=", "+", "-", "*", "/", "%", "&&", "||"}
+# What a change adds to an expression, and the same that changes nothing.
+NEUTRAL = [
+    (r"\.saturating_(sub|add)\((?:[^()]|\(\))*\)", r".saturating_\1(0)"),
+    (r"\* 0 \+ \d[\d_]*", "* 1 + 0"),
+    (r"([-+]) \d[\d_]*", r"\1 0"),
+    (r"/ \d[\d_]*", "/ 1"),
+]
+
+
+def tokens(text: str) -> list[str]:
+    return TOKEN.findall(text)
+
+
+def values(text: str) -> list[str]:
+    """The tokens of a line, where a plain value counts as one: a path, a literal, or a variant of such."""
+    text = re.sub(r" as [iu](?:\d+|size)\b", "", text.replace("(())", "(unit)"))
+    was = ""
+    while was != text:
+        was, text = text, PLAIN_VALUE.sub("value", text)
+    return TOKEN.findall(text)
+
+
+def sort_of(token: str) -> str:
+    """What a token may be exchanged for without a change of form."""
+    if token in OPERATORS:
+        return "operator"
+    return "operand" if re.fullmatch(OPERAND, token) or re.fullmatch(r"[A-Za-z_]\w*", token) else token
+
+
+def keeps_the_form(old: str, new: str) -> bool:
+    return [sort_of(it) for it in values(old)] == [sort_of(it) for it in values(new)]
+
+
+def with_nothing_added(old: str, new: str) -> str | None:
+    """`new` with what it adds to an expression of `old` made neutral."""
+    for added, neutral in NEUTRAL:
+        for found in re.finditer(added, new):
+            head, tail = new[: found.start()], new[found.end():]
+            if "".join((head + tail).split()) == "".join(old.split()):
+                return head + re.sub(added, neutral, found[0]) + tail
+    return None
+
+
+def with_an_idle_condition(old: str, new: str) -> str | None:
+    """`new` with the condition that it adds made one that decides nothing."""
+    start = len(os.path.commonprefix([old, new]))
+    end = len(os.path.commonprefix([old[start:][::-1], new[start:][::-1]]))
+    added = new[start: len(new) - end] if start + end == len(old) else ""
+    found = re.fullmatch(r"(\s*)(&&|\|\|) (.*?)(\s*)", added)
+    if not found:
+        return None
+    still = "|| true" if found[2] == "&&" else "&& false"
+    return f"{new[:start]}{found[1]}{found[2]} ({found[3]} {still}){found[4]}{new[len(new) - end:]}"
+
+
+def with_an_idle_statement(old: str, new: str) -> str | None:
+    """`new` with the statement that it adds before or behind `old` made one that changes nothing."""
+    core, at = old.strip(), new.find(old.strip())
+    if at < 0 or new.strip() == core:
+        return None
+    before, behind = new[:at], new[at + len(core):]
+    one = re.fullmatch(r"\s*([^;{}]+;)\s*", behind if behind.strip() else before)
+    if not one or (before.strip() and behind.strip()):
+        return None
+    bound = re.match(r"let (?:mut )?(?!_ )(\w+) = ", one[1])
+    idle = f"let {bound[1]} = {bound[1]};" if bound else f"if false {{ {one[1]} }}"
+    margin = new[: len(new) - len(new.lstrip())]
+    return margin + (f"{idle} {core}" if before.strip() else f"{core} {idle}")
+
+
+def with_its_own_field(old: str, new: str) -> str | None:
+    """A field written by its name alone, written out."""
+    matcher = SequenceMatcher(None, tokens(old), tokens(new))
+    added = [it for it in matcher.get_opcodes() if it[0] != "equal"]
+    if len(added) != 1 or added[0][0] != "insert" or tokens(new)[added[0][3]] != ":":
+        return None
+    name = tokens(new)[added[0][3] - 1]
+    head, _, tail = new.partition(f"{name}: ")
+    depth = 0
+    for at, sign in enumerate(f"{tail} }}"):
+        depth += (sign in "([{") - (sign in ")]}")
+        if depth < 0 or (depth == 0 and sign == ","):
+            return f"{head}{name}: {name}{tail[at - (sign == '}'):]}"
+    return None
+
+
+def takes_away(old: str, new: str) -> bool:
+    """Whether an edit only takes something away, or a call: nothing of its form does what that did."""
+    calls = [len(re.findall(r"\b[a-z_]\w*(?:::<[^(]*>)?\(", it)) for it in (old, new)]
+    left = iter(tokens(old))
+    return calls[1] < calls[0] or all(it in left for it in tokens(new))
+
+
+RULES: list[Callable[[str, str], str | None]] = [with_nothing_added, with_its_own_field, with_an_idle_condition, with_an_idle_statement]
+
+
+TAKEN = "it takes a step away, and nothing without that step does the same"
+
+
+@dataclass
+class Twin:
+    """An edit's kind and its twin. Without a text the twin is the source, or there is none, and `why` tells the cause."""
+
+    kind: str
+    text: str = ""
+    why: str = ""
+
+
+def pairs_of(text: str) -> list[list[str]]:
+    """The lines of an edit as pairs of file, old and new."""
+    found: list[list[str]] = []
+    path = old = ""
+    for line in text.split("\n"):
+        word, _, rest = line.partition(": ")
+        if word == "file":
+            path = rest.strip()
+        elif word == "old":
+            old = rest
+        elif word == "new":
+            found.append([path, old, rest])
+    return found
+
+
+def by_rule(old: str, new: str) -> str | None:
+    for rule in RULES:
+        made = rule(old, new)
+        if made:
+            return made
+    return None
+
+
+def twin_of(crate: str, name: str, text: str) -> Twin:
+    pairs = pairs_of(text)
+    if all(keeps_the_form(old, new) for _, old, new in pairs):
+        return Twin("token")
+    by_hand = f"{TWINS}/{crate}/{name}.edit"
+    if os.path.isfile(by_hand):
+        held = text_of(by_hand)
+        return Twin("form", why=held[len("none: "):].strip()) if held.startswith("none: ") else Twin("form", held)
+    made = []
+    for path, old, new in pairs:
+        if keeps_the_form(old, new):
+            continue
+        twin = by_rule(old, new)
+        if twin is None:
+            return Twin("form", why=TAKEN if takes_away(old, new) else "no rule makes one, and no file holds one")
+        made.append(f"file: {path}\nold: {old}\nnew: {twin}\n")
+    return Twin("form", "".join(made))
+
+
+def tried(seed: Seed, text: str) -> tuple[str, str]:
+    """What became of the crate with an edit, in words, and the processor seconds of that."""
+    texts, why = seed.read(text)
+    if texts is None:
+        return f"BAD: {why}", ""
+    ended = seed.tried(texts)
+    word = "accepted" if ended.proved() else f"BAD: {ended.first_goals()}" if ended.unread() else ended.first_goals()
+    return word, f"{ended.seconds:.1f}"
+
+
+def row_of(seed: Seed, path: str, tries_edits: bool, known: dict[str, str]) -> list[str]:
+    """The table's row for one edit: tries its twin, and the edit itself where that is asked for."""
+    name, text = os.path.basename(path)[: -len(".edit")], text_of(path)
+    twin = twin_of(seed.crate.name, name, text)
+    shown = " ".join(" ".join(it[2].split()) for it in pairs_of(twin.text)) or twin.why
+    verdict = "the source" if twin.kind == "token" else "none"
+    if twin.text:
+        verdict = tried(seed, twin.text)[0]
+        verdict = verdict if verdict.startswith(("accepted", "BAD")) else f"refused: {verdict}"
+    refused = [known.get("refused_at", ""), known.get("seconds", "")]
+    if tries_edits:
+        refused = list(tried(seed, text))
+    return [seed.crate.name, name, twin.kind, shown, verdict, *refused]
+
+
+def rows_in(table: str) -> list[dict[str, str]]:
+    if not os.path.isfile(table):
+        return []
+    with open(table, encoding="utf-8", newline="") as file:
+        return list(csv.DictReader(file))
+
+
+def keep(table: str, crate: str, rows: list[list[str]]) -> None:
+    """Puts the crate's rows in the place of those that the table has of it."""
+    with open(f"{table}.lock", "w") as lock:
+        fcntl.flock(lock, fcntl.LOCK_EX)
+        others = [[row[it] for it in COLUMNS] for row in rows_in(table) if row["crate"] != crate]
+        with open(table, "w", encoding="utf-8", newline="") as file:
+            writer = csv.writer(file, lineterminator="\n")
+            writer.writerow(COLUMNS)
+            writer.writerows(sorted(others + rows))
+
+
+def listed(crate: str) -> None:
+    for path in edits_of(crate):
+        name = os.path.basename(path)[: -len(".edit")]
+        twin = twin_of(crate, name, text_of(path))
+        print(f"{crate}/{name}\t{twin.kind}\t{twin.text.partition('new: ')[2].strip() or twin.why}")
+
+
+def main() -> int:
+    words = sys.argv[1:]
+    table = words[words.index("--table") + 1] if "--table" in words else f"{ROOT}/bench/twins.csv"
+    names = [it for it in words if not it.startswith("--") and it != table] or sorted(os.listdir(f"{ROOT}/crates"))
+    names = [it for it in names if edits_of(it)]
+    if "--list" in words:
+        for name in names:
+            listed(name)
+        return 0
+    kit = ready_kit()
+    failed = 0
+    for name in names:
+        known = {row["edit"]: row for row in rows_in(table) if row["crate"] == name}
+        with seed_of(kit, name) as seed:
+            if seed is None:
+                print(f"{name}: isn't proved as it stands, so nothing is tried")
+                failed = 1
+                continue
+            rows = []
+            for path in edits_of(name):
+                edit = os.path.basename(path)[: -len(".edit")]
+                rows.append(row_of(seed, path, "--edits" in words, known.get(edit, {})))
+                print("\t".join(rows[-1]), flush=True)
+            keep(table, name, rows)
+            failed |= any(row[4].startswith(("refused", "BAD")) or row[5].startswith(("accepted", "BAD")) for row in rows)
+    return failed
+
+
+if __name__ == "__main__":
+    sys.exit(main())
