@@ -94,7 +94,7 @@ class Seed:
 
 @contextmanager
 def seed_of(kit: Any, name: str) -> Iterator[Seed | None]:
-    """The crate's seed, begun with what a check in any checkout of this machine kept; None if the crate isn't proved as it stands."""
+    """The crate's seed, begun with what any checkout's check kept; None if the crate isn't proved as it stands."""
     crate = next(it for it in kit.rtlib.crates_below(ROOT) if it.name == name)
     kit.adopt(crate, is_alone=False)
     start = f"{crate.folder}/out/incremental"

@@ -1,12 +1,13 @@
 #!/usr/bin/env python3
-"""Tries of each wrong body whether it is refused for what it means or only for its form, and keeps the answer in twins.csv.
+"""Tries of each wrong body whether it is refused for what it means or for its form. The answers stand in twins.csv.
 
 usage: python3 bench/twins.py [--list] [--edits] [--table FILE] [CRATE..]    (rt; the crates are checked by `rt check`)
 
-An edit that exchanges a name, a literal or an operator for another keeps the form of the source: its twin is the source, which is
-proved. Any other edit needs a twin: an edit of the same form that changes nothing, which has to be accepted. A rule makes it, or
-the file bench/twins/CRATE/NAME.edit holds it, or that file says "none: WHY" where there can be none. `--edits` tries the edits
-themselves too, and notes what refuses them and the processor seconds; `--list` tries nothing and prints the kinds.
+An edit that exchanges a name, a literal or an operator for another keeps the form of the source: its twin is the
+source, which is proved. Any other edit needs a twin: an edit of the same form that changes nothing, which has to be
+accepted. A rule makes it, or the file bench/twins/CRATE/NAME.edit holds it, or that file says "none: WHY" where there
+can be none. `--edits` tries the edits themselves too, and notes what refuses them and the processor seconds; `--list`
+tries nothing and prints the kinds.
 """
 from __future__ import annotations
 
@@ -123,7 +124,8 @@ def takes_away(old: str, new: str) -> bool:
     return calls[1] < calls[0] or all(it in left for it in tokens(new))
 
 
-RULES: list[Callable[[str, str], str | None]] = [with_nothing_added, with_its_own_field, with_an_idle_condition, with_an_idle_statement]
+Rule = Callable[[str, str], str | None]
+RULES: list[Rule] = [with_nothing_added, with_its_own_field, with_an_idle_condition, with_an_idle_statement]
 
 
 TAKEN = "it takes a step away, and nothing without that step does the same"
@@ -131,7 +133,7 @@ TAKEN = "it takes a step away, and nothing without that step does the same"
 
 @dataclass
 class Twin:
-    """An edit's kind and its twin. Without a text the twin is the source, or there is none, and `why` tells the cause."""
+    """An edit's kind and its twin. Without a text the twin is the source, or there is none for the cause `why`."""
 
     kind: str
     text: str = ""
@@ -223,6 +225,24 @@ def keep(table: str, crate: str, rows: list[list[str]]) -> None:
             writer.writerows(sorted(others + rows))
 
 
+def rows_of(seed: Seed, table: str, tries_edits: bool) -> list[list[str]]:
+    """Tries all of a crate's edits, and keeps each answer as soon as it is there."""
+    crate = seed.crate.name
+    known = {row["edit"]: row for row in rows_in(table) if row["crate"] == crate}
+    rows = []
+    for path in edits_of(crate):
+        edit = os.path.basename(path)[: -len(".edit")]
+        rows.append(row_of(seed, path, tries_edits, known.pop(edit, {})))
+        print("\t".join(rows[-1]), flush=True)
+        keep(table, crate, rows + [[row[it] for it in COLUMNS] for row in known.values()])
+    return rows
+
+
+def is_amiss(row: list[str]) -> bool:
+    """Whether a twin isn't accepted, or its edit is."""
+    return row[4].startswith(("refused", "BAD")) or row[5].startswith(("accepted", "BAD"))
+
+
 def listed(crate: str) -> None:
     for path in edits_of(crate):
         name = os.path.basename(path)[: -len(".edit")]
@@ -242,20 +262,12 @@ def main() -> int:
     kit = ready_kit()
     failed = 0
     for name in names:
-        known = {row["edit"]: row for row in rows_in(table) if row["crate"] == name}
         with seed_of(kit, name) as seed:
             if seed is None:
                 print(f"{name}: isn't proved as it stands, so nothing is tried")
-                failed = 1
-                continue
-            rows = []
-            for path in edits_of(name):
-                edit = os.path.basename(path)[: -len(".edit")]
-                rows.append(row_of(seed, path, "--edits" in words, known.get(edit, {})))
-                print("\t".join(rows[-1]), flush=True)
-            keep(table, name, rows)
-            failed |= any(row[4].startswith(("refused", "BAD")) or row[5].startswith(("accepted", "BAD")) for row in rows)
-    return failed
+            rows = rows_of(seed, table, "--edits" in words) if seed else []
+            failed |= seed is None or any(is_amiss(row) for row in rows)
+    return int(failed)
 
 
 if __name__ == "__main__":
