@@ -47,12 +47,12 @@ class Ended:
         """Whether the compiler refused the text, so that nothing was proved or refused."""
         return self.status == 1 and "logic=not-proved" not in self.said
 
-    def first_goals(self, most: int = 3) -> str:
+    def first_goals(self, most: int = 2) -> str:
         """The places and goals at which it was refused, the first of them."""
         lines = [it.strip() for it in self.said.split("\n") if re.match(r"(note: )?\S+:\d+:\d+:", it)]
         told = [it for it in lines if ": error" in it or it.startswith("note: ")] or lines
         told = told or self.said.strip().split("\n")[:1]
-        return " | ".join(" ".join(it.split())[:200] for it in told[:most])
+        return " | ".join(" ".join(it.split())[:150] for it in told[:most])
 
 
 def edits_of(crate: str) -> list[str]:

@@ -28,6 +28,7 @@ done <<'EDITS'
 a_made-up_fault                 life_app/made_up_read_fault office_state/number_of_an_earlier_fault
 a_made-up_fault_of_a_device     outside_io/read_all_made_up_fault memory_disk/made_up_fault posting_journal/made_up_fault
 the_newest_state_valued         snapshot_value/newest_position_pinned office_state/newest_state_read
+policies_issued_later_valued    office_state/policies_issued_later_listed
 an_idle_trim                    office_state/idle_trim
 the_cap_at_the_issue_age        crvm_reserve/cap_at_the_issue_age
 the_net_level_premium           crvm_reserve/net_level_beta
@@ -40,6 +41,7 @@ short_and_enough_swapped        deficiency_reserve/short_and_enough_swapped
 close_for_everything            deficiency_reserve/close_for_everything
 an_early_Ok                     posting_journal/ok_before_the_second_sync
 a_closed_record_kept            posting_journal/closed_record_kept
+the_earlier_state_always_opened posting_journal/earlier_state_opened
 a_line_posted_twice_or_left_out lane_runner/posted_twice lane_runner/line_left_out
 an_invented_reply               shared_office/invented_reply
 a_reinstatement_unpaid          policy_machine/reinstated_unpaid
