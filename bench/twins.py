@@ -216,13 +216,16 @@ def rows_in(table: str) -> list[dict[str, str]]:
 
 def keep(table: str, crate: str, rows: list[list[str]]) -> None:
     """Puts the crate's rows in the place of those that the table has of it."""
-    with open(f"{table}.lock", "w") as lock:
+    lock = os.open(os.path.dirname(os.path.abspath(table)), os.O_RDONLY)
+    try:
         fcntl.flock(lock, fcntl.LOCK_EX)
         others = [[row[it] for it in COLUMNS] for row in rows_in(table) if row["crate"] != crate]
         with open(table, "w", encoding="utf-8", newline="") as file:
             writer = csv.writer(file, lineterminator="\n")
             writer.writerow(COLUMNS)
             writer.writerows(sorted(others + rows))
+    finally:
+        os.close(lock)
 
 
 def rows_of(seed: Seed, table: str, tries_edits: bool) -> list[list[str]]:
