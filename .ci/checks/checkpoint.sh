@@ -134,7 +134,7 @@ changed_byte 72 '\001'
 changed_byte 78 '\377'
 changed_byte 104 '\377'
 changed_byte 111 '\001'
-for length in 0 1 17 63 64 111; do
+for length in $(seq 0 111); do
     head -c "$length" whole >checkpoint.life
     stated_alike "$length bytes"
 done

@@ -136,6 +136,25 @@ for words in "2021-01-01 --mean --at 1 --workers 2" "--mean --at 1 2021-01-01 --
     done
 done
 
+# forty commands, all of which are accepted, five of each of eight policies: the first of them are valued as a journal of
+# these alone
+begin_with_basis "each position is valued as a run of so many"
+for rest in issue,ID,2020-01-01,endowment,0,3,1000.00,400.00 premium,ID,2020-01-01,400.00 alter,ID,2020-06-01,500.00,200.00 \
+    premium,ID,2021-01-01,200.00 claim,ID,2021-02-01; do
+    for id in 1 2 3 4 5 6 7 8; do echo "1,$rest" | sed "s/ID/$id/"; done
+done >forty
+"$life" run <forty >out
+[ "$(grep -c ',accepted,' out)" = 40 ] || complain "not all forty are accepted"
+for count in $(seq 0 40); do
+    mkdir alone && cp basis.csv q.xml alone
+    head -n "$count" forty | (cd alone && "$life" run >out && "$life" value 2021-06-01 </dev/null >../wanted) ||
+        complain "the first $count ended with $?"
+    "$life" value 2021-06-01 --at "$count" </dev/null >out
+    judge $? 0 wanted
+    rm -r alone
+done
+grep -q '^0,value,2021-06-01,40,8$' wanted || complain "the last isn't of forty commands: $(head -n 1 wanted)"
+
 begin_with_basis "position ahead of a new journal"
 echo "refused,ahead,0" >wanted
 "$life" value 2021-01-01 --at 1 </dev/null >out

@@ -1,6 +1,7 @@
 #!/bin/sh
-# Workers of a valuation and of a projection, which no contract tells apart: a worker more is a thread more where each has
-# 8,192 policies, as strace counts; and whatever their number, the text is that of one worker.
+# Workers of a valuation and of a projection, and the lanes of a run, which no contract tells apart: a worker more is a thread
+# more where each has 8,192 policies, and a lane more is one, as strace counts; and whatever the number of workers, the text
+# is that of one.
 . "$(dirname "$0")/../common.sh"
 command -v strace >/dev/null || { apt-get update -qq && apt-get install -y -qq strace; } >/dev/null 2>&1
 command -v strace >/dev/null || {
@@ -81,4 +82,15 @@ has_threads 1 0
 has_threads 4 3
 has_threads 64 15
 
-end "each worker has a thread where there is work for it, and the text is the same"
+# the lanes of a script, each of which issues a policy; the thread that reads the script runs one of them
+begin "lanes"
+for lanes in 1 2 3 5 8; do
+    rm -f journal.life
+    for lane in $(seq 1 $lanes); do echo "$lane,issue,$lane,2020-01-01,endowment,0,3,1000.00,400.00"; done >script
+    strace -f -qq -o log -e trace=clone,clone3 "$program" run <script >out || complain "$lanes lanes ended with $?"
+    started=$(grep -c 'clone3*(' log)
+    [ "$started" -eq $((lanes - 1)) ] || complain "$lanes lanes started $started threads"
+    [ "$(grep -c ',accepted,' out)" -eq "$lanes" ] || complain "of $lanes lanes not each is answered: $(cat out)"
+done
+
+end "each worker and each lane has a thread where there is work for it, and the text is the same"

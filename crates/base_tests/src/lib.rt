@@ -1,6 +1,9 @@
-//! Tests of what stands at the bottom: commands, cents, days, the rules, the accounts, the texts of entries, made scripts.
+//! Tests of what stands at the bottom: commands, cents, days, the rules, the accounts, the texts of entries, made scripts,
+//! the versions of a book.
 #![tactic(auto)]
 
+#[cfg(test)]
+mod book_trials;
 #[cfg(test)]
 mod life_dates_tests;
 #[cfg(test)]
@@ -21,3 +24,5 @@ mod policy_types_tests;
 mod statements_tests;
 #[cfg(test)]
 mod text_lines_tests;
+#[cfg(test)]
+mod versioned_book_tests;

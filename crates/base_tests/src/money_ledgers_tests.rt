@@ -1,8 +1,169 @@
 use money_ledgers::Ledger;
 use policy_types::{Command, Plan, Policy, Status};
 
-// An endowment of 1000.00, as a command left it.
-fn policy(status: Status, outstanding: u64) -> Policy {
+// A command, how it leaves an endowment of 1000.00, and the balances that it makes of empty accounts, worked by hand.
+struct Row {
+    command: Command,
+    status: Status,
+    outstanding: u64,
+    ledger: Ledger,
+}
+
+const ROWS: &[Row] = &[
+    Row {
+        command: Command::Issue {
+            id: 7001,
+            day: 18262,
+            plan: Plan::Endowment,
+            age: 0,
+            years: 3,
+            amount: 100_000,
+            premium: 40_000,
+        },
+        status: Status::InForce,
+        outstanding: 0,
+        ledger: Ledger {
+            cash: 0,
+            premiums: 0,
+            incurred: 0,
+            payable: 0,
+        },
+    },
+    Row {
+        command: Command::Premium {
+            id: 7001,
+            day: 18262,
+            amount: 40_000,
+        },
+        status: Status::InForce,
+        outstanding: 0,
+        ledger: Ledger {
+            cash: 40_000,
+            premiums: -40_000,
+            incurred: 0,
+            payable: 0,
+        },
+    },
+    Row {
+        command: Command::Alter {
+            id: 7001,
+            day: 18262,
+            amount: 90_000,
+            premium: 36_000,
+        },
+        status: Status::InForce,
+        outstanding: 0,
+        ledger: Ledger {
+            cash: 0,
+            premiums: 0,
+            incurred: 0,
+            payable: 0,
+        },
+    },
+    Row {
+        command: Command::Lapse {
+            id: 7001,
+            day: 18262,
+        },
+        status: Status::Lapsed,
+        outstanding: 0,
+        ledger: Ledger {
+            cash: 0,
+            premiums: 0,
+            incurred: 0,
+            payable: 0,
+        },
+    },
+    Row {
+        command: Command::Reinstate {
+            id: 7001,
+            day: 18262,
+            amount: 80_000,
+        },
+        status: Status::InForce,
+        outstanding: 0,
+        ledger: Ledger {
+            cash: 80_000,
+            premiums: -80_000,
+            incurred: 0,
+            payable: 0,
+        },
+    },
+    Row {
+        command: Command::Claim {
+            id: 7001,
+            day: 18262,
+        },
+        status: Status::Claimed,
+        outstanding: 100_000,
+        ledger: Ledger {
+            cash: 0,
+            premiums: 0,
+            incurred: 100_000,
+            payable: -100_000,
+        },
+    },
+    Row {
+        command: Command::Settle {
+            id: 7001,
+            day: 18262,
+            amount: 40_000,
+        },
+        status: Status::Claimed,
+        outstanding: 60_000,
+        ledger: Ledger {
+            cash: -40_000,
+            premiums: 0,
+            incurred: 0,
+            payable: 40_000,
+        },
+    },
+    Row {
+        command: Command::Mature {
+            id: 7001,
+            day: 18262,
+        },
+        status: Status::Matured,
+        outstanding: 100_000,
+        ledger: Ledger {
+            cash: 0,
+            premiums: 0,
+            incurred: 100_000,
+            payable: -100_000,
+        },
+    },
+    Row {
+        command: Command::PaidUp {
+            id: 7001,
+            day: 18262,
+            amount: 30_000,
+        },
+        status: Status::PaidUp,
+        outstanding: 0,
+        ledger: Ledger {
+            cash: 0,
+            premiums: 0,
+            incurred: 0,
+            payable: 0,
+        },
+    },
+    Row {
+        command: Command::Mature {
+            id: 7001,
+            day: 18262,
+        },
+        status: Status::Expired,
+        outstanding: 0,
+        ledger: Ledger {
+            cash: 0,
+            premiums: 0,
+            incurred: 0,
+            payable: 0,
+        },
+    },
+];
+
+fn after(row: &Row) -> Policy {
     Policy {
         id: 7001,
         plan: Plan::Endowment,
@@ -13,99 +174,19 @@ fn policy(status: Status, outstanding: u64) -> Policy {
         issued: 18262,
         last: 18262,
         paid: 1,
-        status,
-        outstanding,
+        status: row.status,
+        outstanding: row.outstanding,
     }
 }
 
-fn ledger(cash: i64, premiums: i64, incurred: i64, payable: i64) -> Ledger {
-    Ledger {
-        cash,
-        premiums,
-        incurred,
-        payable,
-    }
-}
-
-// The balances after one command on empty accounts, worked by hand.
 #[test]
 fn one_command(rt: HostRuntime) {
-    let (id, day) = (7001, 18262);
-    let issue = Command::Issue {
-        id,
-        day,
-        plan: Plan::Endowment,
-        age: 0,
-        years: 3,
-        amount: 100_000,
-        premium: 40_000,
-    };
-    let premium = Command::Premium {
-        id,
-        day,
-        amount: 40_000,
-    };
-    let alter = Command::Alter {
-        id,
-        day,
-        amount: 90_000,
-        premium: 36_000,
-    };
-    let reinstate = Command::Reinstate {
-        id,
-        day,
-        amount: 80_000,
-    };
-    let settle = Command::Settle {
-        id,
-        day,
-        amount: 40_000,
-    };
-    let in_force = policy(Status::InForce, 0);
-    for (command, after, expected) in [
-        (issue, in_force, ledger(0, 0, 0, 0)),
-        (premium, in_force, ledger(40_000, -40_000, 0, 0)),
-        (alter, in_force, ledger(0, 0, 0, 0)),
-        (
-            Command::Lapse { id, day },
-            policy(Status::Lapsed, 0),
-            ledger(0, 0, 0, 0),
-        ),
-        (reinstate, in_force, ledger(80_000, -80_000, 0, 0)),
-        (
-            Command::Claim { id, day },
-            policy(Status::Claimed, 100_000),
-            ledger(0, 0, 100_000, -100_000),
-        ),
-        (
-            settle,
-            policy(Status::Claimed, 60_000),
-            ledger(-40_000, 0, 0, 40_000),
-        ),
-        (
-            Command::Mature { id, day },
-            policy(Status::Matured, 100_000),
-            ledger(0, 0, 100_000, -100_000),
-        ),
-        (
-            Command::PaidUp {
-                id,
-                day,
-                amount: 30_000,
-            },
-            policy(Status::PaidUp, 0),
-            ledger(0, 0, 0, 0),
-        ),
-        (
-            Command::Mature { id, day },
-            policy(Status::Expired, 0),
-            ledger(0, 0, 0, 0),
-        ),
-    ] {
+    for (number, row) in ROWS.iter().enumerate() {
         let mut balances = Ledger::new();
-        assert!(rt; command.is_valid() && !command.is_upgrade());
-        assert!(rt; after.amount <= 10_000_000_000);
-        balances.post(&command, &after);
-        assert_eq!(rt; balances, expected);
+        let policy = after(row);
+        assert!(rt; row.command.is_valid() && !row.command.is_upgrade());
+        assert!(rt; policy.amount <= 10_000_000_000);
+        balances.post(&row.command, &policy);
+        assert_eq!(rt; balances, row.ledger, "row {number}");
     }
 }

@@ -1,39 +1,162 @@
 use policy_types::{Command, Line, Lines, Plan};
 
-fn issue(id: u32, day: i32, plan: Plan, age: u8, years: u8, cents: u64) -> Command {
-    Command::Issue {
-        id,
-        day,
-        plan,
-        age,
-        years,
-        amount: cents,
-        premium: cents,
-    }
+struct Limit {
+    command: Command,
+    valid: bool,
 }
 
 // The limits of an issue, on both sides.
+const LIMITS: &[Limit] = &[
+    Limit {
+        command: Command::Issue {
+            id: 1,
+            day: -25567,
+            plan: Plan::Term,
+            age: 129,
+            years: 2,
+            amount: 1,
+            premium: 1,
+        },
+        valid: true,
+    },
+    Limit {
+        command: Command::Issue {
+            id: u32::MAX,
+            day: 84005,
+            plan: Plan::Whole,
+            age: 0,
+            years: 0,
+            amount: 10_000_000_000,
+            premium: 10_000_000_000,
+        },
+        valid: true,
+    },
+    Limit {
+        command: Command::Issue {
+            id: 0,
+            day: 0,
+            plan: Plan::Term,
+            age: 30,
+            years: 10,
+            amount: 100,
+            premium: 100,
+        },
+        valid: false,
+    },
+    Limit {
+        command: Command::Issue {
+            id: 1,
+            day: -25568,
+            plan: Plan::Term,
+            age: 30,
+            years: 10,
+            amount: 100,
+            premium: 100,
+        },
+        valid: false,
+    },
+    Limit {
+        command: Command::Issue {
+            id: 1,
+            day: 84006,
+            plan: Plan::Term,
+            age: 30,
+            years: 10,
+            amount: 100,
+            premium: 100,
+        },
+        valid: false,
+    },
+    Limit {
+        command: Command::Issue {
+            id: 1,
+            day: 0,
+            plan: Plan::Limited,
+            age: 30,
+            years: 1,
+            amount: 100,
+            premium: 100,
+        },
+        valid: false,
+    },
+    Limit {
+        command: Command::Issue {
+            id: 1,
+            day: 0,
+            plan: Plan::Endowment,
+            age: 30,
+            years: 101,
+            amount: 100,
+            premium: 100,
+        },
+        valid: true,
+    },
+    Limit {
+        command: Command::Issue {
+            id: 1,
+            day: 0,
+            plan: Plan::Endowment,
+            age: 30,
+            years: 102,
+            amount: 100,
+            premium: 100,
+        },
+        valid: false,
+    },
+    Limit {
+        command: Command::Issue {
+            id: 1,
+            day: 0,
+            plan: Plan::Whole,
+            age: 130,
+            years: 0,
+            amount: 100,
+            premium: 100,
+        },
+        valid: false,
+    },
+    Limit {
+        command: Command::Issue {
+            id: 1,
+            day: 0,
+            plan: Plan::Whole,
+            age: 30,
+            years: 1,
+            amount: 100,
+            premium: 100,
+        },
+        valid: false,
+    },
+    Limit {
+        command: Command::Issue {
+            id: 1,
+            day: 0,
+            plan: Plan::Term,
+            age: 30,
+            years: 10,
+            amount: 0,
+            premium: 0,
+        },
+        valid: false,
+    },
+    Limit {
+        command: Command::Issue {
+            id: 1,
+            day: 0,
+            plan: Plan::Term,
+            age: 30,
+            years: 10,
+            amount: 10_000_000_001,
+            premium: 10_000_000_001,
+        },
+        valid: false,
+    },
+];
+
 #[test]
 fn limits_of_an_issue(rt: HostRuntime) {
-    let cases = [
-        (issue(1, -25567, Plan::Term, 129, 2, 1), true),
-        (
-            issue(u32::MAX, 84005, Plan::Whole, 0, 0, 10_000_000_000),
-            true,
-        ),
-        (issue(0, 0, Plan::Term, 30, 10, 100), false),
-        (issue(1, -25568, Plan::Term, 30, 10, 100), false),
-        (issue(1, 84006, Plan::Term, 30, 10, 100), false),
-        (issue(1, 0, Plan::Limited, 30, 1, 100), false),
-        (issue(1, 0, Plan::Endowment, 30, 101, 100), true),
-        (issue(1, 0, Plan::Endowment, 30, 102, 100), false),
-        (issue(1, 0, Plan::Whole, 130, 0, 100), false),
-        (issue(1, 0, Plan::Whole, 30, 1, 100), false),
-        (issue(1, 0, Plan::Term, 30, 10, 0), false),
-        (issue(1, 0, Plan::Term, 30, 10, 10_000_000_001), false),
-    ];
-    for (command, valid) in cases {
-        assert_eq!(rt; command.is_valid(), valid);
+    for (row, limit) in LIMITS.iter().enumerate() {
+        assert_eq!(rt; limit.command.is_valid(), limit.valid, "row {row}");
     }
 }
 

@@ -28,81 +28,90 @@ const CLAIMED: Policy = Policy {
 };
 
 // The line of each kind of command.
+const ENTRIES: &[(u32, Command, &str)] = &[
+    (
+        1,
+        ISSUE,
+        "entry,1,issue,2020-01-01,endowment,0,3,1000.00,400.00\n",
+    ),
+    (
+        2,
+        Command::Premium {
+            id: 7001,
+            day: 18262,
+            amount: 40_000,
+        },
+        "entry,2,premium,2020-01-01,400.00\n",
+    ),
+    (
+        3,
+        Command::Alter {
+            id: 7001,
+            day: 18263,
+            amount: 90_000,
+            premium: 36_005,
+        },
+        "entry,3,alter,2020-01-02,900.00,360.05\n",
+    ),
+    (
+        4,
+        Command::Lapse {
+            id: 7001,
+            day: -25567,
+        },
+        "entry,4,lapse,1900-01-01\n",
+    ),
+    (
+        3_999_999,
+        Command::Reinstate {
+            id: 7001,
+            day: 18993,
+            amount: 40_000_000_000,
+        },
+        "entry,3999999,reinstate,2022-01-01,400000000.00\n",
+    ),
+    (
+        6,
+        Command::Claim {
+            id: 7001,
+            day: 18414,
+        },
+        "entry,6,claim,2020-06-01\n",
+    ),
+    (
+        7,
+        Command::Settle {
+            id: 7001,
+            day: 18444,
+            amount: 1,
+        },
+        "entry,7,settle,2020-07-01,0.01\n",
+    ),
+    (
+        4_000_000,
+        Command::Mature {
+            id: 7001,
+            day: 84005,
+        },
+        "entry,4000000,mature,2199-12-31\n",
+    ),
+    (
+        9,
+        Command::PaidUp {
+            id: 7001,
+            day: 18597,
+            amount: 30_000,
+        },
+        "entry,9,paidup,2020-12-01,300.00\n",
+    ),
+    (10, Command::Upgrade, "entry,10,upgrade\n"),
+];
+
 #[test]
 fn entries(rt: HostRuntime) {
-    let id = 7001;
-    for (position, command, expected) in [
-        (
-            1,
-            ISSUE,
-            "entry,1,issue,2020-01-01,endowment,0,3,1000.00,400.00\n",
-        ),
-        (
-            2,
-            Command::Premium {
-                id,
-                day: 18262,
-                amount: 40_000,
-            },
-            "entry,2,premium,2020-01-01,400.00\n",
-        ),
-        (
-            3,
-            Command::Alter {
-                id,
-                day: 18263,
-                amount: 90_000,
-                premium: 36_005,
-            },
-            "entry,3,alter,2020-01-02,900.00,360.05\n",
-        ),
-        (
-            4,
-            Command::Lapse { id, day: -25567 },
-            "entry,4,lapse,1900-01-01\n",
-        ),
-        (
-            3_999_999,
-            Command::Reinstate {
-                id,
-                day: 18993,
-                amount: 40_000_000_000,
-            },
-            "entry,3999999,reinstate,2022-01-01,400000000.00\n",
-        ),
-        (
-            6,
-            Command::Claim { id, day: 18414 },
-            "entry,6,claim,2020-06-01\n",
-        ),
-        (
-            7,
-            Command::Settle {
-                id,
-                day: 18444,
-                amount: 1,
-            },
-            "entry,7,settle,2020-07-01,0.01\n",
-        ),
-        (
-            4_000_000,
-            Command::Mature { id, day: 84005 },
-            "entry,4000000,mature,2199-12-31\n",
-        ),
-        (
-            9,
-            Command::PaidUp {
-                id,
-                day: 18597,
-                amount: 30_000,
-            },
-            "entry,9,paidup,2020-12-01,300.00\n",
-        ),
-        (10, Command::Upgrade, "entry,10,upgrade\n"),
-    ] {
+    for (position, command, expected) in ENTRIES {
         assert!(rt; command.is_valid());
-        let text = print_entry(rt.alloc(), position, &command);
-        let Ok(text) = text else {
+        let Ok(text) = print_entry(rt.alloc(), *position, command) else {
             panic!(rt; "{expected}: no memory");
         };
         assert_eq!(rt; text.as_slice(), expected.as_bytes());

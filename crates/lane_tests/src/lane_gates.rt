@@ -19,44 +19,6 @@ fn look_for(number: &AtomicU32, least: u32, missed: &AtomicU32) {
     missed.fetch_add(1, Ordering::SeqCst);
 }
 
-/// Holds lane 1 at its first line until lane 2 has valued a batch, and then lane 2 until lane 1 is before its third line.
-#[derive(Drop)]
-pub struct Between {
-    lines: AtomicU32,
-    batches: AtomicU32,
-    missed: AtomicU32,
-}
-
-impl Between {
-    pub fn new() -> Between {
-        Between {
-            lines: AtomicU32::new(0),
-            batches: AtomicU32::new(0),
-            missed: AtomicU32::new(0),
-        }
-    }
-
-    pub fn missed(&self) -> u32 {
-        self.missed.load(Ordering::SeqCst)
-    }
-}
-
-impl Gate for Between {
-    fn at<R: Wait>(&self, _rt: &R, lane: u8, step: u32) {
-        match (lane, step) {
-            (1, 0) => {
-                self.lines.fetch_add(1, Ordering::SeqCst);
-                look_for(&self.batches, 1, &self.missed);
-            }
-            (2, 1) => {
-                self.batches.fetch_add(1, Ordering::SeqCst);
-                look_for(&self.lines, 3, &self.missed);
-            }
-            _ => (),
-        }
-    }
-}
-
 /// Lets lane 1 answer a line after each of so many batches of lane 2's valuation, and lane 2 value a batch after each of
 /// these lines.
 #[derive(Drop)]
@@ -98,35 +60,6 @@ impl Gate for InTurn {
                 look_for(&self.lines, step.saturating_add(1), &self.missed);
             }
             _ => (),
-        }
-    }
-}
-
-/// Holds each lane before its line until all eight are there.
-#[derive(Drop)]
-pub struct Together {
-    there: AtomicU32,
-    missed: AtomicU32,
-}
-
-impl Together {
-    pub fn new() -> Together {
-        Together {
-            there: AtomicU32::new(0),
-            missed: AtomicU32::new(0),
-        }
-    }
-
-    pub fn missed(&self) -> u32 {
-        self.missed.load(Ordering::SeqCst)
-    }
-}
-
-impl Gate for Together {
-    fn at<R: Wait>(&self, _rt: &R, _lane: u8, step: u32) {
-        if step == 0 {
-            self.there.fetch_add(1, Ordering::SeqCst);
-            look_for(&self.there, 8, &self.missed);
         }
     }
 }

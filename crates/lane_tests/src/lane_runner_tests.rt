@@ -1,6 +1,6 @@
 // Lanes of one office. The reserves are worked out by hand from the plan and the table: of 1000.00 on an endowment of three
 // years at age 0, after one year, 127.22 to 127.23. Each run has memory, so none may say that it wants any.
-use crate::lane_gates::{Between, InTurn, Together};
+use crate::lane_gates::InTurn;
 use crate::lane_trials::{run_on, run_watched};
 use crate::offices::{ONE_YEAR, issue};
 use lane_runner::{Outcome, TranscriptLine};
@@ -32,21 +32,6 @@ fn due(id: u32) -> Row {
             hi: 12_723,
         },
     }
-}
-
-// Whether the rows are those of the policies of the numbers from 1 to this one.
-fn are_numbered(line: &TranscriptLine, last: u32) -> bool {
-    let Outcome::Valued(valuation) = &line.outcome else {
-        return false;
-    };
-    let mut id = 0u32;
-    for row in valuation.rows.as_slice() {
-        id = id.wrapping_add(1);
-        if *row != due(id) {
-            return false;
-        }
-    }
-    id == last
 }
 
 // What is told of a valuation where each policy is in force and was issued a year ago.
@@ -128,27 +113,6 @@ pub(crate) fn claim(id: u32) -> Line {
 }
 
 #[test]
-fn posting_during_a_valuation(rt: HostRuntime) -> Result<(), Fail> {
-    let alloc = rt.alloc();
-    let lanes = [
-        lane(alloc, 1, &[claim(1), Line::Trim, claim(2)])?,
-        lane(alloc, 2, &[value_at(At::Now)])?,
-    ];
-    let gate = Between::new();
-    let transcript = run_on(&rt, alloc, 300, lanes.as_slice(), &gate)?;
-    let [value, first, trim, second] = transcript.lines.as_slice() else {
-        panic!(rt; "four lines");
-    };
-    assert_eq!(rt; answer_of(value), (2, Told::Valued(300, 300)));
-    assert!(rt; are_numbered(value, 300));
-    assert_eq!(rt; answer_of(first), (1, Told::Accepted(301)));
-    assert_eq!(rt; answer_of(trim), (1, Told::Trimmed(300)));
-    assert_eq!(rt; answer_of(second), (1, Told::Accepted(302)));
-    assert_eq!(rt; gate.missed(), 0);
-    Ok(())
-}
-
-#[test]
 fn a_line_between_each_two_batches(rt: HostRuntime) -> Result<(), Fail> {
     let alloc = rt.alloc();
     let posted = [
@@ -179,26 +143,6 @@ fn a_line_between_each_two_batches(rt: HostRuntime) -> Result<(), Fail> {
     for (line, due) in lines.iter().zip(dues.iter()) {
         assert_eq!(rt; answer_of(line), *due);
     }
-    assert_eq!(rt; gate.missed(), 0);
-    Ok(())
-}
-
-#[test]
-fn eight_lanes_at_once(rt: HostRuntime) -> Result<(), Fail> {
-    let alloc = rt.alloc();
-    let mut lanes = Vec::new(alloc);
-    for number in 1..=8u8 {
-        lanes.push(lane(alloc, number, &[Line::Post(issue(u32::from(number)))])?)?;
-    }
-    let gate = Together::new();
-    let transcript = run_on(&rt, alloc, 0, lanes.as_slice(), &gate)?;
-    let lines = transcript.lines.as_slice();
-    assert_eq!(rt; lines.len(), 8);
-    assert!(rt; are_as_one(lines));
-    for number in 1..=8u8 {
-        assert_eq!(rt; count_issues(lines, number, u32::from(number)), 1);
-    }
-    assert_eq!(rt; transcript.callers.as_slice().len(), 8);
     assert_eq!(rt; gate.missed(), 0);
     Ok(())
 }

@@ -25,5 +25,3 @@ mod snapshot_meeting;
 mod snapshot_positions;
 #[cfg(test)]
 mod snapshot_value_tests;
-#[cfg(test)]
-mod workers_tests;

@@ -1,7 +1,8 @@
 // The basis and the policies of the offices that are valued and whose lanes are run.
-ghost use Rattle.std.specs.Prelude.{◌≡◌};
+ghost use Rattle.std.specs.Prelude.{◌≡◌, IfOk};
+ghost use Rattle.basis_book.specs.Dated.{AreBounded};
 
-use basis_book::{Basis, LONGEST_FILE, read_basis};
+use basis_book::{Basis, BasisRows, LONGEST_FILE, read_basis};
 use indexmap::IndexMap;
 use outside_io::Disk;
 use policy_types::{Command, Plan};
@@ -29,15 +30,21 @@ pub(crate) fn issue(id: u32) -> Command {
     }
 }
 
-/// The rates 0.1, 0.2, 0.25, 0.5 and 1 of the ages 0 to 4, in units of 10^-9, at an interest of 0.
-pub(crate) fn flat_basis(alloc: Global) -> Result<Basis, Fail> {
-    let file = b"1900-01-01,q.xml,0".as_slice();
-    if file.len() > LONGEST_FILE {
+const FLAT: &[u8] = b"1900-01-01,q.xml,0";
+
+fn flat_rows(alloc: Global) -> Result<BasisRows, Fail>
+    ensures { IfOk result AreBounded }
+{
+    if FLAT.len() > LONGEST_FILE {
         return Err("a short file".into());
     }
-    let Ok(rows) = read_basis(alloc, file) else {
-        return Err("rows".into());
-    };
+    match read_basis(alloc, FLAT) {
+        Ok(rows) => Ok(rows),
+        Err(_) => Err("rows".into()),
+    }
+}
+
+fn flat_table(alloc: Global) -> Result<AnyTable, Fail> {
     let rates = [
         100_000_000,
         200_000_000,
@@ -45,15 +52,20 @@ pub(crate) fn flat_basis(alloc: Global) -> Result<Basis, Fail> {
         500_000_000,
         1_000_000_000u32,
     ];
-    let Ok(table) = RateTable::new(0, rates.to_vec(alloc)?) else {
-        return Err("a table".into());
-    };
+    match RateTable::new(0, rates.to_vec(alloc)?) {
+        Ok(table) => Ok(AnyTable::Aggregate(table)),
+        Err(_) => Err("a table".into()),
+    }
+}
+
+/// The rates 0.1, 0.2, 0.25, 0.5 and 1 of the ages 0 to 4, in units of 10^-9, at an interest of 0.
+pub(crate) fn flat_basis(alloc: Global) -> Result<Basis, Fail> {
     let mut tables = IndexMap::new(alloc);
-    tables.insert(
-        String::from_str(alloc, "q.xml")?,
-        AnyTable::Aggregate(table),
-    )?;
-    Basis::of(rows, tables).map_err(|_| "tables".into())
+    tables.insert(String::from_str(alloc, "q.xml")?, flat_table(alloc)?)?;
+    match Basis::of(flat_rows(alloc)?, tables) {
+        Ok(basis) => Ok(basis),
+        Err(_) => Err("tables".into()),
+    }
 }
 
 /// Posts a command where it is valid and a turn is left.

@@ -1,8 +1,8 @@
 // The pins of an office: what they hold, what they read, and the floors that they leave.
-use crate::office_desk::{Desk, MOST_TURNS, accepted, answers, office_on, policy, refused};
+use crate::office_desk::{Desk, MOST_TURNS, Posting, accepted, answers, office_on, policy};
 use crate::policies::{NEW_YEAR, issue, premium};
-use office_state::{Batch, PinInfo};
-use policy_types::{PinRefusal, Refusal, Status};
+use office_state::{Answer, Batch, PinInfo};
+use policy_types::{Command, PinRefusal, Plan, Refusal, Status};
 use std::alloc::AllocError;
 use watcher_set::NoWatchers;
 
@@ -71,60 +71,173 @@ fn holds(batch: &Batch, many: usize, ids: (u32, u32)) -> bool {
     }
 }
 
-// Three policies, then pins below, at and above the count, and the floors that they leave.
+const POSTINGS: &[Posting] = &[
+    Posting {
+        command: Command::Issue {
+            id: 7001,
+            day: NEW_YEAR,
+            plan: Plan::Endowment,
+            age: 0,
+            years: 3,
+            amount: 100_000,
+            premium: 40_000,
+        },
+        answer: Answer::Accepted(1),
+    },
+    Posting {
+        command: Command::Premium {
+            id: 7001,
+            day: NEW_YEAR,
+            amount: 40_000,
+        },
+        answer: Answer::Accepted(2),
+    },
+    Posting {
+        command: Command::Issue {
+            id: 3,
+            day: NEW_YEAR,
+            plan: Plan::Endowment,
+            age: 0,
+            years: 3,
+            amount: 100_000,
+            premium: 40_000,
+        },
+        answer: Answer::Accepted(3),
+    },
+    Posting {
+        command: Command::Issue {
+            id: 3,
+            day: NEW_YEAR,
+            plan: Plan::Endowment,
+            age: 0,
+            years: 3,
+            amount: 100_000,
+            premium: 40_000,
+        },
+        answer: Answer::Refused(Refusal::Taken),
+    },
+    Posting {
+        command: Command::Issue {
+            id: 4,
+            day: NEW_YEAR,
+            plan: Plan::Endowment,
+            age: 0,
+            years: 3,
+            amount: 100_000,
+            premium: 40_000,
+        },
+        answer: Answer::Accepted(4),
+    },
+];
+
+// Pins of an empty office.
+const EMPTY: &[Pinning] = &[
+    Pinning::At(1, Err(PinRefusal::Ahead(0))),
+    Pinning::At(
+        0,
+        Ok(PinInfo {
+            number: 1,
+            position: 0,
+            policies: 0,
+        }),
+    ),
+    Pinning::Trim(0),
+    Pinning::Unpin(1),
+    Pinning::Trim(0),
+];
+
+// Pins below, at and above the count of three policies, whose postings take the turns 5 to 9, and the floors that they leave.
+const FULL: &[Pinning] = &[
+    Pinning::At(5, Err(PinRefusal::Ahead(4))),
+    Pinning::Now(Ok(PinInfo {
+        number: 11,
+        position: 4,
+        policies: 3,
+    })),
+    Pinning::At(
+        3,
+        Ok(PinInfo {
+            number: 12,
+            position: 3,
+            policies: 2,
+        }),
+    ),
+    Pinning::At(
+        2,
+        Ok(PinInfo {
+            number: 13,
+            position: 2,
+            policies: 1,
+        }),
+    ),
+    Pinning::At(
+        3,
+        Ok(PinInfo {
+            number: 14,
+            position: 3,
+            policies: 2,
+        }),
+    ),
+    Pinning::Trim(2),
+    Pinning::At(1, Err(PinRefusal::Trimmed(2))),
+    Pinning::At(
+        2,
+        Ok(PinInfo {
+            number: 17,
+            position: 2,
+            policies: 1,
+        }),
+    ),
+    Pinning::Unpin(13),
+    Pinning::Trim(2),
+    Pinning::Unpin(17),
+    Pinning::Trim(3),
+    Pinning::At(2, Err(PinRefusal::Trimmed(3))),
+    Pinning::Unpin(12),
+    Pinning::Unpin(14),
+    Pinning::Unpin(11),
+    Pinning::Trim(4),
+    Pinning::At(3, Err(PinRefusal::Trimmed(4))),
+    Pinning::At(5, Err(PinRefusal::Ahead(4))),
+    Pinning::At(
+        4,
+        Ok(PinInfo {
+            number: 29,
+            position: 4,
+            policies: 3,
+        }),
+    ),
+];
+
 #[test]
 fn positions_that_are_pinned(rt: HostRuntime) -> Result<(), AllocError> {
-    let alloc = rt.alloc();
-    let Ok(mut desk) = office_on(alloc, &[], &[])? else {
+    let Ok(mut desk) = office_on(rt.alloc(), &[], &[])? else {
         panic!(rt; "no office");
     };
-    let postings = [
-        accepted(issue(7001, NEW_YEAR), 1),
-        accepted(premium(NEW_YEAR), 2),
-        accepted(issue(3, NEW_YEAR), 3),
-        refused(issue(3, NEW_YEAR), Refusal::Taken),
-        accepted(issue(4, NEW_YEAR), 4),
-    ];
-    let empty = [
-        Pinning::At(1, Err(PinRefusal::Ahead(0))),
-        Pinning::At(0, pinned(1, 0, 0)),
-        Pinning::Trim(0),
-        Pinning::Unpin(1),
-        Pinning::Trim(0),
-    ];
-    // The postings take turns 5 to 9.
-    let full = [
-        Pinning::At(5, Err(PinRefusal::Ahead(4))),
-        Pinning::Now(pinned(11, 4, 3)),
-        Pinning::At(3, pinned(12, 3, 2)),
-        Pinning::At(2, pinned(13, 2, 1)),
-        Pinning::At(3, pinned(14, 3, 2)),
-        Pinning::Trim(2),
-        Pinning::At(1, Err(PinRefusal::Trimmed(2))),
-        Pinning::At(2, pinned(17, 2, 1)),
-        Pinning::Unpin(13),
-        Pinning::Trim(2),
-        Pinning::Unpin(17),
-        Pinning::Trim(3),
-        Pinning::At(2, Err(PinRefusal::Trimmed(3))),
-        Pinning::Unpin(12),
-        Pinning::Unpin(14),
-        Pinning::Unpin(11),
-        Pinning::Trim(4),
-        Pinning::At(3, Err(PinRefusal::Trimmed(4))),
-        Pinning::At(5, Err(PinRefusal::Ahead(4))),
-        Pinning::At(4, pinned(29, 4, 3)),
-    ];
-    for pinning in empty {
-        assert!(rt; pins_so(&mut desk, pinning));
+    for pinning in EMPTY {
+        assert!(rt; pins_so(&mut desk, *pinning));
     }
-    assert!(rt; answers(&mut desk, &postings));
-    for pinning in full {
-        assert!(rt; pins_so(&mut desk, pinning));
+    assert!(rt; answers(&mut desk, POSTINGS));
+    for pinning in FULL {
+        assert!(rt; pins_so(&mut desk, *pinning));
     }
     assert_eq!(rt; desk.office.turns(), 30);
     Ok(())
 }
+
+// Behind sixteen pins.
+const SEVENTEENTH: &[Pinning] = &[
+    Pinning::Now(Err(PinRefusal::PinsFull)),
+    Pinning::At(1, Err(PinRefusal::Ahead(0))),
+    Pinning::At(0, Err(PinRefusal::PinsFull)),
+    Pinning::Unpin(3),
+    Pinning::Now(Ok(PinInfo {
+        number: 20,
+        position: 0,
+        policies: 0,
+    })),
+    Pinning::Now(Err(PinRefusal::PinsFull)),
+];
 
 // Sixteen pins are taken, and the next only once one of them was given up.
 #[test]
@@ -136,16 +249,8 @@ fn seventeen_pins(rt: HostRuntime) -> Result<(), AllocError> {
     for number in 0..16 {
         assert!(rt; pins_so(&mut desk, Pinning::Now(pinned(number, 0, 0))));
     }
-    let rows = [
-        Pinning::Now(Err(PinRefusal::PinsFull)),
-        Pinning::At(1, Err(PinRefusal::Ahead(0))),
-        Pinning::At(0, Err(PinRefusal::PinsFull)),
-        Pinning::Unpin(3),
-        Pinning::Now(pinned(20, 0, 0)),
-        Pinning::Now(Err(PinRefusal::PinsFull)),
-    ];
-    for row in rows {
-        assert!(rt; pins_so(&mut desk, row));
+    for row in SEVENTEENTH {
+        assert!(rt; pins_so(&mut desk, *row));
     }
     Ok(())
 }

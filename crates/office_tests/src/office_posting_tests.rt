@@ -1,128 +1,302 @@
 // The rows of postings that an office answers, what it then shows, and what it opens to again. Days, amounts and balances
 // are worked by hand from the rules.
-use crate::office_desk::{Posting, accepted, answers, office_on, policy, refused, shows};
+use crate::office_desk::{Posting, accepted, answers, office_on, policy, shows};
 use crate::policies::{NEW_YEAR, issue, premium};
 use memory_disk::MemoryDisk;
 use money_ledgers::Ledger;
 use office_state::{Answer, StartCause};
-use policy_types::{Command, Policy, Refusal, Status};
+use policy_types::{Command, Plan, Policy, Refusal, Status};
 use posting_journal::Journal;
 use record_codec::encode;
-use std::alloc::AllocError;
+use std::alloc::{AllocError, Global};
 
-fn settle(day: i32, amount: u64) -> Command {
-    Command::Settle {
-        id: 7001,
-        day,
-        amount,
-    }
-}
+const ISSUED: Command = Command::Issue {
+    id: 7001,
+    day: NEW_YEAR,
+    plan: Plan::Endowment,
+    age: 0,
+    years: 3,
+    amount: 100_000,
+    premium: 40_000,
+};
 
-fn lapse(day: i32) -> Command {
-    Command::Lapse { id: 7001, day }
-}
+const PAID: Command = Command::Premium {
+    id: 7001,
+    day: NEW_YEAR,
+    amount: 40_000,
+};
 
-fn claim(id: u32) -> Command {
-    Command::Claim { id, day: 18414 }
-}
+// 2020-02-02 is out of the 31 days of grace, 2020-02-01 is in them.
+const GRACE: &[Posting] = &[
+    Posting {
+        command: ISSUED,
+        answer: Answer::Accepted(1),
+    },
+    Posting {
+        command: Command::Premium {
+            id: 7001,
+            day: 18294,
+            amount: 40_000,
+        },
+        answer: Answer::Refused(Refusal::GraceOver(NEW_YEAR)),
+    },
+    Posting {
+        command: Command::Premium {
+            id: 7001,
+            day: 18293,
+            amount: 40_000,
+        },
+        answer: Answer::Accepted(2),
+    },
+];
 
-fn reinstate(amount: u64) -> Command {
-    Command::Reinstate {
-        id: 7001,
-        day: 18993,
-        amount,
-    }
-}
+// Issued on 2024-02-29; the next premium falls due on 2025-02-28, and may be paid from 2024-11-30 on.
+const LEAP_DAY: &[Posting] = &[
+    Posting {
+        command: Command::Issue {
+            id: 7001,
+            day: 19782,
+            plan: Plan::Endowment,
+            age: 0,
+            years: 3,
+            amount: 100_000,
+            premium: 40_000,
+        },
+        answer: Answer::Accepted(1),
+    },
+    Posting {
+        command: Command::Premium {
+            id: 7001,
+            day: 19782,
+            amount: 40_000,
+        },
+        answer: Answer::Accepted(2),
+    },
+    Posting {
+        command: Command::Premium {
+            id: 7001,
+            day: 20056,
+            amount: 40_000,
+        },
+        answer: Answer::Refused(Refusal::TooEarly(20147)),
+    },
+    Posting {
+        command: Command::Premium {
+            id: 7001,
+            day: 20057,
+            amount: 40_000,
+        },
+        answer: Answer::Accepted(3),
+    },
+];
 
-fn ledger(cash: i64, premiums: i64, incurred: i64, payable: i64) -> Ledger {
-    Ledger {
-        cash,
-        premiums,
-        incurred,
-        payable,
-    }
-}
+const LAPSE_AND_REINSTATE: &[Posting] = &[
+    Posting {
+        command: ISSUED,
+        answer: Answer::Accepted(1),
+    },
+    Posting {
+        command: PAID,
+        answer: Answer::Accepted(2),
+    },
+    Posting {
+        command: Command::Lapse {
+            id: 7001,
+            day: 18659,
+        },
+        answer: Answer::Refused(Refusal::NotInArrears(18628)),
+    },
+    Posting {
+        command: Command::Lapse {
+            id: 7001,
+            day: 18660,
+        },
+        answer: Answer::Accepted(3),
+    },
+    Posting {
+        command: Command::Reinstate {
+            id: 7001,
+            day: 18993,
+            amount: 79_999,
+        },
+        answer: Answer::Refused(Refusal::WrongAmount(80_000)),
+    },
+    Posting {
+        command: Command::Reinstate {
+            id: 7001,
+            day: 18993,
+            amount: 80_000,
+        },
+        answer: Answer::Accepted(4),
+    },
+];
+
+const CLAIM_AND_SETTLE: &[Posting] = &[
+    Posting {
+        command: ISSUED,
+        answer: Answer::Accepted(1),
+    },
+    Posting {
+        command: ISSUED,
+        answer: Answer::Refused(Refusal::Taken),
+    },
+    Posting {
+        command: Command::Claim {
+            id: 7002,
+            day: 18414,
+        },
+        answer: Answer::Refused(Refusal::Unknown),
+    },
+    Posting {
+        command: PAID,
+        answer: Answer::Accepted(2),
+    },
+    Posting {
+        command: Command::Claim {
+            id: 7001,
+            day: 18414,
+        },
+        answer: Answer::Accepted(3),
+    },
+    Posting {
+        command: Command::Settle {
+            id: 7001,
+            day: 18444,
+            amount: 40_000,
+        },
+        answer: Answer::Accepted(4),
+    },
+    Posting {
+        command: Command::Settle {
+            id: 7001,
+            day: 18445,
+            amount: 60_001,
+        },
+        answer: Answer::Refused(Refusal::OverSettled(60_000)),
+    },
+];
 
 // What is posted on an empty disk, and the policy and the balances that it leaves.
-#[derive(Drop)]
-struct Row<'a> {
-    postings: &'a [Posting],
+struct Row {
+    postings: &'static [Posting],
     policy: Policy,
     ledger: Ledger,
 }
 
-// Each row is answered, and opened again it stands as it did.
+const ROWS: &[Row] = &[
+    Row {
+        postings: GRACE,
+        policy: Policy {
+            id: 7001,
+            plan: Plan::Endowment,
+            age: 0,
+            years: 3,
+            amount: 100_000,
+            premium: 40_000,
+            issued: NEW_YEAR,
+            last: 18293,
+            paid: 1,
+            status: Status::InForce,
+            outstanding: 0,
+        },
+        ledger: Ledger {
+            cash: 40_000,
+            premiums: -40_000,
+            incurred: 0,
+            payable: 0,
+        },
+    },
+    Row {
+        postings: LEAP_DAY,
+        policy: Policy {
+            id: 7001,
+            plan: Plan::Endowment,
+            age: 0,
+            years: 3,
+            amount: 100_000,
+            premium: 40_000,
+            issued: 19782,
+            last: 20057,
+            paid: 2,
+            status: Status::InForce,
+            outstanding: 0,
+        },
+        ledger: Ledger {
+            cash: 80_000,
+            premiums: -80_000,
+            incurred: 0,
+            payable: 0,
+        },
+    },
+    Row {
+        postings: LAPSE_AND_REINSTATE,
+        policy: Policy {
+            id: 7001,
+            plan: Plan::Endowment,
+            age: 0,
+            years: 3,
+            amount: 100_000,
+            premium: 40_000,
+            issued: NEW_YEAR,
+            last: 18993,
+            paid: 3,
+            status: Status::InForce,
+            outstanding: 0,
+        },
+        ledger: Ledger {
+            cash: 120_000,
+            premiums: -120_000,
+            incurred: 0,
+            payable: 0,
+        },
+    },
+    Row {
+        postings: CLAIM_AND_SETTLE,
+        policy: Policy {
+            id: 7001,
+            plan: Plan::Endowment,
+            age: 0,
+            years: 3,
+            amount: 100_000,
+            premium: 40_000,
+            issued: NEW_YEAR,
+            last: 18444,
+            paid: 1,
+            status: Status::Claimed,
+            outstanding: 60_000,
+        },
+        ledger: Ledger {
+            cash: 0,
+            premiums: -40_000,
+            incurred: 100_000,
+            payable: -60_000,
+        },
+    },
+];
+
+// Whether the row is answered, and what it leaves stands when it is opened again.
+fn stands(alloc: Global, row: &Row) -> Result<bool, AllocError> {
+    let Ok(mut desk) = office_on(alloc, &[], &[])? else {
+        return Ok(false);
+    };
+    let answered = answers(&mut desk, row.postings);
+    let shown = shows(&desk, desk.office.count(), &[row.policy]);
+    let (disk, balances, reports) = desk.office.close();
+    let Ok(again) = office_on(alloc, disk.bytes(), &[])? else {
+        return Ok(false);
+    };
+    let right = answered && shown && reports.as_slice().is_empty() && balances == row.ledger;
+    Ok(
+        right
+            && shows(&again, again.office.count(), &[row.policy])
+            && again.office.ledger() == row.ledger,
+    )
+}
+
 #[test]
 fn rows_of_postings(rt: HostRuntime) -> Result<(), AllocError> {
-    let alloc = rt.alloc();
-    // 2020-02-02 is out of the 31 days of grace, 2020-02-01 is in them.
-    let grace = [
-        accepted(issue(7001, NEW_YEAR), 1),
-        refused(premium(18294), Refusal::GraceOver(NEW_YEAR)),
-        accepted(premium(18293), 2),
-    ];
-    // Issued on 2024-02-29; the next premium falls due on 2025-02-28, and may be paid from 2024-11-30 on.
-    let leap_day = [
-        accepted(issue(7001, 19782), 1),
-        accepted(premium(19782), 2),
-        refused(premium(20056), Refusal::TooEarly(20147)),
-        accepted(premium(20057), 3),
-    ];
-
-    let lapse_and_reinstate = [
-        accepted(issue(7001, NEW_YEAR), 1),
-        accepted(premium(NEW_YEAR), 2),
-        refused(lapse(18659), Refusal::NotInArrears(18628)),
-        accepted(lapse(18660), 3),
-        refused(reinstate(79_999), Refusal::WrongAmount(80_000)),
-        accepted(reinstate(80_000), 4),
-    ];
-
-    let claim_and_settle = [
-        accepted(issue(7001, NEW_YEAR), 1),
-        refused(issue(7001, NEW_YEAR), Refusal::Taken),
-        refused(claim(7002), Refusal::Unknown),
-        accepted(premium(NEW_YEAR), 2),
-        accepted(claim(7001), 3),
-        accepted(settle(18444, 40_000), 4),
-        refused(settle(18445, 60_001), Refusal::OverSettled(60_000)),
-    ];
-    let rows = [
-        Row {
-            postings: &grace,
-            policy: policy(7001, NEW_YEAR, 18293, 1, Status::InForce, 0),
-            ledger: ledger(40_000, -40_000, 0, 0),
-        },
-        Row {
-            postings: &leap_day,
-            policy: policy(7001, 19782, 20057, 2, Status::InForce, 0),
-            ledger: ledger(80_000, -80_000, 0, 0),
-        },
-        Row {
-            postings: &lapse_and_reinstate,
-            policy: policy(7001, NEW_YEAR, 18993, 3, Status::InForce, 0),
-            ledger: ledger(120_000, -120_000, 0, 0),
-        },
-        Row {
-            postings: &claim_and_settle,
-            policy: policy(7001, NEW_YEAR, 18444, 1, Status::Claimed, 60_000),
-            ledger: ledger(0, -40_000, 100_000, -60_000),
-        },
-    ];
-    for row in rows.iter() {
-        let Ok(mut desk) = office_on(alloc, &[], &[])? else {
-            panic!(rt; "no office");
-        };
-        assert!(rt; answers(&mut desk, row.postings));
-        assert!(rt; shows(&desk, desk.office.count(), &[row.policy]));
-        let (disk, balances, reports) = desk.office.close();
-        assert!(rt; reports.as_slice().is_empty());
-        assert_eq!(rt; balances, row.ledger);
-        let Ok(again) = office_on(alloc, disk.bytes(), &[])? else {
-            panic!(rt; "not opened again");
-        };
-        assert!(rt; shows(&again, again.office.count(), &[row.policy]));
-        assert_eq!(rt; again.office.ledger(), row.ledger);
+    for (number, row) in ROWS.iter().enumerate() {
+        assert!(rt; stands(rt.alloc(), row)?, "row {number}");
     }
     Ok(())
 }
@@ -194,7 +368,11 @@ fn records_that_are_refused(rt: HostRuntime) -> Result<(), AllocError> {
     let alloc = rt.alloc();
     let first = issue(7001, NEW_YEAR);
     assert!(rt; first.is_valid());
-    let early = settle(18444, 1);
+    let early = Command::Settle {
+        id: 7001,
+        day: 18444,
+        amount: 1,
+    };
     assert!(rt; early.is_valid());
     let cases = [
         ([encode(&first), encode(&first)], StartCause::BadRecord(1)),

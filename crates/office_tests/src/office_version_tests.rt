@@ -4,7 +4,7 @@ use crate::office_desk::{Desk, accepted, answers_one, office_on, shows};
 use crate::office_pin_tests::{Pinning, pinned, pins_so, reads};
 use crate::policies::{NEW_YEAR, issue, premium_of};
 use office_state::Batch;
-use policy_types::{Command, PinRefusal};
+use policy_types::{Command, PinRefusal, Plan};
 use std::alloc::{AllocError, Global};
 use watcher_set::NoWatchers;
 
@@ -17,28 +17,85 @@ const THIRD_YEAR: i32 = 18_993;
 const COMMANDS: usize = 12;
 
 // Three policies, each issued and paid three times, in turn with the others.
-fn script() -> [Command; COMMANDS] {
-    [
-        issue(1, NEW_YEAR),
-        premium_of(1, NEW_YEAR),
-        issue(2, NEW_YEAR),
-        premium_of(1, SECOND_YEAR),
-        premium_of(2, NEW_YEAR),
-        issue(3, NEW_YEAR),
-        premium_of(1, THIRD_YEAR),
-        premium_of(2, SECOND_YEAR),
-        premium_of(3, NEW_YEAR),
-        premium_of(2, THIRD_YEAR),
-        premium_of(3, SECOND_YEAR),
-        premium_of(3, THIRD_YEAR),
-    ]
-}
+const SCRIPT: [Command; COMMANDS] = [
+    Command::Issue {
+        id: 1,
+        day: NEW_YEAR,
+        plan: Plan::Endowment,
+        age: 0,
+        years: 3,
+        amount: 100_000,
+        premium: 40_000,
+    },
+    Command::Premium {
+        id: 1,
+        day: NEW_YEAR,
+        amount: 40_000,
+    },
+    Command::Issue {
+        id: 2,
+        day: NEW_YEAR,
+        plan: Plan::Endowment,
+        age: 0,
+        years: 3,
+        amount: 100_000,
+        premium: 40_000,
+    },
+    Command::Premium {
+        id: 1,
+        day: SECOND_YEAR,
+        amount: 40_000,
+    },
+    Command::Premium {
+        id: 2,
+        day: NEW_YEAR,
+        amount: 40_000,
+    },
+    Command::Issue {
+        id: 3,
+        day: NEW_YEAR,
+        plan: Plan::Endowment,
+        age: 0,
+        years: 3,
+        amount: 100_000,
+        premium: 40_000,
+    },
+    Command::Premium {
+        id: 1,
+        day: THIRD_YEAR,
+        amount: 40_000,
+    },
+    Command::Premium {
+        id: 2,
+        day: SECOND_YEAR,
+        amount: 40_000,
+    },
+    Command::Premium {
+        id: 3,
+        day: NEW_YEAR,
+        amount: 40_000,
+    },
+    Command::Premium {
+        id: 2,
+        day: THIRD_YEAR,
+        amount: 40_000,
+    },
+    Command::Premium {
+        id: 3,
+        day: SECOND_YEAR,
+        amount: 40_000,
+    },
+    Command::Premium {
+        id: 3,
+        day: THIRD_YEAR,
+        amount: 40_000,
+    },
+];
 
 // Whether the office accepts the commands from one place on up to another.
 fn posts(desk: &mut Desk<NoWatchers>, from: usize, to: usize) -> bool {
-    let script = script();
     for place in from..to.min(COMMANDS) {
-        if !answers_one(desk, &accepted(script[place], place as u32 + 1)) {
+        if !answers_one(desk, &accepted(SCRIPT[place], place as u32 + 1)) {
             return false;
         }
     }
@@ -47,11 +104,10 @@ fn posts(desk: &mut Desk<NoWatchers>, from: usize, to: usize) -> bool {
 
 // How many versions a floor leaves of so many commands: those after it, and one of each policy that one of the others names.
 fn needed(floor: usize, count: usize) -> usize {
-    let script = script();
     let mut kept: usize = 0;
     for place in 0..count.min(COMMANDS) {
-        let id = script[place].id();
-        let later = script
+        let id = SCRIPT[place].id();
+        let later = SCRIPT
             .iter()
             .take(floor)
             .skip(place + 1)

@@ -19,37 +19,65 @@ pub(crate) struct Finished {
     pub disk: MemoryDisk,
 }
 
-// Does what the words ask for, over these devices and an empty shelf.
-pub(crate) fn run_over<R: Threads + Wait + Sync>(
-    rt: &R,
+impl Finished {
+    pub(crate) fn wrote(&self, status: u8, text: &str) -> bool {
+        self.status == status && self.output.bytes() == text.as_bytes()
+    }
+}
+
+pub(crate) fn words_of(alloc: Global, words: &[&str]) -> Result<Vec<String>, AllocError> {
+    let mut made = Vec::new(alloc);
+    for word in words {
+        made.push(String::from_str(alloc, word)?)?;
+    }
+    Ok(made)
+}
+
+// A disk with these bytes, which fails at these calls.
+pub(crate) fn disk_of(
     alloc: Global,
-    words: &[String],
-    script: &[&str],
-    failing_reads: &[u64],
-    failing_writes: &[u64],
-    disk: MemoryDisk,
-) -> Result<Finished, AllocError> {
-    let shelf = MapShelf::new(BTreeMap::new(alloc), Vec::new(alloc));
-    run_beside(
-        rt,
+    bytes: &[u8],
+    failing: &[u64],
+) -> Result<MemoryDisk, AllocError> {
+    Ok(MemoryDisk::new(
         alloc,
-        words,
-        script,
-        failing_reads,
-        failing_writes,
-        shelf,
-        disk,
-        Vec::new(alloc),
-        &OpenGate,
-    )
+        Vec::from_slice(alloc, bytes)?,
+        Vec::from_slice(alloc, failing)?,
+    ))
+}
+
+// The rates of the ages 0 to 4, and a basis of them without interest.
+pub(crate) const Q: &str =
+    "<XTbML><Table><Values><Axis><Y t=\"0\">0.1</Y><Y t=\"1\">0.2</Y><Y t=\"2\">0.25</Y><Y t=\"3\">0.5</Y>\
+    <Y t=\"4\">1</Y></Axis></Values></Table></XTbML>";
+
+pub(crate) const FLAT: &str = "1900-01-01,q.xml,0\n";
+
+// A name, and the text of the file of that name.
+pub(crate) type Text = (&'static str, &'static str);
+
+pub(crate) const BASIS: &[Text] = &[("basis.csv", FLAT), ("q.xml", Q)];
+
+// A shelf with these files, which fails at these calls.
+pub(crate) fn shelf_of(
+    alloc: Global,
+    texts: &[Text],
+    failing: &[u64],
+) -> Result<MapShelf, AllocError> {
+    let mut files = BTreeMap::new(alloc);
+    for (name, text) in texts {
+        let bytes = Vec::from_slice(alloc, text.as_bytes())?;
+        let _ = files.insert(String::from_str(alloc, name)?, bytes)?;
+    }
+    Ok(MapShelf::new(files, Vec::from_slice(alloc, failing)?))
 }
 
 // Does what the words ask for, over these devices, with these watchers and this gate.
-fn run_beside<R: Threads + Wait + Sync, H: Shelf + Drop, G: Gate + Sync>(
+pub(crate) fn run_beside<R: Threads + Wait + Sync, H: Shelf + Drop, G: Gate + Sync>(
     rt: &R,
     alloc: Global,
-    words: &[String],
-    script: &[&str],
+    words: &[&str],
+    script: &str,
     failing_reads: &[u64],
     failing_writes: &[u64],
     shelf: H,
@@ -61,16 +89,14 @@ fn run_beside<R: Threads + Wait + Sync, H: Shelf + Drop, G: Gate + Sync>(
     requires fresh { AllByRecursion (λ b. noted b ≡ []) watchers.items }
 {
     let mut shelf = shelf;
-    let mut bytes = Vec::new(alloc);
-    for piece in script {
-        bytes.extend_from_slice(piece.as_bytes())?;
-    }
+    let words = words_of(alloc, words)?;
+    let bytes = Vec::from_slice(alloc, script.as_bytes())?;
     let mut input = BytesSource::new(bytes, Vec::from_slice(alloc, failing_reads)?);
     let mut output = BytesSink::new(alloc, Vec::from_slice(alloc, failing_writes)?);
     let Ended { status, disk } = life(
         rt,
         alloc,
-        words,
+        &words,
         &mut input,
         &mut output,
         &mut shelf,
@@ -85,123 +111,23 @@ fn run_beside<R: Threads + Wait + Sync, H: Shelf + Drop, G: Gate + Sync>(
     })
 }
 
-pub(crate) fn words_of(alloc: Global, words: &[&str]) -> Result<Vec<String>, AllocError> {
-    let mut made = Vec::new(alloc);
-    for word in words {
-        made.push(String::from_str(alloc, word)?)?;
-    }
-    Ok(made)
-}
-
-// Does what the words ask for over a disk; the other devices don't fail.
-pub(crate) fn run_words<R: Threads + Wait + Sync>(
-    rt: &R,
-    alloc: Global,
-    words: &[&str],
-    script: &[&str],
-    disk: MemoryDisk,
-) -> Result<Finished, AllocError> {
-    let words = words_of(alloc, words)?;
-    run_over(rt, alloc, &words, script, &[], &[], disk)
-}
-
-// The same beside a shelf, with an output that fails at these calls.
-pub(crate) fn run_with<R: Threads + Wait + Sync>(
-    rt: &R,
-    alloc: Global,
-    words: &[&str],
-    failing_writes: &[u64],
-    shelf: MapShelf,
-    disk: MemoryDisk,
-) -> Result<Finished, AllocError> {
-    let words = words_of(alloc, words)?;
-    let none = Vec::new(alloc);
-    run_beside(
-        rt,
-        alloc,
-        &words,
-        &[],
-        &[],
-        failing_writes,
-        shelf,
-        disk,
-        none,
-        &OpenGate,
-    )
-}
-
-// Does what the words ask for beside a shelf.
-pub(crate) fn run_script_with<R: Threads + Wait + Sync, H: Shelf + Drop>(
-    rt: &R,
-    alloc: Global,
-    words: &[&str],
-    script: &[&str],
-    shelf: H,
-    disk: MemoryDisk,
-) -> Result<Finished, AllocError> {
-    let words = words_of(alloc, words)?;
-    let none = Vec::new(alloc);
-    run_beside(
-        rt,
-        alloc,
-        &words,
-        script,
-        &[],
-        &[],
-        shelf,
-        disk,
-        none,
-        &OpenGate,
-    )
-}
-
-// Runs a script on an empty disk beside a shelf, with this gate.
-pub(crate) fn run_gated<R: Threads + Wait + Sync, G: Gate + Sync>(
-    rt: &R,
-    alloc: Global,
-    script: &[&str],
-    shelf: MapShelf,
-    gate: &G,
-) -> Result<Finished, AllocError> {
-    let words = words_of(alloc, &["run"])?;
-    let disk = MemoryDisk::new(alloc, Vec::new(alloc), Vec::new(alloc));
-    let none = Vec::new(alloc);
-    run_beside(rt, alloc, &words, script, &[], &[], shelf, disk, none, gate)
-}
-
-// Does what the words ask for on an empty disk, with these watchers.
+// Does what the words ask for over a disk, with these watchers and an empty shelf.
 pub(crate) fn run_watched<R: Threads + Wait + Sync>(
     rt: &R,
     alloc: Global,
     words: &[&str],
-    script: &[&str],
-    watchers: Vec<Box<dyn Watcher + Send>>,
-) -> Result<Finished, AllocError>
-    requires few { length watchers.items ≤ 16 }
-    requires fresh { AllByRecursion (λ b. noted b ≡ []) watchers.items }
-{
-    let disk = MemoryDisk::new(alloc, Vec::new(alloc), Vec::new(alloc));
-    run_watched_over(rt, alloc, words, script, watchers, disk)
-}
-
-// Does what the words ask for over a disk, with these watchers.
-pub(crate) fn run_watched_over<R: Threads + Wait + Sync>(
-    rt: &R,
-    alloc: Global,
-    words: &[&str],
-    script: &[&str],
+    script: &str,
     watchers: Vec<Box<dyn Watcher + Send>>,
     disk: MemoryDisk,
 ) -> Result<Finished, AllocError>
     requires few { length watchers.items ≤ 16 }
     requires fresh { AllByRecursion (λ b. noted b ≡ []) watchers.items }
 {
-    let words = words_of(alloc, words)?;
-    let shelf = MapShelf::new(BTreeMap::new(alloc), Vec::new(alloc));
+    let shelf = shelf_of(alloc, &[], &[])?;
     run_beside(
         rt,
         alloc,
-        &words,
+        words,
         script,
         &[],
         &[],
@@ -212,12 +138,36 @@ pub(crate) fn run_watched_over<R: Threads + Wait + Sync>(
     )
 }
 
+// Runs a script over a disk beside a basis, with this gate.
+pub(crate) fn run_gated<R: Threads + Wait + Sync, G: Gate + Sync>(
+    rt: &R,
+    alloc: Global,
+    script: &str,
+    disk: MemoryDisk,
+    gate: &G,
+) -> Result<Finished, AllocError> {
+    let shelf = shelf_of(alloc, BASIS, &[])?;
+    let none = Vec::new(alloc);
+    run_beside(
+        rt,
+        alloc,
+        &["run"],
+        script,
+        &[],
+        &[],
+        shelf,
+        disk,
+        none,
+        gate,
+    )
+}
+
 // Runs a script over a disk.
 pub(crate) fn run_on<R: Threads + Wait + Sync>(
     rt: &R,
     alloc: Global,
-    script: &[&str],
+    script: &str,
     disk: MemoryDisk,
 ) -> Result<Finished, AllocError> {
-    run_words(rt, alloc, &["run"], script, disk)
+    run_watched(rt, alloc, &["run"], script, Vec::new(alloc), disk)
 }

@@ -1,7 +1,6 @@
 // Runs of six issues in which calls of the disk fail, and crashes at each moment of one. What is left is judged by what was
 // answered.
-use crate::devices::{Finished, run_on};
-use memory_disk::MemoryDisk;
+use crate::devices::{Finished, disk_of, run_on};
 use std::alloc::{AllocError, Global};
 use std::sync::Wait;
 use std::test::Fail;
@@ -96,8 +95,7 @@ fn reopened<R: Threads + Wait + Sync>(
     alloc: Global,
     file: &[u8],
 ) -> Result<Finished, AllocError> {
-    let disk = MemoryDisk::new(alloc, Vec::from_slice(alloc, file)?, Vec::new(alloc));
-    run_on(rt, alloc, &[], disk)
+    run_on(rt, alloc, "", disk_of(alloc, file, &[])?)
 }
 
 // Whether a run in which these calls fail, so many at most, is answered and leaves what it may.
@@ -106,8 +104,7 @@ fn holds<R: Threads + Wait + Sync>(
     alloc: Global,
     failing: &[u64],
 ) -> Result<bool, AllocError> {
-    let disk = MemoryDisk::new(alloc, Vec::new(alloc), Vec::from_slice(alloc, failing)?);
-    let ran = run_on(rt, alloc, &[SIX], disk)?;
+    let ran = run_on(rt, alloc, SIX, disk_of(alloc, &[], failing)?)?;
     let again = reopened(rt, alloc, ran.disk.bytes())?;
     if ran.status != 8 || again.status != 0 {
         return Ok(false);
@@ -140,8 +137,7 @@ fn each_failing_call_is_answered(rt: HostRuntime) -> Result<(), AllocError> {
 #[test]
 fn each_crash_leaves_what_was_acknowledged(rt: HostRuntime) -> Result<(), Fail> {
     let alloc = rt.alloc();
-    let empty = MemoryDisk::new(alloc, Vec::new(alloc), Vec::new(alloc));
-    let ran = run_on(&rt, alloc, &[SIX], empty)?;
+    let ran = run_on(&rt, alloc, SIX, disk_of(alloc, &[], &[])?)?;
     assert!(rt; ran.disk.calls() == ALL_CALLS);
     for moment in 0..=ALL_CALLS {
         let acknowledged = (moment.saturating_sub(CREATION_CALLS) / POSTING_CALLS) as usize;

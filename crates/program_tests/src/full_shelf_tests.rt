@@ -1,11 +1,10 @@
 // What a call ends with for which there is no memory before a line is answered: the line `nomemory` and the status 9, and
 // the disk isn't touched.
-use crate::devices::run_script_with;
-use crate::value_cases::{ENDOWMENT, FLAT, Q, add, ends};
-use memory_disk::MemoryDisk;
-use outside_io::{FetchFault, MapShelf, Shelf};
+use crate::devices::{BASIS, Finished, disk_of, run_beside, shelf_of};
+use outside_io::{FetchFault, MapShelf, OpenGate, Shelf};
 use std::alloc::{AllocError, Global};
-use std::collections::BTreeMap;
+use std::sync::Wait;
+use std::thread::Threads;
 
 // A shelf with no memory at its call of this number, counted from 1.
 #[derive(Drop)]
@@ -37,45 +36,68 @@ impl<H: Shelf + Drop> Shelf for FullShelf<H> {
     }
 }
 
-// A basis and its table, with no memory at this call.
-fn full_at(alloc: Global, full: u32) -> Result<FullShelf<MapShelf>, AllocError> {
-    let mut files = BTreeMap::new(alloc);
-    add(alloc, &mut files, "basis.csv", FLAT)?;
-    add(alloc, &mut files, "q.xml", Q)?;
-    Ok(FullShelf {
-        shelf: MapShelf::new(files, Vec::new(alloc)),
+struct Case {
+    words: &'static [&'static str],
+    written: &'static str,
+}
+
+const CASES: &[Case] = &[
+    Case {
+        words: &["value", "2021-01-01"],
+        written: "0,value,2021-01-01,0,0\ntotal,0.00,0.00,0\n",
+    },
+    Case {
+        words: &["run"],
+        written: "1,issue,7001,accepted,1\n1,value,2021-01-01,1,1\nrow,7001,inforce,1,127.22,127.23\n\
+            total,127.22,127.23,0\n",
+    },
+    Case {
+        words: &["load", "1", "1", "1", "1"],
+        written: "load,2,0,1,0.00,0.00,1\n",
+    },
+];
+
+const SCRIPT: &str =
+    "1,issue,7001,2020-01-01,endowment,0,3,1000.00,400.00\n1,value,2021-01-01,now,1\n";
+
+// A run beside a basis and its table, with no memory at this call.
+fn run_full<R: Threads + Wait + Sync>(
+    rt: &R,
+    alloc: Global,
+    words: &[&str],
+    full: u32,
+) -> Result<Finished, AllocError> {
+    let shelf = FullShelf::<MapShelf> {
+        shelf: shelf_of(alloc, BASIS, &[])?,
         calls: 0,
         full,
-    })
+    };
+    let disk = disk_of(alloc, &[], &[])?;
+    let none = Vec::new(alloc);
+    run_beside(
+        rt,
+        alloc,
+        words,
+        SCRIPT,
+        &[],
+        &[],
+        shelf,
+        disk,
+        none,
+        &OpenGate,
+    )
 }
 
 // The basis file is the first call of the shelf, and its table the second.
 #[test]
 fn without_memory_for_the_basis(rt: HostRuntime) -> Result<(), AllocError> {
-    let alloc = rt.alloc();
-    let cases: [(&[&str], &str); 3] = [
-        (
-            &["value", "2021-01-01"],
-            "0,value,2021-01-01,0,0\ntotal,0.00,0.00,0\n",
-        ),
-        (
-            &["run"],
-            "1,issue,7001,accepted,1\n1,value,2021-01-01,1,1\nrow,7001,inforce,1,127.22,127.23\n\
-             total,127.22,127.23,0\n",
-        ),
-        (&["load", "1", "1", "1", "1"], "load,2,0,1,0.00,0.00,1\n"),
-    ];
-    let script = [ENDOWMENT, "1,value,2021-01-01,now,1\n"];
-    for (words, written) in cases {
-        for full in 1..=3 {
-            let disk = MemoryDisk::new(alloc, Vec::new(alloc), Vec::new(alloc));
-            let ran = run_script_with(&rt, alloc, words, &script, full_at(alloc, full)?, disk)?;
-            if full == 3 {
-                assert!(rt; ends(&ran, 0, written));
-            } else {
-                assert!(rt; ends(&ran, 9, "nomemory\n") && ran.disk.calls() == 0);
-            }
+    for case in CASES {
+        for full in [1, 2] {
+            let ran = run_full(&rt, rt.alloc(), case.words, full)?;
+            assert!(rt; ran.wrote(9, "nomemory\n") && ran.disk.calls() == 0);
         }
+        let ran = run_full(&rt, rt.alloc(), case.words, 3)?;
+        assert!(rt; ran.wrote(0, case.written));
     }
     Ok(())
 }

@@ -1,11 +1,9 @@
 // The program over two disks in memory: the journal's, and the one of its checkpoints.
-use crate::devices::words_of;
-use crate::value_cases::{FLAT, Q, add};
+use crate::devices::{BASIS, disk_of, shelf_of, words_of};
 use life_app::{EndedKept, life_kept};
 use memory_disk::MemoryDisk;
-use outside_io::{BytesSink, BytesSource, MapShelf, OpenGate};
+use outside_io::{BytesSink, BytesSource, OpenGate};
 use std::alloc::{AllocError, Global};
-use std::collections::BTreeMap;
 use std::sync::Wait;
 use std::thread::Threads;
 
@@ -23,20 +21,14 @@ pub(crate) fn keep_beside<R: Threads + Wait + Sync>(
     rt: &R,
     alloc: Global,
     words: &[&str],
-    script: &[&str],
+    script: &str,
     failing_writes: &[u64],
     disk: MemoryDisk,
     second: MemoryDisk,
 ) -> Result<Kept, AllocError> {
     let words = words_of(alloc, words)?;
-    let mut bytes = Vec::new(alloc);
-    for piece in script {
-        bytes.extend_from_slice(piece.as_bytes())?;
-    }
-    let mut files = BTreeMap::new(alloc);
-    add(alloc, &mut files, "basis.csv", FLAT)?;
-    add(alloc, &mut files, "q.xml", Q)?;
-    let mut shelf = MapShelf::new(files, Vec::new(alloc));
+    let bytes = Vec::from_slice(alloc, script.as_bytes())?;
+    let mut shelf = shelf_of(alloc, BASIS, &[])?;
     let mut input = BytesSource::new(bytes, Vec::new(alloc));
     let mut output = BytesSink::new(alloc, Vec::from_slice(alloc, failing_writes)?);
     let EndedKept {
@@ -68,31 +60,18 @@ pub(crate) fn keep<R: Threads + Wait + Sync>(
     rt: &R,
     alloc: Global,
     words: &[&str],
-    script: &[&str],
+    script: &str,
     disk: MemoryDisk,
     second: MemoryDisk,
 ) -> Result<Kept, AllocError> {
     keep_beside(rt, alloc, words, script, &[], disk, second)
 }
 
-// A disk with these bytes, which fails at these calls.
-pub(crate) fn disk_of(
-    alloc: Global,
-    bytes: &[u8],
-    failing: &[u64],
-) -> Result<MemoryDisk, AllocError> {
-    Ok(MemoryDisk::new(
-        alloc,
-        Vec::from_slice(alloc, bytes)?,
-        Vec::from_slice(alloc, failing)?,
-    ))
-}
-
 // What a script leaves of an empty disk.
 pub(crate) fn journal_of<R: Threads + Wait + Sync>(
     rt: &R,
     alloc: Global,
-    script: &[&str],
+    script: &str,
 ) -> Result<MemoryDisk, AllocError> {
     let (disk, second) = (disk_of(alloc, &[], &[])?, disk_of(alloc, &[], &[])?);
     let ran = keep(rt, alloc, &["run"], script, disk, second)?;

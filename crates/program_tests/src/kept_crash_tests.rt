@@ -1,6 +1,7 @@
 // Drawn scripts with checkpoints among their lines, and crashes at each moment of either disk: `state` writes what it writes
 // without a checkpoint.
-use crate::kept::{Kept, disk_of, keep};
+use crate::devices::disk_of;
+use crate::kept::{Kept, keep};
 use memory_disk::MemoryDisk;
 use outside_io::BytesSink;
 use std::alloc::{AllocError, Global};
@@ -46,9 +47,9 @@ fn is_stated_alike<R: Threads + Wait + Sync>(
     kept: &[u8],
 ) -> Result<bool, AllocError> {
     let (disk, second) = (disk_of(alloc, journal, &[])?, disk_of(alloc, kept, &[])?);
-    let with = keep(rt, alloc, &["state"], &[], disk, second)?;
+    let with = keep(rt, alloc, &["state"], "", disk, second)?;
     let (disk, second) = (disk_of(alloc, journal, &[])?, disk_of(alloc, &[], &[])?);
-    let without = keep(rt, alloc, &["state"], &[], disk, second)?;
+    let without = keep(rt, alloc, &["state"], "", disk, second)?;
     Ok(
         with.status == 0
             && without.status == 0
@@ -73,10 +74,10 @@ fn drawn_scripts_are_stated_alike(rt: HostRuntime) -> Result<(), AllocError> {
         let mut made = 0;
         for _ in 0..60 {
             let line = LINES.get(draw(&mut state, 20)).copied().unwrap_or("");
-            ended = keep(&rt, alloc, &["run"], &[line], ended.disk, ended.second)?;
+            ended = keep(&rt, alloc, &["run"], line, ended.disk, ended.second)?;
             assert!(rt; ended.status == 0);
             if draw(&mut state, 5) == 0 {
-                ended = keep(&rt, alloc, &["checkpoint"], &[], ended.disk, ended.second)?;
+                ended = keep(&rt, alloc, &["checkpoint"], "", ended.disk, ended.second)?;
                 assert!(rt; ended.status == 0);
                 made = 1;
             }
@@ -119,19 +120,22 @@ fn add_new(images: &mut Vec<Vec<u8>>, image: Vec<u8>) -> Result<(), AllocError> 
     Ok(())
 }
 
+const FIRST_TWO: &str =
+    "1,issue,1,2020-01-01,endowment,0,3,1000.00,400.00\n1,premium,1,2020-01-01,400.00\n";
+
+const NEXT_TWO: &str = "1,issue,2,2020-01-01,limited,0,2,500.00,200.00\n1,claim,1,2020-06-01\n";
+
 // None, then two commands, then two more are kept. A crash of either disk at any moment of that, of the other at any other:
 // the images need not even belong together.
 #[test]
 fn a_crash_of_either_disk_is_stated_alike(rt: HostRuntime) -> Result<(), Fail> {
     let alloc = rt.alloc();
     let (disk, second) = (disk_of(alloc, &[], &[])?, disk_of(alloc, &[], &[])?);
-    let first = keep(&rt, alloc, &["checkpoint"], &[], disk, second)?;
-    let two = [LINES[0], LINES[4]];
-    let ran = keep(&rt, alloc, &["run"], &two, first.disk, first.second)?;
-    let made = keep(&rt, alloc, &["checkpoint"], &[], ran.disk, ran.second)?;
-    let more = [LINES[1], LINES[12]];
-    let again = keep(&rt, alloc, &["run"], &more, made.disk, made.second)?;
-    let last = keep(&rt, alloc, &["checkpoint"], &[], again.disk, again.second)?;
+    let first = keep(&rt, alloc, &["checkpoint"], "", disk, second)?;
+    let ran = keep(&rt, alloc, &["run"], FIRST_TWO, first.disk, first.second)?;
+    let made = keep(&rt, alloc, &["checkpoint"], "", ran.disk, ran.second)?;
+    let again = keep(&rt, alloc, &["run"], NEXT_TWO, made.disk, made.second)?;
+    let last = keep(&rt, alloc, &["checkpoint"], "", again.disk, again.second)?;
     assert!(rt; last.wrote(0, "checkpoint,4\n"));
     let journals = images_of(alloc, &last.disk)?;
     let kept = images_of(alloc, &last.second)?;

@@ -1,17 +1,58 @@
-// Whole runs, over devices in memory. Texts, statuses and files are written by hand from the formats.
-use crate::devices::{run_over, words_of};
-use memory_disk::MemoryDisk;
-use std::alloc::{AllocError, Global};
-use std::sync::Wait;
-use std::thread::Threads;
+// Whole runs, over devices in memory, of which some fail. Texts, statuses and files are written by hand from the formats; the
+// values and the payments that are expected are worked out by hand from the rates.
+use crate::cases::{Case, Failing, File, holds};
+use crate::devices::{BASIS, FLAT};
+use std::alloc::AllocError;
 
 const POLICY: &str = "1,issue,7001,2020-01-01,endowment,0,3,1000.00,400.00\n";
 
-const OLD_POLICY: &str = "1,issue,9,1900-01-01,whole,129,0,0.01,0.01\n";
+const TWICE: &str = "1,issue,7001,2020-01-01,endowment,0,3,1000.00,400.00\n\
+    1,issue,7001,2020-01-01,endowment,0,3,1000.00,400.00\n";
 
-// A file in parts. LIFEJRNL, 1, 64 and four zeros stand behind byte 0.
-type File = &'static [&'static [u8]];
+const OLD_AND_NEW: &str = "1,issue,9,1900-01-01,whole,129,0,0.01,0.01\n\
+    1,issue,7001,2020-01-01,endowment,0,3,1000.00,400.00\n";
 
+const ASKS: &str =
+    "1,issue,7001,2020-01-01,endowment,0,3,1000.00,400.00\n1,value,2021-01-01,now,1\n";
+
+const ASKS_FOR_NONE: &str = "1,issue,7001,2020-01-01,endowment,0,3,1000.00,400.00\n1,trim\n";
+
+const VALUED: &str =
+    "0,value,2021-01-01,1,1\nrow,7001,inforce,1,127.22,127.23\ntotal,127.22,127.23,0\n";
+
+const THREE_YEARS: &str = "project,2020-12-31,1,1,3\nyear,0,400.00,400.00,100.00,100.00,0.00,0.00\n\
+    year,1,360.00,360.00,180.00,180.00,0.00,0.00\nyear,2,288.00,288.00,180.00,180.00,540.00,540.00\n\
+    unvalued,0\n";
+
+const ENTRIES: &str = "entry,1,issue,2020-01-01,endowment,0,3,1000.00,400.00\n\
+    policy,7001,inforce,endowment,0,3,1000.00,400.00,2020-01-01,0,0.00\n";
+
+const ALL_WELL: &[Failing] = &[Failing::Nothing];
+
+const BOTH_FETCHES: &[Failing] = &[Failing::Fetch(1), Failing::Fetch(2)];
+
+const FIVE_DISK_CALLS: &[Failing] = &[
+    Failing::Disk(1),
+    Failing::Disk(2),
+    Failing::Disk(3),
+    Failing::Disk(4),
+    Failing::Disk(5),
+];
+
+const TEN_DISK_CALLS: &[Failing] = &[
+    Failing::Disk(1),
+    Failing::Disk(2),
+    Failing::Disk(3),
+    Failing::Disk(4),
+    Failing::Disk(5),
+    Failing::Disk(6),
+    Failing::Disk(7),
+    Failing::Disk(8),
+    Failing::Disk(9),
+    Failing::Disk(10),
+];
+
+// LIFEJRNL, 1, 64 and four zeros stand behind byte 0.
 const HEAD: [u8; 16] = [
     0x4c, 0x49, 0x46, 0x45, 0x4a, 0x52, 0x4e, 0x4c, 0x00, 0x01, 0x00, 0x40, 0x00, 0x00, 0x00, 0x00,
 ];
@@ -77,259 +118,575 @@ const TWO_RECORDS: File = &[
     &[0],
 ];
 
-// What a run is given, and what it must end with, write and leave.
-#[derive(Drop)]
-struct Case {
-    words: &'static [&'static str],
-    script: &'static [&'static str],
-    failing_reads: &'static [u64],
-    failing_writes: &'static [u64],
-    failing_calls: &'static [u64],
-    file: File,
-    status: u8,
-    written: &'static str,
-    left: File,
-}
-
-// A run on an empty file, with devices that don't fail.
-fn run_of(script: &'static [&'static str], status: u8, written: &'static str, left: File) -> Case {
+const RUNS: &[Case] = &[
     Case {
         words: &["run"],
-        script,
-        failing_reads: &[],
-        failing_writes: &[],
-        failing_calls: &[],
-        file: NOTHING,
-        status,
-        written,
-        left,
-    }
-}
-
-// A run of the policy on a file that is refused, and left as it is.
-fn refused(file: File, written: &'static str) -> Case {
+        script: "",
+        shelf: &[],
+        journal: NOTHING,
+        failing: ALL_WELL,
+        status: 0,
+        written: "",
+        left: NO_RECORD,
+    },
     Case {
-        file,
-        ..run_of(&[POLICY], 5, written, file)
-    }
-}
+        words: &["run"],
+        script: "\n\n",
+        shelf: &[],
+        journal: NOTHING,
+        failing: ALL_WELL,
+        status: 0,
+        written: "",
+        left: NO_RECORD,
+    },
+    Case {
+        words: &["run"],
+        script: POLICY,
+        shelf: &[],
+        journal: NOTHING,
+        failing: ALL_WELL,
+        status: 0,
+        written: "1,issue,7001,accepted,1\n",
+        left: ONE_RECORD,
+    },
+    Case {
+        words: &["run"],
+        script: TWICE,
+        shelf: &[],
+        journal: NOTHING,
+        failing: ALL_WELL,
+        status: 0,
+        written: "1,issue,7001,accepted,1\n1,issue,7001,refused,taken\n",
+        left: ONE_RECORD,
+    },
+    Case {
+        words: &["run"],
+        script: OLD_AND_NEW,
+        shelf: &[],
+        journal: NOTHING,
+        failing: ALL_WELL,
+        status: 0,
+        written: "1,issue,9,accepted,1\n1,issue,7001,accepted,2\n",
+        left: TWO_RECORDS,
+    },
+    Case {
+        words: &["run"],
+        script: POLICY,
+        shelf: &[],
+        journal: ONE_RECORD,
+        failing: ALL_WELL,
+        status: 0,
+        written: "1,issue,7001,refused,taken\n",
+        left: ONE_RECORD,
+    },
+    Case {
+        words: &["run"],
+        script: "1,issue,0,2020-01-01,term,30,10,1.00,1.00\n",
+        shelf: &[],
+        journal: NOTHING,
+        failing: ALL_WELL,
+        status: 3,
+        written: "badscript,1,3\n",
+        left: NOTHING,
+    },
+    Case {
+        words: &["run"],
+        script: "1,issue,7001,2020-01-01,endowment,0,3,1000.00,400.00\n\n9,lapse,1,2020-01-01\n",
+        shelf: &[],
+        journal: NOTHING,
+        failing: ALL_WELL,
+        status: 3,
+        written: "badscript,2,1\n",
+        left: NOTHING,
+    },
+    Case {
+        words: &["run"],
+        script: "1,issue,7001,2020-01-01,endowment,0,3,1000.00,400.00\n0,lapse,1,2020-01-01\n",
+        shelf: &[],
+        journal: NOTHING,
+        failing: ALL_WELL,
+        status: 3,
+        written: "badscript,2,1\n",
+        left: NOTHING,
+    },
+    Case {
+        words: &["run"],
+        script: "1,issue,5,2020-01-01,term,30,10,1.00,1.00,\n",
+        shelf: &[],
+        journal: NOTHING,
+        failing: ALL_WELL,
+        status: 3,
+        written: "badscript,1,10\n",
+        left: NOTHING,
+    },
+    Case {
+        words: &["run", "--at"],
+        script: POLICY,
+        shelf: &[],
+        journal: NOTHING,
+        failing: ALL_WELL,
+        status: 2,
+        written: "usage\n",
+        left: NOTHING,
+    },
+    Case {
+        words: &[],
+        script: POLICY,
+        shelf: &[],
+        journal: NOTHING,
+        failing: ALL_WELL,
+        status: 2,
+        written: "usage\n",
+        left: NOTHING,
+    },
+    Case {
+        words: &["run"],
+        script: POLICY,
+        shelf: &[],
+        journal: NOTHING,
+        failing: &[Failing::Read(1), Failing::Read(2)],
+        status: 6,
+        written: "readfault\n",
+        left: NOTHING,
+    },
+    Case {
+        words: &["run"],
+        script: POLICY,
+        shelf: &[],
+        journal: NOTHING,
+        failing: &[Failing::Write(1)],
+        status: 7,
+        written: "",
+        left: ONE_RECORD,
+    },
+    // A journal of one record is opened in five calls: sync, length, front, the piece of its gates, the piece of its body.
+    Case {
+        words: &["run"],
+        script: POLICY,
+        shelf: &[],
+        journal: ONE_RECORD,
+        failing: FIVE_DISK_CALLS,
+        status: 8,
+        written: "diskfault\n",
+        left: ONE_RECORD,
+    },
+];
 
-fn bytes_of(alloc: Global, file: File) -> Result<Vec<u8>, AllocError> {
-    let mut bytes = Vec::new(alloc);
-    for part in file {
-        bytes.extend_from_slice(part)?;
-    }
-    Ok(bytes)
-}
+// Files that are opened or refused.
+const FILES: &[Case] = &[
+    Case {
+        words: &["run"],
+        script: "",
+        shelf: &[],
+        journal: &[&[0; 10]],
+        failing: ALL_WELL,
+        status: 0,
+        written: "",
+        left: NO_RECORD,
+    },
+    // What stands behind the first closed gate has no meaning.
+    Case {
+        words: &["run"],
+        script: POLICY,
+        shelf: &[],
+        journal: &[&[1], &HEAD, &[2], &FIELDS, &ZEROS, &[0]],
+        failing: ALL_WELL,
+        status: 0,
+        written: "1,issue,7001,accepted,1\n",
+        left: ONE_RECORD,
+    },
+    Case {
+        words: &["run"],
+        script: POLICY,
+        shelf: &[],
+        journal: &[&[65; 18]],
+        failing: ALL_WELL,
+        status: 5,
+        written: "badjournal,notajournal\n",
+        left: &[&[65; 18]],
+    },
+    Case {
+        words: &["run"],
+        script: "",
+        shelf: &[],
+        journal: &[&[65; 18]],
+        failing: ALL_WELL,
+        status: 5,
+        written: "badjournal,notajournal\n",
+        left: &[&[65; 18]],
+    },
+    // A flipped bit of the header, and of byte 0 of a file that is too long for a creation.
+    Case {
+        words: &["run"],
+        script: POLICY,
+        shelf: &[],
+        journal: &[&[1], &FLIPPED_HEAD, &[0]],
+        failing: ALL_WELL,
+        status: 5,
+        written: "badjournal,notajournal\n",
+        left: &[&[1], &FLIPPED_HEAD, &[0]],
+    },
+    Case {
+        words: &["run"],
+        script: POLICY,
+        shelf: &[],
+        journal: &[&[3], &HEAD, &[1], &FIELDS, &ZEROS, &[0]],
+        failing: ALL_WELL,
+        status: 5,
+        written: "badjournal,notajournal\n",
+        left: &[&[3], &HEAD, &[1], &FIELDS, &ZEROS, &[0]],
+    },
+    // A creation that had all but its byte 0.
+    Case {
+        words: &["run"],
+        script: "",
+        shelf: &[],
+        journal: &[&[2], &HEAD, &[7]],
+        failing: ALL_WELL,
+        status: 0,
+        written: "",
+        left: NO_RECORD,
+    },
+    // A second upgrade, and a policy made paid up before the first.
+    Case {
+        words: &["run"],
+        script: "",
+        shelf: &[],
+        journal: UPGRADED,
+        failing: ALL_WELL,
+        status: 0,
+        written: "",
+        left: UPGRADED,
+    },
+    Case {
+        words: &["run"],
+        script: POLICY,
+        shelf: &[],
+        journal: &[
+            &[1],
+            &HEAD,
+            &[1],
+            &UPGRADE,
+            &ZEROS,
+            &[1],
+            &UPGRADE,
+            &ZEROS,
+            &[0],
+        ],
+        failing: ALL_WELL,
+        status: 5,
+        written: "badjournal,badrecord,1\n",
+        left: &[
+            &[1],
+            &HEAD,
+            &[1],
+            &UPGRADE,
+            &ZEROS,
+            &[1],
+            &UPGRADE,
+            &ZEROS,
+            &[0],
+        ],
+    },
+    Case {
+        words: &["run"],
+        script: POLICY,
+        shelf: &[],
+        journal: &[
+            &[1],
+            &HEAD,
+            &[1],
+            &FIELDS,
+            &ZEROS,
+            &[1],
+            &MADE_PAID_UP,
+            &ZEROS,
+            &[0],
+        ],
+        failing: ALL_WELL,
+        status: 5,
+        written: "badjournal,badrecord,1\n",
+        left: &[
+            &[1],
+            &HEAD,
+            &[1],
+            &FIELDS,
+            &ZEROS,
+            &[1],
+            &MADE_PAID_UP,
+            &ZEROS,
+            &[0],
+        ],
+    },
+    // The kind 9 with fields, the id 0, the day 200000, a byte behind the fields, the same policy twice.
+    Case {
+        words: &["run"],
+        script: POLICY,
+        shelf: &[],
+        journal: &[&[1], &HEAD, &[1], &NO_KIND, &ZEROS, &[0]],
+        failing: ALL_WELL,
+        status: 5,
+        written: "badjournal,badrecord,0\n",
+        left: &[&[1], &HEAD, &[1], &NO_KIND, &ZEROS, &[0]],
+    },
+    Case {
+        words: &["run"],
+        script: "",
+        shelf: &[],
+        journal: &[&[1], &HEAD, &[1], &NO_KIND, &ZEROS, &[0]],
+        failing: ALL_WELL,
+        status: 5,
+        written: "badjournal,badrecord,0\n",
+        left: &[&[1], &HEAD, &[1], &NO_KIND, &ZEROS, &[0]],
+    },
+    Case {
+        words: &["run"],
+        script: POLICY,
+        shelf: &[],
+        journal: &[&[1], &HEAD, &[1], &NAMELESS, &ZEROS, &[0]],
+        failing: ALL_WELL,
+        status: 5,
+        written: "badjournal,badrecord,0\n",
+        left: &[&[1], &HEAD, &[1], &NAMELESS, &ZEROS, &[0]],
+    },
+    Case {
+        words: &["run"],
+        script: POLICY,
+        shelf: &[],
+        journal: &[&[1], &HEAD, &[1], &LATE, &ZEROS, &[0]],
+        failing: ALL_WELL,
+        status: 5,
+        written: "badjournal,badrecord,0\n",
+        left: &[&[1], &HEAD, &[1], &LATE, &ZEROS, &[0]],
+    },
+    Case {
+        words: &["run"],
+        script: POLICY,
+        shelf: &[],
+        journal: &[&[1], &HEAD, &[1], &FIELDS, &[1; 36], &[0]],
+        failing: ALL_WELL,
+        status: 5,
+        written: "badjournal,badrecord,0\n",
+        left: &[&[1], &HEAD, &[1], &FIELDS, &[1; 36], &[0]],
+    },
+    Case {
+        words: &["run"],
+        script: POLICY,
+        shelf: &[],
+        journal: &[
+            &[1],
+            &HEAD,
+            &[1],
+            &FIELDS,
+            &ZEROS,
+            &[1],
+            &FIELDS,
+            &ZEROS,
+            &[0],
+        ],
+        failing: ALL_WELL,
+        status: 5,
+        written: "badjournal,badrecord,1\n",
+        left: &[
+            &[1],
+            &HEAD,
+            &[1],
+            &FIELDS,
+            &ZEROS,
+            &[1],
+            &FIELDS,
+            &ZEROS,
+            &[0],
+        ],
+    },
+    // Cut short by a byte. The journal's own fault precedes that of an earlier record.
+    Case {
+        words: &["run"],
+        script: POLICY,
+        shelf: &[],
+        journal: &[&[1], &HEAD, &[1], &FIELDS, &ZEROS],
+        failing: ALL_WELL,
+        status: 5,
+        written: "badjournal,badrecord,0\n",
+        left: &[&[1], &HEAD, &[1], &FIELDS, &ZEROS],
+    },
+    Case {
+        words: &["run"],
+        script: POLICY,
+        shelf: &[],
+        journal: &[&[1], &HEAD, &[1], &NAMELESS, &ZEROS, &[1], &FIELDS],
+        failing: ALL_WELL,
+        status: 5,
+        written: "badjournal,badrecord,1\n",
+        left: &[&[1], &HEAD, &[1], &NAMELESS, &ZEROS, &[1], &FIELDS],
+    },
+];
 
-// Whether the case ends as it must. A run that reads no script calls no disk.
-fn holds<R: Threads + Wait + Sync>(rt: &R, alloc: Global, case: &Case) -> Result<bool, AllocError> {
-    let failing = Vec::from_slice(alloc, case.failing_calls)?;
-    let disk = MemoryDisk::new(alloc, bytes_of(alloc, case.file)?, failing);
-    let words = words_of(alloc, case.words)?;
-    let ran = run_over(
-        rt,
-        alloc,
-        &words,
-        case.script,
-        case.failing_reads,
-        case.failing_writes,
-        disk,
-    )?;
-    let left = bytes_of(alloc, case.left)?;
-    let untouched = (ran.disk.calls() == 0) == matches!(case.status, 2 | 3 | 6);
-    Ok(
-        untouched
-            && ran.status == case.status
-            && ran.output.bytes() == case.written.as_bytes()
-            && ran.disk.bytes() == left.as_slice(),
-    )
-}
+const DEVICES: &[Case] = &[
+    // A valuation and a projection call the shelf twice, for the basis and for the table, the disk five times and the output once.
+    Case {
+        words: &["value", "2021-01-01"],
+        script: "",
+        shelf: BASIS,
+        journal: ONE_RECORD,
+        failing: &[
+            Failing::Nothing,
+            Failing::Fetch(3),
+            Failing::Disk(6),
+            Failing::Write(2),
+        ],
+        status: 0,
+        written: VALUED,
+        left: ONE_RECORD,
+    },
+    Case {
+        words: &["value", "2021-01-01"],
+        script: "",
+        shelf: BASIS,
+        journal: ONE_RECORD,
+        failing: BOTH_FETCHES,
+        status: 6,
+        written: "readfault\n",
+        left: ONE_RECORD,
+    },
+    Case {
+        words: &["value", "2021-01-01"],
+        script: "",
+        shelf: BASIS,
+        journal: ONE_RECORD,
+        failing: FIVE_DISK_CALLS,
+        status: 8,
+        written: "diskfault\n",
+        left: ONE_RECORD,
+    },
+    Case {
+        words: &["value", "2021-01-01"],
+        script: "",
+        shelf: BASIS,
+        journal: ONE_RECORD,
+        failing: &[Failing::Write(1)],
+        status: 7,
+        written: "",
+        left: ONE_RECORD,
+    },
+    // What a missing table is answered for can be told, or not.
+    Case {
+        words: &["value", "2021-01-01"],
+        script: "",
+        shelf: &[("basis.csv", FLAT)],
+        journal: ONE_RECORD,
+        failing: &[Failing::Write(1)],
+        status: 4,
+        written: "",
+        left: ONE_RECORD,
+    },
+    Case {
+        words: &["project", "2020-12-31", "3"],
+        script: "",
+        shelf: BASIS,
+        journal: ONE_RECORD,
+        failing: &[
+            Failing::Nothing,
+            Failing::Fetch(3),
+            Failing::Disk(6),
+            Failing::Write(2),
+        ],
+        status: 0,
+        written: THREE_YEARS,
+        left: ONE_RECORD,
+    },
+    Case {
+        words: &["project", "2020-12-31", "3"],
+        script: "",
+        shelf: BASIS,
+        journal: ONE_RECORD,
+        failing: BOTH_FETCHES,
+        status: 6,
+        written: "readfault\n",
+        left: ONE_RECORD,
+    },
+    Case {
+        words: &["project", "2020-12-31", "3"],
+        script: "",
+        shelf: BASIS,
+        journal: ONE_RECORD,
+        failing: FIVE_DISK_CALLS,
+        status: 8,
+        written: "diskfault\n",
+        left: ONE_RECORD,
+    },
+    Case {
+        words: &["project", "2020-12-31", "3"],
+        script: "",
+        shelf: BASIS,
+        journal: ONE_RECORD,
+        failing: &[Failing::Write(1)],
+        status: 7,
+        written: "",
+        left: ONE_RECORD,
+    },
+    Case {
+        words: &["project", "2020-12-31", "3"],
+        script: "",
+        shelf: BASIS,
+        journal: &[&[65; 18]],
+        failing: ALL_WELL,
+        status: 5,
+        written: "badjournal,notajournal\n",
+        left: &[&[65; 18]],
+    },
+    // A journal of one record is opened in five calls, and read again for a policy's entries in five more.
+    Case {
+        words: &["state", "7001"],
+        script: "",
+        shelf: &[],
+        journal: ONE_RECORD,
+        failing: TEN_DISK_CALLS,
+        status: 8,
+        written: "diskfault\n",
+        left: ONE_RECORD,
+    },
+    Case {
+        words: &["state", "7001"],
+        script: "",
+        shelf: &[],
+        journal: ONE_RECORD,
+        failing: &[Failing::Disk(11)],
+        status: 0,
+        written: ENTRIES,
+        left: ONE_RECORD,
+    },
+    // A script that asks for values needs its basis before anything is posted; another one takes no notice of the shelf.
+    Case {
+        words: &["run"],
+        script: ASKS,
+        shelf: BASIS,
+        journal: NOTHING,
+        failing: BOTH_FETCHES,
+        status: 6,
+        written: "readfault\n",
+        left: NOTHING,
+    },
+    Case {
+        words: &["run"],
+        script: ASKS_FOR_NONE,
+        shelf: &[],
+        journal: NOTHING,
+        failing: &[Failing::Fetch(1)],
+        status: 0,
+        written: "1,issue,7001,accepted,1\n1,trim,1\n",
+        left: ONE_RECORD,
+    },
+];
 
 #[test]
-fn runs_end_as_they_must(rt: HostRuntime) -> Result<(), AllocError> {
-    let cases = [
-        run_of(&[], 0, "", NO_RECORD),
-        run_of(&["\n\n"], 0, "", NO_RECORD),
-        run_of(&[POLICY], 0, "1,issue,7001,accepted,1\n", ONE_RECORD),
-        run_of(
-            &[POLICY, POLICY],
-            0,
-            "1,issue,7001,accepted,1\n1,issue,7001,refused,taken\n",
-            ONE_RECORD,
-        ),
-        run_of(
-            &[OLD_POLICY, POLICY],
-            0,
-            "1,issue,9,accepted,1\n1,issue,7001,accepted,2\n",
-            TWO_RECORDS,
-        ),
-        Case {
-            file: ONE_RECORD,
-            ..run_of(&[POLICY], 0, "1,issue,7001,refused,taken\n", ONE_RECORD)
-        },
-        run_of(
-            &["1,issue,0,2020-01-01,term,30,10,1.00,1.00\n"],
-            3,
-            "badscript,1,3\n",
-            NOTHING,
-        ),
-        run_of(
-            &[POLICY, "\n9,lapse,1,2020-01-01\n"],
-            3,
-            "badscript,2,1\n",
-            NOTHING,
-        ),
-        run_of(
-            &[POLICY, "0,lapse,1,2020-01-01\n"],
-            3,
-            "badscript,2,1\n",
-            NOTHING,
-        ),
-        run_of(
-            &["1,issue,5,2020-01-01,term,30,10,1.00,1.00,\n"],
-            3,
-            "badscript,1,10\n",
-            NOTHING,
-        ),
-        Case {
-            words: &["run", "--at"],
-            ..run_of(&[POLICY], 2, "usage\n", NOTHING)
-        },
-        Case {
-            words: &[],
-            ..run_of(&[POLICY], 2, "usage\n", NOTHING)
-        },
-        Case {
-            failing_reads: &[1],
-            ..run_of(&[POLICY], 6, "readfault\n", NOTHING)
-        },
-        Case {
-            failing_reads: &[2],
-            ..run_of(&[POLICY], 6, "readfault\n", NOTHING)
-        },
-        Case {
-            failing_writes: &[1],
-            ..run_of(&[POLICY], 7, "", ONE_RECORD)
-        },
-    ];
-    for case in cases.iter() {
-        assert!(rt; holds(&rt, rt.alloc(), case)?);
-    }
-    Ok(())
-}
-
-#[test]
-fn files_are_opened_or_refused(rt: HostRuntime) -> Result<(), AllocError> {
-    let cases = [
-        Case {
-            file: &[&[0; 10]],
-            ..run_of(&[], 0, "", NO_RECORD)
-        },
-        // What stands behind the first closed gate has no meaning.
-        Case {
-            file: &[&[1], &HEAD, &[2], &FIELDS, &ZEROS, &[0]],
-            ..run_of(&[POLICY], 0, "1,issue,7001,accepted,1\n", ONE_RECORD)
-        },
-        refused(&[&[65; 18]], "badjournal,notajournal\n"),
-        Case {
-            script: &[],
-            ..refused(&[&[65; 18]], "badjournal,notajournal\n")
-        },
-        // A flipped bit of the header, and of byte 0 of a file that is too long for a creation.
-        refused(&[&[1], &FLIPPED_HEAD, &[0]], "badjournal,notajournal\n"),
-        refused(
-            &[&[3], &HEAD, &[1], &FIELDS, &ZEROS, &[0]],
-            "badjournal,notajournal\n",
-        ),
-        // A creation that had all but its byte 0.
-        Case {
-            file: &[&[2], &HEAD, &[7]],
-            ..run_of(&[], 0, "", NO_RECORD)
-        },
-        // A second upgrade, and a policy made paid up before the first.
-        Case {
-            file: &[&[1], &HEAD, &[1], &UPGRADE, &ZEROS, &[0]],
-            ..run_of(&[], 0, "", UPGRADED)
-        },
-        refused(
-            &[
-                &[1],
-                &HEAD,
-                &[1],
-                &UPGRADE,
-                &ZEROS,
-                &[1],
-                &UPGRADE,
-                &ZEROS,
-                &[0],
-            ],
-            "badjournal,badrecord,1\n",
-        ),
-        refused(
-            &[
-                &[1],
-                &HEAD,
-                &[1],
-                &FIELDS,
-                &ZEROS,
-                &[1],
-                &MADE_PAID_UP,
-                &ZEROS,
-                &[0],
-            ],
-            "badjournal,badrecord,1\n",
-        ),
-        // The kind 9 with fields, the id 0, the day 200000, a byte behind the fields, the same policy twice.
-        refused(
-            &[&[1], &HEAD, &[1], &NO_KIND, &ZEROS, &[0]],
-            "badjournal,badrecord,0\n",
-        ),
-        Case {
-            script: &[],
-            ..refused(
-                &[&[1], &HEAD, &[1], &NO_KIND, &ZEROS, &[0]],
-                "badjournal,badrecord,0\n",
-            )
-        },
-        refused(
-            &[&[1], &HEAD, &[1], &NAMELESS, &ZEROS, &[0]],
-            "badjournal,badrecord,0\n",
-        ),
-        refused(
-            &[&[1], &HEAD, &[1], &LATE, &ZEROS, &[0]],
-            "badjournal,badrecord,0\n",
-        ),
-        refused(
-            &[&[1], &HEAD, &[1], &FIELDS, &[1; 36], &[0]],
-            "badjournal,badrecord,0\n",
-        ),
-        refused(
-            &[
-                &[1],
-                &HEAD,
-                &[1],
-                &FIELDS,
-                &ZEROS,
-                &[1],
-                &FIELDS,
-                &ZEROS,
-                &[0],
-            ],
-            "badjournal,badrecord,1\n",
-        ),
-        // Cut short by a byte. The journal's own fault precedes that of an earlier record.
-        refused(
-            &[&[1], &HEAD, &[1], &FIELDS, &ZEROS],
-            "badjournal,badrecord,0\n",
-        ),
-        refused(
-            &[&[1], &HEAD, &[1], &NAMELESS, &ZEROS, &[1], &FIELDS],
-            "badjournal,badrecord,1\n",
-        ),
-    ];
-    for case in cases.iter() {
-        assert!(rt; holds(&rt, rt.alloc(), case)?);
+fn calls_end_as_they_must(rt: HostRuntime) -> Result<(), AllocError> {
+    for table in [RUNS, FILES, DEVICES] {
+        for (row, case) in table.iter().enumerate() {
+            for failing in case.failing {
+                assert!(rt; holds(&rt, rt.alloc(), case, *failing)?, "row {row}");
+            }
+        }
     }
     Ok(())
 }

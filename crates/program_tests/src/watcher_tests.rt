@@ -1,72 +1,276 @@
-// Runs with auditors: what they report behind the transcript. Texts are written by hand from the formats.
-ghost use Rattle.std.specs.Prelude.{◌≤◌, vec_len};
+// Runs with auditors: what they report behind the transcript, and when they are called and dropped. Texts are written by hand
+// from the formats.
+ghost use Rattle.std.specs.Prelude.{◌≡◌, ◌≤◌, [], IfOk, length, vec_len};
+ghost use Rattle.std.specs.List.{AllByRecursion};
 
-use crate::devices::run_watched;
+use crate::devices::{Finished, disk_of, run_watched};
 use policy_types::{Attention, Command, NoMemory, Report, Watcher};
 use std::alloc::{AllocError, Global};
 use std::snapshot::Snapshot;
-use std::sync::Arc;
 use std::sync::atomic::{AtomicU32, Ordering};
-use watcher_set::{CountWatcher, PremiumWatcher};
+use std::sync::{Arc, Wait};
+use std::thread::Threads;
+use watcher_set::{CountWatcher, TightWatcher};
 
-const POLICY: &str = "1,issue,7001,2020-01-01,endowment,0,3,1000.00,400.00\n";
+const TWO: &str = "1,issue,1,2020-01-01,endowment,0,3,1000.00,400.00\n\
+    1,issue,2,2020-01-01,endowment,0,3,1000.00,400.00\n";
 
-const PREMIUM: &str = "1,premium,7001,2020-01-01,400.00\n";
+const THREE: &str = "1,issue,1,2020-01-01,endowment,0,3,1000.00,400.00\n\
+    1,issue,2,2020-01-01,endowment,0,3,1000.00,400.00\n\
+    1,issue,3,2020-01-01,endowment,0,3,1000.00,400.00\n";
 
-const FIVE: &[&str] = &[
-    "1,issue,1,2020-01-01,endowment,0,3,1000.00,400.00\n",
-    "1,issue,2,2020-01-01,endowment,0,3,1000.00,400.00\n",
-    "1,issue,3,2020-01-01,endowment,0,3,1000.00,400.00\n",
-    "1,issue,4,2020-01-01,endowment,0,3,1000.00,400.00\n",
-    "1,issue,5,2020-01-01,endowment,0,3,1000.00,400.00\n",
-];
+const FIVE: &str = "1,issue,1,2020-01-01,endowment,0,3,1000.00,400.00\n\
+    1,issue,2,2020-01-01,endowment,0,3,1000.00,400.00\n\
+    1,issue,3,2020-01-01,endowment,0,3,1000.00,400.00\n\
+    1,issue,4,2020-01-01,endowment,0,3,1000.00,400.00\n\
+    1,issue,5,2020-01-01,endowment,0,3,1000.00,400.00\n";
 
-// A script, and what it writes with the two auditors of the program.
-#[derive(Drop)]
-struct Watched {
-    script: &'static [&'static str],
+// A script, the limit of an auditor who counts, where there is one, the command for which another one has no memory, where
+// there is one, and what is written.
+struct Audited {
+    script: &'static str,
+    limit: u32,
+    refused: u32,
+    status: u8,
     written: &'static str,
 }
 
-// They are told of what is accepted alone.
+const AUDITED: &[Audited] = &[
+    // An auditor that has no memory once: its command isn't posted, and the run goes on.
+    Audited {
+        script: THREE,
+        limit: 0,
+        refused: 2,
+        status: 9,
+        written: "1,issue,1,accepted,1\n1,issue,2,nomemory\n1,issue,3,accepted,2\nwatcher,1,2,2\n",
+    },
+    Audited {
+        script: TWO,
+        limit: 1,
+        refused: 9,
+        status: 0,
+        written: "1,issue,1,accepted,1\n1,issue,2,accepted,2\nwatcher,1,1,1\nwatcher,2,2,2\n",
+    },
+    // One that is done at the third.
+    Audited {
+        script: FIVE,
+        limit: 3,
+        refused: 0,
+        status: 0,
+        written: "1,issue,1,accepted,1\n1,issue,2,accepted,2\n1,issue,3,accepted,3\n1,issue,4,accepted,4\n\
+            1,issue,5,accepted,5\nwatcher,1,3,3\n",
+    },
+];
+
+fn auditors(
+    alloc: Global,
+    limit: u32,
+    refused: u32,
+) -> Result<Vec<Box<dyn Watcher + Send>>, AllocError>
+    ensures few { IfOk result (λ boxes. length boxes.items ≤ 16) }
+    ensures fresh { IfOk result (λ boxes. AllByRecursion (λ b. noted b ≡ []) boxes.items) }
+{
+    let mut boxes: Vec<Box<dyn Watcher + Send>> = Vec::new(alloc);
+    if limit > 0 {
+        boxes.push(Box::new(alloc, CountWatcher::new(alloc, limit))?)?;
+    }
+    if refused > 0 {
+        boxes.push(Box::new(alloc, TightWatcher::new(alloc, refused))?)?;
+    }
+    Ok(boxes)
+}
+
 #[test]
-fn the_auditors_of_the_program_report(rt: HostRuntime) -> Result<(), AllocError> {
+fn auditors_report_what_was_accepted(rt: HostRuntime) -> Result<(), AllocError> {
     let alloc = rt.alloc();
-    let cases = [
-        Watched {
-            script: &[],
-            written: "watcher,1,0,0\nwatcher,2,0,0\n",
-        },
-        Watched {
-            script: &[POLICY],
-            written: "1,issue,7001,accepted,1\nwatcher,1,1,1\nwatcher,2,1,0\n",
-        },
-        Watched {
-            script: &[POLICY, POLICY, PREMIUM, "1,claim,9,2020-01-01\n"],
-            written: "1,issue,7001,accepted,1\n1,issue,7001,refused,taken\n1,premium,7001,accepted,2\n\
-                1,claim,9,refused,unknown\nwatcher,1,2,2\nwatcher,2,2,40000\n",
-        },
-    ];
-    for case in cases.iter() {
-        let mut watchers: Vec<Box<dyn Watcher + Send>> = Vec::new(alloc);
-        watchers.push(Box::new(alloc, CountWatcher::new(alloc, 4_000_000))?)?;
-        watchers.push(Box::new(alloc, PremiumWatcher::new(alloc))?)?;
-        let ran = run_watched(&rt, alloc, &["run"], case.script, watchers)?;
-        assert!(rt; ran.status == 0 && ran.output.bytes() == case.written.as_bytes());
+    for (row, case) in AUDITED.iter().enumerate() {
+        let boxes = auditors(alloc, case.limit, case.refused)?;
+        let ran = run_watched(
+            &rt,
+            alloc,
+            &["run"],
+            case.script,
+            boxes,
+            disk_of(alloc, &[], &[])?,
+        )?;
+        assert!(rt; ran.wrote(case.status, case.written), "row {row}");
     }
     Ok(())
 }
 
-#[test]
-fn an_auditor_is_done_at_the_third(rt: HostRuntime) -> Result<(), AllocError> {
-    let alloc = rt.alloc();
+// An auditor that counts up to a limit, and says how often it was dropped. Each time that it is told of a command it notes
+// how often the other was.
+struct Guest {
+    count: CountWatcher,
+    drops: Arc<AtomicU32>,
+    other: Arc<AtomicU32>,
+    heard: Arc<AtomicU32>,
+}
+
+impl Drop for Guest {
+    fn drop(self) {
+        let Self {
+            count: _count,
+            drops,
+            other: _other,
+            heard: _heard,
+        } = self;
+        drops.fetch_add(1, Ordering::SeqCst);
+    }
+}
+
+impl Watcher for Guest {
+    ghost use Rattle.std.specs.Prelude.{◌==◌, ◌-◌, length, vec_len, vec_capacity};
+
+    ghost noted = { λ guest. guest.count.noted.items };
+
+    ghost last = { λ guest. guest.count.last.value };
+
+    ghost spare = { λ guest. vec_capacity guest.count.noted - vec_len guest.count.noted };
+
+    ghost stops = { λ guest list. length list == guest.count.limit };
+
+    ghost number = { λ _ list. length list };
+
+    fn ready(&mut self) -> Result<(), NoMemory> {
+        self.count.ready()
+    }
+
+    fn note(&mut self, position: u32, command: &Command) -> Attention {
+        let drops = self.other.load(Ordering::SeqCst);
+        self.heard.store(drops, Ordering::SeqCst);
+        self.count.note(position, command)
+    }
+
+    fn report(&self) -> Report {
+        self.count.report()
+    }
+}
+
+// How often each of two auditors was dropped, and how often the second found that the first was when it was last told of a
+// command: 7 where it was told of none.
+#[derive(Drop)]
+struct Visit {
+    first: Arc<AtomicU32>,
+    second: Arc<AtomicU32>,
+    heard: Arc<AtomicU32>,
+}
+
+impl Visit {
+    fn new(alloc: Global) -> Result<Visit, AllocError> {
+        Ok(Visit {
+            first: Arc::new(alloc, AtomicU32::new(0))?,
+            second: Arc::new(alloc, AtomicU32::new(0))?,
+            heard: Arc::new(alloc, AtomicU32::new(7))?,
+        })
+    }
+
+    fn told(&self) -> (u32, u32, u32) {
+        (
+            self.first.load(Ordering::SeqCst),
+            self.second.load(Ordering::SeqCst),
+            self.heard.load(Ordering::SeqCst),
+        )
+    }
+}
+
+// The words and the script of a run over a file, the limit of the first of two auditors, the status, and how often the second
+// heard that the first was dropped.
+struct Dropping {
+    words: &'static [&'static str],
+    script: &'static str,
+    file: &'static [u8],
+    limit: u32,
+    status: u8,
+    heard: u32,
+}
+
+const DROPPINGS: &[Dropping] = &[
+    Dropping {
+        words: &["run"],
+        script: TWO,
+        file: &[],
+        limit: 1,
+        status: 0,
+        heard: 1,
+    },
+    Dropping {
+        words: &["run"],
+        script: TWO,
+        file: &[],
+        limit: 9,
+        status: 0,
+        heard: 0,
+    },
+    Dropping {
+        words: &["run"],
+        script: TWO,
+        file: &[65; 18],
+        limit: 9,
+        status: 5,
+        heard: 7,
+    },
+    Dropping {
+        words: &["run"],
+        script: "1",
+        file: &[],
+        limit: 9,
+        status: 3,
+        heard: 7,
+    },
+    Dropping {
+        words: &["run", "now"],
+        script: TWO,
+        file: &[],
+        limit: 9,
+        status: 2,
+        heard: 7,
+    },
+    Dropping {
+        words: &["state"],
+        script: TWO,
+        file: &[],
+        limit: 9,
+        status: 0,
+        heard: 7,
+    },
+];
+
+// A run with two auditors, of whom the first counts up to the limit.
+fn run_visited<R: Threads + Wait + Sync>(
+    rt: &R,
+    alloc: Global,
+    case: &Dropping,
+    visit: &Visit,
+) -> Result<Finished, AllocError> {
+    let first = Guest {
+        count: CountWatcher::new(alloc, case.limit),
+        drops: visit.first.clone()?,
+        other: visit.second.clone()?,
+        heard: Arc::new(alloc, AtomicU32::new(0))?,
+    };
+    let second = Guest {
+        count: CountWatcher::new(alloc, 9),
+        drops: visit.second.clone()?,
+        other: visit.first.clone()?,
+        heard: visit.heard.clone()?,
+    };
     let mut watchers: Vec<Box<dyn Watcher + Send>> = Vec::new(alloc);
-    watchers.push(Box::new(alloc, CountWatcher::new(alloc, 3))?)?;
-    let ran = run_watched(&rt, alloc, &["run"], FIVE, watchers)?;
-    let written =
-        "1,issue,1,accepted,1\n1,issue,2,accepted,2\n1,issue,3,accepted,3\n1,issue,4,accepted,4\n\
-        1,issue,5,accepted,5\nwatcher,1,3,3\n";
-    assert!(rt; ran.status == 0 && ran.output.bytes() == written.as_bytes());
+    watchers.push(Box::new(alloc, first)?)?;
+    watchers.push(Box::new(alloc, second)?)?;
+    let disk = disk_of(alloc, case.file, &[])?;
+    run_watched(rt, alloc, case.words, case.script, watchers, disk)
+}
+
+// Each is dropped once: where it is done, at the end of a run, where the journal is refused, and where nothing is run.
+#[test]
+fn each_auditor_is_dropped_once(rt: HostRuntime) -> Result<(), AllocError> {
+    for (row, case) in DROPPINGS.iter().enumerate() {
+        let visit = Visit::new(rt.alloc())?;
+        let ran = run_visited(&rt, rt.alloc(), case, &visit)?;
+        assert!(rt; ran.status == case.status, "row {row}");
+        assert!(rt; visit.told() == (1, 1, case.heard), "row {row}");
+    }
     Ok(())
 }
 
@@ -116,25 +320,57 @@ impl Watcher for Called {
     }
 }
 
+// How often an auditor is called by these words.
+struct Calling {
+    words: &'static [&'static str],
+    script: &'static str,
+    calls: u32,
+}
+
+const CALLINGS: &[Calling] = &[
+    Calling {
+        words: &["run"],
+        script: "1,issue,7001,2020-01-01,endowment,0,3,1000.00,400.00\n1,issue,7001,2020-01-01,endowment,0,3,1000.00,400.00\n",
+        calls: 4,
+    },
+    Calling {
+        words: &["state"],
+        script: "",
+        calls: 0,
+    },
+    Calling {
+        words: &["run", "now"],
+        script: "1,issue,7001,2020-01-01,endowment,0,3,1000.00,400.00\n",
+        calls: 0,
+    },
+];
+
+// A run with an auditor whose calls are counted.
+fn run_counted<R: Threads + Wait + Sync>(
+    rt: &R,
+    alloc: Global,
+    case: &Calling,
+    calls: Arc<AtomicU32>,
+) -> Result<Finished, AllocError> {
+    let mut watchers: Vec<Box<dyn Watcher + Send>> = Vec::new(alloc);
+    let one = Called {
+        calls,
+        heard: Vec::new(alloc),
+        last: Snapshot::of(&0),
+    };
+    watchers.push(Box::new(alloc, one)?)?;
+    let disk = disk_of(alloc, &[], &[])?;
+    run_watched(rt, alloc, case.words, case.script, watchers, disk)
+}
+
 // A run calls an auditor three times for the one posting that is accepted, and for a refused one makes it ready alone.
 #[test]
 fn auditors_are_called_by_a_run_alone(rt: HostRuntime) -> Result<(), AllocError> {
     let alloc = rt.alloc();
-    for (words, script, expected) in [
-        (&["run"] as &[&str], &[POLICY, POLICY] as &[&str], 4),
-        (&["state"] as &[&str], &[] as &[&str], 0),
-        (&["run", "now"] as &[&str], &[POLICY] as &[&str], 0),
-    ] {
+    for (row, case) in CALLINGS.iter().enumerate() {
         let calls = Arc::new(alloc, AtomicU32::new(0))?;
-        let mut watchers: Vec<Box<dyn Watcher + Send>> = Vec::new(alloc);
-        let one = Called {
-            calls: calls.clone()?,
-            heard: Vec::new(alloc),
-            last: Snapshot::of(&0),
-        };
-        watchers.push(Box::new(alloc, one)?)?;
-        let _ = run_watched(&rt, alloc, words, script, watchers)?;
-        assert!(rt; calls.load(Ordering::SeqCst) == expected);
+        let _ = run_counted(&rt, alloc, case, calls.clone()?)?;
+        assert!(rt; calls.load(Ordering::SeqCst) == case.calls, "row {row}");
         assert!(rt; Arc::strong_count(&calls) == 1);
     }
     Ok(())

@@ -10,8 +10,6 @@ mod deficiency_reserve_tests;
 #[cfg(test)]
 mod mean_reserve_tests;
 #[cfg(test)]
-mod parallel_value_tests;
-#[cfg(test)]
 mod plan_benefits_tests;
 #[cfg(test)]
 mod policy_cache_tests;

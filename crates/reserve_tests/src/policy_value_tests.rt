@@ -1,4 +1,8 @@
-use basis_book::{Basis, LONGEST_FILE, read_basis};
+// Rows of a valuation: reserves, words and paid-up policies.
+ghost use Rattle.std.specs.Prelude.{IfOk};
+ghost use Rattle.basis_book.specs.Dated.{AreBounded};
+
+use basis_book::{Basis, BasisRows, LONGEST_FILE, read_basis};
 use indexmap::IndexMap;
 use policy_types::{Command, Plan, Policy, Status};
 use policy_value::{ColumnCache, Measure, NotValued, Row, Worth, row};
@@ -33,29 +37,40 @@ fn table(alloc: Global, first_age: u8, fourth: u32) -> Result<AnyTable, Fail> {
     Ok(AnyTable::Aggregate(table))
 }
 
-/// A basis with the tables `q.xml`, `high.xml`, in which the rate at age 3 is above one half, and `late.xml`,
-/// which begins at age 1.
-pub fn basis(alloc: Global, file: &[u8]) -> Result<Basis, Fail> {
+fn rows_of(alloc: Global, file: &[u8]) -> Result<BasisRows, Fail>
+    ensures { IfOk result AreBounded }
+{
     if file.len() > LONGEST_FILE {
         return Err("a short file".into());
     }
-    let Ok(rows) = read_basis(alloc, file) else {
-        return Err("rows".into());
-    };
+    match read_basis(alloc, file) {
+        Ok(rows) => Ok(rows),
+        Err(_) => Err("rows".into()),
+    }
+}
+
+fn tables(alloc: Global) -> Result<IndexMap<String, AnyTable>, Fail> {
     let mut tables = IndexMap::new(alloc);
-    tables.insert(
-        String::from_str(alloc, "q.xml")?,
-        table(alloc, 0, 500_000_000)?,
-    )?;
-    tables.insert(
-        String::from_str(alloc, "high.xml")?,
-        table(alloc, 0, 500_000_001)?,
-    )?;
-    tables.insert(
-        String::from_str(alloc, "late.xml")?,
-        table(alloc, 1, 500_000_000)?,
-    )?;
-    Basis::of(rows, tables).map_err(|_| "tables".into())
+    for (name, first_age, rate) in [
+        ("q.xml", 0, 500_000_000),
+        ("high.xml", 0, 500_000_001),
+        ("late.xml", 1, 500_000_000),
+    ] {
+        tables.insert(
+            String::from_str(alloc, name)?,
+            table(alloc, first_age, rate)?,
+        )?;
+    }
+    Ok(tables)
+}
+
+/// A basis with the tables `q.xml`, `high.xml`, in which the rate at age 3 is above one half, and `late.xml`,
+/// which begins at age 1.
+pub fn basis(alloc: Global, file: &[u8]) -> Result<Basis, Fail> {
+    match Basis::of(rows_of(alloc, file)?, tables(alloc)?) {
+        Ok(basis) => Ok(basis),
+        Err(_) => Err("tables".into()),
+    }
 }
 
 /// A policy of 1000.00 in force.

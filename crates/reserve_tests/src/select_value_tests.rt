@@ -1,11 +1,12 @@
 // Rows by select and ultimate tables, with the reserves reckoned as fractions.
 
 ghost use Rattle.std.specs.Prelude.{◌≡◌, ◌∷◌, [], IfOk};
+ghost use Rattle.basis_book.specs.Dated.{AreBounded};
 ghost use Rattle.select_rates.specs.Worked.{late_q, selected_q, table_q};
 ghost use Rattle.policy_value.specs.Caches.{IsRightFor};
 
 use crate::policy_value_tests::{DAY_BEFORE, ONE_YEAR, THREE_YEARS, TWO_YEARS, policy};
-use basis_book::{Basis, LONGEST_FILE, read_basis};
+use basis_book::{Basis, BasisRows, LONGEST_FILE, read_basis};
 use indexmap::IndexMap;
 use policy_types::{Command, Plan, Policy, Status};
 use policy_value::{ColumnCache, Measure, NotValued, Row, Worth, row};
@@ -68,20 +69,33 @@ fn late(alloc: Global) -> Result<AnyTable, Fail> {
     Ok(AnyTable::Select(table))
 }
 
-/// A basis with both select tables, and the ultimate one.
-pub fn basis(alloc: Global, file: &[u8]) -> Result<Basis, Fail> {
+fn rows_of(alloc: Global, file: &[u8]) -> Result<BasisRows, Fail>
+    ensures { IfOk result AreBounded }
+{
     if file.len() > LONGEST_FILE {
         return Err("a short file".into());
     }
-    let Ok(rows) = read_basis(alloc, file) else {
-        return Err("rows".into());
-    };
+    match read_basis(alloc, file) {
+        Ok(rows) => Ok(rows),
+        Err(_) => Err("rows".into()),
+    }
+}
+
+fn tables(alloc: Global) -> Result<IndexMap<String, AnyTable>, Fail> {
     let mut tables = IndexMap::new(alloc);
     tables.insert(String::from_str(alloc, "early.xml")?, early(alloc)?)?;
     tables.insert(String::from_str(alloc, "late.xml")?, late(alloc)?)?;
     let ultimate = AnyTable::Aggregate(ultimate(alloc)?);
     tables.insert(String::from_str(alloc, "ultimate.xml")?, ultimate)?;
-    Basis::of(rows, tables).map_err(|_| "tables".into())
+    Ok(tables)
+}
+
+/// A basis with both select tables, and the ultimate one.
+pub fn basis(alloc: Global, file: &[u8]) -> Result<Basis, Fail> {
+    match Basis::of(rows_of(alloc, file)?, tables(alloc)?) {
+        Ok(basis) => Ok(basis),
+        Err(_) => Err("tables".into()),
+    }
 }
 
 /// The row of a policy by a basis and a cache that serves others too.

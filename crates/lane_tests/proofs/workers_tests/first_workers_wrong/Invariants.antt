@@ -1,5 +1,0 @@
-use Rattle.std.proofs.Common.{◌≡◌}
-use Rattle.lane_tests.proofs.workers_tests.first_workers_wrong.Given as goal
-
-abbrev pub invariant-loop-workers : goal.invariant-loop-workers
-invariant-loop-workers g l = (l.pass.turnstile ≡ l.fn.pass.turnstile) × (l.pass.shares ≡ l.fn.pass.shares)

@@ -1,0 +1,223 @@
+ghost use Rattle.std.specs.Prelude.{◌≡◌, ◌≤◌, ◌*◌, ⊤, length};
+
+use parallel_value::{NoMemory, Piece, map_in, map_into, map_onto};
+use std::alloc::Global;
+use std::sync::atomic::{AtomicU32, Ordering};
+use std::test::Fail;
+use std::thread::{Threads, yield_now};
+
+/// The items of a part, which a worker takes at once.
+const ITEMS_IN_PART: u32 = 512;
+
+/// How often a worker looks before it gives up.
+const LOOKS: u32 = 20_000_000;
+
+// A worker that squares, and counts how many items it went through.
+#[derive(Clone, Copy, PartialEq, Eq, Debug)]
+struct Squares {
+    done: u64,
+}
+
+impl Piece<u32, u64> for Squares {
+    ghost takes = { λ piece item. ⊤ };
+
+    ghost gives = { λ piece item value. value ≡ item * item };
+
+    fn one(&mut self, item: &u32) -> u64 {
+        self.done = self.done.saturating_add(1);
+        u64::from(*item) * u64::from(*item)
+    }
+}
+
+// A worker that squares, and at its first item waits until all workers together have begun so many items. It doesn't wait
+// for ever: where it looked too often, it counts a miss and goes on.
+#[derive(Clone, Copy)]
+struct Held<'a> {
+    until: u32,
+    begun: &'a AtomicU32,
+    missed: &'a AtomicU32,
+}
+
+impl Piece<u32, u64> for Held<'_> {
+    ghost takes = { λ piece item. ⊤ };
+
+    ghost gives = { λ piece item value. value ≡ item * item };
+
+    fn one(&mut self, item: &u32) -> u64 {
+        self.begun.fetch_add(1, Ordering::SeqCst);
+        if self.until > 0 {
+            look_for(self.begun, self.until, self.missed);
+            self.until = 0;
+        }
+        u64::from(*item) * u64::from(*item)
+    }
+}
+
+// Looks until the number is at least this one, and counts a miss where it doesn't come.
+fn look_for(number: &AtomicU32, least: u32, missed: &AtomicU32) {
+    for _ in 0..LOOKS {
+        if number.load(Ordering::SeqCst) >= least {
+            return;
+        }
+        yield_now();
+    }
+    missed.fetch_add(1, Ordering::SeqCst);
+}
+
+fn all_squared<R: Threads + Sync>(
+    rt: &R,
+    alloc: Global,
+    pieces: &mut [Squares],
+    items: &[u32],
+) -> Result<Vec<u64>, NoMemory>
+    requires { (1 ≤ length pieces.old) × (length pieces.old ≤ 64) }
+{
+    map_in(rt, alloc, pieces, items)
+}
+
+fn fill_squared<R: Threads + Sync>(
+    rt: &R,
+    pieces: &mut [Squares],
+    items: &[u32],
+    values: &mut [u64],
+)
+    requires workers { (1 ≤ length pieces.old) × (length pieces.old ≤ 64) }
+    requires places { length values.old ≡ length items.now }
+{
+    map_into(rt, pieces, items, values);
+}
+
+fn add_squared<R: Threads + Sync>(
+    rt: &R,
+    alloc: Global,
+    pieces: &mut [Squares],
+    items: &[u32],
+    values: &mut Vec<u64>,
+) -> Result<(), NoMemory>
+    requires { (1 ≤ length pieces.old) × (length pieces.old ≤ 64) }
+{
+    map_onto(rt, alloc, pieces, items, values)
+}
+
+fn add_held<R: Threads + Sync>(
+    rt: &R,
+    alloc: Global,
+    pieces: &mut [Held<'_>],
+    items: &[u32],
+    values: &mut Vec<u64>,
+) -> Result<(), NoMemory>
+    requires { (1 ≤ length pieces.old) × (length pieces.old ≤ 64) }
+{
+    map_onto(rt, alloc, pieces, items, values)
+}
+
+// The squares by workers, each of which waits at its first item until so many are begun.
+fn squared_by_held<R: Threads + Sync>(
+    rt: &R,
+    alloc: Global,
+    until: &[u32],
+    items: &[u32],
+    missed: &AtomicU32,
+) -> Result<Vec<u64>, NoMemory>
+    requires { (1 ≤ length until.now) × (length until.now ≤ 64) }
+{
+    let begun = AtomicU32::new(0);
+    let mut pieces = [Held {
+        until: 0,
+        begun: &begun,
+        missed,
+    }; 64];
+    for (piece, until) in pieces.iter_mut().zip(until) {
+        piece.until = *until;
+    }
+    let mut values: Vec<u64> = Vec::new(alloc);
+    add_held(rt, alloc, &mut pieces[..until.len()], items, &mut values)?;
+    Ok(values)
+}
+
+// So many items: 0, 1, 2 and so on.
+fn numbers(alloc: Global, many: u32) -> Result<Vec<u32>, Fail> {
+    let mut items: Vec<u32> = Vec::new(alloc);
+    for item in 0..many {
+        items.push(item)?;
+    }
+    Ok(items)
+}
+
+// Three workers, by each of the three calls; what stood in a place or in front of it.
+#[test]
+fn the_squares_stand_in_order(rt: HostRuntime) -> Result<(), Fail> {
+    let alloc = rt.alloc();
+    let items = numbers(alloc, 1_025)?;
+    let mut pieces = [Squares { done: 0 }; 3];
+    let made = all_squared(&rt, alloc, &mut pieces, &items);
+    assert!(rt; made.is_ok_and(|values| are_squares(values.as_slice())));
+    let mut filled: Vec<u64> = Vec::new(alloc);
+    filled.resize(items.len(), 7)?;
+    fill_squared(&rt, &mut pieces, &items, filled.as_mut_slice());
+    assert!(rt; are_squares(filled.as_slice()));
+    let mut added: Vec<u64> = Vec::new(alloc);
+    added.push(7)?;
+    assert_eq!(rt;
+        add_squared(&rt, alloc, &mut pieces, &items, &mut added),
+        Ok(())
+    );
+    let Some((first, rest)) = added.as_slice().split_first() else {
+        return Err("values".into());
+    };
+    assert!(rt; *first == 7 && are_squares(rest));
+    Ok(())
+}
+
+// Whether these are the squares of 0 to 1,024.
+fn are_squares(values: &[u64]) -> bool {
+    for (value, item) in values.iter().zip(0_u64..1_025) {
+        if *value != item.wrapping_mul(item) {
+            return false;
+        }
+    }
+    values.len() == 1_025
+}
+
+// Each waits at its first item until all are at theirs.
+#[test]
+fn all_workers_are_at_work_at_the_same_time(rt: HostRuntime) -> Result<(), Fail> {
+    let alloc = rt.alloc();
+    for workers in [2_u32, 3, 8] {
+        let items = numbers(alloc, workers.wrapping_mul(ITEMS_IN_PART))?;
+        let until = [workers; 8];
+        let until = &until[..(workers as usize).clamp(1, 8)];
+        let missed = AtomicU32::new(0);
+        let squared = squared_by_held(&rt, alloc, until, items.as_slice(), &missed);
+        let values = squared.expect(&rt, "there is memory");
+        assert_eq!(rt; missed.load(Ordering::SeqCst), 0, "{workers} workers");
+        assert_eq!(rt; values.len(), items.len(), "{workers} workers");
+        for (value, item) in values.iter().zip(0_u64..4_096) {
+            assert_eq!(rt; *value, item.wrapping_mul(item), "{workers} workers");
+        }
+    }
+    Ok(())
+}
+
+// It waits at its first item until the others have begun all items but those of the part that it is at.
+#[test]
+fn a_worker_that_is_held_up_leaves_the_other_parts_to_the_others(
+    rt: HostRuntime,
+) -> Result<(), Fail> {
+    let alloc = rt.alloc();
+    let items = numbers(alloc, 5_120)?;
+    for (workers, held) in [(2_usize, 0_usize), (2, 1), (3, 0), (3, 1), (3, 2), (8, 5)] {
+        let mut until = [0_u32; 8];
+        until[held.min(7)] = 4_609;
+        let until = &until[..workers.clamp(1, 8)];
+        let missed = AtomicU32::new(0);
+        let squared = squared_by_held(&rt, alloc, until, items.as_slice(), &missed);
+        let values = squared.expect(&rt, "there is memory");
+        assert_eq!(rt; missed.load(Ordering::SeqCst), 0, "{held} of {workers}");
+        assert_eq!(rt; values.len(), items.len(), "{held} of {workers}");
+        for (value, item) in values.iter().zip(0_u64..5_120) {
+            assert_eq!(rt; *value, item.wrapping_mul(item), "{held} of {workers}");
+        }
+    }
+    Ok(())
+}
