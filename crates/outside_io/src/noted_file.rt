@@ -28,6 +28,7 @@ pub(crate) struct NotedFile<R: Files<File = File> + AllocGlobal> {
 impl<R: Files<File = File> + AllocGlobal> NotedFile<R> {
     // Touches nothing.
     pub(crate) fn at(files: R, name: &'static str) -> NotedFile<R>
+        ensures name { result.name.now ≡ name.now }
         ensures faults { result.faults ≡ 0 }
         ensures calls { result.calls ≡ [] }
     {
@@ -42,6 +43,7 @@ impl<R: Files<File = File> + AllocGlobal> NotedFile<R> {
 
     pub(crate) fn len(&mut self) -> Result<u64, Failed>
         ensures cause { HasDiskCause self.old.faults self.new.faults result }
+        ensures name { self.new.name.now ≡ self.old.name.now }
         ensures noted { self.new.calls ≡ Measured (result_ok result) ∷ self.old.calls }
     {
         // The length that the system tells of the open file, asked for once; or that it told none.
@@ -54,6 +56,7 @@ impl<R: Files<File = File> + AllocGlobal> NotedFile<R> {
 
     pub(crate) fn read(&mut self, at: u64, buf: &mut [u8]) -> Result<(), Failed>
         ensures cause { HasDiskCause self.old.faults self.new.faults result }
+        ensures name { self.new.name.now ≡ self.old.name.now }
         ensures noted { self.new.calls
             ≡ ReadFrom at (length buf.old) (if is_ok result then Some buf.new else None) ∷ self.old.calls }
     {
@@ -67,6 +70,7 @@ impl<R: Files<File = File> + AllocGlobal> NotedFile<R> {
 
     pub(crate) fn write(&mut self, at: u64, bytes: &[u8]) -> Result<(), Failed>
         ensures cause { HasDiskCause self.old.faults self.new.faults result }
+        ensures name { self.new.name.now ≡ self.old.name.now }
         ensures noted { self.new.calls ≡ WrittenTo at bytes.now (is_ok result) ∷ self.old.calls }
     {
         // Success says that the system took all the bytes at that place; of a failure some may have gone there.
@@ -79,6 +83,7 @@ impl<R: Files<File = File> + AllocGlobal> NotedFile<R> {
 
     pub(crate) fn sync(&mut self) -> Result<(), Failed>
         ensures cause { HasDiskCause self.old.faults self.new.faults result }
+        ensures name { self.new.name.now ≡ self.old.name.now }
         ensures noted { self.new.calls ≡ Synced (is_ok result) ∷ self.old.calls }
     {
         // Success says that the system made safe what was written; after a failure nothing may be safe any more.
