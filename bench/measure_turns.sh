@@ -1,7 +1,6 @@
 #!/bin/sh
 # Measures the lock: turns a second of 1, 2, 4, 8 and 32 callers on a counter, beside a plain lock of the same make and
-# beside a `Mutex` (plain_turns.rs), in turn over several rounds; the processor time of eight callers of which one works
-# while the others wait; and postings a second through the shared office, with 1, 2, 4 and 8 callers on a real file, beside
+# beside a `Mutex` (plain_turns.rs), in turn over several rounds; and postings a second through the shared office, with 1, 2, 4 and 8 callers on a real file, beside
 # a plain loop that makes the same writes and syncs (plain_journal.rs), and with up to 32 on a disk in memory whose sync
 # sleeps. Of each posting it also tells the processor time and the switches between threads, which hold on a machine that
 # does other work too: there postings a second say little, but for their ratio on the disk that sleeps.
@@ -74,12 +73,6 @@ def measure_turns():
         print("%2d callers: %s" % (callers, "; ".join("%s %.0f ns a turn, %.0f turns a second" % (name, nanos, 1e9 / nanos)
               for name, nanos in middle.items())))
 
-def measure_waiting():
-    for seconds in (0, 1, 2):
-        ran = run([program, "waiting", str(seconds)])
-        need(ran.line == "waiting,8,8", "waiting printed " + ran.line)
-        print("eight callers of which one works %d s: %.3f s, of which %.3f s of processor time" % (seconds, ran.seconds, ran.used))
-
 def posted(words, line):
     for name in ("journal.life", "plain.life"):
         if os.path.exists(name):
@@ -113,7 +106,6 @@ folder = tempfile.mkdtemp(prefix="measure_turns.", dir=parent)
 here = os.getcwd()
 os.chdir(folder)
 measure_turns()
-measure_waiting()
 loop = [("plain loop", [plain + "/plain_journal", str(postings)], "")] if plain else []
 measure_postings("postings on a real file", ways_of("postings", (1, 2, 4, 8)) + loop)
 measure_postings("postings on a disk in memory whose sync sleeps", ways_of("sleeping", (1, 2, 4, 8, 32)))
