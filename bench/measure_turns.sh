@@ -1,9 +1,10 @@
 #!/bin/sh
 # Measures the lock: turns a second of 1, 2, 4, 8 and 32 callers on a counter, beside a plain lock of the same make and
-# beside a `Mutex` (plain_turns.rs), in turn over several rounds; and postings a second through the shared office, with 1, 2, 4 and 8 callers on a real file, beside
-# a plain loop that makes the same writes and syncs (plain_journal.rs), and with up to 32 on a disk in memory whose sync
-# sleeps. Of each posting it also tells the processor time and the switches between threads, which hold on a machine that
-# does other work too: there postings a second say little, but for their ratio on the disk that sleeps.
+# beside a `Mutex` (plain_turns.rs), in turn over several rounds; and postings a second through the shared office, with
+# 1, 2, 4 and 8 callers on a real file, beside a plain loop that makes the same writes and syncs (plain_journal.rs), and
+# with up to 32 on a disk in memory whose sync sleeps. Of each posting it also tells the processor time and the switches
+# between threads, which hold on a machine that does other work too: there postings a second say little, but for their
+# ratio on the disk that sleeps.
 # A time of turns is that of a whole run of the program less that of a run of no turns.
 # usage: sh bench/measure_turns.sh [FOLDER [ROUNDS [TURNS [POSTINGS]]]]
 # In place of what isn't given: the current folder, 5 rounds, 1000000 turns of all callers (four times as many of one
