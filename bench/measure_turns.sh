@@ -1,10 +1,10 @@
 #!/bin/sh
 # Measures the lock: turns a second of 1, 2, 4, 8 and 32 callers on a counter, beside a plain lock of the same make and
-# beside a `Mutex` (plain_turns.rs), in turn over several rounds; the processor time of eight callers of which one works
-# while the others wait; and postings a second through the shared office, with 1, 2, 4 and 8 callers on a real file, beside
-# a plain loop that makes the same writes and syncs (plain_journal.rs), and with up to 32 on a disk in memory whose sync
-# sleeps. Of each posting it also tells the processor time and the switches between threads, which hold on a machine that
-# does other work too: there postings a second say little, but for their ratio on the disk that sleeps.
+# beside a `Mutex` (plain_turns.rs), in turn over several rounds; and postings a second through the shared office, with
+# 1, 2, 4 and 8 callers on a real file, beside a plain loop that makes the same writes and syncs (plain_journal.rs), and
+# with up to 32 on a disk in memory whose sync sleeps. Of each posting it also tells the processor time and the switches
+# between threads, which hold on a machine that does other work too: there postings a second say little, but for their
+# ratio on the disk that sleeps.
 # A time of turns is that of a whole run of the program less that of a run of no turns.
 # usage: sh bench/measure_turns.sh [FOLDER [ROUNDS [TURNS [POSTINGS]]]]
 # In place of what isn't given: the current folder, 5 rounds, 1000000 turns of all callers (four times as many of one
@@ -74,12 +74,6 @@ def measure_turns():
         print("%2d callers: %s" % (callers, "; ".join("%s %.0f ns a turn, %.0f turns a second" % (name, nanos, 1e9 / nanos)
               for name, nanos in middle.items())))
 
-def measure_waiting():
-    for seconds in (0, 1, 2):
-        ran = run([program, "waiting", str(seconds)])
-        need(ran.line == "waiting,8,8", "waiting printed " + ran.line)
-        print("eight callers of which one works %d s: %.3f s, of which %.3f s of processor time" % (seconds, ran.seconds, ran.used))
-
 def posted(words, line):
     for name in ("journal.life", "plain.life"):
         if os.path.exists(name):
@@ -113,7 +107,6 @@ folder = tempfile.mkdtemp(prefix="measure_turns.", dir=parent)
 here = os.getcwd()
 os.chdir(folder)
 measure_turns()
-measure_waiting()
 loop = [("plain loop", [plain + "/plain_journal", str(postings)], "")] if plain else []
 measure_postings("postings on a real file", ways_of("postings", (1, 2, 4, 8)) + loop)
 measure_postings("postings on a disk in memory whose sync sleeps", ways_of("sleeping", (1, 2, 4, 8, 32)))

@@ -34,7 +34,6 @@ prints projections,1000,0,33280649834,33280649923 projections 1 1000 40
 begin "turns"
 prints turns,1,1000 turns 1 1000
 prints turns,32,3200 turns 32 100
-prints waiting,8,8 waiting 0
 prints sleeping,8,80 sleeping 8 80
 leaves_none
 prints postings,8,80 postings 8 80

@@ -9,8 +9,6 @@
 //!   most 131, and prints the sums of all bounds in cents: `projections,POLICIES,UNVALUED,LOWER,UPPER`.
 //! - `turns CALLERS TURNS` has so many callers, 1 to 32, take so many turns each on a counter, and prints the count at the
 //!   end: `turns,CALLERS,COUNT`.
-//! - `waiting SECONDS` has eight callers take one turn each, of which the first works for so long while the others wait,
-//!   and prints `waiting,8,COUNT`.
 //! - `postings CALLERS COUNT` has so many callers issue COUNT policies in all, each as many (a rest is left out), at the
 //!   office of `journal.life` in the folder where it runs, and prints `postings,CALLERS,ACCEPTED`.
 //! - `sleeping CALLERS COUNT` does the same on a disk in memory whose sync sleeps 50 microseconds.
@@ -30,7 +28,6 @@ mod sleeping_disk;
 mod tables;
 mod turns;
 mod versions;
-mod waiting;
 mod words;
 
 use outside_io::{AnyFile, FileDisk};
@@ -40,7 +37,7 @@ use sleeping_disk::SleepingDisk;
 use std::process::ExitCode;
 use std::{env, io};
 use tables::measure_tables;
-use turns::{measure_postings, measure_turns, measure_waiting};
+use turns::{measure_postings, measure_turns};
 use versions::measure_versions;
 use words::Outcome;
 
@@ -56,7 +53,6 @@ fn main(rt: HostRuntime) -> io::Result<ExitCode> {
         "reserves" => measure_reserves(&rt, &mut words)?,
         "projections" => measure_projections(&rt, &mut words)?,
         "turns" => measure_turns(&rt, &mut words)?,
-        "waiting" => measure_waiting(&rt, &mut words)?,
         "versions" => measure_versions(&rt, &mut words)?,
         "postings" => {
             let disk = FileDisk::at(rt, "journal.life", AnyFile);

@@ -1,19 +1,13 @@
 // Turns of several callers, on a counter and at an office.
 use crate::counter::{Ticks, count_turns};
 use crate::issues::{MOST_ISSUES, post_issues};
-use crate::waiting::Waiting;
 use crate::words::{Outcome, callers_in, number_in};
 use outside_io::Disk;
 use std::env::Args;
 use std::io;
-use std::rt::Clock;
-use std::sync::atomic::AtomicBool;
 use std::sync::{Barrier, Wait};
 use std::thread::Threads;
 use watcher_set::NoWatchers;
-
-/// How many callers wait, with the one that works.
-const WAITING: u32 = 8;
 
 /// Callers take turns on a counter.
 pub fn measure_turns<R: Threads + Wait + Sync + Print + AllocGlobal>(
@@ -32,26 +26,6 @@ pub fn measure_turns<R: Threads + Wait + Sync + Print + AllocGlobal>(
         return Ok(Outcome::NoMemory);
     };
     println!(rt; "turns,{callers},{count}")?;
-    Ok(Outcome::Measured)
-}
-
-/// Callers wait while one works.
-pub fn measure_waiting<R: Threads + Wait + Clock + Sync + Print + AllocGlobal>(
-    rt: &R,
-    words: &mut Args,
-) -> io::Result<Outcome> {
-    let Some(seconds) = number_in(words) else {
-        return Ok(Outcome::OtherWords);
-    };
-    let begun = AtomicBool::new(false);
-    let waiting = Waiting {
-        seconds,
-        begun: &begun,
-    };
-    let Ok(count) = count_turns(rt, rt.alloc(), &waiting, WAITING) else {
-        return Ok(Outcome::NoMemory);
-    };
-    println!(rt; "waiting,{WAITING},{count}")?;
     Ok(Outcome::Measured)
 }
 

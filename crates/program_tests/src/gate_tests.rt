@@ -63,6 +63,9 @@ const EIGHT: &str = "1,issue,1,2020-01-01,endowment,0,3,1000.00,400.00\n\
     7,issue,7,2020-01-01,endowment,0,3,1000.00,400.00\n\
     8,issue,8,2020-01-01,endowment,0,3,1000.00,400.00\n";
 
+// The bytes of `1,issue,1,accepted,1` and its end.
+const LINE: usize = 21;
+
 // The number of the lane whose line ends so.
 fn lane_at(text: &[u8], position: u8) -> u8 {
     for line in text.split(|byte| *byte == b'\n') {
@@ -104,9 +107,9 @@ fn eight_lanes_at_once(rt: HostRuntime) -> Result<(), AllocError> {
     let ran = run_gated(&rt, alloc, EIGHT, disk_of(alloc, &[], &[])?, &gate)?;
     let text = ran.output.bytes();
     assert!(rt; ran.status == 0 && ran.disk.bytes().len() == 18 + 8 * 65);
-    assert!(rt; text.len() == 8 * "1,issue,1,accepted,1\n".len());
+    assert!(rt; text.len() == 8 * LINE);
     for lane in b"12345678" {
-        assert!(rt; lines_of(alloc, text, *lane)?.len() == "1,issue,1,accepted,1\n".len());
+        assert!(rt; lines_of(alloc, text, *lane)?.len() == LINE);
     }
     for position in b"12345678" {
         assert!(rt; lane_at(text, *position) != 0);

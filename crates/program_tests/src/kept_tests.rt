@@ -212,11 +212,11 @@ fn each_failing_call_of_either_disk_is_answered(rt: HostRuntime) -> Result<(), A
                 let first = call <= u64::from(firsts);
                 let second = call <= u64::from(seconds);
                 assert!(rt;
-                    fails(&rt, alloc, word, journal.bytes(), kept, (call, 0), first)?,
+                    is_answered(&rt, alloc, word, journal.bytes(), kept, (call, 0), first)?,
                     "{word}, call {call}"
                 );
                 assert!(rt;
-                    fails(&rt, alloc, word, journal.bytes(), kept, (0, call), second)?,
+                    is_answered(&rt, alloc, word, journal.bytes(), kept, (0, call), second)?,
                     "{word}, call {call}"
                 );
             }
@@ -226,7 +226,7 @@ fn each_failing_call_of_either_disk_is_answered(rt: HostRuntime) -> Result<(), A
 }
 
 // Whether with these failing calls of the two disks it fails or doesn't, and leaves what it may.
-fn fails<R: Threads + Wait + Sync>(
+fn is_answered<R: Threads + Wait + Sync>(
     rt: &R,
     alloc: Global,
     word: &str,

@@ -1,7 +1,6 @@
 // Runs with auditors: what they report behind the transcript, and when they are called and dropped. Texts are written by hand
 // from the formats.
-ghost use Rattle.std.specs.Prelude.{◌≡◌, ◌≤◌, [], IfOk, length, vec_len};
-ghost use Rattle.std.specs.List.{AllByRecursion};
+ghost use Rattle.std.specs.Prelude.{◌≤◌, vec_len};
 
 use crate::devices::{Finished, disk_of, run_watched};
 use policy_types::{Attention, Command, NoMemory, Report, Watcher};
@@ -62,37 +61,35 @@ const AUDITED: &[Audited] = &[
     },
 ];
 
-fn auditors(
+// A run with the auditors of a case, of whom the one that counts is the first.
+fn run_audited<R: Threads + Wait + Sync>(
+    rt: &R,
     alloc: Global,
-    limit: u32,
-    refused: u32,
-) -> Result<Vec<Box<dyn Watcher + Send>>, AllocError>
-    ensures few { IfOk result (λ boxes. length boxes.items ≤ 16) }
-    ensures fresh { IfOk result (λ boxes. AllByRecursion (λ b. noted b ≡ []) boxes.items) }
-{
+    case: &Audited,
+) -> Result<Finished, AllocError> {
+    let disk = disk_of(alloc, &[], &[])?;
     let mut boxes: Vec<Box<dyn Watcher + Send>> = Vec::new(alloc);
-    if limit > 0 {
-        boxes.push(Box::new(alloc, CountWatcher::new(alloc, limit))?)?;
+    match (case.limit, case.refused) {
+        (0, refused) => {
+            boxes.push(Box::new(alloc, TightWatcher::new(alloc, refused))?)?;
+            run_watched(rt, alloc, &["run"], case.script, boxes, disk)
+        }
+        (limit, 0) => {
+            boxes.push(Box::new(alloc, CountWatcher::new(alloc, limit))?)?;
+            run_watched(rt, alloc, &["run"], case.script, boxes, disk)
+        }
+        (limit, refused) => {
+            boxes.push(Box::new(alloc, CountWatcher::new(alloc, limit))?)?;
+            boxes.push(Box::new(alloc, TightWatcher::new(alloc, refused))?)?;
+            run_watched(rt, alloc, &["run"], case.script, boxes, disk)
+        }
     }
-    if refused > 0 {
-        boxes.push(Box::new(alloc, TightWatcher::new(alloc, refused))?)?;
-    }
-    Ok(boxes)
 }
 
 #[test]
 fn auditors_report_what_was_accepted(rt: HostRuntime) -> Result<(), AllocError> {
-    let alloc = rt.alloc();
     for (row, case) in AUDITED.iter().enumerate() {
-        let boxes = auditors(alloc, case.limit, case.refused)?;
-        let ran = run_watched(
-            &rt,
-            alloc,
-            &["run"],
-            case.script,
-            boxes,
-            disk_of(alloc, &[], &[])?,
-        )?;
+        let ran = run_audited(&rt, rt.alloc(), case)?;
         assert!(rt; ran.wrote(case.status, case.written), "row {row}");
     }
     Ok(())
