@@ -9,7 +9,7 @@ use Rattle.outside_io.specs.declared.failures.ReadAllFault.TheVariants as cause
 
 -- Of a source between two moments, by what it tells: its count of faults, what it has left, what it gave, and whether a
 -- read of it saw the end.
-pub record ReadsAll {S : Type 0} (faults : S → ℕ) (left : S → Option (List ℕ)) (given : S → List ℕ) (Ended : S → Type 0)
+pub record ReadsSource {S : Type 0} (faults : S → ℕ) (left : S → Option (List ℕ)) (given : S → List ℕ) (Ended : S → Type 0)
     (limit : ℕ) (old new : S) (result : Result (Vec ℕ Global) ReadAllFault) : Type 0 where
   -- at success the bytes are those that were given by it, up to the end, and at most the limit
   pub all_given : IfOk result (λ bytes. given new ≡ given old ++ bytes.items)

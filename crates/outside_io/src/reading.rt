@@ -2,7 +2,7 @@
 ghost use Rattle.std.specs.Prelude.{◌≡◌, ◌⊎◌, ℕ, ◌+◌, ◌<◌, ◌≤◌, Option, Some, List, [], length, IfOk, OnOk, IfErr, OnErr};
 ghost use Rattle.std.specs.Io.KnownBytes.{ReadConsumes};
 ghost use Rattle.outside_io.specs.Faults.{Rose, HasCause};
-ghost use Rattle.outside_io.specs.Reading.{ReadsAll};
+ghost use Rattle.outside_io.specs.Reading.{ReadsSource};
 ghost use Rattle.outside_io.specs.Streams.{StillTells, ReadGives, SeesEnd};
 ghost use Rattle.outside_io.specs.declared.failures.ReadAllFault.TheVariants.{ReadFault};
 
@@ -54,7 +54,7 @@ pub fn read_all<S: Source>(
     source: &mut S,
     limit: u32,
 ) -> Result<Vec<u8>, ReadAllFault>
-    ensures reads { ReadsAll S.faults S.left S.given S.ended limit source.old source.new result }
+    ensures reads { ReadsSource S.faults S.left S.given S.ended limit source.old source.new result }
 {
     read_all_from::<S, Brand>(alloc, source, limit, Blank::new(1))
 }
@@ -69,7 +69,7 @@ fn read_all_from<S: Source, L: Ledger>(
     requires name { blank.name ≡ L.name }
     requires parts { blank.parts ≡ L.parts }
     requires some { 0 < L.parts }
-    ensures reads { ReadsAll S.faults S.left S.given S.ended limit source.old source.new result }
+    ensures reads { ReadsSource S.faults S.left S.given S.ended limit source.old source.new result }
 {
     let mut steps: Steps<L> = Steps::open(blank);
     read_all_counted(alloc, source, limit, &mut steps)
@@ -83,7 +83,7 @@ pub fn read_all_counted<S: Source, L: Ledger>(
     limit: u32,
     steps: &mut Steps<L>,
 ) -> Result<Vec<u8>, ReadAllFault>
-    ensures reads { ReadsAll S.faults S.left S.given S.ended limit source.old source.new result }
+    ensures reads { ReadsSource S.faults S.left S.given S.ended limit source.old source.new result }
     ensures turns { steps.new ≤ steps.old + (limit + 1) }
 {
     let room = limit as usize;
