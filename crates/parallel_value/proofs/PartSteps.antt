@@ -4,7 +4,7 @@ use Rattle.std.proofs.lemmas.List.{append_assoc, length-take, take_min}
 use Rattle.std.proofs.lemmas.List.Elements.{All-from_recursion}
 use Rattle.std.proofs.Math.Seq.{take-add}
 use Rattle.std.specs.List.{AllByRecursion, AllZip, IsAmong}
-use Rattle.parallel_value.specs.Pieces.{AddsBehind, AreBoth, AreValues, IsAsBefore, MayGive, TakeAll}
+use Rattle.parallel_value.specs.Pieces.{AddsBehind, AreBoth, AreValues, IsAsBefore, MayGive, StandBehind, TakeAll}
 use Rattle.parallel_value.specs.declared.piece.NoMemory.{NoMemory}
 use Rattle.parallel_value.specs.declared.sharing.Made.{Made}
 use Rattle.parallel_value.specs.inside.Parts.{AreMadeParts, IsMadePart, IsOneOf}
@@ -40,6 +40,13 @@ take_part xs part first is =
     let long : length part ≡ min 512 (length rest) = ap (λ l. length l) is ∙ length-take 512 rest in
     take-add first (length part) xs
     ∙ ap (λ l. take first xs ++ l) (ap (λ n. take n rest) long ∙ take_min 512 rest ∙ sym is)
+
+-- what stands behind what stands behind the first
+pub stand_more : {O : Type 0} (old ys zs : List O) → StandBehind old ys → StandBehind ys zs → StandBehind old zs
+stand_more old ys zs first last = (
+  first.0 ++ last.0,
+  last.1 ∙ ap (λ l. l ++ last.0) first.1 ∙ append_assoc old first.0 last.0,
+)
 
 module _ {I O : Type 0} (Gives : I → O → Type 0) where
   pub adds_none : (items : List I) (old : List O) → AddsBehind (AllZip Gives (take 0 items)) old old

@@ -1,9 +1,8 @@
 -- Lists that are put together of two, and what holds of their items
-use Rattle.std.proofs.Common.{◌≡◌, ◌++◌, ◌∷◌, ◌+◌, ◌<◌, List, [], ℕ, inl, inr, ap, ap₂, map, refl, sym, ◌∙◌, subst, take, set, length, get_or, Result, Ok, Err, IfOk, Vec, Global, arith}
+use Rattle.std.proofs.Common.{◌≡◌, ◌++◌, ◌∷◌, ◌+◌, ◌<◌, List, [], ℕ, inl, inr, ap, ap₂, map, refl, sym, ◌∙◌, subst, take, set, length, get_or, arith}
 use Rattle.std.proofs.lemmas.List.{take_more, take_more_set}
 use Rattle.std.specs.List.{AllByRecursion, AllZip}
-use Rattle.parallel_value.specs.Pieces.{TakeAll, MayGive, AreValues, IsAsBefore, AreBoth, Compute}
-use Rattle.parallel_value.specs.declared.piece.NoMemory.{NoMemory}
+use Rattle.parallel_value.specs.Pieces.{TakeAll, MayGive, AreValues, IsAsBefore, Compute}
 
 pub all_front : {X : Type 0} (P : X → Type 0) (xs ys : List X) → AllByRecursion P (xs ++ ys) → AllByRecursion P xs
 all_front P [] ys all = tt
@@ -87,37 +86,11 @@ module _ {P I O : Type 0} (takes : P → I → Type 0) (gives : P → I → O �
       → AreValues gives ps items values
   list_alone ps d items values one given = zip_more _ _ items values (may_alone ps d one) given
 
-  pub values_alone : (ps : List P) (d : P) (items : List I) (result : Result (Vec O Global) NoMemory) → length ps ≡ 1
-      → IfOk result (λ values. AllZip (gives (get_or ps 0 d)) items values.items) → IfOk result (λ values. AreValues gives ps items values.items)
-  values_alone ps d items (Ok values) one given = list_alone ps d items values.items one given
-  values_alone ps d items (Err fault) one given = tt
-
-  -- the values of both halves, where both have found memory
-  pub values_of_both : (ps qs : List P) (xs ys : List I) (left right : Result (Vec O Global) NoMemory) (values : List O)
-      → IfOk left (λ one. AreValues gives ps xs one.items) → IfOk right (λ other. AreValues gives qs ys other.items)
-      → AreBoth left right values → AreValues gives (ps ++ qs) (xs ++ ys) values
-  values_of_both ps qs xs ys (Ok one) (Ok other) values first last both =
-      subst (λ l. AreValues gives (ps ++ qs) (xs ++ ys) l) (sym both) (values_append ps qs xs ys one.items other.items first last)
-  values_of_both ps qs xs ys (Ok one) (Err fault) values first last both = absurd both
-  values_of_both ps qs xs ys (Err fault) right values first last both = absurd both
-
-  pub values_joined : (ps qs : List P) (xs ys : List I) (left right result : Result (Vec O Global) NoMemory)
-      → IfOk left (λ one. AreValues gives ps xs one.items) → IfOk right (λ other. AreValues gives qs ys other.items)
-      → IfOk result (λ values. AreBoth left right values.items) → IfOk result (λ values. AreValues gives (ps ++ qs) (xs ++ ys) values.items)
-  values_joined ps qs xs ys left right (Ok values) first last both = values_of_both ps qs xs ys left right values.items first last both
-  values_joined ps qs xs ys left right (Err fault) first last both = tt
-
   -- the whole is its two parts, before and after
   pub as_before_whole : (old front back front_new back_new : List P) → old ≡ front ++ back → AllZip (IsAsBefore takes gives) front front_new
       → AllZip (IsAsBefore takes gives) back back_new → AllZip (IsAsBefore takes gives) old (front_new ++ back_new)
   as_before_whole old front back front_new back_new whole first last =
       subst (λ l. AllZip (IsAsBefore takes gives) l (front_new ++ back_new)) (sym whole) (zip_append _ front front_new back back_new first last)
-
-  pub values_whole : (ps front back : List P) (items xs ys : List I) (result : Result (Vec O Global) NoMemory) → ps ≡ front ++ back → items ≡ xs ++ ys
-      → IfOk result (λ values. AreValues gives (front ++ back) (xs ++ ys) values.items) → IfOk result (λ values. AreValues gives ps items values.items)
-  values_whole ps front back items xs ys result pieces cut given =
-      subst (λ l. IfOk result (λ values. AreValues gives l items values.items)) (sym pieces)
-      (subst (λ l. IfOk result (λ values. AreValues gives (front ++ back) l values.items)) (sym cut) given)
 
   pub list_whole : (ps front back : List P) (items xs ys : List I) (vs ws : List O) → ps ≡ front ++ back → items ≡ xs ++ ys
       → AreValues gives front xs vs → AreValues gives back ys ws → AreValues gives ps items (vs ++ ws)
@@ -139,8 +112,3 @@ module _ {P I O : Type 0} (takes : P → I → Type 0) (gives : P → I → O �
   pub list_computed : (ps : List P) (f : I → O) (items : List I) (values : List O) → Compute gives ps f → AreValues gives ps items values
       → values ≡ map f items
   list_computed ps f items values all given = zip_computed f items values (zip_more _ _ items values (may_compute ps f all) given)
-
-  pub values_computed : (ps : List P) (f : I → O) (items : List I) (result : Result (Vec O Global) NoMemory) → Compute gives ps f
-      → IfOk result (λ values. AreValues gives ps items values.items) → IfOk result (λ values. values.items ≡ map f items)
-  values_computed ps f items (Ok values) all given = list_computed ps f items values.items all given
-  values_computed ps f items (Err fault) all given = tt

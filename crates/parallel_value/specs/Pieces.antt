@@ -39,3 +39,7 @@ AreBoth _ _ _ = ⊥
 -- such values were added behind those that were there
 abbrev pub AddsBehind : {O : Type 0} → (List O → Type 0) → (old new : List O) → Type 0
 AddsBehind {O} AreSuch old new = (added : List O) × (new ≡ old ++ added) × AreSuch added
+
+-- what was there stands, and what was added is behind it
+abbrev pub StandBehind : {O : Type 0} → (old new : List O) → Type 0
+StandBehind {O} old new = (added : List O) × (new ≡ old ++ added)

@@ -8,8 +8,9 @@ use crate::Piece;
 use crate::share::share_of;
 use std::thread::{Threads, join_mut};
 
-/// Writes the values of the items into as many places, in their order, whatever stood there. The workers go about it as
-/// in `map_in`; it takes no memory and can't fail.
+/// Writes the values of the items into as many places, in their order, whatever stood there. Each worker goes through as
+/// many items on end as any other, or one more, in a thread of its own; one worker alone starts no thread. It takes no
+/// memory and can't fail.
 pub fn map_into<R: Threads + Sync, I: Sync, O: Send + Drop, P: Piece<I, O> + Send>(
     rt: &R,
     pieces: &mut [P],

@@ -8,6 +8,5 @@ mod share;
 mod sharing;
 
 pub use filling::map_into;
-pub use mapping::map_in;
 pub use piece::{NoMemory, Piece};
-pub use sharing::map_onto;
+pub use sharing::{map_in, map_onto};

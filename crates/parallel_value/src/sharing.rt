@@ -3,10 +3,10 @@
 //
 // Which parts a worker takes is told by no clause, and needn't be: what it made of a part are that part's values, whoever
 // made them, and each part's are looked for in the end. One that wasn't found would be made then.
-ghost use Rattle.std.specs.Prelude.{◌≡◌, ◌≤◌, ◌++◌, ℕ, List, IfOk, IfSome, OnOk, length, take, drop};
+ghost use Rattle.std.specs.Prelude.{◌≡◌, ◌≤◌, ◌++◌, ℕ, List, IfOk, IfSome, OnErr, OnOk, length, map, take, drop};
 ghost use Rattle.std.specs.List.{AllByRecursion, AllZip, IsAmong};
 ghost use Rattle.std.specs.Thread.{IsSync, IsSend};
-ghost use Rattle.parallel_value.specs.Pieces.{AddsBehind, AreAsBefore, AreValues, IsAsBefore, TakeAll};
+ghost use Rattle.parallel_value.specs.Pieces.{AddsBehind, AreAsBefore, AreValues, Compute, IsAsBefore, StandBehind, TakeAll};
 ghost use Rattle.parallel_value.specs.inside.Parts.{AreMadeParts, IsMadePart, IsOneOf};
 
 use crate::mapping::{both, map_alone};
@@ -25,8 +25,26 @@ pub(crate) struct Made<O> {
     values: Vec<O>,
 }
 
-/// Adds the values of the items to those that are there, in their order. Each worker but one has a thread of its own; one
-/// worker alone starts no thread.
+/// The values of the items, in their order: a list of their own, which `map_onto` makes. No program uses it.
+pub fn map_in<R: Threads + Sync, I: Sync, O: Copy + Send + Drop, P: Piece<I, O> + Send>(
+    rt: &R,
+    alloc: Global,
+    pieces: &mut [P],
+    items: &[I],
+) -> Result<Vec<O>, NoMemory>
+    requires workers { (1 ≤ length pieces.old) × (length pieces.old ≤ 64) }
+    requires taken { TakeAll P.takes pieces.old items.now }
+    ensures values { IfOk result (λ values. AreValues P.gives pieces.old items.now values.items) }
+    ensures function { (f : I → O) → Compute P.gives pieces.old f → IfOk result (λ values. values.items ≡ map f items.now) }
+    ensures pieces { AreAsBefore P.takes P.gives pieces.old pieces.new }
+{
+    let mut values = Vec::new(alloc);
+    map_onto(rt, alloc, pieces, items, &mut values)?;
+    Ok(values)
+}
+
+/// Adds the values of the items to those that are there, in their order; after `NoMemory` those alone are there. Each
+/// worker but one has a thread of its own; one worker alone starts no thread.
 pub fn map_onto<R: Threads + Sync, I: Sync, O: Copy + Send + Drop, P: Piece<I, O> + Send>(
     rt: &R,
     alloc: Global,
@@ -37,6 +55,29 @@ pub fn map_onto<R: Threads + Sync, I: Sync, O: Copy + Send + Drop, P: Piece<I, O
     requires workers { (1 ≤ length pieces.old) × (length pieces.old ≤ 64) }
     requires taken { TakeAll P.takes pieces.old items.now }
     ensures values { OnOk result (AddsBehind (AreValues P.gives pieces.old items.now) values.old.items values.new.items) }
+    ensures refused { OnErr result (values.new.items ≡ values.old.items) }
+    ensures pieces { AreAsBefore P.takes P.gives pieces.old pieces.new }
+{
+    let before = values.len();
+    let added = add_all(rt, alloc, pieces, items, values);
+    if added.is_err() {
+        values.truncate(before);
+    }
+    added
+}
+
+// Adds the values of the items; where memory is wanting, it may be some of them.
+fn add_all<R: Threads + Sync, I: Sync, O: Copy + Send + Drop, P: Piece<I, O> + Send>(
+    rt: &R,
+    alloc: Global,
+    pieces: &mut [P],
+    items: &[I],
+    values: &mut Vec<O>,
+) -> Result<(), NoMemory>
+    requires workers { (1 ≤ length pieces.old) × (length pieces.old ≤ 64) }
+    requires taken { TakeAll P.takes pieces.old items.now }
+    ensures values { OnOk result (AddsBehind (AreValues P.gives pieces.old items.now) values.old.items values.new.items) }
+    ensures behind { StandBehind values.old.items values.new.items }
     ensures pieces { AreAsBefore P.takes P.gives pieces.old pieces.new }
 {
     if pieces.len() < 2 {
@@ -181,6 +222,7 @@ fn add_parts<I, O: Copy + Drop, P: Piece<I, O>>(
     requires taken { AllByRecursion (P.takes piece.old) items.now }
     ensures values { (workers : List P) → IsOneOf P.gives workers piece.old → AreMadeParts P.gives workers items.now made.now
         → OnOk result (AddsBehind (AreValues P.gives workers items.now) values.old.items values.new.items) }
+    ensures behind { StandBehind values.old.items values.new.items }
     ensures piece { IsAsBefore P.takes P.gives piece.old piece.new }
 {
     let mut first = 0;
@@ -203,6 +245,7 @@ fn add_part<I, O: Copy + Drop, P: Piece<I, O>>(
     ensures values { (workers : List P) → IsOneOf P.gives workers piece.old
         → IfSome made.entry (λ one. AreValues P.gives workers part.now one.now.values.items)
         → OnOk result (AddsBehind (AreValues P.gives workers part.now) values.old.items values.new.items) }
+    ensures behind { StandBehind values.old.items values.new.items }
     ensures piece { IsAsBefore P.takes P.gives piece.old piece.new }
 {
     match made {
@@ -213,7 +256,8 @@ fn add_part<I, O: Copy + Drop, P: Piece<I, O>>(
 
 // Adds the values of a part that was made.
 fn add_made<O: Copy + Drop>(made: &Made<O>, values: &mut Vec<O>) -> Result<(), NoMemory>
-    ensures { OnOk result (values.new.items ≡ values.old.items ++ made.now.values.items) }
+    ensures added { OnOk result (values.new.items ≡ values.old.items ++ made.now.values.items) }
+    ensures behind { StandBehind values.old.items values.new.items }
 {
     match values.extend_from_slice(made.values.as_slice()) {
         Ok(()) => Ok(()),
@@ -242,6 +286,7 @@ fn add_by_one<I, O: Drop, P: Piece<I, O>>(
     requires one { length pieces.old ≡ 1 }
     requires taken { TakeAll P.takes pieces.old items.now }
     ensures values { OnOk result (AddsBehind (AreValues P.gives pieces.old items.now) values.old.items values.new.items) }
+    ensures behind { StandBehind values.old.items values.new.items }
     ensures pieces { AreAsBefore P.takes P.gives pieces.old pieces.new }
 {
     add_alone(&mut pieces[0], items, values)
@@ -255,6 +300,7 @@ fn add_alone<I, O: Drop, P: Piece<I, O>>(
 ) -> Result<(), NoMemory>
     requires taken { AllByRecursion (P.takes piece.old) items.now }
     ensures values { OnOk result (AddsBehind (AllZip (P.gives piece.old) items.now) values.old.items values.new.items) }
+    ensures behind { StandBehind values.old.items values.new.items }
     ensures piece { IsAsBefore P.takes P.gives piece.old piece.new }
 {
     for item in items {

@@ -1,5 +1,5 @@
 // Policies as their commands left them.
-ghost use Rattle.std.specs.Prelude.{◌≡◌, ◌+◌, ◌++◌, ◌≤◌, [], ◌∷◌, ℕ, length, IfOk, OnOk};
+ghost use Rattle.std.specs.Prelude.{◌≡◌, ◌+◌, ◌++◌, ◌≤◌, [], ◌∷◌, ℕ, length, IfOk, OnErr, OnOk};
 ghost use Rattle.std.specs.List.{All};
 ghost use Rattle.policy_types.specs.Valid.{IsCommandDay, IsValid};
 ghost use Rattle.policy_types.specs.Words.{plan_word};
@@ -71,10 +71,11 @@ impl PolicyLines {
         }
     }
 
-    /// Adds the line of a policy.
+    /// Adds the line of a policy. After `NoMemory` the lines are those that were there.
     pub fn add(&mut self, policy: &Policy) -> Result<(), NoMemory>
         requires { IsCommandDay policy.now.issued }
-        ensures { OnOk result (self.new ≡ self.old ++ policy_text policy.now) }
+        ensures written { OnOk result (self.new ≡ self.old ++ policy_text policy.now) }
+        ensures refused { OnErr result (self.new ≡ self.old) }
     {
         let issued = self.issued.text_of(policy.issued);
         write_policy(&mut self.line, policy, &issued);

@@ -1,5 +1,5 @@
 // Lines of output.
-ghost use Rattle.std.specs.Prelude.{◌≡◌, ◌≤◌, ◌++◌, [], ◌∷◌, OnOk, decimal};
+ghost use Rattle.std.specs.Prelude.{◌≡◌, ◌≤◌, ◌++◌, [], ◌∷◌, OnErr, OnOk, decimal};
 ghost use Rattle.life_dates.specs.Calendar.{IsTermDay};
 ghost use Rattle.life_dates.specs.DayText.{day_text};
 ghost use Rattle.money_core.specs.CentsText.{signed_cents_text};
@@ -18,7 +18,7 @@ use std::marker::Model;
 
 /// Lines of output in the making, field by field. Contracts see the bytes written so far.
 ///
-/// Each call finds its memory as it goes, so after `NoMemory` a part of the line may have been written.
+/// A call that writes a field finds its memory as it goes, so after `NoMemory` a part of the line may have been written.
 #[derive(Drop)]
 pub struct LineWriter {
     bytes: Vec<u8>,
@@ -104,9 +104,10 @@ impl LineWriter {
         self.cents(premium as i64)
     }
 
-    /// A whole line.
+    /// A whole line. After `NoMemory` none of it is written.
     pub fn line(&mut self, line: &LineEnd) -> Result<(), NoMemory>
-        ensures { OnOk result (self.new ≡ self.old ++ line.now) }
+        ensures written { OnOk result (self.new ≡ self.old ++ line.now) }
+        ensures refused { OnErr result (self.new ≡ self.old) }
     {
         self.add(line.as_slice())
     }
@@ -127,7 +128,8 @@ impl LineWriter {
     }
 
     fn add(&mut self, bytes: &[u8]) -> Result<(), NoMemory>
-        ensures { OnOk result (self.new ≡ self.old ++ bytes.now) }
+        ensures written { OnOk result (self.new ≡ self.old ++ bytes.now) }
+        ensures refused { OnErr result (self.new ≡ self.old) }
     {
         match self.bytes.extend_from_slice(bytes) {
             Ok(()) => Ok(()),

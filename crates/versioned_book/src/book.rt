@@ -6,6 +6,7 @@ ghost use Rattle.versioned_book.specs.Settings.{Setting, settings_after, keys_of
 ghost use Rattle.versioned_book.specs.Versions.{AreFewSteps, IsRisingTo, newest_of, versions_from, value_at};
 
 use crate::Chain;
+use crate::halving::at;
 use crate::hashing::KeyHashing;
 use indexmap::IndexMap;
 use outside_io::Steps;
@@ -124,7 +125,7 @@ impl<V: Copy> VersionedBook<V> {
         ensures looks { (sets : List (Setting V)) (key : ℕ) → IsBookOf self.now sets → slice_get (keys_of sets) index ≡ Some key → AreFewSteps steps.old steps.new (length (versions_from self.now.floor (own key sets))) }
     {
         let (_key, chain) = self.chains.get_index(index as usize).unwrap();
-        chain.at(p, steps).unwrap()
+        at(chain, p, steps).unwrap()
     }
 
     /// The position from which on each value is kept.

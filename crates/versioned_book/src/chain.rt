@@ -1,6 +1,7 @@
-// The versions of one key. The newest stands by itself, so that a key with one version takes no memory of its own.
-ghost use Rattle.std.specs.Prelude.{drop, None, ◌≡◌, ◌+◌, ◌*◌, ◌^◌, ◌<◌, ◌≤◌, [], ◌∷◌, ◌++◌, length, map, slice_get, Some, OnOk, vec_len, vec_capacity};
-ghost use Rattle.versioned_book.specs.Versions.{AreFewSteps, IsRising, newest_of, versions_from, value_at, versions};
+// The versions of one key. The newest stands by itself, so that a key with one version takes no memory of its own. Nothing
+// outside this file reads an older version but by a look, which is counted.
+ghost use Rattle.std.specs.Prelude.{drop, ◌≡◌, ◌+◌, ◌<◌, ◌≤◌, [], ◌∷◌, ◌++◌, length, slice_get, Some, OnOk, vec_len, vec_capacity};
+ghost use Rattle.versioned_book.specs.Versions.{newest_of, versions_from, versions};
 
 use outside_io::Steps;
 use std::alloc::{AllocError, Global};
@@ -58,6 +59,7 @@ impl<V: Copy> Chain<V> {
     /// The newest version.
     pub fn newest(&self) -> (u32, V)
         ensures last { versions self.now ≡ self.now.older.items ++ result ∷ [] }
+        ensures position { result.0 ≡ self.now.position }
         ensures value { newest_of (versions self.now) ≡ Some result.1 }
     {
         (self.position, self.value)
@@ -71,19 +73,6 @@ impl<V: Copy> Chain<V> {
     {
         steps.tick();
         self.version(i as usize)
-    }
-
-    /// The value last set at or before a position. It takes few steps: two to their number is at most twice the number
-    /// of versions and one more.
-    pub fn at<L: Ledger>(&self, p: u32, steps: &mut Steps<L>) -> Option<V>
-        requires { IsRising 0 (versions self.now) }
-        ensures value { result ≡ value_at p (versions self.now) }
-        ensures looks { AreFewSteps steps.old steps.new (length (versions self.now)) }
-    {
-        if self.position <= p {
-            return Some(self.value);
-        }
-        search(self, p, steps)
     }
 
     /// Drops the versions that no position from the floor on needs, and says how many they were.
@@ -123,29 +112,6 @@ impl<V: Copy> Chain<V> {
             (self.position, self.value)
         }
     }
-}
-
-// The value last set at or before a position that is before the newest one's. Each look halves what is left.
-fn search<V: Copy, L: Ledger>(chain: &Chain<V>, p: u32, steps: &mut Steps<L>) -> Option<V>
-    requires rising { IsRising 0 (versions chain.now) }
-    requires before { p < chain.now.position }
-    ensures value { result ≡ value_at p (versions chain.now) }
-    ensures looks { AreFewSteps steps.old steps.new (length (versions chain.now)) }
-{
-    let mut found = None;
-    let mut low: u32 = 0;
-    let mut high = chain.older.len() as u32;
-    while low < high {
-        let middle = low + (high - low) / 2;
-        let (position, value) = chain.look(middle, steps);
-        if position <= p {
-            found = Some(value);
-            low = middle + 1;
-        } else {
-            high = middle;
-        }
-    }
-    found
 }
 
 fn drop_front<V: Copy>(older: &mut Vec<(u32, V)>, count: usize)

@@ -3,6 +3,7 @@
 
 mod book;
 mod chain;
+mod halving;
 mod hashing;
 
 pub use book::VersionedBook;

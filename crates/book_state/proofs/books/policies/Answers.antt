@@ -23,6 +23,6 @@ pub loop-index-preserved : goal.loop-index-preserved
 loop-index-preserved g c =
     let within : c.loop-index.index < length (book (take c.count-count.result (commands_of c.args.office.now))) =
     omega (arith, c.loop-index-test.true, c.policies-index-end.ensures) in
-    c.in_ok-add.ensures
+    c.in_ok-add.ensures.written
     ∙ lines_more (commands_of c.args.office.now) c.loop-index.index c.count-count.result c.policy-policy.result _ (c.count-count.ensures ∙ c.args.office.now.books.kept.counted)
     within c.policy-policy.ensures c.loop-index.invariant

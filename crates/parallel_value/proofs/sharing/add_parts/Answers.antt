@@ -2,7 +2,7 @@ use Rattle.std.proofs.Common.{◌≡◌, ◌∙◌, ◌<◌, ◌^◌, ap, subst,
 use Rattle.std.proofs.lemmas.List.{length-take, take_all}
 use Rattle.parallel_value.specs.Pieces.{AddsBehind, AreValues}
 use Rattle.parallel_value.specs.inside.Parts.{IsOneOf}
-use Rattle.parallel_value.proofs.PartSteps.{adds_part, all_part, found_part}
+use Rattle.parallel_value.proofs.PartSteps.{adds_part, all_part, found_part, stand_more}
 use Rattle.parallel_value.proofs.PieceSteps.{all_more, still_as_before}
 use Rattle.parallel_value.proofs.sharing.add_parts.Goals as goal
 
@@ -27,6 +27,7 @@ loop-first-preserved g c =
     record {
       within = omega (arith, long, length-drop c.loop-first.first c.args.items.now, c.loop-first.invariant.within);
       piece = still_as_before _ _ c.args.piece.now c.loop-first.piece c.add_part.new.piece c.loop-first.invariant.piece c.add_part.ensures.piece;
+      behind = stand_more c.args.values.now.items c.loop-first.values.items c.add_part.new.values.items c.loop-first.invariant.behind c.add_part.ensures.behind;
       values = λ workers one made.
           let still : IsOneOf g.P.Piece.gives workers c.loop-first.piece =
           λ item value given. one item value (c.loop-first.invariant.piece.gives_only item value given) in
@@ -43,3 +44,10 @@ returns-clause-values g c = λ workers one made.
     let all : take c.loop-first.first items ≡ items = take_all c.loop-first.first items (omega (arith, c.loop-first-test.false)) in
     subst (λ l. AddsBehind (AreValues g.P.Piece.gives workers l) c.args.values.now.items c.loop-first.values.items) all
     (c.loop-first.invariant.values workers one made)
+
+pub returns-in_err-add_part-clause-behind : goal.returns-in_err-add_part-clause-behind
+returns-in_err-add_part-clause-behind g c =
+    stand_more c.args.values.now.items c.loop-first.values.items c.add_part.new.values.items c.loop-first.invariant.behind c.add_part.ensures.behind
+
+pub returns-clause-behind : goal.returns-clause-behind
+returns-clause-behind g c = c.loop-first.invariant.behind

@@ -1,5 +1,5 @@
 use Rattle.std.proofs.Common.{◌≤◌, ◌-◌, List, length, take}
-use Rattle.parallel_value.specs.Pieces.{AddsBehind, AreValues, IsAsBefore}
+use Rattle.parallel_value.specs.Pieces.{AddsBehind, AreValues, IsAsBefore, StandBehind}
 use Rattle.parallel_value.specs.inside.Parts.{AreMadeParts, IsOneOf}
 use Rattle.parallel_value.proofs.sharing.add_parts.Given as goal
 
@@ -7,6 +7,7 @@ abbrev pub invariant-loop-first : goal.invariant-loop-first
 invariant-loop-first g l = record {
   within : l.first ≤ length l.items;
   piece : IsAsBefore g.P.Piece.takes g.P.Piece.gives l.fn.piece l.piece;
+  behind : StandBehind l.fn.values.items l.values.items;
   values : (workers : List _) → IsOneOf g.P.Piece.gives workers l.fn.piece → AreMadeParts g.P.Piece.gives workers l.items l.made
       → AddsBehind (AreValues g.P.Piece.gives workers (take l.first l.items)) l.fn.values.items l.values.items;
 }

@@ -2,23 +2,23 @@ use Rattle.std.proofs.Common.{◌+◌, ◌-◌, ◌*◌, ◌/◌, length, refl, 
 use Rattle.std.proofs.lemmas.List.{length_push}
 use Rattle.versioned_book.specs.Versions.{versions}
 use Rattle.versioned_book.proofs.VersionSteps.{doubled, few_rising, halved, value_at-more, value_at-older, value_at-take}
-use Rattle.versioned_book.proofs.chain.search.Goals as goal
+use Rattle.versioned_book.proofs.halving.search.Goals as goal
 
 pub overflow_cast-high : goal.overflow_cast-high
 overflow_cast-high g c =
     let chain = c.args.chain.now in
     let few = few_rising 0 chain.older.items (chain.position, chain.value) c.requires.rising in
-    omega (arith, few, c.len-high.ensures)
+    omega (arith, few, length_push chain.older.items (chain.position, chain.value), c.len.ensures)
 
 pub loop-low-init : goal.loop-low-init
 loop-low-init g c =
     let chain = c.args.chain.now in
     let many = length_push chain.older.items (chain.position, chain.value) in (
       omega arith,
-      omega (arith, c.len-high.ensures),
+      omega (arith, many, c.len.ensures),
       refl,
-      value_at-older c.args.p c.len-high.result chain.older.items (chain.position, chain.value) (omega (arith, c.len-high.ensures)) c.requires.before,
-      (0, omega arith, omega (arith, many, c.len-high.ensures), omega arith),
+      value_at-older c.args.p (c.len.result - 1) chain.older.items (chain.position, chain.value) (omega (arith, many, c.len.ensures)) c.requires.before,
+      (0, omega arith, omega (arith, many, c.len.ensures), omega arith),
     )
 
 pub loop-low-preserved-then-position-p : goal.loop-low-preserved-then-position-p

@@ -1,6 +1,6 @@
 use Rattle.std.proofs.Common.{◌≡◌, ℕ, ◌+◌, ◌-◌, ◌*◌, ◌^◌, ◌≤◌, length, take}
 use Rattle.versioned_book.specs.Versions.{value_at, versions}
-use Rattle.versioned_book.proofs.chain.search.Given as goal
+use Rattle.versioned_book.proofs.halving.search.Given as goal
 
 abbrev pub invariant-loop-low : goal.invariant-loop-low
 invariant-loop-low g l =

@@ -1,5 +1,5 @@
 use Rattle.parallel_value.proofs.PartSteps.{first_before, first_takes, one_of_old}
-use Rattle.parallel_value.proofs.sharing.map_onto.Goals as goal
+use Rattle.parallel_value.proofs.sharing.add_all.Goals as goal
 
 pub add_parts-requires : goal.add_parts-requires
 add_parts-requires g c = record {
