@@ -4,9 +4,9 @@ from __future__ import annotations
 from dataclasses import dataclass, field
 from typing import Iterable
 
-from commands import BODY_SIZE, Command, body_of, command_in
-from formats import MOST_COMMANDS, Wrong, bytes_of
-from rules import Book
+from life_tools.commands import BODY_SIZE, Command, body_of, command_in
+from life_tools.formats import MOST_COMMANDS, Wrong, bytes_of
+from life_tools.rules import Book
 
 HEADER = b"LIFEJRNL" + bytes([0, 1, 0, BODY_SIZE, 0, 0, 0, 0])
 FIRST_GATE = 1 + len(HEADER)

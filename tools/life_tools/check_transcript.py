@@ -15,14 +15,14 @@ import argparse
 import os
 from typing import Sequence
 
-from check_values import check_block
-from commands import Command, words_of
-from formats import Wrong, bytes_of, complain, demand, number_of, printed_rows
-from journals import Journal, read_journal
-from reserves import Known
-from rules import Book, Refusal
-from script_lines import Fault, Line, lanes_of, read_script
-from tables import BasisRow, read_basis
+from life_tools.check_values import check_block
+from life_tools.commands import Command, words_of
+from life_tools.formats import Wrong, bytes_of, complain, demand, number_of, printed_rows
+from life_tools.journals import Journal, read_journal
+from life_tools.reserves import Known
+from life_tools.rules import Book, Refusal
+from life_tools.script_lines import Fault, Line, lanes_of, read_script
+from life_tools.tables import BasisRow, read_basis
 
 # the lines of one valuation, or one other line
 Answer = list

@@ -11,9 +11,9 @@ from __future__ import annotations
 import argparse
 import datetime
 
-from commands import Command, words_of
-from formats import Wrong, complain, day_in, remark
-from journals import journal_at
+from life_tools.commands import Command, words_of
+from life_tools.formats import Wrong, complain, day_in, remark
+from life_tools.journals import journal_at
 
 MOST_TOLD = 10
 

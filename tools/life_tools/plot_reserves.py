@@ -11,8 +11,8 @@ import argparse
 import datetime
 from dataclasses import dataclass, field
 
-from drawing import lines_over_days
-from formats import (MOST_NUMBER, Wrong, bytes_of, complain, day_in, demand, measure_of, number_of, printed_cents,
+from life_tools.drawing import lines_over_days
+from life_tools.formats import (MOST_NUMBER, Wrong, bytes_of, complain, day_in, demand, measure_of, number_of, printed_cents,
                      printed_rows, remark)
 
 # of a measure: the words over the drawing, and the fields of a row and of a total

@@ -9,9 +9,9 @@ from __future__ import annotations
 
 import argparse
 
-from checkpoints import Checkpoint, checkpoint_in, checkpoint_of
-from formats import Wrong, bytes_of, complain, demand, money, remark
-from journals import journal_at
+from life_tools.checkpoints import Checkpoint, checkpoint_in, checkpoint_of
+from life_tools.formats import Wrong, bytes_of, complain, demand, money, remark
+from life_tools.journals import journal_at
 
 
 def print_books(checkpoint: Checkpoint) -> None:

@@ -14,10 +14,10 @@ import os
 import sqlite3
 import sys
 
-from commands import Command, words_of
-from formats import FIELDS, Wrong, complain
-from journals import Journal, journal_at
-from rules import bookings
+from life_tools.commands import Command, words_of
+from life_tools.formats import FIELDS, Wrong, complain
+from life_tools.journals import Journal, journal_at
+from life_tools.rules import bookings
 
 COLUMNS = ("position", "kind", "policy", "day", "plan", "age", "years", "amount", "premium")
 SCHEMA = """

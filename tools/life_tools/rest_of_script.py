@@ -17,11 +17,11 @@ import argparse
 import os
 import sys
 
-from commands import Command, words_of
-from formats import MOST_COMMANDS, Wrong, bytes_of, complain, demand, number_of, remark
-from journals import journal_at
-from rules import Book, Policy, Refusal, decide
-from script_lines import Fault, Line, lanes_of, read_script
+from life_tools.commands import Command, words_of
+from life_tools.formats import MOST_COMMANDS, Wrong, bytes_of, complain, demand, number_of, remark
+from life_tools.journals import journal_at
+from life_tools.rules import Book, Policy, Refusal, decide
+from life_tools.script_lines import Fault, Line, lanes_of, read_script
 
 MOST_TRIED = 1_000_000
 

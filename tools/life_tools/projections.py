@@ -10,11 +10,11 @@ from dataclasses import dataclass, field
 from fractions import Fraction
 from typing import Sequence
 
-from formats import Wrong, day_in, demand, number_of, printed_cents, printed_rows
-from formats import MOST_COMMANDS, MOST_YEARS
-from reserves import Terms, is_insured, terms_of
-from rules import Policy, completed
-from tables import FINEST, BasisRow
+from life_tools.formats import Wrong, day_in, demand, number_of, printed_cents, printed_rows
+from life_tools.formats import MOST_COMMANDS, MOST_YEARS
+from life_tools.reserves import Terms, is_insured, terms_of
+from life_tools.rules import Policy, completed
+from life_tools.tables import FINEST, BasisRow
 
 # what a year has: premiums, what deaths are paid, what those are paid who survive the last year of their cover
 KINDS_OF_CASH = ("premiums", "deaths", "maturities")

@@ -5,8 +5,8 @@ import datetime
 from dataclasses import dataclass
 from typing import Callable, Union
 
-from commands import OLDEST_AT_ISSUE, Command, years_fit
-from formats import (FIELDS, FIRST_DAY, LAST_DAY, MOST_CENTS, MOST_COMMANDS, MOST_LANES, MOST_NUMBER, MOST_REINSTATEMENT_CENTS,
+from life_tools.commands import OLDEST_AT_ISSUE, Command, years_fit
+from life_tools.formats import (FIELDS, FIRST_DAY, LAST_DAY, MOST_CENTS, MOST_COMMANDS, MOST_LANES, MOST_NUMBER, MOST_REINSTATEMENT_CENTS,
                      MOST_SCRIPT_BYTES, MOST_VALUATIONS, MOST_WORKERS, PLANS, Row, cents_of, day_of, money, number_of, rows_in)
 
 KIND_WORDS = (*FIELDS, "value", "trim")

@@ -13,10 +13,10 @@ from __future__ import annotations
 import argparse
 import os
 
-from formats import MOST_BASIS_BYTES, MOST_BASIS_ROWS, MOST_POINTS, Row, Wrong, bytes_of, complain, demand, number_of, rows_in
-from script_lines import Fault, read_script
-from table_parts import lines_of
-from tables import MOST_AGE, BadBasis, NotXml, basis_rows, read_table, root_of
+from life_tools.formats import MOST_BASIS_BYTES, MOST_BASIS_ROWS, MOST_POINTS, Row, Wrong, bytes_of, complain, demand, number_of, rows_in
+from life_tools.script_lines import Fault, read_script
+from life_tools.table_parts import lines_of
+from life_tools.tables import MOST_AGE, BadBasis, NotXml, basis_rows, read_table, root_of
 
 SHOWN = 60
 BASIS_ROW = ("a row: a day 1900-01-01 to 2199-12-31, the file name of a table (1 to 64 letters, digits, . _ -, the first a "

@@ -4,7 +4,7 @@ from __future__ import annotations
 from fractions import Fraction
 from typing import Callable
 
-from tables import (AnyTable, Element, SelectTable, Table, durations_of, factor_of, issue_axes_of, path_of, rows_by_duration,
+from life_tools.tables import (AnyTable, Element, SelectTable, Table, durations_of, factor_of, issue_axes_of, path_of, rows_by_duration,
                     ultimate_rows_of)
 
 Places = Callable[[Element], int]

@@ -10,8 +10,8 @@ from dataclasses import dataclass
 from fractions import Fraction
 from typing import Dict, Sequence, Tuple, Union
 
-from rules import Policy, completed
-from tables import BasisRow, Table
+from life_tools.rules import Policy, completed
+from life_tools.tables import BasisRow, Table
 
 RENEWAL_PREMIUMS = 19
 HIGHEST_FIRST_RATE = Fraction(1, 2)

@@ -4,7 +4,7 @@ from __future__ import annotations
 import datetime
 from dataclasses import dataclass
 
-from formats import (FIELDS, FIRST_DAY, KINDS, LAST_DAY, MOST_CENTS, MOST_NUMBER, MOST_REINSTATEMENT_CENTS, PLANS, Wrong, demand,
+from life_tools.formats import (FIELDS, FIRST_DAY, KINDS, LAST_DAY, MOST_CENTS, MOST_NUMBER, MOST_REINSTATEMENT_CENTS, PLANS, Wrong, demand,
                      money)
 
 BODY_SIZE = 64

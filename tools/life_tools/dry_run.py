@@ -14,8 +14,8 @@ import subprocess
 import sys
 import tempfile
 
-from formats import Wrong, bytes_of, complain, remark, rows_in
-from tables import NAME
+from life_tools.formats import Wrong, bytes_of, complain, remark, rows_in
+from life_tools.tables import NAME
 
 JOURNAL = "journal.life"
 LAUNCHER = os.path.join(os.path.dirname(os.path.dirname(os.path.abspath(__file__))), "life")

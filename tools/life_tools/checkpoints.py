@@ -5,9 +5,9 @@ import datetime
 from dataclasses import dataclass
 from typing import Iterable
 
-from commands import EPOCH, PLAN_CODES, Command, demand_valid
-from formats import FIRST_DAY, LAST_DAY, MOST_COMMANDS, PLANS, Wrong, demand
-from rules import ACCOUNTS, Book, Policy, balances_of, payments_of
+from life_tools.commands import EPOCH, PLAN_CODES, Command, demand_valid
+from life_tools.formats import FIRST_DAY, LAST_DAY, MOST_COMMANDS, PLANS, Wrong, demand
+from life_tools.rules import ACCOUNTS, Book, Policy, balances_of, payments_of
 
 HEADER = b"LIFECHKP" + bytes([0, 1, 0, 48, 0, 0, 0, 0])
 FRONT_SIZE, POLICY_SIZE, OPEN = 64, 48, 1

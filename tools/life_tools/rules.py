@@ -9,8 +9,8 @@ import datetime
 from dataclasses import dataclass, replace
 from typing import Iterable, Iterator, Union
 
-from commands import LAST_AGE, Command
-from formats import MOST_COMMANDS, Wrong, money
+from life_tools.commands import LAST_AGE, Command
+from life_tools.formats import MOST_COMMANDS, Wrong, money
 
 # days of grace after a premium was due, days before it is due from which on it may be paid, and the anniversaries
 # behind the last paid one up to which a lapsed policy can be reinstated

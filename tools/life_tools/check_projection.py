@@ -11,11 +11,11 @@ import argparse
 from fractions import Fraction
 from typing import Sequence
 
-from formats import Wrong, bytes_of, complain, demand, money
-from journals import journal_at
-from projections import KINDS_OF_CASH, Printed, expected_of, printed_projection
-from rules import Book, Policy
-from tables import BasisRow, read_basis
+from life_tools.formats import Wrong, bytes_of, complain, demand, money
+from life_tools.journals import journal_at
+from life_tools.projections import KINDS_OF_CASH, Printed, expected_of, printed_projection
+from life_tools.rules import Book, Policy
+from life_tools.tables import BasisRow, read_basis
 
 
 def demand_encloses(bounds: tuple[int, int], exact: Fraction, policies: int, what: str) -> None:

@@ -13,7 +13,7 @@ from fractions import Fraction
 from typing import Union
 from xml.parsers import expat
 
-from formats import MOST_BASIS_BYTES, MOST_BASIS_ROWS, MOST_POINTS, Row, Wrong, day_of, number_of, rows_in
+from life_tools.formats import MOST_BASIS_BYTES, MOST_BASIS_ROWS, MOST_POINTS, Row, Wrong, day_of, number_of, rows_in
 
 MOST_AGE = 130
 MOST_DEPTH = 64

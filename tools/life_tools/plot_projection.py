@@ -8,9 +8,9 @@ from __future__ import annotations
 
 import argparse
 
-from drawing import lines_over
-from formats import Wrong, bytes_of, complain, demand, remark
-from projections import KINDS_OF_CASH, printed_projection
+from life_tools.drawing import lines_over
+from life_tools.formats import Wrong, bytes_of, complain, demand, remark
+from life_tools.projections import KINDS_OF_CASH, printed_projection
 
 
 def main() -> None:

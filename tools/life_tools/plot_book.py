@@ -8,8 +8,8 @@ from __future__ import annotations
 
 import argparse
 
-from drawing import bars
-from formats import PLANS, Wrong, bytes_of, complain, demand, printed_cents, printed_rows
+from life_tools.drawing import bars
+from life_tools.formats import PLANS, Wrong, bytes_of, complain, demand, printed_cents, printed_rows
 
 STATUSES = ("inforce", "lapsed", "claimed", "matured", "expired", "settled", "paidup")
 POLICY_FIELDS = 11

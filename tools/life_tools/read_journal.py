@@ -10,10 +10,10 @@ from __future__ import annotations
 import argparse
 from typing import Iterable
 
-from commands import Command, words_of
-from formats import Wrong, bytes_of, complain, money, remark
-from journals import read_journal
-from rules import balances_of, bookings
+from life_tools.commands import Command, words_of
+from life_tools.formats import Wrong, bytes_of, complain, money, remark
+from life_tools.journals import read_journal
+from life_tools.rules import balances_of, bookings
 
 
 def list_records(commands: list[Command]) -> None:

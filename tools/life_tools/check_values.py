@@ -12,11 +12,11 @@ import datetime
 from fractions import Fraction
 from typing import Sequence
 
-from formats import Wrong, bytes_of, complain, day_in, demand, measure_of, money, number_of, printed_cents, printed_rows
-from journals import journal_at
-from reserves import Known, minimum_worth, worth
-from rules import Book, Policy
-from tables import BasisRow, read_basis
+from life_tools.formats import Wrong, bytes_of, complain, day_in, demand, measure_of, money, number_of, printed_cents, printed_rows
+from life_tools.journals import journal_at
+from life_tools.reserves import Known, minimum_worth, worth
+from life_tools.rules import Book, Policy
+from life_tools.tables import BasisRow, read_basis
 
 # a lower and an upper bound lie at most so many cents apart
 WIDEST = 2

@@ -5,7 +5,7 @@ import datetime
 from html import escape
 from typing import Callable, Sequence, Tuple
 
-from formats import money
+from life_tools.formats import money
 
 WIDTH, HEIGHT = 800, 420
 LEFT, RIGHT, TOP, BOTTOM = 170, 170, 40, 50
