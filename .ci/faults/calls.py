@@ -16,10 +16,10 @@ from dataclasses import dataclass
 
 from judge import (Wrong, commands_in, demand, demand_faults, demand_file, judge_early_end, judge_transcript,
                    judge_unanswered, reason)
-from journals import file_of
+from life_tools.journals import file_of
 from runs import JOURNAL, KEPT, Desk, read_bytes
 from scenes import SCENES, book_before, checkpoint_before
-from tables import read_basis
+from life_tools.tables import read_basis
 
 AT_ONCE = 2
 KINDS = ["openat", "flock", "statx", "newfstatat", "pread64", "read", "pwrite64", "write", "fsync", "fdatasync"]

@@ -1,0 +1,94 @@
+"""The rows of a script that a killed run didn't reach, as a script for the next run.
+
+A killed run prints nothing. What it had accepted stands in the journal, and a lane's rows are answered in their order.
+So of each lane the rows up to the last one that the journal shows were answered, and the rest is to be run. BEFORE says
+where the run began: the number of commands accepted before it (the `count` that `life state` printed), or a copy of the
+journal from before.
+
+A record doesn't say whose it is. Where equal rows stand in several lanes, the records are dealt out so that each row
+in between was refused at some moment, or asked for a value or a trim: the killed run together with the rest is then one
+run of the whole script. It ends with status 1 where no run of the script leaves this journal: another script, another
+BEFORE, or a disk that failed in the run.
+"""
+from __future__ import annotations
+
+import argparse
+import os
+import sys
+
+from life_tools.commands import Command
+from life_tools.formats import MOST_COMMANDS, Wrong, demand, number_of, remark
+from life_tools.journals import journal_at
+from life_tools.rests import History, NoRun, rest_of
+from life_tools.script_lines import Line, lanes_of, script_at
+
+
+def arguments(parser: argparse.ArgumentParser) -> None:
+    parser.add_argument("script", metavar="SCRIPT", help="the script of the killed run")
+    parser.add_argument("journal", metavar="JOURNAL", help="journal.life as it is now")
+    parser.add_argument("before", metavar="BEFORE", help="how many commands were accepted before, or a journal from before")
+
+
+def begun_with(before: str) -> list[Command] | int:
+    """The commands accepted before the run, or how many they were."""
+    if os.path.exists(before):
+        return journal_at(before).commands
+    count = number_of(before, 0, MOST_COMMANDS)
+    if count is None:
+        raise Wrong(f"{before} is no journal, and no number of commands")
+    return count
+
+
+def history_at(path: str, before: str) -> History:
+    """What the run has made of the journal, which has to go on from what was before it."""
+    begun = begun_with(before)
+    count = begun if isinstance(begun, int) else len(begun)
+    history = History(count)
+    commands = journal_at(path, history).commands
+    demand(count <= len(commands), f"{path} has {len(commands)} commands, and before the run there were {count}")
+    demand(isinstance(begun, int) or begun == commands[:count], f"{path} doesn't go on from {before}")
+    return history
+
+
+def tell(lanes: dict[int, list[Line]], rest: dict[int, list[Line]], records: int) -> None:
+    """What was answered of each lane, and which valuations were lost, on standard error."""
+    remark(f"accepted in the run: {records}")
+    for lane, lines in sorted(lanes.items()):
+        answered = lines[:len(lines) - len(rest[lane])]
+        remark(f"lane {lane}: {len(answered)} of {len(lines)} rows were answered")
+        for line in answered:
+            if line.kind == "value":
+                remark(f"  lost: {line.row.text}, row {line.row.number}: life value {line.day} --at POSITION prints it")
+
+
+def first_of_lanes(lines: list[Line]) -> dict[Command, dict[int, Line]]:
+    """Of each command the first row of each lane that is it."""
+    found: dict[Command, dict[int, Line]] = {}
+    for line in lines:
+        if line.command:
+            found.setdefault(line.command, {}).setdefault(line.lane, line)
+    return found
+
+
+def tell_equal(answered: list[Line], rest: list[Line]) -> None:
+    """Rows of the rest that equal an answered row of another lane."""
+    firsts = first_of_lanes(answered)
+    for line in rest:
+        known = firsts.get(line.command, {}) if line.command else {}
+        like = min((it.row.number for lane, it in known.items() if lane != line.lane), default=None)
+        if like:
+            remark(f"row {line.row.number} equals row {like}, which is taken as the one that was accepted")
+
+
+def run(options: argparse.Namespace) -> int:
+    lines, history = script_at(options.script), history_at(options.journal, options.before)
+    try:
+        rest = rest_of(lines, history)
+    except NoRun as none:
+        remark(str(none))
+        return 1
+    left = {line.row.number for lane in rest.values() for line in lane}
+    tell(lanes_of(lines), rest, history.records)
+    tell_equal([line for line in lines if line.row.number not in left], [line for line in lines if line.row.number in left])
+    sys.stdout.writelines(line.row.text + "\n" for line in lines if line.row.number in left)
+    return 0
