@@ -70,6 +70,8 @@ send() {
 }
 
 [ $# -gt 0 ] || { say "name the scripts: sh day.sh inbox/*.csv"; exit 2; }
+# the shell leaves a pattern as it is where no file fits it
+case $*,$# in *\*.csv,1) [ -e "$1" ] || { echo "day: there is nothing to send"; exit 0; } ;; esac
 command -v life-wait >/dev/null || { say "life isn't installed in ${LIFE_BIN:-$HOME/.local/bin}"; exit 2; }
 mkdir -p log && exec 8<log || exit 2
 flock -n 8 || { say "another day.sh is at work in this folder"; exit 2; }
