@@ -207,11 +207,11 @@ sleep 0.3
 launch --wait 0 state </dev/null
 echo diskfault >wanted
 judge "$status" 8 wanted
-notes_are "still journal.life is held by process [0-9]*, sleep"
+notes_are "still journal.life is held by process [0-9]*, flock"
 # the script is a pipe, which is read once
 echo 1,issue,7501,2020-01-01,endowment,0,3,1000.00,400.00 | sh "$launcher" --wait 30 run >out 2>notes
 [ $? = 0 ] && grep -q '^1,issue,7501,accepted,5$' out || complain "it doesn't wait: $(cat out notes)"
-notes_are "waiting: journal.life is held by process [0-9]*, sleep"
+notes_are "waiting: journal.life is held by process [0-9]*, flock"
 launch --wait 30 state </dev/null
 [ "$status" = 0 ] && [ ! -s notes ] || complain "a free book isn't had at once: $(cat notes)"
 # of many that wait none is refused
@@ -348,6 +348,7 @@ proves() {
 }
 
 main=$copy/crates/life_cli/src/main.rt
+touch "$main"
 proves built 0 "checked life_cli, 2 of" current
 touch "$main"
 proves unproved 70 "^policy_types: failed" old
