@@ -11,10 +11,11 @@ from life_tools.formats import Wrong
 
 # name -> the module of life_tools.entries that answers it, and what it does, in one line
 ENTRIES: dict[str, tuple[str, str]] = {
-    "version": ("version", "which program these tools were installed with"),
+    "check": ("check", "look a script over before it is sent"),
     "dry-run": ("dry_run", "run a script on a copy of the journal, and print what it would be answered"),
     "rest": ("rest", "the rows of a script that a killed run didn't reach"),
     "explain": ("explain", "explain a refusal of a script or of a basis, or what is taken of a table"),
+    "at": ("at", "what state, value or project print of the book as it stood at a position"),
     "position-on": ("position_on", "the position of a day"),
     "read": ("read", "list the records of a journal"),
     "read-checkpoint": ("read_checkpoint", "print the books in a checkpoint, and compare them with a journal's"),
@@ -23,6 +24,7 @@ ENTRIES: dict[str, tuple[str, str]] = {
     "check-values": ("check_values", "work the rows of a printed valuation out anew, and compare"),
     "check-projection": ("check_projection", "work the years of a printed projection out anew, and compare"),
     "plot": ("plot", "draw printed valuations, a printed book or a printed projection"),
+    "version": ("version", "which program these tools were installed with"),
 }
 
 
