@@ -5,8 +5,8 @@
 #
 # A folder of log/ keeps of each script that was sent: `script`, `sum`, its checksum, `before`, the count of postings
 # before it, `transcript`, `remarks`, `status`, and `done` where nothing of it is left to do. A script whose checksum is
-# there isn't sent again. One of which nothing was posted counts as not sent, and stays where it is. While a folder lacks
-# `done`, as after a kill, nothing more is sent: docs/OPERATIONS.md tells how to go on.
+# there isn't sent again. One of which nothing was posted counts as not sent, and stays where it is. While a folder
+# lacks `done`, as after a kill, nothing more is sent: docs/OPERATIONS.md tells how to go on.
 #
 # It ends with 0 where all was sent, 1 where something is left for a person to do, 2 where it can't begin.
 PATH=${LIFE_BIN:-$HOME/.local/bin}:$PATH
@@ -32,7 +32,8 @@ left_open() {
 # A folder for a script appears whole, before the script is sent.
 keep_script() {
     rm -rf log/.next
-    mkdir log/.next && cp "$script" log/.next/script && echo "$sum" >log/.next/sum && echo "$before" >log/.next/before &&
+    mkdir log/.next && cp "$script" log/.next/script &&
+        echo "$sum" >log/.next/sum && echo "$before" >log/.next/before &&
         sync log/.next/* && mv -T log/.next "$kept" && sync log
 }
 
@@ -43,13 +44,14 @@ close_folder() {
     if [ "$status" = 0 ]; then
         touch "$kept/done"
         rm "$script"
-        echo "day: $script: $(grep -c ,accepted, "$kept/transcript") accepted, $(grep -c ,refused, "$kept/transcript") refused: $kept"
+        answers="$(grep -c ,accepted, "$kept/transcript") accepted, $(grep -c ,refused, "$kept/transcript") refused"
+        echo "day: $script: $answers: $kept"
     elif [ "$after" = "$before" ]; then
         mv "$kept/sum" "$kept/sum-not-sent" && touch "$kept/done"
         say "$script: status $status, $(tail -n 1 "$kept/transcript"), and nothing was posted: $kept"
         return 1
     else
-        say "$script: status $status, and the book has ${after:-an unknown number of} postings, where it had $before: $kept"
+        say "$script: status $status; the book had $before postings, and has ${after:-an unknown number of} them: $kept"
         return 1
     fi
 }

@@ -1,6 +1,6 @@
 #!/bin/sh
-# The launcher, in a copy of the repository that has no program. Wrong words build nothing; where nothing is proved no word
-# of the program is answered; a preview is built once, runs on copies, and is never taken for the proved program; a
+# The launcher, in a copy of the repository that has no program. Wrong words build nothing; where nothing is proved no
+# word of the program is answered; a preview is built once, runs on copies, and is never taken for the proved program; a
 # program that is older than a source, contract or proof of its crates isn't run. Who waits for a book gets it; an
 # installation is whole or isn't made, and runs without the clone. A signal leaves nothing half done.
 . "$(dirname "$0")/../common.sh"
@@ -26,7 +26,8 @@ says_alone() {
     wanted=$1 line=$2
     shift 2
     launch "$@" </dev/null
-    [ "$status" = "$wanted" ] && [ ! -s out ] && [ "$(wc -l <notes)" = 1 ] || complain "$*: status $status: $(cat out notes)"
+    [ "$status" = "$wanted" ] && [ ! -s out ] && [ "$(wc -l <notes)" = 1 ] ||
+        complain "$*: status $status: $(cat out notes)"
     notes_are "$line"
     leaves_none
 }
@@ -44,8 +45,8 @@ is_stopped() {
 
 begin "wrong words build nothing"
 echo usage >wanted
-for words in "" --help stat "prove it" try "try stat" "try try run" "test all" "install a b" --wait "--wait 5" "--wait x run" \
-    "--wait 5 stat" "--wait 5 try run" "--wait -1 run" "--wait 1234567 run" "help me"; do
+for words in "" --help stat "prove it" try "try stat" "try try run" "test all" "install a b" "help me" --wait \
+    "--wait 5" "--wait x run" "--wait 5 stat" "--wait 5 try run" "--wait -1 run" "--wait 1234567 run"; do
     # shellcheck disable=SC2086
     launch $words </dev/null
     judge "$status" 2 wanted
@@ -60,8 +61,8 @@ for word in run state checkpoint value project generate --wait try prove test in
 done
 
 begin "nothing is proved"
-for words in run state "state 7001" checkpoint "value 2021-01-01" "project 2021-01-01 2" "generate 1 1 1" "load 1 1 1 1" \
-    "--wait 5 run"; do
+for words in run state "state 7001" checkpoint "value 2021-01-01" "project 2021-01-01 2" "generate 1 1 1" \
+    "load 1 1 1 1" "--wait 5 run"; do
     # shellcheck disable=SC2086
     says_alone 69 "sh life try .* sh life prove" $words
 done
@@ -70,7 +71,8 @@ says_alone 69 "sh life prove" install "$work/nowhere"
 
 begin "no kit"
 mkdir plain
-for each in sh awk cat cut date dirname find flock grep head id mkdir mktemp nproc readlink rm sed sha256sum sort stat touch tr wc; do
+for each in sh awk cat cut date dirname find flock grep head id mkdir mktemp nproc readlink rm sed sha256sum sort stat \
+    touch tr wc; do
     ln -s "$(command -v "$each")" plain
 done
 for word in prove "try state" test; do
@@ -92,7 +94,8 @@ sh "$launcher" try state </dev/null >other 2>other.notes &
 launch try run <"$first.csv"
 judge "$status" 0 "$first.transcript"
 wait
-[ "$(cat notes other.notes | grep -c 'building a preview, which')" = 1 ] || complain "it is built twice: $(cat notes other.notes)"
+[ "$(cat notes other.notes | grep -c 'building a preview, which')" = 1 ] ||
+    complain "it is built twice: $(cat notes other.notes)"
 [ "$(cat notes other.notes | grep -c 'another launcher is building a preview; this one waits')" = 1 ] ||
     complain "it isn't said that one waits: $(cat notes other.notes)"
 [ "$(sed -n '2,$p' notes | grep -c 'a preview')" -ge 2 ] || complain "it isn't said before and after: $(cat notes)"
@@ -104,7 +107,8 @@ echo checkpoint,4 >wanted
 launch try checkpoint </dev/null
 judge "$status" 0 wanted
 [ ! -e checkpoint.life ] || complain "a preview made checkpoint.life"
-[ -f "$(find "$copy/out/preview/rooms" -name preview.checkpoint)" ] || complain "the preview's checkpoint isn't kept apart"
+[ -f "$(find "$copy/out/preview/rooms" -name preview.checkpoint)" ] ||
+    complain "the preview's checkpoint isn't kept apart"
 launch try value 2021-02-29 </dev/null
 echo usage >wanted
 judge "$status" 2 wanted
@@ -141,7 +145,8 @@ judge "$status" 0 "$examples/second-day.transcript"
 leaves before
 "$life" run <"$examples/second-day.csv" >transcript
 launch try state </dev/null
-tail -n 1 out | grep -q '^count,5$' || complain "the preview doesn't begin anew with the changed journal: $(tail -n 1 out)"
+tail -n 1 out | grep -q '^count,5$' ||
+    complain "the preview doesn't begin anew with the changed journal: $(tail -n 1 out)"
 # the preview's checkpoint goes with the preview's journal
 launch try run <"$examples/short-premium.csv"
 launch try checkpoint </dev/null
@@ -241,9 +246,10 @@ cmp -s "$program" "$bin/life" || complain "it is another program"
 ls -A "$bin" | tr '\n' ' ' >found
 echo "life life-tools life-wait " | tr -d '\n' >wanted
 cmp -s wanted found || complain "there are: $(cat found)"
-[ -f "$work/home/share/man/man1/life.1" ] && [ -f "$work/home/share/bash-completion/completions/life" ] || complain "no page"
-bash -c '. "$1" && COMP_WORDS=(life-wait 5 che) COMP_CWORD=2 && _life && echo "${COMPREPLY[@]}"' bash \
-    "$work/home/share/bash-completion/completions/life" >out 2>&1
+completion=$work/home/share/bash-completion/completions/life
+[ -f "$work/home/share/man/man1/life.1" ] && [ -f "$completion" ] || complain "no page"
+bash -c '. "$1" && COMP_WORDS=(life-wait 5 che) COMP_CWORD=2 && _life && echo "${COMPREPLY[@]}"' bash "$completion" \
+    >out 2>&1
 grep -qx checkpoint out || complain "the completion gives: $(cat out)"
 
 go_on "a second installation while the first one runs, and without the clone"
@@ -299,7 +305,8 @@ notes_are "nothing was installed: .*\(space\|large\)"
 mkdir -p taken/life
 for place in file/bin taken "$copy"; do
     launch install "$place" </dev/null
-    [ "$status" = 70 ] && [ ! -s out ] && [ "$(wc -l <notes)" = 1 ] || complain "$place: status $status: $(cat out notes)"
+    [ "$status" = 70 ] && [ ! -s out ] && [ "$(wc -l <notes)" = 1 ] ||
+        complain "$place: status $status: $(cat out notes)"
     notes_are "nothing was installed: "
 done
 (unset HOME && sh "$launcher" install >out 2>notes </dev/null)
@@ -324,13 +331,13 @@ case $STAND_IN-$1 in
     unproved-all) echo "== policy_types"; echo "policy_types: failed (1)"; exit 1 ;;
     slow-try) sleep 30 & wait ;;
     tests-try) echo "tests: 2"; echo "test one ... ok"; case $PWD in
-        */leaf_tests) echo "test two ... FAILED"; echo "test result: FAILED. 1 passed; 1 failed; 0 ignored;"; exit 1 ;;
+        */base_tests) echo "test two ... FAILED"; echo "test result: FAILED. 1 passed; 1 failed; 0 ignored;"; exit 1 ;;
         */lane_tests) echo "it doesn't compile"; exit 1 ;;
         *) echo "test result: ok. 2 passed; 0 failed; 0 ignored;" ;;
         esac ;;
     *-all) echo "== policy_types"; echo "== life_cli"; echo "== summary"; echo "policy_types: ok"; sleep 2 ;;
     unbuilt-run) echo "rt: the library policy_types did not build"; exit 1 ;;
-    edited-run) sleep 0.1; touch src/main.rt; sleep 0.1; cp "$PROGRAM" out/life_cli; echo "rt: running out/life_cli;"; exit 2 ;;
+    edited-run) sleep 0.1; touch src/main.rt; sleep 0.1; cp "$PROGRAM" out/life_cli; echo "rt: running out/life_cli;" ;;
     kept-run) echo "rt: running out/life_cli;"; exit 2 ;;
     built-run) cp "$PROGRAM" out/life_cli; echo "rt: running out/life_cli;"; exit 2 ;;
 esac
@@ -382,14 +389,17 @@ rm -rf "$copy"/.ci/checks
 mkdir "$copy/.ci/checks"
 printf 'echo "program_run: skipped: there is no wind"\n[ -x "$LIFE_PROGRAM" ]\n' >"$copy/.ci/checks/program_run.sh"
 printf 'echo "names: no"\nexit 1\n' >"$copy/.ci/checks/names.sh"
-# six crates with two tests that pass, one with one of two, one without any, and a check
+# crates with two tests that pass, one with one of two, one without any; and a check
+passed=$(($(grep -c '^[a-z]*_tests:' "$copy/crates.txt") * 2 - 2))
 launch test </dev/null
 [ "$status" = 1 ] || complain "status $status"
-[ "$(tail -n 1 out)" = "14 passed, 2 failed, nothing proved" ] || complain "its last line is: $(tail -n 1 out)"
-grep -q "^base_tests: 2 passed, after" out && grep -q "^leaf_tests: 1 passed, 1 FAILED" out && grep -q "two ... FAILED" out &&
-    grep -q "it doesn't compile" out && grep -q "^program_run: skipped: there is no wind" out || complain "it says: $(cat out)"
+[ "$(tail -n 1 out)" = "$passed passed, 2 failed, nothing proved" ] || complain "its last line is: $(tail -n 1 out)"
+for line in "^office_tests: 2 passed, after" "^base_tests: 1 passed, 1 FAILED" "two ... FAILED" "it doesn't compile" \
+    "^program_run: skipped: there is no wind"; do
+    grep -q "$line" out || complain "it doesn't say $line: $(cat out)"
+done
 launch test --all </dev/null
-[ "$(tail -n 1 out)" = "14 passed, 3 failed, nothing proved" ] || complain "with all: $(tail -n 1 out)"
+[ "$(tail -n 1 out)" = "$passed passed, 3 failed, nothing proved" ] || complain "with all: $(tail -n 1 out)"
 grep -q "names: no" out || complain "a check that fails isn't shown"
 unset STAND_IN
 PATH=${PATH#*:}

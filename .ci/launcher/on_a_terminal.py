@@ -14,7 +14,7 @@ import time
 LAUNCHER, SCRIPT = sys.argv[1:]
 
 
-def on_a_terminal(*words: str, given: str = os.devnull, taken: str | None = None, stop_after: float = 0) -> tuple[int, str]:
+def on_a_terminal(*words: str, given: str = os.devnull, taken: str = "", stop_after: float = 0) -> tuple[int, str]:
     """The status, and what is written on the terminal: what the launcher says, and the text where no file takes it."""
     child, terminal = pty.fork()
     if child == 0:
@@ -47,7 +47,8 @@ def held_files() -> None:
         fcntl.flock(file, fcntl.LOCK_EX)
         for word in ("state", "checkpoint"):
             status, said = on_a_terminal(word)
-            assert status == 8 and said.startswith("diskfault") and f"checkpoint.life is held by {me}" in said, (status, said)
+            assert status == 8 and said.startswith("diskfault"), (status, said)
+            assert f"checkpoint.life is held by {me}" in said, said
 
 
 def wrong_words() -> None:
@@ -56,7 +57,7 @@ def wrong_words() -> None:
 
 
 def growth() -> None:
-    """The terminal is told how many postings there are more, and is clean where the text begins; a file has the text alone."""
+    """The terminal is told how the journal grows, and is clean where the text begins; a file has the text alone."""
     told = r"(\r\x1b\[Klife: \d+ postings, \d+ in the last second)"
     begun = time.monotonic()
     status, said = on_a_terminal("run", given=SCRIPT)

@@ -55,14 +55,16 @@ put_in_place() {
 
 install_life() {
     [ $# -le 1 ] || usage "it is sh life install, or sh life install DIR"
-    is_current "$program" || give_up "nothing was installed, since no proved program is as new as its sources: sh life prove" 69
+    is_current "$program" ||
+        give_up "nothing was installed, since no proved program is as new as its sources: sh life prove" 69
     command -v python3 >/dev/null || give_up "nothing was installed: the tools need python3"
     name_places "$@"
     sum=$(sum_of "$program")
     staged= staged_share=
     trap 'rm -rf "$staged" "$staged_share"' EXIT
     trap 'echo "life: stopped; nothing was installed" >&2; exit 130' INT TERM HUP
-    staged=$(mktemp -d "$dir/.life.XXXXXX" 2>/dev/null) && staged_share=$(mktemp -d "$share/.life.XXXXXX" 2>/dev/null) ||
+    staged=$(mktemp -d "$dir/.life.XXXXXX" 2>/dev/null) &&
+        staged_share=$(mktemp -d "$share/.life.XXXXXX" 2>/dev/null) ||
         give_up "nothing was installed: $dir and $share have to be folders that $(id -un) can write"
     why=$(make_files 2>&1) || give_up "nothing was installed: ${why:-the program changed while it was copied}"
     is_current "$program" || give_up "nothing was installed: a source was changed meanwhile; sh life prove" 69

@@ -1,4 +1,5 @@
-# The proved program in the folder that the launcher is called from; on a terminal it is watched, and its status explained.
+# The proved program in the folder that the launcher is called from; on a terminal it is watched, and its status is
+# explained.
 . "$launcher/waiting.sh"
 
 # what a status means here, beside what the program printed of these words
@@ -16,7 +17,7 @@ hint() {
 why_fault() {
     why=$(why_not journal.life)
     case "$*" in state | checkpoint) [ -n "$why" ] || why=$(why_not checkpoint.life) ;; esac
-    echo "${why:-the disk failed (is it full? df .), or another run had journal.life; what was accepted before is in it}"
+    echo "${why:-the disk failed (is it full? df .), or another run had journal.life, with what was accepted before}"
 }
 
 # why a file can't be had, where that shows

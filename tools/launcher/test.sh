@@ -39,7 +39,7 @@ run_tests() {
     at_once=$(jobs_at_once 1500)
     { echo preview; test_crates; } >"$results/jobs"
     example_checks >"$results/checks"
-    echo "life: $(test_crates | wc -l) crates of tests and $(wc -l <"$results/checks") checks, $at_once side by side" >&2
+    echo "life: $(test_crates | wc -l) crates of tests, $(wc -l <"$results/checks") checks, $at_once side by side" >&2
     do_jobs "$results/jobs" "$at_once" "$preview"
     do_jobs "$results/checks" "$at_once" "$preview"
     if [ "${1-}" = --all ]; then
@@ -52,7 +52,8 @@ run_tests() {
     fi
     trap - INT TERM HUP
     echo "life: the tests took $(time_since "$started")" >&2
-    awk '{ passed += $1; failed += $2 } END { printf "%d passed, %d failed, nothing proved\n", passed, failed; exit failed > 0 || passed == 0 }' \
+    awk '{ passed += $1; failed += $2 }
+        END { printf "%d passed, %d failed, nothing proved\n", passed, failed; exit failed > 0 || passed == 0 }' \
         "$results/counts"
     status=$?
     rm -rf "$results"

@@ -18,13 +18,17 @@ report() {
         grep ': skipped: ' "$said"
         echo "$name: $1 passed, after $(time_since "$started")"
     else
-        { echo "$name: $1 passed, $2 FAILED, after $(time_since "$started"):"; tail -n 40 "$3" | sed 's/^/    /'; } >"$said.report"
+        {
+            echo "$name: $1 passed, $2 FAILED, after $(time_since "$started"):"
+            tail -n 40 "$3" | sed 's/^/    /'
+        } >"$said.report"
         cat "$said.report"
     fi
 }
 
 try_crate() {
-    (cd "$root/crates/$job" && timeout 900 rt try --test --seconds 300) </dev/null >"$said" 2>&1
+    # a test has so long by the clock, whatever else the machine does; the longest take a minute with nothing beside
+    (cd "$root/crates/$job" && timeout 1800 rt try --test --seconds 600) </dev/null >"$said" 2>&1
     ended=$?
     grep -v '^test .* ok$' "$said" >"$said.rest"
     counts=$(sed -n 's/^test result: [A-Za-z]*\. \([0-9]*\) passed; \([0-9]*\) failed;.*/\1 \2/p' "$said")
@@ -36,7 +40,11 @@ try_crate() {
 }
 
 run_check() {
-    if LIFE_PROGRAM=$judged timeout 1200 sh "$job" </dev/null >"$said" 2>&1; then report 1 0; else report 0 1 "$said"; fi
+    if LIFE_PROGRAM=$judged timeout 1800 sh "$job" </dev/null >"$said" 2>&1; then
+        report 1 0
+    else
+        report 0 1 "$said"
+    fi
 }
 
 case $job in

@@ -41,9 +41,9 @@ why_wait() {
     fi
 }
 
-# Waits so many seconds at most until nobody has what the words need. Those that wait take turns by a lock on the folder,
-# which the program keeps to its end; so of several none takes the book from another that was about to begin. At the end
-# of the time the program is started all the same, and answers as it does.
+# Waits so many seconds at most until nobody has what the words need. Those that wait take turns by a lock on the
+# folder, which the program keeps to its end; so of several none takes the book from another that was about to begin. At
+# the end of the time the program is started all the same, and answers as it does.
 wait_for_books() {
     seconds=$1
     until=$(($(date +%s) + seconds))
