@@ -3,12 +3,7 @@
 # in order and number. A sync that is left out, or made too late, is seen here and by no proof, and so is a write to a file
 # that can only be read.
 . "$(dirname "$0")/../common.sh"
-# where it is missing and this may install it, it is installed
-command -v strace >/dev/null || { apt-get update -qq && apt-get install -y -qq strace; } >/dev/null 2>&1
-command -v strace >/dev/null || {
-    echo "calls: strace is needed to record the program's calls" >&2
-    exit 1
-}
+needs strace
 begin "three postings"
 head -n 3 "$examples/first-issues.csv" >three
 "$life" run <three >expected || exit 2

@@ -3,11 +3,7 @@
 # more where each has 8,192 policies, and a lane more is one, as strace counts; and whatever the number of workers, the text
 # is that of one.
 . "$(dirname "$0")/../common.sh"
-command -v strace >/dev/null || { apt-get update -qq && apt-get install -y -qq strace; } >/dev/null 2>&1
-command -v strace >/dev/null || {
-    echo "workers: strace is needed to count threads" >&2
-    exit 1
-}
+needs strace
 
 # a journal of so many issues, of all plans, ages and durations, and of twenty years
 make_book() {
