@@ -11,6 +11,7 @@ from life_tools.formats import Wrong
 
 # name -> the module of life_tools.entries that answers it, and what it does, in one line
 ENTRIES: dict[str, tuple[str, str]] = {
+    "due": ("due", "what is due on a day: premiums, lapses, maturities, reinstatements, settlements"),
 }
 
 
