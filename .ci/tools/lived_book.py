@@ -32,26 +32,28 @@ def drawn_issue(draw: random.Random, number: int) -> Command:
     return Command("issue", number, day, plan, age, years, amount, amount // 50)
 
 
-def following(draw: random.Random, policy: Policy) -> list[Command]:
-    """What may befall a policy next: the commands are tried, and those are kept that the rules take."""
+def following(draw: random.Random, policy: Policy) -> Command | None:
+    """What may befall a policy next, if anything: it is tried, and kept where the rules take it."""
     number, due = policy.number, due_of(policy)
     if policy.status in ("claimed", "matured"):
         day = policy.last + datetime.timedelta(draw.randrange(60))
-        return [Command("settle", number, day, amount=draw.choice((policy.outstanding, (policy.outstanding + 1) // 2)))]
+        return Command("settle", number, day, amount=draw.choice((policy.outstanding, (policy.outstanding + 1) // 2)))
     if policy.status == "lapsed":
         day = policy.last + datetime.timedelta(draw.randrange(1200))
-        return [Command("reinstate", number, day, amount=max(missed_by(policy, day) * policy.premium, 1))] if draw.random() < 0.5 else []
+        missed = missed_by(policy, day) * policy.premium
+        return Command("reinstate", number, day, amount=missed) if missed and draw.random() < 0.5 else None
     if due is not None and policy.status == "inforce" and draw.randrange(100) < GOES_ON:
-        return [Command("premium", number, max(policy.last, due + datetime.timedelta(draw.randint(-40, 31))), amount=policy.premium)]
+        day = max(policy.last, due + datetime.timedelta(draw.randint(-40, 31)))
+        return Command("premium", number, day, amount=policy.premium)
     if draw.random() < 0.3 or due is None:
-        return [Command("mature", number, end_of(policy) + datetime.timedelta(draw.randrange(20)))]
+        return Command("mature", number, end_of(policy) + datetime.timedelta(draw.randrange(20)))
     day = max(policy.last, due + datetime.timedelta(draw.randint(-200, 31)))
     return {
-        "claim": [Command("claim", number, day)],
-        "lapse": [Command("lapse", number, max(policy.last, due + datetime.timedelta(draw.randint(32, 300))))],
-        "paidup": [Command("paidup", number, max(day, UPGRADED), amount=max(policy.amount // 3, 1))],
-        "alter": [Command("alter", number, day, amount=policy.amount - 100, premium=policy.premium + 100)],
-    }.get(draw.choice(BEFALLS), [])
+        "claim": Command("claim", number, day),
+        "lapse": Command("lapse", number, max(policy.last, due + datetime.timedelta(draw.randint(32, 300)))),
+        "paidup": Command("paidup", number, max(day, UPGRADED), amount=max(policy.amount // 3, 1)),
+        "alter": Command("alter", number, day, amount=policy.amount - 100, premium=policy.premium + 100),
+    }.get(draw.choice(BEFALLS))
 
 
 def life_of(draw: random.Random, issue: Command) -> list[Command]:
@@ -59,11 +61,13 @@ def life_of(draw: random.Random, issue: Command) -> list[Command]:
     assert isinstance(policy, Policy)
     commands = [issue]
     for _ in range(payments_of(policy) + 8):
-        for command in following(draw, policy):
-            after = decide(policy, command)
-            if command.day and command.day <= LAST and isinstance(after, Policy):
-                commands.append(command)
-                policy = after
+        tried = following(draw, policy)
+        if tried is None:
+            break
+        after = decide(policy, tried)
+        if tried.day and tried.day <= LAST and isinstance(after, Policy):
+            commands.append(tried)
+            policy = after
     return commands
 
 
