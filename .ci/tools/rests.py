@@ -12,7 +12,7 @@ sys.path[:0] = [os.path.join(ROOT, "tools"), os.path.join(ROOT, ".ci", "stress")
 
 from life_tools.commands import words_of
 from life_tools.formats import Wrong
-from life_tools.rests import rest_of
+from life_tools.rests import History, rest_of
 from life_tools.rules import Book, Refusal
 from life_tools.script_lines import lanes_of, read_script
 from scripts import make_script
@@ -79,7 +79,7 @@ def judge_drawn(draw):
     lines = read_script("\n".join(text).encode())
     book = Book()
     _, shown = run_up_to(draw, lines, book, draw.randrange(len(lines) + 1))
-    rest = rest_of(lines, Book(), book.commands)
+    rest = rest_of(lines, History(0, book.commands))
     for lane, rows in lanes_of(lines).items():
         need(len(rest[lane]) <= len(rows) - shown.get(lane, 0), f"lane {lane}: too much is left of {text}")
     need(is_short(lines, rest, shown), f"too little is left of {text}")
@@ -110,7 +110,7 @@ def judge_equal(draw):
     for cut in range(CUTS):
         book = Book(opening)
         run_up_to(draw, lines, book, draw.randrange(len(lines) + 1))
-        rest = rest_of(lines, Book(opening), book.commands[len(opening):])
+        rest = rest_of(lines, History(len(opening), book.commands))
         need(is_a_run(lines, Book(opening), book.commands, rest),
              f"no run of {rows} leaves {[words_of(it) for it in book.commands]} and this rest")
 
@@ -122,7 +122,7 @@ def judge_strange(draw):
     command = lines[0].command
     for records in ([command] * 3, [read_script(b"1,settle,1,2020-03-01,10.01\n")[0].command]):
         try:
-            rest_of(lines, Book(opening.commands), records)
+            rest_of(lines, History(len(opening.commands), [*opening.commands, *records]))
         except Wrong:
             continue
         sys.exit(f"tools: a rest is told of {len(records)} records that the script can't have posted")

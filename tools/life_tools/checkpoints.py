@@ -44,7 +44,8 @@ def policy_in(data: bytes) -> Policy:
     demand(data[4] in PLANS and 1 <= data[8] <= len(STATUSES), f"its plan is {data[4]}, its status {data[8]}")
     policy = Policy(number_of(data[:4]), PLANS[data[4]], data[5], data[6], number_of(data[20:28]), number_of(data[28:36]),
                     day_of(data[12:16]), day_of(data[16:20]), STATUSES[data[8] - 1], data[7], number_of(data[36:44]))
-    demand_valid(Command("issue", policy.number, policy.issued, policy.plan, policy.age, policy.years, policy.amount, policy.premium))
+    demand_valid(Command("issue", policy.number, policy.issued, policy.plan, policy.age, policy.years, policy.amount,
+                         policy.premium))
     demand(policy.paid <= payments_of(policy), f"{policy.paid} premiums are paid")
     demand(FIRST_DAY <= policy.issued <= policy.last <= LAST_DAY, f"its last day is {policy.last}")
     demand(policy.outstanding <= policy.amount, "more is outstanding than is insured")
@@ -97,7 +98,8 @@ def bytes_of_checkpoint(checkpoint: Checkpoint) -> bytes:
     made += bytes(3)
     for policy in checkpoint.policies:
         made += policy.number.to_bytes(4, "big")
-        made += bytes([PLAN_CODES[policy.plan], policy.age, policy.years, policy.paid, STATUSES.index(policy.status) + 1]) + bytes(3)
+        status = STATUSES.index(policy.status) + 1
+        made += bytes([PLAN_CODES[policy.plan], policy.age, policy.years, policy.paid, status]) + bytes(3)
         for day in (policy.issued, policy.last):
             made += (day - EPOCH).days.to_bytes(4, "big", signed=True)
         for cents in (policy.amount, policy.premium, policy.outstanding):

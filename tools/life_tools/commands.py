@@ -2,10 +2,12 @@
 from __future__ import annotations
 
 import datetime
+import struct
 from dataclasses import dataclass
+from functools import lru_cache
 
-from life_tools.formats import (FIELDS, FIRST_DAY, KINDS, LAST_DAY, MOST_CENTS, MOST_NUMBER, MOST_REINSTATEMENT_CENTS, PLANS, Wrong, demand,
-                     money)
+from life_tools.formats import (FIELDS, FIRST_DAY, KINDS, LAST_DAY, MOST_CENTS, MOST_NUMBER, MOST_REINSTATEMENT_CENTS,
+                                PLANS, Wrong, money)
 
 BODY_SIZE = 64
 OLDEST_AT_ISSUE = 129
@@ -28,6 +30,12 @@ class Command:
     amount: int = 0
     premium: int = 0
 
+    @property
+    def on(self) -> datetime.date:
+        """Its day, which all but an upgrade have."""
+        assert self.day is not None
+        return self.day
+
 
 UPGRADE = Command("upgrade")
 
@@ -47,22 +55,32 @@ def years_fit(plan: str, age: int, years: int) -> bool:
     return years == 0 if plan == "whole" else 2 <= years <= LAST_AGE - age
 
 
+def why_invalid(command: Command) -> str | None:
+    """The first field of a command that lies outside its limits, if there is one."""
+    if command.kind == "upgrade":
+        return None if command == UPGRADE else "an upgrade has its kind alone"
+    if not 1 <= command.number <= MOST_NUMBER:
+        return f"the policy's number is {command.number}"
+    if not command.day or not FIRST_DAY <= command.day <= LAST_DAY:
+        return f"the day is {command.day}"
+    most = MOST_REINSTATEMENT_CENTS if command.kind == "reinstate" else MOST_CENTS
+    held = FIELDS[command.kind]
+    if "amount" in held and not 1 <= command.amount <= most:
+        return f"the amount is {money(command.amount)}"
+    if "premium" in held and not 1 <= command.premium <= most:
+        return f"the premium is {money(command.premium)}"
+    if command.kind == "issue" and command.age > OLDEST_AT_ISSUE:
+        return f"the age is {command.age}"
+    if command.kind == "issue" and not years_fit(command.plan, command.age, command.years):
+        return f"a {command.plan} at age {command.age} has {command.years} years"
+    return None
+
+
 def demand_valid(command: Command) -> None:
     """Refuses a command of which a field lies outside its limits."""
-    if command.kind == "upgrade":
-        demand(command == UPGRADE, "an upgrade has its kind alone")
-        return
-    demand(1 <= command.number <= MOST_NUMBER, f"the policy's number is {command.number}")
-    demand(command.day and FIRST_DAY <= command.day <= LAST_DAY, f"the day is {command.day}")
-    most = MOST_REINSTATEMENT_CENTS if command.kind == "reinstate" else MOST_CENTS
-    for name in ("amount", "premium"):
-        if name in FIELDS[command.kind]:
-            cents = getattr(command, name)
-            demand(1 <= cents <= most, f"the {name} is {money(cents)}")
-    if command.kind == "issue":
-        demand(command.age <= OLDEST_AT_ISSUE, f"the age is {command.age}")
-        fits = years_fit(command.plan, command.age, command.years)
-        demand(fits, f"a {command.plan} at age {command.age} has {command.years} years")
+    why = why_invalid(command)
+    if why:
+        raise Wrong(why)
 
 
 def body_of(command: Command) -> bytes:
@@ -73,30 +91,37 @@ def body_of(command: Command) -> bytes:
             + command.amount.to_bytes(8, "big") + command.premium.to_bytes(8, "big") + bytes(36))
 
 
-def command_in(body: bytes) -> Command:
-    """The valid command that a record's body spells."""
-    kind = KINDS.get(body[0])
-    if kind is None:
-        raise Wrong(f"there is no kind {body[0]}")
-    if kind == "issue" and body[1] not in PLANS:
-        raise Wrong(f"there is no plan {body[1]}")
-    if kind == "upgrade":
-        demand(body == body_of(UPGRADE), "an upgrade has bytes where it holds nothing")
-        return UPGRADE
+# kind, plan, age, years, number, day, amount, premium; behind them nothing
+BODY = struct.Struct(">BBBBIiQQ")
+NOTHING = bytes(BODY_SIZE - BODY.size)
+
+
+@lru_cache(2**17)
+def day_in_record(days: int) -> datetime.date:
     try:
-        day = EPOCH + datetime.timedelta(int.from_bytes(body[8:12], "big", signed=True))
+        return EPOCH + datetime.timedelta(days)
     except OverflowError:
         raise Wrong("the day lies outside the calendar") from None
-    command = Command(kind, int.from_bytes(body[4:8], "big"), day, PLANS[body[1]] if kind == "issue" else "",
-                      body[2] if kind == "issue" else 0, body[3] if kind == "issue" else 0,
-                      int.from_bytes(body[12:20], "big"), int.from_bytes(body[20:28], "big"))
+
+
+def command_in(body: bytes) -> Command:
+    """The valid command that a record's body spells."""
+    code, plan, age, years, number, days, amount, premium = BODY.unpack_from(body)
+    kind = KINDS.get(code)
+    if kind is None:
+        raise Wrong(f"there is no kind {code}")
+    is_issue = kind == "issue"
+    if is_issue and plan not in PLANS:
+        raise Wrong(f"there is no plan {plan}")
+    if kind == "upgrade":
+        if body != body_of(UPGRADE):
+            raise Wrong("an upgrade has bytes where it holds nothing")
+        return UPGRADE
+    command = Command(kind, number, day_in_record(days), PLANS[plan] if is_issue else "", age if is_issue else 0,
+                      years if is_issue else 0, amount, premium)
     demand_valid(command)
-    demand(body == spelled(command), f"a {kind} has bytes where it holds nothing")
+    held = FIELDS[kind]
+    idle = (not is_issue and plan | age | years) or ("amount" not in held and amount) or ("premium" not in held and premium)
+    if idle or body[BODY.size:] != NOTHING:
+        raise Wrong(f"a {kind} has bytes where it holds nothing")
     return command
-
-
-def spelled(command: Command) -> bytes:
-    """The body of a command of which the fields that its kind doesn't hold are taken as 0."""
-    held = FIELDS[command.kind]
-    return body_of(Command(command.kind, command.number, command.day, command.plan, command.age, command.years,
-                           command.amount if "amount" in held else 0, command.premium if "premium" in held else 0))

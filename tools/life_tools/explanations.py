@@ -19,7 +19,8 @@ WANTED = {
     "scaled": "rates that stand as they are: a ScalingFactor that is absent, empty, 0 or 1",
     "badage": 'an age: an attribute t with one to three digits, 0 to 130, as in <Y t="35">, or in an issue age\'s <Axis t="35">',
     "agegap": "an age that is one more than that of the Y, or of the issue age, before",
-    "badduration": ("rates of each issue age by duration, from duration 0 or 1 on: a t that is one more than that of the Y before, "
+    "badduration": ("rates of each issue age by duration, from duration 0 or 1 on: a t that is one more than that of the Y "
+                    "before, "
                     f"and no age above {MOST_AGE}"),
     "noultimate": "a second Table behind this one, with the ultimate rates by age: its Values, Axis, Y",
     "ultimategap": "an ultimate rate for the age right behind the last rate of this issue age",

@@ -8,6 +8,7 @@ import datetime
 import re
 import sys
 from dataclasses import dataclass
+from functools import lru_cache
 
 FIRST_DAY = datetime.date(1900, 1, 1)
 LAST_DAY = datetime.date(2199, 12, 31)
@@ -75,16 +76,21 @@ def printed_text(path: str) -> str:
 
 # --- numbers, amounts, days ---
 
+NUMBER = re.compile("0|[1-9][0-9]{0,18}")
+CENTS = re.compile(r"(0|[1-9][0-9]{0,16})\.[0-9]{2}")
+DAY = re.compile("[0-9]{4}-[0-9]{2}-[0-9]{2}")
+
+
 def number_of(text: str, least: int, most: int) -> int | None:
     """A whole number of decimal digits, without a sign and without a leading zero."""
-    if not re.fullmatch("0|[1-9][0-9]{0,18}", text):
+    if not NUMBER.fullmatch(text):
         return None
     return int(text) if least <= int(text) <= most else None
 
 
 def cents_of(text: str, most: int = MOST_CENTS) -> int | None:
     """An amount with a point and two digits, from 0.01 on, in cents."""
-    if not re.fullmatch(r"(0|[1-9][0-9]{0,16})\.[0-9]{2}", text):
+    if not CENTS.fullmatch(text):
         return None
     cents = int(text.replace(".", ""))
     return cents if 1 <= cents <= most else None
@@ -100,9 +106,10 @@ def money(cents: int) -> str:
     return f"{'-' if cents < 0 else ''}{abs(cents) // 100}.{abs(cents) % 100:02}"
 
 
+@lru_cache(2**17)
 def day_of(text: str) -> datetime.date | None:
     """A day `YYYY-MM-DD` of the calendar, from 1900-01-01 to 2199-12-31."""
-    if not re.fullmatch("[0-9]{4}-[0-9]{2}-[0-9]{2}", text):
+    if not DAY.fullmatch(text):
         return None
     try:
         day = datetime.date.fromisoformat(text)
@@ -157,7 +164,19 @@ def field_at(text: str, at: int) -> tuple[str, int]:
 
 def rows_in(data: bytes) -> list[Row]:
     """The rows of a file, as the library `csv` of the program reads them: an empty line is no row."""
-    text, at, line = text_of(data), 0, 1
+    text = text_of(data)
+    return quoted_rows(text) if '"' in text else plain_rows(text)
+
+
+def plain_rows(text: str) -> list[Row]:
+    """The rows of a text without a quote: each is one line."""
+    lines = text.replace("\r\n", "\n").replace("\r", "\n").split("\n")
+    full = ((number, line) for number, line in enumerate(lines, 1) if line)
+    return [Row(row, number, tuple(line.split(",")), line) for row, (number, line) in enumerate(full, 1)]
+
+
+def quoted_rows(text: str) -> list[Row]:
+    at, line = 0, 1
     rows: list[Row] = []
     while at < len(text):
         ended = LINE_END.match(text, at)

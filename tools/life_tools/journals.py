@@ -6,6 +6,7 @@ from typing import Iterable
 
 from life_tools.commands import BODY_SIZE, Command, body_of, command_in
 from life_tools.formats import MOST_COMMANDS, Wrong, bytes_of, number_of
+from life_tools.progress import Progress
 from life_tools.rules import Book
 
 HEADER = b"LIFEJRNL" + bytes([0, 1, 0, BODY_SIZE, 0, 0, 0, 0])
@@ -45,10 +46,11 @@ def bad_record(record: int, why: str, book: Book | None = None) -> Journal:
     return Journal(book or Book(), refused=f"badjournal,badrecord,{record}", why=f"record {record}: {why}")
 
 
-def read_journal(data: bytes) -> Journal:
-    """What the program makes of a file's bytes."""
+def read_journal(data: bytes, into: Book | None = None) -> Journal:
+    """What the program makes of a file's bytes; its commands go into a new book, or into an empty one that is given."""
+    book = Book() if into is None else into
     if is_unfinished_creation(data):
-        return Journal(is_unfinished=True)
+        return Journal(book, is_unfinished=True)
     if len(data) < len(EMPTY):
         return Journal(refused="badjournal,notajournal", why=f"it has {len(data)} bytes, and an empty journal has {len(EMPTY)}")
     if data[:FIRST_GATE] != EMPTY[:FIRST_GATE]:
@@ -60,23 +62,26 @@ def read_journal(data: bytes) -> Journal:
         if gate_of(count + 1) >= len(data):
             return bad_record(count, f"it is cut short at byte {len(data)}")
         count += 1
-    return replayed(data, count)
+    return replayed(data, count, book)
 
 
-def replayed(data: bytes, count: int) -> Journal:
+def replayed(data: bytes, count: int, book: Book) -> Journal:
     """The journal of so many records, each of which has to spell a command that can follow."""
-    book = Book()
+    progress = Progress("reading the journal", count)
     for record in range(count):
         try:
             book.post(command_in(data[gate_of(record) + 1:gate_of(record + 1)]))
         except Wrong as wrong:
             return bad_record(record, str(wrong), book)
+        if record % 4096 == 0:
+            progress.at(record)
+    progress.end()
     return Journal(book)
 
 
-def journal_at(path: str) -> Journal:
+def journal_at(path: str, into: Book | None = None) -> Journal:
     """The journal of a file, which must be one or an unfinished creation of one."""
-    journal = read_journal(bytes_of(path))
+    journal = read_journal(bytes_of(path), into)
     if journal.refused:
         raise Wrong(f"{path}: {journal.refused}: {journal.why}")
     return journal

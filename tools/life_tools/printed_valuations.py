@@ -37,7 +37,8 @@ def close(valuation: Valuation, row: list[str]) -> None:
     if words is None:
         raise Wrong(f"{','.join(row)} is no total of a valuation")
     valuation.total, valuation.words = printed_cents(row[-2]), words
-    demand(sum(valuation.upper.values()) == valuation.total, f"the rows on {valuation.day} add up to another total than {row[-2]}")
+    is_sum = sum(valuation.upper.values()) == valuation.total
+    demand(is_sum, f"the rows on {valuation.day} add up to another total than {row[-2]}")
 
 
 def valuations_in(text: str) -> list[Valuation]:

@@ -96,7 +96,7 @@ class PaidUp:
 
 Insured = Union[InForce, PaidUp]
 # what was worked out of 1, by the basis row's day and what of the policy matters
-Known = Dict[tuple, Insured]
+Known = Dict[Tuple[datetime.date, int, int, int, bool, bool], Insured]
 
 
 def exact_value(insured: Insured, year: int, measure: str) -> Fraction:

@@ -1,4 +1,4 @@
-"""The rows of a script that a killed run didn't reach, as a script for the next run.
+"""The rows of a script that a killed run didn't reach.
 
 A killed run prints nothing. What it had accepted stands in the journal, and a lane's rows are answered in their order.
 So of each lane the rows up to the last one that the journal shows were answered, and the rest is to be run.
@@ -9,120 +9,202 @@ run of the whole script.
 """
 from __future__ import annotations
 
+from bisect import bisect_left, bisect_right
+from dataclasses import dataclass
+from itertools import chain
+from typing import Dict, Iterable, Iterator, Tuple
+
 from life_tools.commands import Command, words_of
 from life_tools.formats import Wrong, demand
-from life_tools.rules import Book, Policy, Refusal, decide
+from life_tools.progress import Progress
+from life_tools.rules import Book, Policy, Refusal, Upgraded, decide
 from life_tools.script_lines import Line, lanes_of
 
-MOST_TRIED = 1_000_000
+# how many records may be dealt out anew, after a lane to which one was dealt couldn't go on
+MOST_AGAIN = 1_000_000
+# how many rows of a lane are answered, and after how many records of the run the last of them was
+Stand = Tuple[int, int]
+Stands = Dict[int, Stand]
+# which lane posted a record, and where it stands then
+Way = Tuple[int, Stand]
 
 
 class NoRun(Wrong):
     """No run of the script leaves the journal."""
 
 
-class History:
-    """The records of the run, and each policy after so many of them."""
+class History(Book):
+    """The book with what the run has made of it: each policy of the run after so many of its records."""
 
-    def __init__(self, begun: Book, records: list[Command]) -> None:
-        self.records = records
-        self.states: dict[int, list[tuple[int, Policy | None]]] = {}
-        book = Book()
-        book.policies, book.upgrade = dict(begun.policies), begun.upgrade
-        for number in {command.number for command in records}:
-            self.states[number] = [(0, begun.policies.get(number))]
+    def __init__(self, begun: int, commands: Iterable[Command] = ()) -> None:
+        """Before the run there were so many commands."""
         self.begun = begun
+        # of each policy of the run: after how many records it changed, and what it was from then on
+        self.moments: dict[int, list[int]] = {}
+        self.states: dict[int, list[Policy | None]] = {}
         # after how many of the records there is an upgrade, if there is one
-        self.upgraded = 0 if begun.upgrade else None
-        for after, command in enumerate(records, 1):
-            answer = book.decide(command)
-            if isinstance(answer, Refusal):
-                raise Wrong(f"record {after} of the run can't follow: {','.join(answer.words())}")
-            book.take(command, answer)
-            if isinstance(answer, Policy):
-                self.states[command.number].append((after, answer))
-            else:
-                self.upgraded = after
+        self.upgraded: int | None = None
+        super().__init__(commands)
 
-    def refused_from(self, command: Command, moment: int) -> int | None:
-        """The first moment, not before the given one, at which the command is refused: after so many records."""
-        if command.kind == "upgrade":
-            return None if self.upgraded is None else max(self.upgraded, moment)
-        if command.kind == "paidup" and (self.upgraded is None or moment < self.upgraded):
-            return moment
-        states = self.states.get(command.number, [(0, self.begun.policies.get(command.number))])
-        for place, (since, policy) in enumerate(states):
-            until = states[place + 1][0] - 1 if place + 1 < len(states) else len(self.records)
-            if until >= moment and isinstance(decide(policy, command), Refusal):
-                return max(since, moment)
+    def take(self, command: Command, after: Policy | Upgraded) -> None:
+        before = self.policies.get(command.number)
+        super().take(command, after)
+        moment = len(self.commands) - self.begun
+        if not isinstance(after, Policy):
+            self.upgraded = max(moment, 0)
+        elif moment > 0:
+            self.moments.setdefault(command.number, [0]).append(moment)
+            self.states.setdefault(command.number, [before]).append(after)
+
+    @property
+    def records(self) -> int:
+        return len(self.commands) - self.begun
+
+    def record(self, n: int) -> Command:
+        return self.commands[self.begun + n]
+
+    def refused_in(self, command: Command, moment: int, last: int) -> int | None:
+        """The first moment from one to another at which the command is refused: after so many records."""
+        if command.kind in ("upgrade", "paidup"):
+            upgraded = self.records + 1 if self.upgraded is None else self.upgraded
+            if command.kind == "upgrade":
+                return max(upgraded, moment) if upgraded <= last else None
+            if moment < upgraded:
+                return moment
+        if command.number not in self.moments:
+            return moment if isinstance(decide(self.policies.get(command.number), command), Refusal) else None
+        return self.refused_by(command, moment, last)
+
+    def refused_by(self, command: Command, moment: int, last: int) -> int | None:
+        """The same of a policy that the run has changed."""
+        moments, states = self.moments[command.number], self.states[command.number]
+        for place in range(bisect_right(moments, moment) - 1, len(moments)):
+            if moments[place] > last:
+                break
+            if isinstance(decide(states[place], command), Refusal):
+                return max(moments[place], moment)
         return None
 
 
+class Passage:
+    """A lane's rows from where it stands, as far as they can have been answered without one being accepted."""
+
+    def __init__(self, history: History, lines: list[Line], stand: Stand) -> None:
+        self.history, self.lines, self.stand = history, lines, stand
+        # the least moment at which so many rows are answered, and up to which one the next row isn't refused
+        self.moments = [stand[1]]
+        self.looked = stand[1]
+
+    def passes(self, rows: int, record: int) -> bool:
+        """Whether so many rows can have been answered before a record."""
+        while len(self.moments) <= rows and self.moments[-1] <= record:
+            moment = self.answered(self.lines[self.stand[0] + len(self.moments) - 1], record)
+            if moment is None:
+                self.looked = max(self.looked, record + 1)
+                return False
+            self.moments.append(moment)
+            self.looked = moment
+        return len(self.moments) > rows and self.moments[rows] <= record
+
+    def answered(self, line: Line, record: int) -> int | None:
+        """The least moment at which a row is answered and not accepted; a value and a trim are so at once."""
+        if line.command is None:
+            return self.moments[-1]
+        return self.history.refused_in(line.command, self.looked, record) if self.looked <= record else None
+
+
+@dataclass
+class Choice:
+    """A record that several rows may be: how the lanes stood before it, and the ways that weren't gone yet."""
+
+    record: int
+    stands: Stands
+    ways: Iterator[Way]
+
+
 class Search:
-    """Deals the records out to the lanes: of each lane, how many of its rows are answered, and at which moment the last was."""
+    """Deals the records out to the lanes: of each lane, how many of its rows are answered, and when the last one was."""
 
     def __init__(self, lanes: dict[int, list[Line]], history: History) -> None:
         self.lanes, self.history = lanes, history
-        self.places: dict[tuple[int, Command], list[int]] = {}
+        # of each command, in which places of which lanes it stands
+        self.places: dict[Command, dict[int, list[int]]] = {}
         for lane, lines in lanes.items():
-            for place, line in enumerate(lines):
-                if line.command:
-                    self.places.setdefault((lane, line.command), []).append(place)
-        self.tried = 0
+            self.place_all(lane, lines)
+        self.passages: dict[int, Passage] = {}
+        self.choices: list[Choice] = []
+        self.seen: set[tuple[Stand, ...]] = set()
 
-    def step(self, lane: int, state: tuple[int, int], record: int) -> list[tuple[int, int]]:
-        """Where a lane may stand once it has posted the record: behind each row that is it, where those before it can have been
-        refused by then."""
-        answered, moment = state
-        found: list[tuple[int, int]] = []
-        for place in self.places.get((lane, self.history.records[record]), []):
-            if place < answered:
-                continue
-            passed = self.passed(self.lanes[lane][answered:place], moment, record)
-            if passed is None:
-                break
-            found.append((place + 1, record + 1))
-        return found
-
-    def passed(self, lines: list[Line], moment: int, record: int) -> int | None:
-        """The least moment at which all these rows are answered and nothing of them is accepted, up to a record."""
-        at: int | None = moment
-        for line in lines:
+    def place_all(self, lane: int, lines: list[Line]) -> None:
+        for place, line in enumerate(lines):
             if line.command:
-                at = self.history.refused_from(line.command, at)
-                if at is None or at > record:
-                    return None
-        return at
+                self.places.setdefault(line.command, {}).setdefault(lane, []).append(place)
 
-    def ways(self, state: dict[int, tuple[int, int]], record: int) -> list[dict[int, tuple[int, int]]]:
-        return [{**state, lane: step} for lane in self.lanes for step in self.step(lane, state[lane], record)]
+    def passage(self, lane: int, stand: Stand) -> Passage:
+        """The lane's rows from where it stands; what was found out of them is kept until it stands elsewhere."""
+        known = self.passages.get(lane)
+        if known is None or known.stand != stand:
+            known = self.passages[lane] = Passage(self.history, self.lanes[lane], stand)
+        return known
 
-    def run(self) -> dict[int, tuple[int, int]]:
-        """The first way to deal all records out, depth first; a state that led nowhere isn't tried twice."""
-        start = {lane: (0, 0) for lane in self.lanes}
-        path, seen, farthest = [[start]], set(), 0
-        while path:
-            if not path[-1]:
-                path.pop()
-                continue
-            state, record = path[-1].pop(), len(path) - 1
-            if record == len(self.history.records):
-                return state
-            key = tuple(state.values())
-            if key in seen:
-                continue
-            seen.add(key)
-            self.tried += 1
-            demand(self.tried <= MOST_TRIED, "there are too many equal rows to deal the records out")
+    def ways(self, stands: Stands, record: int) -> Iterator[Way]:
+        """The ways to deal a record out: the lanes in order, and of each the rows that are it, where those before them can
+        have been answered by then."""
+        for lane, places in self.places.get(self.history.record(record), {}).items():
+            yield from ((lane, stand) for stand in self.steps(lane, places, stands[lane], record))
+
+    def steps(self, lane: int, places: list[int], stand: Stand, record: int) -> Iterator[Stand]:
+        for at in range(bisect_left(places, stand[0]), len(places)):
+            if not self.passage(lane, stand).passes(places[at] - stand[0], record):
+                break
+            yield places[at] + 1, record + 1
+
+    def first_way(self, stands: Stands, record: int) -> Way | None:
+        """The first way on from here; the others are kept, for when it leads nowhere."""
+        ways = self.ways(stands, record)
+        first, second = next(ways, None), next(ways, None)
+        if first is None or second is None:
+            return first
+        key = tuple(stands.values())
+        if key in self.seen:
+            return None
+        self.seen.add(key)
+        self.choices.append(Choice(record, stands, chain([second], ways)))
+        return first
+
+    def other_way(self, record: int) -> tuple[Choice, Way]:
+        """The last choice that has a way left."""
+        while self.choices:
+            way = next(self.choices[-1].ways, None)
+            if way is not None:
+                return self.choices[-1], way
+            self.choices.pop()
+        raise NoRun(f"no run of this script leaves this journal: nobody can have posted "
+                    f"{','.join(words_of(self.history.record(record)))}, which is command {record + 1} of the run")
+
+    def run(self) -> Stands:
+        """The first way to deal all records out, depth first; where a choice was come to before, it isn't made again."""
+        stands: Stands = {lane: (0, 0) for lane in self.lanes}
+        record = farthest = steps = 0
+        progress = Progress("dealing the records out", self.history.records)
+        while record < self.history.records:
+            steps += 1
             farthest = max(farthest, record)
-            path.append(self.ways(state, record)[::-1])
-        record = self.history.records[farthest]
-        raise NoRun(f"no run of this script leaves this journal: nobody can have posted {','.join(words_of(record))}, "
-                    f"which is command {farthest + 1} of the run")
+            way = self.first_way(stands, record)
+            if way is None:
+                choice, way = self.other_way(farthest)
+                stands, record = choice.stands, choice.record
+            stands = {**stands, way[0]: way[1]}
+            record += 1
+            demand(steps <= MOST_AGAIN + self.history.records, "there are too many equal rows to deal the records out")
+            if record % 4096 == 0:
+                progress.at(record)
+        progress.end()
+        return stands
 
 
-def rest_of(lines: list[Line], begun: Book, records: list[Command]) -> dict[int, list[Line]]:
+def rest_of(lines: list[Line], history: History) -> dict[int, list[Line]]:
     """Of each lane the rows that are to be run."""
     lanes = lanes_of(lines)
-    found = Search(lanes, History(begun, records)).run()
-    return {lane: lanes[lane][answered:] for lane, (answered, _) in found.items()}
+    stands = Search(lanes, history).run()
+    return {lane: lanes[lane][answered:] for lane, (answered, _) in stands.items()}

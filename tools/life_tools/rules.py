@@ -8,7 +8,7 @@ from __future__ import annotations
 import datetime
 from dataclasses import dataclass, replace
 from functools import lru_cache
-from typing import Iterable, Iterator, Union
+from typing import Iterable, Iterator, NamedTuple, Union
 
 from life_tools.commands import LAST_AGE, Command
 from life_tools.formats import MOST_COMMANDS, Wrong, money
@@ -40,8 +40,7 @@ class Policy:
     outstanding: int = 0
 
 
-@dataclass(frozen=True)
-class Refusal:
+class Refusal(NamedTuple):
     """The first reason that applies, and its value: a day, an amount in cents, a status, or none."""
 
     word: str
@@ -110,7 +109,7 @@ STATUSES = {"reinstate": ("lapsed",), "settle": ("claimed", "matured"), "claim":
 
 def reasons(policy: Policy, command: Command) -> Iterator[tuple[bool, Refusal]]:
     """What a command on a policy may be refused for, in order: whether it applies, and the refusal."""
-    kind, day = command.kind, command.day
+    kind, day = command.kind, command.on
     due, end = due_of(policy), end_of(policy)
     over = day >= end, Refusal("termover", end)
     grace = due is not None and day > due + GRACE, Refusal("graceover", due)
@@ -152,24 +151,23 @@ def reasons(policy: Policy, command: Command) -> Iterator[tuple[bool, Refusal]]:
 
 def changed(policy: Policy, command: Command) -> Policy:
     """The policy after an accepted command."""
-    kind = command.kind
-    new = replace(policy, last=command.day)
+    kind, last = command.kind, command.on
     if kind == "premium":
-        return replace(new, paid=policy.paid + 1)
+        return replace(policy, last=last, paid=policy.paid + 1)
     if kind == "alter":
-        return replace(new, amount=command.amount, premium=command.premium)
+        return replace(policy, last=last, amount=command.amount, premium=command.premium)
     if kind == "lapse":
-        return replace(new, status="lapsed")
+        return replace(policy, last=last, status="lapsed")
     if kind == "reinstate":
-        return replace(new, status="inforce", paid=policy.paid + missed_by(policy, command.day))
+        return replace(policy, last=last, status="inforce", paid=policy.paid + missed_by(policy, last))
     if kind == "settle":
         left = policy.outstanding - command.amount
-        return replace(new, outstanding=left, status=policy.status if left else "settled")
+        return replace(policy, last=last, outstanding=left, status=policy.status if left else "settled")
     if kind == "paidup":
-        return replace(new, status="paidup", amount=command.amount)
+        return replace(policy, last=last, status="paidup", amount=command.amount)
     if kind == "mature" and policy.plan == "term":
-        return replace(new, status="expired")
-    return replace(new, status="claimed" if kind == "claim" else "matured", outstanding=policy.amount)
+        return replace(policy, last=last, status="expired")
+    return replace(policy, last=last, status="claimed" if kind == "claim" else "matured", outstanding=policy.amount)
 
 
 def decide(policy: Policy | None, command: Command) -> Refusal | Policy:
@@ -177,8 +175,8 @@ def decide(policy: Policy | None, command: Command) -> Refusal | Policy:
     if command.kind == "issue":
         if policy:
             return Refusal("taken")
-        return Policy(command.number, command.plan, command.age, command.years, command.amount, command.premium, command.day,
-                      command.day)
+        return Policy(command.number, command.plan, command.age, command.years, command.amount, command.premium, command.on,
+                      command.on)
     if policy is None:
         return Refusal("unknown")
     for applies, refusal in reasons(policy, command):

@@ -3,12 +3,13 @@ from __future__ import annotations
 
 import datetime
 from dataclasses import dataclass
-from typing import Callable, Union
+from typing import Any, Callable
 
 from life_tools.commands import OLDEST_AT_ISSUE, Command, years_fit
-from life_tools.formats import (FIELDS, FIRST_DAY, LAST_DAY, MOST_CENTS, MOST_COMMANDS, MOST_LANES, MOST_NUMBER, MOST_REINSTATEMENT_CENTS,
-                     MOST_SCRIPT_BYTES, MOST_VALUATIONS, MOST_WORKERS, PLANS, Row, Wrong, bytes_of, cents_of, day_of, money, number_of,
-                     rows_in)
+from life_tools.formats import (FIELDS, FIRST_DAY, LAST_DAY, MOST_CENTS, MOST_COMMANDS, MOST_LANES, MOST_NUMBER,
+                                MOST_REINSTATEMENT_CENTS, MOST_SCRIPT_BYTES, MOST_VALUATIONS, MOST_WORKERS, PLANS, Row,
+                                Wrong, bytes_of, cents_of, day_of, money, number_of, rows_in)
+from life_tools.progress import Progress
 
 KIND_WORDS = (*FIELDS, "value", "trim")
 
@@ -51,8 +52,8 @@ class Fault:
         return self.row.fields[self.field - 1]
 
 
-# what a field is read as, or None where it doesn't fit
-Read = Union[str, int, datetime.date, None]
+# what a field is read as, or None where it doesn't fit: a text, a number or a day
+Read = Any
 
 
 @dataclass(frozen=True)
@@ -94,15 +95,10 @@ WORKERS = number("workers", 1, MOST_WORKERS, "the workers")
 POSTED = {"plan": PLAN, "age": AGE, "years": YEARS, "amount": amount("amount"), "premium": amount("premium")}
 
 
-def wanted_of(kind: str) -> list[Wanted]:
-    """The fields of a kind behind lane and kind."""
-    if kind == "value":
-        return [DAY, POSITION, WORKERS]
-    if kind in ("trim", "upgrade"):
-        return []
-    if kind == "reinstate":
-        return [NUMBER, DAY, amount("amount", MOST_REINSTATEMENT_CENTS)]
-    return [NUMBER, DAY, *(POSTED[name] for name in FIELDS[kind])]
+# the fields of a kind behind lane and kind
+WANTED_OF = {kind: [NUMBER, DAY, *(POSTED[name] for name in fields)] for kind, fields in FIELDS.items()}
+WANTED_OF.update(value=[DAY, POSITION, WORKERS], trim=[], upgrade=[],
+                 reinstate=[NUMBER, DAY, amount("amount", MOST_REINSTATEMENT_CENTS)])
 
 
 def line_of(row: Row, valuations: int) -> Line | Fault:
@@ -117,7 +113,7 @@ def line_of(row: Row, valuations: int) -> Line | Fault:
     if kind == "value" and valuations >= MOST_VALUATIONS:
         return Fault(row, 2, f"no further valuation: a script has at most {MOST_VALUATIONS}")
     read: dict[str, Read] = {}
-    wanted = wanted_of(kind)
+    wanted = WANTED_OF[kind]
     for place, field in enumerate(wanted, 3):
         value = field.read(fields[place - 1], read) if place <= len(fields) else None
         if value is None:
@@ -141,12 +137,16 @@ def read_script(data: bytes) -> list[Line] | Fault:
     if len(data) > MOST_SCRIPT_BYTES:
         return Fault(None, 0, f"at most {MOST_SCRIPT_BYTES} bytes; there are {len(data)}")
     lines, valuations = [], 0
+    progress = Progress("reading the script")
     for row in rows_in(data):
         line = line_of(row, valuations)
         if isinstance(line, Fault):
             return line
         lines.append(line)
         valuations += line.kind == "value"
+        if row.number % 4096 == 0:
+            progress.at(row.number)
+    progress.end()
     return lines
 
 

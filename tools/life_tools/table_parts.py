@@ -4,8 +4,8 @@ from __future__ import annotations
 from fractions import Fraction
 from typing import Callable
 
-from life_tools.tables import (AnyTable, Element, SelectTable, Table, durations_of, factor_of, issue_axes_of, path_of, rows_by_duration,
-                    ultimate_rows_of)
+from life_tools.tables import (AnyTable, Element, SelectTable, Table, durations_of, factor_of, issue_axes_of, path_of,
+                               rows_by_duration, ultimate_rows_of)
 
 Places = Callable[[Element], int]
 
@@ -29,7 +29,8 @@ def names_in(root: Element) -> list[str]:
     found = [head.first(name) for name in ("TableName", "ContentType")] if head else []
     axes = [part for data in root.those("Table")[:1] for one in data.those("MetaData") for part in one.those("AxisDef")]
     names = [part.text.strip() for part in found if part]
-    names += [f"axis {name.text.strip()}" for name in (part.first("AxisName") or part.first("ScaleType") for part in axes) if name]
+    of_axes = (part.first("AxisName") or part.first("ScaleType") for part in axes)
+    names += [f"axis {name.text.strip()}" for name in of_axes if name]
     return [name for name in names if name]
 
 
@@ -94,8 +95,8 @@ def by_age(path: str, table: Table, parts: list[Element], line_of: Places) -> li
              ends_by_age(table),
              f"  scaling factor: {factor_in(parts[1])}; the axis is taken as ages, whatever its name says"]
     if "t" in axis.attributes:
-        lines.append(f'  the first Axis has t="{axis.attributes["t"]}" as that of an issue age, but the rates directly in it, so that they '
-                     "are taken by age: where they are by duration, put the Axis of all issue ages into one without t")
+        lines.append(f'  the first Axis has t="{axis.attributes["t"]}" as that of an issue age, but the rates directly in it, so '
+                     "that they are taken by age: where they are by duration, put the Axis of all issue ages into one without t")
     return lines
 
 
@@ -107,16 +108,17 @@ def by_duration(path: str, table: SelectTable, parts: list[Element], line_of: Pl
     return [f"taken of {path}: the select rates of the issue ages {table.first} to {table.last}, {durations} durations each, "
             f"from line {line_of(issue_axes_of(parts)[0])} on",
             ends_of(table.periods[0][0], table.periods[-1][-1]),
-            f"and the ultimate rates of the ages {ultimate.first} to {ultimate.last}, from line {line_of(ultimate_rows_of(root)[0])} on",
+            f"and the ultimate rates of the ages {ultimate.first} to {ultimate.last}, "
+            f"from line {line_of(ultimate_rows_of(root)[0])} on",
             ends_by_age(ultimate),
-            f"  scaling factors: {factor_in(parts[1])}, {factor_in(root.those('Table')[1])}; the axes are taken as issue ages, durations "
-            "and ages, whatever their names say"]
+            f"  scaling factors: {factor_in(parts[1])}, {factor_in(root.those('Table')[1])}; the axes are taken as issue ages, "
+            "durations and ages, whatever their names say"]
 
 
 def lines_of(path: str, table: AnyTable, root: Element, line_of: Places) -> list[str]:
     """The lines on a file of this path, by its document, and by the line of an editor on which an element begins."""
     parts, _ = path_of(root)
-    told = by_duration if isinstance(table, SelectTable) else by_age
+    told = by_duration(path, table, parts, line_of) if isinstance(table, SelectTable) else by_age(path, table, parts, line_of)
     names = names_in(root)
-    return [*told(path, table, parts, line_of), *([f"  the file says: {'; '.join(names)}"] if names else []),
+    return [*told, *([f"  the file says: {'; '.join(names)}"] if names else []),
             "passed over: " + ("; ".join(passed_over(parts, table)) or "nothing")]

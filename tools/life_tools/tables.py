@@ -283,7 +283,8 @@ def period_of(axis: Element, age: int, name: str) -> tuple[Fraction, ...]:
     rows = durations_of(axis)
     if not rows:
         raise BadBasis(name, axis.at, "badduration")
-    due, rates = (0, 1), []
+    due: tuple[int, ...] = (0, 1)
+    rates: list[Fraction] = []
     for row in rows:
         duration = label_of(row)
         if duration not in due or age + len(rates) > MOST_AGE:
@@ -305,7 +306,9 @@ def select_table_of(path: list[Element], name: str) -> SelectTable:
     root, table, *_ = path
     for part in root.those("Table")[:2]:
         demand_unscaled(part, name)
-    axes, ages, periods = issue_axes_of(path), [], []
+    axes = issue_axes_of(path)
+    ages: list[int] = []
+    periods: list[tuple[Fraction, ...]] = []
     for axis in axes:
         ages.append(next_age(axis, ages, name))
         periods.append(period_of(axis, ages[-1], name))

@@ -8,7 +8,7 @@ no memory aren't checked.
 """
 from __future__ import annotations
 
-from typing import Sequence
+from typing import List, Sequence
 
 from life_tools.commands import Command, words_of
 from life_tools.formats import Wrong, demand, number_of, printed_rows
@@ -20,7 +20,7 @@ from life_tools.tables import BasisRow
 from life_tools.valuation_check import check_block
 
 # the lines of one valuation, or one other line
-Answer = list
+Answer = List[List[str]]
 
 
 def is_block(answer: Answer) -> bool:

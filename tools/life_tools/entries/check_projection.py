@@ -7,13 +7,15 @@ without it. It ends with status 1 and says where a line isn't as it must be.
 from __future__ import annotations
 
 import argparse
+from functools import partial
 
 from life_tools.formats import printed_text
 from life_tools.journals import book_at
 from life_tools.judging import judged
 from life_tools.projection_check import check_years
-from life_tools.projections import printed_projection
-from life_tools.tables import read_basis
+from life_tools.projections import Printed, printed_projection
+from life_tools.rules import Policy
+from life_tools.tables import BasisRow, read_basis
 
 
 def arguments(parser: argparse.ArgumentParser) -> None:
@@ -22,12 +24,12 @@ def arguments(parser: argparse.ArgumentParser) -> None:
     parser.add_argument("projection", metavar="PROJECTION", help="what life project printed")
 
 
+def judge(printed: Printed, policies: list[Policy], basis: list[BasisRow]) -> str:
+    check_years(printed, policies, basis)
+    return f"{len(printed.years)} years are right"
+
+
 def run(options: argparse.Namespace) -> int:
     printed = printed_projection(printed_text(options.projection))
     book, basis = book_at(options.journal, str(printed.position)), read_basis(options.basis)
-
-    def judge() -> str:
-        check_years(printed, list(book.policies.values()), basis)
-        return f"{len(printed.years)} years are right"
-
-    return judged(judge)
+    return judged(partial(judge, printed, list(book.policies.values()), basis))

@@ -7,11 +7,13 @@ checked without it. It ends with status 1 and says where a row or the total isn'
 from __future__ import annotations
 
 import argparse
+from functools import partial
 
 from life_tools.formats import Wrong, measure_of, printed_rows, printed_text
 from life_tools.journals import book_at
 from life_tools.judging import judged
-from life_tools.tables import read_basis
+from life_tools.rules import Policy
+from life_tools.tables import BasisRow, read_basis
 from life_tools.valuation_check import check_block
 
 
@@ -21,15 +23,16 @@ def arguments(parser: argparse.ArgumentParser) -> None:
     parser.add_argument("valuation", metavar="VALUATION", help="what life value printed")
 
 
+def judge(rows: list[list[str]], policies: list[Policy], basis: list[BasisRow], measure: str) -> str:
+    check_block(rows, policies, basis, {}, measure)
+    return f"{len(rows) - 2} rows are right"
+
+
 def run(options: argparse.Namespace) -> int:
     rows = printed_rows(printed_text(options.valuation))
     measure = measure_of(rows[0]) if len(rows) >= 2 and rows[0][0] == "0" else None
     if measure is None:
         raise Wrong(f"{options.valuation} is no valuation that life value prints")
     book, basis = book_at(options.journal, rows[0][3]), read_basis(options.basis)
-
-    def judge() -> str:
-        check_block(rows, list(book.policies.values()), basis, {}, measure)
-        return f"{len(rows) - 2} rows are right"
-
-    return judged(judge)
+    policies = list(book.policies.values())
+    return judged(partial(judge, rows, policies, basis, measure))

@@ -19,8 +19,8 @@ def arguments(parser: argparse.ArgumentParser) -> None:
 
 def print_books(checkpoint: Checkpoint) -> None:
     for policy in checkpoint.policies:
-        fields = [policy.number, policy.status, policy.plan, policy.age, policy.years, money(policy.amount), money(policy.premium),
-                  policy.issued, policy.paid, money(policy.outstanding)]
+        fields = [policy.number, policy.status, policy.plan, policy.age, policy.years, money(policy.amount),
+                  money(policy.premium), policy.issued, policy.paid, money(policy.outstanding)]
         print(",".join(["policy", *map(str, fields)]))
     for account, cents in checkpoint.balances.items():
         print(f"balance,{account},{money(cents)}")

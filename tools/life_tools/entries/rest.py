@@ -19,8 +19,7 @@ import sys
 from life_tools.commands import Command
 from life_tools.formats import MOST_COMMANDS, Wrong, demand, number_of, remark
 from life_tools.journals import journal_at
-from life_tools.rests import NoRun, rest_of
-from life_tools.rules import Book
+from life_tools.rests import History, NoRun, rest_of
 from life_tools.script_lines import Line, lanes_of, script_at
 
 
@@ -40,14 +39,15 @@ def begun_with(before: str) -> list[Command] | int:
     return count
 
 
-def parted(options: argparse.Namespace) -> tuple[list[Command], list[Command]]:
-    """The commands of before the run, and those of the run."""
-    commands, begun = journal_at(options.journal).commands, begun_with(options.before)
+def history_at(path: str, before: str) -> History:
+    """What the run has made of the journal, which has to go on from what was before it."""
+    begun = begun_with(before)
     count = begun if isinstance(begun, int) else len(begun)
-    demand(count <= len(commands), f"{options.journal} has {len(commands)} commands, and before the run there were {count}")
-    if not isinstance(begun, int):
-        demand(begun == commands[:count], f"{options.journal} doesn't go on from {options.before}")
-    return commands[:count], commands[count:]
+    history = History(count)
+    commands = journal_at(path, history).commands
+    demand(count <= len(commands), f"{path} has {len(commands)} commands, and before the run there were {count}")
+    demand(isinstance(begun, int) or begun == commands[:count], f"{path} doesn't go on from {before}")
+    return history
 
 
 def tell(lanes: dict[int, list[Line]], rest: dict[int, list[Line]], records: int) -> None:
@@ -61,26 +61,34 @@ def tell(lanes: dict[int, list[Line]], rest: dict[int, list[Line]], records: int
                 remark(f"  lost: {line.row.text}, row {line.row.number}: life value {line.day} --at POSITION prints it")
 
 
+def first_of_lanes(lines: list[Line]) -> dict[Command, dict[int, Line]]:
+    """Of each command the first row of each lane that is it."""
+    found: dict[Command, dict[int, Line]] = {}
+    for line in lines:
+        if line.command:
+            found.setdefault(line.command, {}).setdefault(line.lane, line)
+    return found
+
+
 def tell_equal(answered: list[Line], rest: list[Line]) -> None:
     """Rows of the rest that equal an answered row of another lane."""
+    firsts = first_of_lanes(answered)
     for line in rest:
-        like = [it for it in answered if it.command and it.command == line.command and it.lane != line.lane]
+        known = firsts.get(line.command, {}) if line.command else {}
+        like = min((it.row.number for lane, it in known.items() if lane != line.lane), default=None)
         if like:
-            remark(f"row {line.row.number} equals row {like[0].row.number}, which is taken as the one that was accepted")
+            remark(f"row {line.row.number} equals row {like}, which is taken as the one that was accepted")
 
 
 def run(options: argparse.Namespace) -> int:
-    lines = script_at(options.script)
-    begun, records = parted(options)
+    lines, history = script_at(options.script), history_at(options.journal, options.before)
     try:
-        rest = rest_of(lines, Book(begun), records)
+        rest = rest_of(lines, history)
     except NoRun as none:
         remark(str(none))
         return 1
     left = {line.row.number for lane in rest.values() for line in lane}
-    tell(lanes_of(lines), rest, len(records))
+    tell(lanes_of(lines), rest, history.records)
     tell_equal([line for line in lines if line.row.number not in left], [line for line in lines if line.row.number in left])
-    for line in lines:
-        if line.row.number in left:
-            sys.stdout.write(line.row.text + "\n")
+    sys.stdout.writelines(line.row.text + "\n" for line in lines if line.row.number in left)
     return 0
