@@ -30,7 +30,7 @@ def drawn(draw: random.Random, number: int) -> tuple[str, tuple[str, int, str] |
     tariff, plan = draw.choice(list(TARIFFS.items()))
     age, years = draw.randrange(20, 65, 5), draw.randrange(10, 35, 5)
     # no birthday and no issue on a 29 February, whose anniversaries are told apart in other checks
-    day = datetime.date(draw.randint(1996, LAST_YEAR), draw.randint(1, 12), draw.randint(1, 28))
+    day = datetime.date(draw.randint(1996 if draw.random() < 0.1 else 2018, LAST_YEAR), draw.randint(1, 12), draw.randint(1, 28))
     born = datetime.date(day.year - age, day.month, day.day) - datetime.timedelta(draw.randrange(365))
     amount, premium = draw.randint(5, 4000) * 50000, draw.randint(10000, 900000)
     most = 131 - age if plan == "whole" else years

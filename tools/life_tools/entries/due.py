@@ -151,5 +151,6 @@ def run(options: argparse.Namespace) -> int:
         if kinds:
             items = [it for it in items if WHATS[it[0]] in kinds]
         sys.stdout.writelines(scripted(items) if kinds else listed(items))
+    sys.stdout.flush()
     tell_sums(items)
     return 0
