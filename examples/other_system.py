@@ -37,7 +37,8 @@ def drawn(draw: random.Random, number: int) -> tuple[str, tuple[str, int, str] |
     paid = min(LAST_YEAR - day.year + 1, most)
     fault = draw.choice(FAULTS) if number % 400 == 0 else None
     begun = f"{day:%d.%m.%Y}" if fault is None else fault
-    row = f"LV-{number:07};{begun};{tariff};{born:%d.%m.%Y};{'' if plan == 'whole' else years};{german(amount)};{german(premium)};{paid}"
+    term = "" if plan == "whole" else years
+    row = f"LV-{number:07};{begun};{tariff};{born:%d.%m.%Y};{term};{german(amount)};{german(premium)};{paid}"
     if fault is not None:
         return row, None
     shown = 0 if plan == "whole" else years

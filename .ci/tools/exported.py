@@ -49,9 +49,9 @@ def print_days(tables: dict[str, list[dict]]) -> None:
 
 def print_entries(tables: dict[str, list[dict]]) -> None:
     for it in tables["command"]:
-        held = [it["plan"], it["age"], it["years"], *(None if it[name] is None else money(it[name])
-                                                      for name in ("amount_cents", "premium_cents"))]
-        print(said(["entry", it["position"], it["kind"], it["policy"], it["day"], *(value for value in held if value is not None)]))
+        cents = [None if it[name] is None else money(it[name]) for name in ("amount_cents", "premium_cents")]
+        held = [value for value in (it["plan"], it["age"], it["years"], *cents) if value is not None]
+        print(said(["entry", it["position"], it["kind"], it["policy"], it["day"], *held]))
 
 
 def print_valuations(tables: dict[str, list[dict]]) -> None:

@@ -13,9 +13,9 @@ from dataclasses import dataclass, field
 from functools import lru_cache
 from typing import Iterator, NamedTuple
 
-from life_tools.commands import EPOCH, UPGRADE, Command, body_of, command_in
+from life_tools.commands import BODY_SIZE, EPOCH, UPGRADE, Command, body_of, command_in
 from life_tools.formats import FIRST_DAY, LAST_DAY, MOST_CENTS, MOST_COMMANDS, MOST_YEARS, PLANS, Wrong, bytes_of, demand
-from life_tools.journals import BODY_SIZE, EMPTY, FIRST_GATE, OPEN, RECORD_SIZE, gate_of, is_unfinished_creation, read_journal
+from life_tools.journals import EMPTY, FIRST_GATE, OPEN, RECORD_SIZE, gate_of, is_unfinished_creation, read_journal
 from life_tools.progress import Progress
 from life_tools.rules import Policy, anniversary, changed, cover_of
 
@@ -121,7 +121,7 @@ class Bulk:
                 if not FIRST <= day <= LAST or not 0 < amount <= MOST_CENTS >= premium > 0:
                     raise BadRecord
                 place_of[number] = len(issues)
-                issues.append(record)
+                issues.append((head, number, day, amount, premium))
                 paid.append(0)
                 last.append(day)
             else:

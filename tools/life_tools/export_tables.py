@@ -57,8 +57,8 @@ def plain_row(book: Bulk, place: int) -> TableRow:
     paid, end = book.paid[place], anniversary_at(issued, cover)
     due = anniversary_at(issued, paid) if paid < payments else None
     awaited = (None, None) if due is None else (text_at(due), text_at(due + GRACE.days))
-    return (number, "inforce", plan, age, years, amount, premium, text_at(issued), paid, 0, text_at(book.last[place]), text_at(end),
-            text_at(end if due is None else due), *awaited)
+    return (number, "inforce", plan, age, years, amount, premium, text_at(issued), paid, 0, text_at(book.last[place]),
+            text_at(end), text_at(end if due is None else due), *awaited)
 
 
 def other_row(it: Policy) -> TableRow:

@@ -210,7 +210,8 @@ class Mapped:
 
 
 def mapped(path: str, given: Map) -> Mapped:
-    made, reading, taken = Mapped(), Reading(given), {}
+    made, reading = Mapped(), Reading(given)
+    taken: dict[int, int] = {}
     for row in foreign_rows(path, given.separator, list(given.column.values())):
         try:
             demand(row.fields, "it has more or fewer fields than the header row")

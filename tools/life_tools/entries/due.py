@@ -135,8 +135,8 @@ def kinds_in(text: str | None) -> list[str]:
 
 def arguments(parser: argparse.ArgumentParser) -> None:
     parser.add_argument("day", metavar="DAY", help="YYYY-MM-DD")
-    parser.add_argument("journal", metavar="JOURNAL", nargs="?", default="journal.life", help="journal.life where none is told")
-    parser.add_argument("--within", metavar="DAYS", default="0", help=f"what falls due up to so many days later, 0 to {MOST_DAYS}")
+    parser.add_argument("journal", metavar="JOURNAL", nargs="?", default="journal.life", help="else journal.life")
+    parser.add_argument("--within", metavar="DAYS", default="0", help=f"also what falls due so many days later, 0 to {MOST_DAYS}")
     parser.add_argument("--script", metavar="KINDS", help="the lines to send, sorted by day: lapse, mature, or lapse,mature")
 
 

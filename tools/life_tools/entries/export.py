@@ -154,7 +154,8 @@ def arguments(parser: argparse.ArgumentParser) -> None:
         form = forms.add_parser(name, help=says)
         form.add_argument("journal", metavar="JOURNAL", help="the file, as journal.life")
         if name in ("sqlite", "pandas"):
-            form.add_argument("made", metavar="DATABASE" if name == "sqlite" else "FOLDER", help="what is made, which isn't there yet")
+            metavar = "DATABASE" if name == "sqlite" else "FOLDER"
+            form.add_argument("made", metavar=metavar, help="what is made, which isn't there yet")
             form.add_argument("--valuation", metavar="FILE", action="append", default=[],
                               help="printed valuations, for the table of these; it may be told several times")
 

@@ -88,5 +88,6 @@ def run(options: argparse.Namespace) -> int:
     made = mapped(options.file, map_at(options.map))
     parts = parts_of(lines_of(made, lanes))
     names = write(options, made, parts)
-    remark(f"{len(made.policies)} policies, {sum(map(len, parts))} lines in {', '.join(names)}; {len(made.left)} rows in {options.left}")
+    lines, scripts = sum(map(len, parts)), ", ".join(names)
+    remark(f"{len(made.policies)} policies, {lines} lines in {scripts}; {len(made.left)} rows in {options.left}")
     return 1 if made.left else 0
