@@ -30,15 +30,18 @@ def journal_bytes(folder: str) -> bytes | None:
         raise Wrong(f"{path}: {error.strerror}") from error
 
 
-def copy_basis(folder: str, name: str, to: str) -> None:
-    """Copies a basis file, and each table that a row of it names, as far as they are there."""
+def basis_files(folder: str, name: str) -> list[str]:
+    """A basis file and each table that a row of it names, as far as they are there."""
     names = [name]
     if os.path.isfile(os.path.join(folder, name)):
         names += [row.fields[1] for row in rows_in(bytes_of(os.path.join(folder, name))) if len(row.fields) > 1]
-    for each in dict.fromkeys(names):
-        path = os.path.join(folder, each)
-        if NAME.fullmatch(each) and each != JOURNAL and os.path.isfile(path):
-            shutil.copyfile(path, os.path.join(to, each))
+    return [each for each in dict.fromkeys(names)
+            if NAME.fullmatch(each) and each != JOURNAL and os.path.isfile(os.path.join(folder, each))]
+
+
+def copy_basis(folder: str, name: str, to: str) -> None:
+    for each in basis_files(folder, name):
+        shutil.copyfile(os.path.join(folder, each), os.path.join(to, each))
 
 
 @contextmanager

@@ -12,6 +12,9 @@ from life_tools.formats import Wrong
 # name -> the module of life_tools.entries that answers it, and what it does, in one line
 ENTRIES: dict[str, tuple[str, str]] = {
     "check": ("check", "look a script over before it is sent"),
+    "due": ("due", "what is due on a day: premiums, lapses, maturities, reinstatements, settlements"),
+    "import": ("import_book", "a CSV of another system as a script of issues and premiums"),
+    "books": ("books", "value, project, state or checkpoint of many books, with their total"),
     "dry-run": ("dry_run", "run a script on a copy of the journal, and print what it would be answered"),
     "rest": ("rest", "the rows of a script that a killed run didn't reach"),
     "explain": ("explain", "explain a refusal of a script or of a basis, or what is taken of a table"),

@@ -20,3 +20,13 @@ def life_command(given: str | None = None) -> list[str]:
     launcher = os.path.join(os.path.dirname(here), "life")
     demand(os.path.isfile(launcher), "there is no program `life` beside these tools: name it by LIFE_PROGRAM or --life")
     return ["sh", launcher]
+
+
+def program_file() -> str:
+    """The program itself, where the clone's launcher would be asked to run it."""
+    command = life_command()
+    if len(command) == 1:
+        return command[0]
+    program = os.path.join(os.path.dirname(command[-1]), "crates", "life_cli", "out", "life_cli")
+    demand(os.path.isfile(program), f"there is no proved program {program}: sh life prove")
+    return program

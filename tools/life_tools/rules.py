@@ -7,6 +7,7 @@ from __future__ import annotations
 
 import datetime
 from dataclasses import dataclass, replace
+from functools import lru_cache
 from typing import Iterable, Iterator, NamedTuple, Union
 
 from life_tools.commands import LAST_AGE, Command
@@ -67,12 +68,19 @@ def completed(issued: datetime.date, on: datetime.date) -> int:
     return years if anniversary(issued, years) <= on else years - 1
 
 
+@lru_cache(maxsize=None)
+def cover_of(plan: str, age: int, years: int) -> tuple[int, int]:
+    """The years of cover of a plan, and its yearly premiums."""
+    to_end = LAST_AGE - age
+    return years if plan in ("term", "endowment") else to_end, to_end if plan == "whole" else years
+
+
 def years_of(policy: Policy) -> int:
-    return policy.years if policy.plan in ("term", "endowment") else LAST_AGE - policy.age
+    return cover_of(policy.plan, policy.age, policy.years)[0]
 
 
 def payments_of(policy: Policy) -> int:
-    return LAST_AGE - policy.age if policy.plan == "whole" else policy.years
+    return cover_of(policy.plan, policy.age, policy.years)[1]
 
 
 def end_of(policy: Policy) -> datetime.date:

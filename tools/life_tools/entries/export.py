@@ -1,32 +1,48 @@
-"""The records of a journal for other programs: as CSV with a header row, as JSON lines, or as a SQLite file.
+"""The records of a journal for other programs: as CSV with a header row, as JSON lines, as a SQLite file, or for pandas.
 
 A field that a command's kind doesn't hold is empty in CSV, and absent in a JSON line. Amounts are as in a script, in
-CSV and JSON as text. The SQLite file is new and has three tables, with amounts in cents: command (a row for each
-record), booking (what each books on which account) and policy (the policies as they are now).
+CSV and JSON as text. A SQLite file is new, with amounts in cents and days as text, and has the tables
+
+  command    a row for each record
+  booking    what each books on which account
+  policy     the policies as they are now, with the end of the insurance, the day that premiums are paid to, the day of
+             the next premium and the last day of its grace; neither of the two where no premium is awaited
+  valuation  the rows of the printed valuations that are told, each of which must add up to its total
+
+and the view `valued`, which joins each row of a valuation with its policy as it is now. For pandas the same five are
+files NAME.pkl in a new folder, for pandas.read_pickle.
 """
 from __future__ import annotations
 
 import argparse
 import csv
+import itertools
 import json
 import os
+import shutil
 import sqlite3
 import sys
+import tempfile
+from typing import Iterable, Iterator
 
+from life_tools.bulk import Bulk, bulk_at, many_objects
 from life_tools.commands import Command, words_of
-from life_tools.formats import FIELDS, Wrong
+from life_tools.export_tables import (BOOKING, COMMAND, POLICY, VALUATION, TableRow, booking_rows, command_rows, policy_rows,
+                                      valuation_rows)
+from life_tools.formats import FIELDS, Wrong, demand
 from life_tools.journals import Journal, journal_at
-from life_tools.rules import bookings
+from life_tools.packages import package
+from life_tools.progress import Progress
 
 COLUMNS = ("position", "kind", "policy", "day", "plan", "age", "years", "amount", "premium")
-SCHEMA = """
-create table command (position integer primary key, kind text not null, policy integer, day text,
-                      plan text, age integer, years integer, amount_cents integer, premium_cents integer);
-create table booking (position integer not null references command, account text not null, cents integer not null);
-create table policy (policy integer primary key, status text not null, plan text not null, age integer not null,
-                     years integer not null, amount_cents integer not null, premium_cents integer not null,
-                     issued text not null, premiums_paid integer not null, outstanding_cents integer not null);
-"""
+TABLES = {"command": COMMAND, "booking": BOOKING, "policy": POLICY, "valuation": VALUATION}
+WHOLE = ("position", "policy", "age", "years", "premiums_paid", "year")
+KEPT = ("plan", "age", "years", "amount_cents", "premium_cents", "issued", "premiums_paid", "paid_to")
+SCHEMA_ENDS = (
+    "create index booking_position on booking (position)",
+    f"""create view valued as select valuation.*, policy.status as status_now, {", ".join(KEPT)}
+        from valuation join policy using (policy)""",
+)
 
 
 def record_of(position: int, command: Command) -> dict[str, str]:
@@ -49,44 +65,109 @@ def write_json_lines(journal: Journal) -> None:
         print(json.dumps({name: int(text) if name in whole else text for name, text in record.items()}))
 
 
-def write_sqlite(journal: Journal, path: str) -> None:
-    if os.path.exists(path):
-        raise Wrong(f"{path} is there already")
-    database = sqlite3.connect(path)
-    database.executescript(SCHEMA)
-    with database:
-        for position, (command, booked) in enumerate(bookings(journal.commands), 1):
-            held = [getattr(command, name) if name in FIELDS[command.kind] else None
-                    for name in ("plan", "age", "years", "amount", "premium")]
-            row = position, command.kind, command.number or None, str(command.day) if command.day else None, *held
-            database.execute(f"insert into command values ({','.join('?' * len(row))})", row)
-            database.executemany("insert into booking values (?, ?, ?)",
-                                 [(position, account, cents) for account, cents in booked.items()])
-        database.executemany(f"insert into policy values ({','.join('?' * 10)})", [
-            (it.number, it.status, it.plan, it.age, it.years, it.amount, it.premium, str(it.issued), it.paid, it.outstanding)
-            for it in journal.book.policies.values()])
+# --- tables ---
+
+def lines_of(path: str) -> Iterator[str]:
+    try:
+        with open(path, encoding="utf-8", errors="surrogateescape") as file:
+            yield from file
+    except OSError as error:
+        raise Wrong(f"{path}: {error.strerror}") from error
+
+
+def counted(name: str, rows: Iterable[TableRow]) -> Iterator[TableRow]:
+    progress = Progress(f"writing the table {name}")
+    for at, row in enumerate(rows, 1):
+        if not at % 4096:
+            progress.at(at)
+        yield row
+    progress.end()
+
+
+def tables_of(book: Bulk, records: memoryview, valuations: list[str]) -> Iterator[tuple[str, Iterator[TableRow]]]:
+    yield "policy", counted("policy", policy_rows(book))
+    yield "command", counted("command", command_rows(book, records))
+    yield "booking", counted("booking", booking_rows(book, records))
+    printed = itertools.chain.from_iterable(valuation_rows(path, lines_of(path)) for path in valuations)
+    yield "valuation", counted("valuation", printed)
+
+
+def column(table: str, name: str) -> str:
+    """The definition of a column."""
+    kind = "integer" if name in WHOLE or name.endswith("cents") else "text"
+    return f"{name} {kind}{' primary key' if name == TABLES[table][0] and table in ('command', 'policy') else ''}"
+
+
+def write_sqlite(path: str, tables: Iterable[tuple[str, Iterator[TableRow]]]) -> None:
+    """Writes the tables into a file that is thrown away where anything fails, so no journal has to be kept for it."""
+    database = sqlite3.connect(path, isolation_level=None)
+    for pragma in ("journal_mode", "synchronous"):
+        database.execute(f"pragma {pragma} = off")
+    database.execute("begin")
+    for table, rows in tables:
+        columns = TABLES[table]
+        database.execute(f"create table {table} ({', '.join(column(table, name) for name in columns)})")
+        database.executemany(f"insert into {table} values ({','.join('?' * len(columns))})", rows)
+    for statement in (*SCHEMA_ENDS, "commit"):
+        database.execute(statement)
     database.close()
+
+
+def write_frames(folder: str, tables: Iterable[tuple[str, Iterator[TableRow]]]) -> None:
+    pandas = package("pandas", "python3-pandas")
+    frames = {}
+    for table, rows in tables:
+        frame = pandas.DataFrame(list(rows), columns=TABLES[table])
+        whole = [name for name in frame.columns if name in WHOLE or name.endswith("cents")]
+        frames[table] = frame.astype({name: "Int64" for name in whole})
+    policy = frames["policy"].rename(columns={"status": "status_now"})
+    frames["valued"] = frames["valuation"].merge(policy[["policy", "status_now", *KEPT]], on="policy")
+    os.mkdir(folder)
+    for name, frame in frames.items():
+        frame.to_pickle(os.path.join(folder, f"{name}.pkl"))
+
+
+def write_tables(options: argparse.Namespace) -> None:
+    """Makes what is asked for beside its place, and puts it there once it is whole."""
+    made = os.path.abspath(options.made)
+    demand(not os.path.lexists(made), f"{options.made} is there already")
+    demand(os.path.isdir(os.path.dirname(made)), f"{os.path.dirname(options.made)} is no folder")
+    if options.form == "pandas":
+        package("pandas", "python3-pandas")
+    with many_objects():
+        book, records = bulk_at(options.journal)
+        beside = tempfile.mkdtemp(prefix=".life-tools-", dir=os.path.dirname(made))
+        try:
+            new = os.path.join(beside, "new")
+            write = write_sqlite if options.form == "sqlite" else write_frames
+            write(new, tables_of(book, records, options.valuation))
+            os.rename(new, made)
+        finally:
+            shutil.rmtree(beside)
 
 
 def arguments(parser: argparse.ArgumentParser) -> None:
     forms = parser.add_subparsers(dest="form", metavar="FORM", required=True)
-    says_of = {"csv": "CSV, on standard output", "jsonl": "JSON lines, on standard output", "sqlite": "a SQLite file"}
+    says_of = {"csv": "CSV, on standard output", "jsonl": "JSON lines, on standard output", "sqlite": "a SQLite file",
+               "pandas": "a folder of frames for pandas"}
     for name, says in says_of.items():
         form = forms.add_parser(name, help=says)
         form.add_argument("journal", metavar="JOURNAL", help="the file, as journal.life")
-        if name == "sqlite":
-            form.add_argument("database", metavar="DATABASE", help="the new file")
+        if name in ("sqlite", "pandas"):
+            metavar = "DATABASE" if name == "sqlite" else "FOLDER"
+            form.add_argument("made", metavar=metavar, help="what is made, which isn't there yet")
+            form.add_argument("--valuation", metavar="FILE", action="append", default=[],
+                              help="printed valuations, for the table of these; it may be told several times")
 
 
 def run(options: argparse.Namespace) -> int:
-    journal = journal_at(options.journal)
-    if options.form == "csv":
-        write_csv(journal)
-    elif options.form == "jsonl":
-        write_json_lines(journal)
-    else:
+    if options.form in ("sqlite", "pandas"):
         try:
-            write_sqlite(journal, options.database)
-        except sqlite3.Error as error:
-            raise Wrong(f"{options.database}: {error}") from error
+            write_tables(options)
+        except (sqlite3.Error, OSError) as error:
+            raise Wrong(f"{options.made}: {error}") from error
+    elif options.form == "csv":
+        write_csv(journal_at(options.journal))
+    else:
+        write_json_lines(journal_at(options.journal))
     return 0

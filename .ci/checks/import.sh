@@ -1,0 +1,126 @@
+#!/bin/sh
+# `import`: a book of 5,000 drawn policies of another system, beside what was drawn and the exact values; and what can't be
+# mapped.
+. "$(dirname "$0")/../common.sh"
+
+tool() {
+    python3 "$tools/life-tools" "$@" >out 2>remarks
+}
+
+# status 2, a line that has these words, nothing printed, and nothing written
+refuses() {
+    words=$1
+    shift
+    tool import "$@" --script new.csv --left left.csv
+    status=$?
+    [ "$status" = 2 ] && [ ! -s out ] && [ "$(wc -l <remarks)" = 1 ] && grep -q -e "$words" remarks ||
+        complain "import $*: status $status: $(cat out remarks)"
+    [ ! -e new.csv ] && [ ! -e left.csv ] || complain "import $*: something was written"
+}
+
+begin "a drawn book"
+cp "$examples/g.xml" .
+echo 1900-01-01,g.xml,400 >basis.csv
+python3 "$examples/other_system.py" 5000 wanted-policies >book.csv || complain "the book can't be drawn"
+tool import book.csv --map "$examples/other-system-map.csv" --script script.csv --left left.csv --lanes 8
+status=$?
+# every 400th of 5,000 is left, and the header row is line 1
+[ "$status" = 1 ] && grep -q '^4988 policies, .* lines in script.csv; 12 rows in left.csv$' remarks ||
+    complain "status $status: $(cat out remarks)"
+cut -d , -f 1 left.csv | sed 1d >found
+seq 401 400 4801 | cmp -s - found || complain "other rows are left: $(cat left.csv)"
+cut -d , -f 4 script.csv | sort -c || complain "the script isn't sorted by day"
+"$life" run <script.csv >transcript || complain "the script ended with $?"
+grep -v ,accepted, transcript | grep -v ^watcher, | head -n 3 >found
+[ ! -s found ] || complain "not all is accepted: $(cat found)"
+"$life" state </dev/null >state
+grep ^policy, state | sort >found
+sort wanted-policies | cmp -s - found || complain "the policies aren't those that were drawn"
+"$life" value 2024-12-31 </dev/null >block || complain "value ended with $?"
+tool check-values journal.life basis.csv block || complain "$(cat remarks)"
+grep -qx '4988 rows are right' out || complain "check-values says $(cat out)"
+
+begin "each way of writing, by hand"
+cat >map.csv <<'END'
+separator,tab
+number,no
+day,from,MM/DD/YYYY
+plan,kind
+word,A,endowment
+word,B,whole
+age,age
+years,term
+amount,sum,"1,234.56"
+premium,premium,cents
+paid,paid
+END
+printf 'from\tkind\tno\tage\tterm\tsum\tpremium\tpaid\tremark\n' >book.csv
+printf '2/29/2020\tA\t0012\t40\t3\t1,000.00\t1234\t2\tof a 29 February\n' >>book.csv
+printf '01/05/2020\tB\t7\t30\t\t250,000\t99\t0\t"a\ttab"\n' >>book.csv
+cat >wanted <<'END'
+1,issue,7,2020-01-05,whole,30,0,250000.00,0.99
+1,issue,12,2020-02-29,endowment,40,3,1000.00,12.34
+1,premium,12,2020-02-29,12.34
+1,premium,12,2021-02-28,12.34
+END
+tool import book.csv --map map.csv --script script.csv --left none-left.csv || complain "status $?: $(cat remarks)"
+cmp -s wanted script.csv || complain "the script is $(cat script.csv)"
+echo line,reason,row | cmp -s - none-left.csv || complain "left are $(cat none-left.csv)"
+
+go_on "rows that can't be mapped, each with its reason"
+head -n 1 book.csv >bad.csv
+while IFS='|' read -r row reason; do
+    printf "$row\n" >>bad.csv
+    echo "$reason" >>reasons
+done <<'END'
+1/1/2020\tA\t1\t40\t3\t1,000.00\t1234\t2\t|
+2/30/2020\tA\t2\t40\t3\t1,000.00\t1234\t2\t|isn't in the calendar
+2020-01-01\tA\t3\t40\t3\t1,000.00\t1234\t2\t|not as MM/DD/YYYY
+1/1/1899\tA\t4\t40\t3\t1,000.00\t1234\t2\t|the day of issue is 1899-01-01
+1/1/2020\tC\t5\t40\t3\t1,000.00\t1234\t2\t|no plan for C
+1/1/2020\tA\t1\t40\t3\t1,000.00\t1234\t2\t|the number 1 stands in line 2 already
+1/1/2020\tA\t0\t40\t3\t1,000.00\t1234\t2\t|the number is 0
+1/1/2020\tA\tx6\t40\t3\t1,000.00\t1234\t2\t|the number is x6
+1/1/2020\tA\t7\t130\t3\t1,000.00\t1234\t2\t|the age is 130
+1/1/2020\tA\t8\t40\t1\t1,000.00\t1234\t1\t|can't have 1 years
+1/1/2020\tA\t9\t40\t3\t1000.00\t1234\t2\t|
+1/1/2020\tA\t10\t40\t3\t1,00.00\t1234\t2\t|the amount is 1,00.00
+1/1/2020\tA\t11\t40\t3\t100,000,000.01\t1234\t2\t|and 0.01 to 100000000.00 can be
+1/1/2020\tA\t12\t40\t3\t1,000.00\t0\t2\t|the premium is 0
+1/1/2020\tA\t13\t40\t3\t1,000.00\t1234\t4\t|4 premiums are paid, and it has 3
+1/1/2020\tA\t14\t40\t3\t1,000.00\t1234|more or fewer fields
+12/31/2199\tA\t15\t40\t3\t1,000.00\t1234\t2\t|the last premium is of 2200-12-31
+END
+tool import bad.csv --map map.csv --script bad-script.csv --left bad-left.csv
+status=$?
+[ "$status" = 1 ] && [ "$(wc -l <bad-left.csv)" = 16 ] || complain "status $status: $(cat remarks bad-left.csv)"
+cut -d , -f 3 bad-script.csv | sort -u | tr '\n' ' ' | grep -qx '1 9 ' || complain "others are in the script"
+grep . reasons >wanted
+sed 1d bad-left.csv | paste -d '\n' wanted - | while read -r reason && read -r row; do
+    case $row in *"$reason"*) ;; *) echo "$reason: $row" ;; esac
+done >found
+[ ! -s found ] || complain "other reasons: $(cat found)"
+
+go_on "wrong input"
+refuses "No such file" nowhere.csv --map map.csv
+refuses "No such file" book.csv --map nowhere.csv
+refuses "Is a directory" . --map map.csv
+refuses "is no CSV" "$empty" --map map.csv
+refuses "has no column no, from" "$examples/first-issues.csv" --map map.csv
+refuses "1 to 8 are wanted" book.csv --map map.csv --lanes 9
+grep -v ^paid map.csv >short-map.csv
+refuses "says nothing of paid" book.csv --map short-map.csv
+sed 's/^age,age/ages,age/' map.csv >wrong-map.csv
+refuses "wrong-map.csv, line 7: ages is none of" book.csv --map wrong-map.csv
+sed 's/MM\/DD/MM\/MM/' map.csv >wrong-map.csv
+refuses "line 3: a way of writing days" book.csv --map wrong-map.csv
+sed 's/,whole/,annuity/' map.csv >wrong-map.csv
+refuses "annuity is no plan" book.csv --map wrong-map.csv
+sed 's/,cents/,12,34/' map.csv >wrong-map.csv
+refuses "an amount is written as one of" book.csv --map wrong-map.csv
+tool import book.csv --map map.csv --script script.csv --left other.csv
+[ $? = 2 ] && grep -q "script.csv is there already" remarks && [ ! -e other.csv ] || complain "a script is overwritten"
+tool import book.csv --map map.csv --script new.csv --left nowhere/left.csv
+[ $? = 2 ] && [ ! -e new.csv ] || complain "a script stays without its list: $(cat remarks)"
+
+end "a book of another system comes in as it was drawn, and what can't be mapped is told"

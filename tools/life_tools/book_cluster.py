@@ -1,0 +1,102 @@
+"""Many books on a cluster of Dask: a task is a book, which any worker may do, and do anew where another one died."""
+from __future__ import annotations
+
+import os
+import pkgutil
+import tempfile
+import time
+import zipfile
+from types import ModuleType
+from typing import Any, Callable, Iterator
+
+import life_tools
+from life_tools.book_runs import NOT_DONE, Outcome, Task, run_once
+from life_tools.formats import Wrong, demand
+from life_tools.packages import package
+
+SECONDS_TO_CONNECT = 10
+# without a word from the scheduler for so long it is given up
+SECONDS_OF_SILENCE = 20
+# how many workers may die over one book
+MOST_DEATHS = 3
+MOST_LETTERS = 300
+Tell = Callable[[Outcome], None]
+
+
+def distributed() -> ModuleType:
+    return package("distributed", "python3-distributed")
+
+
+def pack_tools(path: str) -> None:
+    """The package life_tools as one file that Python reads, from wherever it lies here."""
+    with zipfile.ZipFile(path, "w") as packed:
+        for name in modules_below(life_tools):
+            packed.writestr(f"life_tools/{name}", pkgutil.get_data("life_tools", name) or b"")
+
+
+def modules_below(module: ModuleType) -> Iterator[str]:
+    """The files of a package's modules; the entries aren't a worker's."""
+    yield "__init__.py"
+    for found in pkgutil.iter_modules(module.__path__):
+        if not found.ispkg:
+            yield f"{found.name}.py"
+
+
+class Cluster:
+    """A scheduler and its workers, which are handed these tools."""
+
+    def __init__(self, address: str) -> None:
+        self.dask = distributed()
+        self.address = address
+        try:
+            self.client = self.dask.Client(address, timeout=SECONDS_TO_CONNECT, set_as_default=False)
+        except (OSError, ValueError, TimeoutError) as error:
+            raise Wrong(f"there is no scheduler at {address}: {error}") from error
+        demand(self.workers(), f"the scheduler at {address} has no workers")
+        self.hand_tools()
+
+    def workers(self) -> int:
+        info: dict[str, Any] = self.client.scheduler_info()
+        return sum(worker["nthreads"] for worker in info["workers"].values())
+
+    def hand_tools(self) -> None:
+        """Also to workers that come later, as one that takes a dead one's place."""
+        with tempfile.TemporaryDirectory() as folder:
+            path = os.path.join(folder, "life_tools.zip")
+            pack_tools(path)
+            self.client.register_worker_plugin(self.dask.diagnostics.plugin.UploadFile(path), name="life_tools")
+
+    def close(self) -> None:
+        try:
+            self.client.close(timeout=2)
+        except Exception as error:  # noqa: B902
+            # what is closed may be gone already
+            del error
+
+    def run(self, makes: list[Callable[[], Task]], tell: Tell) -> list[Outcome]:
+        """Runs the tasks, which are made when their turn comes; gives what became of each that ended."""
+        waiting, ended = list(reversed(makes)), []
+        running: dict[Any, Task] = {}
+        heard = time.monotonic()
+        while waiting or running:
+            while waiting and len(running) < self.workers() + 1:
+                task = waiting.pop()()
+                running[self.client.submit(run_once, task, pure=False, retries=MOST_DEATHS)] = task
+            for future in [future for future in running if future.done()]:
+                task, heard = running.pop(future), time.monotonic()
+                outcome = self.outcome_of(future, task)
+                tell(outcome)
+                ended.append(outcome)
+            if self.client.status != "running" and time.monotonic() - heard > SECONDS_OF_SILENCE:
+                raise Wrong(f"the scheduler at {self.address} went away")
+            time.sleep(0.05)
+        return ended
+
+    def outcome_of(self, future: Any, task: Task) -> Outcome:
+        try:
+            outcome: Outcome = future.result(timeout=SECONDS_TO_CONNECT)
+            return outcome
+        except Exception as error:  # noqa: B902
+            # whatever Dask says of a task that it gave up
+            why = f"the cluster gave it up: {type(error).__name__} {error}".replace("\n", " ")
+            return Outcome(task.name, NOT_DONE, why[:MOST_LETTERS])

@@ -1,0 +1,225 @@
+"""A run of the program over one book of many: in its folder, or on a copy at a position. It is what a worker does."""
+from __future__ import annotations
+
+import hashlib
+import os
+import shutil
+import socket
+import subprocess
+import tempfile
+import zlib
+from array import array
+from dataclasses import dataclass, field
+from typing import IO, Iterator
+
+from life_tools.book_totals import Text, text_in
+from life_tools.copied_folder import copy_basis
+from life_tools.export_tables import VALUATION, valuation_rows
+from life_tools.formats import Wrong, bytes_of, demand
+from life_tools.record_columns import columns_at
+
+JOURNAL = "journal.life"
+# statuses of what the program can't be asked
+NOT_DONE = 2
+
+
+@dataclass(frozen=True)
+class Parts:
+    """Where the lines of a book go: a file of its own in this folder, as CSV or SQLite."""
+
+    folder: str
+    form: str
+
+
+@dataclass(frozen=True)
+class Task:
+    """One book's work: the words; the program, or how it is found; the position; and for a copy what it has to be."""
+
+    name: str
+    folder: str
+    basis: str
+    words: tuple[str, ...]
+    life: tuple[str, ...]
+    at: int | None = None
+    is_copied: bool = False
+    # of a worker elsewhere: the sum of the program, that of each file by its name, and the files where they are sent
+    program_sum: str = ""
+    sums: tuple[tuple[str, str], ...] = ()
+    files: tuple[tuple[str, bytes], ...] = ()
+    parts: Parts | None = None
+    are_rows_kept: bool = False
+
+
+@dataclass
+class Outcome:
+    """What became of a task: the status and the last line; and where it is well, what is added up and the policies."""
+
+    name: str
+    status: int
+    line: str = ""
+    text: Text | None = None
+    numbers: bytes = b""
+    rows: str = ""
+    part: tuple[str, str, str] | None = None
+    tried: int = field(default=1)
+
+
+def sum_of(data: bytes) -> str:
+    return hashlib.sha256(data).hexdigest()
+
+
+# --- the program of a worker ---
+
+def program_of(task: Task) -> list[str]:
+    """The program's words; of a worker elsewhere the program is one of the sum told, wherever it lies."""
+    if not task.program_sum:
+        return list(task.life)
+    places = [os.environ.get("LIFE_PROGRAM"), *task.life[-1:], shutil.which("life"), os.path.expanduser("~/.local/bin/life")]
+    for place in filter(None, places):
+        if os.path.isfile(place) and sum_of(bytes_of(place)) == task.program_sum:
+            return [place]
+    raise Wrong(f"{socket.gethostname()} has no program of the sum {task.program_sum[:16]}: install the same one there")
+
+
+# --- the folder ---
+
+def lay_copy(task: Task, folder: str) -> None:
+    """Copies what the task needs into a folder: the front of the journal, the basis and its tables."""
+    if task.files:
+        for name, packed in task.files:
+            with open(os.path.join(folder, name), "wb") as file:
+                file.write(zlib.decompress(packed))
+    else:
+        demand_journal(task)
+        with open(os.path.join(folder, JOURNAL), "wb") as file:
+            file.write(columns_at(os.path.join(task.folder, JOURNAL), task.at).front())
+        copy_basis(task.folder, task.basis, folder)
+    for name, wanted in task.sums:
+        path = os.path.join(folder, name)
+        demand(os.path.exists(path), f"{socket.gethostname()} doesn't see {os.path.join(task.folder, name)}")
+        demand(sum_of(bytes_of(path)) == wanted, f"{socket.gethostname()} sees another {name} than the one asked for")
+
+
+def demand_journal(task: Task) -> None:
+    """The program would make a journal where none is."""
+    path = os.path.join(task.folder, JOURNAL)
+    demand(os.path.isfile(path), f"there is no {path}")
+
+
+# --- the run ---
+
+def words_of(task: Task) -> list[str]:
+    at = ["--at", str(task.at)] if task.at is not None and task.words[0] == "value" and not task.is_copied else []
+    basis = ["--basis", task.basis] if task.words[0] in ("value", "project") else []
+    return [*task.words, *at, *basis]
+
+
+def printed_by(life: list[str], words: list[str], folder: str, out: IO[bytes]) -> tuple[int, str]:
+    """The status of a run, and what it said on standard error."""
+    try:
+        ran = subprocess.run([*life, *words], cwd=folder, stdin=subprocess.DEVNULL, stdout=out, stderr=subprocess.PIPE,
+                             check=False)
+    except OSError as error:
+        raise Wrong(f"{life[0]}: {error.strerror}") from error
+    return ran.returncode, ran.stderr.decode("utf-8", "replace").strip()
+
+
+def lines_in(file: IO[bytes]) -> Iterator[str]:
+    for line in file:
+        yield line.decode("ascii", "replace").rstrip("\n")
+
+
+def last_line(file: IO[bytes]) -> str:
+    file.seek(max(0, file.seek(0, os.SEEK_END) - 4096))
+    lines = file.read().decode("ascii", "replace").splitlines()
+    return lines[-1] if lines else ""
+
+
+def numbers_of(task: Task, folder: str, text: Text) -> bytes:
+    """The numbers of the book's policies as they were at the position, sorted; none of a checkpoint, which tells none."""
+    if task.words[0] == "checkpoint":
+        return b""
+    numbers: array[int] = columns_at(os.path.join(folder, JOURNAL), text.position).policies()
+    demand(len(numbers) == text.policies, f"the journal has {len(numbers)} policies, and the text {text.policies}")
+    return numbers.tobytes()
+
+
+def named(name: str, file: IO[bytes], out: IO[bytes]) -> None:
+    """Writes the lines of a file with the book's name before each."""
+    front = name.encode() + b","
+    file.seek(0)
+    is_new = True
+    while piece := file.read(1 << 20):
+        lines = piece.replace(b"\n", b"\n" + front)
+        is_whole = lines.endswith(b"\n" + front)
+        out.write((front if is_new else b"") + (lines[:-len(front)] if is_whole else lines))
+        is_new = is_whole
+
+
+def write_part(task: Task, file: IO[bytes]) -> tuple[str, str, str]:
+    """Puts the lines into a file of the folder of parts: the host, the path, and the sum."""
+    assert task.parts
+    os.makedirs(task.parts.folder, exist_ok=True)
+    path = os.path.join(task.parts.folder, f"{task.name}.{'csv' if task.parts.form == 'csv' else 'db'}")
+    new = f"{path}.{os.getpid()}.new"
+    try:
+        if task.parts.form == "csv":
+            with open(new, "wb") as out:
+                named(task.name, file, out)
+        else:
+            write_part_database(task, file, new)
+        os.replace(new, path)
+    finally:
+        if os.path.exists(new):
+            os.remove(new)
+    return socket.gethostname(), path, sum_of(bytes_of(path))
+
+
+def write_part_database(task: Task, file: IO[bytes], path: str) -> None:
+    import sqlite3
+    file.seek(0)
+    database = sqlite3.connect(path)
+    database.execute(f"create table valuation (book text, {', '.join(VALUATION)})")
+    rows = ((task.name, *row) for row in valuation_rows(task.name, lines_in(file)))
+    database.executemany(f"insert into valuation values ({','.join('?' * (len(VALUATION) + 1))})", rows)
+    database.commit()
+    database.close()
+
+
+def run_in(task: Task, folder: str, file: IO[bytes]) -> Outcome:
+    status, said = printed_by(program_of(task), words_of(task), folder, file)
+    if status != 0:
+        return Outcome(task.name, status, last_line(file) or said.rpartition("\n")[2])
+    text = text_in(task.words[0], file)
+    outcome = Outcome(task.name, 0, text=text, numbers=numbers_of(task, folder, text))
+    if task.parts:
+        outcome.part = write_part(task, file)
+    if task.are_rows_kept:
+        outcome.rows = file.name
+    return outcome
+
+
+def run_on(task: Task, folder: str) -> Outcome:
+    """Runs a task in a folder; the file of its lines stays where they are kept."""
+    with tempfile.NamedTemporaryFile(prefix="life-book-", delete=False) as file:
+        try:
+            outcome = run_in(task, folder, file)
+        except BaseException:
+            os.remove(file.name)
+            raise
+    if not outcome.rows:
+        os.remove(file.name)
+    return outcome
+
+
+def run_once(task: Task) -> Outcome:
+    """Runs a task; what can't be asked of the program is told with a status of its own."""
+    try:
+        if not task.is_copied:
+            demand_journal(task)
+            return run_on(task, task.folder)
+        with tempfile.TemporaryDirectory(prefix="life-books-") as desk:
+            lay_copy(task, desk)
+            return run_on(task, desk)
+    except (Wrong, OSError, ValueError, zlib.error) as wrong:
+        return Outcome(task.name, NOT_DONE, str(wrong).replace("\n", " "))

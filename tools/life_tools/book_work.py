@@ -1,0 +1,114 @@
+"""What is asked of many books: a task for each, done here by the processors or on a cluster, and tried once more."""
+from __future__ import annotations
+
+import os
+import zlib
+from concurrent.futures import ThreadPoolExecutor
+from dataclasses import dataclass, replace
+from typing import Callable
+
+from life_tools.book_cluster import Cluster
+from life_tools.book_lists import ListedBook
+from life_tools.book_runs import JOURNAL, NOT_DONE, Outcome, Parts, Task, run_once, sum_of
+from life_tools.copied_folder import basis_files
+from life_tools.formats import Wrong, bytes_of, demand, remark
+from life_tools.program import life_command, program_file
+from life_tools.record_columns import columns_at
+
+
+@dataclass(frozen=True)
+class Asked:
+    """The words, the positions by name, how many processes, the scheduler, whether files are sent, and the parts."""
+
+    words: tuple[str, ...]
+    positions: dict[str, int]
+    processes: int
+    scheduler: str | None = None
+    are_sent: bool = False
+    parts: Parts | None = None
+    are_rows_kept: bool = False
+
+
+def size_of(book: ListedBook) -> int:
+    try:
+        return os.path.getsize(book.journal)
+    except OSError:
+        return 0
+
+
+def largest_first(books: list[ListedBook]) -> list[ListedBook]:
+    return sorted(books, key=size_of, reverse=True)
+
+
+def task_here(asked: Asked, book: ListedBook) -> Task:
+    """A task of this machine, in the book's folder; where the word takes no position, on a copy."""
+    at = asked.positions.get(book.name)
+    return Task(book.name, book.folder, book.basis, asked.words, tuple(life_command()), at,
+                is_copied=at is not None and asked.words[0] != "value", parts=asked.parts, are_rows_kept=asked.are_rows_kept)
+
+
+def task_elsewhere(asked: Asked, book: ListedBook, program: str, program_sum: str) -> Task:
+    """A task of any machine, on a copy at a position, with the sums of all that it needs."""
+    columns = columns_at(book.journal, asked.positions.get(book.name))
+    files = {JOURNAL: columns.front()}
+    if asked.words[0] in ("value", "project"):
+        files.update((name, bytes_of(os.path.join(book.folder, name))) for name in basis_files(book.folder, book.basis))
+    return Task(book.name, book.folder, book.basis, asked.words, (program,), columns.count, True, program_sum,
+                tuple((name, sum_of(data)) for name, data in files.items()),
+                tuple((name, zlib.compress(data, 1)) for name, data in files.items()) if asked.are_sent else (), asked.parts)
+
+
+def tell_failure(outcome: Outcome) -> None:
+    if outcome.status:
+        remark(f"{outcome.name}: status {outcome.status}: {outcome.line}")
+
+
+def run_here(asked: Asked, books: list[ListedBook]) -> list[Outcome]:
+    def done(book: ListedBook) -> Outcome:
+        outcome = run_once(task_here(asked, book))
+        tell_failure(outcome)
+        return outcome
+    with ThreadPoolExecutor(asked.processes) as pool:
+        return list(pool.map(done, largest_first(books)))
+
+
+def run_elsewhere(asked: Asked, books: list[ListedBook], cluster: Cluster) -> list[Outcome]:
+    program = program_file()
+    program_sum = sum_of(bytes_of(program))
+    failed: list[Outcome] = []
+
+    def maker(book: ListedBook) -> Callable[[], Task]:
+        return lambda: task_elsewhere(asked, book, program, program_sum)
+    makes = []
+    for book in largest_first(books):
+        try:
+            demand(os.path.isfile(book.journal), f"there is no {book.journal}")
+            makes.append(maker(book))
+        except Wrong as wrong:
+            failed.append(Outcome(book.name, NOT_DONE, str(wrong)))
+            tell_failure(failed[-1])
+    return failed + cluster.run(makes, tell_failure)
+
+
+def twice(asked: Asked, books: list[ListedBook], run: Callable[[Asked, list[ListedBook]], list[Outcome]]) -> list[Outcome]:
+    """What became of each book, in the order of the list; one that failed is tried once more."""
+    first = {outcome.name: outcome for outcome in run(asked, books)}
+    again = [book for book in books if first[book.name].status]
+    if again:
+        remark(f"tried once more: {', '.join(book.name for book in again)}")
+        first.update((outcome.name, replace(outcome, tried=2)) for outcome in run(asked, again))
+    return [first[book.name] for book in books]
+
+
+def work(asked: Asked, books: list[ListedBook]) -> list[Outcome]:
+    if asked.scheduler is None:
+        return twice(asked, books, run_here)
+    cluster = Cluster(asked.scheduler)
+    try:
+        return twice(asked, books, lambda those, some: run_elsewhere(those, some, cluster))
+    finally:
+        cluster.close()
+
+
+def processors() -> int:
+    return len(os.sched_getaffinity(0))

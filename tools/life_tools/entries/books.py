@@ -1,0 +1,216 @@
+"""Many books as one: LIST is a CSV with a name, a folder and the name of a basis file a row.
+
+  books LIST value ON [--mean|--deficiency] [--workers N]    a valuation of each, and its total
+  books LIST project ON YEARS [--workers N]                  a projection of each, and its total
+  books LIST state                                           the policies and balances of each, and their total
+  books LIST checkpoint                                      a checkpoint of each
+  books LIST position-on DAY                                 the position of a day in each, for --at
+  books headroom LIST                                        how many commands are left in each, and until when
+
+Each line has the book's name before it; `all` stands before the totals, which end with the number of books that they
+are of, and with how many there are. A book that fails is tried once more, and is then a line
+`NAME,failed,STATUS,LINE`; the status is then that of the first such book. A policy's number in two books gives 1.
+
+On a cluster of Dask (--scheduler) each task works on a copy of the book at its position. The lines of policies stay
+where they are made, with --parts, or go.
+"""
+from __future__ import annotations
+
+import argparse
+import heapq
+import itertools
+import os
+
+import sys
+from array import array
+from typing import Iterator, Sequence
+
+from life_tools.book_lists import ALL, ListedBook, books_at, positions_at
+from life_tools.book_runs import Outcome, Parts, named
+from life_tools.book_totals import total_of
+from life_tools.book_work import Asked, processors, work
+from life_tools.bulk import number_at, text_at
+from life_tools.formats import LAST_DAY, MOST_COMMANDS, MOST_WORKERS, MOST_YEARS, Wrong, day_in, demand, number_of, remark
+from life_tools.record_columns import columns_at
+
+WORDS = ("value", "project", "state", "checkpoint", "position-on", "headroom")
+MOST_TOLD = 10
+# the days by which it is told how fast commands are used
+DAYS_LOOKED_AT = 365
+
+
+# --- the words ---
+
+def program_words(options: argparse.Namespace) -> tuple[str, ...]:
+    """The words of the program; those that belong to a list aren't among them."""
+    word, *given = options.words
+    wanted = {"value": 1, "project": 2, "position-on": 1}.get(word, 0)
+    demand(len(given) == wanted, f"{word} takes {wanted} words behind it")
+    if wanted:
+        day_in(given[0])
+    demand(word != "project" or number_of(given[1], 1, MOST_YEARS), f"{' '.join(given[1:])}: 1 to {MOST_YEARS} years are wanted")
+    measures = [f"--{measure}" for measure in ("mean", "deficiency") if getattr(options, measure)]
+    demand(not measures or word == "value", f"{' '.join(measures)} belongs to value")
+    demand(len(measures) < 2, "of --mean and --deficiency one stands")
+    demand(options.workers is None or word in ("value", "project"), "--workers belongs to value and project")
+    demand(options.workers is None or number_of(options.workers, 1, MOST_WORKERS), f"--workers: 1 to {MOST_WORKERS} are wanted")
+    return (word, *given, *measures, *(["--workers", options.workers] if options.workers else []))
+
+
+def asked_of(options: argparse.Namespace, books: list[ListedBook]) -> Asked:
+    words = program_words(options)
+    positions = positions_at(options.at, books) if options.at else {}
+    demand(not positions or words[0] != "checkpoint", "a checkpoint is of the whole journal")
+    demand(not options.scheduler or words[0] != "checkpoint", "a checkpoint is made where the book is, and not on a cluster")
+    demand(not options.send or options.scheduler, "--send belongs to --scheduler")
+    demand(not options.sqlite or (options.parts and words[0] == "value"), "--sqlite is a form of the --parts of value")
+    processes = number_of(options.processes, 1, MOST_WORKERS) if options.processes else processors()
+    if processes is None:
+        raise Wrong(f"--processes {options.processes}: 1 to {MOST_WORKERS} are wanted")
+    parts = Parts(os.path.abspath(options.parts), "sqlite" if options.sqlite else "csv") if options.parts else None
+    are_kept = not (parts or options.totals or options.scheduler)
+    return Asked(words, positions, processes, options.scheduler, options.send, parts, are_kept)
+
+
+# --- what is printed ---
+
+def print_lines(front: str, lines: Sequence[Sequence[str]]) -> None:
+    sys.stdout.writelines(f"{front},{','.join(line)}\n" for line in lines)
+
+
+def print_book(outcome: Outcome) -> None:
+    """The lines of a book: all of them, where they are kept, or those that are added up; or that it failed."""
+    if outcome.text is None:
+        print_lines(outcome.name, [["failed", str(outcome.status), outcome.line]])
+    elif outcome.rows:
+        sys.stdout.flush()
+        with open(outcome.rows, "rb") as file:
+            named(outcome.name, file, sys.stdout.buffer)
+        os.remove(outcome.rows)
+    else:
+        first = [outcome.text.first] if outcome.text.first else []
+        print_lines(outcome.name, first + outcome.text.lines)
+
+
+def print_total(outcomes: list[Outcome]) -> None:
+    texts = [outcome.text for outcome in outcomes if outcome.text is not None]
+    count = [str(len(texts)), str(len(outcomes))]
+    if not texts:
+        print_lines(ALL, [["nothing", *count]])
+        return
+    *lines, last = total_of(texts)
+    print_lines(ALL, [*lines, [*last, *count]])
+
+
+def write_list_of_parts(asked: Asked, outcomes: list[Outcome]) -> None:
+    if not asked.parts:
+        return
+    os.makedirs(asked.parts.folder, exist_ok=True)
+    with open(os.path.join(asked.parts.folder, "parts.csv"), "w", encoding="utf-8") as file:
+        file.writelines(f"{it.name},{','.join(it.part)}\n" for it in outcomes if it.part)
+
+
+def numbered(outcome: Outcome, place: int) -> Iterator[tuple[int, int]]:
+    numbers = array("I")
+    numbers.frombytes(outcome.numbers)
+    return ((number, place) for number in numbers)
+
+
+def overlapping(outcomes: list[Outcome]) -> list[int]:
+    """The places of the books whose numbers lie among those of another book."""
+    ranges = []
+    for place, outcome in enumerate(outcomes):
+        numbers = array("I")
+        numbers.frombytes(outcome.numbers)
+        if numbers:
+            ranges.append((numbers[0], numbers[-1], place))
+    return [place for first, last, place in ranges
+            if any(other != place and first <= end and begin <= last for begin, end, other in ranges)]
+
+
+def tell_twice(outcomes: list[Outcome]) -> int:
+    """Tells the numbers that stand in two books; gives how many there are."""
+    merged = heapq.merge(*(numbered(outcomes[place], place) for place in overlapping(outcomes)))
+    found = 0
+    for number, group in itertools.groupby(merged, key=lambda each: each[0]):
+        places = [place for _, place in group]
+        if len(places) > 1:
+            found += 1
+            if found <= MOST_TOLD:
+                remark(f"policy {number} stands in {', '.join(outcomes[place].name for place in places)}")
+    if found > MOST_TOLD:
+        remark(f"and {found - MOST_TOLD} more numbers stand in two books")
+    return found
+
+
+def run_program(options: argparse.Namespace, books: list[ListedBook]) -> int:
+    asked = asked_of(options, books)
+    outcomes = work(asked, books)
+    for outcome in outcomes:
+        print_book(outcome)
+    print_total(outcomes)
+    sys.stdout.flush()
+    write_list_of_parts(asked, outcomes)
+    failed = [outcome.status for outcome in outcomes if outcome.status]
+    twice = tell_twice(outcomes)
+    return failed[0] if failed else 1 if twice else 0
+
+
+# --- positions and headroom ---
+
+def run_position_on(books: list[ListedBook], day: int) -> int:
+    """The position of a day in each book, all of them or none."""
+    lines = []
+    for book in books:
+        days = columns_at(book.journal).days()
+        position = next((place for place, each in enumerate(days) if each > day), len(days))
+        later = sum(each <= day for each in itertools.islice(days, position, None))
+        if later:
+            remark(f"{book.name}: {later} commands of {text_at(day)} or before were posted after position {position}")
+        lines.append(f"{book.name},{position}\n")
+    sys.stdout.writelines(lines)
+    return 0
+
+
+def headroom_of(book: ListedBook) -> str:
+    columns = columns_at(book.journal)
+    left, days = MOST_COMMANDS - columns.count, columns.days()
+    newest = max(days) if days else 0
+    used = sum(each > newest - DAYS_LOOKED_AT for each in days)
+    full = newest + left * DAYS_LOOKED_AT // used if used else None
+    until = "never" if full is None else text_at(full) if full <= number_at(LAST_DAY) else f"after {LAST_DAY}"
+    return f"{book.name},{columns.count},{left},{used},{until}\n"
+
+
+def run_headroom(books: list[ListedBook]) -> int:
+    lines = [headroom_of(book) for book in books]
+    sys.stdout.write("book,commands,left,in_last_year,full\n")
+    sys.stdout.writelines(lines)
+    return 0
+
+
+def arguments(parser: argparse.ArgumentParser) -> None:
+    parser.add_argument("list", metavar="LIST", help="the list of books")
+    parser.add_argument("words", metavar="WORDS", nargs="+", help=" or ".join(WORDS))
+    parser.add_argument("--at", metavar="LIST2", help="a position for each book: rows of a name and a position")
+    parser.add_argument("--mean", action="store_true", help="value by mean reserves")
+    parser.add_argument("--deficiency", action="store_true", help="value with the minimum reserves")
+    parser.add_argument("--workers", metavar="N", help="threads of each valuation or projection")
+    parser.add_argument("--processes", metavar="N", help="books at once on this machine, as many as processors where not told")
+    parser.add_argument("--scheduler", metavar="ADDRESS", help="a scheduler of Dask, as tcp://HOST:PORT")
+    parser.add_argument("--send", action="store_true", help="workers don't see the folders: they are sent what they need")
+    parser.add_argument("--parts", metavar="FOLDER", help="the lines of each book go to a file there, where they are made")
+    parser.add_argument("--sqlite", action="store_true", help="parts are SQLite files, and not CSV")
+    parser.add_argument("--totals", action="store_true", help="the lines of policies aren't printed")
+
+
+def run(options: argparse.Namespace) -> int:
+    if options.list == "headroom":
+        options.list, options.words = options.words[0], ["headroom", *options.words[1:]]
+    word = options.words[0]
+    demand(word in WORDS, f"{word} is none of {', '.join(WORDS)}")
+    books = books_at(options.list)
+    if word in ("position-on", "headroom"):
+        words = program_words(options)
+        return run_headroom(books) if word == "headroom" else run_position_on(books, number_at(day_in(words[1])))
+    return run_program(options, books)

@@ -1,0 +1,93 @@
+"""A CSV of another system as a script of issues and premiums, sorted by day, and a list of what could not be mapped.
+
+The map is a CSV of what each field is taken from:
+
+"""
+from __future__ import annotations
+
+import argparse
+import contextlib
+import csv
+import os
+from typing import Iterator
+
+from life_tools import foreign_books
+from life_tools.commands import words_of
+from life_tools.foreign_books import Mapped, map_at, mapped
+from life_tools.formats import MOST_LANES, MOST_SCRIPT_BYTES, Wrong, demand, number_of, remark
+
+assert __doc__ and foreign_books.__doc__
+__doc__ += foreign_books.__doc__.partition("\n\n")[2].partition("\n\n")[2] + """
+Each premium is of the day on which it was due, and of the present premium. Lines of one policy are of one clerk. A
+script has at most 16 MiB: what goes on behind that is SCRIPT.2, SCRIPT.3 and so on, to be sent in order. A row that
+can't be mapped is left out whole, and stands in the file LEFT with its line and the reason.
+"""
+
+
+def lines_of(made: Mapped, lanes: int) -> Iterator[str]:
+    lane_of = {commands[0].number: 1 + place % lanes for place, commands in enumerate(made.policies)}
+    for command in made.commands():
+        yield ",".join([str(lane_of[command.number]), *words_of(command)]) + "\n"
+
+
+def parts_of(lines: Iterator[str]) -> list[list[str]]:
+    """The lines in parts of at most the bytes of a script."""
+    parts: list[list[str]] = [[]]
+    size = 0
+    for line in lines:
+        if size + len(line) > MOST_SCRIPT_BYTES:
+            parts.append([])
+            size = 0
+        parts[-1].append(line)
+        size += len(line)
+    return parts
+
+
+def names_of(script: str, parts: int) -> list[str]:
+    return [script if part == 1 else f"{script}.{part}" for part in range(1, parts + 1)]
+
+
+def write_left(path: str, made: Mapped) -> None:
+    with open(path, "x", encoding="utf-8", errors="surrogateescape", newline="") as file:
+        writer = csv.writer(file, lineterminator="\n")
+        writer.writerow(("line", "reason", "row"))
+        writer.writerows((row.line, reason, row.text) for row, reason in made.left)
+
+
+def write(options: argparse.Namespace, made: Mapped, parts: list[list[str]]) -> list[str]:
+    """Writes the parts and the list of what is left; where one can't be written, none of them stays."""
+    names, written = names_of(options.script, len(parts)), []
+    for name in (*names, options.left):
+        demand(not os.path.lexists(name), f"{name} is there already")
+    try:
+        for name, part in zip(names, parts):
+            with open(name, "x", encoding="ascii") as file:
+                written.append(name)
+                file.writelines(part)
+        write_left(options.left, made)
+    except OSError as error:
+        for name in written:
+            with contextlib.suppress(OSError):
+                os.remove(name)
+        raise Wrong(f"{error.filename or options.script}: {error.strerror}") from error
+    return names
+
+
+def arguments(parser: argparse.ArgumentParser) -> None:
+    parser.add_argument("file", metavar="FILE", help="the CSV of the other system, with a header row")
+    parser.add_argument("--map", metavar="MAP.csv", required=True, help="what its columns are")
+    parser.add_argument("--script", metavar="SCRIPT", required=True, help="the new script")
+    parser.add_argument("--left", metavar="LEFT", required=True, help="the new list of what could not be mapped")
+    parser.add_argument("--lanes", metavar="N", default="1", help="so many clerks take the policies in turn, 1 to 8; else one")
+
+
+def run(options: argparse.Namespace) -> int:
+    lanes = number_of(options.lanes, 1, MOST_LANES)
+    if lanes is None:
+        raise Wrong(f"--lanes {options.lanes}: 1 to {MOST_LANES} are wanted")
+    made = mapped(options.file, map_at(options.map))
+    parts = parts_of(lines_of(made, lanes))
+    names = write(options, made, parts)
+    lines, scripts = sum(map(len, parts)), ", ".join(names)
+    remark(f"{len(made.policies)} policies, {lines} lines in {scripts}; {len(made.left)} rows in {options.left}")
+    return 1 if made.left else 0

@@ -1,0 +1,36 @@
+"""Packages that Debian gives: they are seen by Debian's own Python, which may not be the one that runs these tools."""
+from __future__ import annotations
+
+import importlib
+import os
+import subprocess
+import sys
+from types import ModuleType
+
+from life_tools.formats import Wrong
+
+DEBIANS = "/usr/bin/python3"
+# set for a run that was begun anew, so that it isn't once more
+ANEW = "LIFE_TOOLS_ANEW"
+
+
+def is_seen_by_debians(module: str) -> bool:
+    if not os.access(DEBIANS, os.X_OK):
+        return False
+    asked = subprocess.run([DEBIANS, "-c", f"import {module}"], stdout=subprocess.DEVNULL, stderr=subprocess.DEVNULL, check=False)
+    return asked.returncode == 0
+
+
+def package(module: str, debian: str) -> ModuleType:
+    """A module of a package; where only Debian's Python sees it, the tool is begun anew with that one.
+
+    So this is called before anything is read or written.
+    """
+    try:
+        return importlib.import_module(module)
+    except ImportError:
+        if ANEW not in os.environ and is_seen_by_debians(module):
+            sys.stdout.flush()
+            os.execve(DEBIANS, [DEBIANS, *sys.argv], {**os.environ, ANEW: "1"})
+        raise Wrong(f"Python's {module} is missing: apt-get install {debian}; it is then seen by {DEBIANS}, "
+                    f"and this is {sys.executable}") from None
