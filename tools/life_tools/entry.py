@@ -11,6 +11,7 @@ from life_tools.formats import Wrong
 
 # name -> the module of life_tools.entries that answers it, and what it does, in one line
 ENTRIES: dict[str, tuple[str, str]] = {
+    "why": ("why", "one row of a valuation, worked out as a colleague reads it"),
 }
 
 
