@@ -16,10 +16,10 @@ import time
 
 sys.path.insert(0, os.path.join(os.path.dirname(os.path.dirname(os.path.abspath(__file__))), "tools"))
 
-from checkpoints import checkpoint_in, checkpoint_of
-from formats import Wrong, demand
-from journals import file_of, read_journal
-from script_lines import read_script
+from life_tools.checkpoints import checkpoint_in, checkpoint_of
+from life_tools.formats import Wrong, demand
+from life_tools.journals import file_of, read_journal
+from life_tools.script_lines import read_script
 
 POLICIES = 1500
 JOURNAL, KEPT = "journal.life", "checkpoint.life"

@@ -15,7 +15,7 @@ ROOT = os.path.join(os.path.dirname(os.path.abspath(__file__)), "..")
 sys.path.insert(0, os.path.join(ROOT, ".ci", "faults"))
 from memory import Mode, Trial  # noqa: E402: it also puts tools/ on the path
 from judge import Wrong, demand, reason  # noqa: E402
-from journals import file_of  # noqa: E402
+from life_tools.journals import file_of  # noqa: E402
 from scenes import many_policies  # noqa: E402
 
 REFUSING = r"""

@@ -16,5 +16,5 @@ life() {
 life generate 7 300 1 >script && life run <script >transcript || exit
 life project 2010-06-30 30 </dev/null >projection || exit
 for year in $(seq 2001 2022); do life value "$year-08-06" </dev/null || exit; done >valuations
-python3 "$here/../tools/plot_projection.py" projection >"$made/projection.svg" || exit
-python3 "$here/../tools/plot_reserves.py" --policy 215 valuations >"$made/reserve.svg"
+python3 "$here/../tools/life-tools" plot projection projection >"$made/projection.svg" || exit
+python3 "$here/../tools/life-tools" plot reserves --policy 215 valuations >"$made/reserve.svg"

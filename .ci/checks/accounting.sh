@@ -5,7 +5,7 @@
 begin "small office"
 "$life" run <"$examples/small-office.csv" >transcript || exit 2
 "$life" state </dev/null >state || exit 2
-python3 "$tools/read_journal.py" --ledger journal.life >transactions || exit 1
+python3 "$tools/life-tools" read --ledger journal.life >transactions || exit 1
 sed -n 's/^balance,//p' state | sort >wanted
 
 # lines of an account and its balance, however the program writes them, as those of `state`

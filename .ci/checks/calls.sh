@@ -104,7 +104,7 @@ begin "a long journal"
 python3 - "$root" <<'PY' || exit 1
 import sys
 sys.path[:0] = [sys.argv[1] + "/.ci/faults", sys.argv[1] + "/tools"]
-from journals import file_of
+from life_tools.journals import file_of
 from scenes import many_policies
 open("journal.life", "wb").write(file_of(many_policies(20000).commands))
 PY

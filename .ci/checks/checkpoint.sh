@@ -35,12 +35,12 @@ stated_alike() {
 
 # the checkpoint is, byte by byte, that of the journal
 is_right() {
-    python3 "$tools/read_checkpoint.py" checkpoint.life journal.life >read 2>verdict || complain "$1: $(cat verdict)"
+    python3 "$tools/life-tools" read-checkpoint checkpoint.life journal.life >read 2>verdict || complain "$1: $(cat verdict)"
     "$life" state </dev/null | cmp -s - read || complain "$1: the checkpoint has other books than state"
     PYTHONPATH=$tools python3 - <<'PY' || complain "$1: other bytes"
 import sys
-from checkpoints import bytes_of_checkpoint, checkpoint_of
-from journals import journal_at
+from life_tools.checkpoints import bytes_of_checkpoint, checkpoint_of
+from life_tools.journals import journal_at
 made = bytes_of_checkpoint(checkpoint_of(journal_at("journal.life").commands))
 sys.exit(open("checkpoint.life", "rb").read()[:len(made)] != made)
 PY
@@ -68,7 +68,7 @@ for gate in '\001' '\000'; do
     judge $? 0 settled
 done
 # with the gate closed it isn't a checkpoint for the tool either
-python3 "$tools/read_checkpoint.py" checkpoint.life journal.life >out 2>&1 && complain "a closed gate is a checkpoint for the tool"
+python3 "$tools/life-tools" read-checkpoint checkpoint.life journal.life >out 2>&1 && complain "a closed gate is a checkpoint for the tool"
 
 # with no journal a checkpoint of no command is made, and a journal as in a run
 begin "an empty book"
@@ -112,7 +112,7 @@ changed_byte() {
     cp whole checkpoint.life
     printf '%b' "$2" | dd of=checkpoint.life bs=1 seek="$1" conv=notrunc status=none
     stated_alike "byte $1 is $2"
-    python3 "$tools/read_checkpoint.py" checkpoint.life journal.life >out 2>&1
+    python3 "$tools/life-tools" read-checkpoint checkpoint.life journal.life >out 2>&1
     [ $? = "${3:-1}" ] || complain "the tool says of byte $1: $(cat out)"
 }
 changed_byte 0 '\000'
@@ -141,7 +141,7 @@ done
 { cat whole; tail -c 48 whole; } >checkpoint.life
 printf '\002' | dd of=checkpoint.life bs=1 seek=28 conv=notrunc status=none
 stated_alike "a number twice"
-python3 "$tools/read_checkpoint.py" checkpoint.life >out 2>&1 && complain "a number twice is a checkpoint for the tool"
+python3 "$tools/life-tools" read-checkpoint checkpoint.life >out 2>&1 && complain "a number twice is a checkpoint for the tool"
 { cat whole; echo more; } >checkpoint.life
 stated_alike "bytes behind it"
 for file in "$empty" journal.life /bin/sh; do
@@ -158,7 +158,7 @@ cmp -s whole checkpoint.life || complain "it isn't made anew"
 begin_claimed "another journal"
 mkdir other && (cd other && echo 1,issue,9,2020-01-01,term,0,3,500.00,200.00 | "$life" run >out && "$life" checkpoint </dev/null >out)
 cp other/checkpoint.life .
-python3 "$tools/read_checkpoint.py" checkpoint.life journal.life >out 2>verdict && complain "the tool takes a checkpoint of another journal"
+python3 "$tools/life-tools" read-checkpoint checkpoint.life journal.life >out 2>verdict && complain "the tool takes a checkpoint of another journal"
 grep -q "aren't the books of the first 1 commands" verdict || complain "the tool says $(cat verdict)"
 (stated_alike "another journal" 2>/dev/null; [ "$failed" = 1 ]) || complain "a state by a checkpoint of another journal isn't seen"
 # with it `premium` of a policy that it doesn't have can't follow; without it all is well

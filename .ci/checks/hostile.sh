@@ -115,7 +115,7 @@ begin_with_basis "131 issue ages"
 cp "$work/one" journal.life
 python3 "$root/.ci/tools/made_table.py" 0 130 131 0 130 >q.xml
 "$life" value 2021-01-01 </dev/null >widest
-python3 "$tools/check_values.py" journal.life basis.csv widest >out || complain "$(cat out)"
+python3 "$tools/life-tools" check-values journal.life basis.csv widest >out || complain "$(cat out)"
 grep -q '^row,7001,inforce,1,[0-9]' widest || complain "no value by 131 issue ages: $(cat widest)"
 cp q.xml right.xml
 echo "badbasis,q.xml,$(grep -bo '<Y t="2"/>' q.xml | cut -d: -f1),badduration" >wanted

@@ -5,7 +5,7 @@
 # two clerks and two valuations: whichever way their lines lie, the checker of transcripts has to accept it
 begin_with_examples "two clerks"
 "$life" run <"$examples/two-clerks.csv" >out || complain "status $?"
-python3 "$tools/check_transcript.py" "$examples/two-clerks.csv" out /dev/null journal.life basis.csv >verdict ||
+python3 "$tools/life-tools" check-transcript "$examples/two-clerks.csv" out /dev/null journal.life basis.csv >verdict ||
     complain "$(cat verdict)"
 
 begin_with_basis "a valuation in a script"

@@ -20,7 +20,7 @@ done
 load_is_right() {
     count=$1
     "$life" value 2020-12-31 </dev/null >block || complain "value ended with $?"
-    python3 "$tools/check_values.py" journal.life basis.csv block >verdict 2>&1 || complain "$(cat verdict)"
+    python3 "$tools/life-tools" check-values journal.life basis.csv block >verdict 2>&1 || complain "$(cat verdict)"
     grep -q '^total,[1-9]' block || complain "the book is worth nothing, so nothing is compared"
     echo "load,$count,$(sed -n 's/^total,//p' block)" >wanted
     judge "$status" 0 wanted
@@ -60,7 +60,7 @@ begin_with_examples "generated script through run"
 "$life" generate 7 50 8 </dev/null >script || complain "generate ended with $?"
 "$life" run <script >out || complain "run ended with $?"
 [ "$(grep -c ',accepted,' out)" -eq 100 ] || complain "not all rows are accepted"
-python3 "$tools/check_transcript.py" script out /dev/null journal.life basis.csv >verdict 2>&1 || complain "$(cat verdict)"
+python3 "$tools/life-tools" check-transcript script out /dev/null journal.life basis.csv >verdict 2>&1 || complain "$(cat verdict)"
 "$life" value 2020-12-31 </dev/null >block || complain "value ended with $?"
 rm journal.life
 "$life" load 7 50 8 4 </dev/null >out

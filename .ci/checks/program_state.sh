@@ -23,7 +23,7 @@ judge $? 0 wanted
 
 go_on "journal read without the program"
 grep -e '^balance,' -e '^count,' "$life_of.state" >wanted
-python3 "$tools/read_journal.py" journal.life | grep -e '^balance,' -e '^count,' >out
+python3 "$tools/life-tools" read journal.life | grep -e '^balance,' -e '^count,' >out
 judge 0 0 wanted
 
 office_of=$examples/small-office
@@ -37,7 +37,7 @@ judge $? 0 "$office_of.state"
 
 go_on "small office read without the program"
 grep -e '^balance,' -e '^count,' "$office_of.state" >wanted
-python3 "$tools/read_journal.py" journal.life | grep -e '^balance,' -e '^count,' >out
+python3 "$tools/life-tools" read journal.life | grep -e '^balance,' -e '^count,' >out
 judge 0 0 wanted
 
 end "the state is that of the journal"

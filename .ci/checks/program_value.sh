@@ -55,7 +55,7 @@ begin_with_basis "a premium that is close"
 for premium in 17.14 17.15 17.16; do echo "1,issue,${premium#*.},2020-01-01,endowment,0,3,35.37,$premium"; done | "$life" run >out
 "$life" value 2021-01-01 --deficiency </dev/null >block || complain "value ended with $?"
 [ "$(sed -n 's/^row,\(..\),.*,/\1 /p' block | tr '\n' ' ')" = "14 short 15 close 16 enough " ] || complain "$(cat block)"
-python3 "$tools/check_values.py" journal.life basis.csv block >out || complain "$(cat out)"
+python3 "$tools/life-tools" check-values journal.life basis.csv block >out || complain "$(cat out)"
 
 # a policy by the rates of its issue age, its cap by those of the next one: by hand (docs/VALUATION.md), from each layout,
 # and with a blank row behind the durations of each issue age
@@ -109,7 +109,7 @@ for made in "18 70 25 18 120" "40 44 6 46 70" "60 70 25 18 82" "0 2 3 3 9"; do
     for asked in 2001-01-01 "2003-06-01 --mean" "2025-01-01 --deficiency" 2030-01-01; do
         # shellcheck disable=SC2086
         "$life" value $asked </dev/null >block || complain "value $asked ended with $?"
-        python3 "$tools/check_values.py" journal.life basis.csv block >out 2>&1 || complain "on $asked: $(cat out)"
+        python3 "$tools/life-tools" check-values journal.life basis.csv block >out 2>&1 || complain "on $asked: $(cat out)"
         sed -n 's/^row,.*,\([a-z]*table\)$/\1/p' block >>"$work/words"
     done
 done
@@ -120,7 +120,7 @@ begin_with_examples "short premium"
 grep -q refused out && complain "a row of the example is refused"
 "$life" value 2023-12-31 --deficiency </dev/null >out
 judge $? 0 "$examples/short-premium.deficiency"
-python3 "$tools/check_values.py" journal.life basis.csv out >verdict || complain "$(cat verdict)"
+python3 "$tools/life-tools" check-values journal.life basis.csv out >verdict || complain "$(cat verdict)"
 
 begin_with_basis "the words of a measure, wherever they stand"
 echo "$policy" | "$life" run >out
@@ -220,12 +220,12 @@ for day in 2021-01-19 2022-01-20 2023-03-15 2024-03-03 2024-03-12 2060-01-01; do
     for measure in "" --mean --deficiency; do
         # shellcheck disable=SC2086
         "$life" value "$day" $measure </dev/null >block || complain "value on $day $measure ended with $?"
-        python3 "$tools/check_values.py" journal.life basis.csv block >out 2>&1 || complain "on $day $measure: $(cat out)"
+        python3 "$tools/life-tools" check-values journal.life basis.csv block >out 2>&1 || complain "on $day $measure: $(cat out)"
     done
 done
 for position in 0 1 7 19 27; do
     "$life" value 2024-06-30 --at "$position" </dev/null >block || complain "value at $position ended with $?"
-    python3 "$tools/check_values.py" journal.life basis.csv block >out || complain "at $position: $(cat out)"
+    python3 "$tools/life-tools" check-values journal.life basis.csv block >out || complain "at $position: $(cat out)"
 done
 
 # a whole generated book by each measure, whose premiums are a fiftieth of the amounts, and so short for most of them
@@ -235,7 +235,7 @@ for day in 2000-06-01 2005-12-31 2009-12-31 2020-12-31 2190-01-01; do
     for measure in "" --mean --deficiency; do
         # shellcheck disable=SC2086
         "$life" value "$day" $measure </dev/null >block || complain "value on $day $measure ended with $?"
-        python3 "$tools/check_values.py" journal.life basis.csv block >out 2>&1 || complain "on $day $measure: $(cat out)"
+        python3 "$tools/life-tools" check-values journal.life basis.csv block >out 2>&1 || complain "on $day $measure: $(cat out)"
     done
 done
 "$life" value 2005-12-31 --deficiency </dev/null >block
@@ -246,10 +246,10 @@ begin_with_examples "premiums around the net premium"
 python3 - "$tools" <<'PY' >script || complain "no premiums were made"
 import sys
 sys.path.insert(0, sys.argv[1])
-from formats import day_in, money
-from reserves import insured_on
-from rules import Policy
-from tables import read_basis
+from life_tools.formats import day_in, money
+from life_tools.reserves import insured_on
+from life_tools.rules import Policy
+from life_tools.tables import read_basis
 basis, known, day, amount, number = read_basis("basis.csv"), {}, day_in("2021-03-01"), 1234567, 0
 for plan in ("term", "whole", "endowment", "limited"):
     for age in (20, 41, 67):
@@ -262,7 +262,7 @@ PY
 "$life" run <script >out || complain "the run ended with $?"
 for day in 2021-03-01 2022-03-01 2023-03-01 2031-12-31 2046-03-01; do
     "$life" value "$day" --deficiency </dev/null >block || complain "value on $day ended with $?"
-    python3 "$tools/check_values.py" journal.life basis.csv block >out 2>&1 || complain "on $day: $(cat out)"
+    python3 "$tools/life-tools" check-values journal.life basis.csv block >out 2>&1 || complain "on $day: $(cat out)"
     [ "$day" != 2022-03-01 ] || sed -n 's/^row,.*,//p' block >tests
 done
 awk '{ print NR % 4 == 1 || NR % 4 == 2 ? "short" : "enough" }' script | cmp -s - tests || complain "another test: $(paste -sd ' ' tests)"

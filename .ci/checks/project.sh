@@ -14,7 +14,7 @@ projects() {
 
 # the years of a file are those that are worked out without the program
 is_right() {
-    python3 "$tools/check_projection.py" journal.life basis.csv "$1" >verdict 2>&1 || complain "$2: $(cat verdict)"
+    python3 "$tools/life-tools" check-projection journal.life basis.csv "$1" >verdict 2>&1 || complain "$2: $(cat verdict)"
 }
 
 begin_with_basis "a policy by hand"
@@ -153,19 +153,19 @@ for field in 3 4 5 6 7 8; do
     for by in -100 100; do
         awk -F, -v OFS=, -v field=$field -v by=$by '$1 == "year" && $2 == 1 { $field = sprintf("%.2f", $field + by / 100) } { print }' \
             projected >wrong
-        python3 "$tools/check_projection.py" journal.life basis.csv wrong >verdict 2>&1 && complain "the judge takes $(grep ^year,1, wrong)"
+        python3 "$tools/life-tools" check-projection journal.life basis.csv wrong >verdict 2>&1 && complain "the judge takes $(grep ^year,1, wrong)"
     done
 done
 sed '/^unvalued/s/.*/unvalued,1000/' projected >wrong
-python3 "$tools/check_projection.py" journal.life basis.csv wrong >verdict 2>&1 && complain "the judge takes a wrong number of words"
+python3 "$tools/life-tools" check-projection journal.life basis.csv wrong >verdict 2>&1 && complain "the judge takes a wrong number of words"
 
 # every plan at every age, for short covers and for those to the end of a table and past it; of a table by age, and of a
 # select one whose ultimate rates begin behind some of its issue ages
 begin_with_examples "a grid of ages"
 PYTHONPATH=$tools python3 - <<'PY' >journal.life || complain "no book was made"
 import datetime, sys
-from commands import LAST_AGE, OLDEST_AT_ISSUE, Command, years_fit
-from journals import file_of
+from life_tools.commands import LAST_AGE, OLDEST_AT_ISSUE, Command, years_fit
+from life_tools.journals import file_of
 
 book = [(plan, age, years) for age in range(OLDEST_AT_ISSUE + 1) for plan in ("whole", "term", "endowment", "limited")
         for years in ((0,) if plan == "whole" else (2, 3, 11, 26, 120 - age, 121 - age, 131 - age)) if years_fit(plan, age, years)]

@@ -1,6 +1,6 @@
 #!/bin/sh
 # The program on random scripts of eight clerks: each transcript has to be one history, and the journal has to hold what
-# was accepted (tools/check_transcript.py). Before that the checker itself is tried on changed transcripts.
+# was accepted (`life-tools check-transcript`). Before that the checker itself is tried on changed transcripts.
 . "$(dirname "$0")/../common.sh"
 quick=$(mktemp -d -p /dev/shm 2>/dev/null) || quick=$work
 python3 "$root/.ci/stress/self_test.py" "$root" "$work/self" &&

@@ -1,35 +1,43 @@
 #!/bin/sh
-# Each tool beside the program's own output, and at least one case in which it has to complain.
+# Each entry of life-tools beside the program's own output, and at least one case in which it has to complain.
 . "$(dirname "$0")/../common.sh"
 
-# a tool that has to be content, and print what `wanted` has, where that is given
+# an entry that has to be content
 says() {
-    tool=$1
-    shift
-    python3 "$tools/$tool.py" "$@" >out 2>remarks || complain "$tool $*: $(cat remarks)"
+    python3 "$tools/life-tools" "$@" >out 2>remarks || complain "$*: status $?: $(cat remarks)"
 }
 
 prints() {
-    cmp -s "$1" out || complain "$tool printed: $(head -n 5 out)"
+    cmp -s "$1" out || complain "what was printed is: $(head -n 5 out)"
 }
 
-# a tool that has to complain, with status 1 and these words on standard error
-refuses() {
-    words=$1
-    tool=$2
+# an entry that ends with a status and these words on standard error
+complains() {
+    wanted_status=$1
+    words=$2
     shift 2
-    python3 "$tools/$tool.py" "$@" >out 2>remarks
+    python3 "$tools/life-tools" "$@" >out 2>remarks
     status=$?
-    [ "$status" = 1 ] && grep -q -e "$words" remarks || complain "$tool $*: status $status: $(cat out remarks)"
+    [ "$status" = "$wanted_status" ] && grep -q -e "$words" remarks || complain "$*: status $status: $(cat out remarks)"
 }
 
-begin "each tool tells its usage"
-for tool in "$tools"/*.py; do
-    grep -q '^if __name__' "$tool" || continue
-    python3 "$tool" --help | grep -q '^usage: ' || complain "$tool has no --help"
-    python3 "$tool" --nonsense >out 2>&1
-    [ $? = 2 ] || complain "$tool takes wrong words"
+# one that finds something wrong, and one that can't be done
+finds() {
+    complains 1 "$@"
+}
+
+refuses() {
+    complains 2 "$@"
+}
+
+begin "each entry tells its usage"
+entries=$(python3 "$tools/life-tools" --help | sed -n 's/^    \([a-z][a-z-]*\)\( .*\)*$/\1/p')
+[ "$(echo "$entries" | wc -l)" -ge 11 ] || complain "the entries are: $entries"
+for entry in $entries; do
+    python3 "$tools/life-tools" "$entry" --help | grep -q "^usage: life-tools $entry " || complain "$entry has no --help"
+    refuses "^usage: " "$entry" --nonsense
 done
+refuses "invalid choice" nonsense
 
 begin "readers say what the program says, of drawn files"
 python3 "$root/.ci/tools/against_program.py" "$program" "$root" "$work/drawn" || failed=1
@@ -39,18 +47,18 @@ begin_with_examples "the small office"
 cp "$examples/small-office.csv" .
 "$life" run <small-office.csv >transcript
 "$life" state </dev/null >state
-says read_journal journal.life
+says read journal.life
 grep -e '^balance,' -e '^count,' out >found
 grep -e '^balance,' -e '^count,' state >wanted
-cmp -s found wanted || complain "read_journal has other balances than state"
+cmp -s found wanted || complain "read has other balances than state"
 "$life" state 14 </dev/null | sed -n 's/^entry,\([0-9]*\),\([a-z]*\),/\1,\2,14,/p' >wanted
-grep '^[0-9]*,[a-z]*,14,' out | cmp -s - wanted || complain "read_journal lists other records of policy 14 than state 14"
+grep '^[0-9]*,[a-z]*,14,' out | cmp -s - wanted || complain "read lists other records of policy 14 than state 14"
 head -c 100 journal.life >cut.life
-refuses "record 1: it is cut short" read_journal cut.life
-refuses "No such file" read_journal nowhere.life
+refuses "record 1: it is cut short" read cut.life
+refuses "No such file" read nowhere.life
 
 go_on "exports"
-says export_journal csv journal.life
+says export csv journal.life
 python3 - <<'PY' >found
 import csv
 for row in csv.DictReader(open("out")):
@@ -60,10 +68,10 @@ for row in csv.DictReader(open("out")):
 PY
 "$life" state 14 </dev/null | grep '^entry,' >wanted
 cmp -s found wanted || complain "the CSV isn't what state 14 prints"
-says export_journal jsonl journal.life
+says export jsonl journal.life
 python3 -c 'import json; print(sum(json.loads(line)["policy"] == 14 for line in open("out")))' >found
 wc -l <wanted | cmp -s - found || complain "the JSON lines have other records"
-says export_journal sqlite journal.life journal.db
+says export sqlite journal.life journal.db
 python3 - <<'PY' >found
 import sqlite3
 money = lambda cents: f"{'-' if cents < 0 else ''}{abs(cents) // 100}.{abs(cents) % 100:02}"
@@ -78,29 +86,29 @@ for account in ("cash", "premiums", "incurred", "payable"):
 print(f"count,{database.execute('select count(*) from command').fetchone()[0]}")
 PY
 cmp -s found state || complain "the SQLite file has another state"
-refuses "there already" export_journal sqlite journal.life journal.db
-refuses "badjournal,badrecord,1" export_journal csv cut.life
+refuses "there already" export sqlite journal.life journal.db
+refuses "badjournal,badrecord,1" export csv cut.life
 
 go_on "positions of days"
 for day in 2021-01-19 2022-01-20 2024-03-12 2199-12-31; do
-    says position_on "$day" journal.life
+    says position-on "$day" journal.life
     "$life" value "$day" --at "$(cat out)" </dev/null >block || complain "value at the position of $day"
-    python3 "$tools/read_journal.py" journal.life |
+    python3 "$tools/life-tools" read journal.life |
         awk -F, -v day="$day" '/^[0-9]/ && $4 > day { exit } /^[0-9]/ { n = $1 } END { print n + 0 }' >wanted
     prints wanted
 done
-refuses "2021-02-29 is no day" position_on 2021-02-29 journal.life
+refuses "2021-02-29 is no day" position-on 2021-02-29 journal.life
 # a command of an earlier day, posted after one of a later day, is told
 printf '1,issue,1,2020-05-01,whole,30,0,60.00,1.00\n1,issue,2,2020-04-01,whole,30,0,60.00,1.00\n' >late.csv
 mkdir late && (cd late && "$life" run <../late.csv >transcript)
-says position_on 2020-04-30 late/journal.life
+says position-on 2020-04-30 late/journal.life
 echo 0 >wanted
 prints wanted
-grep -q '2,issue,2,2020-04-01' remarks || complain "position_on says nothing of the later posted command"
+grep -q '2,issue,2,2020-04-01' remarks || complain "position-on says nothing of the later posted command"
 
 go_on "values"
 "$life" value 2024-03-12 </dev/null >block
-says check_values journal.life basis.csv block
+says check-values journal.life basis.csv block
 # tables that the program takes: a byte order mark, a comment that isn't ASCII, a blank before the end of a tag
 "$life" value 2024-03-12 </dev/null | sed -n 's/^row,14,//p' >row
 cp g.xml plain.xml
@@ -110,14 +118,14 @@ cp g.xml plain.xml
 } >g.xml
 "$life" value 2024-03-12 </dev/null >block || complain "the program doesn't take the table"
 grep -q "^row,14,$(cat row)" block || complain "the program takes another table"
-says check_values journal.life basis.csv block
+says check-values journal.life basis.csv block
 # a bound that is two cents off, a word in place of a value, and a total that isn't the sum
 sed 's/^\(row,14,.*\),[^,]*$/\1,9999.99/' block >wrong
-refuses "doesn't enclose" check_values journal.life basis.csv wrong
+finds "doesn't enclose" check-values journal.life basis.csv wrong
 sed 's/^row,14,.*/row,14,inforce,3,nobasis/' block >wrong
-refuses "has a value" check_values journal.life basis.csv wrong
+finds "has a value" check-values journal.life basis.csv wrong
 sed 's/^\(total,.*\),0$/\1,1/' block >wrong
-refuses "isn't total" check_values journal.life basis.csv wrong
+finds "isn't total" check-values journal.life basis.csv wrong
 cp plain.xml g.xml
 # by a select table; its bounds aren't those by its ultimate rates, nor those by the select rates of the age above
 mkdir select && cp journal.life select && cp "$examples"/select*.xml select
@@ -128,45 +136,45 @@ mkdir select && cp journal.life select && cp "$examples"/select*.xml select
     "$life" value 2021-01-01 </dev/null >../by-select
 )
 grep -q '^row,99,inforce,1,129.20,129.21$' by-select || complain "another value by a select table: $(cat by-select)"
-says check_values select/journal.life select/basis.csv by-select
+says check-values select/journal.life select/basis.csv by-select
 for bounds in 105.63,105.64 127.22,127.23 58.37,58.38; do
     sed "s/^\(row,99,.*,\)129.20,129.21/\1$bounds/" by-select >wrong
-    refuses "doesn't enclose" check_values select/journal.life select/basis.csv wrong
+    finds "doesn't enclose" check-values select/journal.life select/basis.csv wrong
 done
 # by the other measures, each of which another's first line doesn't fit
 "$life" value 2024-03-12 </dev/null >block
 for measure in mean deficiency; do
     "$life" value 2024-03-12 --$measure </dev/null >"by-$measure" || complain "value by $measure ended with $?"
-    says check_values journal.life basis.csv "by-$measure"
+    says check-values journal.life basis.csv "by-$measure"
     sed "1s/,$measure\$//" "by-$measure" >wrong
-    refuses "wrong: row," check_values journal.life basis.csv wrong
+    finds "wrong: row," check-values journal.life basis.csv wrong
     sed "1s/\$/,$measure/" block >wrong
-    refuses "wrong: row," check_values journal.life basis.csv wrong
+    finds "wrong: row," check-values journal.life basis.csv wrong
 done
 sed '1s/,mean$/,terminal/' by-mean >wrong
-refuses "is no valuation" check_values journal.life basis.csv wrong
+refuses "is no valuation" check-values journal.life basis.csv wrong
 # a minimum that is off, a short premium that is called enough or close, a sum of the minimum, an ordinary row without one
 sed 's/^\(row,12,.*\),[0-9.]*,\([a-z]*\)$/\1,9999.99,\2/' by-deficiency >wrong
-refuses "doesn't enclose" check_values journal.life basis.csv wrong
+finds "doesn't enclose" check-values journal.life basis.csv wrong
 for words in "short/enough" "short/close" "enough/short" "enough/close"; do
     sed "s/^\(row,1[0-9],inforce,.*\),${words%/*}\$/\1,${words#*/}/" by-deficiency >wrong
-    cmp -s wrong by-deficiency || refuses "above the net premium" check_values journal.life basis.csv wrong
+    cmp -s wrong by-deficiency || finds "above the net premium" check-values journal.life basis.csv wrong
 done
 sed 's/^\(row,13,.*,\)enough$/\1short/' by-deficiency >wrong
-refuses "no premium of policy 13 is to come" check_values journal.life basis.csv wrong
+finds "no premium of policy 13 is to come" check-values journal.life basis.csv wrong
 sed 's/^\(total,.*\),[0-9.]*,0$/\1,9999.99,0/' by-deficiency >wrong
-refuses "isn't total" check_values journal.life basis.csv wrong
+finds "isn't total" check-values journal.life basis.csv wrong
 
 go_on "transcripts"
-says check_transcript small-office.csv transcript /dev/null journal.life basis.csv
+says check-transcript small-office.csv transcript /dev/null journal.life basis.csv
 sed 's/refused,taken/refused,unknown/' transcript >wrong
-refuses "and the rules say" check_transcript small-office.csv wrong /dev/null journal.life basis.csv
-refuses "record 1 of the journal is issue,1" check_transcript small-office.csv transcript /dev/null late/journal.life basis.csv
+finds "and the rules say" check-transcript small-office.csv wrong /dev/null journal.life basis.csv
+finds "record 1 of the journal is issue,1" check-transcript small-office.csv transcript /dev/null late/journal.life basis.csv
 
 go_on "dry runs"
 cp journal.life before
 printf '1,premium,12,2025-02-28,310.00\n1,value,2025-02-28,now,1\n' >next.csv
-says dry_run next.csv --life "$life"
+says dry-run next.csv --life "$life"
 leaves before
 cp out wanted
 "$life" run <next.csv >transcript || complain "the run ended with $?"
@@ -178,14 +186,14 @@ print("held", flush=True)
 time.sleep(60)' >held &
 holder=$!
 until grep -q held held 2>/dev/null; do sleep 0.05; done
-refuses "held by another run" dry_run next.csv --life "$life"
+refuses "held by another run" dry-run next.csv --life "$life"
 kill "$holder"
 # it holds the journal until it has ended
 wait "$holder" 2>/dev/null
 
 go_on "drawings"
 for day in 2022-12-31 2023-12-31 2024-12-31; do "$life" value "$day" </dev/null; done >valuations
-says plot_reserves valuations
+says plot reserves valuations
 python3 - <<'PY' || complain "the drawing of reserves isn't that of the totals"
 import xml.dom.minidom
 totals = [line.split(",")[2] for line in open("valuations") if line.startswith("total,")]
@@ -195,16 +203,16 @@ heights = [float(it.getAttribute("cy")) for it in drawn.getElementsByTagName("ci
 assert sorted(heights, reverse=True) == [y for _, y in sorted(zip(map(float, totals), heights))]
 assert max(totals, key=float) in [it.firstChild.data for it in drawn.getElementsByTagName("text")]
 PY
-says plot_reserves --policy 14 --policy 12 valuations
-says plot_reserves by-deficiency
+says plot reserves --policy 14 --policy 12 valuations
+says plot reserves by-deficiency
 grep -q "minimum reserves, upper bounds" out && grep -q "$(sed -n 's/^total,.*,\([0-9.]*\),0$/\1/p' by-deficiency)" out ||
     complain "the drawing isn't that of the minimum reserves"
-says plot_reserves --policy 12 by-mean
-refuses "of several measures" plot_reserves by-mean by-deficiency
-refuses "policy 99 has bounds in none" plot_reserves --policy 99 valuations
+says plot reserves --policy 12 by-mean
+refuses "of several measures" plot reserves by-mean by-deficiency
+refuses "policy 99 has bounds in none" plot reserves --policy 99 valuations
 grep -v '^row,14,' valuations >wrong
-refuses "add up to another total" plot_reserves wrong
-says plot_book state
+refuses "add up to another total" plot reserves wrong
+says plot book state
 python3 - <<'PY' || complain "the drawing of the book isn't that of the state"
 import xml.dom.minidom
 words = [it.firstChild.data for it in xml.dom.minidom.parse("out").getElementsByTagName("text")]
@@ -212,33 +220,33 @@ policies = [line.split(",") for line in open("state") if line.startswith("policy
 assert words[0] == f"amounts insured, {len(policies)} policies"
 assert "whole inforce 2" in words and "25000.00" in words, words
 PY
-refuses "isn't what life state prints" plot_book transcript
+refuses "isn't what life state prints" plot book transcript
 
 go_on "projections"
 "$life" project 2024-06-30 20 </dev/null >projected || complain "project ended with $?"
-says check_projection journal.life basis.csv projected
+says check-projection journal.life basis.csv projected
 # a bound that is off, or too wide; a year twice, or one too few; another number of policies, of words, another position
 sed 's/^\(year,2,.*\),[^,]*$/\1,1.00/' projected >wrong
-refuses "year 2, maturities: .* lie too far apart" check_projection journal.life basis.csv wrong
+finds "year 2, maturities: .* lie too far apart" check-projection journal.life basis.csv wrong
 sed 's/^\(year,3,[^,]*,[^,]*\),[^,]*,/\1,1870.15,/' projected >wrong
-refuses "year 3, deaths: .*doesn't enclose" check_projection journal.life basis.csv wrong
+finds "year 3, deaths: .*doesn't enclose" check-projection journal.life basis.csv wrong
 sed 's/^year,4,[^,]*,[^,]*,/year,4,0.00,0.00,/' projected >wrong
-refuses "year 4, premiums: .*doesn't enclose" check_projection journal.life basis.csv wrong
+finds "year 4, premiums: .*doesn't enclose" check-projection journal.life basis.csv wrong
 sed '/^year,5,/d' projected >wrong
-refuses "has 22 lines, and this one 21" check_projection journal.life basis.csv wrong
+refuses "has 22 lines, and this one 21" check-projection journal.life basis.csv wrong
 sed 's/^year,5,/year,4,/' projected >wrong
-refuses "isn't the line of year 5" check_projection journal.life basis.csv wrong
+refuses "isn't the line of year 5" check-projection journal.life basis.csv wrong
 sed '1s/,6,20$/,7,20/' projected >wrong
-refuses "there are 6 policies, and not 7" check_projection journal.life basis.csv wrong
+finds "there are 6 policies, and not 7" check-projection journal.life basis.csv wrong
 sed 's/^unvalued,0$/unvalued,1/' projected >wrong
-refuses "0 policies have a word, and not 1" check_projection journal.life basis.csv wrong
+finds "0 policies have a word, and not 1" check-projection journal.life basis.csv wrong
 position=$(sed -n '1s/^project,[^,]*,\([0-9]*\),6,20$/\1/p' projected)
 sed "1s/,$position,6,20\$/,$((position + 1)),6,20/" projected >wrong
-refuses "$((position + 1)) is no position" check_projection journal.life basis.csv wrong
+refuses "$((position + 1)) is no position" check-projection journal.life basis.csv wrong
 sed "1s/,$position,6,20\$/,$((position - 1)),6,20/" projected >wrong
-refuses "doesn't enclose" check_projection journal.life basis.csv wrong
-refuses "isn't what life project prints" check_projection journal.life basis.csv state
-says plot_projection projected
+finds "doesn't enclose" check-projection journal.life basis.csv wrong
+refuses "isn't what life project prints" check-projection journal.life basis.csv state
+says plot projection projected
 python3 - <<'PY' || complain "the drawing of a projection isn't that of its years"
 import xml.dom.minidom
 years = [line.split(",") for line in open("projected") if line.startswith("year,")]
@@ -253,8 +261,8 @@ assert {"premiums", "deaths", "maturities", "year 0", "year 19"} < set(words), w
 assert max((year[5].strip() for year in years), key=float) in words, words
 PY
 sed 's/^year,6,\([^,]*\),[^,]*/year,6,\1,1.00/' projected >wrong
-refuses "a lower bound is above" plot_projection wrong
-refuses "isn't what life project prints" plot_projection valuations
+refuses "a lower bound is above" plot projection wrong
+refuses "isn't what life project prints" plot projection valuations
 (mkdir pictures && cd pictures && LIFE_PROGRAM=$life sh "$examples/pictures.sh") || complain "pictures.sh ended with $?"
 for picture in projection reserve; do
     cmp -s "pictures/$picture.svg" "$examples/$picture.svg" || complain "the shipped $picture.svg isn't what pictures.sh draws"
@@ -340,14 +348,14 @@ run=$!
 until [ "$({ wc -c <journal.life || echo 0; } 2>/dev/null)" -gt 9000 ]; do sleep 0.01; done
 kill -9 "$run"
 wait "$run" 2>/dev/null
-says rest_of_script script journal.life 0
+says rest script journal.life 0
 mv out rest
 [ ! -s killed ] || complain "the killed run printed something"
-before=$(python3 "$tools/read_journal.py" journal.life | sed -n 's/^count,//p')
+before=$(python3 "$tools/life-tools" read journal.life | sed -n 's/^count,//p')
 [ $((before + $(wc -l <rest))) = 720 ] || complain "$before were accepted and $(wc -l <rest) are left of 720"
 "$life" run <rest >transcript
 [ "$(grep -c ,accepted, transcript)" = "$(wc -l <rest)" ] || complain "a row of the rest was refused"
-refuses "no run of this script leaves this journal" rest_of_script rest journal.life 0
-refuses "before the run there were 721" rest_of_script script journal.life 721
+finds "no run of this script leaves this journal" rest rest journal.life 0
+refuses "before the run there were 721" rest script journal.life 721
 
-end "each tool says what the program says, and complains where it must"
+end "each entry says what the program says, and complains where it must"

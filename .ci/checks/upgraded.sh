@@ -19,7 +19,7 @@ leaves "$upgraded/upgraded.life"
 
 go_on "read without the program"
 grep -e '^balance,' -e '^count,' "$upgraded/state" >wanted
-python3 "$tools/read_journal.py" journal.life | grep -e '^balance,' -e '^count,' >out
+python3 "$tools/life-tools" read journal.life | grep -e '^balance,' -e '^count,' >out
 judge 0 0 wanted
 
 # a journal of these records of the upgraded one, counted from 0, which is refused at this one
@@ -36,7 +36,7 @@ PY
     "$life" run <"$nothing" >out
     judge $? 5 wanted
     leaves before
-    python3 "$tools/read_journal.py" journal.life >out 2>remarks
+    python3 "$tools/life-tools" read journal.life >out 2>remarks
     judge $? 1 wanted
 }
 
@@ -55,10 +55,10 @@ fi
 python3 - "$tools" >out <<'PY'
 import sys
 sys.path.insert(0, sys.argv[1])
-import formats
+from life_tools import formats
 for kind in (9, 10):
     del formats.KINDS[kind]
-from journals import read_journal
+from life_tools.journals import read_journal
 print(read_journal(open("journal.life", "rb").read()).refused)
 PY
 judge $? 0 "$upgraded/older-program.answer"

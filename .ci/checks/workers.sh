@@ -12,8 +12,8 @@ command -v strace >/dev/null || {
 make_book() {
     PYTHONPATH=$tools python3 - "$1" >journal.life <<'PY'
 import datetime, sys
-from commands import PLANS, Command
-from journals import file_of
+from life_tools.commands import PLANS, Command
+from life_tools.journals import file_of
 
 first, plans = datetime.date(2000, 1, 1), sorted(PLANS.values())
 def issue(number):

@@ -15,10 +15,10 @@ import sys
 from dataclasses import dataclass
 
 from judge import Wrong, demand, demand_file, commands_in, judge_early_end, judge_transcript, judge_unanswered, reason
-from journals import file_of
+from life_tools.journals import file_of
 from runs import JOURNAL, KEPT, Desk
 from scenes import SCENES, book_before, checkpoint_before
-from tables import read_basis
+from life_tools.tables import read_basis
 
 AT_ONCE = 2
 KINDS = ["openat", "flock", "statx", "newfstatat", "pread64", "read", "pwrite64", "write", "fsync", "fdatasync"]

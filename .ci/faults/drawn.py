@@ -13,9 +13,9 @@ import sys
 from concurrent.futures import ThreadPoolExecutor
 
 from judge import Wrong, demand, judge_early_end, judge_transcript, reason
-from journals import file_of, read_journal
+from life_tools.journals import file_of, read_journal
 from runs import JOURNAL, ROOT, Desk, read_bytes
-from tables import read_basis
+from life_tools.tables import read_basis
 
 sys.path.insert(0, os.path.join(ROOT, ".ci", "stress"))
 from scripts import draws, make_book, make_script

@@ -8,12 +8,12 @@ import os
 import sys
 
 sys.path.insert(0, os.path.join(os.path.dirname(os.path.abspath(__file__)), "..", "..", "tools"))
-from check_transcript import Run, answers_in
-from commands import words_of
-from formats import Wrong, demand
-from journals import read_journal
-from rules import Book, Refusal
-from script_lines import lanes_of, read_script
+from life_tools.transcript_check import Run, answers_in
+from life_tools.commands import words_of
+from life_tools.formats import Wrong, demand
+from life_tools.journals import read_journal
+from life_tools.rules import Book, Refusal
+from life_tools.script_lines import lanes_of, read_script
 
 # the last line of a run that ends before its lanes begin
 LAST_LINES = {6: "readfault\n", 8: "diskfault\n", 9: "nomemory\n"}

@@ -18,10 +18,10 @@ from concurrent.futures import ThreadPoolExecutor
 from dataclasses import dataclass
 
 from judge import Wrong, commands_in, demand, demand_file, follow, judge_early_end, judge_lacking, reason
-from journals import file_of
+from life_tools.journals import file_of
 from runs import Desk, read_bytes
 from scenes import eight_clerks, many_policies
-from tables import read_basis
+from life_tools.tables import read_basis
 
 AT_ONCE = 2
 KIB = 1024

@@ -7,8 +7,8 @@ import sys
 from dataclasses import dataclass
 
 sys.path.insert(0, os.path.join(os.path.dirname(os.path.abspath(__file__)), "..", "..", "tools"))
-from formats import demand
-from journals import read_journal
+from life_tools.formats import demand
+from life_tools.journals import read_journal
 
 ROOT = os.path.join(os.path.dirname(os.path.abspath(__file__)), "..", "..")
 JOURNAL = "journal.life"

@@ -2,10 +2,10 @@
 from dataclasses import dataclass
 
 from runs import JOURNAL, KEPT  # noqa: F401: it also puts tools/ on the path
-from checkpoints import bytes_of_checkpoint, checkpoint_of
-from commands import Command
-from formats import day_in
-from rules import Book
+from life_tools.checkpoints import bytes_of_checkpoint, checkpoint_of
+from life_tools.commands import Command
+from life_tools.formats import day_in
+from life_tools.rules import Book
 
 # Two clerks whose policies are their own. The second has the policies of whole life, and asks for values. The last one's
 # lane is run by the first thread; each has postings that rest on earlier ones, and others that don't.

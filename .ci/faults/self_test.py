@@ -7,10 +7,10 @@ import sys
 from dataclasses import replace
 
 from judge import Wrong, demand, judge_early_end, judge_lacking, judge_transcript, judge_unanswered
-from journals import RECORD_SIZE, file_of, read_journal
+from life_tools.journals import RECORD_SIZE, file_of, read_journal
 from runs import JOURNAL, Desk
 from scenes import ONE_CLERK, TWO_CLERKS, book_before
-from tables import read_basis
+from life_tools.tables import read_basis
 
 
 def disturbed(program, folder, script, kind, when, file):

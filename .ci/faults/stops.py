@@ -13,10 +13,10 @@ import sys
 import time
 
 from judge import Wrong, demand, judge_transcript, judge_unanswered, reason
-from journals import file_of
+from life_tools.journals import file_of
 from runs import Desk, Ended, default_signals
 from scenes import eight_clerks, many_policies
-from tables import read_basis
+from life_tools.tables import read_basis
 
 SIGNALS = [signal.SIGTERM, signal.SIGINT, signal.SIGKILL]
 RUNS, OPENINGS = 24, 12

@@ -13,10 +13,10 @@ import sys
 import time
 
 from judge import Wrong, commands_in, demand, demand_file, follow, reason
-from journals import RECORD_SIZE, file_of, read_journal
+from life_tools.journals import RECORD_SIZE, file_of, read_journal
 from runs import JOURNAL, Desk, read_bytes, write_bytes
 from scenes import ONE_CLERK, book_before
-from tables import read_basis
+from life_tools.tables import read_basis
 
 AT_ONCE = 4
 # a call is held up for so long, in microseconds; the deed is done once the file has stood still for so long, in seconds

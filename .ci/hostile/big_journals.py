@@ -13,9 +13,9 @@ from array import array
 
 sys.path.insert(0, os.path.join(os.path.dirname(os.path.abspath(__file__)), "..", "..", "tools"))
 
-from commands import LAST_AGE, Command
-from formats import MOST_CENTS
-from journals import EMPTY, FIRST_GATE, RECORD_SIZE, file_of
+from life_tools.commands import LAST_AGE, Command
+from life_tools.formats import MOST_CENTS
+from life_tools.journals import EMPTY, FIRST_GATE, RECORD_SIZE, file_of
 
 DAY = datetime.date(2020, 1, 1)
 BLOCK = 65_536

@@ -14,7 +14,7 @@ import sys
 import time
 
 from trial import Trial, demand, file_of, judge_basis, judge_journal, judge_posting, judge_script, judge_table, read_script, Book
-from formats import KINDS, Wrong
+from life_tools.formats import KINDS, Wrong
 
 VALUES = (0, 1, 2, 127, 255)
 HERE = os.path.dirname(os.path.abspath(__file__))

@@ -13,8 +13,8 @@ import sys
 import time
 
 from changed_bytes import BASIS, SELECT, TABLE, book_of_forty, book_of_values, script_of_forty
-from formats import Wrong
-from rules import Book
+from life_tools.formats import Wrong
+from life_tools.rules import Book
 from scripts import MIDDLE, make_script
 from trial import (ROOT, Trial, bytes_of_checkpoint, checkpoint_of, file_of, judge_basis, judge_checkpoint, judge_journal, judge_posting,
                    judge_script, judge_table, judge_words)

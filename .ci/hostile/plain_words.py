@@ -3,9 +3,9 @@ import re
 from dataclasses import dataclass
 from typing import Callable
 
-from formats import MOST_COMMANDS, MOST_LANES, MOST_NUMBER, MOST_WORKERS, MOST_YEARS, day_of, measure_of, number_of, printed_rows
-from script_lines import Fault, read_script
-from tables import NAME
+from life_tools.formats import MOST_COMMANDS, MOST_LANES, MOST_NUMBER, MOST_WORKERS, MOST_YEARS, day_of, measure_of, number_of, printed_rows
+from life_tools.script_lines import Fault, read_script
+from life_tools.tables import NAME
 
 OPTIONS = {"run": ("--basis",), "value": ("--at", "--workers", "--basis"), "project": ("--workers", "--basis"), "state": (), "checkpoint": (),
            "generate": (), "load": ()}

@@ -12,19 +12,19 @@ import zlib
 ROOT = os.path.abspath(os.path.join(os.path.dirname(os.path.abspath(__file__)), "..", ".."))
 sys.path[:0] = [os.path.join(ROOT, "tools"), os.path.join(ROOT, ".ci", "stress")]
 
-from check_projection import check_years
-from check_transcript import asks_for_values, check
-from check_values import check_block
-from checkpoints import Checkpoint, bytes_of_checkpoint, checkpoint_in, checkpoint_of
-from formats import MEASURES, MOST_BASIS_BYTES, Wrong, day_in, demand, money, printed_rows
-from journals import EMPTY, Journal, file_of, gate_of, read_journal
+from life_tools.projection_check import check_years
+from life_tools.transcript_check import asks_for_values, check
+from life_tools.valuation_check import check_block
+from life_tools.checkpoints import Checkpoint, bytes_of_checkpoint, checkpoint_in, checkpoint_of
+from life_tools.formats import MEASURES, MOST_BASIS_BYTES, Wrong, day_in, demand, money, printed_rows
+from life_tools.journals import EMPTY, Journal, file_of, gate_of, read_journal
 from plain_tables import read_plain_table
 from plain_words import meaning_of
-from projections import printed_projection
-from rules import Book, Policy, Refusal, balances_of, booking_of
-from script_lines import Fault, read_script
+from life_tools.projections import printed_projection
+from life_tools.rules import Book, Policy, Refusal, balances_of, booking_of
+from life_tools.script_lines import Fault, read_script
 from scripts import folder_for
-from tables import NotXml, BasisRow, Table, read_basis, read_table
+from life_tools.tables import NotXml, BasisRow, Table, read_basis, read_table
 
 SECONDS = 30
 ON = "2021-01-01"
@@ -213,7 +213,7 @@ def judge_basis(trial, data, book):
 
 def judge_table(trial, data, book):
     """Any bytes as the table t.xml of a basis of one row, beside the journal of the book. Where an XML parser takes the
-    file, what tools/tables.py makes of it has to be the same."""
+    file, what tools/life_tools/tables.py makes of it has to be the same."""
     trial.write("basis.csv", b"1900-01-01,t.xml,250\n")
     trial.write("t.xml", data)
     trial.write("journal.life", file_of(book.commands))

@@ -14,11 +14,11 @@ import subprocess
 import sys
 
 from scripts import draws, folder_for, make_book, make_script, value_words, valued_on
-from check_transcript import check
-from check_values import check_block
-from formats import MEASURES, Wrong, printed_rows
-from journals import file_of, read_journal
-from tables import read_basis
+from life_tools.transcript_check import check
+from life_tools.valuation_check import check_block
+from life_tools.formats import MEASURES, Wrong, printed_rows
+from life_tools.journals import file_of, read_journal
+from life_tools.tables import read_basis
 
 # all but `full`
 REASONS = 16

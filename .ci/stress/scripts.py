@@ -11,11 +11,11 @@ sys.path.insert(0, os.path.join(os.path.dirname(os.path.abspath(__file__)), ".."
 import datetime
 import math
 
-from commands import UPGRADE, Command, words_of
-from formats import FIRST_DAY, LAST_DAY, money
-from reserves import worth
-from rules import EARLY, GRACE, REINSTATEMENT_ANNIVERSARIES, Book, Refusal, anniversary, end_of, missed_by
-from script_lines import lanes_of, read_script
+from life_tools.commands import UPGRADE, Command, words_of
+from life_tools.formats import FIRST_DAY, LAST_DAY, money
+from life_tools.reserves import worth
+from life_tools.rules import EARLY, GRACE, REINSTATEMENT_ANNIVERSARIES, Book, Refusal, anniversary, end_of, missed_by
+from life_tools.script_lines import lanes_of, read_script
 
 BASIS = "2000-01-01,q.xml,0\n2010-01-01,m.xml,300\n2015-01-01,g.xml,400\n2018-01-01,select.xml,250\n"
 # a table of the ages 20 to 25, where one is likelier to die than not at 22

@@ -8,11 +8,11 @@ import re
 import sys
 
 from scripts import Office, draws, folder_for, make_script
-from check_transcript import check
-from formats import Wrong, money
-from journals import file_of, read_journal
-from rules import Book
-from tables import read_basis
+from life_tools.transcript_check import check
+from life_tools.formats import Wrong, money
+from life_tools.journals import file_of, read_journal
+from life_tools.rules import Book
+from life_tools.tables import read_basis
 
 SCRIPTS = 4
 PLACES = 6

@@ -11,12 +11,12 @@ import sys
 ROOT = sys.argv[2]
 sys.path[:0] = [os.path.join(ROOT, "tools"), os.path.join(ROOT, ".ci", "stress")]
 
-from formats import Wrong, money
-from journals import file_of, read_journal
-from rules import Book, balances_of
+from life_tools.formats import Wrong, money
+from life_tools.journals import file_of, read_journal
+from life_tools.rules import Book, balances_of
 from scripts import make_book, make_script
-from script_lines import Fault, read_script
-from tables import NotXml, read_basis
+from life_tools.script_lines import Fault, read_script
+from life_tools.tables import NotXml, read_basis
 
 JOURNALS, SCRIPTS, TABLES, SELECT_TABLES = 150, 150, 200, 250
 

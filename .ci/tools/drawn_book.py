@@ -11,7 +11,7 @@ import sys
 ROOT = sys.argv[1]
 sys.path[:0] = [os.path.join(ROOT, "tools"), os.path.join(ROOT, ".ci", "stress")]
 
-from journals import file_of
+from life_tools.journals import file_of
 from scripts import BASIS, MIDDLE, make_book, make_script
 
 

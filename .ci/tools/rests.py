@@ -1,5 +1,5 @@
 """The rest of a killed script, beside runs whose clerks' turns are known: an office of its own runs a script up to a
-moment, and tools/rest_of_script.py is handed what a kill leaves, the script and the journal.
+moment, and `rests` of tools/ is handed what a kill leaves, the script and the journal.
 
 usage: python3 rests.py ROOT
 """
@@ -10,11 +10,11 @@ import sys
 ROOT = sys.argv[1]
 sys.path[:0] = [os.path.join(ROOT, "tools"), os.path.join(ROOT, ".ci", "stress")]
 
-from commands import words_of
-from formats import Wrong
-from rest_of_script import rest_of
-from rules import Book, Refusal
-from script_lines import lanes_of, read_script
+from life_tools.commands import words_of
+from life_tools.formats import Wrong
+from life_tools.rests import rest_of
+from life_tools.rules import Book, Refusal
+from life_tools.script_lines import lanes_of, read_script
 from scripts import make_script
 
 RUNS, EQUAL_RUNS, CUTS = 8, 40, 6

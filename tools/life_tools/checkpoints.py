@@ -6,13 +6,12 @@ from dataclasses import dataclass
 from typing import Iterable
 
 from life_tools.commands import EPOCH, PLAN_CODES, Command, demand_valid
-from life_tools.formats import FIRST_DAY, LAST_DAY, MOST_COMMANDS, PLANS, Wrong, demand
+from life_tools.formats import FIRST_DAY, LAST_DAY, MOST_COMMANDS, PLANS, STATUSES, Wrong, demand
 from life_tools.rules import ACCOUNTS, Book, Policy, balances_of, payments_of
 
 HEADER = b"LIFECHKP" + bytes([0, 1, 0, 48, 0, 0, 0, 0])
 FRONT_SIZE, POLICY_SIZE, OPEN = 64, 48, 1
 MOST_CENTS_A_COMMAND = 4 * 10**10
-STATUSES = ("inforce", "lapsed", "claimed", "matured", "expired", "settled", "paidup")
 
 
 @dataclass(frozen=True)

@@ -3,7 +3,7 @@ from __future__ import annotations
 
 import datetime
 from html import escape
-from typing import Callable, Sequence, Tuple
+from typing import Callable, List, Sequence, Tuple
 
 from life_tools.formats import money
 
@@ -45,6 +45,7 @@ def place(cents: int, most: int) -> float:
 
 # a series: its name, and its points: how far across, and an amount in cents
 Series = Tuple[str, Sequence[Tuple[int, int]]]
+DaySeries = Tuple[str, List[Tuple[datetime.date, int]]]
 
 
 def lines_over(title: str, series: Sequence[Series], name_of: Callable[[int], str]) -> str:
@@ -68,7 +69,7 @@ def lines_over(title: str, series: Sequence[Series], name_of: Callable[[int], st
     return framed(title, parts)
 
 
-def lines_over_days(title: str, series: Sequence[tuple[str, list[tuple[datetime.date, int]]]]) -> str:
+def lines_over_days(title: str, series: Sequence[DaySeries]) -> str:
     by_day = [(name, [(day.toordinal(), cents) for day, cents in points]) for name, points in series]
     return lines_over(title, by_day, lambda at: str(datetime.date.fromordinal(at)))
 

@@ -12,12 +12,26 @@ from life_tools.formats import Wrong
 # name -> the module of life_tools.entries that answers it, and what it does, in one line
 ENTRIES: dict[str, tuple[str, str]] = {
     "why": ("why", "one row of a valuation, worked out as a colleague reads it"),
+    "report": ("report", "a valuation by plan, status, issue year, age or basis row, added up exactly"),
+    "movement": ("movement", "what moved between two valuations, line by line, adding up exactly"),
+    "dry-run": ("dry_run", "run a script on a copy of the journal, and print what it would be answered"),
+    "rest": ("rest", "the rows of a script that a killed run didn't reach"),
+    "explain": ("explain", "explain a refusal of a script or of a basis, or what is taken of a table"),
+    "position-on": ("position_on", "the position of a day"),
+    "read": ("read", "list the records of a journal"),
+    "read-checkpoint": ("read_checkpoint", "print the books in a checkpoint, and compare them with a journal's"),
+    "export": ("export", "a journal as CSV, as JSON lines, or as an SQLite file"),
+    "check-transcript": ("check_transcript", "judge what a run printed, and what it left in the journal"),
+    "check-values": ("check_values", "work the rows of a printed valuation out anew, and compare"),
+    "check-projection": ("check_projection", "work the years of a printed projection out anew, and compare"),
+    "plot": ("plot", "draw printed valuations, a printed book or a printed projection"),
 }
 
 
 def parser_of(names: Sequence[str]) -> argparse.ArgumentParser:
     """The parser of all entries; only the modules of those named are read, since some need packages of their own."""
-    parser = argparse.ArgumentParser(prog="life-tools", description=__doc__)
+    parser = argparse.ArgumentParser(prog="life-tools", description="The work around `life`. Each name has --help; the status is "
+                                     "0 where all is well, 1 where something was found wrong, 2 where it can't be done.")
     entries = parser.add_subparsers(dest="entry", metavar="NAME", required=True)
     for name, (module, does) in ENTRIES.items():
         entry = entries.add_parser(name, help=does, description=does, formatter_class=argparse.RawDescriptionHelpFormatter)

@@ -8,7 +8,6 @@ import datetime
 import re
 import sys
 from dataclasses import dataclass
-from typing import NoReturn
 
 FIRST_DAY = datetime.date(1900, 1, 1)
 LAST_DAY = datetime.date(2199, 12, 31)
@@ -28,6 +27,8 @@ MOST_YEARS = 131
 PLANS = {1: "term", 2: "whole", 3: "endowment", 4: "limited"}
 KINDS = {1: "issue", 2: "premium", 3: "alter", 4: "lapse", 5: "reinstate", 6: "claim", 7: "settle", 8: "mature", 9: "upgrade",
          10: "paidup"}
+# in the order of their codes in a checkpoint, from 1
+STATUSES = ("inforce", "lapsed", "claimed", "matured", "expired", "settled", "paidup")
 # what a valuation may show; the first line says it, but of the first one
 MEASURES = ("terminal", "mean", "deficiency")
 # what a posting has behind its day
@@ -55,12 +56,6 @@ def demand(right: object, message: str) -> None:
         raise Wrong(message)
 
 
-def complain(message: object) -> NoReturn:
-    """Ends a tool that has found something wrong."""
-    print(message, file=sys.stderr)
-    sys.exit(1)
-
-
 def remark(message: str) -> None:
     print(message, file=sys.stderr)
 
@@ -71,6 +66,11 @@ def bytes_of(path: str) -> bytes:
             return file.read()
     except OSError as error:
         raise Wrong(f"{path}: {error.strerror}") from error
+
+
+def printed_text(path: str) -> str:
+    """What the program printed, as a file of it."""
+    return bytes_of(path).decode("ascii", "replace")
 
 
 # --- numbers, amounts, days ---

@@ -5,7 +5,7 @@ from dataclasses import dataclass, field
 from typing import Iterable
 
 from life_tools.commands import BODY_SIZE, Command, body_of, command_in
-from life_tools.formats import MOST_COMMANDS, Wrong, bytes_of
+from life_tools.formats import MOST_COMMANDS, Wrong, bytes_of, number_of
 from life_tools.rules import Book
 
 HEADER = b"LIFEJRNL" + bytes([0, 1, 0, BODY_SIZE, 0, 0, 0, 0])
@@ -80,6 +80,15 @@ def journal_at(path: str) -> Journal:
     if journal.refused:
         raise Wrong(f"{path}: {journal.refused}: {journal.why}")
     return journal
+
+
+def book_at(path: str, position: str) -> Book:
+    """The book at a position of a file's journal, of which it has to be one."""
+    commands = journal_at(path).commands
+    count = number_of(position, 0, len(commands))
+    if count is None:
+        raise Wrong(f"{position} is no position of {path}, which has {len(commands)} commands")
+    return Book(commands[:count])
 
 
 def file_of(commands: Iterable[Command]) -> bytes:

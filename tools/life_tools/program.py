@@ -20,5 +20,3 @@ def life_command(given: str | None = None) -> list[str]:
     launcher = os.path.join(os.path.dirname(here), "life")
     demand(os.path.isfile(launcher), "there is no program `life` beside these tools: name it by LIFE_PROGRAM or --life")
     return ["sh", launcher]
-
-

@@ -7,7 +7,8 @@ from typing import Callable, Union
 
 from life_tools.commands import OLDEST_AT_ISSUE, Command, years_fit
 from life_tools.formats import (FIELDS, FIRST_DAY, LAST_DAY, MOST_CENTS, MOST_COMMANDS, MOST_LANES, MOST_NUMBER, MOST_REINSTATEMENT_CENTS,
-                     MOST_SCRIPT_BYTES, MOST_VALUATIONS, MOST_WORKERS, PLANS, Row, cents_of, day_of, money, number_of, rows_in)
+                     MOST_SCRIPT_BYTES, MOST_VALUATIONS, MOST_WORKERS, PLANS, Row, Wrong, bytes_of, cents_of, day_of, money, number_of,
+                     rows_in)
 
 KIND_WORDS = (*FIELDS, "value", "trim")
 
@@ -146,6 +147,14 @@ def read_script(data: bytes) -> list[Line] | Fault:
             return line
         lines.append(line)
         valuations += line.kind == "value"
+    return lines
+
+
+def script_at(path: str) -> list[Line]:
+    """The lines of a file, which has to be a script."""
+    lines = read_script(bytes_of(path))
+    if isinstance(lines, Fault):
+        raise Wrong(f"{path} is {lines.answer}, so nothing of it is posted")
     return lines
 
 

@@ -1,19 +1,9 @@
-#!/usr/bin/env python3
-"""Explains a refusal of a script or of a basis: the line of an editor, what was found there, and what is wanted.
-
-    explain.py badscript,ROW,FIELD SCRIPT           a script's first fault
-    explain.py badbasis,NAME,PLACE,WORD [FOLDER]    a basis file or a table; the folder (as a rule `.`) has the files
-    explain.py TABLE                                what is taken of a table's file, and what is passed over
-
-The answer is the line that the program printed. It ends with status 1 where the files don't fit the answer, or where a
-table's file isn't taken.
-"""
+"""What is wrong with a script, a basis or a table: the line of an editor, what was found there, and what is wanted."""
 from __future__ import annotations
 
-import argparse
 import os
 
-from life_tools.formats import MOST_BASIS_BYTES, MOST_BASIS_ROWS, MOST_POINTS, Row, Wrong, bytes_of, complain, demand, number_of, rows_in
+from life_tools.formats import MOST_BASIS_BYTES, MOST_BASIS_ROWS, MOST_POINTS, Row, Wrong, bytes_of, demand, number_of, rows_in
 from life_tools.script_lines import Fault, read_script
 from life_tools.table_parts import lines_of
 from life_tools.tables import MOST_AGE, BadBasis, NotXml, basis_rows, read_table, root_of
@@ -152,36 +142,20 @@ def explain_basis(answer: str, folder: str) -> None:
 
 # --- a table ---
 
+class NotTaken(Wrong):
+    """A table's file that the program doesn't take."""
+
+
 def explain_table(path: str) -> None:
     data, name = bytes_of(path), os.path.basename(path)
-    demand(len(data) <= MOST_BASIS_BYTES, f"badbasis,{name},..,toolong: {path} has {len(data)} bytes")
+    if len(data) > MOST_BASIS_BYTES:
+        raise NotTaken(f"badbasis,{name},..,toolong: {path} has {len(data)} bytes")
     try:
         table = read_table(data, name)
     except BadBasis as bad:
         place = int(str(bad).split(",")[2])
         line, _ = line_and_column(data, place)
-        raise Wrong(f"{bad}\nline {line} of {path}: {shown(data[place:])}\nwanted: {WANTED[bad.word]}") from bad
+        raise NotTaken(f"{bad}\nline {line} of {path}: {shown(data[place:])}\nwanted: {WANTED[bad.word]}") from bad
+    except NotXml as wrong:
+        raise NotTaken(f"{path}: {wrong}") from wrong
     print("\n".join(lines_of(path, table, root_of(data), lambda element: line_and_column(data, element.at)[0])))
-
-
-def main() -> None:
-    parser = argparse.ArgumentParser(description=__doc__, formatter_class=argparse.RawDescriptionHelpFormatter)
-    parser.add_argument("answer", metavar="ANSWER", help="badscript,.. or badbasis,.. as printed, or a table's file")
-    parser.add_argument("files", metavar="SCRIPT | FOLDER", nargs="?", help="the script, or the folder of the basis")
-    words = parser.parse_args()
-    kind = words.answer.split(",")[0]
-    if (kind == "badscript") != (words.files is not None) and kind != "badbasis":
-        parser.error("badscript needs the script's file, and a table nothing else")
-    try:
-        if kind == "badscript":
-            explain_script(words.answer, words.files)
-        elif kind == "badbasis":
-            explain_basis(words.answer, words.files or ".")
-        else:
-            explain_table(words.answer)
-    except Wrong as wrong:
-        complain(wrong)
-
-
-if __name__ == "__main__":
-    main()

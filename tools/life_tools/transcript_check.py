@@ -1,28 +1,23 @@
-#!/usr/bin/env python3
-"""Checks what `life run` printed for the script of up to eight clerks, and what it left in the journal.
+"""Whether what `life run` printed for a script is right, and what it left in the journal.
 
-BEFORE and AFTER are journal.life before and after the run, where BEFORE may be absent; BASIS is the basis file, whose
-tables are read from its folder. Written from docs/FORMATS.md and docs/DEFINITIONS.md alone, so that the program can be
-checked without it. The lines in their order have to be one history: each clerk's rows are answered once and in order;
+The lines in their order have to be one history: each clerk's rows are answered once and in order;
 a posting is accepted at the next position, or refused for the first reason that the rules have; a valuation shows the
 book at its position, with bounds around the exact values; a trim's floor is the position of a pin that may be live, or
 the count. The journal afterwards holds what was accepted, and nothing else. Runs that met a fault of the disk or found
-no memory aren't checked. It ends with status 1 and says where something isn't as it must be.
+no memory aren't checked.
 """
 from __future__ import annotations
 
-import argparse
-import os
 from typing import Sequence
 
-from life_tools.check_values import check_block
 from life_tools.commands import Command, words_of
-from life_tools.formats import Wrong, bytes_of, complain, demand, number_of, printed_rows
+from life_tools.formats import Wrong, demand, number_of, printed_rows
 from life_tools.journals import Journal, read_journal
 from life_tools.reserves import Known
 from life_tools.rules import Book, Refusal
 from life_tools.script_lines import Fault, Line, lanes_of, read_script
-from life_tools.tables import BasisRow, read_basis
+from life_tools.tables import BasisRow
+from life_tools.valuation_check import check_block
 
 # the lines of one valuation, or one other line
 Answer = list
@@ -128,16 +123,11 @@ def check_journal(after: Journal, commands: list[Command]) -> None:
     demand(len(found) == len(commands), f"the journal has {len(found)} records of {len(commands)}")
 
 
-def check(script: bytes, transcript: str, before: bytes, after: bytes, basis: Sequence[BasisRow],
-          known: Known | None = None) -> int:
-    """Checks a script, the text of its transcript, the bytes of the journal before and after, and the basis as `read_basis`
-    gives it; says how many lines there are, or raises `Wrong`. `known` keeps exact values for further calls."""
-    lines = read_script(script)
-    if isinstance(lines, Fault):
-        raise Wrong(f"the script is {lines.answer}")
-    begun = read_journal(before)
-    demand(not begun.refused, f"the journal before the run: {begun.refused}: {begun.why}")
-    run = Run(lines, begun.book, basis, {} if known is None else known)
+def check_run(lines: list[Line], transcript: str, begun: Book, after: Journal, basis: Sequence[BasisRow],
+              known: Known | None = None) -> int:
+    """Checks the text of a script's transcript, from the book before the run, which it takes on, to the journal after it;
+    says how many lines there are, or raises `Wrong`. `known` keeps exact values for further calls."""
+    run = Run(lines, begun, basis, {} if known is None else known)
     answers, watchers = answers_in(transcript)
     for answer in answers:
         run.follow(answer)
@@ -145,31 +135,21 @@ def check(script: bytes, transcript: str, before: bytes, after: bytes, basis: Se
     demand(not left, f"rows without an answer: {left}")
     demand(watchers == [["watcher", "1", str(run.accepted), str(run.accepted)],
                         ["watcher", "2", str(run.accepted), str(run.premiums)]], f"the watchers' lines: {watchers}")
-    check_journal(read_journal(after), run.book.commands)
+    check_journal(after, run.book.commands)
     return len(answers)
+
+
+def check(script: bytes, transcript: str, before: bytes, after: bytes, basis: Sequence[BasisRow],
+          known: Known | None = None) -> int:
+    """The same of the bytes of a script and of the journal before and after."""
+    lines = read_script(script)
+    if isinstance(lines, Fault):
+        raise Wrong(f"the script is {lines.answer}")
+    begun = read_journal(before)
+    demand(not begun.refused, f"the journal before the run: {begun.refused}: {begun.why}")
+    return check_run(lines, transcript, begun.book, read_journal(after), basis, known)
 
 
 def asks_for_values(script: bytes) -> bool:
     lines = read_script(script)
     return not isinstance(lines, Fault) and any(line.kind == "value" for line in lines)
-
-
-def main() -> None:
-    parser = argparse.ArgumentParser(description=__doc__, formatter_class=argparse.RawDescriptionHelpFormatter)
-    for name, says in (("script", "the script's file"), ("transcript", "what life run printed"),
-                       ("before", "journal.life before the run"), ("after", "journal.life after the run"),
-                       ("basis", "the basis file; it is read where the script has a value line")):
-        parser.add_argument(name, metavar=name.upper(), help=says)
-    words = parser.parse_args()
-    try:
-        script = bytes_of(words.script)
-        basis = read_basis(words.basis) if asks_for_values(script) else []
-        before = bytes_of(words.before) if os.path.exists(words.before) else b""
-        lines = check(script, bytes_of(words.transcript).decode("ascii", "replace"), before, bytes_of(words.after), basis)
-    except Wrong as wrong:
-        complain(f"wrong: {wrong}")
-    print(f"{lines} lines are right")
-
-
-if __name__ == "__main__":
-    main()

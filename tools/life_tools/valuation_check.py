@@ -1,22 +1,14 @@
-#!/usr/bin/env python3
-"""Works out anew, in exact fractions, every row of a valuation that `life value` printed, and compares.
-
-The first line names the measure: mean, deficiency, or none where the reserves are terminal. The basis file's tables are
-read from its folder. Written from docs/FORMATS.md and from the public standards alone, so that the program can be
-checked without it. It ends with status 1 and says where a row or the total isn't as it must be.
-"""
+"""Whether a printed valuation is right: each row encloses the exact value, worked out anew, and the total is their sum."""
 from __future__ import annotations
 
-import argparse
 import datetime
 from fractions import Fraction
 from typing import Sequence
 
-from life_tools.formats import Wrong, bytes_of, complain, day_in, demand, measure_of, money, number_of, printed_cents, printed_rows
-from life_tools.journals import journal_at
+from life_tools.formats import day_in, demand, measure_of, money, printed_cents
 from life_tools.reserves import Known, minimum_worth, worth
-from life_tools.rules import Book, Policy
-from life_tools.tables import BasisRow, read_basis
+from life_tools.rules import Policy
+from life_tools.tables import BasisRow
 
 # a lower and an upper bound lie at most so many cents apart
 WIDEST = 2
@@ -89,34 +81,3 @@ def check_block(rows: list[list[str]], policies: Sequence[Policy], basis: Sequen
         totals.words += not bounds
         totals.add(bounds or [0] * 4)
     demand(total == totals.line(), f"{','.join(total)} isn't {','.join(totals.line())}")
-
-
-def check(journal: str, basis: str, valuation: str) -> int:
-    """Checks a valuation that `life value` printed by the files of these paths, and gives the number of its rows."""
-    rows = printed_rows(bytes_of(valuation).decode("ascii", "replace"))
-    measure = measure_of(rows[0]) if len(rows) >= 2 and rows[0][0] == "0" else None
-    if measure is None:
-        raise Wrong(f"{valuation} is no valuation that life value prints")
-    commands = journal_at(journal).commands
-    position = number_of(rows[0][3], 0, len(commands))
-    if position is None:
-        raise Wrong(f"{rows[0][3]} is no position of {journal}, which has {len(commands)} commands")
-    check_block(rows, list(Book(commands[:position]).policies.values()), read_basis(basis), {}, measure)
-    return len(rows) - 2
-
-
-def main() -> None:
-    parser = argparse.ArgumentParser(description=__doc__, formatter_class=argparse.RawDescriptionHelpFormatter)
-    parser.add_argument("journal", metavar="JOURNAL", help="the file, as journal.life")
-    parser.add_argument("basis", metavar="BASIS", help="the basis file, as basis.csv")
-    parser.add_argument("valuation", metavar="VALUATION", help="what life value printed")
-    words = parser.parse_args()
-    try:
-        rows = check(words.journal, words.basis, words.valuation)
-    except Wrong as wrong:
-        complain(f"wrong: {wrong}")
-    print(f"{rows} rows are right")
-
-
-if __name__ == "__main__":
-    main()

@@ -1,4 +1,3 @@
-#!/usr/bin/env python3
 """The records of a journal for other programs: as CSV with a header row, as JSON lines, or as a SQLite file.
 
 A field that a command's kind doesn't hold is empty in CSV, and absent in a JSON line. Amounts are as in a script, in
@@ -15,7 +14,7 @@ import sqlite3
 import sys
 
 from life_tools.commands import Command, words_of
-from life_tools.formats import FIELDS, Wrong, complain
+from life_tools.formats import FIELDS, Wrong
 from life_tools.journals import Journal, journal_at
 from life_tools.rules import bookings
 
@@ -69,8 +68,7 @@ def write_sqlite(journal: Journal, path: str) -> None:
     database.close()
 
 
-def main() -> None:
-    parser = argparse.ArgumentParser(description=__doc__, formatter_class=argparse.RawDescriptionHelpFormatter)
+def arguments(parser: argparse.ArgumentParser) -> None:
     forms = parser.add_subparsers(dest="form", metavar="FORM", required=True)
     says_of = {"csv": "CSV, on standard output", "jsonl": "JSON lines, on standard output", "sqlite": "a SQLite file"}
     for name, says in says_of.items():
@@ -78,18 +76,17 @@ def main() -> None:
         form.add_argument("journal", metavar="JOURNAL", help="the file, as journal.life")
         if name == "sqlite":
             form.add_argument("database", metavar="DATABASE", help="the new file")
-    words = parser.parse_args()
-    try:
-        journal = journal_at(words.journal)
-        if words.form == "csv":
-            write_csv(journal)
-        elif words.form == "jsonl":
-            write_json_lines(journal)
-        else:
-            write_sqlite(journal, words.database)
-    except (Wrong, sqlite3.Error) as wrong:
-        complain(wrong)
 
 
-if __name__ == "__main__":
-    main()
+def run(options: argparse.Namespace) -> int:
+    journal = journal_at(options.journal)
+    if options.form == "csv":
+        write_csv(journal)
+    elif options.form == "jsonl":
+        write_json_lines(journal)
+    else:
+        try:
+            write_sqlite(journal, options.database)
+        except sqlite3.Error as error:
+            raise Wrong(f"{options.database}: {error}") from error
+    return 0

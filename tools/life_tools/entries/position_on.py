@@ -1,4 +1,3 @@
-#!/usr/bin/env python3
 """The position of a day: the last one up to which every accepted command is of that day or of one before.
 
 It is what `life value .. --at POSITION` takes to value the book as it stood at the end of the day. The days of one
@@ -12,20 +11,16 @@ import argparse
 import datetime
 
 from life_tools.commands import Command, words_of
-from life_tools.formats import Wrong, complain, day_in, remark
+from life_tools.formats import day_in, remark
 from life_tools.journals import journal_at
+from life_tools.positions import later_posted, position_on
 
 MOST_TOLD = 10
 
 
-def position_on(commands: list[Command], day: datetime.date) -> int:
-    return next((position for position, command in enumerate(commands) if command.day and command.day > day), len(commands))
-
-
-def later_posted(commands: list[Command], day: datetime.date) -> list[int]:
-    """The positions behind that of the day whose commands are of the day or before."""
-    start = position_on(commands, day)
-    return [position for position, command in enumerate(commands, 1) if position > start and command.day and command.day <= day]
+def arguments(parser: argparse.ArgumentParser) -> None:
+    parser.add_argument("day", metavar="DAY", help="YYYY-MM-DD")
+    parser.add_argument("journal", metavar="JOURNAL", help="the file, as journal.life")
 
 
 def tell_later(commands: list[Command], day: datetime.date) -> None:
@@ -40,18 +35,9 @@ def tell_later(commands: list[Command], day: datetime.date) -> None:
         remark(f"  and {len(later) - MOST_TOLD} more")
 
 
-def main() -> None:
-    parser = argparse.ArgumentParser(description=__doc__, formatter_class=argparse.RawDescriptionHelpFormatter)
-    parser.add_argument("day", metavar="DAY", help="YYYY-MM-DD")
-    parser.add_argument("journal", metavar="JOURNAL", help="the file, as journal.life")
-    words = parser.parse_args()
-    try:
-        day, commands = day_in(words.day), journal_at(words.journal).commands
-    except Wrong as wrong:
-        complain(wrong)
+def run(options: argparse.Namespace) -> int:
+    day = day_in(options.day)
+    commands = journal_at(options.journal).commands
     print(position_on(commands, day))
     tell_later(commands, day)
-
-
-if __name__ == "__main__":
-    main()
+    return 0

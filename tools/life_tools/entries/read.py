@@ -1,8 +1,7 @@
-#!/usr/bin/env python3
 """Lists every record of a journal, and adds up the balances of the four accounts; or says why the file is no journal.
 
 A file that the program refuses is answered with the program's own line, `badjournal,..`, and on standard error with the
-reason; the status is then 1. An unfinished creation, as a crash may leave it, is a journal without records. Each record
+reason; the status is then 2. An unfinished creation, as a crash may leave it, is a journal without records. Each record
 is judged by the rules anew, as the program does when it opens the file.
 """
 from __future__ import annotations
@@ -11,9 +10,14 @@ import argparse
 from typing import Iterable
 
 from life_tools.commands import Command, words_of
-from life_tools.formats import Wrong, bytes_of, complain, money, remark
+from life_tools.formats import Wrong, bytes_of, money, remark
 from life_tools.journals import read_journal
 from life_tools.rules import balances_of, bookings
+
+
+def arguments(parser: argparse.ArgumentParser) -> None:
+    parser.add_argument("--ledger", action="store_true", help="print transactions for the programs ledger and hledger instead")
+    parser.add_argument("journal", metavar="JOURNAL", help="the file, as journal.life")
 
 
 def list_records(commands: list[Command]) -> None:
@@ -34,25 +38,15 @@ def print_transactions(commands: Iterable[Command]) -> None:
             print()
 
 
-def main() -> None:
-    parser = argparse.ArgumentParser(description=__doc__, formatter_class=argparse.RawDescriptionHelpFormatter)
-    parser.add_argument("--ledger", action="store_true", help="print transactions for the programs ledger and hledger instead")
-    parser.add_argument("journal", metavar="JOURNAL", help="the file, as journal.life")
-    words = parser.parse_args()
-    try:
-        journal = read_journal(bytes_of(words.journal))
-    except Wrong as wrong:
-        complain(wrong)
+def run(options: argparse.Namespace) -> int:
+    journal = read_journal(bytes_of(options.journal))
     if journal.refused:
         print(journal.refused, flush=True)
-        complain(f"{words.journal}: {journal.why}")
+        raise Wrong(f"{options.journal}: {journal.why}")
     if journal.is_unfinished:
-        remark(f"{words.journal}: an unfinished creation, which the program makes a journal without records")
-    if words.ledger:
+        remark(f"{options.journal}: an unfinished creation, which the program makes a journal without records")
+    if options.ledger:
         print_transactions(journal.commands)
     else:
         list_records(journal.commands)
-
-
-if __name__ == "__main__":
-    main()
+    return 0

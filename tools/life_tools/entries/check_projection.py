@@ -1,0 +1,33 @@
+"""Works out anew, exactly, every year of a projection that `life project` printed, and compares.
+
+The basis file's tables are read from its folder. Each pair of bounds has to enclose what is expected, and to be as narrow
+as docs/FORMATS.md says. Written from docs/FORMATS.md and docs/VALUATION.md alone, so that the program can be checked
+without it. It ends with status 1 and says where a line isn't as it must be.
+"""
+from __future__ import annotations
+
+import argparse
+
+from life_tools.formats import printed_text
+from life_tools.journals import book_at
+from life_tools.judging import judged
+from life_tools.projection_check import check_years
+from life_tools.projections import printed_projection
+from life_tools.tables import read_basis
+
+
+def arguments(parser: argparse.ArgumentParser) -> None:
+    parser.add_argument("journal", metavar="JOURNAL", help="the file, as journal.life")
+    parser.add_argument("basis", metavar="BASIS", help="the basis file, as basis.csv")
+    parser.add_argument("projection", metavar="PROJECTION", help="what life project printed")
+
+
+def run(options: argparse.Namespace) -> int:
+    printed = printed_projection(printed_text(options.projection))
+    book, basis = book_at(options.journal, str(printed.position)), read_basis(options.basis)
+
+    def judge() -> str:
+        check_years(printed, list(book.policies.values()), basis)
+        return f"{len(printed.years)} years are right"
+
+    return judged(judge)

@@ -1,0 +1,43 @@
+"""Runs a script on a copy of a folder's journal, and prints the transcript that it would have; nothing is posted.
+
+The journal is copied, and the basis with its tables, into a folder of its own, where `life run` reads the script. What
+another run posts before the script is run in earnest changes what it is answered then. The status is 0 where the run
+ended well, whatever it refused, and 2 where it didn't: its own status is told on standard error.
+"""
+from __future__ import annotations
+
+import argparse
+import sys
+import tempfile
+
+from life_tools.copied_folder import copy_basis, copy_journal, run_in
+from life_tools.formats import Wrong, remark
+from life_tools.program import life_command
+
+
+def arguments(parser: argparse.ArgumentParser) -> None:
+    parser.add_argument("script", metavar="SCRIPT", help="the script's file")
+    parser.add_argument("--folder", metavar="FOLDER", default=".", help="where journal.life and the basis lie (.)")
+    parser.add_argument("--basis", metavar="NAME", default="basis.csv", help="the name of the basis file there (basis.csv)")
+    parser.add_argument("--life", metavar="PROGRAM", help="the program to run")
+
+
+def dry_run(script: str, folder: str, basis: str, life: list[str]) -> tuple[int, str]:
+    """The status of the run on the copies, and what it printed."""
+    with tempfile.TemporaryDirectory(prefix="life-dry-run-") as to:
+        copy_journal(folder, to)
+        copy_basis(folder, basis, to)
+        try:
+            with open(script, "rb") as rows:
+                return run_in(to, life, ["run", "--basis", basis], rows)
+        except OSError as error:
+            raise Wrong(f"{script}: {error.strerror}") from error
+
+
+def run(options: argparse.Namespace) -> int:
+    status, transcript = dry_run(options.script, options.folder, options.basis, life_command(options.life))
+    sys.stdout.write(transcript)
+    sys.stdout.flush()
+    accepted, refused = transcript.count(",accepted,"), transcript.count(",refused,")
+    remark(f"a dry run, of which nothing is posted: {accepted} accepted, {refused} refused, status {status}")
+    return 2 if status else 0

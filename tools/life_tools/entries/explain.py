@@ -1,0 +1,38 @@
+"""Explains a refusal of a script or of a basis: the line of an editor, what was found there, and what is wanted.
+
+    explain badscript,ROW,FIELD SCRIPT           a script's first fault
+    explain badbasis,NAME,PLACE,WORD [FOLDER]    a basis file or a table; the folder (as a rule `.`) has the files
+    explain TABLE                                what is taken of a table's file, and what is passed over
+
+The answer is the line that the program printed. It ends with status 1 where a table's file isn't taken, and with 2 where
+the files don't fit the answer.
+"""
+from __future__ import annotations
+
+import argparse
+
+from life_tools.explanations import NotTaken, explain_basis, explain_script, explain_table
+from life_tools.formats import demand, remark
+
+
+def arguments(parser: argparse.ArgumentParser) -> None:
+    parser.add_argument("answer", metavar="ANSWER", help="badscript,.. or badbasis,.. as printed, or a table's file")
+    parser.add_argument("files", metavar="SCRIPT | FOLDER", nargs="?", help="the script, or the folder of the basis")
+
+
+def run(options: argparse.Namespace) -> int:
+    kind = options.answer.split(",")[0]
+    is_fit = kind == "badbasis" or (kind == "badscript") == (options.files is not None)
+    demand(is_fit, "badscript needs the script's file, and a table nothing else")
+    if kind == "badscript":
+        explain_script(options.answer, options.files)
+        return 0
+    if kind == "badbasis":
+        explain_basis(options.answer, options.files or ".")
+        return 0
+    try:
+        explain_table(options.answer)
+    except NotTaken as bad:
+        remark(str(bad))
+        return 1
+    return 0
