@@ -135,5 +135,5 @@ def cash_of(commands: Iterable[Command]) -> Cash:
 def demand_booked(cash: Cash, before: dict[str, int], after: dict[str, int]) -> None:
     """Demands that the balances that the program printed at both positions moved by just this."""
     moved = {account: after[account] - before[account] for account in after}
-    demand(-moved["premiums"] == cash.premiums, f"the account of premiums moved by {moved['premiums']} cents, the postings say {cash}")
-    demand(moved["cash"] == cash.premiums - cash.settlements, f"the account of cash moved by {moved['cash']} cents, the postings say {cash}")
+    said = f"the accounts moved by {moved} cents, and the postings make {cash}"
+    demand(-moved["premiums"] == cash.premiums and moved["cash"] == cash.premiums - cash.settlements, said)

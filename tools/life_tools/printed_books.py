@@ -2,7 +2,7 @@
 from __future__ import annotations
 
 import datetime
-from dataclasses import replace
+from dataclasses import dataclass, replace
 from typing import NamedTuple
 
 from life_tools.formats import MOST_NUMBER, Wrong, day_in, demand, measure_of, money, number_of, printed_cents
@@ -60,7 +60,7 @@ def valuation_in(text: str) -> PrintedValuation:
     last = lines[-1].split(",")
     demand(last[0] == "total" and len(last) == bounds + 2, f"{lines[-1]} is no total of a valuation")
     total = tuple(cents(field) for field in last[1:-1])
-    position, count, words = number_of(head[3], 0, MOST_NUMBER), number_of(head[4], 0, MOST_NUMBER), number_of(last[-1], 0, MOST_NUMBER)
+    position, count, words = (number_of(text, 0, MOST_NUMBER) for text in (head[3], head[4], last[-1]))
     demand(count == len(rows), f"{lines[0]}: there are {len(rows)} rows")
     sums = tuple(sum(row.bounds[place] for row in rows) for place in range(bounds))
     demand(sums == total, f"the rows add up to {' and '.join(money(each) for each in sums)}, and the total is {lines[-1]}")
@@ -69,7 +69,8 @@ def valuation_in(text: str) -> PrintedValuation:
     return PrintedValuation(day_in(head[2]), position, measure, rows, total, words)
 
 
-class PrintedState(NamedTuple):
+@dataclass(frozen=True)
+class PrintedState:
     """The policies in order of issue, the balances of the accounts in cents, and the number of postings."""
 
     policies: list[Policy]

@@ -2,6 +2,7 @@
 from __future__ import annotations
 
 import csv
+from decimal import Decimal
 from typing import Any, Sequence
 
 from life_tools.groups import Groups, Sums
@@ -17,7 +18,8 @@ def lines_of(keys: Sequence[str], groups: Groups, total: Sums, columns: Sequence
     rows = [[", ".join(keys), *columns], *([", ".join(name), *sums.cells()] for name, sums in groups.items()),
             ["total", *total.cells()]]
     widths = [max(len(row[place]) for row in rows) for place in range(len(rows[0]))]
-    return ["  ".join([row[0].ljust(widths[0]), *(cell.rjust(width) for cell, width in zip(row[1:], widths[1:]))]) for row in rows]
+    padded = ([row[0].ljust(widths[0]), *(cell.rjust(width) for cell, width in zip(row[1:], widths[1:]))] for row in rows)
+    return ["  ".join(row) for row in padded]
 
 
 def write_csv(path: str, tables: Tables, total: Sums, columns: Sequence[str]) -> None:
@@ -32,7 +34,6 @@ def write_csv(path: str, tables: Tables, total: Sums, columns: Sequence[str]) ->
 
 def cell_of(text: str) -> Any:
     """An amount or a count as a number, as far as a spreadsheet keeps all its digits."""
-    from decimal import Decimal
     digits = text.replace("-", "").replace(".", "")
     return Decimal(text) if digits.isdigit() and len(digits) <= MOST_DIGITS else text
 

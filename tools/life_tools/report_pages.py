@@ -25,7 +25,8 @@ table { border-collapse: collapse; width: 100%; font-size: .9rem; font-variant-n
 th, td { padding: .3rem .6rem; text-align: right; white-space: nowrap; border-bottom: 1px solid #d9dee3 }
 th:first-child, td:first-child { text-align: left } tr.total td { font-weight: 600; border-top: 2px solid #1b1f23 }
 .bars { margin: .6rem 0 }
-.bar { display: grid; grid-template-columns: minmax(6rem, 12rem) 1fr minmax(5rem, auto); gap: .6rem; align-items: center; font-size: .85rem; margin: .2rem 0 }
+.bar { display: grid; grid-template-columns: minmax(6rem, 12rem) 1fr minmax(5rem, auto); gap: .6rem; align-items: center }
+.bar { font-size: .85rem; margin: .2rem 0 }
 .bar > span { overflow-wrap: anywhere } .bar > div { background: #eef1f4; border-radius: .2rem }
 .bar i { display: block; height: 1rem; background: #1f6feb; border-radius: .2rem }
 .bar > span:last-child { text-align: right; font-variant-numeric: tabular-nums; overflow-wrap: normal }

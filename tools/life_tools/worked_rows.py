@@ -75,10 +75,12 @@ class Worked:
 
     def tell_policy(self, position: int) -> None:
         policy = self.policy
-        self.say(f"policy {policy.number}, as it stood after the first {position} postings: {policy.plan}, age {policy.age} at issue, "
-                 f"{policy.years} years" + (" (to the table's end)" if policy.plan == "whole" else ""))
+        years = "to the table's end" if policy.plan == "whole" else f"{policy.years} years"
+        self.say(f"policy {policy.number}, as it stood after the first {position} postings: {policy.plan}, "
+                 f"age {policy.age} at issue, {years}")
         self.say(f"  issued {policy.issued}, {policy.status}, {policy.paid} premiums paid, last posting on {policy.last}")
-        self.say(f"  amount {money(policy.amount)}, premium {money(policy.premium)} a year, outstanding {money(policy.outstanding)}")
+        self.say(f"  amount {money(policy.amount)}, premium {money(policy.premium)} a year, "
+                 f"outstanding {money(policy.outstanding)}")
 
     def tell_nothing_insured(self) -> None:
         policy = self.policy
@@ -112,8 +114,8 @@ class Worked:
         first = insured.first_year
         self.say(f"at issue, of 1: benefits {decimal(benefits)}, premiums of 1 a year {decimal(annuity)}")
         self.say(f"  (B) the first year's net premium: v * {decimal(insured.cover.rates[0])} = {decimal(first)}")
-        self.say(f"  (A) the level premium for what follows: ({decimal(benefits)} - {decimal(first)}) / ({decimal(annuity)} - 1) = "
-                 f"{decimal(insured.renewal)}")
+        self.say(f"  (A) the level premium for what follows: ({decimal(benefits)} - {decimal(first)}) / "
+                 f"({decimal(annuity)} - 1) = {decimal(insured.renewal)}")
         self.tell_limit(insured)
         self.say(f"  excess of (A) over (B): {decimal(insured.excess)}")
         self.say(f"  beta = ({decimal(benefits)} + {decimal(insured.excess)}) / {decimal(annuity)} = {decimal(insured.modified)}")
@@ -142,8 +144,8 @@ class Worked:
         else:
             taken = benefits - insured.modified * annuity
             less = ", which is below 0, so V = 0" if taken < 0 else ""
-            self.say(f"at year {year}, of 1: V = benefits - beta * premiums = {decimal(benefits)} - {decimal(insured.modified)} * "
-                     f"{decimal(annuity)} = {decimal(taken)}{less}")
+            self.say(f"at year {year}, of 1: V = benefits - beta * premiums = {decimal(benefits)} - "
+                     f"{decimal(insured.modified)} * {decimal(annuity)} = {decimal(taken)}{less}")
         return worth
 
     def tell_mean(self, insured: Insured) -> Fraction:

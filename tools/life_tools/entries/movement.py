@@ -29,8 +29,8 @@ def arguments(parser: argparse.ArgumentParser) -> None:
     parser.add_argument("p1", metavar="P1", help="the opening position")
     parser.add_argument("on2", metavar="ON2", help="the closing day")
     parser.add_argument("p2", metavar="P2", help="the closing position")
-    parser.add_argument("--basis", metavar="NAME", nargs="+", default=["basis.csv"], help="the basis, and the one that it is "
-                                                                                         "changed to (basis.csv)")
+    parser.add_argument("--basis", metavar="NAME", nargs="+", default=["basis.csv"],
+                        help="the basis, and the one that it is changed to (basis.csv)")
     parser.add_argument("--policies", metavar="FILE", help="each policy's part as CSV")
     parser.add_argument("--folder", metavar="FOLDER", default=".", help="where journal.life, the bases and tables lie (.)")
     parser.add_argument("--life", metavar="PROGRAM", help="the program to ask")
