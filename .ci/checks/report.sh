@@ -130,7 +130,7 @@ begin_with_examples "wrong input"
 refuses 2 'is no day' report 2022-13-31 --csv written
 refuses 2 'there is no position 28' report 2022-12-31 --at 28 --csv written
 refuses 2 'colour is none of' report 2022-12-31 --by colour --csv written
-refuses 2 'no file' report 2022-12-31 --folder nowhere --csv written
+refuses 2 'No such file' report 2022-12-31 --folder nowhere --csv written
 refuses 2 'is no position' movement 2022-12-31 x 2024-06-30 27 --policies written
 refuses 2 'is before the opening one' movement 2022-12-31 11 2024-06-30 3 --policies written
 refuses 2 'there is no policy 99' why 99 2022-12-31
