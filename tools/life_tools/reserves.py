@@ -53,13 +53,14 @@ class InForce:
     def __init__(self, table: Table, cover: Cover, age: int) -> None:
         self.cover = cover
         benefits, annuity = cover.values_at(0)
-        first_year = cover.discount * cover.rates[0]
-        renewal = (benefits - first_year) / (annuity - 1)
+        self.first_year = cover.discount * cover.rates[0]
+        self.renewal = (benefits - self.first_year) / (annuity - 1)
         # the level premium may not be above that of whole life at an age one year higher
         left = table.last - age
-        limit = Cover(table, age + 1, left, min(RENEWAL_PREMIUMS, left), True, cover.discount)
-        whole_benefits, whole_annuity = limit.values_at(0)
-        self.excess = max(min(renewal, whole_benefits / whole_annuity) - first_year, Fraction(0))
+        self.limit = Cover(table, age + 1, left, min(RENEWAL_PREMIUMS, left), True, cover.discount)
+        whole_benefits, whole_annuity = self.limit.values_at(0)
+        self.most = whole_benefits / whole_annuity
+        self.excess = max(min(self.renewal, self.most) - self.first_year, Fraction(0))
         self.modified = (benefits + self.excess) / annuity
 
     def counting_on(self, premium: Fraction, year: int) -> Fraction:

@@ -1,0 +1,107 @@
+"""What moved between two valuations: the analysis of change, which adds up exactly in lower and in upper bounds.
+
+    movement ON1 P1 ON2 P2 [--basis B1 [B2]] [--policies FILE]
+
+From the opening reserve (day ON1, position P1, basis B1) by what was posted, by the time gone by, and by a change of basis
+where B2 is given, to the closing reserve (ON2, P2). Each reserve is the program's, of copies of the journal's front. What
+was posted is measured on the opening day, but for new issues, which are measured on the closing day. A policy counts on one
+line, that of its last posting that isn't a premium. Beside it stand the premiums and settlements of the accounts.
+"""
+from __future__ import annotations
+
+import argparse
+import csv
+import os
+import sys
+
+from life_tools.changes import LINES, Change, Moved, analysis, cash_of, changes_of, demand_booked, lines_by_policy
+from life_tools.commands import Command, command_in
+from life_tools.entries.report import written_whole
+from life_tools.entries.why import position_in
+from life_tools.formats import Wrong, day_in, demand, money, remark
+from life_tools.fronts import Front, front
+from life_tools.journals import gate_of
+from life_tools.printed_books import PrintedState, PrintedValuation, state_in, valuation_in
+
+
+def arguments(parser: argparse.ArgumentParser) -> None:
+    parser.add_argument("on1", metavar="ON1", help="the opening day")
+    parser.add_argument("p1", metavar="P1", help="the opening position")
+    parser.add_argument("on2", metavar="ON2", help="the closing day")
+    parser.add_argument("p2", metavar="P2", help="the closing position")
+    parser.add_argument("--basis", metavar="NAME", nargs="+", default=["basis.csv"],
+                        help="the basis, and the one that it is changed to (basis.csv)")
+    parser.add_argument("--policies", metavar="FILE", help="each policy's part as CSV")
+    parser.add_argument("--folder", metavar="FOLDER", default=".", help="where journal.life, the bases and tables lie (.)")
+    parser.add_argument("--life", metavar="PROGRAM", help="the program to ask")
+
+
+def valued(copy: Front, on: str, basis: str) -> PrintedValuation:
+    return valuation_in(copy.asks("value", on, "--at", str(copy.position), "--basis", basis))
+
+
+def commands_between(copy: Front, first: int) -> list[Command]:
+    """The commands behind the first so many, to the copy's position."""
+    with open(os.path.join(copy.folder, "journal.life"), "rb") as file:
+        file.seek(gate_of(first))
+        data = file.read()
+    return [command_in(data[at + 1:at + 65]) for at in range(0, len(data) - 1, 65)]
+
+
+class Books:
+    """The valuations and states of both positions, and what was posted between them."""
+
+    def __init__(self, options: argparse.Namespace) -> None:
+        first, last = position_in(options.p1), position_in(options.p2)
+        assert first is not None and last is not None
+        demand(first <= last, f"the closing position {last} is before the opening one, {first}")
+        basis, changed = options.basis[0], options.basis[-1]
+        with front(options.folder, first, options.basis, options.life) as copy:
+            self.opening = valued(copy, options.on1, basis)
+            self.before: PrintedState = state_in(copy.asks("state"))
+        with front(options.folder, last, options.basis, options.life) as copy:
+            self.later_book = valued(copy, options.on1, basis)
+            self.later_day = valued(copy, options.on2, basis)
+            self.closing = valued(copy, options.on2, changed) if changed != basis else self.later_day
+            self.after: PrintedState = state_in(copy.asks("state"))
+            self.commands = commands_between(copy, first)
+
+
+def write_policies(path: str, changes: list[Change]) -> None:
+    with open(path, "w", newline="", encoding="utf-8") as file:
+        writer = csv.writer(file, lineterminator="\n")
+        parts = ("opening", "posted", "time", "basis", "closing")
+        writer.writerow(["policy", "line", *(f"{part} {bound}" for part in parts for bound in ("lower", "upper"))])
+        for it in changes:
+            pairs = (it.opening, it.posted, it.time, it.basis, it.closing)
+            writer.writerow([it.number, it.line, *(money(cents) for pair in pairs for cents in pair)])
+
+
+def shown(lines: list[Moved]) -> str:
+    rows = [("", "policies", "lower bounds", "upper bounds")]
+    rows += [(it.name, str(it.policies), money(it.cents[0]), money(it.cents[1])) for it in lines]
+    widths = [max(len(row[place]) for row in rows) for place in range(4)]
+    return "\n".join("  ".join([row[0].ljust(widths[0]), *(row[k].rjust(widths[k]) for k in (1, 2, 3))]) for row in rows)
+
+
+def run(options: argparse.Namespace) -> int:
+    day_in(options.on1), day_in(options.on2)
+    demand(len(options.basis) <= 2, "there are two bases at most")
+    books = Books(options)
+    try:
+        changes = changes_of(books.opening, books.later_book, books.later_day, books.closing, lines_by_policy(books.commands))
+        lines = analysis(changes, books.opening, books.closing)
+        cash = cash_of(books.commands)
+        demand_booked(cash, books.before.balances, books.after.balances)
+    except Wrong as wrong:
+        remark(f"wrong: {wrong}")
+        return 1
+    if options.policies:
+        written_whole(options.policies, lambda path: write_policies(path, changes))
+    print(f"from {options.on1} at position {options.p1} to {options.on2} at position {options.p2}")
+    sys.stdout.write(shown(lines) + "\n")
+    for name, valuation in ((LINES[0], books.opening), (LINES[-1], books.closing)):
+        if valuation.words:
+            print(f"{valuation.words} policies of the {name} have a word in place of bounds, and are in no sum")
+    print(f"premiums received {money(cash.premiums)}, settlements paid {money(cash.settlements)}")
+    return 0

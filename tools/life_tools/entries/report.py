@@ -1,0 +1,112 @@
+"""A valuation's rows joined with their policies, and added up exactly by groups.
+
+    report ON [--at P] [--by KEYS].. [--csv FILE | --xlsx FILE | --html FILE] [--mean | --deficiency]
+
+KEYS is one of plan, status, issue-year, age-band, basis-row, or several with commas; each --by is a table. The rows are
+those that the program prints of a copy of the journal's front, and the policies those that it prints there. Every table
+adds up to the printed total, else nothing is written and the status is 1. Amounts insured are those in force or paid up;
+ages are those at issue.
+"""
+from __future__ import annotations
+
+import argparse
+import os
+import sys
+from typing import Callable
+
+from life_tools.entries.why import measure_words, position_in
+from life_tools.formats import Wrong, day_in, demand, remark
+from life_tools.fronts import front
+from life_tools.groups import KEYS, Groups, Joined, demand_whole, grouped, joined, whole
+from life_tools.printed_books import PrintedValuation, state_in, valuation_in
+from life_tools.report_files import lines_of, write_csv, write_workbook
+from life_tools.report_pages import page
+from life_tools.tables import read_basis
+
+DEFAULT = ("plan", "status", "issue-year")
+HEADS = {2: ("lower bound", "upper bound"), 4: ("lower bound", "upper bound", "minimum, lower", "minimum, upper")}
+
+
+def arguments(parser: argparse.ArgumentParser) -> None:
+    parser.add_argument("on", metavar="ON", help="the day of the valuation")
+    parser.add_argument("--at", metavar="P", help="the position (the newest)")
+    parser.add_argument("--by", metavar="KEYS", action="append", help=f"{', '.join(KEYS)}; several with commas (each of "
+                                                                      f"{', '.join(DEFAULT)})")
+    parser.add_argument("--basis", metavar="NAME", default="basis.csv", help="the basis file in the folder (basis.csv)")
+    parser.add_argument("--folder", metavar="FOLDER", default=".", help="where journal.life, the basis and the tables lie (.)")
+    parser.add_argument("--life", metavar="PROGRAM", help="the program to ask")
+    files = parser.add_mutually_exclusive_group()
+    files.add_argument("--csv", metavar="FILE", help="the tables as CSV")
+    files.add_argument("--xlsx", metavar="FILE", help="the tables as a workbook (python3-openpyxl)")
+    files.add_argument("--html", metavar="FILE", help="one page with pictures, which needs no network")
+    measure = parser.add_mutually_exclusive_group()
+    measure.add_argument("--mean", dest="measure", action="store_const", const="mean", default="terminal")
+    measure.add_argument("--deficiency", dest="measure", action="store_const", const="deficiency")
+
+
+def keys_in(given: list[str] | None) -> list[list[str]]:
+    """The keys of each table."""
+    tables = [text.split(",") for text in given] if given else [[key] for key in DEFAULT]
+    for keys in tables:
+        for key in keys:
+            demand(key in KEYS, f"{key} is none of {', '.join(KEYS)}")
+        demand(len(set(keys)) == len(keys), f"{','.join(keys)} has a key twice")
+    return tables
+
+
+def written_whole(path: str, write: Callable[[str], None]) -> None:
+    """A file that is there whole or not at all."""
+    part = f"{path}.part"
+    try:
+        write(part)
+        os.replace(part, path)
+    except OSError as error:
+        raise Wrong(f"{path}: {error.strerror}") from error
+    finally:
+        if os.path.exists(part):
+            os.remove(part)
+
+
+def read_both(options: argparse.Namespace) -> tuple[PrintedValuation, list[Joined]]:
+    """The valuation, and its rows with their policies, of one copy."""
+    with front(options.folder, position_in(options.at), [options.basis], options.life) as copy:
+        words = ["value", options.on, "--at", str(copy.position), "--basis", options.basis]
+        valuation = valuation_in(copy.asks(*words, *measure_words(options.measure)))
+        state = state_in(copy.asks("state"))
+        basis = read_basis(os.path.join(copy.folder, options.basis))
+    return valuation, joined(valuation, state, basis)
+
+
+def run(options: argparse.Namespace) -> int:
+    day_in(options.on)
+    wanted = keys_in(options.by)
+    valuation, rows = read_both(options)
+    total = whole(rows, len(valuation.total))
+    tables: list[tuple[list[str], Groups]] = [(keys, grouped(rows, keys)) for keys in wanted]
+    try:
+        for keys, groups in tables:
+            demand_whole(groups, keys, valuation)
+    except Wrong as wrong:
+        remark(f"wrong: {wrong}")
+        return 1
+    heads = HEADS[len(valuation.total)]
+    columns = ["policies", "amount insured", *heads, "words"]
+    if options.csv:
+        written_whole(options.csv, lambda path: write_csv(path, tables, total, columns))
+    elif options.xlsx:
+        written_whole(options.xlsx, lambda path: write_workbook(path, tables, total, columns))
+    elif options.html:
+        checks = ["The rows add up to the printed total.", "Each row is that of the policy that the state prints in its place.",
+                  *(f"The groups by {', '.join(keys)} add up to the printed total." for keys, _ in tables)]
+        text = page(valuation, rows, total, tables, heads, checks)
+        written_whole(options.html, lambda path: write_text(path, text))
+    else:
+        print(f"{valuation.on} at position {valuation.position}, {valuation.measure}")
+        for keys, groups in tables:
+            sys.stdout.write("\n" + "\n".join(lines_of(keys, groups, total, columns)) + "\n")
+    return 0
+
+
+def write_text(path: str, text: str) -> None:
+    with open(path, "w", encoding="utf-8") as file:
+        file.write(text)
