@@ -7,7 +7,7 @@ An edit that exchanges a name, a literal or an operator for another keeps the fo
 source, which is proved. Any other edit needs a twin: an edit of the same form that changes nothing, which has to be
 accepted. A rule makes it, or the file bench/twins/CRATE/NAME.edit holds it, or that file says "none: WHY" where there
 can be none. `--edits` tries the edits themselves too, and notes what refuses them and the processor seconds; `--list`
-tries nothing and prints the kinds.
+tries nothing: it prints the table, with new edits as not tried.
 """
 from __future__ import annotations
 
@@ -182,6 +182,11 @@ def twin_of(crate: str, name: str, text: str) -> Twin:
     return Twin("form", "".join(made))
 
 
+def shown(twin: Twin) -> str:
+    """The twin's text in the table, or why there is none."""
+    return " ".join(" ".join(it[2].split()) for it in pairs_of(twin.text)) or twin.why
+
+
 def tried(seed: Seed, text: str) -> tuple[str, str]:
     """What became of the crate with an edit, in words, and the processor seconds of that."""
     texts, why = seed.read(text)
@@ -196,7 +201,6 @@ def row_of(seed: Seed, path: str, tries_edits: bool, known: dict[str, str]) -> l
     """The table's row for one edit: tries its twin, and the edit itself where that is asked for."""
     name, text = os.path.basename(path)[: -len(".edit")], text_of(path)
     twin = twin_of(seed.crate.name, name, text)
-    shown = " ".join(" ".join(it[2].split()) for it in pairs_of(twin.text)) or twin.why
     verdict = "the source" if twin.kind == "token" else "none"
     if twin.text:
         verdict = tried(seed, twin.text)[0]
@@ -204,7 +208,7 @@ def row_of(seed: Seed, path: str, tries_edits: bool, known: dict[str, str]) -> l
     refused = [known.get("refused_at", ""), known.get("seconds", "")]
     if tries_edits:
         refused = list(tried(seed, text))
-    return [seed.crate.name, name, twin.kind, shown, verdict, *refused]
+    return [seed.crate.name, name, twin.kind, shown(twin), verdict, *refused]
 
 
 def rows_in(table: str) -> list[dict[str, str]]:
@@ -246,11 +250,24 @@ def is_amiss(row: list[str]) -> bool:
     return row[4].startswith(("refused", "BAD")) or row[5].startswith(("accepted", "BAD"))
 
 
-def listed(crate: str) -> None:
+def untried(crate: str, path: str) -> list[str]:
+    """The row of an edit of which nothing was tried."""
+    name, text = os.path.basename(path)[: -len(".edit")], text_of(path)
+    twin = twin_of(crate, name, text)
+    verdict = "the source" if twin.kind == "token" else "not tried" if twin.text else "none"
+    return [crate, name, twin.kind, shown(twin), verdict, "", ""]
+
+
+def listed(crate: str, table: str) -> None:
+    """Prints a crate's edits, and gives the table a row for each, with what it has of the same edit and twin."""
+    known = {(row["edit"], row["kind"], row["twin"]): row for row in rows_in(table) if row["crate"] == crate}
+    rows = []
     for path in edits_of(crate):
-        name = os.path.basename(path)[: -len(".edit")]
-        twin = twin_of(crate, name, text_of(path))
-        print(f"{crate}/{name}\t{twin.kind}\t{twin.text.partition('new: ')[2].strip() or twin.why}")
+        row = untried(crate, path)
+        told = known.get((row[1], row[2], row[3]))
+        rows.append([told[it] for it in COLUMNS] if told else row)
+        print("\t".join(rows[-1]))
+    keep(table, crate, rows)
 
 
 def main() -> int:
@@ -260,7 +277,7 @@ def main() -> int:
     names = [it for it in names if edits_of(it)]
     if "--list" in words:
         for name in names:
-            listed(name)
+            listed(name, table)
         return 0
     kit = ready_kit()
     failed = 0

@@ -28,7 +28,6 @@ done <<'EDITS'
 a_made-up_fault                 life_app/made_up_read_fault office_state/number_of_an_earlier_fault
 a_made-up_fault_of_a_device     outside_io/read_all_made_up_fault memory_disk/made_up_fault posting_journal/made_up_fault
 the_newest_state_valued         snapshot_value/newest_position_pinned office_state/newest_state_read
-policies_issued_later_valued    office_state/policies_issued_later_listed
 an_idle_trim                    office_state/idle_trim
 the_cap_at_the_issue_age        crvm_reserve/cap_at_the_issue_age
 the_net_level_premium           crvm_reserve/net_level_beta
