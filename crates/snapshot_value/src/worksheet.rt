@@ -59,7 +59,10 @@ impl<'a> Worksheet<'a> {
         requires { (1 ≤ workers) × (workers ≤ 64) }
         ensures { IfOk result (λ sheet. HasMade basis.now on measure [] sheet) }
     {
-        let many = (policies / POLICIES_TO_A_WORKER).clamp(1, usize::from(workers.min(MOST_WORKERS)));
+        let many = (policies / POLICIES_TO_A_WORKER).clamp(
+            1,
+            usize::from(workers.min(MOST_WORKERS)),
+        );
         let workers = workers_for(alloc, basis, on, measure, many)?;
         let read = Vec::with_capacity(alloc, together(many).min(policies)).map_err(|_| NoMemory)?;
         let rows = Vec::with_capacity(alloc, policies).map_err(|_| NoMemory)?;
