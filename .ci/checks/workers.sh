@@ -47,7 +47,7 @@ begin_with_book() {
 }
 
 # A worker more is worth its thread for 8,192 policies. Of what is read 32,768 for each worker are valued together, or
-# 131,072 in all, then the next; the thread that reads is one of the workers.
+# 131,072 in all, then the next; the thread that reads is one of the workers. No more than sixteen value.
 begin_with_book 16383
 has_threads 64 0
 ask project 2020-12-31 40
@@ -67,7 +67,7 @@ has_threads 1 0
 has_threads 2 2
 has_threads 3 2
 has_threads 64 7
-begin_with_book 131073
+begin_with_book 139264
 has_threads 4 6
 has_threads 64 30
 
@@ -76,7 +76,7 @@ ask project 2020-12-31 40
 [ "$(grep -c '^year,' alone)" -eq 40 ] || complain "there aren't 40 years"
 has_threads 1 0
 has_threads 4 3
-has_threads 64 15
+has_threads 64 16
 
 # the lanes of a script, each of which issues a policy; the thread that reads the script runs one of them
 begin "lanes"

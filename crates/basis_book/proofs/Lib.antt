@@ -7,3 +7,4 @@ pub mod Exact
 pub mod ListCuts
 pub mod CallerLemmas
 pub mod WorkedRows
+pub mod Stopped

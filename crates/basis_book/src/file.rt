@@ -1,4 +1,5 @@
-ghost use Rattle.std.specs.Prelude.{◌≤◌, ℕ, List, length, IfOk, IfErr, Result};
+ghost use Rattle.std.specs.Prelude.{◌≡◌, ◌≤◌, ℕ, List, true, length, IfOk, IfErr, Result};
+ghost use Rattle.csv.specs.Reading.{error_kind, stops_reader};
 ghost use Rattle.csv.specs.Records.{fields_of};
 ghost use Rattle.basis_book.specs.Dated.{AreBounded};
 ghost use Rattle.basis_book.specs.declared.row.BasisRow.{BasisRow};
@@ -12,7 +13,7 @@ use crate::fault::BasisFault;
 use crate::fields::Fields;
 use crate::reading::Reading;
 use crate::row::BasisRows;
-use csv::{ByteRecord, Reader, ReaderBuilder};
+use csv::{ByteRecord, Error, Reader, ReaderBuilder};
 use policy_types::NoMemory;
 use std::alloc::Global;
 
@@ -76,7 +77,16 @@ fn reader_of(alloc: Global, bytes: &[u8]) -> Result<Reader<&[u8]>, NoMemory>
     }
 }
 
-/// Reads all rows: nothing but memory can be refused to a reader of bytes in memory. One record serves for all of them,
+/// What an error of such a reader comes to. It takes rows of any lengths, so the error is one of memory, or of bytes that
+/// can't be read; and bytes in memory can.
+fn memory_of(error: Error) -> NoMemory
+    requires { stops_reader (error_kind error) ≡ true }
+{
+    let _error = error;
+    NoMemory
+}
+
+/// Reads all rows. One record serves for all of them,
 /// and has room for the fields of each from the start, so that it never grows to twice what is needed.
 fn judge_rows(alloc: Global, bytes: &[u8]) -> Result<Reading, NoMemory>
     ensures { IfOk result (λ reading.
@@ -88,8 +98,9 @@ fn judge_rows(alloc: Global, bytes: &[u8]) -> Result<Reading, NoMemory>
     };
     let mut reading = Reading::new(alloc);
     for _ in 0..u64::MAX {
-        let Ok(found) = reader.read_byte_record(&mut row) else {
-            return Err(NoMemory);
+        let found = match reader.read_byte_record(&mut row) {
+            Ok(found) => found,
+            Err(error) => return Err(memory_of(error)),
         };
         if !found {
             return Ok(reading);

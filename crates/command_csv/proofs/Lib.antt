@@ -11,3 +11,4 @@ pub mod Progress
 pub mod Records
 pub mod Words
 pub mod WorkedScripts
+pub mod Stopped

@@ -5,7 +5,7 @@ use Rattle.std.specs.List.{AllZip, filter}
 use Rattle.std.proofs.lemmas.List.{map-append}
 use Rattle.std.proofs.lemmas.List.Elements.{filter-append}
 use Rattle.std.proofs.lemmas.Result.{IfOk-weaker}
-use Rattle.csv.specs.Reading.{Reached, ReadRecord, Ready, default_config, strip_bom, source_of, reader_config, reader_state, reader_trim, took_first}
+use Rattle.csv.specs.Reading.{Reached, ReadRecord, Ready, default_config, is_flexible, strip_bom, source_of, reader_config, reader_state, reader_trim, took_first}
 use Rattle.csv.proofs.ReadFacts.{rows-more, rows-end as csv_end}
 use Rattle.csv.specs.declared.parser.State.TheVariants as st
 use Rattle.csv.specs.declared.reader.Reader.{Reader}
@@ -24,6 +24,7 @@ use Rattle.command_csv.proofs.Records.{rows_begin, rows_end, rows_few}
 pub record IsReadTo (bytes : List ℕ) (rows : Reader (Bor (List ℕ))) (count valuations : ℕ) (entries : List ClerkLine) : Type 0 where
   pub plain : reader_trim rows ≡ trim.None
   pub ready : Ready rows
+  pub flexible : is_flexible rows ≡ true
   pub config : reader_config rows ≡ default_config
   pub left : List ℕ
   pub source : source_of (λ (s : Bor (List ℕ)). Some s.now) rows ≡ Some left
@@ -79,14 +80,15 @@ row_counted bytes old new count valuations entries row h r =
     omega (arith, rows_few bytes (h.behind ++ row ∷ []) (reader_state new) g.0 g.2, length-append h.behind (row ∷ []), h.number)
 
 pub row_right : (bytes : List ℕ) (old new : Reader (Bor (List ℕ))) (count valuations share : ℕ) (entries more : List ClerkLine) (row : List (List ℕ)) (entry : ClerkLine) → IsReadTo bytes old count valuations entries
-    → ReadRecord left_in old new true row → took_first new ≡ true → IsNextRow valuations row entry → share ≡ valuations_in (entry.line ∷ []) → more ≡ entries ++ entry ∷ []
+    → ReadRecord left_in old new true row → took_first new ≡ true → is_flexible new ≡ true → IsNextRow valuations row entry → share ≡ valuations_in (entry.line ∷ []) → more ≡ entries ++ entry ∷ []
     → IsReadTo bytes new (count + 1) (valuations + share) more
-row_right bytes old new count valuations share entries more row entry h r first is shared e =
+row_right bytes old new count valuations share entries more row entry h r first flexible is shared e =
     let g = goes bytes old new count valuations entries row h r in
     let counts : valuations_in (all_lines more) ≡ valuations_in (all_lines (entries ++ entry ∷ [])) = ap (λ (es : List ClerkLine). valuations_in (all_lines es)) e in
     record {
       plain = r.3 ∙ h.plain;
       ready = inl first;
+      flexible = flexible;
       config = r.2 ∙ h.config;
       left = g.0;
       source = g.1;

@@ -1,7 +1,6 @@
 ghost use Rattle.std.specs.Prelude.{◌≡◌};
 ghost use Rattle.command_csv.specs.declared.fault.ScriptFault.TheVariants.{NoMemory};
 
-use csv::Error;
 use std::alloc::AllocFailed;
 
 /// Why a script isn't read.
@@ -16,15 +15,6 @@ impl<T: Drop> From<AllocFailed<T>> for ScriptFault {
     ghost from_gives = { λ _ e. e ≡ NoMemory };
 
     fn from(_e: AllocFailed<T>) -> ScriptFault {
-        ScriptFault::NoMemory
-    }
-}
-
-/// A reader of rows fails over bytes in memory for want of memory alone.
-impl From<Error> for ScriptFault {
-    ghost from_gives = { λ _ e. e ≡ NoMemory };
-
-    fn from(_e: Error) -> ScriptFault {
         ScriptFault::NoMemory
     }
 }

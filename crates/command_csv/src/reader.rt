@@ -1,5 +1,8 @@
 // A script, read row by row.
-ghost use Rattle.std.specs.Prelude.{◌≡◌, ◌≤◌, List, [], ◌∷◌, length, IfOk, IfErr, Result};
+ghost use Rattle.std.specs.Prelude.{◌≡◌, ◌≤◌, List, Some, [], ◌∷◌, true, length, IfOk, IfErr, OnOk, Result};
+ghost use Rattle.csv.specs.Reading.{ReadRecord, Ready, error_kind, is_flexible, reader_trim, stops_reader, took_first};
+ghost use Rattle.csv.specs.Records.{fields_of};
+ghost use Rattle.csv.specs.declared.reader.Trim.TheVariants as trim;
 ghost use Rattle.policy_types.specs.declared.script.Lane.{Lane as ALane};
 ghost use Rattle.command_csv.specs.Answers.{GivesScript, IsScriptAnswer};
 ghost use Rattle.command_csv.specs.Reads.{AreLineRows, Reads, lanes_of, lines_of as lines_among, valuations_in};
@@ -10,7 +13,7 @@ ghost use Rattle.command_csv.specs.declared.fault.ScriptFault.{ScriptFault as AF
 use crate::fault::ScriptFault;
 use crate::fields::LAST_LANE;
 use crate::row::{ClerkLine, read_row};
-use csv::{ByteRecord, ReaderBuilder};
+use csv::{ByteRecord, Error, Reader, ReaderBuilder};
 use policy_types::{Lane, Line, Lines, Script};
 use std::alloc::Global;
 
@@ -51,7 +54,7 @@ fn read_lines(alloc: Global, bytes: &[u8]) -> Result<Vec<ClerkLine>, ScriptFault
     let mut entries = Vec::new(alloc);
     let mut count: u32 = 0;
     let mut valuations: u32 = 0;
-    while rows.read_byte_record(&mut row)? {
+    while next_row(&mut rows, &mut row)? {
         count += 1;
         match read_row(&row, valuations) {
             Ok(entry) => {
@@ -62,6 +65,31 @@ fn read_lines(alloc: Global, bytes: &[u8]) -> Result<Vec<ClerkLine>, ScriptFault
         }
     }
     Ok(entries)
+}
+
+// The next row, and whether there was one, of a reader that takes rows of any lengths.
+fn next_row(rows: &mut Reader<&[u8]>, row: &mut ByteRecord) -> Result<bool, ScriptFault>
+    requires ready { Ready rows.old }
+    requires flexible { is_flexible rows.old ≡ true }
+    ensures ready { (reader_trim rows.old ≡ trim.None) → OnOk result (took_first rows.new ≡ true) }
+    ensures reads { IfOk result (λ found. (reader_trim rows.old ≡ trim.None)
+        → ReadRecord (λ left. Some left.now) rows.old rows.new found (fields_of row.new)) }
+    ensures flexible { OnOk result (is_flexible rows.new ≡ true) }
+    ensures fault { IfErr result (λ fault. fault ≡ ScriptFault.NoMemory) }
+{
+    match rows.read_byte_record(row) {
+        Ok(found) => Ok(found),
+        Err(error) => Err(memory_of(error)),
+    }
+}
+
+// What an error of such a reader comes to. It is one of memory, or of bytes that can't be read; and bytes in memory can.
+fn memory_of(error: Error) -> ScriptFault
+    requires { stops_reader (error_kind error) ≡ true }
+    ensures { result ≡ ScriptFault.NoMemory }
+{
+    let _error = error;
+    ScriptFault::NoMemory
 }
 
 // 1 for a valuation, 0 for another line.

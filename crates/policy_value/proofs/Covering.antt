@@ -1,6 +1,6 @@
 -- A cover by a row of the basis.
-use Rattle.std.proofs.Common.{◌≡◌, ℕ, ◌+◌, ◌≤◌, ◌<◌, List, Some, Ok, slice_get, length, refl, sym, ap, ◌∙◌, arith}
-use Rattle.rate_table.specs.Rates.{Rates, AreRates, HoldsAge}
+use Rattle.std.proofs.Common.{◌≡◌, ℕ, ◌+◌, ◌≤◌, List, Some, slice_get, sym, ap, ◌∙◌, arith}
+use Rattle.rate_table.specs.Rates.{Rates, AreRates}
 use Rattle.rate_table.specs.declared.shape.Shape.{Shape}
 use Rattle.select_rates.specs.Along.{table_along}
 use Rattle.select_rates.specs.declared.any.AnyTable.{AnyTable}

@@ -9,7 +9,6 @@ use Rattle.policy_value.specs.Caches.{IsRowOf, IsRightColumn, IsRightPremium}
 use Rattle.policy_value.specs.declared.key.CacheKey.{CacheKey}
 use Rattle.policy_value.specs.contracts.key.CacheKeyPartialEq.TheImpl.{eq-value}
 use Rattle.std.specs.Cmp.Rules.{comparing, hashing}
-use Rattle.rate_table.specs.declared.shape.Shape.{Shape}
 use Rattle.select_rates.specs.Along.{table_along}
 use Rattle.crvm_reserve.specs.Made.{premium_of}
 use Rattle.crvm_reserve.specs.declared.premium.Premium.{Premium}

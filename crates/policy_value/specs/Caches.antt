@@ -35,7 +35,7 @@ IsRightPremium basis kept = (entry : Dated) → (shape : Shape) → slice_get ba
 
 -- a store has room for as many columns as it may hold
 pub record IsStore (store : ColumnStore) : Type 0 where
-  pub slots : length store.places.items ≡ 8192
+  pub slots : length store.places.items ≡ 65536
   pub most : store.most ≤ 65535
   pub few : length store.kept.items ≤ store.most
   pub room : store.most ≤ vec_capacity store.kept

@@ -1,5 +1,5 @@
 // The columns that are kept for policies to come.
-ghost use Rattle.std.specs.Prelude.{◌≡◌, ◌+◌, ◌≤◌, ◌<◌, ◌↔◌, IsTrue, [], List, All, IfOk, length, vec_capacity};
+ghost use Rattle.std.specs.Prelude.{◌≡◌, ℕ, ◌+◌, ◌≤◌, ◌<◌, ◌↔◌, IsTrue, [], List, All, IfOk, length, vec_capacity};
 ghost use Rattle.rate_table.specs.Rates.{AreRates};
 ghost use Rattle.basis_book.specs.Dated.{Dated};
 ghost use Rattle.present_value.specs.Sums.{cover_of};
@@ -9,7 +9,7 @@ ghost use Rattle.present_value.specs.Ends.{AreValuesAt, CanEnd, IsColumn, value_
 ghost use Rattle.present_value.specs.Values.{CanValue};
 ghost use Rattle.policy_value.specs.Caches.{IsRightColumn, IsRightStore, IsStore};
 ghost use Rattle.policy_value.specs.inside.Covered.{IsByRow, IsCovered, cap_by, cover_by};
-ghost use Rattle.policy_value.specs.inside.Kept.{IsKeptOf, IsKeptAt, IsNew};
+ghost use Rattle.policy_value.specs.inside.Kept.{IsAtSlot, IsKeptOf, IsKeptAt, IsNew, slot_of};
 
 use crate::covered::{Covered, IssueRates};
 use basis_book::Basis;
@@ -19,8 +19,11 @@ use present_value::{Column, Pair, Stream, Values};
 use rate_table::{RateTable, Shape};
 use std::alloc::Global;
 
-/// So many columns can be found at a time.
-const SLOTS: usize = 8192;
+/// So many columns can be found at a time: those of all ages at issue of a row of the basis have slots of their own.
+const SLOTS: usize = 65_536;
+
+/// So far apart lie the slots of two rows of the basis, counted in ages at issue.
+const AGES_APART: usize = 41;
 
 /// What a column depends on: the row of the basis, counted from 0, the age at issue by which its rates are kept, what is
 /// paid, and the age at which that ends.
@@ -178,15 +181,24 @@ impl ColumnStore {
         ensures right { (basis : List Dated) → All (IsRightColumn basis) self.old.kept.items
             → All (IsRightColumn basis) self.new.kept.items }
         ensures kept { IsKeptAt self.new.kept.items result key }
+        ensures slot { IsAtSlot self.new key result }
+        // One that is found isn't made again.
+        ensures found { (place : ℕ) → IsAtSlot self.old key place → self.new ≡ self.old }
     {
         let slot = slot_of(key);
         let place = self.places[slot] as usize;
-        if place < self.kept.len() && self.kept[place].is_of(key) {
+        if self.lies_at(place, key) {
             return place;
         }
         let place = self.keep(key);
         self.places[slot] = place as u16;
         place
+    }
+
+    fn lies_at(&self, place: usize, key: ColumnKey) -> bool
+        ensures { IsTrue result ↔ IsKeptAt self.now.kept.items place key }
+    {
+        place < self.kept.len() && self.kept[place].is_of(key)
     }
 
     /// Keeps a new column, and tells where it lies.
@@ -213,13 +225,14 @@ impl ColumnStore {
 
 /// Where it is written where a column lies.
 fn slot_of(key: ColumnKey) -> usize
-    ensures { result < 8192 }
+    ensures is { result ≡ slot_of key }
+    ensures within { result < 65536 }
 {
     let stream = match key.stream {
         Stream::Insurance => 0,
         Stream::Endowment => 1,
         Stream::Annuity => 2,
     };
-    let row = key.basis_row as usize + key.issue as usize;
-    ((row * 3 + stream) * 132 + key.end as usize) % SLOTS
+    let ages = key.basis_row as usize * AGES_APART + key.issue as usize;
+    ((ages * 3 + stream) * 132 + key.end as usize) % SLOTS
 }

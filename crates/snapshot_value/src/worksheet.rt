@@ -17,6 +17,9 @@ use policy_value::{ColumnCache, Measure, Row};
 use std::alloc::Global;
 use std::thread::Threads;
 
+/// The most workers: more have ever smaller parts, and caches that know ever less.
+const MOST_WORKERS: u8 = 16;
+
 /// The policies that are worth a worker's thread.
 const POLICIES_TO_A_WORKER: usize = 8_192;
 
@@ -43,8 +46,8 @@ pub struct Worksheet<'a> {
 }
 
 impl<'a> Worksheet<'a> {
-    /// Takes the memory for the rows of so many policies. There are as many workers as are asked for, or fewer where each
-    /// would have too few policies.
+    /// Takes the memory for the rows of so many policies. There are as many workers as are asked for, at most sixteen, or
+    /// fewer where each would have too few policies.
     pub fn new(
         alloc: Global,
         basis: &'a Basis,
@@ -56,7 +59,10 @@ impl<'a> Worksheet<'a> {
         requires { (1 ≤ workers) × (workers ≤ 64) }
         ensures { IfOk result (λ sheet. HasMade basis.now on measure [] sheet) }
     {
-        let many = (policies / POLICIES_TO_A_WORKER).clamp(1, usize::from(workers));
+        let many = (policies / POLICIES_TO_A_WORKER).clamp(
+            1,
+            usize::from(workers.min(MOST_WORKERS)),
+        );
         let workers = workers_for(alloc, basis, on, measure, many)?;
         let read = Vec::with_capacity(alloc, together(many).min(policies)).map_err(|_| NoMemory)?;
         let rows = Vec::with_capacity(alloc, policies).map_err(|_| NoMemory)?;

@@ -1,5 +1,5 @@
-use Rattle.std.proofs.Common.{◌≡◌, ℕ, List, Some}
-use Rattle.csv.specs.Reading.{Reached, Ready, default_config, reader_config, reader_state, reader_trim, source_of, strip_bom}
+use Rattle.std.proofs.Common.{◌≡◌, ℕ, List, Some, true}
+use Rattle.csv.specs.Reading.{Reached, Ready, default_config, is_flexible, reader_config, reader_state, reader_trim, source_of, strip_bom}
 use Rattle.csv.specs.declared.parser.State.TheVariants as st
 use Rattle.csv.specs.declared.reader.Trim.TheVariants as trim
 use Rattle.basis_book.specs.inside.Judged.{Judged}
@@ -9,4 +9,4 @@ abbrev pub invariant-loop : goal.invariant-loop
 invariant-loop l = (reader_trim l.reader ≡ trim.None) × Ready l.reader × (reader_config l.reader ≡ default_config)
     × (y : List ℕ) × (source_of (λ s. Some s.now) l.reader ≡ Some y)
     × (rows : List (List (List ℕ))) × Reached default_config st.StartRecord (strip_bom l.fn.bytes) rows (reader_state l.reader) y
-    × Judged rows l.reading
+    × Judged rows l.reading × (is_flexible l.reader ≡ true)

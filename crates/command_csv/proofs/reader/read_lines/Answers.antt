@@ -13,6 +13,7 @@ loop-entries-init c =
     record {
       plain = rw (f, e) at fr.trim ∙ c.new.ensures.trim;
       ready = inr (inr (rw (f, e) at fr.has_headers, fr.headers));
+      flexible = rw f at fr.flexible;
       config = rw (f, e) at fr.config ∙ c.new.ensures.config;
       left = strip_bom c.args.bytes.now;
       source = fr.source;
@@ -26,8 +27,8 @@ loop-entries-init c =
 pub overflow_add-count : goal.overflow_add-count
 overflow_add-count c =
     let inv = c.loop-entries.invariant in
-    let r = found c.loop-entries.rows c.read_byte_record.new.self _ true (fields_of c.read_byte_record.new.row) c.if-branch.true (c.in_ok-read_byte_record.ensures.reads inv.plain inv.ready) in
-    omega (arith, row_counted c.args.bytes.now c.loop-entries.rows c.read_byte_record.new.self c.loop-entries.count c.loop-entries.valuations c.loop-entries.entries.items (fields_of c.read_byte_record.new.row) inv r, c.requires)
+    let r = found c.loop-entries.rows c.next_row.new.rows _ true (fields_of c.next_row.new.row) c.if-branch.true (c.in_ok-next_row.ensures.reads inv.plain) in
+    omega (arith, row_counted c.args.bytes.now c.loop-entries.rows c.next_row.new.rows c.loop-entries.count c.loop-entries.valuations c.loop-entries.entries.items (fields_of c.next_row.new.row) inv r, c.requires)
 
 pub overflow_add-valuations : goal.overflow_add-valuations
 overflow_add-valuations c = omega (arith, few_valued c.args.bytes.now c.loop-entries.rows c.loop-entries.count c.loop-entries.valuations _ c.loop-entries.entries.items _ c.in-Ok.entry c.loop-entries.invariant c.in-Ok.ensures.ok c.valuations_of-valuations.ensures)
@@ -35,24 +36,24 @@ overflow_add-valuations c = omega (arith, few_valued c.args.bytes.now c.loop-ent
 pub loop-entries-smaller : goal.loop-entries-smaller
 loop-entries-smaller c =
     let inv = c.loop-entries.invariant in
-    let r = found c.loop-entries.rows c.read_byte_record.new.self _ true (fields_of c.read_byte_record.new.row) c.if-branch.true (c.in_ok-read_byte_record.ensures.reads inv.plain inv.ready) in
-    omega (arith, row_counted c.args.bytes.now c.loop-entries.rows c.read_byte_record.new.self c.loop-entries.count c.loop-entries.valuations c.loop-entries.entries.items (fields_of c.read_byte_record.new.row) inv r)
+    let r = found c.loop-entries.rows c.next_row.new.rows _ true (fields_of c.next_row.new.row) c.if-branch.true (c.in_ok-next_row.ensures.reads inv.plain) in
+    omega (arith, row_counted c.args.bytes.now c.loop-entries.rows c.next_row.new.rows c.loop-entries.count c.loop-entries.valuations c.loop-entries.entries.items (fields_of c.next_row.new.row) inv r)
 
 pub loop-entries-preserved : goal.loop-entries-preserved
 loop-entries-preserved c =
     let inv = c.loop-entries.invariant in
-    let r = found c.loop-entries.rows c.read_byte_record.new.self _ true (fields_of c.read_byte_record.new.row) c.if-branch.true (c.in_ok-read_byte_record.ensures.reads inv.plain inv.ready) in
-    row_right c.args.bytes.now c.loop-entries.rows c.read_byte_record.new.self c.loop-entries.count c.loop-entries.valuations _ c.loop-entries.entries.items c.push.new.self.items (fields_of c.read_byte_record.new.row) c.in-Ok.entry inv r
-    (c.in_ok-read_byte_record.ensures.ready inv.plain) c.in-Ok.ensures.ok c.valuations_of-valuations.ensures c.in_ok-push-in-Ok.ensures.items
+    let r = found c.loop-entries.rows c.next_row.new.rows _ true (fields_of c.next_row.new.row) c.if-branch.true (c.in_ok-next_row.ensures.reads inv.plain) in
+    row_right c.args.bytes.now c.loop-entries.rows c.next_row.new.rows c.loop-entries.count c.loop-entries.valuations _ c.loop-entries.entries.items c.push.new.self.items (fields_of c.next_row.new.row) c.in-Ok.entry inv r
+    (c.in_ok-next_row.ensures.ready inv.plain) c.in_ok-next_row.ensures.flexible c.in-Ok.ensures.ok c.valuations_of-valuations.ensures c.in_ok-push-in-Ok.ensures.items
 
 pub returns-in-Err-clause-fault : goal.returns-in-Err-clause-fault
 returns-in-Err-clause-fault c =
     let inv = c.loop-entries.invariant in
-    let r = found c.loop-entries.rows c.read_byte_record.new.self _ true (fields_of c.read_byte_record.new.row) c.if-branch.true (c.in_ok-read_byte_record.ensures.reads inv.plain inv.ready) in
-    row_faulty c.args.bytes.now c.loop-entries.rows c.read_byte_record.new.self c.loop-entries.count c.loop-entries.valuations c.in-Err.field c.loop-entries.entries.items (fields_of c.read_byte_record.new.row) inv r c.in-Err.ensures.fault
+    let r = found c.loop-entries.rows c.next_row.new.rows _ true (fields_of c.next_row.new.row) c.if-branch.true (c.in_ok-next_row.ensures.reads inv.plain) in
+    row_faulty c.args.bytes.now c.loop-entries.rows c.next_row.new.rows c.loop-entries.count c.loop-entries.valuations c.in-Err.field c.loop-entries.entries.items (fields_of c.next_row.new.row) inv r c.in-Err.ensures.fault
 
 pub returns-clause-ok : goal.returns-clause-ok
 returns-clause-ok c =
     let inv = c.loop-entries.invariant in
-    let r = found c.loop-entries.rows c.read_byte_record.new.self _ false (fields_of c.read_byte_record.new.row) c.if-branch.false (c.in_ok-read_byte_record.ensures.reads inv.plain inv.ready) in
-    no_row c.args.bytes.now c.loop-entries.rows c.read_byte_record.new.self c.loop-entries.count c.loop-entries.valuations c.loop-entries.entries.items (fields_of c.read_byte_record.new.row) inv r
+    let r = found c.loop-entries.rows c.next_row.new.rows _ false (fields_of c.next_row.new.row) c.if-branch.false (c.in_ok-next_row.ensures.reads inv.plain) in
+    no_row c.args.bytes.now c.loop-entries.rows c.next_row.new.rows c.loop-entries.count c.loop-entries.valuations c.loop-entries.entries.items (fields_of c.next_row.new.row) inv r

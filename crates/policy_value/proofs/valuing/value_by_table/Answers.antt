@@ -1,4 +1,4 @@
-use Rattle.std.proofs.Common.{◌≡◌, ℕ, ℤ, sym, ◌∙◌}
+use Rattle.std.proofs.Common.{◌≡◌, sym, ◌∙◌}
 use Rattle.present_value.specs.Sums.{Cover}
 use Rattle.policy_value.specs.Measures.{IsExactFor}
 use Rattle.policy_value.specs.declared.covered.Covered.{Covered}
