@@ -1,14 +1,15 @@
 #!/bin/sh
-# What the program must print, byte by byte, and end with, by files of tests/cases. Their texts come from outside the program:
-# by hand, from docs/FORMATS.md, docs/CLERK.md and docs/VALUATION.md, or in fractions.
+# What the program must print, byte by byte, and end with, by files of tests/cases. Their texts come from outside the
+# program: by hand, from docs/FORMATS.md, docs/CLERK.md and docs/VALUATION.md, or in fractions.
 #
-# tests/cases/words.txt has a case a line: a status, the one line that is printed, and the words, which stand between spaces;
-# '' is the empty word. They are asked in a folder without a basis, with a script that asks for a value, and make no journal.
+# tests/cases/words.txt has a case a line: a status, the one line that is printed, and the words, which stand between
+# spaces; '' is the empty word. They are asked in a folder without a basis, with a script that asks for a value, and
+# make no journal.
 #
-# Each folder of tests/cases has runs in one folder, one after the other: `words` has a line for each, its status, its words
-# and the script that it is given (`<NAME`), and `transcript` all that they print. An empty line in both begins anew, with the
-# journal away. `files` names files of the repository that stand beside the folder's own, each with its name there, if that is
-# another one.
+# Each folder of tests/cases has runs in one folder, one after the other: `words` has a line for each, its status, its
+# words and the script that it is given (`<NAME`), and `transcript` all that they print. An empty line in both begins
+# anew, with the journal away. `files` names files of the repository that stand beside the folder's own, each with its
+# name there, if that is another one.
 [ ! -w /dev/shm ] || export TMPDIR=/dev/shm
 . "$(dirname "$0")/../common.sh"
 cases=$root/tests/cases
@@ -35,8 +36,8 @@ lay_out() {
     done <"$folder/files"
 }
 
-# whether the journal is as it must be behind a run: only `run` and `load` change one, and what reads bad words, a bad script,
-# a bad basis or no input makes none
+# whether the journal is as it must be behind a run: only `run` and `load` change one, and what reads bad words, a bad
+# script, a bad basis or no input makes none
 judge_journal() {
     case $status,$1 in
         2,* | 3,* | 4,* | 6,* | *,generate) [ -e before ] || leaves_none ;;

@@ -130,6 +130,18 @@ echo badbasis,q.xml,1,toolong >wanted
 "$life" value 2021-01-01 </dev/null >out
 judge $? 4 wanted
 
+# as many policies as a load may have, in as many lanes: it syncs some hundred thousand times, so in memory, where there
+# is such a folder; the sums are those of docs/FIGURES.md, which plain Rust adds up too (bench/plain_reserves.rs)
+begin_with_examples "a load of 100,000 policies"
+here=$(pwd)
+mkdir "$quick/load" && cp basis.csv g.xml q.xml "$quick/load" && cd "$quick/load" || exit 2
+echo "load,200000,0,100000,24983240405.50,24983241045.16,0" >wanted
+timeout "${patience:-300}" "$life" load 1 100000 8 8 </dev/null >out
+judge $? 0 wanted
+[ "$(wc -c <journal.life)" -eq 13000018 ] || complain "there aren't 200,000 records"
+rm journal.life
+cd "$here" || exit 2
+
 name="changed bytes"
 wait "$bytes" || { complain "a case failed"; kept=yes; }
 cat "$work/bytes"

@@ -1,7 +1,5 @@
 #!/bin/sh
 # Generated scripts, and the trial of one by `load`: on its own, over its own journal, and beside `run` and `value`.
-# it syncs some hundred thousand times, so in memory, where there is such a folder
-[ ! -w /dev/shm ] || export TMPDIR=/dev/shm
 . "$(dirname "$0")/../common.sh"
 
 begin "generated script"
@@ -52,15 +50,6 @@ rm journal.life
 echo "load,2000,0,1000,248958515.21,248958521.95,0" >wanted
 "$life" load 1 1000 8 4 </dev/null >out
 judge $? 0 wanted
-
-# and those over a hundred thousand, as exact fractions in another language add them up
-go_on "load of a hundred thousand policies"
-rm journal.life
-echo "load,200000,0,100000,24983240405.50,24983241045.16,0" >wanted
-"$life" load 1 100000 8 8 </dev/null >out
-judge $? 0 wanted
-[ "$(wc -c <journal.life)" -eq 13000018 ] || complain "there aren't 200,000 records"
-rm journal.life
 
 begin_with_basis "load of ages past the table"
 echo "load,2,0,1,0.00,0.00,1" >wanted

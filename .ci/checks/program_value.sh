@@ -136,8 +136,8 @@ for words in "2021-01-01 --mean --at 1 --workers 2" "--mean --at 1 2021-01-01 --
     done
 done
 
-# forty commands, all of which are accepted, five of each of eight policies: the first of them are valued as a journal of
-# these alone
+# forty commands, all of which are accepted, five of each of eight policies: the first of them are valued as a journal
+# of these alone
 begin_with_basis "each position is valued as a run of so many"
 for rest in issue,ID,2020-01-01,endowment,0,3,1000.00,400.00 premium,ID,2020-01-01,400.00 alter,ID,2020-06-01,500.00,200.00 \
     premium,ID,2021-01-01,200.00 claim,ID,2021-02-01; do

@@ -1,7 +1,7 @@
 #!/bin/sh
-# Workers of a valuation and of a projection, and the lanes of a run, which no contract tells apart: a worker more is a thread
-# more where each has 8,192 policies, and a lane more is one, as strace counts; and whatever the number of workers, the text
-# is that of one.
+# Workers of a valuation and of a projection, and the lanes of a run, which no contract tells apart: a worker more is
+# a thread more where each has 8,192 policies, and a lane more is one, as strace counts; and whatever the number of
+# workers, the text is that of one.
 . "$(dirname "$0")/../common.sh"
 needs strace
 

@@ -1,5 +1,5 @@
-// Whole runs, over devices in memory, of which some fail. Texts, statuses and files are written by hand from the formats; the
-// values and the payments that are expected are worked out by hand from the rates.
+// Whole runs, over devices in memory, of which some fail. Texts, statuses and files are written by hand from the
+// formats; the values and the payments that are expected are worked out by hand from the rates.
 use crate::cases::{Case, Failing, File, holds};
 use crate::devices::{BASIS, FLAT};
 use std::alloc::AllocError;
@@ -259,7 +259,8 @@ const RUNS: &[Case] = &[
         written: "",
         left: ONE_RECORD,
     },
-    // A journal of one record is opened in five calls: sync, length, front, the piece of its gates, the piece of its body.
+    // A journal of one record is opened in five calls: sync, length, front, the piece of its gates, the piece of its
+    // body.
     Case {
         words: &["run"],
         script: POLICY,
@@ -523,7 +524,8 @@ const FILES: &[Case] = &[
 ];
 
 const DEVICES: &[Case] = &[
-    // A valuation and a projection call the shelf twice, for the basis and for the table, the disk five times and the output once.
+    // A valuation and a projection call the shelf twice, for the basis and for the table, the disk five times and the
+    // output once.
     Case {
         words: &["value", "2021-01-01"],
         script: "",
@@ -656,7 +658,8 @@ const DEVICES: &[Case] = &[
         written: ENTRIES,
         left: ONE_RECORD,
     },
-    // A script that asks for values needs its basis before anything is posted; another one takes no notice of the shelf.
+    // A script that asks for values needs its basis before anything is posted; another one takes no notice of the
+    // shelf.
     Case {
         words: &["run"],
         script: ASKS,

@@ -1,5 +1,5 @@
-// Runs with auditors: what they report behind the transcript, and when they are called and dropped. Texts are written by hand
-// from the formats.
+// Runs with auditors: what they report behind the transcript, and when they are called and dropped. Texts are written
+// by hand from the formats.
 ghost use Rattle.std.specs.Prelude.{◌≤◌, vec_len};
 
 use crate::devices::{Finished, disk_of, run_watched};
@@ -24,8 +24,8 @@ const FIVE: &str = "1,issue,1,2020-01-01,endowment,0,3,1000.00,400.00\n\
     1,issue,4,2020-01-01,endowment,0,3,1000.00,400.00\n\
     1,issue,5,2020-01-01,endowment,0,3,1000.00,400.00\n";
 
-// A script, the limit of an auditor who counts, where there is one, the command for which another one has no memory, where
-// there is one, and what is written.
+// A script, the limit of an auditor who counts, where there is one, the command for which another one has no memory,
+// where there is one, and what is written.
 struct Audited {
     script: &'static str,
     limit: u32,
@@ -95,8 +95,8 @@ fn auditors_report_what_was_accepted(rt: HostRuntime) -> Result<(), AllocError> 
     Ok(())
 }
 
-// An auditor that counts up to a limit, and says how often it was dropped. Each time that it is told of a command it notes
-// how often the other was.
+// An auditor that counts up to a limit, and says how often it was dropped. Each time that it is told of a command it
+// notes how often the other was.
 struct Guest {
     count: CountWatcher,
     drops: Arc<AtomicU32>,
@@ -144,8 +144,8 @@ impl Watcher for Guest {
     }
 }
 
-// How often each of two auditors was dropped, and how often the second found that the first was when it was last told of a
-// command: 7 where it was told of none.
+// How often each of two auditors was dropped, and how often the second found that the first was when it was last told
+// of a command: 7 where it was told of none.
 #[derive(Drop)]
 struct Visit {
     first: Arc<AtomicU32>,
@@ -171,8 +171,8 @@ impl Visit {
     }
 }
 
-// The words and the script of a run over a file, the limit of the first of two auditors, the status, and how often the second
-// heard that the first was dropped.
+// The words and the script of a run over a file, the limit of the first of two auditors, the status, and how often
+// the second heard that the first was dropped.
 struct Dropping {
     words: &'static [&'static str],
     script: &'static str,
