@@ -16,11 +16,11 @@ from life_tools.book_totals import Text, text_in
 from life_tools.copied_folder import copy_basis
 from life_tools.export_tables import VALUATION, valuation_rows
 from life_tools.formats import Wrong, bytes_of, demand
-from life_tools.record_columns import columns_at
+from life_tools.record_columns import BadJournal, columns_at
 
 JOURNAL = "journal.life"
-# statuses of what the program can't be asked
-NOT_DONE = 2
+# the status of what the program can't be asked, and the program's own of a file that is no journal
+NOT_DONE, BAD_JOURNAL = 2, 5
 
 
 @dataclass(frozen=True)
@@ -90,7 +90,7 @@ def lay_copy(task: Task, folder: str) -> None:
             with open(os.path.join(folder, name), "wb") as file:
                 file.write(zlib.decompress(packed))
     else:
-        demand_journal(task)
+        demand_journal(task.folder)
         with open(os.path.join(folder, JOURNAL), "wb") as file:
             file.write(columns_at(os.path.join(task.folder, JOURNAL), task.at).front())
         copy_basis(task.folder, task.basis, folder)
@@ -100,9 +100,9 @@ def lay_copy(task: Task, folder: str) -> None:
         demand(sum_of(bytes_of(path)) == wanted, f"{socket.gethostname()} sees another {name} than the one asked for")
 
 
-def demand_journal(task: Task) -> None:
+def demand_journal(folder: str) -> None:
     """The program would make a journal where none is."""
-    path = os.path.join(task.folder, JOURNAL)
+    path = os.path.join(folder, JOURNAL)
     demand(os.path.isfile(path), f"there is no {path}")
 
 
@@ -199,6 +199,12 @@ def run_in(task: Task, folder: str, file: IO[bytes]) -> Outcome:
     return outcome
 
 
+def failure(name: str, why: Exception) -> Outcome:
+    if isinstance(why, BadJournal):
+        return Outcome(name, BAD_JOURNAL, why.line)
+    return Outcome(name, NOT_DONE, str(why).replace("\n", " "))
+
+
 def run_on(task: Task, folder: str) -> Outcome:
     """Runs a task in a folder; the file of its lines stays where they are kept."""
     with tempfile.NamedTemporaryFile(prefix="life-book-", delete=False) as file:
@@ -216,10 +222,10 @@ def run_once(task: Task) -> Outcome:
     """Runs a task; what can't be asked of the program is told with a status of its own."""
     try:
         if not task.is_copied:
-            demand_journal(task)
+            demand_journal(task.folder)
             return run_on(task, task.folder)
         with tempfile.TemporaryDirectory(prefix="life-books-") as desk:
             lay_copy(task, desk)
             return run_on(task, desk)
     except (Wrong, OSError, ValueError, zlib.error) as wrong:
-        return Outcome(task.name, NOT_DONE, str(wrong).replace("\n", " "))
+        return failure(task.name, wrong)

@@ -15,6 +15,14 @@ KIND, NUMBER, DAY = 1, 5, 9
 ISSUES_ALONE = bytes(code == CODES["issue"] for code in range(256))
 
 
+class BadJournal(Wrong):
+    """A file is no journal; the line is the program's answer."""
+
+    def __init__(self, path: str, line: str, why: str) -> None:
+        super().__init__(f"{path}: {line}: {why}")
+        self.line = line
+
+
 @dataclass
 class Columns:
     """The commands of a journal: how many there are, their kinds, numbers and days, and the bytes of the file."""
@@ -61,7 +69,7 @@ def columns_at(path: str, at: int | None = None) -> Columns:
         count = len(records_in(data)) // RECORD_SIZE
     except BadRecord:
         journal = read_journal(data)
-        raise Wrong(f"{path}: {journal.refused}: {journal.why}") from None
+        raise BadJournal(path, journal.refused, journal.why) from None
     if at is not None and at > count:
         raise Wrong(f"{path} has {count} commands, and not {at}")
     return Columns(data, count if at is None else at)
