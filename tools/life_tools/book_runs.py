@@ -8,7 +8,6 @@ import socket
 import subprocess
 import tempfile
 import zlib
-from array import array
 from dataclasses import dataclass, field
 from typing import IO, Iterator
 
@@ -16,7 +15,7 @@ from life_tools.book_totals import Text, text_in
 from life_tools.copied_folder import copy_basis
 from life_tools.export_tables import VALUATION, valuation_rows
 from life_tools.formats import Wrong, bytes_of, demand
-from life_tools.record_columns import BadJournal, columns_at
+from life_tools.record_columns import BadJournal, beginnings_at, columns_at
 
 JOURNAL = "journal.life"
 # the status of what the program can't be asked, and the program's own of a file that is no journal
@@ -52,13 +51,16 @@ class Task:
 
 @dataclass
 class Outcome:
-    """What became of a task: the status and the last line; and where it is well, what is added up and the policies."""
+    """What became of a task: the status and the last line; and where it is well, what is added up.
+
+    Of the policies' numbers it has the beginnings: where those of two books differ, no number stands in both.
+    """
 
     name: str
     status: int
     line: str = ""
     text: Text | None = None
-    numbers: bytes = b""
+    beginnings: frozenset[int] = frozenset()
     rows: str = ""
     part: tuple[str, str, str] | None = None
     tried: int = field(default=1)
@@ -135,15 +137,6 @@ def last_line(file: IO[bytes]) -> str:
     return lines[-1] if lines else ""
 
 
-def numbers_of(task: Task, folder: str, text: Text) -> bytes:
-    """The numbers of the book's policies as they were at the position, sorted; none of a checkpoint, which tells none."""
-    if task.words[0] == "checkpoint":
-        return b""
-    numbers: array[int] = columns_at(os.path.join(folder, JOURNAL), text.position).policies()
-    demand(len(numbers) == text.policies, f"the journal has {len(numbers)} policies, and the text {text.policies}")
-    return numbers.tobytes()
-
-
 def named(name: str, file: IO[bytes], out: IO[bytes]) -> None:
     """Writes the lines of a file with the book's name before each."""
     front = name.encode() + b","
@@ -191,7 +184,7 @@ def run_in(task: Task, folder: str, file: IO[bytes]) -> Outcome:
     if status != 0:
         return Outcome(task.name, status, last_line(file) or said.rpartition("\n")[2])
     text = text_in(task.words[0], file)
-    outcome = Outcome(task.name, 0, text=text, numbers=numbers_of(task, folder, text))
+    outcome = Outcome(task.name, 0, text=text, beginnings=beginnings_at(os.path.join(folder, JOURNAL), text.position))
     if task.parts:
         outcome.part = write_part(task, file)
     if task.are_rows_kept:
