@@ -15,12 +15,13 @@ from life_tools.formats import Wrong, demand
 from life_tools.packages import package
 
 SECONDS_TO_CONNECT = 10
-# without a word from the scheduler for so long it is given up
-SECONDS_OF_SILENCE = 20
+SECONDS_BETWEEN = 0.05
 # how many workers may die over one book
 MOST_DEATHS = 3
 MOST_LETTERS = 300
 Tell = Callable[[Outcome], None]
+# a task, or that none can be made
+Make = Callable[[], "Task | Outcome"]
 
 
 def distributed() -> ModuleType:
@@ -56,7 +57,11 @@ class Cluster:
         self.hand_tools()
 
     def workers(self) -> int:
-        info: dict[str, Any] = self.client.scheduler_info()
+        """How many books can be worked on at once."""
+        try:
+            info: dict[str, Any] = self.client.scheduler_info()
+        except (OSError, TimeoutError) as error:
+            raise Wrong(f"the scheduler at {self.address} went away: {error}") from error
         return sum(worker["nthreads"] for worker in info["workers"].values())
 
     def hand_tools(self) -> None:
@@ -73,24 +78,30 @@ class Cluster:
             # what is closed may be gone already
             del error
 
-    def run(self, makes: list[Callable[[], Task]], tell: Tell) -> list[Outcome]:
-        """Runs the tasks, which are made when their turn comes; gives what became of each that ended."""
+    def run(self, makes: list[Make], tell: Tell) -> list[Outcome]:
+        """Runs the tasks, each made when its turn comes, so that few are held at once; gives what became of each."""
         waiting, ended = list(reversed(makes)), []
         running: dict[Any, Task] = {}
-        heard = time.monotonic()
         while waiting or running:
-            while waiting and len(running) < self.workers() + 1:
-                task = waiting.pop()()
-                running[self.client.submit(run_once, task, pure=False, retries=MOST_DEATHS)] = task
-            for future in [future for future in running if future.done()]:
-                task, heard = running.pop(future), time.monotonic()
-                outcome = self.outcome_of(future, task)
-                tell(outcome)
-                ended.append(outcome)
-            if self.client.status != "running" and time.monotonic() - heard > SECONDS_OF_SILENCE:
-                raise Wrong(f"the scheduler at {self.address} went away")
-            time.sleep(0.05)
+            while waiting and len(running) <= self.workers():
+                made = waiting.pop()()
+                if isinstance(made, Outcome):
+                    tell(made)
+                    ended.append(made)
+                else:
+                    running[self.client.submit(run_once, made, pure=False, retries=MOST_DEATHS)] = made
+            for future in self.done_of(running, len(ended), len(makes)):
+                ended.append(self.outcome_of(future, running.pop(future)))
+                tell(ended[-1])
         return ended
+
+    def done_of(self, running: dict[Any, Task], ended: int, books: int) -> list[Any]:
+        """Those that have ended by now, or soon. Where the scheduler is gone, so are all that run."""
+        time.sleep(SECONDS_BETWEEN)
+        done = [future for future in running if future.done()]
+        if self.client.status in ("closed", "connecting") or any(future.cancelled() for future in done):
+            raise Wrong(f"the scheduler at {self.address} went away, after {ended} of {books} books; nothing is added up")
+        return done
 
     def outcome_of(self, future: Any, task: Task) -> Outcome:
         try:

@@ -8,7 +8,6 @@ import socket
 import subprocess
 import tempfile
 import zlib
-from array import array
 from dataclasses import dataclass, field
 from typing import IO, Iterator
 
@@ -16,11 +15,11 @@ from life_tools.book_totals import Text, text_in
 from life_tools.copied_folder import copy_basis
 from life_tools.export_tables import VALUATION, valuation_rows
 from life_tools.formats import Wrong, bytes_of, demand
-from life_tools.record_columns import columns_at
+from life_tools.record_columns import BadJournal, beginnings_at, columns_at
 
 JOURNAL = "journal.life"
-# statuses of what the program can't be asked
-NOT_DONE = 2
+# the status of what the program can't be asked, and the program's own of a file that is no journal
+NOT_DONE, BAD_JOURNAL = 2, 5
 
 
 @dataclass(frozen=True)
@@ -52,13 +51,16 @@ class Task:
 
 @dataclass
 class Outcome:
-    """What became of a task: the status and the last line; and where it is well, what is added up and the policies."""
+    """What became of a task: the status and the last line; and where it is well, what is added up.
+
+    Of the policies' numbers it has the beginnings: where those of two books differ, no number stands in both.
+    """
 
     name: str
     status: int
     line: str = ""
     text: Text | None = None
-    numbers: bytes = b""
+    beginnings: frozenset[int] = frozenset()
     rows: str = ""
     part: tuple[str, str, str] | None = None
     tried: int = field(default=1)
@@ -90,7 +92,7 @@ def lay_copy(task: Task, folder: str) -> None:
             with open(os.path.join(folder, name), "wb") as file:
                 file.write(zlib.decompress(packed))
     else:
-        demand_journal(task)
+        demand_journal(task.folder)
         with open(os.path.join(folder, JOURNAL), "wb") as file:
             file.write(columns_at(os.path.join(task.folder, JOURNAL), task.at).front())
         copy_basis(task.folder, task.basis, folder)
@@ -100,9 +102,9 @@ def lay_copy(task: Task, folder: str) -> None:
         demand(sum_of(bytes_of(path)) == wanted, f"{socket.gethostname()} sees another {name} than the one asked for")
 
 
-def demand_journal(task: Task) -> None:
+def demand_journal(folder: str) -> None:
     """The program would make a journal where none is."""
-    path = os.path.join(task.folder, JOURNAL)
+    path = os.path.join(folder, JOURNAL)
     demand(os.path.isfile(path), f"there is no {path}")
 
 
@@ -133,15 +135,6 @@ def last_line(file: IO[bytes]) -> str:
     file.seek(max(0, file.seek(0, os.SEEK_END) - 4096))
     lines = file.read().decode("ascii", "replace").splitlines()
     return lines[-1] if lines else ""
-
-
-def numbers_of(task: Task, folder: str, text: Text) -> bytes:
-    """The numbers of the book's policies as they were at the position, sorted; none of a checkpoint, which tells none."""
-    if task.words[0] == "checkpoint":
-        return b""
-    numbers: array[int] = columns_at(os.path.join(folder, JOURNAL), text.position).policies()
-    demand(len(numbers) == text.policies, f"the journal has {len(numbers)} policies, and the text {text.policies}")
-    return numbers.tobytes()
 
 
 def named(name: str, file: IO[bytes], out: IO[bytes]) -> None:
@@ -191,12 +184,18 @@ def run_in(task: Task, folder: str, file: IO[bytes]) -> Outcome:
     if status != 0:
         return Outcome(task.name, status, last_line(file) or said.rpartition("\n")[2])
     text = text_in(task.words[0], file)
-    outcome = Outcome(task.name, 0, text=text, numbers=numbers_of(task, folder, text))
+    outcome = Outcome(task.name, 0, text=text, beginnings=beginnings_at(os.path.join(folder, JOURNAL), text.position))
     if task.parts:
         outcome.part = write_part(task, file)
     if task.are_rows_kept:
         outcome.rows = file.name
     return outcome
+
+
+def failure(name: str, why: Exception) -> Outcome:
+    if isinstance(why, BadJournal):
+        return Outcome(name, BAD_JOURNAL, why.line)
+    return Outcome(name, NOT_DONE, str(why).replace("\n", " "))
 
 
 def run_on(task: Task, folder: str) -> Outcome:
@@ -216,10 +215,10 @@ def run_once(task: Task) -> Outcome:
     """Runs a task; what can't be asked of the program is told with a status of its own."""
     try:
         if not task.is_copied:
-            demand_journal(task)
+            demand_journal(task.folder)
             return run_on(task, task.folder)
         with tempfile.TemporaryDirectory(prefix="life-books-") as desk:
             lay_copy(task, desk)
             return run_on(task, desk)
     except (Wrong, OSError, ValueError, zlib.error) as wrong:
-        return Outcome(task.name, NOT_DONE, str(wrong).replace("\n", " "))
+        return failure(task.name, wrong)

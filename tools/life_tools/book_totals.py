@@ -33,45 +33,30 @@ def added(lines: Sequence[Line]) -> Line:
                               for place in range(start, len(first)))]
 
 
-def head_of(word: str, line: Line) -> tuple[Line, int, int]:
-    """Of the first line: what has to be alike in all books; the position; and the number of policies."""
+def head_of(word: str, line: Line) -> tuple[Line, int]:
+    """Of the first line: what has to be alike in all books, and the position."""
     if word == "value":
         measure = measure_of(line)
         demand(measure, f"{','.join(line)} is no first line of a valuation")
-        return [line[1], line[2], *line[5:]], int(line[3]), int(line[4])
+        return [line[1], line[2], *line[5:]], int(line[3])
     demand(line[:1] == ["project"] and len(line) == 5, f"{','.join(line)} is no first line of a projection")
-    return [line[0], line[1], line[4]], int(line[2]), int(line[3])
+    return [line[0], line[1], line[4]], int(line[2])
 
 
 @dataclass
 class Text:
-    """What of a book's text is added up: its first line, if that isn't; its head, position and policies; and the lines."""
+    """What of a book's text is added up: its first line, if that isn't; its head and position; and the lines."""
 
     first: Line | None
     head: Line
     position: int
-    policies: int
     lines: list[Line]
 
 
 # the lines of policies, of which there may be millions, begin so
 POLICY_LINES = {"value": b"row,", "state": b"policy,"}
-AT_ONCE = 1 << 20
 # all lines but those of policies take less
 MOST_BYTES = 1 << 16
-
-
-def policies_in(word: str, file: IO[bytes]) -> int:
-    """How many lines of policies a text has."""
-    begins = POLICY_LINES.get(word)
-    if begins is None:
-        return 0
-    file.seek(0)
-    found, before = 0, b"\n"
-    while piece := file.read(AT_ONCE):
-        found += (before + piece).count(b"\n" + begins)
-        before = (before + piece)[-len(begins):]
-    return found
 
 
 def other_lines(word: str, file: IO[bytes]) -> list[Line]:
@@ -87,15 +72,14 @@ def other_lines(word: str, file: IO[bytes]) -> list[Line]:
 
 def text_in(word: str, file: IO[bytes]) -> Text:
     """What a text says, which has to have ended as it should."""
-    lines, policies = other_lines(word, file), policies_in(word, file)
+    lines = other_lines(word, file)
     last = lines[-1] if lines else []
     demand(last[:1] == [LAST[word]], f"it ended with {','.join(last) or 'nothing'}")
     summed = [line for line in lines if line[0] in ADDED]
     if word in ("state", "checkpoint"):
-        return Text(None, [word], int(last[1]), policies, summed)
-    head, position, said = head_of(word, lines[0])
-    demand(word != "value" or policies == said, f"it has {policies} rows, and says {said}")
-    return Text(lines[0], head, position, said, summed)
+        return Text(None, [word], int(last[1]), summed)
+    head, position = head_of(word, lines[0])
+    return Text(lines[0], head, position, summed)
 
 
 def total_of(texts: Sequence[Text]) -> list[Line]:

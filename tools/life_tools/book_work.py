@@ -7,12 +7,12 @@ from concurrent.futures import ThreadPoolExecutor
 from dataclasses import dataclass, replace
 from typing import Callable
 
-from life_tools.book_cluster import Cluster
+from life_tools.book_cluster import Cluster, Make
 from life_tools.book_lists import ListedBook
-from life_tools.book_runs import JOURNAL, NOT_DONE, Outcome, Parts, Task, run_once, sum_of
+from life_tools.book_runs import JOURNAL, Outcome, Parts, Task, demand_journal, failure, run_once, sum_of
 from life_tools.copied_folder import basis_files
-from life_tools.formats import Wrong, bytes_of, demand, remark
-from life_tools.program import life_command, program_file
+from life_tools.formats import Wrong, bytes_of, remark
+from life_tools.program import demand_as_installed, life_command, program_file
 from life_tools.record_columns import columns_at
 
 
@@ -58,6 +58,14 @@ def task_elsewhere(asked: Asked, book: ListedBook, program: str, program_sum: st
                 tuple((name, zlib.compress(data, 1)) for name, data in files.items()) if asked.are_sent else (), asked.parts)
 
 
+def made_elsewhere(asked: Asked, book: ListedBook, program: str, program_sum: str) -> Task | Outcome:
+    try:
+        demand_journal(book.folder)
+        return task_elsewhere(asked, book, program, program_sum)
+    except Wrong as wrong:
+        return failure(book.name, wrong)
+
+
 def tell_failure(outcome: Outcome) -> None:
     if outcome.status:
         remark(f"{outcome.name}: status {outcome.status}: {outcome.line}")
@@ -75,19 +83,10 @@ def run_here(asked: Asked, books: list[ListedBook]) -> list[Outcome]:
 def run_elsewhere(asked: Asked, books: list[ListedBook], cluster: Cluster) -> list[Outcome]:
     program = program_file()
     program_sum = sum_of(bytes_of(program))
-    failed: list[Outcome] = []
 
-    def maker(book: ListedBook) -> Callable[[], Task]:
-        return lambda: task_elsewhere(asked, book, program, program_sum)
-    makes = []
-    for book in largest_first(books):
-        try:
-            demand(os.path.isfile(book.journal), f"there is no {book.journal}")
-            makes.append(maker(book))
-        except Wrong as wrong:
-            failed.append(Outcome(book.name, NOT_DONE, str(wrong)))
-            tell_failure(failed[-1])
-    return failed + cluster.run(makes, tell_failure)
+    def maker(book: ListedBook) -> Make:
+        return lambda: made_elsewhere(asked, book, program, program_sum)
+    return cluster.run([maker(book) for book in largest_first(books)], tell_failure)
 
 
 def twice(asked: Asked, books: list[ListedBook], run: Callable[[Asked, list[ListedBook]], list[Outcome]]) -> list[Outcome]:
@@ -101,6 +100,7 @@ def twice(asked: Asked, books: list[ListedBook], run: Callable[[Asked, list[List
 
 
 def work(asked: Asked, books: list[ListedBook]) -> list[Outcome]:
+    demand_as_installed()
     if asked.scheduler is None:
         return twice(asked, books, run_here)
     cluster = Cluster(asked.scheduler)

@@ -1,10 +1,13 @@
 """How the tools run `life`: the proved program, and only on copies of a journal or for answers that post nothing."""
 from __future__ import annotations
 
+import hashlib
+import json
 import os
+import pkgutil
 import sys
 
-from life_tools.formats import demand
+from life_tools.formats import bytes_of, demand
 
 
 def life_command(given: str | None = None) -> list[str]:
@@ -30,3 +33,15 @@ def program_file() -> str:
     program = os.path.join(os.path.dirname(command[-1]), "crates", "life_cli", "out", "life_cli")
     demand(os.path.isfile(program), f"there is no proved program {program}: sh life prove")
     return program
+
+
+def demand_as_installed() -> None:
+    """Installed tools know the sum of their program: another one, as a preview, isn't taken in its place."""
+    try:
+        noted = pkgutil.get_data("life_tools", "built.json")
+    except OSError:
+        return
+    program = program_file()
+    found = hashlib.sha256(bytes_of(program)).hexdigest()
+    is_that = noted is None or json.loads(noted)["sum"] == found
+    demand(is_that, f"{program} isn't the program that these tools were installed with")

@@ -1,6 +1,7 @@
 """The columns of a journal's records: of each command its kind, its policy's number and its day, without an object."""
 from __future__ import annotations
 
+import mmap
 import sys
 from array import array
 from dataclasses import dataclass
@@ -12,7 +13,14 @@ from life_tools.formats import FIRST_DAY, Wrong, bytes_of
 from life_tools.journals import FIRST_GATE, RECORD_SIZE, gate_of, read_journal
 
 KIND, NUMBER, DAY = 1, 5, 9
-ISSUES_ALONE = bytes(code == CODES["issue"] for code in range(256))
+
+
+class BadJournal(Wrong):
+    """A file is no journal; the line is the program's answer."""
+
+    def __init__(self, path: str, line: str, why: str) -> None:
+        super().__init__(f"{path}: {line}: {why}")
+        self.line = line
 
 
 @dataclass
@@ -38,7 +46,7 @@ class Columns:
 
     def policies(self) -> array[int]:
         """The numbers of the policies that were issued, sorted."""
-        issued = compress(self.whole(NUMBER, "I"), self.kinds().translate(ISSUES_ALONE))
+        issued = compress(self.whole(NUMBER, "I"), self.kinds().translate(alone(CODES["issue"])))
         return array("I", sorted(issued))
 
     def days(self) -> array[int]:
@@ -61,7 +69,22 @@ def columns_at(path: str, at: int | None = None) -> Columns:
         count = len(records_in(data)) // RECORD_SIZE
     except BadRecord:
         journal = read_journal(data)
-        raise Wrong(f"{path}: {journal.refused}: {journal.why}") from None
+        raise BadJournal(path, journal.refused, journal.why) from None
     if at is not None and at > count:
         raise Wrong(f"{path} has {count} commands, and not {at}")
     return Columns(data, count if at is None else at)
+
+
+def beginnings_at(path: str, count: int) -> frozenset[int]:
+    """The first two bytes of all numbers in the first records of a journal, in a small part of the time of the numbers."""
+    with open(path, "rb") as file, mmap.mmap(file.fileno(), 0, access=mmap.ACCESS_READ) as data:
+        first, second = (data[FIRST_GATE + NUMBER + byte:gate_of(count):RECORD_SIZE] for byte in range(2))
+    found: set[int] = set()
+    for high in set(first):
+        below = second if first.count(high) == len(first) else bytes(compress(second, first.translate(alone(high))))
+        found.update(high << 8 | low for low in set(below))
+    return frozenset(found)
+
+
+def alone(wanted: int) -> bytes:
+    return bytes(byte == wanted for byte in range(256))

@@ -22,7 +22,8 @@ import itertools
 import os
 
 import sys
-from array import array
+from collections import Counter
+from operator import itemgetter
 from typing import Iterator, Sequence
 
 from life_tools.book_lists import ALL, ListedBook, books_at, positions_at
@@ -110,34 +111,28 @@ def write_list_of_parts(asked: Asked, outcomes: list[Outcome]) -> None:
         file.writelines(f"{it.name},{','.join(it.part)}\n" for it in outcomes if it.part)
 
 
-def numbered(outcome: Outcome, place: int) -> Iterator[tuple[int, int]]:
-    numbers = array("I")
-    numbers.frombytes(outcome.numbers)
-    return ((number, place) for number in numbers)
-
-
 def overlapping(outcomes: list[Outcome]) -> list[int]:
-    """The places of the books whose numbers lie among those of another book."""
-    ranges = []
-    for place, outcome in enumerate(outcomes):
-        numbers = array("I")
-        numbers.frombytes(outcome.numbers)
-        if numbers:
-            ranges.append((numbers[0], numbers[-1], place))
-    return [place for first, last, place in ranges
-            if any(other != place and first <= end and begin <= last for begin, end, other in ranges)]
+    """The places of the books that have a number which begins like one of another book."""
+    begun = Counter(each for outcome in outcomes for each in outcome.beginnings)
+    return [place for place, outcome in enumerate(outcomes) if any(begun[each] > 1 for each in outcome.beginnings)]
 
 
-def tell_twice(outcomes: list[Outcome]) -> int:
+def numbered(book: ListedBook, outcome: Outcome, place: int) -> Iterator[tuple[int, int]]:
+    """The numbers of the policies of a book at its position, each with the book's place."""
+    assert outcome.text
+    return zip(columns_at(book.journal, outcome.text.position).policies(), itertools.repeat(place))
+
+
+def tell_twice(books: list[ListedBook], outcomes: list[Outcome]) -> int:
     """Tells the numbers that stand in two books; gives how many there are."""
-    merged = heapq.merge(*(numbered(outcomes[place], place) for place in overlapping(outcomes)))
+    merged = heapq.merge(*(numbered(books[place], outcomes[place], place) for place in overlapping(outcomes)))
     found = 0
-    for number, group in itertools.groupby(merged, key=lambda each: each[0]):
+    for number, group in itertools.groupby(merged, key=itemgetter(0)):
         places = [place for _, place in group]
         if len(places) > 1:
             found += 1
             if found <= MOST_TOLD:
-                remark(f"policy {number} stands in {', '.join(outcomes[place].name for place in places)}")
+                remark(f"policy {number} stands in {', '.join(books[place].name for place in places)}")
     if found > MOST_TOLD:
         remark(f"and {found - MOST_TOLD} more numbers stand in two books")
     return found
@@ -152,7 +147,7 @@ def run_program(options: argparse.Namespace, books: list[ListedBook]) -> int:
     sys.stdout.flush()
     write_list_of_parts(asked, outcomes)
     failed = [outcome.status for outcome in outcomes if outcome.status]
-    twice = tell_twice(outcomes)
+    twice = tell_twice(books, outcomes)
     return failed[0] if failed else 1 if twice else 0
 
 

@@ -1,0 +1,100 @@
+# The part of the check of books that runs a cluster of Dask on the loopback. Read by .ci/checks/books.sh, in the folder
+# of its three books.
+dask=/usr/bin/python3
+
+begin_cluster() {
+    export DASK_LOGGING__DISTRIBUTED=critical DASK_DISTRIBUTED__COMM__TIMEOUTS__CONNECT=10s
+    "$dask" -m distributed.cli.dask_scheduler --host 127.0.0.1 --port 0 --no-dashboard --scheduler-file where.json >scheduler.log 2>&1 &
+    scheduler=$!
+    wait_for 'test -s where.json' || { complain "no scheduler: $(tail -n 3 scheduler.log)"; return 1; }
+    address=$("$dask" -c 'import json; print(json.load(open("where.json"))["address"])')
+    begin_worker 1
+    begin_worker 2
+    wait_for "$dask -c 'import distributed, sys; sys.exit(len(distributed.Client(\"$address\").scheduler_info()[\"workers\"]) < 2)' 2>/dev/null" ||
+        complain "there are no two workers: $(tail -n 3 worker*.log)"
+}
+
+begin_worker() {
+    "$dask" -m distributed.cli.dask_worker "$address" --nthreads 1 --no-nanny --no-dashboard --local-directory "room$1" >"worker$1.log" 2>&1 &
+    eval "worker$1=$!"
+}
+
+# until a command holds, for a minute at most
+wait_for() {
+    tried=0
+    until eval "$1"; do
+        tried=$((tried + 1))
+        [ "$tried" -lt 240 ] || return 1
+        sleep 0.25
+    done
+}
+
+end_cluster() {
+    kill "$@" 2>/dev/null
+    wait "$@" 2>/dev/null
+}
+
+if ! "$dask" -c 'import distributed' 2>/dev/null; then
+    echo "books: skipped: the cluster: apt-get install python3-distributed"
+    refuses "apt-get install python3-distributed" books.csv value 2010-12-31 --scheduler tcp://127.0.0.1:1
+else
+    go_on "a cluster on the loopback"
+    refuses "there is no scheduler at tcp://127.0.0.1:1" books.csv value 2010-12-31 --scheduler tcp://127.0.0.1:1
+    # a program that takes its time, so that a worker can be killed in the midst
+    printf '#!/bin/sh\ntouch "%s/begun.$$"\nsleep 2\nexec "%s" "$@"\n' "$PWD" "$program" >slow && chmod +x slow
+    begin_cluster
+    books books.csv value 2010-12-31 --totals || complain "status $?: $(cat remarks)"
+    mv out wanted
+    books books.csv value 2010-12-31 --scheduler "$address" && cmp -s wanted out || complain "on the cluster: $(cat out remarks)"
+    books books.csv value 2010-12-31 --parts far --send --scheduler "$address" && cmp -s wanted out || complain "sent: $(cat out remarks)"
+    for book in book1 book2 book3; do cmp -s parts/$book.csv far/$book.csv || complain "another part of $book"; done
+    refuses "not on a cluster" books.csv checkpoint --scheduler "$address"
+    head -c 100 aside.life >book2/journal.life
+    ends 5 "^tried once more: book2$" books.csv value 2010-12-31 --scheduler "$address"
+    grep -q '^book2,failed,5,badjournal,badrecord,1$' out && grep -q '^all,total,.*,2,3$' out || complain "$(cat out remarks)"
+    cp aside.life book2/journal.life
+
+    go_on "a worker that is killed in the midst"
+    LIFE_PROGRAM=$PWD/slow
+    rm -f begun.*
+    timeout 120 python3 "$tools/life-tools" books books.csv value 2010-12-31 --scheduler "$address" >out 2>remarks &
+    run=$!
+    wait_for 'ls begun.* >/dev/null 2>&1' || complain "nothing was begun"
+    kill -9 "$worker1"
+    wait "$run" && cmp -s wanted out || complain "with one worker less: $(cat out remarks)"
+
+    go_on "a scheduler that goes away"
+    rm -f begun.*
+    timeout 120 python3 "$tools/life-tools" books books.csv value 2010-12-31 --scheduler "$address" >out 2>remarks &
+    run=$!
+    wait_for 'ls begun.* >/dev/null 2>&1' || complain "nothing was begun"
+    end_cluster "$scheduler"
+    wait "$run"
+    status=$?
+    [ "$status" = 2 ] && [ ! -s out ] && grep -q "^life-tools books: the scheduler at $address went away" remarks ||
+        complain "status $status: $(cat out remarks)"
+    end_cluster "$worker1" "$worker2"
+    LIFE_PROGRAM=$program
+
+    go_on "a worker that has another program, or sees another book"
+    "$dask" - "$tools" "$program" <<'PY' >out 2>&1 || complain "$(cat out)"
+import os
+import sys
+sys.path.insert(0, sys.argv[1])
+from life_tools.book_runs import Task, run_once, sum_of
+from life_tools.formats import bytes_of
+program, folder = sys.argv[2], os.path.abspath("book1")
+words = ("value", "2010-12-31")
+right = sum_of(bytes_of(program))
+sums = tuple((name, sum_of(bytes_of(f"book1/{name}"))) for name in ("journal.life", "basis.csv", "g.xml"))
+assert run_once(Task("book1", folder, "basis.csv", words, (program,), None, True, right, sums)).status == 0
+other = run_once(Task("book1", folder, "basis.csv", words, (program,), None, True, "0" * 64, sums))
+assert other.status == 2 and "has no program of the sum 0000000000000000" in other.line, other
+for name in ("journal.life", "basis.csv", "g.xml"):
+    changed = tuple((each, "0" * 64 if each == name else told) for each, told in sums)
+    outcome = run_once(Task("book1", folder, "basis.csv", words, (program,), None, True, right, changed))
+    assert outcome.status == 2 and f"sees another {name} than the one asked for" in outcome.line, outcome
+gone = run_once(Task("book9", os.path.abspath("book9"), "basis.csv", words, (program,), None, True, right, sums))
+assert gone.status == 2 and "there is no" in gone.line, gone
+PY
+fi

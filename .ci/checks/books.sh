@@ -1,0 +1,200 @@
+#!/bin/sh
+# `books`: many books valued, projected and added up, beside runs of each; what fails is told; and a cluster of Dask on the
+# loopback, with a worker that dies and a scheduler that goes away, prints what this machine prints, byte for byte.
+. "$(dirname "$0")/../common.sh"
+
+LIFE_PROGRAM=$program
+export LIFE_PROGRAM
+
+books() {
+    timeout 120 python3 "$tools/life-tools" books "$@" >out 2>remarks
+}
+
+# the status of books and these words on standard error; what it printed is `wanted`, where that is given
+ends() {
+    wanted_status=$1 words=$2
+    shift 2
+    books "$@"
+    status=$?
+    [ "$status" = "$wanted_status" ] && grep -q -e "$words" remarks ||
+        complain "books $*: status $status, wanted $wanted_status: $(head -n 3 out) $(cat remarks)"
+}
+
+# the same, and nothing is printed
+refuses() {
+    ends 2 "$@"
+    [ ! -s out ] && [ "$(wc -l <remarks)" -le 2 ] || complain "books: it printed $(cat out remarks)"
+}
+
+begin "three books"
+python3 "$examples/many_books.py" . 3 120 || complain "no books can be drawn"
+each() {
+    for book in book1 book2 book3; do
+        (cd $book && "$life" "$@" </dev/null) | sed "s/^/$book,/"
+    done
+}
+# the totals added by another program, in whole cents
+added() {
+    awk -F, '$2 == "total" { gsub("[.]", ""); for (n = 3; n < NF; n++) sum[n] += $n; words += $NF; fields = NF }
+        END { printf "all,total"; for (n = 3; n < fields; n++) printf ",%d.%02d", sum[n] / 100, sum[n] % 100; print "," words ",3,3" }' each
+}
+for words in "value 2010-12-31" "value 2010-12-31 --mean" "value 2010-12-31 --deficiency --workers 2"; do
+    # shellcheck disable=SC2086
+    each $words >each
+    added | cat each - >wanted
+    # shellcheck disable=SC2086
+    books books.csv $words && cmp -s wanted out || complain "books.csv $words: $(diff wanted out | head -n 3) $(cat remarks)"
+done
+books books.csv value 2010-12-31 --deficiency --totals && grep -v ,row, wanted | cmp -s - out || complain "other totals: $(cat out)"
+each project 2010-12-31 2 >each
+books books.csv project 2010-12-31 2 || complain "status $?: $(cat remarks)"
+grep -v ^all, out | cmp -s each - || complain "other lines of projections"
+awk -F, '$2 == "year" { gsub("[.]", ""); for (n = 4; n <= 9; n++) sum[$3, n] += $n } $2 == "unvalued" { words += $3 }
+    END { for (y = 0; y < 2; y++) { printf "all,year,%d", y; for (n = 4; n <= 9; n++) printf ",%d.%02d", sum[y, n] / 100, sum[y, n] % 100; print "" }
+        print "all,unvalued," words ",3,3" }' each >wanted
+grep ^all, out | cmp -s wanted - || complain "the projections add up to $(grep ^all, out)"
+each state >each
+books books.csv state || complain "status $?: $(cat remarks)"
+grep -v ^all, out | cmp -s each - || complain "other lines of states"
+grep -q '^all,count,720,3,3$' out || complain "the states add up to $(grep ^all, out)"
+books books.csv checkpoint || complain "status $?: $(cat remarks)"
+printf 'book%d,checkpoint,240\n' 1 2 3 >wanted
+echo all,checkpoint,720,3,3 >>wanted
+cmp -s wanted out || complain "checkpoints: $(cat out)"
+
+go_on "positions of a day, and the books there"
+books books.csv position-on 2004-06-30 || complain "status $?: $(cat remarks)"
+for book in book1 book2 book3; do
+    echo "$book,$(python3 "$tools/life-tools" position-on 2004-06-30 $book/journal.life 2>remarks)"
+done >wanted
+cmp -s wanted out || complain "the positions are $(cat out)"
+printf 'book1,10\nbook2,0\nbook3,240\n' >positions.csv
+{
+    (cd book1 && "$life" value 2010-12-31 --at 10 </dev/null | sed s/^/book1,/)
+    (cd book2 && "$life" value 2010-12-31 --at 0 </dev/null | sed s/^/book2,/)
+    (cd book3 && "$life" value 2010-12-31 </dev/null | sed s/^/book3,/)
+} >wanted
+books books.csv value 2010-12-31 --at positions.csv || complain "status $?: $(cat remarks)"
+grep -v ^all, out | cmp -s wanted - || complain "other lines at the positions"
+books books.csv state --at positions.csv && grep -q '^all,count,250,3,3$' out || complain "states at the positions: $(cat out remarks)"
+# 240 commands of ten years, by the last of them
+books headroom books.csv || complain "status $?: $(cat remarks)"
+grep -q '^book1,240,3999760,[1-9][0-9]*,after 2199-12-31$' out || complain "headroom: $(cat out)"
+mkdir busy && { head -c 17 book1/journal.life && for n in 1 2 3 4; do head -c 82 book1/journal.life | tail -c 65; done && printf '\0'; } >busy/journal.life
+echo busy,busy,basis.csv >busy.csv
+books headroom busy.csv && grep -q '^busy,4,3999996,4,' out || complain "headroom of a busy book: $(cat out remarks)"
+
+go_on "parts"
+books books.csv value 2010-12-31 --parts parts || complain "status $?: $(cat remarks)"
+each value 2010-12-31 >each
+cat parts/book1.csv parts/book2.csv parts/book3.csv | cmp -s each - || complain "other lines in the parts"
+(cd parts && cut -d , -f 3,4 parts.csv | sed 's/^\(.*\),\(.*\)$/\2  \1/' | sha256sum -c --status) || complain "other sums of the parts"
+books books.csv value 2010-12-31 --parts tables --sqlite || complain "status $?: $(cat remarks)"
+for book in book1 book2 book3; do
+    sqlite3 tables/$book.db "select book || ',' || sum(lower_cents) || ',' || sum(upper_cents) from valuation group by book"
+done >found
+awk -F, '$2 == "total" { gsub("[.]", ""); print $1 "," $3 + 0 "," $4 + 0 }' each | cmp -s - found || complain "the tables add up to $(cat found)"
+
+go_on "books that fail, each tried once more, and never left out"
+fails() {
+    wanted_status=$1 line=$2 word=$3
+    ends "$wanted_status" "^tried once more: book2$" books.csv "${word:-value}" 2010-12-31 --totals
+    grep -q "^book2,failed,$wanted_status,$line" out && grep -q '^all,total,.*,2,3$' out && [ "$(grep -c '^book2: status' remarks)" = 2 ] ||
+        complain "books: it printed $(cat out remarks)"
+}
+mv book2/journal.life aside.life
+fails 2 "there is no .*book2/journal.life"
+[ ! -e book2/journal.life ] || complain "a journal was made"
+head -c 100 aside.life >book2/journal.life
+fails 5 "badjournal,badrecord,1"
+cp aside.life book2/journal.life
+mv book2/g.xml aside.xml
+fails 4 "badbasis,g.xml,1,absent"
+mv aside.xml book2/g.xml
+python3 -c 'import fcntl, time
+file = open("book2/journal.life")
+fcntl.flock(file, fcntl.LOCK_EX)
+print("held", flush=True)
+time.sleep(60)' >held &
+holder=$!
+until grep -q held held 2>/dev/null; do sleep 0.05; done
+fails 8 diskfault
+kill "$holder"
+wait "$holder" 2>/dev/null
+# one that is well when it's tried once more
+printf '#!/bin/sh\n[ -e tried ] || { touch tried; echo diskfault; exit 8; }\nexec "%s" "$@"\n' "$program" >flaky && chmod +x flaky
+LIFE_PROGRAM=$PWD/flaky
+ends 0 "^tried once more: book1, book2, book3$" books.csv value 2010-12-31
+added | cat each - | cmp -s - out || complain "books that were tried once more have other lines"
+# programs that print what the program never does
+printf '#!/bin/sh\necho 0,value,2010-12-31,0,0\n' >cut && chmod +x cut
+LIFE_PROGRAM=$PWD/cut
+ends 2 "it ended with 0,value,2010-12-31,0,0" books.csv value 2010-12-31
+printf 'book1,failed,2,%s\nbook2,failed,2,%s\nbook3,failed,2,%s\nall,nothing,0,3\n' $(yes "it_ended_with_0,value,2010-12-31,0,0" | head -n 3) | tr _ ' ' | cmp -s - out || complain "$(cat out)"
+LIFE_PROGRAM=$PWD/nowhere
+refuses "nowhere is no program" books.csv value 2010-12-31
+
+go_on "a total beyond 64 bits"
+mkdir new1 new2 && cp "$empty" new1/journal.life && cp "$empty" new2/journal.life
+printf 'new1,new1,basis.csv\nnew2,new2,basis.csv\n' >new.csv
+printf '#!/bin/sh\nprintf "0,value,2010-12-31,0,0\\ntotal,184467440737095516.15,184467440737095516.15,0\\n"\n' >rich && chmod +x rich
+LIFE_PROGRAM=$PWD/rich
+books new.csv value 2010-12-31 && grep -qx 'all,total,368934881474191032.30,368934881474191032.30,0,2,2' out || complain "$(cat out remarks)"
+LIFE_PROGRAM=$program
+
+go_on "a number in two books"
+mkdir copy && cp book1/* copy
+{ cat books.csv && echo copy,copy,basis.csv; } >twice.csv
+ends 1 "^policy 1 stands in book1, copy$" twice.csv value 2010-12-31 --totals
+grep -q "^and 110 more numbers stand in two books$" remarks && grep -q '^all,total,.*,4,4$' out || complain "$(cat out remarks)"
+
+go_on "another program than the one installed"
+mkdir installed && cp -r "$tools/life_tools" "$tools/life-tools" installed && cp "$program" installed/life
+printf '{"sum": "%s"}\n' "$(sha256sum <"$program" | cut -d ' ' -f 1)" >installed/life_tools/built.json
+(unset LIFE_PROGRAM; python3 installed/life-tools books books.csv value 2010-12-31 --totals) >out 2>remarks || complain "$(cat remarks)"
+echo >>installed/life
+(unset LIFE_PROGRAM; python3 installed/life-tools books books.csv value 2010-12-31) >out 2>remarks
+[ $? = 2 ] && grep -q "installed/life isn't the program that these tools were installed with" remarks || complain "$(cat remarks)"
+
+go_on "wrong input"
+refuses "No such file" nowhere.csv state
+refuses "is no name of a book\|it has a name, a folder" "$empty" state
+refuses "nothing has no book" "$nothing" state
+lists() {
+    words=$1
+    shift
+    printf "$@" >list.csv
+    refuses "list.csv, line $words" list.csv state
+}
+lists "1: it has a name, a folder and a basis file" 'book1,book1\n'
+lists "2: the name book1 stands twice" 'book1,book1,basis.csv\nbook1,book2,basis.csv\n'
+lists "2: other is the folder of book1" 'book1,book1,basis.csv\nother,book2/../book1,basis.csv\n'
+ln book1/journal.life linked.life && mkdir linked && mv linked.life linked/journal.life
+lists "2: other has the journal of book1" 'book1,book1,basis.csv\nother,linked,basis.csv\n'
+lists "1: all is no name of a book" 'all,book1,basis.csv\n'
+lists "1: a b is no name of a book" 'a b,book1,basis.csv\n'
+lists "1: ../basis.csv is no name of a basis file" 'a,book1,../basis.csv\n'
+refuses "run is none of value, project" books.csv run
+refuses "value takes 1 words" books.csv value
+refuses "2021-02-29 is no day" books.csv value 2021-02-29
+refuses "1 to 131 years are wanted" books.csv project 2020-01-01 132
+refuses "of --mean and --deficiency one stands" books.csv value 2020-01-01 --mean --deficiency
+refuses "belongs to value" books.csv state --mean
+refuses "1 to 64 are wanted" books.csv value 2020-01-01 --workers 65
+refuses "1 to 64 are wanted" books.csv value 2020-01-01 --processes 0
+printf 'book1,10\nbook2,0\n' >positions.csv
+refuses "has no position of book3" books.csv value 2010-12-31 --at positions.csv
+printf 'book1,10\nbook2,0\nbook3,1\nbook4,2\n' >positions.csv
+refuses "has a position of book4" books.csv value 2010-12-31 --at positions.csv
+printf 'book1,10\nbook2,x\nbook3,1\n' >positions.csv
+refuses "line 2: book2,x is no name with a position" books.csv value 2010-12-31 --at positions.csv
+printf 'book1,10\nbook2,0\nbook3,241\n' >positions.csv
+ends 10 "book3: status 10: refused,ahead,240" books.csv value 2010-12-31 --at positions.csv
+head -c 100 book1/journal.life >linked/journal.life.cut && mkdir cut-book && mv linked/journal.life.cut cut-book/journal.life
+echo cut,cut-book,basis.csv >cut.csv
+refuses "badjournal,badrecord,1" cut.csv position-on 2010-12-31
+refuses "badjournal,badrecord,1" headroom cut.csv
+
+. "$root/.ci/books/cluster.sh"
+
+end "many books add up as each of them says, here and on a cluster, and what fails is told"
