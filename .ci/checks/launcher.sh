@@ -32,14 +32,28 @@ says_alone() {
     leaves_none
 }
 
-# what a signal at a moment leaves of these words: the status 130, and a line
+# until this holds, for a minute at most
+await() {
+    tries=0
+    until eval "$1" || [ "$tries" -ge 600 ]; do
+        sleep 0.1
+        tries=$((tries + 1))
+    done
+}
+
+# what a signal leaves of these words, once this holds: the status 130, and a line
 is_stopped() {
-    seconds=$1 line=$2
+    moment=$1 line=$2
     shift 2
-    timeout -s INT "$seconds" sh "$launcher" "$@" </dev/null >out 2>notes
+    rm -f "$work/noted"
+    # what runs in the background doesn't hear of it otherwise
+    env --default-signal=INT sh "$launcher" "$@" </dev/null >out 2>notes &
+    stopped=$!
+    await "$moment"
+    kill -INT "$stopped"
+    wait "$stopped"
     status=$?
-    # timeout answers for the launcher
-    [ "$status" = 124 ] || complain "$*: status $status, not stopped: $(cat out notes)"
+    [ "$status" = 130 ] || complain "$*: status $status, not stopped: $(cat out notes)"
     notes_are "$line"
 }
 
@@ -207,30 +221,42 @@ touch "$built"
 
 begin "waiting"
 "$life" run <"$first.csv" >transcript
-flock journal.life sleep 2 &
-sleep 0.3
+# somebody has the book, until he is sent away
+hold() {
+    flock -o journal.life sleep 600 &
+    holder=$!
+    await '! flock -n -s journal.life true'
+}
+hold
 launch --wait 0 state </dev/null
 echo diskfault >wanted
 judge "$status" 8 wanted
 notes_are "still journal.life is held by process [0-9]*, flock"
 # the script is a pipe, which is read once
-echo 1,issue,7501,2020-01-01,endowment,0,3,1000.00,400.00 | sh "$launcher" --wait 30 run >out 2>notes
+echo 1,issue,7501,2020-01-01,endowment,0,3,1000.00,400.00 | sh "$launcher" --wait 600 run >out 2>notes &
+waiter=$!
+await 'grep -q "waiting: journal.life is held by process [0-9]*, flock" notes'
+kill "$holder"
+wait "$waiter"
 [ $? = 0 ] && grep -q '^1,issue,7501,accepted,5$' out || complain "it doesn't wait: $(cat out notes)"
-notes_are "waiting: journal.life is held by process [0-9]*, flock"
 launch --wait 30 state </dev/null
 [ "$status" = 0 ] && [ ! -s notes ] || complain "a free book isn't had at once: $(cat notes)"
 # of many that wait none is refused
-flock journal.life sleep 1 &
-sleep 0.3
+hold
+waiters=
 for n in 1 2 3 4 5 6; do
-    echo "1,issue,76$n,2020-01-01,endowment,0,3,1000.00,400.00" | sh "$launcher" --wait 60 run >"out.$n" 2>"notes.$n" &
+    echo "1,issue,76$n,2020-01-01,endowment,0,3,1000.00,400.00" | sh "$launcher" --wait 600 run >"out.$n" 2>"notes.$n" &
+    waiters="$waiters $!"
 done
-wait
+await '[ "$(cat notes.? | grep -c "is held by")" -ge 6 ]'
+kill "$holder"
+# shellcheck disable=SC2086
+wait $waiters
 [ "$(cat out.? | grep -c ,accepted,)" = 6 ] || complain "of six that wait some aren't answered: $(cat out.? notes.?)"
-flock journal.life sleep 3 &
-sleep 0.3
-is_stopped 1 "stopped waiting, and nothing was run" --wait 30 run
-wait
+hold
+is_stopped 'grep -q "is held" notes' "stopped waiting, and nothing was run" --wait 600 run
+kill "$holder"
+await 'flock -n -s journal.life true'
 rm journal.life
 launch --wait 0 generate 1 1 1 </dev/null
 [ "$status" = 0 ] || complain "what needs no book waits: $(cat notes)"
@@ -314,10 +340,10 @@ done
 notes_are "HOME isn't set"
 # stopped before anything is in its place
 mkdir slow
-printf '#!/bin/sh\nsleep 5\n' >slow/sync
+printf '#!/bin/sh\n: >"%s"\nsleep 2\n' "$work/noted" >slow/sync
 chmod +x slow/sync
 PATH=$PWD/slow:$PATH
-is_stopped 2 "stopped; nothing was installed" install "$work/stopped/bin"
+is_stopped '[ -e "$work/noted" ]' "stopped; nothing was installed" install "$work/stopped/bin"
 PATH=${PATH#*:}
 [ -z "$(ls -A "$work/stopped/bin")" ] || complain "it leaves $(ls -A "$work/stopped/bin")"
 
@@ -329,7 +355,7 @@ cat >kit/rt <<'KIT'
 case $STAND_IN-$1 in
     stopped-all) sleep 60 & echo $! >"$NOTED"; wait ;;
     unproved-all) echo "== policy_types"; echo "policy_types: failed (1)"; exit 1 ;;
-    slow-try) sleep 30 & wait ;;
+    slow-try) sleep 60 & echo $! >"$NOTED"; wait ;;
     tests-try) echo "tests: 2"; echo "test one ... ok"; case $PWD in
         */base_tests) echo "test two ... FAILED"; echo "test result: FAILED. 1 passed; 1 failed; 0 ignored;"; exit 1 ;;
         */lane_tests) echo "it doesn't compile"; exit 1 ;;
@@ -369,19 +395,26 @@ until [ -s "$work/noted" ]; do sleep 0.1; done
 kill "$stopped"
 wait "$stopped"
 [ $? = 130 ] || complain "it isn't stopped: $(cat notes)"
-sleep 0.2
 # one that has ended may still be waiting to be taken note of
-ps -o stat= -p "$(cat "$work/noted")" | grep -qv '^Z' && complain "the kit goes on after the launcher was stopped"
+has_ended() {
+    ! ps -o stat= -p "$(cat "$work/noted")" | grep -qv '^Z'
+}
+await has_ended
+has_ended || complain "the kit goes on after the launcher was stopped"
 answers old "a proof that was stopped"
 
 begin "stopped while a preview is built, and while tests run"
 PATH=$work/proving/kit:$PATH
 touch "$main"
-export STAND_IN=slow
-is_stopped 2 "stopped; no preview was built" try run
+export STAND_IN=slow NOTED="$work/noted"
+is_stopped '[ -s "$work/noted" ]' "stopped; no preview was built" try run
+await has_ended
+has_ended || complain "the kit goes on"
 ls "$copy/out/preview" | grep -q '^build\.' && complain "it leaves a folder"
 touch "$copy/out/preview/life_preview"
-is_stopped 2 "stopped; nothing was proved" test
+is_stopped '[ -s "$work/noted" ]' "stopped; nothing was proved" test
+await has_ended
+has_ended || complain "the kit goes on"
 
 begin "tests"
 export STAND_IN=tests
@@ -407,7 +440,7 @@ PATH=${PATH#*:}
 begin "on a terminal"
 touch "$built"
 "$life" run <"$first.csv" >transcript
-"$life" generate 1 10000 8 </dev/null >script || complain "no script"
-timeout 300 python3 "$root/.ci/launcher/on_a_terminal.py" "$launcher" script || complain "on a terminal"
+"$life" generate 1 "${LIFE_PROGRAM:+1}000" 8 </dev/null >script || complain "no script"
+timeout 600 python3 "$root/.ci/launcher/on_a_terminal.py" "$launcher" script || complain "on a terminal"
 
 end "only a current proof is run, previews touch no book, who waits gets it, and an installation is whole or isn't made"

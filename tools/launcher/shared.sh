@@ -63,5 +63,9 @@ in_a_group() {
 
 # what a signal does to the command in its group: it ends, and so does the launcher, which says what is left
 ends_by_signal() {
-    trap 'kill -- -"$worker" 2>/dev/null; '"$1"'; tell_no_more; echo "life: stopped; '"$2"'" >&2; exit 130' INT TERM HUP
+    # a group that isn't there yet is the process alone
+    trap 'kill -- -"$worker" 2>/dev/null || kill "$worker" 2>/dev/null; '"$1"'
+        tell_no_more
+        echo "life: stopped; '"$2"'" >&2
+        exit 130' INT TERM HUP
 }
