@@ -224,14 +224,14 @@ line 6 of one-order.csv: 1,claim,99,2025-03-01
 line 7 of one-order.csv: 4,issue,21,2035-01-01,term,30,10,1000.00,10.00
   the day is behind today, which is 2025-03-01
 LINES
-finds "^7 rows were looked at, and 5 are told" check one-order.csv --today 2025-03-01 --life "$life"
+finds "^rows: 7, told: 5;" check one-order.csv --today 2025-03-01 --life "$life"
 prints wanted
-finds "^9 rows were looked at, and 6 are told" check day.csv --today 2025-03-01 --life "$life"
+finds "^rows: 9, told: 6;" check day.csv --today 2025-03-01 --life "$life"
 echo 5,settle,15,2024-04-20,40000.00 >right.csv
 says check right.csv --life "$life"
 prints "$nothing"
 echo 5,settle,15,2025-05-04,40000.01 >wrong.csv
-finds "^1 rows were looked at, and 1 are told" check wrong.csv --today 2025-05-04 --life "$life"
+finds "^rows: 1, told: 1;" check wrong.csv --today 2025-05-04 --life "$life"
 cat >wanted <<'LINES'
 line 1 of wrong.csv: 5,settle,15,2025-05-04,40000.01
   the day is 401 days behind the policy's newest posting, which is of 2024-03-29

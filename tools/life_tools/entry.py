@@ -2,6 +2,7 @@
 from __future__ import annotations
 
 import argparse
+import gc
 import importlib
 import os
 import sys
@@ -53,6 +54,8 @@ def main(words: Sequence[str] | None = None) -> int:
     """Runs an entry: 0 all is well, 1 something was found wrong, 2 it could not be done."""
     given = list(sys.argv[1:] if words is None else words)
     options = parser_of(given[:1]).parse_args(given)
+    # millions of rows make no cycles, and looking for some among them takes as long as making them
+    gc.disable()
     try:
         status: int = options.run(options)
         sys.stdout.flush()

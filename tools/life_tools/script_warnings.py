@@ -50,7 +50,7 @@ def is_near(desk: Desk, line: Line, command: Command, policy: Policy | None) -> 
         return
     if command.day > desk.today:
         yield f"the day is behind today, which is {desk.today}"
-    if policy is not None and abs(command.day - policy.last) > FAR:
+    if policy is not None and command.kind != "issue" and abs(command.day - policy.last) > FAR:
         days = abs((command.day - policy.last).days)
         where = "behind" if command.day > policy.last else "before"
         yield f"the day is {days} days {where} the policy's newest posting, which is of {policy.last}"

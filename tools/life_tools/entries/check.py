@@ -10,6 +10,7 @@ from __future__ import annotations
 
 import argparse
 import datetime
+import sys
 
 from life_tools.copied_folder import dry_run, journal_bytes
 from life_tools.formats import Wrong, day_in, demand, number_of, remark
@@ -57,6 +58,7 @@ def run(options: argparse.Namespace) -> int:
         if told.get(line.row.number):
             print(f"line {line.row.line} of {options.script}: {line.row.text}")
             print("".join(f"  {text}\n" for text in told[line.row.number]), end="")
+    sys.stdout.flush()
     rows = sum(bool(texts) for texts in told.values())
-    remark(f"{len(lines)} rows were looked at, and {rows} are told; nothing is posted")
+    remark(f"rows: {len(lines)}, told: {rows}; nothing is posted")
     return 1 if rows else 0
