@@ -128,7 +128,7 @@ PY
 begin_with_examples "wrong input"
 "$life" run <"$examples/small-office.csv" >transcript
 refuses 2 'is no day' report 2022-13-31 --csv written
-refuses 2 'there is no position 28' report 2022-12-31 --at 28 --csv written
+refuses 2 '28 is no position' report 2022-12-31 --at 28 --csv written
 refuses 2 'colour is none of' report 2022-12-31 --by colour --csv written
 refuses 2 'No such file' report 2022-12-31 --folder nowhere --csv written
 refuses 2 'is no position' movement 2022-12-31 x 2024-06-30 27 --policies written
@@ -136,8 +136,8 @@ refuses 2 'is before the opening one' movement 2022-12-31 11 2024-06-30 3 --poli
 refuses 2 'there is no policy 99' why 99 2022-12-31
 refuses 2 'badbasis,none.csv,0,absent' why 14 2022-12-31 --basis none.csv
 head -c 100 journal.life >cut && mv cut journal.life
-refuses 2 'record 1 is cut short' report 2022-12-31 --csv written
-refuses 2 'record 1 is cut short' movement 2022-12-31 1 2024-06-30 1 --policies written
+refuses 2 'record 1: it is cut short' report 2022-12-31 --csv written
+refuses 2 'record 1: it is cut short' movement 2022-12-31 1 2024-06-30 1 --policies written
 head -c 64 /dev/zero >journal.life
-refuses 2 'is no journal' why 14 2022-12-31
+refuses 2 'notajournal' why 14 2022-12-31
 end "reports add up, movements of 100 drawn pairs too, rows are worked out, wrong input is refused"

@@ -71,11 +71,17 @@ def records_in(data: bytes) -> int | Journal:
     return count
 
 
-def front_of(data: bytes, position: int, path: str) -> bytes:
-    """The journal of the first so many records of a file's bytes, which has to have them; they aren't judged here."""
+def count_of(data: bytes, path: str) -> int:
+    """How many records stand in a file's bytes, which must be a journal; what they spell isn't judged here."""
     count = 0 if is_unfinished_creation(data) else records_in(data)
     if isinstance(count, Journal):
         raise Wrong(f"{path}: {count.refused}: {count.why}")
+    return count
+
+
+def front_of(data: bytes, position: int, path: str) -> bytes:
+    """The journal of the first so many records of a file's bytes, which has to have them."""
+    count = count_of(data, path)
     if position > count:
         raise Wrong(f"{position} is no position of {path}, which has {count} commands")
     return data[:gate_of(position)] + bytes(1) if position else EMPTY
