@@ -19,6 +19,7 @@ complains() {
     python3 "$tools/life-tools" "$@" >out 2>remarks
     status=$?
     [ "$status" = "$wanted_status" ] && grep -q -e "$words" remarks || complain "$*: status $status: $(cat out remarks)"
+    grep -q Traceback remarks && complain "$*: $(cat remarks)"
 }
 
 # one that finds something wrong, and one that can't be done
@@ -56,6 +57,22 @@ grep '^[0-9]*,[a-z]*,14,' out | cmp -s - wanted || complain "read lists other re
 head -c 100 journal.life >cut.life
 refuses "record 1: it is cut short" read cut.life
 refuses "No such file" read nowhere.life
+
+go_on "what is printed of the book as it was"
+for position in 0 1 11 26 27; do
+    # the same postings alone, and the valuation that the program gives of the position
+    python3 "$tools/life-tools" read journal.life | sed -n "s/^[0-9][0-9]*,/1,/p" | head -n "$position" >front.csv
+    mkdir "front-$position" && (cd "front-$position" && "$life" run <../front.csv >transcript && "$life" state >state)
+    says at "$position" state
+    prints "front-$position/state"
+    "$life" value 2024-03-12 --at "$position" --mean </dev/null >wanted
+    says at "$position" value 2024-03-12 --mean
+    prints wanted
+done
+says at 11 state 14
+[ "$(grep ^entry, out | tail -n 1)" = entry,9,premium,2023-01-20,1200.00 ] || complain "policy 14 at 11: $(cat out)"
+says at 11 project 2022-12-31 3
+[ "$(head -n 1 out)" = project,2022-12-31,11,4,3 ] || complain "the projection at 11: $(cat out)"
 
 go_on "exports"
 says export csv journal.life
@@ -171,6 +188,59 @@ sed 's/refused,taken/refused,unknown/' transcript >wrong
 finds "and the rules say" check-transcript small-office.csv wrong /dev/null journal.life basis.csv
 finds "record 1 of the journal is issue,1" check-transcript small-office.csv transcript /dev/null late/journal.life basis.csv
 
+go_on "a script before it is sent"
+cp journal.life before
+cat >day.csv <<'ROWS'
+1,premium,12,2025-02-28,310.00
+1,premium,12,2025-02-27,311.00
+2,settle,11,2022-05-01,50000.00
+
+3,settle,13,2024-03-28,5000.00
+1,claim,99,2025-03-01
+4,issue,21,2035-01-01,term,30,10,1000.00,10.00
+5,settle,15,2024-04-20,40000.00
+6,settle,15,2024-04-20,50000.00
+1,value,2025-02-28,now,1
+ROWS
+# by hand: 15 has 40000.00 outstanding, 13's settlement of this day is command 25, and 11's newest one is of 2024-03-10,
+# 679 days behind 2022-05-01; clerks 5 and 6 may come in either order, and the row of 6 is refused in each
+grep -v '^[56],' day.csv >one-order.csv
+cat >wanted <<'LINES'
+line 2 of one-order.csv: 1,premium,12,2025-02-27,311.00
+  the day is before that of the lane's posting above, which is 2025-02-28
+  the policy's premium is 310.00
+  it is refused: beforelast,2025-02-28
+line 3 of one-order.csv: 2,settle,11,2022-05-01,50000.00
+  the day is 679 days before the policy's newest posting, which is of 2024-03-10
+  0.00 is outstanding
+  it is refused: beforelast,2024-03-10
+line 5 of one-order.csv: 3,settle,13,2024-03-28,5000.00
+  an accepted posting equals it, of position 25
+  0.00 is outstanding
+  it is refused: wrongstatus,settled
+line 6 of one-order.csv: 1,claim,99,2025-03-01
+  policy 99 is unknown
+  it is refused: unknown
+line 7 of one-order.csv: 4,issue,21,2035-01-01,term,30,10,1000.00,10.00
+  the day is behind today, which is 2025-03-01
+LINES
+finds "^rows: 7, told: 5;" check one-order.csv --today 2025-03-01 --life "$life"
+prints wanted
+finds "^rows: 9, told: 6;" check day.csv --today 2025-03-01 --life "$life"
+echo 5,settle,15,2024-04-20,40000.00 >right.csv
+says check right.csv --life "$life"
+prints "$nothing"
+echo 5,settle,15,2025-05-04,40000.01 >wrong.csv
+finds "^rows: 1, told: 1;" check wrong.csv --today 2025-05-04 --life "$life"
+cat >wanted <<'LINES'
+line 1 of wrong.csv: 5,settle,15,2025-05-04,40000.01
+  the day is 401 days behind the policy's newest posting, which is of 2024-03-29
+  40000.00 is outstanding
+  it is refused: oversettled,40000.00
+LINES
+prints wanted
+leaves before
+
 go_on "dry runs"
 cp journal.life before
 printf '1,premium,12,2025-02-28,310.00\n1,value,2025-02-28,now,1\n' >next.csv
@@ -268,6 +338,96 @@ for picture in projection reserve; do
     cmp -s "pictures/$picture.svg" "$examples/$picture.svg" || complain "the shipped $picture.svg isn't what pictures.sh draws"
 done
 
+# an entry that can't be done, in the folder desk: it says so, and writes no file there
+undone() {
+    words=$1
+    shift
+    (cd desk && python3 "$tools/life-tools" "$@" >../out 2>../remarks)
+    status=$?
+    [ "$status" = 2 ] && grep -q -e "$words" remarks || complain "$*: status $status: $(cat out remarks)"
+    grep -q Traceback remarks && complain "$*: $(cat remarks)"
+    (cd desk && cksum -- * */*) >found
+    cmp -s found kept || complain "$* changed a file"
+}
+
+go_on "wrong input"
+mkdir -p desk/cut && cp journal.life basis.csv g.xml q.xml small-office.csv transcript block state projected desk
+(cd desk && "$life" checkpoint >checkpoint) && rm -f desk/checkpoint && cp desk/checkpoint.life .
+head -c 100 journal.life >desk/cut.life && cp desk/cut.life desk/cut/journal.life
+head -c 12 desk/checkpoint.life >desk/cut.checkpoint
+head -n 3 block >desk/cut.block
+head -n 3 projected >desk/cut.projected
+head -n 3 state >desk/cut.state
+head -c 40 small-office.csv >desk/cut.csv
+echo "<html>no such thing" >desk/strange
+(cd desk && cksum -- * */*) >kept
+export LIFE_PROGRAM="$program"
+none="No such file or directory"
+cut="badjournal,badrecord,1: record 1: it is cut short at byte 100"
+for entry in "check" "dry-run"; do
+    undone "nowhere: $none" "$entry" nowhere
+    undone "badjournal,badrecord,1\|0 accepted, 0 refused, status 5" "$entry" small-office.csv --folder cut
+    undone "nowhere is no program" "$entry" small-office.csv --life nowhere
+done
+undone "strange is badscript,1,1" check strange
+undone "cut.csv is badscript,1,8" check cut.csv
+undone "2021-02-29 is no day" check small-office.csv --today 2021-02-29
+undone "2200-01-01 is no day" check small-office.csv --today 2200-01-01
+undone "0 accepted, 0 refused, status 3" dry-run strange
+undone "nowhere: $none" rest nowhere journal.life 0
+undone "strange is badscript,1,1" rest strange journal.life 0
+undone "nowhere: $none" rest small-office.csv nowhere 0
+undone "$cut" rest small-office.csv cut.life 0
+undone "has 27 commands, and before the run there were 28" rest small-office.csv journal.life 28
+undone "nowhere is no journal, and no number of commands" rest small-office.csv journal.life nowhere
+undone "badjournal,notajournal" rest small-office.csv journal.life strange
+undone "nowhere: $none" explain badscript,1,1 nowhere
+undone "badscript needs the script's file" explain badscript,1,1
+undone "nowhere: $none" explain nowhere
+undone "isn't badbasis,NAME,PLACE,WORD" explain badbasis,basis.csv
+undone "nowhere: $none" position-on 2021-01-01 nowhere
+undone "badjournal,notajournal" position-on 2021-01-01 strange
+undone "$cut" position-on 2021-01-01 cut.life
+undone "1899-12-31 is no day" position-on 1899-12-31 journal.life
+undone "nowhere: $none" read nowhere
+undone "strange: its first 17 bytes aren't those of a journal" read strange
+undone "cut.life: record 1: it is cut short" read cut.life
+undone "nowhere: $none" read-checkpoint nowhere
+undone "strange: byte 0, its gate, isn't 1" read-checkpoint strange
+undone "cut.checkpoint: it has 12 bytes" read-checkpoint cut.checkpoint
+undone "$cut" read-checkpoint checkpoint.life cut.life
+undone "nowhere: $none" export csv nowhere
+undone "badjournal,notajournal" export jsonl strange
+undone "$cut" export csv cut.life
+undone "$cut" export sqlite cut.life new.db
+undone "nowhere: $none" check-transcript nowhere transcript /dev/null journal.life basis.csv
+undone "nowhere: $none" check-transcript small-office.csv nowhere /dev/null journal.life basis.csv
+undone "$cut" check-transcript small-office.csv transcript cut.life journal.life basis.csv
+undone "$cut" check-transcript small-office.csv transcript /dev/null cut.life basis.csv
+undone "strange is badscript,1,1" check-transcript strange transcript /dev/null journal.life basis.csv
+undone "nowhere: $none" check-values journal.life basis.csv nowhere
+undone "strange is no valuation" check-values journal.life basis.csv strange
+undone "$cut" check-values cut.life basis.csv block
+undone "badbasis,nowhere,0,absent" check-values journal.life nowhere block
+undone "badbasis,strange,1,badrow" check-values journal.life strange block
+undone "nowhere: $none" check-projection journal.life basis.csv nowhere
+undone "isn't what life project prints" check-projection journal.life basis.csv strange
+undone "a projection of 20 years has 22 lines, and this one 3" check-projection journal.life basis.csv cut.projected
+undone "$cut" check-projection cut.life basis.csv projected
+for drawing in reserves book projection; do undone "nowhere: $none" plot "$drawing" nowhere; done
+undone "no valuation in these files" plot reserves strange
+undone "has no total" plot reserves cut.block
+undone "isn't what life state prints" plot book cut.state
+undone "isn't what life project prints" plot projection strange
+undone "this one 3" plot projection cut.projected
+undone "28 is no position of ./journal.life, which has 27 commands" at 28 state
+undone "x is no position" at x state
+undone "behind the position stands one of state, value, project" at 1 run
+undone "behind the position stands one of state, value, project" at 1
+undone "nowhere/journal.life: $none" at --folder nowhere 0 state
+undone "$cut" at --folder cut 1 state
+undone "life value 2021-02-29 ended with 2" at 1 value 2021-02-29
+
 begin_with_examples "explanations of scripts"
 cp "$examples/bad-day.csv" .
 "$life" run <bad-day.csv >answer
@@ -357,5 +517,41 @@ before=$(python3 "$tools/life-tools" read journal.life | sed -n 's/^count,//p')
 [ "$(grep -c ,accepted, transcript)" = "$(wc -l <rest)" ] || complain "a row of the rest was refused"
 finds "no run of this script leaves this journal" rest rest journal.life 0
 refuses "before the run there were 721" rest script journal.life 721
+
+# one of 200,000 rows, in which several clerks have rows of each policy; no two rows are equal, so of each clerk the rest
+# begins behind the last row that is in the journal
+quick=/dev/shm
+[ -w "$quick" ] || quick=$work
+long=$(mktemp -d "$quick/life-tools.XXXXXX") || exit 2
+trap 'rm -rf "$work" "$long"' EXIT
+cd "$long" || exit 2
+awk 'BEGIN { for (i = 1; i <= 50000; i++) {
+    printf "%d,issue,%d,2020-01-01,endowment,0,3,1000.00,400.00\n", i % 8 + 1, i
+    if (i > 40) printf "%d,premium,%d,2020-01-02,400.00\n", (i + 3) % 8 + 1, i - 40
+    if (i > 80) printf "%d,alter,%d,2020-01-03,900.00,300.00\n", (i + 5) % 8 + 1, i - 80
+    if (i > 120) printf "%d,premium,%d,2020-11-01,300.00\n", (i + 6) % 8 + 1, i - 120 } }' >script
+"$program" run <script >killed &
+run=$!
+while kill -0 "$run" 2>/dev/null && [ "$({ wc -c <journal.life || echo 0; } 2>/dev/null)" -lt 6000000 ]; do sleep 0.1; done
+kill -9 "$run"
+wait "$run" 2>/dev/null
+says rest script journal.life 0
+python3 "$tools/life-tools" read journal.life | sed -n 's/^[0-9][0-9]*,//p' >posted
+awk -F, 'FILENAME == "posted" { is[$0]; next }
+    { lane[FNR] = $1; row[FNR] = $0; n = FNR; if (substr($0, 3) in is) last[$1] = FNR }
+    END { for (i = 1; i <= n; i++) if (i > last[lane[i]]) print row[i] }' posted script >wanted
+[ "$(grep -c '^[a-z]*,[0-9]' posted)" -gt 90000 ] && [ -s wanted ] || complain "the killed run posted $(wc -l <posted) lines"
+prints wanted
+
+begin "types and style"
+for judge in mypy flake8; do
+    command -v "$judge" >found || echo "tools: skipped: no $judge, which the Debian package of this name has"
+done
+if command -v mypy >found; then
+    (cd "$tools" && mypy --strict --cache-dir "$work/mypy" life_tools life-tools) >out 2>&1 || complain "mypy: $(cat out)"
+fi
+if command -v flake8 >found; then
+    (cd "$tools" && flake8 --max-line-length 130 life_tools life-tools) >out 2>&1 || complain "flake8: $(cat out)"
+fi
 
 end "each entry says what the program says, and complains where it must"

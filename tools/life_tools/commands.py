@@ -17,7 +17,7 @@ PLAN_CODES = {plan: code for code, plan in PLANS.items()}
 EPOCH = datetime.date(1970, 1, 1)
 
 
-@dataclass(frozen=True)
+@dataclass(frozen=True, slots=True)
 class Command:
     """A posting: amounts are in cents, and what its kind doesn't hold is empty or 0. An upgrade has its kind alone."""
 

@@ -5,7 +5,9 @@ import fcntl
 import os
 import shutil
 import subprocess
-from typing import IO
+import tempfile
+from contextlib import contextmanager
+from typing import IO, Iterator, Sequence
 
 from life_tools.formats import Wrong, bytes_of, remark, rows_in
 from life_tools.tables import NAME
@@ -13,16 +15,15 @@ from life_tools.tables import NAME
 JOURNAL = "journal.life"
 
 
-def copy_journal(folder: str, to: str) -> None:
-    """Copies the journal while no run has it."""
+def journal_bytes(folder: str) -> bytes | None:
+    """The folder's journal, read while no run has it; none where there is no such file."""
     path = os.path.join(folder, JOURNAL)
     if not os.path.exists(path):
-        remark(f"there is no {path}: the script is run on an empty journal")
-        return
+        return None
     try:
         with open(path, "rb") as file:
             fcntl.flock(file, fcntl.LOCK_SH | fcntl.LOCK_NB)
-            shutil.copyfile(path, os.path.join(to, JOURNAL))
+            return file.read()
     except BlockingIOError as error:
         raise Wrong(f"{path} is held by another run") from error
     except OSError as error:
@@ -43,10 +44,32 @@ def copy_basis(folder: str, name: str, to: str) -> None:
         shutil.copyfile(os.path.join(folder, each), os.path.join(to, each))
 
 
-def run_in(folder: str, life: list[str], words: list[str], given: IO[bytes] | int = subprocess.DEVNULL) -> tuple[int, str]:
+@contextmanager
+def desk_of(journal: bytes | None, folder: str, basis: str) -> Iterator[str]:
+    """A folder for a while, with this journal and with the folder's basis."""
+    with tempfile.TemporaryDirectory(prefix="life-tools-") as desk:
+        if journal is not None:
+            with open(os.path.join(desk, JOURNAL), "wb") as file:
+                file.write(journal)
+        copy_basis(folder, basis, desk)
+        yield desk
+
+
+def run_in(desk: str, life: Sequence[str], words: Sequence[str], given: IO[bytes] | int = subprocess.DEVNULL) -> tuple[int, str]:
     """The status of a run of the program in a folder, and what it printed."""
     try:
-        ran = subprocess.run([*life, *words], cwd=folder, stdin=given, stdout=subprocess.PIPE)
+        ran = subprocess.run([*life, *words], cwd=desk, stdin=given, stdout=subprocess.PIPE)
     except OSError as error:
         raise Wrong(f"{life[0]}: {error.strerror}") from error
     return ran.returncode, ran.stdout.decode("ascii", "replace")
+
+
+def dry_run(script: str, journal: bytes | None, folder: str, basis: str, life: Sequence[str]) -> tuple[int, str]:
+    """The status of a script's run on copies, and the transcript."""
+    if journal is None:
+        remark(f"there is no {os.path.join(folder, JOURNAL)}: the script is run on an empty journal")
+    try:
+        with open(script, "rb") as rows, desk_of(journal, folder, basis) as desk:
+            return run_in(desk, life, ["run", "--basis", basis], rows)
+    except OSError as error:
+        raise Wrong(f"{script}: {error.strerror}") from error

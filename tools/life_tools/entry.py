@@ -2,6 +2,7 @@
 from __future__ import annotations
 
 import argparse
+import gc
 import importlib
 import os
 import sys
@@ -14,9 +15,11 @@ ENTRIES: dict[str, tuple[str, str]] = {
     "due": ("due", "what is due on a day: premiums, lapses, maturities, reinstatements, settlements"),
     "import": ("import_book", "a CSV of another system as a script of issues and premiums"),
     "books": ("books", "value, project, state or checkpoint of many books, with their total"),
+    "check": ("check", "look a script over before it is sent"),
     "dry-run": ("dry_run", "run a script on a copy of the journal, and print what it would be answered"),
     "rest": ("rest", "the rows of a script that a killed run didn't reach"),
     "explain": ("explain", "explain a refusal of a script or of a basis, or what is taken of a table"),
+    "at": ("at", "what state, value or project print of the book as it stood at a position"),
     "position-on": ("position_on", "the position of a day"),
     "read": ("read", "list the records of a journal"),
     "read-checkpoint": ("read_checkpoint", "print the books in a checkpoint, and compare them with a journal's"),
@@ -47,6 +50,8 @@ def main(words: Sequence[str] | None = None) -> int:
     """Runs an entry: 0 all is well, 1 something was found wrong, 2 it could not be done."""
     given = list(sys.argv[1:] if words is None else words)
     options = parser_of(given[:1]).parse_args(given)
+    # millions of rows make no cycles, and looking for some among them takes as long as making them
+    gc.disable()
     try:
         status: int = options.run(options)
         sys.stdout.flush()

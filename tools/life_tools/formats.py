@@ -128,7 +128,7 @@ def day_in(text: str) -> datetime.date:
 
 # --- rows of fields ---
 
-@dataclass(frozen=True)
+@dataclass(frozen=True, slots=True)
 class Row:
     """A row of a file: its number and the line of an editor where it begins, both from 1; its fields, and its text."""
 

@@ -51,6 +51,12 @@ def read_journal(data: bytes, into: Book | None = None) -> Journal:
     book = Book() if into is None else into
     if is_unfinished_creation(data):
         return Journal(book, is_unfinished=True)
+    count = records_in(data)
+    return count if isinstance(count, Journal) else replayed(data, count, book)
+
+
+def records_in(data: bytes) -> int | Journal:
+    """How many records stand in front of the first gate that isn't open; or the refusal of what is no journal."""
     if len(data) < len(EMPTY):
         return Journal(refused="badjournal,notajournal", why=f"it has {len(data)} bytes, and an empty journal has {len(EMPTY)}")
     if data[:FIRST_GATE] != EMPTY[:FIRST_GATE]:
@@ -62,7 +68,17 @@ def read_journal(data: bytes, into: Book | None = None) -> Journal:
         if gate_of(count + 1) >= len(data):
             return bad_record(count, f"it is cut short at byte {len(data)}")
         count += 1
-    return replayed(data, count, book)
+    return count
+
+
+def front_of(data: bytes, position: int, path: str) -> bytes:
+    """The journal of the first so many records of a file's bytes, which has to have them; they aren't judged here."""
+    count = 0 if is_unfinished_creation(data) else records_in(data)
+    if isinstance(count, Journal):
+        raise Wrong(f"{path}: {count.refused}: {count.why}")
+    if position > count:
+        raise Wrong(f"{position} is no position of {path}, which has {count} commands")
+    return data[:gate_of(position)] + bytes(1) if position else EMPTY
 
 
 def replayed(data: bytes, count: int, book: Book) -> Journal:

@@ -23,7 +23,7 @@ ACCOUNTS = ("cash", "premiums", "incurred", "payable")
 Value = Union[datetime.date, int, str, None]
 
 
-@dataclass(frozen=True)
+@dataclass(frozen=True, slots=True)
 class Policy:
     """A policy as it is: amounts are in cents, `paid` is a number of premiums, `last` the day of its last command."""
 

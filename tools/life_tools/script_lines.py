@@ -14,7 +14,7 @@ from life_tools.progress import Progress
 KIND_WORDS = (*FIELDS, "value", "trim")
 
 
-@dataclass(frozen=True)
+@dataclass(frozen=True, slots=True)
 class Line:
     """A clerk's line: a posting has a command; a valuation a day, and a position or none for `now`; a trim neither."""
 

@@ -8,10 +8,9 @@ from __future__ import annotations
 
 import argparse
 import sys
-import tempfile
 
-from life_tools.copied_folder import copy_basis, copy_journal, run_in
-from life_tools.formats import Wrong, remark
+from life_tools.copied_folder import dry_run, journal_bytes
+from life_tools.formats import remark
 from life_tools.program import life_command
 
 
@@ -22,20 +21,9 @@ def arguments(parser: argparse.ArgumentParser) -> None:
     parser.add_argument("--life", metavar="PROGRAM", help="the program to run")
 
 
-def dry_run(script: str, folder: str, basis: str, life: list[str]) -> tuple[int, str]:
-    """The status of the run on the copies, and what it printed."""
-    with tempfile.TemporaryDirectory(prefix="life-dry-run-") as to:
-        copy_journal(folder, to)
-        copy_basis(folder, basis, to)
-        try:
-            with open(script, "rb") as rows:
-                return run_in(to, life, ["run", "--basis", basis], rows)
-        except OSError as error:
-            raise Wrong(f"{script}: {error.strerror}") from error
-
-
 def run(options: argparse.Namespace) -> int:
-    status, transcript = dry_run(options.script, options.folder, options.basis, life_command(options.life))
+    journal = journal_bytes(options.folder)
+    status, transcript = dry_run(options.script, journal, options.folder, options.basis, life_command(options.life))
     sys.stdout.write(transcript)
     sys.stdout.flush()
     accepted, refused = transcript.count(",accepted,"), transcript.count(",refused,")

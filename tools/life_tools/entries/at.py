@@ -1,0 +1,58 @@
+"""What `life` prints of the book as it stood after its first POSITION postings: `state`, `value` or `project`.
+
+    at 11 state
+    at 11 state 7001
+    at 11 value 2022-12-31 --mean
+
+The program runs on the front of a copy of the journal, which ends there, so what it prints is proved as ever; nothing is
+posted. Options of these tools stand in front of POSITION. The status is 2 where the program didn't end with 0.
+"""
+from __future__ import annotations
+
+import argparse
+import os
+import sys
+
+from life_tools.copied_folder import JOURNAL, desk_of, journal_bytes, run_in
+from life_tools.formats import MOST_COMMANDS, Wrong, demand, number_of, remark
+from life_tools.journals import front_of
+from life_tools.program import life_command
+
+WORDS = ("state", "value", "project")
+
+
+def arguments(parser: argparse.ArgumentParser) -> None:
+    parser.add_argument("--folder", metavar="FOLDER", default=".", help="where journal.life and the basis lie (.)")
+    parser.add_argument("--life", metavar="PROGRAM", help="the program to run")
+    parser.add_argument("position", metavar="POSITION", help="after how many postings")
+    parser.add_argument("words", metavar="WORDS", nargs=argparse.REMAINDER, help="state [ID], value DAY or project DAY YEARS")
+
+
+def basis_in(words: list[str]) -> str:
+    """The name of the basis file that the words ask for."""
+    for word, following in zip(words, [*words[1:], ""]):
+        if word == "--basis":
+            return following
+        if word.startswith("--basis="):
+            return word.partition("=")[2]
+    return "basis.csv"
+
+
+def run(options: argparse.Namespace) -> int:
+    words = options.words
+    demand(words and words[0] in WORDS, f"behind the position stands one of {', '.join(WORDS)}")
+    position = number_of(options.position, 0, MOST_COMMANDS)
+    if position is None:
+        raise Wrong(f"{options.position} is no position from 0 to {MOST_COMMANDS}")
+    path = os.path.join(options.folder, JOURNAL)
+    journal = journal_bytes(options.folder)
+    if journal is None:
+        raise Wrong(f"{path}: No such file or directory")
+    front = front_of(journal, position, path)
+    with desk_of(front, options.folder, basis_in(words)) as desk:
+        status, text = run_in(desk, life_command(options.life), words)
+    sys.stdout.write(text)
+    sys.stdout.flush()
+    if status:
+        remark(f"life {' '.join(words)} ended with {status}")
+    return 2 if status else 0

@@ -1,0 +1,64 @@
+"""Looks a script over before it is sent, beside a folder's journal; nothing is posted.
+
+A row is told where its day is behind today, or more than 400 days before or behind its policy's newest posting, or before
+that of its lane's posting above; where its policy's number is unknown; where an accepted posting equals it, as where a
+settlement is sent twice; where its amount isn't the policy's premium, or more than is outstanding; and where the program
+refuses it on a copy of the journal. The rows are looked at in the order in which that dry run answered them. The status
+is 1 where a row is told.
+"""
+from __future__ import annotations
+
+import argparse
+import datetime
+import sys
+
+from life_tools.copied_folder import dry_run, journal_bytes
+from life_tools.formats import Wrong, day_in, demand, number_of, remark
+from life_tools.journals import read_journal
+from life_tools.program import life_command
+from life_tools.script_lines import Line, lanes_of, script_at
+from life_tools.script_warnings import Desk
+from life_tools.transcript_check import answers_in
+
+
+def arguments(parser: argparse.ArgumentParser) -> None:
+    parser.add_argument("script", metavar="SCRIPT", help="the script's file")
+    parser.add_argument("--today", metavar="DAY", help="the day on which it is sent, YYYY-MM-DD (that of this machine)")
+    parser.add_argument("--folder", metavar="FOLDER", default=".", help="where journal.life and the basis lie (.)")
+    parser.add_argument("--basis", metavar="NAME", default="basis.csv", help="the name of the basis file there (basis.csv)")
+    parser.add_argument("--life", metavar="PROGRAM", help="the program to run")
+
+
+def look_over(lines: list[Line], transcript: str, desk: Desk) -> dict[int, list[str]]:
+    """What is told of rows, by their numbers."""
+    left = {lane: iter(rows) for lane, rows in lanes_of(lines).items()}
+    told: dict[int, list[str]] = {}
+    for head, *_ in answers_in(transcript)[0]:
+        line = next(left.get(number_of(head[0], 1, 8) or 0, iter(())), None)
+        if line is None:
+            raise Wrong(f"the dry run answered {','.join(head)}, and no row is left for that")
+        told[line.row.number] = desk.warnings(line, line.command) if line.command else []
+        answer = head[len(line.head):]
+        if answer[:1] == ["accepted"] and line.command:
+            desk.take(line.command)
+        elif answer[:1] == ["refused"]:
+            told[line.row.number].append(f"it is refused: {','.join(answer[1:])}")
+    return told
+
+
+def run(options: argparse.Namespace) -> int:
+    today = day_in(options.today) if options.today else datetime.date.today()
+    lines, data = script_at(options.script), journal_bytes(options.folder)
+    journal = read_journal(data or b"")
+    demand(not journal.refused, f"{options.folder}/journal.life: {journal.refused}: {journal.why}")
+    status, transcript = dry_run(options.script, data, options.folder, options.basis, life_command(options.life))
+    demand(status == 0, f"the dry run ended with {status}: {transcript[:200].strip()}")
+    told = look_over(lines, transcript, Desk(journal.book, today))
+    for line in lines:
+        if told.get(line.row.number):
+            print(f"line {line.row.line} of {options.script}: {line.row.text}")
+            print("".join(f"  {text}\n" for text in told[line.row.number]), end="")
+    sys.stdout.flush()
+    rows = sum(bool(texts) for texts in told.values())
+    remark(f"rows: {len(lines)}, told: {rows}; nothing is posted")
+    return 1 if rows else 0

@@ -1,0 +1,80 @@
+"""What may be wrong with a script's postings before they are sent, though each of them is a valid line."""
+from __future__ import annotations
+
+import datetime
+from typing import Callable, Iterator
+
+from life_tools.commands import Command
+from life_tools.formats import money
+from life_tools.rules import Book, Policy, Refusal
+from life_tools.script_lines import Line
+
+# a posting lies at most so far from the newest one of its policy, unless it is warned of
+FAR = datetime.timedelta(400)
+
+
+class Desk:
+    """The book, as a script's rows meet it: what is accepted goes into it."""
+
+    def __init__(self, book: Book, today: datetime.date) -> None:
+        self.book, self.today = book, today
+        self.positions = {command: position for position, command in reversed(list(enumerate(book.commands, 1)))}
+        self.days: dict[int, datetime.date] = {}
+
+    def warnings(self, line: Line, command: Command) -> list[str]:
+        """What may be wrong with the next posting of its lane."""
+        policy = self.book.policies.get(command.number)
+        found = [text for look in LOOKS for text in look(self, line, command, policy)]
+        if command.day:
+            self.days[line.lane] = command.day
+        return found
+
+    def take(self, command: Command) -> None:
+        """Keeps a posting that was accepted."""
+        after = self.book.decide(command)
+        if not isinstance(after, Refusal):
+            self.book.take(command, after)
+            self.positions.setdefault(command, len(self.book.commands))
+
+
+Look = Callable[[Desk, Line, Command, "Policy | None"], Iterator[str]]
+
+
+def is_known(desk: Desk, line: Line, command: Command, policy: Policy | None) -> Iterator[str]:
+    if policy is None and command.kind not in ("issue", "upgrade"):
+        yield f"policy {command.number} is unknown"
+
+
+def is_near(desk: Desk, line: Line, command: Command, policy: Policy | None) -> Iterator[str]:
+    if command.day is None:
+        return
+    if command.day > desk.today:
+        yield f"the day is behind today, which is {desk.today}"
+    if policy is not None and command.kind != "issue" and abs(command.day - policy.last) > FAR:
+        days = abs((command.day - policy.last).days)
+        where = "behind" if command.day > policy.last else "before"
+        yield f"the day is {days} days {where} the policy's newest posting, which is of {policy.last}"
+
+
+def is_in_order(desk: Desk, line: Line, command: Command, policy: Policy | None) -> Iterator[str]:
+    before = desk.days.get(line.lane)
+    if command.day and before and command.day < before:
+        yield f"the day is before that of the lane's posting above, which is {before}"
+
+
+def is_new(desk: Desk, line: Line, command: Command, policy: Policy | None) -> Iterator[str]:
+    position = desk.positions.get(command)
+    if position:
+        yield f"an accepted posting equals it, of position {position}"
+
+
+def is_right_amount(desk: Desk, line: Line, command: Command, policy: Policy | None) -> Iterator[str]:
+    if policy is None:
+        return
+    if command.kind == "premium" and command.amount != policy.premium:
+        yield f"the policy's premium is {money(policy.premium)}"
+    if command.kind == "settle" and command.amount > policy.outstanding:
+        yield f"{money(policy.outstanding)} is outstanding"
+
+
+LOOKS: tuple[Look, ...] = (is_known, is_near, is_in_order, is_new, is_right_amount)
