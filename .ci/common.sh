@@ -20,6 +20,14 @@ fi
     echo "$check: there is no program $program: rt ci builds it, and sh life prove" >&2
     exit 1
 }
+# a command that the check can't do without; .ci/setup.sh installs it where it can
+needs() {
+    command -v "$1" >/dev/null || {
+        echo "$check: skipped: $1 isn't installed"
+        exit 0
+    }
+}
+
 export PYTHONDONTWRITEBYTECODE=1
 failed=0
 name=

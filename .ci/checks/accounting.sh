@@ -34,5 +34,5 @@ fi
 if [ -n "$tried" ]; then
     echo "accounting: the balances are those of$tried"
 else
-    echo "accounting: skipped, since neither ledger nor hledger is installed"
+    echo "accounting: skipped: neither ledger nor hledger is installed"
 fi

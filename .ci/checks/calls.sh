@@ -2,12 +2,7 @@
 # The calls that the program makes on real files, recorded by strace: just those that the journal and its checkpoint allow,
 # in order and number. A sync that is left out, or made too late, is seen here and by no proof.
 . "$(dirname "$0")/../common.sh"
-# where it is missing and this may install it, it is installed
-command -v strace >/dev/null || { apt-get update -qq && apt-get install -y -qq strace; } >/dev/null 2>&1
-command -v strace >/dev/null || {
-    echo "calls: strace is needed to record the program's calls" >&2
-    exit 1
-}
+needs strace
 begin "three postings"
 head -n 3 "$examples/first-issues.csv" >three
 "$life" run <three >expected || exit 2

@@ -3,12 +3,7 @@
 # taken away, memory comes to an end, signals stop runs, and the reader of the output goes away. Each time the answers,
 # the status and the file are judged by docs/FORMATS.md.
 . "$(dirname "$0")/../common.sh"
-# where it is missing and this may install it, it is installed
-command -v strace >/dev/null || { apt-get update -qq && apt-get install -y -qq strace; } >/dev/null 2>&1
-command -v strace >/dev/null || {
-    echo "faults: strace is needed to make calls fail" >&2
-    exit 1
-}
+needs strace
 seed=1
 quick=$(mktemp -d -p /dev/shm 2>/dev/null) || quick=$work
 trap 'rm -rf "$work" "$quick"' EXIT

@@ -1,13 +1,15 @@
 #!/bin/sh
-# The launcher, in a copy of the repository that has no program: wrong words build nothing; a preview is built once, runs
-# on copies, and is never taken for the proved program; only the proved program makes journal.life and checkpoint.life; and a
-# program that is older than a source, contract or proof of its crates isn't run.
+# The launcher, in a copy of the repository that has no program. Wrong words build nothing; where nothing is proved no
+# word of the program is answered; a preview is built once, runs on copies, and is never taken for the proved program; a
+# program that is older than a source, contract or proof of its crates isn't run. Who waits for a book gets it; an
+# installation is whole or isn't made, and runs without the clone. A signal leaves nothing half done.
 . "$(dirname "$0")/../common.sh"
 copy=$work/copy
 mkdir "$copy"
 (cd "$root" && git ls-files -z | xargs -0 cp --parents -p -t "$copy") || exit 2
 launcher=$copy/life
 first=$examples/first-issues
+built=$copy/crates/life_cli/out/life_cli
 
 # the launcher with these words; what it says itself is in `notes`
 launch() {
@@ -19,43 +21,118 @@ notes_are() {
     grep -q -e "$1" notes || complain "the launcher says: $(cat notes)"
 }
 
+# words that end with this status and say this line, print nothing and make nothing
+says_alone() {
+    wanted=$1 line=$2
+    shift 2
+    launch "$@" </dev/null
+    [ "$status" = "$wanted" ] && [ ! -s out ] && [ "$(wc -l <notes)" = 1 ] ||
+        complain "$*: status $status: $(cat out notes)"
+    notes_are "$line"
+    leaves_none
+}
+
+# until this holds, for a minute at most
+await() {
+    tries=0
+    until eval "$1" || [ "$tries" -ge 600 ]; do
+        sleep 0.1
+        tries=$((tries + 1))
+    done
+}
+
+# what a signal leaves of these words, once this holds: the status 130, and a line
+is_stopped() {
+    moment=$1 line=$2
+    shift 2
+    rm -f "$work/noted"
+    # what runs in the background doesn't hear of it otherwise
+    env --default-signal=INT sh "$launcher" "$@" </dev/null >out 2>notes &
+    stopped=$!
+    await "$moment"
+    kill -INT "$stopped"
+    wait "$stopped"
+    status=$?
+    [ "$status" = 130 ] || complain "$*: status $status, not stopped: $(cat out notes)"
+    notes_are "$line"
+}
+
 begin "wrong words build nothing"
 echo usage >wanted
-for words in "" help --help stat "prove it"; do
+for words in "" --help stat "prove it" try "try stat" "try try run" "test all" "install a b" "help me" --wait \
+    "--wait 5" "--wait x run" "--wait 5 stat" "--wait 5 try run" "--wait -1 run" "--wait 1234567 run"; do
     # shellcheck disable=SC2086
     launch $words </dev/null
     judge "$status" 2 wanted
-    notes_are "^life: the words"
+    notes_are "^life: "
 done
 [ ! -e "$copy/out" ] || complain "something was built"
 
+begin "help"
+launch help </dev/null
+for word in run state checkpoint value project generate --wait try prove test install tools help; do
+    grep -q "sh life $word" out || complain "$word isn't told"
+done
+
+begin "nothing is proved"
+for words in run state "state 7001" checkpoint "value 2021-01-01" "project 2021-01-01 2" "generate 1 1 1" \
+    "load 1 1 1 1" "--wait 5 run"; do
+    # shellcheck disable=SC2086
+    says_alone 69 "sh life try .* sh life prove" $words
+done
+says_alone 69 "sh life prove" install "$work/nowhere"
+[ ! -e "$work/nowhere" ] || complain "it made a folder for it"
+
 begin "no kit"
-# shellcheck disable=SC2123
-(PATH=/usr/bin:/bin && ! command -v rt >/dev/null && sh "$launcher" state >out 2>notes)
-[ $? = 70 ] || command -v rt | grep -q '^/usr/bin\|^/bin' || complain "without the kit it ends otherwise: $(cat notes)"
+mkdir plain
+for each in sh awk cat cut date dirname find flock grep head id mkdir mktemp nproc readlink rm sed sha256sum sort stat \
+    touch tr wc; do
+    ln -s "$(command -v "$each")" plain
+done
+for word in prove "try state" test; do
+    # shellcheck disable=SC2086
+    (PATH=$PWD/plain && sh "$launcher" $word >out 2>notes)
+    [ $? = 70 ] && [ ! -s out ] || complain "$word ends otherwise: $(cat out notes)"
+    notes_are "the kit's command rt isn't on the path"
+done
+
+begin "a folder that can't be written"
+: >"$copy/out"
+launch try run <"$first.csv"
+[ "$status" = 70 ] && [ ! -s out ] || complain "status $status: $(cat out)"
+notes_are "out/preview can't be made"
+rm "$copy/out"
 
 begin "a preview"
-launch run <"$first.csv"
+sh "$launcher" try state </dev/null >other 2>other.notes &
+launch try run <"$first.csv"
 judge "$status" 0 "$first.transcript"
-[ "$(sed -n '2p;$p' notes | grep -c 'a preview')" = 2 ] || complain "it isn't said before and after: $(cat notes)"
+wait
+[ "$(cat notes other.notes | grep -c 'building a preview, which')" = 1 ] ||
+    complain "it is built twice: $(cat notes other.notes)"
+[ "$(cat notes other.notes | grep -c 'another launcher is building a preview; this one waits')" = 1 ] ||
+    complain "it isn't said that one waits: $(cat notes other.notes)"
+[ "$(sed -n '2,$p' notes | grep -c 'a preview')" -ge 2 ] || complain "it isn't said before and after: $(cat notes)"
 leaves_none
-launch state </dev/null
+launch try state </dev/null
 tail -n 1 out | grep -q '^count,4$' || complain "the next preview doesn't see the postings: $(cat out)"
 [ "$(wc -l <notes)" = 2 ] || complain "the preview was built again: $(cat notes)"
 echo checkpoint,4 >wanted
-launch checkpoint </dev/null
+launch try checkpoint </dev/null
 judge "$status" 0 wanted
 [ ! -e checkpoint.life ] || complain "a preview made checkpoint.life"
-[ -f "$(find "$copy/out/preview/rooms" -name preview.checkpoint)" ] || complain "the preview's checkpoint isn't kept apart"
-launch value 2021-02-29 </dev/null
+[ -f "$(find "$copy/out/preview/rooms" -name preview.checkpoint)" ] ||
+    complain "the preview's checkpoint isn't kept apart"
+launch try value 2021-02-29 </dev/null
 echo usage >wanted
 judge "$status" 2 wanted
 find "$copy" -name life_cli -type f | grep -q . && complain "the preview stands where the proved program is looked for"
+says_alone 69 "sh life try state" state
 
 go_on "a preview by a link on PATH, with a basis"
 mkdir "$work/bin" && ln -s "$launcher" "$work/bin/life"
 cp "$examples/basis.csv" "$examples/q.xml" "$examples/g.xml" .
-PATH=$work/bin:$PATH life value 2021-01-01 >out 2>notes
+PATH=$work/bin:$PATH life try value 2021-01-01 >out 2>notes
 status=$?
 grep '^row,7001,' out >found
 echo row,7001,inforce,1,127.22,127.23 >wanted
@@ -64,38 +141,39 @@ echo row,7001,inforce,1,127.22,127.23 >wanted
 go_on "two previews at once"
 for n in 1 2 3 4; do echo "1,issue,80$n,2020-01-01,endowment,0,3,1000.00,400.00"; done >one.csv
 sed 's/,80/,90/' one.csv >two.csv
-sh "$launcher" run <one.csv >one.out 2>/dev/null &
-sh "$launcher" run <two.csv >two.out 2>/dev/null &
+sh "$launcher" try run <one.csv >one.out 2>/dev/null &
+sh "$launcher" try run <two.csv >two.out 2>/dev/null &
 wait
-launch state </dev/null
+launch try state </dev/null
 tail -n 1 out | grep -q '^count,12$' || complain "eight postings of two previews: $(tail -n 1 out)"
 # one that waits for the other's output may not wait for its journal
-sh "$launcher" generate 5 2000 8 2>/dev/null | timeout 60 sh "$launcher" run >out 2>/dev/null ||
+sh "$launcher" try generate 5 2000 8 2>/dev/null | timeout 60 sh "$launcher" try run >out 2>/dev/null ||
     complain "a pipe between two previews hangs"
 leaves_none
 
 begin "a preview beside a real journal"
 "$life" run <"$first.csv" >transcript
 cp journal.life before
-launch run <"$examples/second-day.csv"
+launch try run <"$examples/second-day.csv"
 judge "$status" 0 "$examples/second-day.transcript"
 leaves before
 "$life" run <"$examples/second-day.csv" >transcript
-launch state </dev/null
-tail -n 1 out | grep -q '^count,5$' || complain "the preview doesn't begin anew with the changed journal: $(tail -n 1 out)"
+launch try state </dev/null
+tail -n 1 out | grep -q '^count,5$' ||
+    complain "the preview doesn't begin anew with the changed journal: $(tail -n 1 out)"
 # the preview's checkpoint goes with the preview's journal
-launch run <"$examples/short-premium.csv"
-launch checkpoint </dev/null
+launch try run <"$examples/short-premium.csv"
+launch try checkpoint </dev/null
 "$life" checkpoint </dev/null >out
 cp checkpoint.life kept.before
 "$life" run <"$examples/whole-life.csv" >transcript
 "$life" state </dev/null >wanted
-launch state </dev/null
+launch try state </dev/null
 judge "$status" 0 wanted
 cmp -s kept.before checkpoint.life || complain "a preview touched checkpoint.life"
 
 begin "the proved program"
-mkdir -p "$copy/crates/life_cli/out" && cp "$program" "$copy/crates/life_cli/out/life_cli"
+mkdir -p "$copy/crates/life_cli/out" && cp "$program" "$built"
 launch run <"$first.csv"
 judge "$status" 0 "$first.transcript"
 [ ! -s notes ] || complain "the launcher says: $(cat notes)"
@@ -104,25 +182,170 @@ launch prove </dev/null
 [ "$status" = 0 ] || complain "a proved program is proved again"
 
 go_on "what a program is older than"
+# no word is answered where it isn't current, and `state` is where it is
+answers() {
+    launch state </dev/null
+    if [ "$1" = current ]; then
+        [ "$status" = 0 ] && [ ! -s notes ] || complain "$2: it isn't taken as current: $(cat notes)"
+    else
+        [ "$status" = 69 ] && [ ! -s out ] || complain "$2: it is taken as current: $(cat out)"
+    fi
+}
 sleep 0.1
 touch "$copy"/crates/measure*/src/*.rt "$copy"/crates/life_app/must-fail/*.edit "$copy/docs/MAP.md" 2>/dev/null
-launch state </dev/null
-[ ! -s notes ] || complain "it isn't taken as current for what isn't in it: $(cat notes)"
+answers current "what isn't in it"
 for changed in policy_machine/src policy_machine/specs posting_journal/proofs; do
     file=$(find "$copy/crates/$changed" -type f | sort | head -n 1)
     touch "$file"
-    # so that it isn't built again
-    touch "$copy/out/preview/life_preview"
-    launch state </dev/null
-    notes_are "a preview"
-    touch "$copy/crates/life_cli/out/life_cli"
-    launch state </dev/null
-    [ ! -s notes ] || complain "with $changed older: $(cat notes)"
+    answers old "$changed"
+    touch "$built"
+    answers current "$changed older"
 done
 rm "$file"
-touch "$copy/out/preview/life_preview"
-launch state </dev/null
-notes_are "a preview"
+answers old "a file less"
+touch "$built"
+
+begin "a source that is changed while the program runs"
+mkfifo script
+sh "$launcher" run <script >transcript 2>notes &
+running=$!
+exec 6>script
+sleep 0.5
+touch "$copy/crates/policy_types/src/lib.rt"
+cat "$first.csv" >&6
+exec 6>&-
+wait "$running" || complain "the run ends otherwise: $(cat notes)"
+cmp -s transcript "$first.transcript" || complain "it prints $(cat transcript)"
+answers old "the source"
+touch "$built"
+
+begin "waiting"
+"$life" run <"$first.csv" >transcript
+# somebody has the book, until he is sent away
+hold() {
+    flock -o journal.life sleep 600 &
+    holder=$!
+    await '! flock -n -s journal.life true'
+}
+hold
+launch --wait 0 state </dev/null
+echo diskfault >wanted
+judge "$status" 8 wanted
+notes_are "still journal.life is held by process [0-9]*, flock"
+# the script is a pipe, which is read once
+echo 1,issue,7501,2020-01-01,endowment,0,3,1000.00,400.00 | sh "$launcher" --wait 600 run >out 2>notes &
+waiter=$!
+await 'grep -q "waiting: journal.life is held by process [0-9]*, flock" notes'
+kill "$holder"
+wait "$waiter"
+[ $? = 0 ] && grep -q '^1,issue,7501,accepted,5$' out || complain "it doesn't wait: $(cat out notes)"
+launch --wait 30 state </dev/null
+[ "$status" = 0 ] && [ ! -s notes ] || complain "a free book isn't had at once: $(cat notes)"
+# of many that wait none is refused
+hold
+waiters=
+for n in 1 2 3 4 5 6; do
+    echo "1,issue,76$n,2020-01-01,endowment,0,3,1000.00,400.00" | sh "$launcher" --wait 600 run >"out.$n" 2>"notes.$n" &
+    waiters="$waiters $!"
+done
+await '[ "$(cat notes.? | grep -c "is held by")" -ge 6 ]'
+kill "$holder"
+# shellcheck disable=SC2086
+wait $waiters
+[ "$(cat out.? | grep -c ,accepted,)" = 6 ] || complain "of six that wait some aren't answered: $(cat out.? notes.?)"
+hold
+is_stopped 'grep -q "is held" notes' "stopped waiting, and nothing was run" --wait 600 run
+kill "$holder"
+await 'flock -n -s journal.life true'
+rm journal.life
+launch --wait 0 generate 1 1 1 </dev/null
+[ "$status" = 0 ] || complain "what needs no book waits: $(cat notes)"
+leaves_none
+
+begin "installed"
+bin=$work/home/bin
+launch install "$bin" </dev/null
+[ "$status" = 0 ] || complain "status $status: $(cat notes)"
+sum=$(sha256sum <"$program" | cut -d ' ' -f 1)
+grep -q "^sum: $sum$" out && grep -q "^revision: " out && grep -q "^kit: " out || complain "it says: $(cat out)"
+cmp -s "$program" "$bin/life" || complain "it is another program"
+ls -A "$bin" | tr '\n' ' ' >found
+echo "life life-tools life-wait " | tr -d '\n' >wanted
+cmp -s wanted found || complain "there are: $(cat found)"
+completion=$work/home/share/bash-completion/completions/life
+[ -f "$work/home/share/man/man1/life.1" ] && [ -f "$completion" ] || complain "no page"
+bash -c '. "$1" && COMP_WORDS=(life-wait 5 che) COMP_CWORD=2 && _life && echo "${COMPREPLY[@]}"' bash "$completion" \
+    >out 2>&1
+grep -qx checkpoint out || complain "the completion gives: $(cat out)"
+
+go_on "a second installation while the first one runs, and without the clone"
+mkfifo script
+"$bin/life" run <script >transcript &
+running=$!
+exec 6>script
+launch install "$bin" </dev/null
+[ "$status" = 0 ] || complain "status $status: $(cat notes)"
+mv "$copy" "$copy.away"
+cat "$first.csv" >&6
+exec 6>&-
+wait "$running"
+[ $? = 0 ] && cmp -s transcript "$first.transcript" || complain "the run ends otherwise: $(cat transcript)"
+"$bin/life" state </dev/null | tail -n 1 >out
+echo count,4 >wanted
+judge $? 0 wanted
+"$bin/life-wait" 5 state </dev/null | tail -n 1 >out
+judge $? 0 wanted
+"$bin/life-tools" version >out 2>&1 || complain "the tools: $(cat out)"
+grep -q "^sum: $sum$" out && grep -q "has this sum$" out || complain "the tools: $(cat out)"
+"$bin/life-tools" read journal.life 2>&1 | tail -n 1 >out
+judge $? 0 wanted
+mv "$copy.away" "$copy"
+echo usage >wanted
+"$bin/life-wait" x state >out 2>notes
+judge $? 2 wanted
+cp "$bin/life" kept
+echo more >>"$bin/life"
+"$bin/life-tools" version >out 2>&1
+[ $? = 1 ] && grep -q "^wrong: " out || complain "a changed program isn't found: $(cat out)"
+cp kept "$bin/life"
+
+go_on "an installation that fails leaves what was"
+# no room for the program: a device of a megabyte, or else a limit on the size of files
+no_room() {
+    mkdir small
+    if mount -t tmpfs -o size=1m none small 2>/dev/null; then
+        launch install "$PWD/small/bin" </dev/null
+        ls -A small/bin >found
+        umount small
+    else
+        mkdir small/bin
+        (trap '' XFSZ && ulimit -f 100 && sh "$launcher" install "$PWD/small/bin" >out 2>notes </dev/null)
+        status=$?
+        ls -A small/bin >found
+    fi
+}
+no_room
+[ "$status" = 70 ] && [ ! -s out ] && [ ! -s found ] || complain "status $status: $(cat out notes found)"
+notes_are "nothing was installed: .*\(space\|large\)"
+: >file
+mkdir -p taken/life
+for place in file/bin taken "$copy"; do
+    launch install "$place" </dev/null
+    [ "$status" = 70 ] && [ ! -s out ] && [ "$(wc -l <notes)" = 1 ] ||
+        complain "$place: status $status: $(cat out notes)"
+    notes_are "nothing was installed: "
+done
+(unset HOME && sh "$launcher" install >out 2>notes </dev/null)
+[ $? = 70 ] || complain "without a home: $(cat out notes)"
+notes_are "HOME isn't set"
+# stopped before anything is in its place
+mkdir slow
+printf '#!/bin/sh\n: >"%s"\nsleep 2\n' "$work/noted" >slow/sync
+chmod +x slow/sync
+PATH=$PWD/slow:$PATH
+is_stopped '[ -e "$work/noted" ]' "stopped; nothing was installed" install "$work/stopped/bin"
+PATH=${PATH#*:}
+[ -z "$(ls -A "$work/stopped/bin")" ] || complain "it leaves $(ls -A "$work/stopped/bin")"
 
 # a stand-in for the kit, which proves nothing and does what STAND_IN says
 begin "proving"
@@ -132,9 +355,15 @@ cat >kit/rt <<'KIT'
 case $STAND_IN-$1 in
     stopped-all) sleep 60 & echo $! >"$NOTED"; wait ;;
     unproved-all) echo "== policy_types"; echo "policy_types: failed (1)"; exit 1 ;;
+    slow-try) sleep 60 & echo $! >"$NOTED"; wait ;;
+    tests-try) echo "tests: 2"; echo "test one ... ok"; case $PWD in
+        */base_tests) echo "test two ... FAILED"; echo "test result: FAILED. 1 passed; 1 failed; 0 ignored;"; exit 1 ;;
+        */lane_tests) echo "it doesn't compile"; exit 1 ;;
+        *) echo "test result: ok. 2 passed; 0 failed; 0 ignored;" ;;
+        esac ;;
     *-all) echo "== policy_types"; echo "== life_cli"; echo "== summary"; echo "policy_types: ok"; sleep 2 ;;
     unbuilt-run) echo "rt: the library policy_types did not build"; exit 1 ;;
-    edited-run) sleep 0.1; touch src/main.rt; sleep 0.1; cp "$PROGRAM" out/life_cli; echo "rt: running out/life_cli;"; exit 2 ;;
+    edited-run) sleep 0.1; touch src/main.rt; sleep 0.1; cp "$PROGRAM" out/life_cli; echo "rt: running out/life_cli;" ;;
     kept-run) echo "rt: running out/life_cli;"; exit 2 ;;
     built-run) cp "$PROGRAM" out/life_cli; echo "rt: running out/life_cli;"; exit 2 ;;
 esac
@@ -148,16 +377,11 @@ proves() {
     [ "$status" = "$2" ] || complain "$1: status $status: $(cat notes)"
     notes_are "$3"
     sleep 0.1
-    touch "$copy/out/preview/life_preview"
-    launch state </dev/null
-    if [ "$4" = current ]; then
-        [ ! -s notes ] || complain "$1: the program isn't current"
-    else
-        notes_are "a preview"
-    fi
+    answers "$4" "$1"
 }
 
 main=$copy/crates/life_cli/src/main.rt
+touch "$main"
 proves built 0 "checked life_cli, 2 of" current
 touch "$main"
 proves unproved 70 "^policy_types: failed" old
@@ -171,45 +395,52 @@ until [ -s "$work/noted" ]; do sleep 0.1; done
 kill "$stopped"
 wait "$stopped"
 [ $? = 130 ] || complain "it isn't stopped: $(cat notes)"
-sleep 0.2
 # one that has ended may still be waiting to be taken note of
-ps -o stat= -p "$(cat "$work/noted")" | grep -qv '^Z' && complain "the kit goes on after the launcher was stopped"
+has_ended() {
+    ! ps -o stat= -p "$(cat "$work/noted")" | grep -qv '^Z'
+}
+await has_ended
+has_ended || complain "the kit goes on after the launcher was stopped"
+answers old "a proof that was stopped"
 
-begin "hints on a terminal"
-touch "$copy/crates/life_cli/out/life_cli"
+begin "stopped while a preview is built, and while tests run"
+PATH=$work/proving/kit:$PATH
+touch "$main"
+export STAND_IN=slow NOTED="$work/noted"
+is_stopped '[ -s "$work/noted" ]' "stopped; no preview was built" try run
+await has_ended
+has_ended || complain "the kit goes on"
+ls "$copy/out/preview" | grep -q '^build\.' && complain "it leaves a folder"
+touch "$copy/out/preview/life_preview"
+is_stopped '[ -s "$work/noted" ]' "stopped; nothing was proved" test
+await has_ended
+has_ended || complain "the kit goes on"
+
+begin "tests"
+export STAND_IN=tests
+rm -rf "$copy"/.ci/checks
+mkdir "$copy/.ci/checks"
+printf 'echo "program_run: skipped: there is no wind"\n[ -x "$LIFE_PROGRAM" ]\n' >"$copy/.ci/checks/program_run.sh"
+printf 'echo "names: no"\nexit 1\n' >"$copy/.ci/checks/names.sh"
+# crates with two tests that pass, one with one of two, one without any; and a check
+passed=$(($(grep -c '^[a-z]*_tests:' "$copy/crates.txt") * 2 - 2))
+launch test </dev/null
+[ "$status" = 1 ] || complain "status $status"
+[ "$(tail -n 1 out)" = "$passed passed, 2 failed, nothing proved" ] || complain "its last line is: $(tail -n 1 out)"
+for line in "^office_tests: 2 passed, after" "^base_tests: 1 passed, 1 FAILED" "two ... FAILED" "it doesn't compile" \
+    "^program_run: skipped: there is no wind"; do
+    grep -q "$line" out || complain "it doesn't say $line: $(cat out)"
+done
+launch test --all </dev/null
+[ "$(tail -n 1 out)" = "$passed passed, 3 failed, nothing proved" ] || complain "with all: $(tail -n 1 out)"
+grep -q "names: no" out || complain "a check that fails isn't shown"
+unset STAND_IN
+PATH=${PATH#*:}
+
+begin "on a terminal"
+touch "$built"
 "$life" run <"$first.csv" >transcript
-python3 - "$launcher" <<'PY' || complain "the hints"
-import fcntl, os, pty, sys
+"$life" generate 1 "${LIFE_PROGRAM:+1}000" 8 </dev/null >script || complain "no script"
+timeout 600 python3 "$root/.ci/launcher/on_a_terminal.py" "$launcher" script || complain "on a terminal"
 
-def on_a_terminal(*words):
-    """What the launcher writes on a terminal, and its status."""
-    child, terminal = pty.fork()
-    if child == 0:
-        os.execvp("sh", ["sh", sys.argv[1], *words])
-    said = b""
-    while True:
-        try:
-            more = os.read(terminal, 1000)
-        except OSError:
-            break
-        if not more:
-            break
-        said += more
-    return os.waitstatus_to_exitcode(os.waitpid(child, 0)[1]), said.decode()
-
-with open("journal.life") as file:
-    fcntl.flock(file, fcntl.LOCK_EX)
-    status, said = on_a_terminal("state")
-    holder = f"journal.life is held by process {os.getpid()}, "
-    assert status == 8 and said.startswith("diskfault") and holder in said, (status, said)
-with open("checkpoint.life", "w") as file:
-    fcntl.flock(file, fcntl.LOCK_EX)
-    for word in ("state", "checkpoint"):
-        status, said = on_a_terminal(word)
-        holder = f"checkpoint.life is held by process {os.getpid()}, "
-        assert status == 8 and said.startswith("diskfault") and holder in said, (status, said)
-status, said = on_a_terminal("state", "0")
-assert status == 2 and said.startswith("usage") and "life: the words" in said, (status, said)
-PY
-
-end "wrong words build nothing, previews touch no journal and no checkpoint, and only a current proof is run"
+end "only a current proof is run, previews touch no book, who waits gets it, and an installation is whole or isn't made"

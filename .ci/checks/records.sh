@@ -3,12 +3,7 @@
 # end, the folder the files of the basis, standard output takes the transcript, and each answer of the journal's file is
 # one that the disk model allows. So the records that the adapters keep for contracts would have just this.
 . "$(dirname "$0")/../common.sh"
-# where it is missing and this may install it, it is installed
-command -v strace >/dev/null || { apt-get update -qq && apt-get install -y -qq strace; } >/dev/null 2>&1
-command -v strace >/dev/null || {
-    echo "records: strace is needed to record the program's calls" >&2
-    exit 1
-}
+needs strace
 
 # a run under strace, with its input, its journal as it was and what it printed
 record() {

@@ -2,11 +2,7 @@
 # Workers of a valuation and of a projection, which no contract tells apart: a worker more is a thread more where each has
 # 8,192 policies, as strace counts; and whatever their number, the text is that of one worker.
 . "$(dirname "$0")/../common.sh"
-command -v strace >/dev/null || { apt-get update -qq && apt-get install -y -qq strace; } >/dev/null 2>&1
-command -v strace >/dev/null || {
-    echo "workers: strace is needed to count threads" >&2
-    exit 1
-}
+needs strace
 
 # a journal of so many issues, of all plans, ages and durations, and of twenty years
 make_book() {

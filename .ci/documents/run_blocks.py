@@ -3,7 +3,8 @@
 usage: python3 run_blocks.py PROGRAM ROOT FOLDER PAGE..
 
 A page is one session of a shell, begun at the top of a copy of the repository that has the program as if it had just
-been proved. Its blocks ```console are run in order: a line `$ COMMAND` is a command, and the lines below it, up to the
+been proved, and as its preview too; its home is an empty folder. Once the page has left the copy, that is taken away.
+Its blocks ```console are run in order: a line `$ COMMAND` is a command, and the lines below it, up to the
 next one or to the end of the block, are what it prints, standard output and standard error together. A line `...`
 stands for any lines, and `...` in a line for any text of it. Lines that begin with `life: ` are the launcher's, and
 aren't compared. Other blocks aren't run, nor are commands that prove, which are named here.
@@ -17,7 +18,7 @@ import sys
 import time
 
 PROVES = ("rt ", "sh life prove", "sh ../life prove", "sh .ci/run", "git clone")
-SECONDS = 120
+SECONDS = 300
 ENDED = "documents-command-ended"
 
 
@@ -68,9 +69,10 @@ def is_as_shown(wanted, printed):
 class Session:
     """A shell at the top of a copy of the repository."""
 
-    def __init__(self, top):
+    def __init__(self, top, home):
+        self.top = top
         self.shell = subprocess.Popen(["sh"], cwd=top, stdin=subprocess.PIPE, stdout=subprocess.PIPE, stderr=subprocess.STDOUT,
-                                      start_new_session=True, env={**os.environ, "LC_ALL": "C"})
+                                      start_new_session=True, env={**os.environ, "LC_ALL": "C", "HOME": home})
         os.set_blocking(self.shell.stdout.fileno(), False)
         self.send("status=0")
 
@@ -91,6 +93,12 @@ class Session:
         text = said[:-len(ENDED) - 2].decode("utf-8", "replace")
         return text[:-1].split("\n") if text.endswith("\n") else text.split("\n") if text else []
 
+    def take_copy_away(self):
+        """Takes the copy away where the shell is outside of it."""
+        where = os.path.realpath(f"/proc/{self.shell.pid}/cwd")
+        if os.path.isdir(self.top) and os.path.commonpath([where, self.top]) != self.top:
+            shutil.rmtree(self.top)
+
     def end(self):
         self.shell.stdin.close()
         self.shell.wait()
@@ -104,9 +112,9 @@ def copy_repository(root, program, top):
         os.makedirs(os.path.dirname(path), exist_ok=True)
         if os.path.exists(os.path.join(root, name)):
             shutil.copy2(os.path.join(root, name), path)
-    out = os.path.join(top, "crates", "life_cli", "out")
-    os.makedirs(out)
-    shutil.copy(program, os.path.join(out, "life_cli"))
+    for folder, name in (("crates/life_cli/out", "life_cli"), ("out/preview", "life_preview")):
+        os.makedirs(os.path.join(top, folder), exist_ok=True)
+        shutil.copy(program, os.path.join(top, folder, name))
 
 
 def run_page(page, root, program, folder):
@@ -115,9 +123,10 @@ def run_page(page, root, program, folder):
         commands = commands_in(page, file.read())
     if not commands:
         return 0, []
-    top = os.path.join(folder, page.replace("/", "-"))
+    top = os.path.realpath(os.path.join(folder, page.replace("/", "-")))
     copy_repository(root, program, top)
-    session, wrong = Session(top), []
+    os.makedirs(top + ".home")
+    session, wrong = Session(top, top + ".home"), []
     for command in commands:
         if command.text.startswith(PROVES):
             continue
@@ -128,6 +137,7 @@ def run_page(page, root, program, folder):
         if not is_as_shown(command.wanted, printed):
             shown = "\n    ".join(printed[:30])
             wrong.append(f"{command.place}: `{command.text}` prints\n    {shown}")
+        session.take_copy_away()
     session.end()
     return len(commands), wrong
 

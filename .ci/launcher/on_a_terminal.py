@@ -1,0 +1,87 @@
+"""What the launcher says on a terminal: why a file can't be had, which words there are, and how far a run is.
+
+usage: python3 on_a_terminal.py LAUNCHER SCRIPT, in a folder with a journal, and a SCRIPT that is long
+"""
+from __future__ import annotations
+
+import fcntl
+import os
+import pty
+import re
+import sys
+import time
+
+LAUNCHER, SCRIPT = sys.argv[1:]
+
+
+def on_a_terminal(*words: str, given: str = os.devnull, taken: str = "", stop_after: float = 0) -> tuple[int, str]:
+    """The status, and what is written on the terminal: what the launcher says, and the text where no file takes it."""
+    child, terminal = pty.fork()
+    if child == 0:
+        os.dup2(os.open(given, os.O_RDONLY), 0)
+        if taken:
+            os.dup2(os.open(taken, os.O_WRONLY | os.O_CREAT | os.O_TRUNC), 1)
+        os.execvp("sh", ["sh", LAUNCHER, *words])
+    if stop_after:
+        time.sleep(stop_after)
+        os.write(terminal, b"\x03")
+    said = b""
+    while True:
+        try:
+            more = os.read(terminal, 1000)
+        except OSError:
+            break
+        if not more:
+            break
+        said += more
+    return os.waitstatus_to_exitcode(os.waitpid(child, 0)[1]), said.decode()
+
+
+def held_files() -> None:
+    me = f"process {os.getpid()}, "
+    with open("journal.life") as file:
+        fcntl.flock(file, fcntl.LOCK_EX)
+        status, said = on_a_terminal("state")
+        assert status == 8 and said.startswith("diskfault") and f"journal.life is held by {me}" in said, (status, said)
+    with open("checkpoint.life", "w") as file:
+        fcntl.flock(file, fcntl.LOCK_EX)
+        for word in ("state", "checkpoint"):
+            status, said = on_a_terminal(word)
+            assert status == 8 and said.startswith("diskfault"), (status, said)
+            assert f"checkpoint.life is held by {me}" in said, said
+
+
+def wrong_words() -> None:
+    status, said = on_a_terminal("state", "0")
+    assert status == 2 and said.startswith("usage") and "sh life help" in said, (status, said)
+
+
+def growth() -> None:
+    """The terminal is told how the journal grows, and is clean where the text begins; a file has the text alone."""
+    told = r"(\r\x1b\[Klife: \d+ postings, \d+ in the last second)"
+    begun = time.monotonic()
+    status, said = on_a_terminal("run", given=SCRIPT)
+    took = time.monotonic() - begun
+    # a disk on which the run ends within the first second tells nothing
+    told += "+" if took > 3 else "*"
+    assert status == 0 and re.match(told + r"\r\x1b\[K\d,issue,\d+,accepted,1\r\n", said), (status, said[:300])
+    assert said.count(",accepted,") == lines_of(SCRIPT), said[-300:]
+    os.remove("journal.life")
+    status, said = on_a_terminal("run", given=SCRIPT, taken="text")
+    assert status == 0 and re.fullmatch(told + r"\r\x1b\[K", said), (status, said)
+    assert lines_of("text") == lines_of(SCRIPT) + 2, "the text isn't whole"
+    os.remove("journal.life")
+    status, said = on_a_terminal("run", given=SCRIPT, stop_after=took / 3)
+    assert status == 130 and "life: stopped; what was accepted stands" in said, (status, said)
+
+
+def lines_of(path: str) -> int:
+    with open(path, encoding="utf-8") as file:
+        return sum(1 for _ in file)
+
+
+if __name__ == "__main__":
+    held_files()
+    wrong_words()
+    os.remove("journal.life")
+    growth()

@@ -1,0 +1,64 @@
+# The proof of the program's crates, and its build.
+
+# the crates that the kit is done with, so far
+checked_crates() {
+    sed -n 's/^== \([a-z][a-z_]*\)$/\1/p' "$log" | grep -v '^summary$'
+}
+
+# tells which crates are checked, until the process that checks them has ended
+show_progress() {
+    last=
+    while kill -0 "$1" 2>/dev/null; do
+        crate=$(checked_crates | tail -n 1)
+        if [ -n "$crate" ] && { [ -t 2 ] || [ "$crate" != "$last" ]; }; then
+            tell "checked $crate, $(checked_crates | wc -l) of $all crates, after $(time_since "$started")"
+            last=$crate
+        fi
+        sleep 1
+    done
+}
+
+# a command of the kit in the program's crate; what is proved by then is kept, so the next one goes on from there
+in_program() {
+    in_a_group "$root/crates/life_cli" "$@"
+    ends_by_signal 'rm -f "$log" "$begun"' "what is proved is kept, and sh life prove goes on from there"
+}
+
+prove() {
+    need_kit
+    exec 9<"$root/crates.txt"
+    flock -n 9 || { echo "life: another launcher is proving; this one waits for it" >&2; flock 9; }
+    is_current "$program" && { echo "life: the program is proved and built" >&2; exit 0; }
+    log=$(mktemp) && begun=$(mktemp) || exit 70
+    at_once=$(jobs_at_once 3000)
+    started=$(date +%s)
+    all=$(crates_below | wc -l)
+    tell "proving $all crates, $at_once side by side, after a pass over their sources"
+    in_program rt all check --jobs "$at_once"
+    show_progress "$worker"
+    if ! { wait "$worker" && build_proved; }; then
+        trap - INT TERM HUP
+        tell_no_more
+        rm -f "$begun"
+        grep -v ': ok$' "$log" | tail -n 20 >&2
+        give_up "the program is not proved and built; what the kit says stands in $log"
+    fi
+    rm -f "$log" "$begun"
+    tell "the program is proved and built, after $(time_since "$started")"
+    tell_no_more
+    exit 0
+}
+
+# The build of what is proved, and a run without words, which touches nothing. The program gets the time at which its
+# build began, so that a source that was changed meanwhile is newer; it also does where the kit, which compares what it
+# reads by checksums, finds nothing changed.
+build_proved() {
+    tell "building the program, after $(time_since "$started")"
+    touch "$begun"
+    : >"$log"
+    in_program rt run
+    wait "$worker"
+    trap - INT TERM HUP
+    grep -q '^rt: running out/life_cli' "$log" && touch -r "$begun" "$program"
+    is_current "$program"
+}

@@ -1,0 +1,71 @@
+# What the launcher's parts share: what is said on standard error, whether a program is current, and the kit's commands.
+
+# a line on standard error, and the status that is given, or 70
+give_up() {
+    echo "life: $1" >&2
+    exit "${2:-70}"
+}
+
+# a line on standard error, which the next one replaces on a terminal
+tell() {
+    if [ -t 2 ]; then printf '\r\033[K%s' "life: $1" >&2; else echo "life: $1" >&2; fi
+}
+
+tell_no_more() {
+    [ ! -t 2 ] || echo >&2
+}
+
+time_since() {
+    spent=$(($(date +%s) - $1))
+    echo "$((spent / 60)) min $((spent % 60)) s"
+}
+
+# the program's crates: itself, and each of ours below it
+crates_below() {
+    awk -F: '/^[a-z]/ { split($1, head, " "); ours[head[1]] = $2 }
+        function visit(name, n, parts, i) {
+            if (seen[name]++) return
+            n = split(ours[name], parts, " ")
+            for (i = 1; i <= n; i++) if (parts[i] in ours) visit(parts[i])
+            print name
+        }
+        END { visit("life_cli") }' "$root/crates.txt"
+}
+
+# whether a built program is newer than each source, contract and proof of its crates, and than the folders they lie in
+is_current() {
+    built=$1
+    [ -x "$built" ] && [ ! "$root/crates.txt" -nt "$built" ] || return 1
+    set --
+    for crate in $(crates_below); do set -- "$@" "$root/crates/$crate"; done
+    [ $# -gt 0 ] || return 1
+    newer=$(find "$@" -mindepth 1 \( -name out -o -name must-fail \) -prune -o \
+        \( -type d -o -name '*.rt' -o -name '*.antt' \) -newer "$built" -print | head -n 1)
+    [ -z "$newer" ]
+}
+
+need_kit() {
+    command -v rt >/dev/null || give_up "the kit's command rt isn't on the path"
+}
+
+# as many jobs side by side as there are processors, and free memory of so many MB for each
+jobs_at_once() {
+    processors=$(nproc 2>/dev/null) || processors=1
+    awk -v most="$processors" -v each="$1" '/^MemAvailable:/ { n = int($2 / 1000 / each) }
+        END { print n < 1 ? 1 : n < most ? n : most }' /proc/meminfo
+}
+
+# A command in a folder and in a group of its own, so that it ends with the launcher; what it prints goes to the log.
+in_a_group() {
+    (cd "$1" && shift && exec setsid "$@" </dev/null >>"$log" 2>&1) &
+    worker=$!
+}
+
+# what a signal does to the command in its group: it ends, and so does the launcher, which says what is left
+ends_by_signal() {
+    # a group that isn't there yet is the process alone
+    trap 'kill -- -"$worker" 2>/dev/null || kill "$worker" 2>/dev/null; '"$1"'
+        tell_no_more
+        echo "life: stopped; '"$2"'" >&2
+        exit 130' INT TERM HUP
+}
