@@ -7,7 +7,7 @@ LIFE_PROGRAM=$program
 export LIFE_PROGRAM
 
 books() {
-    timeout 120 python3 "$tools/life-tools" books "$@" >out 2>remarks
+    timeout 300 python3 "$tools/life-tools" books "$@" >out 2>remarks
 }
 
 # the status of books and these words on standard error; what it printed is `wanted`, where that is given
