@@ -223,7 +223,8 @@ begin "waiting"
 "$life" run <"$first.csv" >transcript
 # somebody has the book, until he is sent away
 hold() {
-    flock -o journal.life sleep 600 &
+    python3 -c 'import fcntl, time; file = open("journal.life"); fcntl.flock(file, fcntl.LOCK_EX); time.sleep(600)' \
+        >/dev/null 2>&1 &
     holder=$!
     await '! flock -n -s journal.life true'
 }
@@ -231,11 +232,11 @@ hold
 launch --wait 0 state </dev/null
 echo diskfault >wanted
 judge "$status" 8 wanted
-notes_are "still journal.life is held by process [0-9]*, flock"
+notes_are "still journal.life is held by process [0-9]*, python"
 # the script is a pipe, which is read once
 echo 1,issue,7501,2020-01-01,endowment,0,3,1000.00,400.00 | sh "$launcher" --wait 600 run >out 2>notes &
 waiter=$!
-await 'grep -q "waiting: journal.life is held by process [0-9]*, flock" notes'
+await 'grep -q "waiting: journal.life is held by process [0-9]*, python" notes'
 kill "$holder"
 wait "$waiter"
 [ $? = 0 ] && grep -q '^1,issue,7501,accepted,5$' out || complain "it doesn't wait: $(cat out notes)"
