@@ -26,6 +26,7 @@ while read -r name edits; do
     done
 done <<'EDITS'
 a_made-up_fault                 life_app/made_up_read_fault office_state/number_of_an_earlier_fault
+always_the_same_status          life_app/always_usage life_app/always_bad_script life_app/always_bad_basis life_app/always_bad_journal life_app/always_write_fault life_app/always_disk_fault life_app/always_ahead
 a_made-up_fault_of_a_device     outside_io/read_all_made_up_fault memory_disk/made_up_fault posting_journal/made_up_fault
 the_newest_state_valued         snapshot_value/newest_position_pinned office_state/newest_state_read
 an_idle_trim                    office_state/idle_trim

@@ -9,7 +9,11 @@ use Rattle.program_endings.specs.Status.{status_of}
 use Rattle.program_endings.specs.Writing.{Input, Shelving, Stream}
 use Rattle.program_endings.specs.declared.ending.Ending.{Ending}
 use Rattle.kept_books.specs.TwoDisks.{TwoDisks}
+use Rattle.basis_book.specs.Dated.{Dated}
+use Rattle.office_state.specs.Journals.{Opens}
+use Rattle.policy_types.specs.declared.script.Lane.{Lane}
 use Rattle.life_app.specs.DueKept.{IsDueOfBoth}
+use Rattle.life_app.specs.Headline.{IsPromised, IsUnrun}
 use Rattle.life_app.specs.Needs.{Filing}
 use Rattle.life_app.specs.ObeysKept.{AskForBoth, ObeysKept}
 
@@ -72,3 +76,10 @@ pub record ObeysFromStart {D E : Type 0} (g : Ghosts D) (e : Ghosts E) (bytes sa
   pub obeys : ObeysKept g e (two_disks old new second kept) words shipped_auditors input output shelf InputStays ShelfStays status
   pub due : (ending : Ending) → AskForBoth words → IsDueOfBoth g e (two_disks old new second kept) output ending
       → (status ≡ status_of ending) ⊎ (status ≡ 9)
+
+-- The run of these lanes, by a basis, over a disk as it was found: it was as is promised, or none of the lines was answered.
+pub record IsPromisedFromStart {D : Type 0} (g : Ghosts D) (bytes : List ℕ) (new : D) (lanes : List Lane) (basis : List Dated)
+    (output : Stream) (status : ℕ) : Type 0 where
+  pub old : D
+  pub found : IsFirstFound g bytes old
+  pub told : IsPromised g Opens old new lanes basis output status ⊎ IsUnrun g Opens old new output status
