@@ -8,3 +8,5 @@ pub mod ReasonSteps
 pub mod BooksSteps
 pub mod KeptRunLaws
 pub mod WorkedBoth
+pub mod WorkedDisk
+pub mod WorkedRuns

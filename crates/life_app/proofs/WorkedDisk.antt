@@ -159,6 +159,15 @@ module _ (begun old : WorkedFile) (opening : Opening) (turns : List Entry) (entr
         ([], inl (subst (JournalBytes image) (sym (append-nil (commands_after opening turns))) before))
     least image (inr after) = (command ∷ [], inl (subst (JournalBytes image) same after))
 
+    -- since the turns before, what they accepted is held
+    pub since_old : (image : List ℕ) → worked_disk.left_since posted (worked_disk.clock old) image
+        → HoldsAtLeast (commands_after opening turns) image
+    since_old image left = elim (leaves.before (length old.calls) image (omega arith) left) [
+      | inl was ↦ least image (inl (subst (λ (b : List ℕ). JournalBytes b (commands_after opening turns))
+          (sym (goes.safe image (only_now old image goes.honest was))) goes.journal))
+      | inr now ↦ least image now
+    ]
+
     pub goes_on : Goes begun posted opening (turns ++ entry ∷ [])
     goes_on =
         let safe_now : (image : List ℕ) → worked_disk.may_leave posted image → image ≡ worked_disk.reads posted = λ image left. left in
