@@ -3,7 +3,7 @@ use Rattle.std.proofs.Common.{◌≡◌, ◌⊎◌, inl, inr, ℕ, ◌≤◌, �
 use Rattle.std.specs.Prelude.{take, drop, slice_index}
 use Rattle.std.specs.List.{AllByRecursion}
 use Rattle.std.proofs.lemmas.List.{length-append}
-use Rattle.outside_io.specs.Disks.{Torn, put}
+use Rattle.outside_io.specs.Disks.{Torn}
 use Rattle.outside_io.specs.FileCalls.{FileCall, file_reads, FileImage, FileLeft}
 use Rattle.outside_io.specs.FileLaws.{left_by_now, left_only_now, reads_as_left}
 use Rattle.policy_types.specs.declared.command.Command.{Command}
@@ -24,7 +24,7 @@ use Rattle.office_state.specs.Standing.{LeavesSince}
 use Rattle.office_state.proofs.HistorySteps.{holds_all, holds_once-push}
 use Rattle.office_state.proofs.ImageSteps.{journal_of, journal_of_more, since_on}
 use Rattle.office_state.proofs.KeptSteps.{keeps_first, keeps_more, kept_now}
-use Rattle.life_app.specs.WorkedFile.{WorkedFile, no_tear, nothing_unsafe, with_record, worked_disk}
+use Rattle.life_app.specs.WorkedFile.{WorkedFile, no_tear, nothing_unsafe, with_body, with_record, worked_disk}
 
 -- ---- the laws of a disk
 
@@ -57,12 +57,16 @@ module _ (first : List ℕ) (P : List ℕ → Type 0) where
 
 module _ (old : WorkedFile) (bodies : List (List ℕ)) (body : List ℕ) (fewer : length bodies < 4000000) (size : length body ≡ 64)
     (journal : IsJournal (worked_disk.reads old) bodies)
-    (safe : (image : List ℕ) → worked_disk.may_leave old image → image ≡ worked_disk.reads old) where
+    (safe : (image : List ℕ) → worked_disk.may_leave old image → image ≡ worked_disk.reads old)
+    (staged_safe : (image : List ℕ) → worked_disk.may_leave (with_body (length bodies) body old) image
+    → image ≡ worked_disk.reads (with_body (length bodies) body old))
+    (new_safe : (image : List ℕ) → worked_disk.may_leave (with_record (length bodies) body old) image
+    → image ≡ worked_disk.reads (with_record (length bodies) body old)) where
   abbrev new : WorkedFile
   new = with_record (length bodies) body old
 
   abbrev staged_bytes : List ℕ
-  staged_bytes = put (worked_disk.reads old) (body_place (length bodies)) (body ++ 0 ∷ [])
+  staged_bytes = worked_disk.reads (with_body (length bodies) body old)
 
   long : length (body ++ 0 ∷ []) ≡ 65
   long = omega (arith, length-append body (0 ∷ []), size)
@@ -77,23 +81,24 @@ module _ (old : WorkedFile) (bodies : List (List ℕ)) (body : List ℕ) (fewer 
   staged : IsStaged staged_bytes bodies body
   staged = written_stage bodies body (worked_disk.reads old) staged_bytes fewer size journal refl
 
-  after_record : (image : List ℕ) → image ≡ worked_disk.reads new → IsBeforeOrAfter bodies body image
-  after_record image same = inr (subst (λ (b : List ℕ). IsJournal b (bodies ++ body ∷ [])) (sym same)
-      (written_opened bodies body staged_bytes (worked_disk.reads new) staged refl))
-
+  -- before the call, or without the record or with it
   before_record : (moment : ℕ) (image : List ℕ) → moment ≤ length old.calls → worked_disk.left_since new moment image
       → worked_disk.left_since old moment image ⊎ IsBeforeOrAfter bodies body image
   before_record moment image le (inl (inl (inl (inl was)))) = inl was
   before_record moment image le (inl (inl (inl (inr now)))) =
-      let same = safe now.1.0 now.1.1 in
-      inr (inl (torn_of image (subst (λ (e : List ℕ). Torn (body_place (length bodies)) (length (body ++ 0 ∷ [])) e image) same now.1.2)))
+      let from = now.1 in
+      inr (inl (torn_of image
+      (subst (λ (e : List ℕ). Torn (body_place (length bodies)) (length (body ++ 0 ∷ [])) e image) (safe from.0 from.1) from.2)))
   before_record moment image le (inl (inl (inr now))) =
-      inr (inl (subst (λ (b : List ℕ). IsJournal b bodies) (sym now.1)
+      inr (inl (subst (λ (b : List ℕ). IsJournal b bodies) (sym (staged_safe image now.1))
       (torn_of staged_bytes (written_torn (worked_disk.reads old) (body_place (length bodies)) (body ++ 0 ∷ []) staged_bytes within refl))))
   before_record moment image le (inl (inr now)) =
+      let from = now.1 in
       inr (staged_either bodies body image (torn_gate bodies body staged_bytes image staged
-      (subst (λ (e : List ℕ). Torn (gate_place (length bodies)) 1 e image) now.1.1 now.1.2)))
-  before_record moment image le (inr now) = inr (after_record image now.1)
+      (subst (λ (e : List ℕ). Torn (gate_place (length bodies)) 1 e image) (staged_safe from.0 from.1) from.2)))
+  before_record moment image le (inr now) =
+      inr (inr (subst (λ (b : List ℕ). IsJournal b (bodies ++ body ∷ [])) (sym (new_safe image now.1))
+      (written_opened bodies body staged_bytes (worked_disk.reads new) staged refl)))
 
   pub record_leaves : Leaves worked_disk old new (IsBeforeOrAfter bodies body)
   record_leaves = record {
@@ -121,7 +126,11 @@ module _ (begun old : WorkedFile) (opening : Opening) (turns : List Entry) (entr
     (goes : Goes begun old opening turns)
     (same : commands_after opening (turns ++ entry ∷ []) ≡ commands_after opening turns ++ command ∷ [])
     (spelled : body ≡ spelling_of command) (size : length body ≡ 64)
-    (fewer : length (bodies_of (commands_after opening turns)) < 4000000) where
+    (fewer : length (bodies_of (commands_after opening turns)) < 4000000)
+    (staged_safe : (image : List ℕ) → worked_disk.may_leave (with_body (length (bodies_of (commands_after opening turns))) body old) image
+    → image ≡ worked_disk.reads (with_body (length (bodies_of (commands_after opening turns))) body old))
+    (safe_now : (image : List ℕ) → worked_disk.may_leave (with_record (length (bodies_of (commands_after opening turns))) body old) image
+    → image ≡ worked_disk.reads (with_record (length (bodies_of (commands_after opening turns))) body old)) where
   abbrev posted : WorkedFile
   posted = with_record (length (bodies_of (commands_after opening turns))) body old
 
@@ -148,7 +157,7 @@ module _ (begun old : WorkedFile) (opening : Opening) (turns : List Entry) (entr
 
     leaves : Leaves worked_disk old posted Either
     leaves = leaves_more worked_disk old posted (IsBeforeOrAfter (bodies_of (commands_after opening turns)) body) Either
-        (record_leaves old (bodies_of (commands_after opening turns)) body fewer size goes.journal.records goes.safe) either
+        (record_leaves old (bodies_of (commands_after opening turns)) body fewer size goes.journal.records goes.safe staged_safe safe_now) either
 
     once : (image : List ℕ) → Either image → HoldsOnce opening (turns ++ entry ∷ []) image
     once image (inl before) = holds_once-push opening turns entry image (holds_all opening turns image before)
@@ -169,18 +178,16 @@ module _ (begun old : WorkedFile) (opening : Opening) (turns : List Entry) (entr
     ]
 
     pub goes_on : Goes begun posted opening (turns ++ entry ∷ [])
-    goes_on =
-        let safe_now : (image : List ℕ) → worked_disk.may_leave posted image → image ≡ worked_disk.reads posted = λ image left. left in
-        record {
-          later = omega (arith, goes.later);
-          honest = honest;
-          journal = next;
-          safe = safe_now;
-          since = since_on begun old posted opening turns entry Either goes.later goes.since leaves once;
-          kept = keeps_more worked_disk begun opening old posted turns entry Either leaves least goes.kept
-              (kept_now worked_disk begun opening posted (turns ++ entry ∷ []) only_now honest (omega (arith, goes.later))
-              (λ image left. inl (subst (λ (b : List ℕ). JournalBytes b (commands_after opening (turns ++ entry ∷ []))) (sym (safe_now image left)) next)));
-        }
+    goes_on = record {
+      later = omega (arith, goes.later);
+      honest = honest;
+      journal = next;
+      safe = safe_now;
+      since = since_on begun old posted opening turns entry Either goes.later goes.since leaves once;
+      kept = keeps_more worked_disk begun opening old posted turns entry Either leaves least goes.kept
+          (kept_now worked_disk begun opening posted (turns ++ entry ∷ []) only_now honest (omega (arith, goes.later))
+          (λ image left. inl (subst (λ (b : List ℕ). JournalBytes b (commands_after opening (turns ++ entry ∷ []))) (sym (safe_now image left)) next)));
+    }
 
 -- the disk that such an office leaves
 pub goes_left : (begun disk : WorkedFile) (opening : Opening) (turns : List Entry) → Goes begun disk opening turns → worked_disk.honest begun

@@ -38,12 +38,14 @@ use Rattle.program_endings.specs.declared.ending.Ending.TheVariants.{Done}
 use Rattle.script_run.specs.Outcome.{IsRunOf}
 use Rattle.transcript_text.specs.Transcript.{posting_text}
 use Rattle.life_app.specs.Runs.{AreLeft, AreRuns, IsRunOn, WasCut}
-use Rattle.life_app.specs.KeptRuns.{KeepsSecond, LeavesSecond, OneRunOfTwo}
+use Rattle.life_app.specs.Headline.{IsPromised}
+use Rattle.life_app.specs.KeptRuns.{KeepsSecond, LeavesSecond, OneRunOfTwo, SavedOfFirst}
 use Rattle.life_app.specs.Words.{AskForRun}
 use Rattle.life_app.specs.WorkedFile.{WorkedFile, cut_bytes, cut_file, issued_file, made_file, no_file, no_tear, nothing_unsafe, paid_file, reopened_file, synced_file, whole_file, worked_disk}
-use Rattle.life_app.specs.WorkedRun.{BothAreLeft, DueOfBoth, DueOfRun, HeadlineOfRun, ObeysWorked, RunsOfFiles, RunsOverBoth, cut_of_two, cut_run, first_turns, issue_turn, issued, issued_and_paid, paid_turn, second_turns, whole_of_two, whole_run, worked_input, worked_lanes, worked_output, worked_script, worked_shelf, worked_text}
+use Rattle.life_app.specs.WorkedRun.{BothAreLeft, BothTellTruth, CrashesOfRuns, DueOfBoth, DueOfRun, HeadlineOfRun, NoneAnswered, ObeysWorked, RunsOfFiles, RunsOverBoth, cut_of_two, cut_run, first_turns, issue_turn, issued, issued_and_paid, paid_turn, second_turns, whole_of_two, whole_run, worked_input, worked_lanes, worked_output, worked_script, worked_shelf, worked_text}
 use Rattle.life_app.proofs.HeadlineLaws.{headline}
-use Rattle.life_app.proofs.RunLaws.{runs_left}
+use Rattle.life_app.proofs.KeptRunLaws.{two_left}
+use Rattle.life_app.proofs.RunLaws.{Facts, runs_left}
 use Rattle.life_app.proofs.WorkedDisk.{EachHas, Goes, counts_now, each_left, goes_left, goes_on, only_now, reads_image, since_old}
 
 -- ---- the creation
@@ -208,12 +210,12 @@ made_goes = record {
 issued_goes : Goes no_file issued_file (opened_on [] 0) (issue_turn ∷ [])
 issued_goes =
     goes_on no_file made_file (opened_on [] 0) [] issue_turn hand_issue issue_body made_goes refl issue_spelled refl (lit< tt)
-    issued_honest (just_the_issue [])
+    (λ image same. same) (λ image same. same) issued_honest (just_the_issue [])
 
 paid_goes : Goes no_file paid_file (opened_on [] 0) first_turns
 paid_goes =
     goes_on no_file issued_file (opened_on [] 0) (issue_turn ∷ []) paid_turn hand_premium premium_body issued_goes refl premium_spelled refl
-    (lit< tt) paid_honest both
+    (lit< tt) (λ image same. same) (λ image same. same) paid_honest both
 
 no_file_opens : Opens [] []
 no_file_opens = opens_short [] (lit≤ tt)
@@ -265,7 +267,7 @@ reopened_goes = record {
 whole_goes : Goes cut_file whole_file (opened_on issued 0) second_turns
 whole_goes =
     goes_on cut_file reopened_file (opened_on issued 0) [] paid_turn hand_premium premium_body reopened_goes refl premium_spelled refl (lit< tt)
-    whole_honest both
+    (λ image same. same) (λ image same. same) whole_honest both
 
 whole_left : IsLeftBy worked_disk cut_file whole_file (opened_on issued 0) second_turns
 whole_left = goes_left cut_file whole_file (opened_on issued 0) second_turns whole_goes cut_honest cut_opens refl (λ quiet. absurd quiet.0)
@@ -291,7 +293,7 @@ was_cut = record {
       images = λ image same. inl (subst (λ (b : List ℕ). JournalBytes b issued) (sym same) (just_the_issue []));
       since = λ image left.
           since_old no_file issued_file (opened_on [] 0) (issue_turn ∷ []) paid_turn hand_premium premium_body issued_goes refl premium_spelled
-          refl (lit< tt) paid_honest both image left;
+          refl (lit< tt) (λ i same. same) (λ i same. same) paid_honest both image left;
     };
     late = inl (inl (inl (inr (lit≤ tt, (worked_disk.reads issued_file, refl, cut_torn)))));
   };
@@ -311,6 +313,12 @@ runs_of_files = (
   record { honest = paid_honest; safe = λ image left. first_left [] image left; left = paid_left },
   record { honest = whole_honest; safe = λ image left. first_left cut_bytes image left; left = whole_left },
   runs_are,
+)
+
+pub crashes_of_runs : CrashesOfRuns
+crashes_of_runs = (
+  record { held = issued; rest = hand_premium ∷ []; more = []; front = refl; one = tt; are = refl },
+  inl refl,
 )
 
 pub both_are_left : BothAreLeft
@@ -382,6 +390,14 @@ obeys words same = record {
   );
 }
 
+promised : (words : List (String Global)) → map string_bytes words ≡ codes "run" ∷ []
+    → IsPromised worked_disk Opens no_file paid_file worked_lanes [] worked_output 0
+promised words same = elim (headline worked_disk no_file paid_file worked_output only_now worked_lanes [] [] (codes "basis.csv") worked_script words
+    worked_input worked_shelf _ _ 0 (obeys words same) (asked words same) (inr (refl, tt)) script_reads (inl (refl, refl))) [
+  | inl is ↦ is
+  | inr unrun ↦ absurd (unrun.failed refl)
+]
+
 pub headline_of_run : HeadlineOfRun
 headline_of_run words same = (
   asked words same,
@@ -389,12 +405,16 @@ headline_of_run words same = (
   script_reads,
   inl (refl, refl),
   obeys words same,
-  elim (headline worked_disk no_file paid_file worked_output only_now worked_lanes [] [] (codes "basis.csv") worked_script words worked_input
-      worked_shelf _ _ 0 (obeys words same) (asked words same) (inr (refl, tt)) script_reads (inl (refl, refl))) [
-    | inl promised ↦ promised
-    | inr unrun ↦ absurd (unrun.failed refl)
-  ],
+  promised words same,
+  record { old = no_file; found = record { faultless = refl; first = refl; reads = refl }; told = inl (promised words same) },
 )
+
+pub none_answered : NoneAnswered
+none_answered = record {
+  failed = λ e. let no : 9 ≡ 0 = e in omega arith;
+  line = (codes "nomemory" ++ 10 ∷ [], inl refl);
+  since = λ honest image left. inl left.1;
+}
 
 no_rose : Rose 0 0 → ⊥
 no_rose rose = let no : 1 ≤ 0 = rose in omega arith
@@ -414,12 +434,15 @@ due_of_run words same = (
 
 -- ---- both disks
 
+none_touched : LeavesSecond worked_disk no_file no_file
+none_touched = record {
+  since = record { later = lit≤ tt; each = λ image left. left.1; before = λ moment image le left. inl left };
+  now = λ image left. left;
+}
+
 keeps : (run : OneRunOfTwo WorkedFile WorkedFile) → run.kept ≡ no_file → run.next_second ≡ no_file → KeepsSecond worked_disk no_file run
 keeps run kept next = record {
-  leaves = subst (λ (d : WorkedFile). LeavesSecond worked_disk no_file d) (sym kept) (record {
-    since = record { later = lit≤ tt; each = λ image left. left.1; before = λ moment image le left. inl left };
-    now = λ image left. left;
-  });
+  leaves = subst (λ (d : WorkedFile). LeavesSecond worked_disk no_file d) (sym kept) none_touched;
   next = inl (next ∙ sym kept);
 }
 
@@ -432,19 +455,37 @@ runs_over_both = (
   ),
 )
 
+no_checkpoint : (file : List ℕ) (commands : List Command) → file ≡ [] → SavedOfFirst file commands
+no_checkpoint file commands same snapshot bytes =
+    let opened : slice_index file 0 ≡ 1 = bytes.opened in
+    let no : 0 ≡ 1 = ap (λ (f : List ℕ). slice_index f 0) (sym same) ∙ opened in
+    absurd (omega (arith, no))
+
+pub both_tell_truth : BothTellTruth
+both_tell_truth image file left may =
+    let opens : Opens image issued_and_paid = inl (subst (λ (b : List ℕ). JournalBytes b issued_and_paid) (sym left) both) in
+    let facts : Facts worked_disk = record { reads_as_image = reads_image; counts_now = counts_now; only_now = only_now } in
+    let held = two_left worked_disk worked_disk facts facts no_file no_file [] (cut_of_two ∷ whole_of_two ∷ []) whole_file no_file
+        (λ i l. first_left [] i l) (λ i l. first_left [] i l) no_file_opens (no_checkpoint [] [] refl) runs_over_both image file left may in
+    let same : held.0 ≡ issued_and_paid = opens_to_one image held.0 issued_and_paid held.1 opens in
+    (opens, subst (SavedOfFirst file) same held.2, held.3)
+
 pub due_of_both : DueOfBoth
 due_of_both = (
-  record {
-    are_true = record {
-      first_honest = whole_honest;
-      second_honest = no_file_honest;
-      truth = λ bodies opened s is within. no_lie cut_bytes bodies opened s is within;
-    };
-    none_failed = λ failed. elim failed [
-      | inl first ↦ no_rose first
-      | inr second ↦ no_rose second
-    ];
-  },
-  (issued, cut_opens),
-  no_rose,
+  (
+    record {
+      are_true = record {
+        first_honest = whole_honest;
+        second_honest = no_file_honest;
+        truth = λ bodies opened s is within. no_lie cut_bytes bodies opened s is within;
+      };
+      none_failed = λ failed. elim failed [
+        | inl first ↦ no_rose first
+        | inr second ↦ no_rose second
+      ];
+    },
+    (issued, cut_opens),
+    no_rose,
+  ),
+  ((opened_on issued 0, (second_turns, inl whole_left)), inl none_touched),
 )

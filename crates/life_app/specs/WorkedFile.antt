@@ -31,11 +31,16 @@ worked_disk = record {
   left_since = λ file moment image. FileLeft file.first no_tear nothing_unsafe file.calls moment image;
 }
 
--- a file behind whose n records a record with this body was written: the body and a closed gate, a sync, the gate, a sync
+-- a file behind whose n records this body and a closed gate were written, and made safe
+abbrev pub with_body : ℕ → List ℕ → WorkedFile → WorkedFile
+with_body n body file =
+    record { first = file.first; calls = Synced true ∷ WrittenTo (body_place n) (body ++ 0 ∷ []) true ∷ file.calls }
+
+-- and then the gate before it was opened
 abbrev pub with_record : ℕ → List ℕ → WorkedFile → WorkedFile
 with_record n body file = record {
   first = file.first;
-  calls = Synced true ∷ WrittenTo (gate_place n) (1 ∷ []) true ∷ Synced true ∷ WrittenTo (body_place n) (body ++ 0 ∷ []) true ∷ file.calls;
+  calls = Synced true ∷ WrittenTo (gate_place n) (1 ∷ []) true ∷ (with_body n body file).calls;
 }
 
 -- the file isn't there

@@ -1,24 +1,25 @@
--- A worked run holds what the laws ask for: two clerks' runs over one file, of which a crash cut the first, put down by hand
-use Rattle.std.specs.Prelude.{◌≡◌, ◌⊎◌, ℕ, List, [], ◌∷◌, ◌++◌, Some, None, codes, map, string_bytes, String}
+-- A worked run holds what the laws ask for: two runs over one file, of which a crash cut the first, put down by hand
+use Rattle.std.specs.Prelude.{◌≡◌, ℕ, List, [], ◌∷◌, ◌++◌, Some, None, codes, map, string_bytes, String}
 use Rattle.std.specs.Global.{Global}
 use Rattle.outside_io.specs.Shelves.{Files}
 use Rattle.command_csv.specs.Reads.{Reads}
-use Rattle.kept_books.specs.TwoDisks.{TwoDisks}
+use Rattle.kept_books.specs.TwoDisks.{TellsTruth, TwoDisks}
 use Rattle.policy_types.specs.declared.command.Command.{Command}
 use Rattle.policy_types.specs.declared.entry.Entry.{Entry}
 use Rattle.policy_types.specs.declared.entry.Reply.TheVariants.{Accepted}
 use Rattle.policy_types.specs.declared.script.Lane.{Lane}
 use Rattle.policy_types.specs.declared.script.Line.TheVariants.{Post as PostLine}
-use Rattle.policy_machine.specs.History.{Opening, opened_on}
+use Rattle.policy_machine.specs.History.{opened_on}
 use Rattle.office_state.specs.Journals.{Opens}
 use Rattle.office_state.specs.Worked.{hand_issue, hand_premium}
+use Rattle.program_endings.specs.Worked.{output_with}
 use Rattle.program_endings.specs.Writing.{Input, IsWholeInput, Shelving, Stream}
 use Rattle.program_endings.specs.declared.ending.Ending.TheVariants.{Done}
-use Rattle.life_app.specs.Crashes.{HasRun}
+use Rattle.life_app.specs.Crashes.{AreAllHeld, AreHeld, HasRun}
 use Rattle.life_app.specs.Due.{IsDueEnding}
-use Rattle.life_app.specs.DueKept.{AreGood, IsDueOfBoth}
-use Rattle.life_app.specs.Headline.{IsGivenBasis, IsPromised}
-use Rattle.life_app.specs.KeptRuns.{AreRunsOfTwo, OneRunOfTwo}
+use Rattle.life_app.specs.DueKept.{IsDueOfBoth}
+use Rattle.life_app.specs.Headline.{IsGivenBasis, IsPromised, IsPromisedFromStart, IsUnrun}
+use Rattle.life_app.specs.KeptRuns.{AreRunsOfTwo, IsLeftByCall, OneRunOfTwo, SavedOfFirst}
 use Rattle.life_app.specs.Needs.{filing_between}
 use Rattle.life_app.specs.Obeys.{Obeys}
 use Rattle.life_app.specs.Runs.{AreLeft, AreRuns, OneRun}
@@ -67,6 +68,10 @@ RunsOfFiles = HasRun worked_disk no_file paid_file (opened_on [] 0) first_turns
     × HasRun worked_disk cut_file whole_file (opened_on issued 0) second_turns
     × AreRuns worked_disk no_file (cut_run ∷ whole_run ∷ []) whole_file
 
+-- what the crash left is the first command, as all is after the second run
+abbrev pub CrashesOfRuns : Type 0
+CrashesOfRuns = AreHeld (opened_on [] 0) first_turns issued × AreAllHeld (opened_on issued 0) second_turns issued_and_paid
+
 -- and so each crash afterwards leaves the issue, which the first run had answered, and the premium of the second
 abbrev pub BothAreLeft : Type 0
 BothAreLeft = (image : List ℕ) → worked_disk.may_leave whole_file image
@@ -111,6 +116,11 @@ HeadlineOfRun = (words : List (String Global)) → map string_bytes words ≡ co
     → AskForRun words (codes "basis.csv") × IsWholeInput worked_input worked_script × Reads worked_script worked_lanes
     × IsGivenBasis worked_lanes (codes "basis.csv") worked_shelf [] × ObeysWorked words
     × IsPromised worked_disk Opens no_file paid_file worked_lanes [] worked_output 0
+    × IsPromisedFromStart worked_disk Opens [] paid_file worked_lanes [] worked_output 0
+
+-- a run without memory answers none of the lines, and touches nothing
+abbrev pub NoneAnswered : Type 0
+NoneAnswered = IsUnrun worked_disk Opens no_file no_file (output_with 0 [] (codes "nomemory" ++ 10 ∷ [])) 9
 
 -- what is due of it: that the work is done
 abbrev pub DueOfRun : Type 0
@@ -128,9 +138,14 @@ whole_of_two = record { one = whole_run; kept = no_file; next_second = no_file }
 abbrev pub RunsOverBoth : Type 0
 RunsOverBoth = AreRunsOfTwo worked_disk worked_disk no_file no_file (cut_of_two ∷ whole_of_two ∷ []) whole_file no_file
 
+-- and so the second disk, which has no checkpoint, tells the truth
+abbrev pub BothTellTruth : Type 0
+BothTellTruth = (image file : List ℕ) → worked_disk.may_leave whole_file image → worked_disk.may_leave no_file file
+    → Opens image issued_and_paid × SavedOfFirst file issued_and_paid × TellsTruth file image
+
 -- the disks of a run that writes the books then
 abbrev pub worked_disks : TwoDisks WorkedFile WorkedFile
 worked_disks = record { old = cut_file; new = whole_file; second = no_file; kept = no_file }
 
 abbrev pub DueOfBoth : Type 0
-DueOfBoth = IsDueOfBoth worked_disk worked_disk worked_disks worked_output Done
+DueOfBoth = IsDueOfBoth worked_disk worked_disk worked_disks worked_output Done × IsLeftByCall worked_disk worked_disk worked_disks

@@ -2,7 +2,7 @@
 
 ghost use Rattle.life_app.specs.Worked.{ClaimedBooks, ClaimedEntries, OtherLines, PostingLines, RefusalTexts, StatusTexts, TwoClerks, UpgradeLines, WatcherLines};
 ghost use Rattle.life_app.specs.WorkedKept.{BothRefuseHello, BothWords, NoWordsLine};
-ghost use Rattle.life_app.specs.WorkedRun.{BothAreLeft, DueOfBoth, DueOfRun, HeadlineOfRun, RunsOfFiles, RunsOverBoth};
+ghost use Rattle.life_app.specs.WorkedRun.{BothAreLeft, BothTellTruth, CrashesOfRuns, DueOfBoth, DueOfRun, HeadlineOfRun, NoneAnswered, RunsOfFiles, RunsOverBoth};
 
 use outside_io::Disk;
 
@@ -62,9 +62,12 @@ pub fn words_for_both<D: Disk, E: Disk>()
 /// say of them.
 pub fn a_worked_run()
     ensures files { RunsOfFiles }
+    ensures crashes { CrashesOfRuns }
     ensures left { BothAreLeft }
     ensures headline { HeadlineOfRun }
+    ensures unrun { NoneAnswered }
     ensures due { DueOfRun }
     ensures both { RunsOverBoth }
+    ensures truth { BothTellTruth }
     ensures due_both { DueOfBoth }
 {}

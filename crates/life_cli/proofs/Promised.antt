@@ -12,11 +12,11 @@ use Rattle.policy_types.specs.declared.script.Lane.{Lane}
 use Rattle.office_state.specs.Journals.{Opens}
 use Rattle.program_endings.specs.Writing.{Input, IsWholeInput, Shelving, Stream}
 use Rattle.watcher_set.specs.Noted.{Auditor}
-use Rattle.life_app.specs.Headline.{IsGivenBasis, IsPromised, IsUnrun}
+use Rattle.life_app.specs.Headline.{IsGivenBasis, IsPromised, IsPromisedFromStart, IsUnrun}
 use Rattle.life_app.specs.ObeysKept.{AskForBoth, ObeysKept}
 use Rattle.life_app.specs.Words.{AskForRun}
 use Rattle.life_app.proofs.HeadlineLaws.{headline, unrun_untouched}
-use Rattle.life_cli.specs.Shipped.{IsPromisedFromStart, ObeysFromStart, shipped_auditors, two_disks}
+use Rattle.life_cli.specs.Shipped.{ObeysFromStart, shipped_auditors, two_disks}
 
 -- words that ask for a run ask for nothing of both disks
 not_of_both : (words : List (String Global)) (name : List ℕ) → AskForRun words name → AskForBoth words → ⊥
@@ -43,7 +43,7 @@ module _ {D E : Type 0} (g : Ghosts D) (e : Ghosts E)
   pub promised : (bytes saved : List ℕ) (new : D) (kept : E)
       → ObeysFromStart g e bytes saved new kept words input output shelf A B status → AskForRun words name
       → IsWholeInput input script → Reads script lanes → IsGivenBasis lanes name shelf basis
-      → IsPromisedFromStart g bytes new lanes basis output status
+      → IsPromisedFromStart g Opens bytes new lanes basis output status
   promised bytes saved new kept obeys run whole reads given = record {
     old = obeys.old;
     found = obeys.found;

@@ -9,11 +9,8 @@ use Rattle.program_endings.specs.Status.{status_of}
 use Rattle.program_endings.specs.Writing.{Input, Shelving, Stream}
 use Rattle.program_endings.specs.declared.ending.Ending.{Ending}
 use Rattle.kept_books.specs.TwoDisks.{TwoDisks}
-use Rattle.basis_book.specs.Dated.{Dated}
-use Rattle.office_state.specs.Journals.{Opens}
-use Rattle.policy_types.specs.declared.script.Lane.{Lane}
 use Rattle.life_app.specs.DueKept.{IsDueOfBoth}
-use Rattle.life_app.specs.Headline.{IsPromised, IsUnrun}
+use Rattle.life_app.specs.Headline.{IsFirstFound}
 use Rattle.life_app.specs.Needs.{Filing}
 use Rattle.life_app.specs.ObeysKept.{AskForBoth, ObeysKept}
 
@@ -58,12 +55,6 @@ filing_from_start before after Honest faults =
 abbrev pub two_disks : {D E : Type 0} → (old new : D) → (second kept : E) → TwoDisks D E
 two_disks old new second kept = record { old = old; new = new; second = second; kept = kept }
 
--- a disk on which no call had been made, and which then read as these bytes
-pub record IsFirstFound {D : Type 0} (g : Ghosts D) (bytes : List ℕ) (old : D) : Type 0 where
-  pub faultless : g.faults old ≡ 0
-  pub first : g.clock old ≡ 0
-  pub reads : g.reads old ≡ bytes
-
 -- The words were obeyed, over two disks as they were found; and where they ask for the books by both, what is due came
 -- about, but for want of memory.
 pub record ObeysFromStart {D E : Type 0} (g : Ghosts D) (e : Ghosts E) (bytes saved : List ℕ) (new : D) (kept : E)
@@ -76,10 +67,3 @@ pub record ObeysFromStart {D E : Type 0} (g : Ghosts D) (e : Ghosts E) (bytes sa
   pub obeys : ObeysKept g e (two_disks old new second kept) words shipped_auditors input output shelf InputStays ShelfStays status
   pub due : (ending : Ending) → AskForBoth words → IsDueOfBoth g e (two_disks old new second kept) output ending
       → (status ≡ status_of ending) ⊎ (status ≡ 9)
-
--- The run of these lanes, by a basis, over a disk as it was found: it was as is promised, or none of the lines was answered.
-pub record IsPromisedFromStart {D : Type 0} (g : Ghosts D) (bytes : List ℕ) (new : D) (lanes : List Lane) (basis : List Dated)
-    (output : Stream) (status : ℕ) : Type 0 where
-  pub old : D
-  pub found : IsFirstFound g bytes old
-  pub told : IsPromised g Opens old new lanes basis output status ⊎ IsUnrun g Opens old new output status

@@ -4,16 +4,17 @@ ghost use Rattle.outside_io.specs.Shelves.{Files};
 ghost use Rattle.policy_types.specs.declared.script.Lane.{Lane};
 ghost use Rattle.basis_book.specs.Dated.{Dated};
 ghost use Rattle.command_csv.specs.Reads.{Reads};
+ghost use Rattle.office_state.specs.Journals.{Opens};
 ghost use Rattle.program_endings.specs.Status.{status_of};
 ghost use Rattle.program_endings.specs.Writing.{IsWholeInput, between, input_between, shelf_between};
 ghost use Rattle.program_endings.specs.declared.ending.Ending.{Ending as AnEnding};
 ghost use Rattle.life_app.specs.DueKept.{IsDueOfBoth};
-ghost use Rattle.life_app.specs.Headline.{IsGivenBasis};
+ghost use Rattle.life_app.specs.Headline.{IsGivenBasis, IsPromisedFromStart};
 ghost use Rattle.life_app.specs.Needs.{filing_between};
 ghost use Rattle.life_app.specs.ObeysKept.{AskForBoth, ObeysKept};
 ghost use Rattle.life_app.specs.Words.{AskForRun};
 ghost use Rattle.life_cli.specs.Completing.{EndsDuly};
-ghost use Rattle.life_cli.specs.Shipped.{IsPromisedFromStart, ObeysFromStart, filing_from_start, shipped_auditors, input_from_start, output_from_start, shelf_from_start, two_disks};
+ghost use Rattle.life_cli.specs.Shipped.{ObeysFromStart, filing_from_start, shipped_auditors, input_from_start, output_from_start, shelf_from_start, two_disks};
 
 use life_app::{EndedKept, life_kept};
 use outside_io::{
@@ -82,7 +83,7 @@ pub fn run_shipped<R: Threads + Wait + Sync, F: FoundFile, C: FoundFile>(
         → Reads script lanes
         → IsGivenBasis lanes name
         (shelf_from_start (⟦<Folder as Shelf>⟧.faults result.shelf) (⟦<Folder as Shelf>⟧.agrees result.shelf)) basis
-        → IsPromisedFromStart ⟦<FileDisk<HostRuntime, F> as Disk>⟧ F.bytes result.disk lanes basis
+        → IsPromisedFromStart ⟦<FileDisk<HostRuntime, F> as Disk>⟧ Opens F.bytes result.disk lanes basis
         (output_from_start (⟦<Output as Sink>⟧.faults result.output) (⟦<Output as Sink>⟧.written result.output))
         result.status }
     ensures ends { EndsDuly words.now
