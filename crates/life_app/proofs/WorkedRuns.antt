@@ -28,21 +28,24 @@ use Rattle.record_codec.specs.Spelling.{spelling_of}
 use Rattle.office_state.specs.Images.{IsLeftBy}
 use Rattle.office_state.specs.Journals.{JournalBytes, Opens}
 use Rattle.office_state.specs.Worked.{hand_issue, hand_premium, issue_body, premium_body}
-use Rattle.office_state.proofs.JournalLaws.{opens_to_one}
+use Rattle.office_state.specs.declared.faults.StartCause.TheVariants.{NotAJournal}
+use Rattle.office_state.proofs.JournalLaws.{opens_to_one, shown_opens_to_none}
 use Rattle.office_state.proofs.KeptSteps.{keeps_first, kept_now}
 use Rattle.office_state.proofs.OpeningSteps.{holds_once}
 use Rattle.office_state.proofs.WorkedOffices.{both, just_the_issue, valid_issue, valid_premium}
+use Rattle.program_endings.proofs.WorkedEndings.{hello_is_foreign}
 use Rattle.program_endings.specs.Replies.{AreAnswered}
 use Rattle.program_endings.specs.Writing.{WroteAll}
 use Rattle.program_endings.specs.declared.ending.Ending.TheVariants.{Done}
 use Rattle.script_run.specs.Outcome.{IsRunOf}
 use Rattle.transcript_text.specs.Transcript.{posting_text}
 use Rattle.life_app.specs.Runs.{AreLeft, AreRuns, IsRunOn, WasCut}
+use Rattle.life_app.specs.Due.{HasItsNeeds}
 use Rattle.life_app.specs.Headline.{IsPromised}
 use Rattle.life_app.specs.KeptRuns.{KeepsSecond, LeavesSecond, OneRunOfTwo, SavedOfFirst}
 use Rattle.life_app.specs.Words.{AskForRun}
 use Rattle.life_app.specs.WorkedFile.{WorkedFile, cut_bytes, cut_file, issued_file, made_file, no_file, no_tear, nothing_unsafe, paid_file, reopened_file, synced_file, whole_file, worked_disk}
-use Rattle.life_app.specs.WorkedRun.{BothAreLeft, BothTellTruth, CrashesOfRuns, DueOfBoth, DueOfRun, HeadlineOfRun, NoneAnswered, ObeysWorked, RunsOfFiles, RunsOverBoth, cut_of_two, cut_run, first_turns, issue_turn, issued, issued_and_paid, paid_turn, second_turns, whole_of_two, whole_run, worked_input, worked_lanes, worked_output, worked_script, worked_shelf, worked_text}
+use Rattle.life_app.specs.WorkedRun.{BothAreLeft, BothTellTruth, CrashesOfRuns, DueOfBoth, DueOfHello, DueOfRun, HeadlineOfRun, NoneAnswered, ObeysWorked, RunsOfFiles, RunsOverBoth, cut_of_two, cut_run, first_turns, issue_turn, issued, issued_and_paid, paid_turn, second_turns, whole_of_two, whole_run, worked_input, worked_lanes, worked_output, worked_script, worked_shelf, worked_text}
 use Rattle.life_app.proofs.HeadlineLaws.{headline}
 use Rattle.life_app.proofs.KeptRunLaws.{two_left}
 use Rattle.life_app.proofs.RunLaws.{Facts, runs_left}
@@ -419,17 +422,32 @@ none_answered = record {
 no_rose : Rose 0 0 → ⊥
 no_rose rose = let no : 1 ≤ 0 = rose in omega arith
 
+needs : (words : List (String Global)) → HasItsNeeds (Run (codes "basis.csv")) worked_input worked_shelf
+needs words = (
+  worked_lanes,
+  record { bytes = worked_script; whole = inr (refl, tt); read = (lit≤ tt, script_reads); held = no_rose },
+  λ asks. absurd (false≢true asks),
+)
+
 pub due_of_run : DueOfRun
 due_of_run words same = (
+  (
+    Run (codes "basis.csv"),
+    asked words same,
+    needs words,
+    ([], record { honest = paid_honest; opens = no_file_opens; held = no_rose }),
+    no_rose,
+  ),
+  (Done, refl, tt),
+  (worked_lanes, (lit≤ tt, script_reads)),
+)
+
+pub due_of_hello : DueOfHello
+due_of_hello words same = (
   Run (codes "basis.csv"),
   asked words same,
-  (
-    worked_lanes,
-    record { bytes = worked_script; whole = inr (refl, tt); read = (lit≤ tt, script_reads); held = no_rose },
-    λ asks. absurd (false≢true asks),
-  ),
-  ([], record { honest = paid_honest; opens = no_file_opens; held = no_rose }),
-  no_rose,
+  needs words,
+  record { honest = tt; none = shown_opens_to_none (codes "hello") NotAJournal tt hello_is_foreign; held = no_rose },
 )
 
 -- ---- both disks

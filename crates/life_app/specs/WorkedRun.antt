@@ -13,15 +13,17 @@ use Rattle.policy_machine.specs.History.{opened_on}
 use Rattle.office_state.specs.Journals.{Opens}
 use Rattle.office_state.specs.Worked.{hand_issue, hand_premium}
 use Rattle.program_endings.specs.Worked.{output_with}
-use Rattle.program_endings.specs.Writing.{Input, IsWholeInput, Shelving, Stream}
-use Rattle.program_endings.specs.declared.ending.Ending.TheVariants.{Done}
+use Rattle.program_endings.specs.Writing.{Input, IsWholeInput, Shelving, Stream, between, input_between, shelf_between}
+use Rattle.program_endings.specs.declared.ending.Ending.TheVariants.{BadJournal, Done}
+use Rattle.script_run.specs.Script.{IsReadable}
 use Rattle.life_app.specs.Crashes.{AreAllHeld, AreHeld, HasRun}
 use Rattle.life_app.specs.Due.{IsDueEnding}
 use Rattle.life_app.specs.DueKept.{IsDueOfBoth}
 use Rattle.life_app.specs.Headline.{IsGivenBasis, IsPromised, IsPromisedFromStart, IsUnrun}
-use Rattle.life_app.specs.KeptRuns.{AreRunsOfTwo, IsLeftByCall, OneRunOfTwo, SavedOfFirst}
-use Rattle.life_app.specs.Needs.{filing_between}
+use Rattle.life_app.specs.KeptRuns.{AreRunsOfTwo, IsLeftByCall, OneRunOfTwo, SavedOfFirst, run_disks}
+use Rattle.life_app.specs.Needs.{Filing, filing_between}
 use Rattle.life_app.specs.Obeys.{Obeys}
+use Rattle.life_app.specs.Reasons.{IsReasoned}
 use Rattle.life_app.specs.Runs.{AreLeft, AreRuns, OneRun}
 use Rattle.life_app.specs.Words.{AskForRun}
 use Rattle.life_app.specs.Worked.{posting_turn}
@@ -88,23 +90,16 @@ worked_lanes = record { number = 1; lines = PostLine hand_issue ∷ PostLine han
 abbrev pub worked_text : List ℕ
 worked_text = codes "1,issue,7001,accepted,1" ++ 10 ∷ codes "1,premium,7001,accepted,2" ++ 10 ∷ []
 
+-- a device that gave, or took, just these bytes, and had no fault
 abbrev pub worked_input : Input
-worked_input = record {
-  faults_before = 0;
-  faults_after = 0;
-  left_before = None;
-  left_after = None;
-  given_before = [];
-  given_after = worked_script;
-  Ended = Unit {0};
-}
+worked_input = input_between (λ gave. 0) (λ gave. None) (λ gave. gave) (λ gave. Unit {0}) [] worked_script
 
 abbrev pub worked_output : Stream
-worked_output = record { faults_before = 0; faults_after = 0; before = Some []; after = Some worked_text }
+worked_output = between (λ took. 0) (λ took. Some took) [] worked_text
 
 -- nothing was fetched
 abbrev pub worked_shelf : Shelving
-worked_shelf = record { faults_before = 0; faults_after = 0; Agrees = λ files. Unit {0} }
+worked_shelf = shelf_between (λ answers. 0) (λ answers files. Unit {0}) 0 0
 
 abbrev pub ObeysWorked : List (String Global) → Type 0
 ObeysWorked words = Obeys worked_disk no_file paid_file words [] worked_input worked_output worked_shelf
@@ -122,10 +117,21 @@ HeadlineOfRun = (words : List (String Global)) → map string_bytes words ≡ co
 abbrev pub NoneAnswered : Type 0
 NoneAnswered = IsUnrun worked_disk Opens no_file no_file (output_with 0 [] (codes "nomemory" ++ 10 ∷ [])) 9
 
--- what is due of it: that the work is done
+-- what is due of it: that the work is done; and the reason of status 0, which is none
 abbrev pub DueOfRun : Type 0
 DueOfRun = (words : List (String Global)) → map string_bytes words ≡ codes "run" ∷ []
     → IsDueEnding words worked_input worked_output worked_shelf (filing_between worked_disk no_file paid_file) Done
+    × IsReasoned words worked_input worked_output worked_shelf (filing_between worked_disk no_file paid_file) 0
+    × IsReadable worked_script
+
+-- five bytes that are no journal, of an honest disk without faults: that is told
+abbrev pub hello_filing : Filing
+hello_filing =
+    record { before = codes "hello"; after = codes "hello"; Honest = Unit {0}; faults_before = 0; faults_after = 0 }
+
+abbrev pub DueOfHello : Type 0
+DueOfHello = (words : List (String Global)) → map string_bytes words ≡ codes "run" ∷ []
+    → IsDueEnding words worked_input worked_output worked_shelf hello_filing BadJournal
 
 -- ---- both disks: neither run touched the second, which isn't there
 
@@ -145,7 +151,7 @@ BothTellTruth = (image file : List ℕ) → worked_disk.may_leave whole_file ima
 
 -- the disks of a run that writes the books then
 abbrev pub worked_disks : TwoDisks WorkedFile WorkedFile
-worked_disks = record { old = cut_file; new = whole_file; second = no_file; kept = no_file }
+worked_disks = run_disks cut_file no_file whole_of_two
 
 abbrev pub DueOfBoth : Type 0
 DueOfBoth = IsDueOfBoth worked_disk worked_disk worked_disks worked_output Done × IsLeftByCall worked_disk worked_disk worked_disks

@@ -2,7 +2,7 @@
 
 ghost use Rattle.life_app.specs.Worked.{ClaimedBooks, ClaimedEntries, OtherLines, PostingLines, RefusalTexts, StatusTexts, TwoClerks, UpgradeLines, WatcherLines};
 ghost use Rattle.life_app.specs.WorkedKept.{BothRefuseHello, BothWords, NoWordsLine};
-ghost use Rattle.life_app.specs.WorkedRun.{BothAreLeft, BothTellTruth, CrashesOfRuns, DueOfBoth, DueOfRun, HeadlineOfRun, NoneAnswered, RunsOfFiles, RunsOverBoth};
+ghost use Rattle.life_app.specs.WorkedRun.{BothAreLeft, BothTellTruth, CrashesOfRuns, DueOfBoth, DueOfHello, DueOfRun, HeadlineOfRun, NoneAnswered, RunsOfFiles, RunsOverBoth};
 
 use outside_io::Disk;
 
@@ -67,6 +67,7 @@ pub fn a_worked_run()
     ensures headline { HeadlineOfRun }
     ensures unrun { NoneAnswered }
     ensures due { DueOfRun }
+    ensures due_hello { DueOfHello }
     ensures both { RunsOverBoth }
     ensures truth { BothTellTruth }
     ensures due_both { DueOfBoth }
