@@ -9,4 +9,5 @@ pub mod BooksSteps
 pub mod KeptRunLaws
 pub mod WorkedBoth
 pub mod WorkedDisk
+pub mod WorkedFiles
 pub mod WorkedRuns
