@@ -30,9 +30,11 @@ NOT_TAKEN = set("""
     program_endings.specs.Replies.HaveAFault office_state.specs.Images.IsLeftAlone office_state.specs.Images.IsPending
     posting_journal.specs.Runs.LooksOn
     life_app.specs.Due.HasNoScript life_app.specs.Due.HasBasis life_app.specs.Due.HasNoBasis
-    life_app.specs.Due.LacksItsBasis life_app.specs.Needs.HasBadFile life_app.specs.Needs.IsPastTheEnd life_app.specs.Words.AskForValue
+    life_app.specs.Due.LacksItsBasis life_app.specs.Needs.HasBadFile life_app.specs.Needs.IsPastTheEnd
+    life_app.specs.Words.AskForValue
     life_args.specs.Words.AskForNothing basis_shelf.specs.Bases.IsBasis
-    script_run.specs.Script.IsRefused life_app.specs.KeptRuns.WasLeftOf life_app.specs.KeptRuns.LeavesSaved life_app.specs.KeptRuns.SavesBooks
+    script_run.specs.Script.IsRefused life_app.specs.KeptRuns.WasLeftOf life_app.specs.KeptRuns.LeavesSaved
+    life_app.specs.KeptRuns.SavesBooks
     life_app.specs.KeptRuns.IsSnapshotOfFirst kept_books.specs.TwoDisks.HasOneFailed
 """.split())
 
@@ -94,7 +96,10 @@ def roots_of(definitions):
 
 def main():
     definitions, imports = known.read_specs()
-    under = lambda roots, less: known.reach(roots, definitions, imports, less)[0]
+
+    def under(roots, less):
+        return known.reach(roots, definitions, imports, less)[0]
+
     cases = cases_of(definitions)
     whole = {it for it in cases if it.startswith(WORKED_RUN)}
     promise = {it for it in under(roots_of(definitions), set()) if ".Worked" not in it}

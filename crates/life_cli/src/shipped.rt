@@ -1,5 +1,6 @@
 // All of the program but what the system hands it, on the devices that it is shipped with.
 ghost use Rattle.std.specs.Prelude.{◌≡◌, ◌⊎◌, ℕ, List, []};
+ghost use Rattle.std.specs.Process.{exit_status};
 ghost use Rattle.outside_io.specs.Shelves.{Files};
 ghost use Rattle.policy_types.specs.declared.script.Lane.{Lane};
 ghost use Rattle.basis_book.specs.Dated.{Dated};
@@ -24,6 +25,7 @@ use policy_types::Watcher;
 use program_endings::lack_memory;
 use std::alloc::Global;
 use std::io::{Stdin, Stdout};
+use std::process::ExitCode;
 use std::sync::Wait;
 use std::thread::Threads;
 use watcher_set::{CountWatcher, PremiumWatcher};
@@ -123,6 +125,26 @@ pub fn run_shipped<R: Threads + Wait + Sync, F: FoundFile, C: FoundFile>(
         disk,
         second,
     }
+}
+
+/// Gives the devices back, and ends with the status that the run left.
+pub fn leave<F: FoundFile, C: FoundFile>(left: Left<F, C>) -> ExitCode
+    ensures { exit_status result ≡ left.status }
+{
+    let Left {
+        status,
+        input,
+        output,
+        shelf,
+        disk,
+        second,
+    } = left;
+    drop(input);
+    drop(output);
+    drop(shelf);
+    drop(disk);
+    drop(second);
+    ExitCode::from(status)
 }
 
 // The same over devices as they are: the top call with the two auditors, or 9 where these find no memory.
