@@ -99,7 +99,7 @@ worked_output = between (λ took. 0) (λ took. Some took) [] worked_text
 
 -- nothing was fetched
 abbrev pub worked_shelf : Shelving
-worked_shelf = shelf_between (λ answers. 0) (λ answers files. Unit {0}) 0 0
+worked_shelf = shelf_between {Device = List ℕ} (λ answers. 0) (λ answers files. Unit {0}) [] []
 
 abbrev pub ObeysWorked : List (String Global) → Type 0
 ObeysWorked words = Obeys worked_disk no_file paid_file words [] worked_input worked_output worked_shelf
