@@ -1,12 +1,19 @@
 // All of the program but what the system hands it, on the devices that it is shipped with.
-ghost use Rattle.std.specs.Prelude.{◌≡◌, ◌⊎◌, List, []};
+ghost use Rattle.std.specs.Prelude.{◌≡◌, ◌⊎◌, ℕ, List, []};
+ghost use Rattle.std.specs.Process.{exit_status};
 ghost use Rattle.outside_io.specs.Shelves.{Files};
+ghost use Rattle.policy_types.specs.declared.script.Lane.{Lane};
+ghost use Rattle.basis_book.specs.Dated.{Dated};
+ghost use Rattle.command_csv.specs.Reads.{Reads};
+ghost use Rattle.office_state.specs.Journals.{Opens};
 ghost use Rattle.program_endings.specs.Status.{status_of};
-ghost use Rattle.program_endings.specs.Writing.{between, input_between, shelf_between};
+ghost use Rattle.program_endings.specs.Writing.{IsWholeInput, between, input_between, shelf_between};
 ghost use Rattle.program_endings.specs.declared.ending.Ending.{Ending as AnEnding};
 ghost use Rattle.life_app.specs.DueKept.{IsDueOfBoth};
+ghost use Rattle.life_app.specs.Headline.{IsGivenBasis, IsPromisedFromStart};
 ghost use Rattle.life_app.specs.Needs.{filing_between};
 ghost use Rattle.life_app.specs.ObeysKept.{AskForBoth, ObeysKept};
+ghost use Rattle.life_app.specs.Words.{AskForRun};
 ghost use Rattle.life_cli.specs.Completing.{EndsDuly};
 ghost use Rattle.life_cli.specs.Shipped.{ObeysFromStart, filing_from_start, shipped_auditors, input_from_start, output_from_start, shelf_from_start, two_disks};
 
@@ -18,6 +25,7 @@ use policy_types::Watcher;
 use program_endings::lack_memory;
 use std::alloc::Global;
 use std::io::{Stdin, Stdout};
+use std::process::ExitCode;
 use std::sync::Wait;
 use std::thread::Threads;
 use watcher_set::{CountWatcher, PremiumWatcher};
@@ -70,6 +78,16 @@ pub fn run_shipped<R: Threads + Wait + Sync, F: FoundFile, C: FoundFile>(
         (shelf_from_start (⟦<Folder as Shelf>⟧.faults result.shelf) (⟦<Folder as Shelf>⟧.agrees result.shelf))
         (⟦<Input as Source>⟧.given result.input ≡ [])
         ((files : Files) → ⟦<Folder as Shelf>⟧.agrees result.shelf files) result.status }
+    // A script's run: of words that ask for one, the whole input, the lanes that it reads as, and the basis that it is given.
+    ensures promised { (name script : List ℕ) (lanes : List Lane) (basis : List Dated) → AskForRun words.now name
+        → IsWholeInput (input_from_start (⟦<Input as Source>⟧.faults result.input) (⟦<Input as Source>⟧.given result.input)
+        (⟦<Input as Source>⟧.ended result.input)) script
+        → Reads script lanes
+        → IsGivenBasis lanes name
+        (shelf_from_start (⟦<Folder as Shelf>⟧.faults result.shelf) (⟦<Folder as Shelf>⟧.agrees result.shelf)) basis
+        → IsPromisedFromStart ⟦<FileDisk<HostRuntime, F> as Disk>⟧ Opens F.bytes result.disk lanes basis
+        (output_from_start (⟦<Output as Sink>⟧.faults result.output) (⟦<Output as Sink>⟧.written result.output))
+        result.status }
     ensures ends { EndsDuly words.now
         (input_from_start (⟦<Input as Source>⟧.faults result.input) (⟦<Input as Source>⟧.given result.input)
         (⟦<Input as Source>⟧.ended result.input))
@@ -107,6 +125,26 @@ pub fn run_shipped<R: Threads + Wait + Sync, F: FoundFile, C: FoundFile>(
         disk,
         second,
     }
+}
+
+/// Gives the devices back, and ends with the status that the run left.
+pub fn leave<F: FoundFile, C: FoundFile>(left: Left<F, C>) -> ExitCode
+    ensures { exit_status result ≡ left.status }
+{
+    let Left {
+        status,
+        input,
+        output,
+        shelf,
+        disk,
+        second,
+    } = left;
+    drop(input);
+    drop(output);
+    drop(shelf);
+    drop(disk);
+    drop(second);
+    ExitCode::from(status)
 }
 
 // The same over devices as they are: the top call with the two auditors, or 9 where these find no memory.

@@ -2,8 +2,10 @@ use Rattle.std.proofs.Common.{◌≡◌, List, [], length, Some, ap}
 use Rattle.outside_io.specs.FileCalls.{FileCall, file_reads, AreAllowed}
 use Rattle.outside_io.specs.Shelves.{Files, Agrees}
 use Rattle.outside_io.specs.Streams.{StreamPiece, passed_bytes, HasEnd}
+use Rattle.outside_io.specs.FileLaws.{left_only_now}
 use Rattle.life_cli.specs.Shipped.{two_disks}
 use Rattle.life_cli.proofs.FromStart.{due_from_start, ends_from_start, agrees_with_all, kept_still, obeys_from_start}
+use Rattle.life_cli.proofs.Promised.{promised}
 use Rattle.life_cli.proofs.shipped.run_shipped.Goals as goal
 
 pub returns-clause-obeys : goal.returns-clause-obeys
@@ -43,6 +45,12 @@ returns-clause-obeys g c =
       due = due_from_start _ _ disks _ _ output.faults output'.faults (Some (passed_bytes output.taken)) (Some (passed_bytes output'.taken))
           c.new-output.ensures.faults took c.obey-status.ensures.due;
     }
+
+pub returns-clause-promised : goal.returns-clause-promised
+returns-clause-promised g c = λ name script lanes basis run whole reads given.
+    let found = g.F.FoundFile.bytes in
+    promised _ _ (λ disk image honest left. left_only_now found g.F.FoundFile.torn g.F.FoundFile.unsynced disk.file.calls image left)
+    _ name script lanes basis _ _ _ _ _ _ found _ _ _ (returns-clause-obeys g c) run whole reads given
 
 pub returns-clause-ends : goal.returns-clause-ends
 returns-clause-ends g c =
