@@ -6,7 +6,7 @@
 check=$(basename "$0" .sh)
 root=$(cd "$(dirname "$0")/../.." && pwd) || exit 2
 work=$(mktemp -d) || exit 2
-trap 'rm -rf "$work"' EXIT
+trap 'chmod -R u+w "$work"; rm -rf "$work"' EXIT
 if [ -n "${LIFE_PROGRAM:-}" ]; then
     program=$(readlink -f -- "$LIFE_PROGRAM")
     life=$work/life
@@ -52,6 +52,15 @@ begin() {
 # a case that goes on in the folder of the one before
 go_on() {
     name=$1
+}
+
+# A folder that all may read and none may write. Root may write any file, so the program is run there as nobody: by
+# `$nobody "$reader"`.
+close_folder() {
+    reader=$work/reader
+    nobody=
+    [ "$(id -u)" != 0 ] || nobody="setpriv --reuid=65534 --regid=65534 --clear-groups"
+    chmod 755 "$work" && cp "$program" "$reader" && chmod 755 "$reader" && chmod 444 "$1"/* && chmod 555 "$1" || exit 2
 }
 
 # a case in a new folder with a basis of table Q without interest

@@ -1,6 +1,7 @@
 #!/bin/sh
 # The calls that the program makes on real files, recorded by strace: just those that the journal and its checkpoint allow,
-# in order and number. A sync that is left out, or made too late, is seen here and by no proof.
+# in order and number. A sync that is left out, or made too late, is seen here and by no proof, and so is a write to a file
+# that can only be read.
 . "$(dirname "$0")/../common.sh"
 # where it is missing and this may install it, it is installed
 command -v strace >/dev/null || { apt-get update -qq && apt-get install -y -qq strace; } >/dev/null 2>&1
@@ -13,10 +14,15 @@ head -n 3 "$examples/first-issues.csv" >three
 "$life" run <three >expected || exit 2
 rm journal.life
 
-# into this file those of this mode
+# into this file those of a program with a word
+record_calls() {
+    record=$1
+    shift
+    strace -f -s 400 -xx -o "$record" -e trace=openat,flock,pread64,read,pwrite64,write,fsync,fdatasync,ftruncate,close,dup,dup2 \
+        "$@"
+}
 record() {
-    strace -f -s 400 -xx -o "$1" -e trace=openat,flock,pread64,read,pwrite64,write,fsync,fdatasync,ftruncate,close,dup,dup2 \
-        "$program" "$2" <three >out || {
+    record_calls "$1" "$program" "$2" <three >out || {
         echo "calls: the program could not be recorded" >&2
         exit 1
     }
@@ -30,6 +36,14 @@ record kept checkpoint
 record stated state
 record replaced checkpoint
 record beside run
+mkdir archive && cp journal.life archive
+close_folder archive
+# shellcheck disable=SC2086
+(cd archive && record_calls ../archived $nobody "$reader" state <"$nothing" >../told)
+[ $? = 0 ] || complain "an archive isn't read"
+# shellcheck disable=SC2086
+(cd archive && record_calls ../unposted $nobody "$reader" run <../three >../told)
+[ $? = 0 ] || complain "an archive of these postings isn't read"
 python3 - <<'PY' || exit 1
 import re, sys
 
@@ -45,7 +59,7 @@ def calls(name):
             path = bytes.fromhex(re.search(r'"((?:\\x[0-9a-f]{2})*)"', args)[1].replace("\\x", "")).decode()
             roles[result] = {".": "folder", "journal.life": "journal", "checkpoint.life": "checkpoint"}.get(path, "other")
             if roles[result] != "other":
-                found.append(f"open {roles[result]}")
+                found.append(f"{'open' if result >= 0 else 'refused'} {roles[result]}")
             continue
         fd = int(args.split(",")[0])
         role = "output" if fd == 1 else roles.get(fd, "other")
@@ -96,6 +110,9 @@ judge("replaced", BOTH + saved + BOTH_ENDED)
 for name in ("unkept", "stated"):
     judge(name, BOTH + BOTH_ENDED)
 judge("beside", HELD + OPENED + ENDED)
+# what can't be written is opened to be read, where it is there
+judge("archived", HELD + ["refused journal"] + OPENED + ["refused checkpoint"] * 2 + ENDED)
+judge("unposted", HELD + ["refused journal"] + OPENED + ENDED)
 PY
 
 # A journal of 20,000 records is read by pieces, twice: for its gates, and for its bodies. For the account of one policy
@@ -126,4 +143,5 @@ strace -f -o reads -e trace=pread64 "$program" state </dev/null >out || complain
 reads=$(grep -c 'pread64(' reads)
 [ "$reads" -le $(($(wc -c <journal.life) / 65536 + 960064 / 65536 + 20)) ] || complain "with a checkpoint there are $reads reads"
 [ "$(tail -n 1 out)" = count,20000 ] || complain "another number of records with a checkpoint"
-end "the program syncs each write before the next, and its records before its transcript; it reads and writes by pieces"
+end "the program syncs each write before the next, and its records before its transcript; it reads and writes by pieces; in \
+an archive it writes nothing"

@@ -14,9 +14,10 @@ import re
 import sys
 from dataclasses import dataclass
 
-from judge import Wrong, demand, demand_file, commands_in, judge_early_end, judge_transcript, judge_unanswered, reason
+from judge import (Wrong, commands_in, demand, demand_faults, demand_file, judge_early_end, judge_transcript,
+                   judge_unanswered, reason)
 from journals import file_of
-from runs import JOURNAL, KEPT, Desk
+from runs import JOURNAL, KEPT, Desk, read_bytes
 from scenes import SCENES, book_before, checkpoint_before
 from tables import read_basis
 
@@ -123,17 +124,16 @@ class Trial:
         paths = [word for name in names_in(desk)[target.file] for word in ("-P", name)]
         inject = ["-e", f"trace={target.kind}", "-e", f"inject={target.kind}:error={error}:when={when}"]
         ended = desk.run(self.scene.words, ["strace", "-f", "-qq", "-o", desk.path("log"), *paths, *inject])
-        with open(desk.path("log"), errors="replace") as log:
-            hits = log.read().count("(INJECTED)")
+        log = read_bytes(desk.path("log")).decode("utf-8", "replace").splitlines()
         try:
-            demand(hits > 0, "no call was made to fail")
+            demand(any("(INJECTED)" in line for line in log), "no call was made to fail")
             demand(not ended.complaints, f"on standard error: {ended.complaints[:300]}")
-            self.judge(target, error, hits, ended)
+            self.judge(target, error, log, ended)
             desk.judge_reopening()
         except Exception as wrong:
             raise Wrong(f"{self.scene.name}: {target} fails with {error}: {reason(wrong)}; the files are in {desk.folder}")
 
-    def judge(self, target, error, hits, ended):
+    def judge(self, target, error, log, ended):
         self.seen[error] += 1
         is_held = target.kind == "openat" and target.file == "folder" and target.k <= HELD
         if is_held or (error == "EINTR" and target.kind in MADE_AGAIN):
@@ -141,14 +141,14 @@ class Trial:
         elif target.file == "out":
             self.judge_cut(ended)
         elif target.file in (JOURNAL, KEPT, "folder"):
-            self.judge_disk(target, hits, ended)
+            self.judge_disk(target, log, ended)
         else:
             judge_early_end(ended, 6, self.before)
 
     def judge_undisturbed(self, ended):
         if self.scene.posts:
-            faults = judge_transcript(self.scene.script, ended, self.before, self.basis, self.known)
-            demand(faults == 0, f"{faults} lines are answered fault")
+            run = judge_transcript(self.scene.script, ended, self.before, self.basis, self.known)
+            demand(run.faults == 0, f"{run.faults} lines are answered fault")
         else:
             is_same = (ended.status, ended.text) == (0, self.undisturbed.text)
             demand(is_same, f"status {ended.status}, printed {ended.text[:200]!r}")
@@ -162,13 +162,13 @@ class Trial:
         else:
             demand_file(ended.after, commands_in(self.before, "the file before"))
 
-    def judge_disk(self, target, hits, ended):
+    def judge_disk(self, target, log, ended):
         if not self.is_posting(target):
             judge_early_end(ended, 8, self.before)
             return
-        faults = judge_transcript(self.scene.script, ended, self.before, self.basis, self.known)
-        demand(faults == hits, f"{faults} lines are answered fault, and {hits} calls failed")
-        self.seen["lines"] += faults
+        run = judge_transcript(self.scene.script, ended, self.before, self.basis, self.known)
+        demand_faults(run, log)
+        self.seen["lines"] += run.faults
 
 
 def errors_of(target):

@@ -3,8 +3,8 @@
 usage: python3 drawn.py PROGRAM FOLDER SEED
 
 Each failing call is one of a posting's, drawn among all that an undisturbed run of the same script makes, or one of the
-opening's; strace counts the calls of each thread by itself. Just as many lines as calls failed are answered `fault`; what
-was accepted is in the file, and beyond it at most the last that wasn't.
+opening's; strace counts the calls of each thread by itself. Just as many lines as calls failed are answered `fault`, or
+each posting from a sync that failed on; what was accepted is in the file, and beyond it at most the last that wasn't.
 """
 import collections
 import os
@@ -12,7 +12,7 @@ import random
 import sys
 from concurrent.futures import ThreadPoolExecutor
 
-from judge import Wrong, demand, judge_early_end, judge_transcript, reason
+from judge import Wrong, demand, demand_faults, judge_early_end, judge_transcript, reason
 from journals import file_of, read_journal
 from runs import JOURNAL, ROOT, Desk, read_bytes
 from tables import read_basis
@@ -66,17 +66,18 @@ class Drawn:
         desk = self.desk(str(number))
         inject = ["-e", f"inject={kind}:error={error}:when={first}..{last}"]
         ended = desk.run(["run"], self.strace(desk, [kind], inject))
-        hits = sum("(INJECTED)" in line for line in read_bytes(desk.path("log")).decode("utf-8", "replace").splitlines())
+        log = read_bytes(desk.path("log")).decode("utf-8", "replace").splitlines()
         try:
             demand(not ended.complaints, f"on standard error: {ended.complaints[:300]}")
             if ended.text == "diskfault\n":
+                hits = sum("(INJECTED)" in line for line in log)
                 demand(hits == 1, f"{hits} calls failed in the opening")
                 judge_early_end(ended, 8, self.before)
                 return 0
-            faults = judge_transcript(self.script, ended, self.before, self.basis, self.known)
-            demand(faults == hits, f"{faults} lines are answered fault, and {hits} calls failed")
+            run = judge_transcript(self.script, ended, self.before, self.basis, self.known)
+            demand_faults(run, log)
             desk.judge_reopening()
-            return faults
+            return run.faults
         except Exception as wrong:
             raise Wrong(f"script {self.seed}: {kind} {first} to {last} fails with {error}: {reason(wrong)}; "
                         f"the files are in {desk.folder}")

@@ -1,10 +1,11 @@
 """Judges a run that met a fault, a limit or a signal, by docs/FORMATS.md: its status, what it printed, the file it left.
 
-Nothing that was accepted may be lost, just the lines whose calls failed may be answered `fault`, and the status has to be
-the one that is due. Beyond what was accepted the file may hold one command more, of a line that was answered `fault` and
+Nothing that was accepted may be lost, just the lines whose calls failed may be answered `fault`, and those behind a sync
+that failed; and the status has to be the one that is due. Beyond what was accepted the file may hold one command more, of a line that was answered `fault` and
 behind which nothing was accepted.
 """
 import os
+import re
 import sys
 
 sys.path.insert(0, os.path.join(os.path.dirname(os.path.abspath(__file__)), "..", "..", "tools"))
@@ -32,6 +33,8 @@ class FaultyRun(Run):
     def __init__(self, lines, book, basis, known):
         super().__init__(lines, book, basis, known)
         self.faults = self.unserved = 0
+        # of the lines that were answered `fault` those behind which one was accepted
+        self.recovered = 0
         # the commands that the file may hold beyond the accepted ones
         self.in_doubt = []
 
@@ -47,6 +50,7 @@ class FaultyRun(Run):
             super().post(head, line, command)
             if self.accepted > before:
                 self.in_doubt = []
+                self.recovered = self.faults
 
     def value(self, answer, line):
         if answer[0] == [*line.head, "nomemory"]:
@@ -79,12 +83,38 @@ def demand_file(after, accepted, in_doubt=()):
 
 
 def judge_transcript(script, ended, before, basis, known):
-    """A run that printed its transcript: its lines, its file and its status; tells how many lines met a fault."""
+    """A run that printed its transcript: its lines, its file and its status."""
     run = follow(script, ended.text, before, basis, known)
     demand_file(ended.after, run.book.commands, run.in_doubt)
     due = 8 if run.faults else 9 if run.unserved else 0
     demand(ended.status == due, f"status {ended.status}, with {run.faults} faults and {run.unserved} lines without memory")
-    return run.faults
+    return run
+
+
+def failed_calls(log):
+    """How many calls strace made fail: those of a sync, of which the question about the name is a part; and the others."""
+    syncs, others, begun = 0, 0, {}
+    for line in log:
+        thread = line.split(" ", 1)[0]
+        if "<unfinished" in line:
+            begun[thread] = line
+        elif "(INJECTED)" in line:
+            call = begun.get(thread, "") if "resumed>" in line else line
+            if re.search(r"\bfsync\(|\bstatx\(AT_FDCWD", call):
+                syncs += 1
+            else:
+                others += 1
+    return syncs, others
+
+
+def demand_faults(run, log):
+    """Each call that failed cost one line. But behind a sync that failed no posting is accepted any more."""
+    syncs, others = failed_calls(log)
+    if syncs:
+        demand(run.recovered <= others < run.faults,
+               f"{run.faults} lines are answered fault, {run.recovered} before one is accepted; a sync failed, and {others} others")
+    else:
+        demand(run.faults == others, f"{run.faults} lines are answered fault, and {others} calls failed")
 
 
 def judge_early_end(ended, status, before):

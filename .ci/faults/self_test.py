@@ -6,9 +6,9 @@ import os
 import sys
 from dataclasses import replace
 
-from judge import Wrong, demand, judge_early_end, judge_lacking, judge_transcript, judge_unanswered
+from judge import Wrong, demand, demand_faults, judge_early_end, judge_lacking, judge_transcript, judge_unanswered
 from journals import RECORD_SIZE, file_of, read_journal
-from runs import JOURNAL, Desk
+from runs import JOURNAL, Desk, read_bytes
 from scenes import ONE_CLERK, TWO_CLERKS, book_before
 from tables import read_basis
 
@@ -21,6 +21,10 @@ def disturbed(program, folder, script, kind, when, file):
     ended = desk.run(["run"], ["strace", "-f", "-qq", "-o", desk.path("log"), "-P", desk.path(file), "-e", f"trace={kind}",
                                "-e", f"inject={kind}:error=EIO:when={when}"])
     return desk, before, ended
+
+
+def log_of(desk):
+    return read_bytes(desk.path("log")).decode("utf-8", "replace").splitlines()
 
 
 def refused(judge):
@@ -55,7 +59,9 @@ def try_transcripts(program, folder):
     desk, before, ended = disturbed(program, folder, TWO_CLERKS, "fsync", 7, JOURNAL)
     basis = read_basis(desk.path("basis.csv"))
     judge = lambda run: judge_transcript(TWO_CLERKS, run, before, basis, {})
-    demand(judge(ended) > 0, "no line is answered fault")
+    run = judge(ended)
+    demand(run.faults > 0, "no line is answered fault")
+    demand_faults(run, log_of(desk))
     more = read_journal(ended.after).commands
     changed = {
         # the last record may be that of the posting that failed, of which the file may be without
@@ -74,6 +80,18 @@ def try_transcripts(program, folder):
     for what, run in changed.items():
         demand(refused(lambda: judge(run)), f"the judge takes {what}")
     return len(changed)
+
+
+def try_counts(program, folder):
+    """A run goes on behind a write that failed, and not behind a sync; each with the calls of the other is refused."""
+    runs = {}
+    for kind, when in (("pwrite64", 3), ("fsync", 4)):
+        desk, before, ended = disturbed(program, os.path.join(folder, kind), ONE_CLERK, kind, when, JOURNAL)
+        runs[kind] = judge_transcript(ONE_CLERK, ended, before, read_basis(desk.path("basis.csv")), {}), log_of(desk)
+        demand_faults(*runs[kind])
+    for one, other in (("pwrite64", "fsync"), ("fsync", "pwrite64")):
+        demand(refused(lambda: demand_faults(runs[one][0], runs[other][1])), f"the judge takes a run whose {other} failed")
+    return len(runs)
 
 
 def try_ends(program, folder):
@@ -102,7 +120,8 @@ def try_ends(program, folder):
 
 def main():
     program, folder = sys.argv[1:3]
-    tried = try_transcripts(program, os.path.join(folder, "transcripts")) + try_ends(program, folder)
+    tried = (try_transcripts(program, os.path.join(folder, "transcripts")) + try_counts(program, os.path.join(folder, "counts"))
+             + try_ends(program, folder))
     print(f"faults: the judge refuses {tried} changed runs")
 
 

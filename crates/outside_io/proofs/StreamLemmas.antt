@@ -1,5 +1,5 @@
 -- A front of the bytes was written, and then a front of the rest.
-use Rattle.std.proofs.Common.{◌≡◌, ℕ, ◌+◌, ◌-◌, ◌<◌, ◌≤◌, Option, None, Some, List, [], ◌++◌, length, length-drop, take, drop, min, append_assoc, append-nil, length-append, arith, ap, ◌∙◌, sym}
+use Rattle.std.proofs.Common.{◌≡◌, ℕ, ◌+◌, ◌-◌, ◌<◌, ◌≤◌, Option, None, Some, IfSome, List, [], ◌++◌, length, length-drop, take, drop, min, append_assoc, append-nil, length-append, arith, ap, ◌∙◌, sym}
 use Rattle.std.specs.Io.KnownBytes.{Appends, Consumes, Keeps}
 use Rattle.outside_io.specs.Streams.{GivesFront}
 use Rattle.std.proofs.lemmas.List.{take-append-drop, drop-drop, drop_all, take_rest, length-take-le}
@@ -59,6 +59,17 @@ gives_none before mid after front piece n none first then =
 -- What was given is longer than a limit, where one read gave more than there was room for.
 pub longer : (front piece : List ℕ) (n limit : ℕ) → n ≤ length piece → limit - length front < n → length front ≤ limit → limit < length (front ++ take n piece)
 longer front piece n limit within many short = omega (arith, length-append front (take n piece), length-take-le n piece within)
+
+-- What was left was longer than a limit, where a front of it is.
+pub had_more : (before after : Option (List ℕ)) (front : List ℕ) (limit : ℕ) → Consumes before after front → limit < length front
+    → IfSome before (λ told. limit < length told)
+had_more None after front limit taken more = tt
+had_more (Some xs) None front limit taken more = absurd taken
+had_more (Some xs) (Some ys) front limit taken more = rw taken (omega (arith, more, length-append front ys))
+
+-- What was given is something, where one read gave something.
+pub some_more : (front piece : List ℕ) (n : ℕ) → n ≤ length piece → (n ≡ 0 → ⊥) → 0 < length (front ++ take n piece)
+some_more front piece n within some = omega (arith, some, length-append front (take n piece), length-take-le n piece within)
 
 module _ (given_before given_mid given_after : List ℕ) (left_before left_mid left_after : Option (List ℕ)) (front more : List ℕ) where
   pub front_more : given_mid ≡ given_before ++ front → given_after ≡ given_mid ++ more → Consumes left_before left_mid front → Consumes left_mid left_after more

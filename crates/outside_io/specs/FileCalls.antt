@@ -31,15 +31,20 @@ module _ (first : List ℕ) (torn : ℕ → List ℕ) where
       nat_le at (length (file_reads earlier)) && writes_within earlier
   writes_within (call ∷ earlier) = writes_within earlier
 
--- no sync failed so far
-abbrev pub NoSyncFailed : List FileCall → Type 0
-NoSyncFailed [] = ⊤
-NoSyncFailed (Synced false ∷ earlier) = ⊥
-NoSyncFailed (call ∷ earlier) = NoSyncFailed earlier
+-- whether a sync failed so far
+abbrev pub sync_failed : List FileCall → Bool
+sync_failed [] = false
+sync_failed (Synced false ∷ earlier) = true
+sync_failed (call ∷ earlier) = sync_failed earlier
+
+-- What a sync that succeeds makes of the images: one is safe, or left as before, where an earlier sync failed. A system
+-- may have dropped what that was to make safe.
+abbrev pub SafeUnless : Bool → (safe before : Type 0) → Type 0
+SafeUnless true safe before = before
+SafeUnless false safe before = safe
 
 module _ (first : List ℕ) (torn : ℕ → List ℕ) where
-  -- What was answered to a call is what the disk model allows after the earlier ones. A success of a sync after one that
-  -- failed isn't allowed: a system may have dropped what the first was to make safe.
+  -- what was answered to a call is what the disk model allows after the earlier ones
   abbrev pub IsAllowed : FileCall → List FileCall → Type 0
   IsAllowed (Measured None) earlier = ⊤
   IsAllowed (Measured (Some many)) earlier = many ≡ length (file_reads first torn earlier)
@@ -48,8 +53,7 @@ module _ (first : List ℕ) (torn : ℕ → List ℕ) where
   IsAllowed (WrittenTo at bytes true) earlier = ⊤
   IsAllowed (WrittenTo at bytes false) earlier =
       Torn at (length bytes) (file_reads first torn earlier) (torn (length earlier))
-  IsAllowed (Synced true) earlier = NoSyncFailed earlier
-  IsAllowed (Synced false) earlier = ⊤
+  IsAllowed (Synced done) earlier = ⊤
 
   -- each answer is one that the disk model allows
   abbrev pub AreAllowed : List FileCall → Type 0
@@ -62,7 +66,8 @@ module _ (first : List ℕ) (torn : ℕ → List ℕ) (unsynced : List ℕ → T
   abbrev pub FileImage : List FileCall → List ℕ → Type 0
   FileImage [] image = (image ≡ first) ⊎ unsynced image
   FileImage (WrittenTo at bytes done ∷ earlier) image = torn_images (FileImage earlier) at (length bytes) image
-  FileImage (Synced true ∷ earlier) image = image ≡ file_reads first torn earlier
+  FileImage (Synced true ∷ earlier) image =
+      SafeUnless (sync_failed earlier) (image ≡ file_reads first torn earlier) (FileImage earlier image)
   FileImage (call ∷ earlier) image = FileImage earlier image
 
   -- a crash at some moment since that number of calls might have left this

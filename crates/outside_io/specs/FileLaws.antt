@@ -3,11 +3,15 @@ use Rattle.std.specs.Prelude.{◌≡◌, ℕ, ◌≤◌, Bool, true, false, List
 use Rattle.std.proofs.Common.{inl, inr, arith}
 use Rattle.std.proofs.lemmas.Bool.{leb-true}
 use Rattle.outside_io.specs.DiskLaws.{torn_put}
-use Rattle.outside_io.specs.FileCalls.{FileCall, Measured, ReadFrom, WrittenTo, Synced, file_reads, writes_within, AreAllowed, FileImage, FileLeft}
+use Rattle.outside_io.specs.FileCalls.{FileCall, Measured, ReadFrom, WrittenTo, Synced, file_reads, writes_within, sync_failed, SafeUnless, AreAllowed, FileImage, FileLeft}
 
 both_tests : (a b : Bool) → (a && b) ≡ true → (a ≡ true) × (b ≡ true)
 both_tests true b both = (refl, both)
 both_tests false b both = cc
+
+safe_or_before : (failed : Bool) (safe before : Type 0) → safe → before → SafeUnless failed safe before
+safe_or_before true safe before is was = was
+safe_or_before false safe before is was = is
 
 module _ (first : List ℕ) (torn : ℕ → List ℕ) (unsynced : List ℕ → Type 0) where
   -- what it reads as may be left by a crash
@@ -25,7 +29,9 @@ module _ (first : List ℕ) (torn : ℕ → List ℕ) (unsynced : List ℕ → T
   reads_as_left (WrittenTo at bytes false ∷ earlier) allowed within =
       let tests = both_tests (nat_le at (length (file_reads first torn earlier))) (writes_within first torn earlier) within in
       (file_reads first torn earlier, reads_as_left earlier (allowed.0) (tests.1), allowed.1)
-  reads_as_left (Synced true ∷ earlier) allowed within = refl
+  reads_as_left (Synced true ∷ earlier) allowed within =
+      let reads = file_reads first torn earlier in
+      safe_or_before (sync_failed earlier) (reads ≡ reads) (FileImage first torn unsynced earlier reads) refl (reads_as_left earlier (allowed.0) within)
   reads_as_left (Synced false ∷ earlier) allowed within = reads_as_left earlier (allowed.0) within
 
   -- this moment is one of those since an earlier one

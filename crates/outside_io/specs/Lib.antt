@@ -6,6 +6,7 @@ pub mod Faults
 pub mod Memory
 pub mod inside
 pub mod Plans
+pub mod Reading
 pub mod Shelves
 pub mod Streams
 pub mod StreamLaws

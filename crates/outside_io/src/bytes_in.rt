@@ -37,7 +37,7 @@ impl BytesSource {
 }
 
 impl Source for BytesSource {
-    ghost use Rattle.std.specs.Prelude.{ℕ, ◌⊎◌, Some, List, [], IfOk, OnErr, IsErr};
+    ghost use Rattle.std.specs.Prelude.{ℕ, ◌⊎◌, Some, List, [], IfOk, OnOk, OnErr, IsErr};
     ghost use Rattle.std.specs.Io.KnownBytes.{ReadConsumes};
     ghost use Rattle.outside_io.specs.Faults.{HasCause};
     ghost use Rattle.outside_io.specs.Streams.{StillTells, ReadGives, SeesEnd};
@@ -62,6 +62,7 @@ impl Source for BytesSource {
     fn read(&mut self, buf: &mut [u8]) -> Result<usize, Failed>
         ensures cause { HasCause (plan_faults (source_plan self.old))
             (plan_faults (source_plan self.new)) result }
+        ensures held { OnOk result (plan_faults (source_plan self.new) ≡ plan_faults (source_plan self.old)) }
         ensures bound { IfOk result (λ n. n ≤ length buf.new) }
         ensures bytes { ReadConsumes (Some (source_left self.old))
             (Some (source_left self.new)) result buf.new }

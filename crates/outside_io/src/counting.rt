@@ -1,7 +1,8 @@
 // A call of the standard library, whose failure is a fault.
-ghost use Rattle.std.specs.Prelude.{◌≡◌};
+ghost use Rattle.std.specs.Prelude.{◌≡◌, OnErr};
 ghost use Rattle.std.specs.Result.{result_ok};
 ghost use Rattle.outside_io.specs.Disks.{HasDiskCause};
+ghost use Rattle.outside_io.specs.Plans.{number_after};
 
 use crate::Failed;
 use std::io;
@@ -10,6 +11,7 @@ use std::io;
 // end.
 pub(crate) fn counted<T>(done: io::Result<T>, faults: &mut u64) -> Result<T, Failed>
     ensures value { result_ok result ≡ result_ok done }
+    ensures one { OnErr result (faults.new ≡ number_after faults.old) }
     ensures cause { HasDiskCause faults.old faults.new result }
 {
     match done {

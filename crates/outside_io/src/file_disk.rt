@@ -1,5 +1,6 @@
 // A real file as a disk. It is honest where each of its answers is one that the disk model allows.
 ghost use Rattle.std.specs.Prelude.{◌≡◌, ◌<◌, ℕ, List, [], true, length};
+ghost use Rattle.std.specs.Option.{ForSome};
 ghost use Rattle.outside_io.specs.FileCalls.{file_reads, writes_within, AreAllowed, FileImage, FileLeft};
 ghost use Rattle.outside_io.specs.FileLaws.{reads_as_left, left_by_now, left_only_now};
 
@@ -20,11 +21,14 @@ pub struct FileDisk<R: Files<File = File> + AllocGlobal, F: FoundFile> {
     file: NotedFile<R>,
     found: PhantomData<F>,
     ghost within: { AreAllowed F.bytes F.torn file.calls → writes_within F.bytes F.torn file.calls ≡ true },
+    ghost named: { ForSome F.name (λ told. file.name.now ≡ told) },
 }
 
 impl<R: Files<File = File> + AllocGlobal, F: FoundFile> FileDisk<R, F> {
     /// Touches nothing. It had no fault so far.
     pub fn at(files: R, name: &'static str, _found: F) -> FileDisk<R, F>
+        requires named { ForSome F.name (λ told. name.now ≡ told) }
+        ensures name { result.file.name.now ≡ name.now }
         ensures faults { result.file.faults ≡ 0 }
         ensures calls { result.file.calls ≡ [] }
     {

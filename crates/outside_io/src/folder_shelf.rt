@@ -1,11 +1,12 @@
 // The files of the folder in which the program runs, as a shelf. It notes its answers, for contracts alone.
-ghost use Rattle.std.specs.Prelude.{◌≡◌, ℕ, ◌<◌, ◌≤◌, [], None, Some, Option, List, length, vec_len, IfOk, IsSomeAnd, IsErrOf};
+ghost use Rattle.std.specs.Prelude.{◌≡◌, ◌⊎◌, ℕ, ◌<◌, ◌≤◌, ◌++◌, [], None, Some, Option, List, length, vec_len, IfOk, OnOk, IfErr, IsSomeAnd, IsErrOf};
 ghost use Rattle.outside_io.specs.Faults.{Rose};
+ghost use Rattle.outside_io.specs.Streams.{GivesMore};
 ghost use Rattle.outside_io.specs.Shelves.{Files, Agrees, KeepsAnswer, no_files};
 
 use crate::answers::Answers;
 use crate::shelves::SHELF_LIMIT;
-use crate::{FetchFault, ReadAllFault, Shelf, StdSource, read_all};
+use crate::{FetchFault, ReadAllFault, Shelf, Source, StdSource, read_all};
 use std::alloc::Global;
 use std::fs::File;
 use std::io::ErrorKind;
@@ -79,14 +80,37 @@ impl<R: Files> Shelf for FolderShelf<R> {
 fn read_file<R: Files>(files: &R, alloc: Global, name: &str) -> Result<Vec<u8>, FetchFault>
     ensures within { IfOk result (λ bytes. vec_len bytes ≤ SHELF_LIMIT) }
 {
-    let mut source = match File::open(files, name) {
-        Ok(file) => StdSource::new(file),
-        Err(e) if e.kind() == ErrorKind::NotFound => return Err(FetchFault::Absent),
-        Err(_) => return Err(FetchFault::Failed),
-    };
-    read_all(alloc, &mut source, SHELF_LIMIT).map_err(|fault| match fault {
-        ReadAllFault::TooLong => FetchFault::TooLong,
-        ReadAllFault::NoMemory => FetchFault::NoMemory,
-        ReadAllFault::ReadFault => FetchFault::Failed,
-    })
+    let file = open_file(files, name)?;
+    read_open(alloc, &mut StdSource::new(file))
+}
+
+// No memory is taken for that.
+fn open_file<R: Files>(files: &R, name: &str) -> Result<R::File, FetchFault>
+    ensures unopened { IfErr result (λ fault. (fault ≡ FetchFault.Absent) ⊎ (fault ≡ FetchFault.Failed)) }
+{
+    match File::open(files, name) {
+        Ok(file) => Ok(file),
+        Err(e) if e.kind() == ErrorKind::NotFound => Err(FetchFault::Absent),
+        Err(_) => Err(FetchFault::Failed),
+    }
+}
+
+// Want of memory is told only where there were bytes, and a fault just where the source had one.
+fn read_open<S: Source>(alloc: Global, source: &mut S) -> Result<Vec<u8>, FetchFault>
+    ensures within { IfOk result (λ bytes. vec_len bytes ≤ SHELF_LIMIT) }
+    ensures all_given { IfOk result (λ bytes. S.given source.new ≡ S.given source.old ++ bytes.items) }
+    ensures ended { OnOk result (S.ended source.new) }
+    ensures present { IsErrOf result FetchFault.Absent → ⊥ }
+    ensures too_long { IsErrOf result FetchFault.TooLong
+        → GivesMore SHELF_LIMIT (S.given source.old) (S.given source.new) }
+    ensures failed { IsErrOf result FetchFault.Failed → Rose (S.faults source.old) (S.faults source.new) }
+    ensures counted { S.faults source.old < S.faults source.new → IsErrOf result FetchFault.Failed }
+    ensures memory { IsErrOf result FetchFault.NoMemory → GivesMore 0 (S.given source.old) (S.given source.new) }
+{
+    match read_all(alloc, source, SHELF_LIMIT) {
+        Ok(bytes) => Ok(bytes),
+        Err(ReadAllFault::TooLong) => Err(FetchFault::TooLong),
+        Err(ReadAllFault::NoMemory) => Err(FetchFault::NoMemory),
+        Err(ReadAllFault::ReadFault) => Err(FetchFault::Failed),
+    }
 }

@@ -1,9 +1,12 @@
 // What nothing in the program knows of a file.
-ghost use Rattle.std.specs.Prelude.{ℕ, List, []};
+ghost use Rattle.std.specs.Prelude.{ℕ, List, [], Option, None};
 
 /// What a file was before the first call, and what failed writes make of it. No code reads any of this: what is
 /// proved over every `FoundFile` holds whatever the file was.
 pub trait FoundFile: Drop + Send {
+    /// The name under which it was found, where that is told. Only a disk of this name can be made of it.
+    ghost name: { Option (List ℕ) };
+
     /// What it read as before the first call.
     ghost bytes: { List ℕ };
 
@@ -19,6 +22,8 @@ pub trait FoundFile: Drop + Send {
 pub struct AnyFile;
 
 impl FoundFile for AnyFile {
+    ghost name = { None };
+
     ghost bytes = { [] };
 
     ghost unsynced = { λ image. ⊥ };

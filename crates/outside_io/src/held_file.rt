@@ -1,15 +1,18 @@
 // A file of the system that has to stay what it is: the one under its name, and as long as it was.
+ghost use Rattle.std.specs.Prelude.{◌≡◌, false, IsErr};
+
 use std::fs::{File, Metadata, OpenOptions};
 use std::io::ErrorKind;
 use std::os::unix::fs::{FileExt, MetadataExt};
 use std::rt::Files;
 use std::{fs, io};
 
-// A file that was opened under a name: which file it is, how long it has been so far, what was written since the last sync,
-// and whether it was found to be cut, or no longer there. From then on it is not written to.
+// A file that was opened under a name: whether it may be written, which file it is, how long it has been so far, what was
+// written since the last sync, and whether it was found to be cut, or no longer there. From then on it is not written to.
 #[derive(Drop)]
 pub(crate) struct HeldFile {
     file: File,
+    is_writable: bool,
     device: u64,
     inode: u64,
     length: u64,
@@ -26,16 +29,36 @@ enum Written {
 }
 
 impl HeldFile {
-    // Opens the file, or makes it; nothing of it is cut off. It is locked against other processes that do the same.
+    // Opens the file, or makes it; nothing of it is cut off. It is locked against other processes that do the same. Where
+    // it may not be written it is opened to be read; and none where there is none and none may be made.
     pub(crate) fn open<R: Files<File = File> + AllocGlobal>(
         files: &R,
         name: &str,
+    ) -> io::Result<Option<HeldFile>> {
+        match open_to_write(files, name) {
+            Ok(file) => Ok(Some(HeldFile::hold(files, name, file, true)?)),
+            Err(e) if is_refusal(e.kind()) => HeldFile::open_to_read(files, name),
+            Err(e) => Err(e),
+        }
+    }
+
+    fn open_to_read<R: Files<File = File> + AllocGlobal>(
+        files: &R,
+        name: &str,
+    ) -> io::Result<Option<HeldFile>> {
+        match File::open(files, name) {
+            Ok(file) => Ok(Some(HeldFile::hold(files, name, file, false)?)),
+            Err(e) if e.kind() == ErrorKind::NotFound => Ok(None),
+            Err(e) => Err(e),
+        }
+    }
+
+    fn hold<R: Files<File = File> + AllocGlobal>(
+        files: &R,
+        name: &str,
+        file: File,
+        is_writable: bool,
     ) -> io::Result<HeldFile> {
-        let file = OpenOptions::new()
-            .read(true)
-            .write(true)
-            .create(true)
-            .open(files, name)?;
         if file.try_lock().is_err() {
             return Err(io::Error::from(ErrorKind::WouldBlock));
         }
@@ -43,6 +66,7 @@ impl HeldFile {
         let told = ask(files, Asked::Open(&file))?;
         Ok(HeldFile {
             file,
+            is_writable,
             device: told.dev(),
             inode: told.ino(),
             length: told.len(),
@@ -72,7 +96,12 @@ impl HeldFile {
         files: &R,
         at: u64,
         bytes: &[u8],
-    ) -> io::Result<()> {
+    ) -> io::Result<()>
+        ensures unwritable { self.old.is_writable ≡ false → IsErr result }
+    {
+        if !self.is_writable {
+            return Err(io::Error::from(ErrorKind::PermissionDenied));
+        }
         let end = at.saturating_add(bytes.len() as u64);
         if end > self.length || self.lost {
             self.look(files, None)?;
@@ -124,6 +153,22 @@ impl HeldFile {
         }
         Ok(())
     }
+}
+
+fn open_to_write<R: Files<File = File>>(files: &R, name: &str) -> io::Result<File> {
+    OpenOptions::new()
+        .read(true)
+        .write(true)
+        .create(true)
+        .open(files, name)
+}
+
+// Not the disk failed, but writing is refused: to this user, of this file, or on this file system.
+fn is_refusal(kind: ErrorKind) -> bool {
+    matches!(
+        kind,
+        ErrorKind::PermissionDenied | ErrorKind::ReadOnlyFilesystem
+    )
 }
 
 fn lost() -> io::Error {

@@ -14,9 +14,12 @@ pub fn an_honest_file()
     ensures safe_after { (torn : ℕ → List ℕ) (image : List ℕ)
         → FileImage [] torn (λ image. ⊥) (Synced true ∷ WrittenTo 0 (7 ∷ 8 ∷ 9 ∷ []) true ∷ []) image
         → image ≡ 7 ∷ 8 ∷ 9 ∷ [] }
+    // But not after one that failed, since the system may have dropped the bytes with that.
+    ensures unsafe_after_failed { (torn : ℕ → List ℕ)
+        → FileImage [] torn (λ image. ⊥) (Synced true ∷ Synced false ∷ WrittenTo 0 (7 ∷ 8 ∷ 9 ∷ []) true ∷ []) (1 ∷ 2 ∷ []) }
 {}
 
-/// A file that reads otherwise than it was written is not honest, nor one that makes safe after that failed.
+/// A file that reads otherwise than it was written is not honest, nor one that tells another length.
 pub fn a_dishonest_file()
     ensures read { (first : List ℕ) (torn : ℕ → List ℕ) (earlier : List FileCall) (at : ℕ) (bytes given : List ℕ)
         → at ≤ length (file_reads first torn earlier)
@@ -24,8 +27,6 @@ pub fn a_dishonest_file()
         → given ≡ bytes }
     ensures length { (torn : ℕ → List ℕ)
         → AreAllowed [] torn (Measured (Some 2) ∷ WrittenTo 0 (7 ∷ 8 ∷ 9 ∷ []) true ∷ []) → ⊥ }
-    ensures sync { (first : List ℕ) (torn : ℕ → List ℕ) (between earlier : List FileCall)
-        → AreAllowed first torn (Synced true ∷ between ++ Synced false ∷ earlier) → ⊥ }
 {}
 
 /// Two answers of a shelf to one name that differ agree with no files.

@@ -1,8 +1,8 @@
 // A file of the system. Each call of it is noted with what the system answered, for contracts alone.
-ghost use Rattle.std.specs.Prelude.{◌≡◌, [], ◌∷◌, Some, None, length, is_ok, if◌then◌else◌};
+ghost use Rattle.std.specs.Prelude.{◌≡◌, [], ◌∷◌, Some, None, length, false, is_ok, OnOk, IsErr, IsTrue, if◌then◌else◌};
 ghost use Rattle.std.specs.Result.{result_ok};
 ghost use Rattle.outside_io.specs.Disks.{HasDiskCause};
-ghost use Rattle.outside_io.specs.FileCalls.{Measured, ReadFrom, WrittenTo, Synced};
+ghost use Rattle.outside_io.specs.FileCalls.{Measured, ReadFrom, WrittenTo, Synced, sync_failed};
 
 use crate::Failed;
 use crate::counting::counted;
@@ -15,26 +15,40 @@ use std::rt::Files;
 
 // The file with a name in the folder in which the program runs. It is opened, or made, at the first call; nothing of it
 // is cut off. It is locked against other processes that do the same, until it is dropped; where one of them has it, the
-// call fails and counts. So does one that finds the file cut, or no longer under its name.
+// call fails and counts. So does one that finds the file cut, or no longer under its name, and each sync behind one that
+// failed.
 #[derive(Drop)]
 pub(crate) struct NotedFile<R: Files<File = File> + AllocGlobal> {
     files: R,
     name: &'static str,
-    file: Option<HeldFile>,
+    slot: Slot,
+    stopped: bool,
     pub(crate) faults: u64,
     pub(crate) calls: FileCalls,
+    ghost unfailed: { stopped ≡ false → sync_failed calls ≡ false },
+}
+
+// What is known of the file: nothing before the first call; then that it is held, or that there is none and none can be
+// made, which reads as an empty one.
+#[derive(Drop)]
+enum Slot {
+    Unopened,
+    Held(HeldFile),
+    Missing,
 }
 
 impl<R: Files<File = File> + AllocGlobal> NotedFile<R> {
     // Touches nothing.
     pub(crate) fn at(files: R, name: &'static str) -> NotedFile<R>
+        ensures name { result.name.now ≡ name.now }
         ensures faults { result.faults ≡ 0 }
         ensures calls { result.calls ≡ [] }
     {
         NotedFile {
             files,
             name,
-            file: None,
+            slot: Slot::Unopened,
+            stopped: false,
             faults: 0,
             calls: FileCalls::new(),
         }
@@ -42,10 +56,11 @@ impl<R: Files<File = File> + AllocGlobal> NotedFile<R> {
 
     pub(crate) fn len(&mut self) -> Result<u64, Failed>
         ensures cause { HasDiskCause self.old.faults self.new.faults result }
+        ensures name { self.new.name.now ≡ self.old.name.now }
         ensures noted { self.new.calls ≡ Measured (result_ok result) ∷ self.old.calls }
     {
         // The length that the system tells of the open file, asked for once; or that it told none.
-        let told = ask_length(&self.files, self.name, &mut self.file);
+        let told = ask_length(&self.files, self.name, &mut self.slot);
         let told = counted(told, &mut self.faults);
         // What is noted is what is answered.
         self.calls.note_length(&told);
@@ -54,11 +69,12 @@ impl<R: Files<File = File> + AllocGlobal> NotedFile<R> {
 
     pub(crate) fn read(&mut self, at: u64, buf: &mut [u8]) -> Result<(), Failed>
         ensures cause { HasDiskCause self.old.faults self.new.faults result }
+        ensures name { self.new.name.now ≡ self.old.name.now }
         ensures noted { self.new.calls
             ≡ ReadFrom at (length buf.old) (if is_ok result then Some buf.new else None) ∷ self.old.calls }
     {
         // Success says that the system filled the whole buffer from that place of the file on.
-        let filled = fill(&self.files, self.name, &mut self.file, at, buf);
+        let filled = fill(&self.files, self.name, &mut self.slot, at, buf);
         let filled = counted(filled, &mut self.faults);
         // The buffer is noted as the system left it; nothing wrote it since.
         self.calls.note_read(at, buf, filled.is_ok());
@@ -67,10 +83,11 @@ impl<R: Files<File = File> + AllocGlobal> NotedFile<R> {
 
     pub(crate) fn write(&mut self, at: u64, bytes: &[u8]) -> Result<(), Failed>
         ensures cause { HasDiskCause self.old.faults self.new.faults result }
+        ensures name { self.new.name.now ≡ self.old.name.now }
         ensures noted { self.new.calls ≡ WrittenTo at bytes.now (is_ok result) ∷ self.old.calls }
     {
         // Success says that the system took all the bytes at that place; of a failure some may have gone there.
-        let written = put(&self.files, self.name, &mut self.file, at, bytes);
+        let written = put(&self.files, self.name, &mut self.slot, at, bytes);
         let written = counted(written, &mut self.faults);
         // Noted where it failed too, since a part may have been written.
         self.calls.note_write(at, bytes, written.is_ok());
@@ -79,12 +96,15 @@ impl<R: Files<File = File> + AllocGlobal> NotedFile<R> {
 
     pub(crate) fn sync(&mut self) -> Result<(), Failed>
         ensures cause { HasDiskCause self.old.faults self.new.faults result }
+        ensures name { self.new.name.now ≡ self.old.name.now }
         ensures noted { self.new.calls ≡ Synced (is_ok result) ∷ self.old.calls }
+        ensures unfailed { OnOk result (sync_failed self.old.calls ≡ false) }
     {
         // Success says that the system made safe what was written; after a failure nothing may be safe any more.
-        let synced = make_safe(&self.files, self.name, &mut self.file);
+        let synced = make_safe(&self.files, self.name, &mut self.slot, self.stopped);
         let synced = counted(synced, &mut self.faults);
-        // Noted where it failed too: a success after it means nothing.
+        self.stopped = synced.is_err();
+        // Noted where it failed too, and where the system wasn't asked.
         self.calls.note_sync(synced.is_ok());
         synced
     }
@@ -93,50 +113,73 @@ impl<R: Files<File = File> + AllocGlobal> NotedFile<R> {
 fn ask_length<R: Files<File = File> + AllocGlobal>(
     files: &R,
     name: &str,
-    slot: &mut Option<HeldFile>,
+    slot: &mut Slot,
 ) -> io::Result<u64> {
-    opened(files, name, slot)?.length(files)
+    match opened(files, name, slot)? {
+        Some(file) => file.length(files),
+        None => Ok(0),
+    }
 }
 
 fn fill<R: Files<File = File> + AllocGlobal>(
     files: &R,
     name: &str,
-    slot: &mut Option<HeldFile>,
+    slot: &mut Slot,
     at: u64,
     buf: &mut [u8],
 ) -> io::Result<()> {
-    opened(files, name, slot)?.fill(at, buf)
+    match opened(files, name, slot)? {
+        Some(file) => file.fill(at, buf),
+        None if buf.is_empty() => Ok(()),
+        None => Err(io::Error::from(ErrorKind::UnexpectedEof)),
+    }
 }
 
 fn put<R: Files<File = File> + AllocGlobal>(
     files: &R,
     name: &str,
-    slot: &mut Option<HeldFile>,
+    slot: &mut Slot,
     at: u64,
     bytes: &[u8],
 ) -> io::Result<()> {
-    opened(files, name, slot)?.put(files, at, bytes)
+    match opened(files, name, slot)? {
+        Some(file) => file.put(files, at, bytes),
+        None => Err(io::Error::from(ErrorKind::NotFound)),
+    }
 }
 
+// After a failure the system may drop what it couldn't write, and answer the next time with success. So it isn't asked again.
 fn make_safe<R: Files<File = File> + AllocGlobal>(
     files: &R,
     name: &str,
-    slot: &mut Option<HeldFile>,
-) -> io::Result<()> {
-    opened(files, name, slot)?.make_safe(files, name)
+    slot: &mut Slot,
+    stopped: bool,
+) -> io::Result<()>
+    ensures stopped { IsTrue stopped → IsErr result }
+{
+    if stopped {
+        return Err(io::Error::from(ErrorKind::Other));
+    }
+    match opened(files, name, slot)? {
+        Some(file) => file.make_safe(files, name),
+        None => Ok(()),
+    }
 }
 
-// The file, which the first call opens or makes.
+// The file, which the first call opens or makes, where there is one or can be.
 fn opened<'a, R: Files<File = File> + AllocGlobal>(
     files: &R,
     name: &str,
-    slot: &'a mut Option<HeldFile>,
-) -> io::Result<&'a mut HeldFile> {
-    if slot.is_none() {
-        *slot = Some(HeldFile::open(files, name)?);
+    slot: &'a mut Slot,
+) -> io::Result<Option<&'a mut HeldFile>> {
+    if matches!(slot, Slot::Unopened) {
+        *slot = match HeldFile::open(files, name)? {
+            Some(file) => Slot::Held(file),
+            None => Slot::Missing,
+        };
     }
     match slot {
-        Some(file) => Ok(file),
-        None => Err(io::Error::from(ErrorKind::NotFound)),
+        Slot::Held(file) => Ok(Some(file)),
+        _ => Ok(None),
     }
 }

@@ -1,9 +1,10 @@
 // Input: a source gives its bytes in pieces, and `read_all` puts them together.
-ghost use Rattle.std.specs.Prelude.{◌≡◌, ◌⊎◌, ℕ, ◌+◌, ◌<◌, ◌≤◌, ◌++◌, Option, Some, List, [], length, vec_len, IfOk, OnOk, IfSome, IsErrOf};
-ghost use Rattle.std.specs.Io.KnownBytes.{ReadConsumes, IsAtEnd};
+ghost use Rattle.std.specs.Prelude.{◌≡◌, ◌⊎◌, ℕ, ◌+◌, ◌<◌, ◌≤◌, Option, Some, List, [], length, IfOk, OnOk, IfErr, OnErr};
+ghost use Rattle.std.specs.Io.KnownBytes.{ReadConsumes};
 ghost use Rattle.outside_io.specs.Faults.{Rose, HasCause};
-ghost use Rattle.outside_io.specs.Streams.{StillTells, LosesFront, ReadGives, SeesEnd, GivesFront, GivesMore};
-ghost use Rattle.outside_io.specs.declared.failures.ReadAllFault.TheVariants.{ReadFault, TooLong};
+ghost use Rattle.outside_io.specs.Reading.{ReadsAll};
+ghost use Rattle.outside_io.specs.Streams.{StillTells, ReadGives, SeesEnd};
+ghost use Rattle.outside_io.specs.declared.failures.ReadAllFault.TheVariants.{ReadFault};
 
 use crate::{Failed, ReadAllFault, Steps};
 use std::alloc::Global;
@@ -35,6 +36,7 @@ pub trait Source {
     /// empty is the end.
     fn read(&mut self, buf: &mut [u8]) -> Result<usize, Failed>
         ensures cause { HasCause (faults self.old) (faults self.new) result }
+        ensures held { OnOk result (faults self.new ≡ faults self.old) }
         ensures bound { IfOk result (λ n. n ≤ length buf.new) }
         ensures bytes { ReadConsumes (left self.old) (left self.new) result buf.new }
         ensures tells { StillTells (left self.old) (left self.new) }
@@ -52,20 +54,7 @@ pub fn read_all<S: Source>(
     source: &mut S,
     limit: u32,
 ) -> Result<Vec<u8>, ReadAllFault>
-    ensures whole { IfOk result (λ bytes. IfSome (S.left source.old) (λ told. bytes.items ≡ told)) }
-    ensures end { OnOk result (IsAtEnd (S.left source.new)) }
-    ensures within { IfOk result (λ bytes. vec_len bytes ≤ limit) }
-    ensures too_long { IsErrOf result ReadAllFault.TooLong
-        → IfSome (S.left source.old) (λ told. limit < length told) }
-    ensures fault { IsErrOf result ReadAllFault.ReadFault → Rose (S.faults source.old) (S.faults source.new) }
-    ensures later { S.faults source.old ≤ S.faults source.new }
-    ensures tells { StillTells (S.left source.old) (S.left source.new) }
-    ensures rest { LosesFront (S.left source.old) (S.left source.new) }
-    ensures all_given { IfOk result (λ bytes. S.given source.new ≡ S.given source.old ++ bytes.items) }
-    ensures ended { OnOk result (S.ended source.new) }
-    ensures more_given { IsErrOf result ReadAllFault.TooLong
-        → GivesMore limit (S.given source.old) (S.given source.new) }
-    ensures front { GivesFront (S.given source.old) (S.given source.new) (S.left source.old) (S.left source.new) }
+    ensures reads { ReadsAll S.faults S.left S.given S.ended limit source.old source.new result }
 {
     read_all_from::<S, Brand>(alloc, source, limit, Blank::new(1))
 }
@@ -80,20 +69,7 @@ fn read_all_from<S: Source, L: Ledger>(
     requires name { blank.name ≡ L.name }
     requires parts { blank.parts ≡ L.parts }
     requires some { 0 < L.parts }
-    ensures whole { IfOk result (λ bytes. IfSome (S.left source.old) (λ told. bytes.items ≡ told)) }
-    ensures end { OnOk result (IsAtEnd (S.left source.new)) }
-    ensures within { IfOk result (λ bytes. vec_len bytes ≤ limit) }
-    ensures too_long { IsErrOf result ReadAllFault.TooLong
-        → IfSome (S.left source.old) (λ told. limit < length told) }
-    ensures fault { IsErrOf result ReadAllFault.ReadFault → Rose (S.faults source.old) (S.faults source.new) }
-    ensures later { S.faults source.old ≤ S.faults source.new }
-    ensures tells { StillTells (S.left source.old) (S.left source.new) }
-    ensures rest { LosesFront (S.left source.old) (S.left source.new) }
-    ensures all_given { IfOk result (λ bytes. S.given source.new ≡ S.given source.old ++ bytes.items) }
-    ensures ended { OnOk result (S.ended source.new) }
-    ensures more_given { IsErrOf result ReadAllFault.TooLong
-        → GivesMore limit (S.given source.old) (S.given source.new) }
-    ensures front { GivesFront (S.given source.old) (S.given source.new) (S.left source.old) (S.left source.new) }
+    ensures reads { ReadsAll S.faults S.left S.given S.ended limit source.old source.new result }
 {
     let mut steps: Steps<L> = Steps::open(blank);
     read_all_counted(alloc, source, limit, &mut steps)
@@ -107,20 +83,7 @@ pub fn read_all_counted<S: Source, L: Ledger>(
     limit: u32,
     steps: &mut Steps<L>,
 ) -> Result<Vec<u8>, ReadAllFault>
-    ensures whole { IfOk result (λ bytes. IfSome (S.left source.old) (λ told. bytes.items ≡ told)) }
-    ensures end { OnOk result (IsAtEnd (S.left source.new)) }
-    ensures within { IfOk result (λ bytes. vec_len bytes ≤ limit) }
-    ensures too_long { IsErrOf result ReadAllFault.TooLong
-        → IfSome (S.left source.old) (λ told. limit < length told) }
-    ensures fault { IsErrOf result ReadAllFault.ReadFault → Rose (S.faults source.old) (S.faults source.new) }
-    ensures later { S.faults source.old ≤ S.faults source.new }
-    ensures tells { StillTells (S.left source.old) (S.left source.new) }
-    ensures rest { LosesFront (S.left source.old) (S.left source.new) }
-    ensures all_given { IfOk result (λ bytes. S.given source.new ≡ S.given source.old ++ bytes.items) }
-    ensures ended { OnOk result (S.ended source.new) }
-    ensures more_given { IsErrOf result ReadAllFault.TooLong
-        → GivesMore limit (S.given source.old) (S.given source.new) }
-    ensures front { GivesFront (S.given source.old) (S.given source.new) (S.left source.old) (S.left source.new) }
+    ensures reads { ReadsAll S.faults S.left S.given S.ended limit source.old source.new result }
     ensures turns { steps.new ≤ steps.old + (limit + 1) }
 {
     let room = limit as usize;
@@ -146,8 +109,9 @@ fn turn<S: Source, L: Ledger>(
     piece: &mut [u8],
     steps: &mut Steps<L>,
 ) -> Result<usize, ReadAllFault>
-    ensures fault { IsErrOf result ReadAllFault.ReadFault → Rose (S.faults source.old) (S.faults source.new) }
-    ensures only { IsErrOf result ReadAllFault.TooLong → ⊥ }
+    ensures fault { OnErr result (Rose (S.faults source.old) (S.faults source.new)) }
+    ensures only { IfErr result (λ fault. fault ≡ ReadAllFault.ReadFault) }
+    ensures held { OnOk result (S.faults source.new ≡ S.faults source.old) }
     ensures later { S.faults source.old ≤ S.faults source.new }
     ensures bound { IfOk result (λ n. n ≤ length piece.new) }
     ensures bytes { ReadConsumes (S.left source.old) (S.left source.new) result piece.new }

@@ -1,5 +1,6 @@
 // The readers and writers of the standard library as streams. Each notes what passed, for contracts alone.
-ghost use Rattle.std.specs.Prelude.{◌≡◌, ◌⊎◌, ◌<◌, ◌≤◌, None, Some, [], IfOk, length};
+ghost use Rattle.std.specs.Prelude.{◌≡◌, ◌≢◌, ◌⊎◌, ◌<◌, ◌≤◌, None, Some, [], IfOk, OnOk, IfErr, length};
+ghost use Rattle.std.specs.IoError.{error_kind};
 ghost use Rattle.std.specs.Io.KnownBytes.{ReadConsumes, WriteAppends};
 ghost use Rattle.outside_io.specs.Faults.{HasCause};
 ghost use Rattle.outside_io.specs.Streams.{passed_bytes, HasEnd, ReadGives, SeesEnd, StillTells};
@@ -50,6 +51,7 @@ impl<R: Read> Source for StdSource<R> {
 
     fn read(&mut self, buf: &mut [u8]) -> Result<usize, Failed>
         ensures cause { HasCause self.old.faults self.new.faults result }
+        ensures held { OnOk result (self.new.faults ≡ self.old.faults) }
         ensures bound { IfOk result (λ n. n ≤ length buf.new) }
         // Where the reader tells what is left in it, just what is given came from there.
         ensures through { ReadConsumes (R.remaining self.old.reader) (R.remaining self.new.reader) result buf.new }
@@ -116,6 +118,7 @@ impl<W: Write> Sink for StdSink<W> {
 // One read. Where a signal interrupted it, nothing was given, and it is made again.
 fn give_some<R: Read>(reader: &mut R, buf: &mut [u8]) -> io::Result<usize>
     ensures bound { IfOk result (λ n. n ≤ length buf.new) }
+    ensures uninterrupted { IfErr result (λ e. error_kind e ≢ ErrorKind.Interrupted) }
     ensures through { ReadConsumes (R.remaining reader.old) (R.remaining reader.new) result buf.new }
 {
     for _ in 0..u64::MAX {
@@ -133,6 +136,7 @@ fn give_some<R: Read>(reader: &mut R, buf: &mut [u8]) -> io::Result<usize>
 fn take_some<W: Write>(writer: &mut W, bytes: &[u8]) -> io::Result<usize>
     ensures bound { IfOk result (λ n. n ≤ length bytes.now) }
     ensures some { 0 < length bytes.now → IfOk result (λ n. 0 < n) }
+    ensures uninterrupted { IfErr result (λ e. error_kind e ≢ ErrorKind.Interrupted) }
     ensures through { WriteAppends (W.contents writer.old) (W.contents writer.new) result bytes.now }
 {
     for _ in 0..u64::MAX {

@@ -1,5 +1,5 @@
 -- So far the bytes are those that the source gave, and came off the front of what it had left; each turn gave one at
--- least, and its count didn't fall.
+-- least, and its count stands.
 use Rattle.std.proofs.Common.{◌≡◌, ◌-◌, ◌+◌, ◌≤◌, ◌++◌, vec_len}
 use Rattle.std.specs.Io.KnownBytes.{Consumes}
 use Rattle.outside_io.specs.Streams.{StillTells}
@@ -8,7 +8,7 @@ use Rattle.outside_io.proofs.reading.read_all_counted.Given as goal
 abbrev pub invariant-loop-bytes : goal.invariant-loop-bytes
 invariant-loop-bytes g l = record {
   within : vec_len l.bytes ≤ l.room;
-  later : g.S.Source.faults l.initial.source ≤ g.S.Source.faults l.source;
+  held : g.S.Source.faults l.source ≡ g.S.Source.faults l.initial.source;
   came : Consumes (g.S.Source.left l.initial.source) (g.S.Source.left l.source) l.bytes.items;
   given : g.S.Source.given l.source ≡ g.S.Source.given l.initial.source ++ l.bytes.items;
   tells : StillTells (g.S.Source.left l.initial.source) (g.S.Source.left l.source);
