@@ -1,6 +1,7 @@
 //! The program `life`: the top call on the real devices.
 #![tactic(auto)]
 
+mod named_files;
 mod shipped;
 mod words;
 

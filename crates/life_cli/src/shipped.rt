@@ -1,5 +1,5 @@
 // All of the program but what the system hands it, on the devices that it is shipped with.
-ghost use Rattle.std.specs.Prelude.{◌≡◌, ◌⊎◌, ℕ, List, []};
+ghost use Rattle.std.specs.Prelude.{◌≡◌, ◌⊎◌, ℕ, List, [], codes};
 ghost use Rattle.std.specs.Process.{exit_status};
 ghost use Rattle.outside_io.specs.Shelves.{Files};
 ghost use Rattle.policy_types.specs.declared.script.Lane.{Lane};
@@ -17,6 +17,7 @@ ghost use Rattle.life_app.specs.Words.{AskForRun};
 ghost use Rattle.life_cli.specs.Completing.{EndsDuly};
 ghost use Rattle.life_cli.specs.Shipped.{ObeysFromStart, filing_from_start, shipped_auditors, input_from_start, output_from_start, shelf_from_start, two_disks};
 
+use crate::named_files::{CheckpointOf, JournalOf};
 use life_app::{EndedKept, life_kept};
 use outside_io::{
     Disk, FileDisk, FolderShelf, FoundFile, OpenGate, Shelf, Sink, Source, StdSink, StdSource,
@@ -54,8 +55,8 @@ pub struct Left<F: FoundFile, C: FoundFile> {
     pub input: Input,
     pub output: Output,
     pub shelf: Folder,
-    pub disk: FileDisk<HostRuntime, F>,
-    pub second: FileDisk<HostRuntime, C>,
+    pub disk: FileDisk<HostRuntime, JournalOf<F>>,
+    pub second: FileDisk<HostRuntime, CheckpointOf<C>>,
 }
 
 /// Does what the words ask for, over standard input and output, the folder and its `journal.life` and `checkpoint.life`.
@@ -70,7 +71,7 @@ pub fn run_shipped<R: Threads + Wait + Sync, F: FoundFile, C: FoundFile>(
     found: F,
     kept: C,
 ) -> Left<F, C>
-    ensures obeys { ObeysFromStart ⟦<FileDisk<HostRuntime, F> as Disk>⟧ ⟦<FileDisk<HostRuntime, C> as Disk>⟧ F.bytes C.bytes
+    ensures obeys { ObeysFromStart ⟦<FileDisk<HostRuntime, JournalOf<F>> as Disk>⟧ ⟦<FileDisk<HostRuntime, CheckpointOf<C>> as Disk>⟧ F.bytes C.bytes
         result.disk result.second words.now
         (input_from_start (⟦<Input as Source>⟧.faults result.input) (⟦<Input as Source>⟧.given result.input)
         (⟦<Input as Source>⟧.ended result.input))
@@ -85,24 +86,26 @@ pub fn run_shipped<R: Threads + Wait + Sync, F: FoundFile, C: FoundFile>(
         → Reads script lanes
         → IsGivenBasis lanes name
         (shelf_from_start (⟦<Folder as Shelf>⟧.faults result.shelf) (⟦<Folder as Shelf>⟧.agrees result.shelf)) basis
-        → IsPromisedFromStart ⟦<FileDisk<HostRuntime, F> as Disk>⟧ Opens F.bytes result.disk lanes basis
+        → IsPromisedFromStart ⟦<FileDisk<HostRuntime, JournalOf<F>> as Disk>⟧ Opens F.bytes result.disk lanes basis
         (output_from_start (⟦<Output as Sink>⟧.faults result.output) (⟦<Output as Sink>⟧.written result.output))
         result.status }
+    // Each of the two files has its own name.
+    ensures names { (result.disk.file.name.now ≡ codes "journal.life") × (result.second.file.name.now ≡ codes "checkpoint.life") }
     ensures ends { EndsDuly words.now
         (input_from_start (⟦<Input as Source>⟧.faults result.input) (⟦<Input as Source>⟧.given result.input)
         (⟦<Input as Source>⟧.ended result.input))
         (output_from_start (⟦<Output as Sink>⟧.faults result.output) (⟦<Output as Sink>⟧.written result.output))
         (shelf_from_start (⟦<Folder as Shelf>⟧.faults result.shelf) (⟦<Folder as Shelf>⟧.agrees result.shelf))
-        (filing_from_start F.bytes (⟦<FileDisk<HostRuntime, F> as Disk>⟧.reads result.disk)
-        (⟦<FileDisk<HostRuntime, F> as Disk>⟧.honest result.disk)
-        (⟦<FileDisk<HostRuntime, F> as Disk>⟧.faults result.disk)) result.status }
+        (filing_from_start F.bytes (⟦<FileDisk<HostRuntime, JournalOf<F>> as Disk>⟧.reads result.disk)
+        (⟦<FileDisk<HostRuntime, JournalOf<F>> as Disk>⟧.honest result.disk)
+        (⟦<FileDisk<HostRuntime, JournalOf<F>> as Disk>⟧.faults result.disk)) result.status }
 {
     let alloc = system.alloc();
     let mut input = StdSource::new(system.stdin());
     let mut output = StdSink::new(system.stdout());
     let mut shelf = FolderShelf::new(system);
-    let disk = FileDisk::at(system, JOURNAL, found);
-    let second = FileDisk::at(system, CHECKPOINT, kept);
+    let disk = FileDisk::at(system, JOURNAL, JournalOf { found });
+    let second = FileDisk::at(system, CHECKPOINT, CheckpointOf { found: kept });
     let EndedKept {
         status,
         disk,
@@ -155,10 +158,10 @@ fn obey<R: Threads + Wait + Sync, F: FoundFile, C: FoundFile>(
     input: &mut Input,
     output: &mut Output,
     shelf: &mut Folder,
-    disk: FileDisk<HostRuntime, F>,
-    second: FileDisk<HostRuntime, C>,
-) -> EndedKept<FileDisk<HostRuntime, F>, FileDisk<HostRuntime, C>>
-    ensures obeys { ObeysKept ⟦<FileDisk<HostRuntime, F> as Disk>⟧ ⟦<FileDisk<HostRuntime, C> as Disk>⟧
+    disk: FileDisk<HostRuntime, JournalOf<F>>,
+    second: FileDisk<HostRuntime, CheckpointOf<C>>,
+) -> EndedKept<FileDisk<HostRuntime, JournalOf<F>>, FileDisk<HostRuntime, CheckpointOf<C>>>
+    ensures obeys { ObeysKept ⟦<FileDisk<HostRuntime, JournalOf<F>> as Disk>⟧ ⟦<FileDisk<HostRuntime, CheckpointOf<C>> as Disk>⟧
         (two_disks disk result.disk second result.second) words.now shipped_auditors
         (input_between (⟦<Input as Source>⟧.faults) (⟦<Input as Source>⟧.left) (⟦<Input as Source>⟧.given)
         (⟦<Input as Source>⟧.ended) input.old input.new)
@@ -170,9 +173,9 @@ fn obey<R: Threads + Wait + Sync, F: FoundFile, C: FoundFile>(
         (⟦<Input as Source>⟧.ended) input.old input.new)
         (between (⟦<Output as Sink>⟧.faults) (⟦<Output as Sink>⟧.written) output.old output.new)
         (shelf_between (⟦<Folder as Shelf>⟧.faults) (⟦<Folder as Shelf>⟧.agrees) shelf.old shelf.new)
-        (filing_between ⟦<FileDisk<HostRuntime, F> as Disk>⟧ disk result.disk) result.status }
+        (filing_between ⟦<FileDisk<HostRuntime, JournalOf<F>> as Disk>⟧ disk result.disk) result.status }
     ensures due { (ending : AnEnding) → AskForBoth words.now
-        → IsDueOfBoth ⟦<FileDisk<HostRuntime, F> as Disk>⟧ ⟦<FileDisk<HostRuntime, C> as Disk>⟧
+        → IsDueOfBoth ⟦<FileDisk<HostRuntime, JournalOf<F>> as Disk>⟧ ⟦<FileDisk<HostRuntime, CheckpointOf<C>> as Disk>⟧
         (two_disks disk result.disk second result.second)
         (between (⟦<Output as Sink>⟧.faults) (⟦<Output as Sink>⟧.written) output.old output.new) ending
         → (result.status ≡ status_of ending) ⊎ (result.status ≡ 9) }

@@ -1,4 +1,4 @@
-use Rattle.std.proofs.Common.{◌≡◌, List, [], length, Some, ap}
+use Rattle.std.proofs.Common.{◌≡◌, List, [], length, Some, ap, refl}
 use Rattle.outside_io.specs.FileCalls.{FileCall, file_reads, AreAllowed}
 use Rattle.outside_io.specs.Shelves.{Files, Agrees}
 use Rattle.outside_io.specs.Streams.{StreamPiece, passed_bytes, HasEnd}
@@ -70,3 +70,6 @@ returns-clause-ends g c =
     c.new-input.ensures.faults (ap (λ (pieces : List StreamPiece). passed_bytes pieces) c.new-input.ensures.given) c.new-output.ensures.faults
     (ap (λ (pieces : List StreamPiece). Some (passed_bytes pieces)) c.new-output.ensures.taken) c.new-shelf.ensures.faults c.at-disk.ensures.faults
     (ap (λ (calls : List FileCall). file_reads found torn calls) c.at-disk.ensures.calls) c.obey-status.ensures.ends
+
+pub returns-clause-names : goal.returns-clause-names
+returns-clause-names g c = (c.obey-status.result.disk.named _ refl, c.obey-status.result.second.named _ refl)
