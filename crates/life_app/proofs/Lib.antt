@@ -8,6 +8,3 @@ pub mod ReasonSteps
 pub mod BooksSteps
 pub mod KeptRunLaws
 pub mod WorkedBoth
-pub mod WorkedDisk
-pub mod WorkedFiles
-pub mod WorkedRuns

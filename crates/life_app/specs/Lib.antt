@@ -11,6 +11,4 @@ pub mod Runs
 pub mod KeptRuns
 pub mod Worked
 pub mod WorkedKept
-pub mod WorkedFile
-pub mod WorkedRun
 pub mod inside

@@ -2,7 +2,6 @@
 
 ghost use Rattle.life_app.specs.Worked.{ClaimedBooks, ClaimedEntries, OtherLines, PostingLines, RefusalTexts, StatusTexts, TwoClerks, UpgradeLines, WatcherLines};
 ghost use Rattle.life_app.specs.WorkedKept.{BothRefuseHello, BothWords, NoWordsLine};
-ghost use Rattle.life_app.specs.WorkedRun.{BothAreLeft, BothTellTruth, CrashesOfRuns, DueOfBoth, DueOfHello, DueOfRun, HeadlineOfRun, NoneAnswered, RunsOfFiles, RunsOverBoth};
 
 use outside_io::Disk;
 
@@ -56,19 +55,4 @@ pub fn words_for_both<D: Disk, E: Disk>()
     ensures words { BothWords }
     ensures refused { BothRefuseHello D.Disk E.Disk }
     ensures unread { NoWordsLine D E }
-{}
-
-/// Two runs over one file, of which a crash cut the first: all that the laws of runs ask for holds of them, and what these
-/// say of them.
-pub fn a_worked_run()
-    ensures files { RunsOfFiles }
-    ensures crashes { CrashesOfRuns }
-    ensures left { BothAreLeft }
-    ensures headline { HeadlineOfRun }
-    ensures unrun { NoneAnswered }
-    ensures due { DueOfRun }
-    ensures due_hello { DueOfHello }
-    ensures both { RunsOverBoth }
-    ensures truth { BothTellTruth }
-    ensures due_both { DueOfBoth }
 {}

@@ -53,7 +53,7 @@ no_faulted (first ∷ second ∷ before) after caller count command e = let no :
 
 -- ---- a file that is no journal
 
-pub hello_is_foreign : IsShown (codes "hello") NotAJournal
+hello_is_foreign : IsShown (codes "hello") NotAJournal
 hello_is_foreign = record {
   finished = λ unfinished. elim unfinished [
     | inl few ↦ let no : 5 ≤ 1 = few in omega arith
