@@ -40,12 +40,16 @@ module _ {D E : Type 0} (g : Ghosts D) (e : Ghosts E)
   over_both disks auditors (inr (inr unread)) run whole reads given =
       inr (unrun_untouched g disks.old disks.new output status (λ none. (let nine = unread.exits in cc)) _ unread.unasked.says unread.unasked.disk only_now)
 
+module _ {D E : Type 0} (g : Ghosts D) (e : Ghosts E) (words : List (String Global)) (name script : List ℕ) (lanes : List Lane)
+    (basis : List Dated) (input : Input) (output : Stream) (shelf : Shelving) (A B : Type 0) (status : ℕ) where
   pub promised : (bytes saved : List ℕ) (new : D) (kept : E)
-      → ObeysFromStart g e bytes saved new kept words input output shelf A B status → AskForRun words name
-      → IsWholeInput input script → Reads script lanes → IsGivenBasis lanes name shelf basis
+      → ObeysFromStart g e bytes saved new kept words input output shelf A B status
+      → ((disk : D) (image : List ℕ) → g.honest disk → g.left_since disk (g.clock disk) image → g.may_leave disk image)
+      → AskForRun words name → IsWholeInput input script → Reads script lanes → IsGivenBasis lanes name shelf basis
       → IsPromisedFromStart g Opens bytes new lanes basis output status
-  promised bytes saved new kept obeys run whole reads given = record {
+  promised bytes saved new kept obeys only_now run whole reads given = record {
     old = obeys.old;
     found = obeys.found;
-    told = over_both (two_disks obeys.old new obeys.second kept) shipped_auditors obeys.obeys run whole reads given;
+    told = over_both g e only_now words name script lanes basis input output shelf A B status
+        (two_disks obeys.old new obeys.second kept) shipped_auditors obeys.obeys run whole reads given;
   }

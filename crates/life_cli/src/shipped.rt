@@ -50,13 +50,13 @@ pub type Output = StdSink<Stdout>;
 pub type Folder = FolderShelf<HostRuntime>;
 
 /// What the program leaves: its exit status, and its devices with what they noted.
-pub struct Left<F: FoundFile, C: FoundFile> {
+pub struct Left<D, E> {
     pub status: u8,
     pub input: Input,
     pub output: Output,
     pub shelf: Folder,
-    pub disk: FileDisk<HostRuntime, JournalOf<F>>,
-    pub second: FileDisk<HostRuntime, CheckpointOf<C>>,
+    pub disk: D,
+    pub second: E,
 }
 
 /// Does what the words ask for, over standard input and output, the folder and its `journal.life` and `checkpoint.life`.
@@ -70,7 +70,7 @@ pub fn run_shipped<R: Threads + Wait + Sync, F: FoundFile, C: FoundFile>(
     words: &[String],
     found: F,
     kept: C,
-) -> Left<F, C>
+) -> Left<FileDisk<HostRuntime, JournalOf<F>>, FileDisk<HostRuntime, CheckpointOf<C>>>
     ensures obeys { ObeysFromStart ⟦<FileDisk<HostRuntime, JournalOf<F>> as Disk>⟧ ⟦<FileDisk<HostRuntime, CheckpointOf<C>> as Disk>⟧ F.bytes C.bytes
         result.disk result.second words.now
         (input_from_start (⟦<Input as Source>⟧.faults result.input) (⟦<Input as Source>⟧.given result.input)
@@ -131,7 +131,7 @@ pub fn run_shipped<R: Threads + Wait + Sync, F: FoundFile, C: FoundFile>(
 }
 
 /// Gives the devices back, and ends with the status that the run left.
-pub fn leave<F: FoundFile, C: FoundFile>(left: Left<F, C>) -> ExitCode
+pub fn leave<D: Drop, E: Drop>(left: Left<D, E>) -> ExitCode
     ensures { exit_status result ≡ left.status }
 {
     let Left {

@@ -49,8 +49,9 @@ returns-clause-obeys g c =
 pub returns-clause-promised : goal.returns-clause-promised
 returns-clause-promised g c = λ name script lanes basis run whole reads given.
     let found = g.F.FoundFile.bytes in
-    promised _ _ (λ disk image honest left. left_only_now found g.F.FoundFile.torn g.F.FoundFile.unsynced disk.file.calls image left)
-    _ name script lanes basis _ _ _ _ _ _ found _ _ _ (returns-clause-obeys g c) run whole reads given
+    promised _ _ _ name script lanes basis _ _ _ _ _ _ found _ c.obey-status.result.disk _ (returns-clause-obeys g c)
+    (λ disk image honest left. left_only_now found g.F.FoundFile.torn g.F.FoundFile.unsynced disk.file.calls image left)
+    run whole reads given
 
 pub returns-clause-ends : goal.returns-clause-ends
 returns-clause-ends g c =
