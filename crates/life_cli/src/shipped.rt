@@ -71,8 +71,8 @@ pub fn run_shipped<R: Threads + Wait + Sync, F: FoundFile, C: FoundFile>(
     found: F,
     kept: C,
 ) -> Left<FileDisk<HostRuntime, JournalOf<F>>, FileDisk<HostRuntime, CheckpointOf<C>>>
-    ensures obeys { ObeysFromStart ⟦<FileDisk<HostRuntime, JournalOf<F>> as Disk>⟧ ⟦<FileDisk<HostRuntime, CheckpointOf<C>> as Disk>⟧ F.bytes C.bytes
-        result.disk result.second words.now
+    ensures obeys { ObeysFromStart ⟦<FileDisk<HostRuntime, JournalOf<F>> as Disk>⟧
+        ⟦<FileDisk<HostRuntime, CheckpointOf<C>> as Disk>⟧ F.bytes C.bytes result.disk result.second words.now
         (input_from_start (⟦<Input as Source>⟧.faults result.input) (⟦<Input as Source>⟧.given result.input)
         (⟦<Input as Source>⟧.ended result.input))
         (output_from_start (⟦<Output as Sink>⟧.faults result.output) (⟦<Output as Sink>⟧.written result.output))
