@@ -26,7 +26,6 @@ while read -r name edits; do
     done
 done <<'EDITS'
 a_made-up_fault                 life_app/made_up_read_fault office_state/number_of_an_earlier_fault
-always_the_same_status          life_app/always_usage life_app/always_bad_script life_app/always_bad_basis life_app/always_bad_journal life_app/always_write_fault life_app/always_disk_fault life_app/always_ahead
 a_made-up_fault_of_a_device     outside_io/read_all_made_up_fault memory_disk/made_up_fault posting_journal/made_up_fault
 the_newest_state_valued         snapshot_value/newest_position_pinned office_state/newest_state_read
 an_idle_trim                    office_state/idle_trim
@@ -74,6 +73,7 @@ an_upgrade_forgotten            checkpoint_store/upgrade_forgotten
 a_second_disk_touched_by_run    life_app/second_disk_touched_by_run
 an_exit_status_always_0         life_cli/exit_status_always_0
 words_of_no_text_as_no_memory   life_cli/no_text_told_as_no_memory
+files_exchanged                 life_cli/files_exchanged
 a_second_disk's_fault_not_told  kept_books/second_disks_fault_told_as_want_of_memory
 watchers_told_of_refusals       office_state/told_of_refused_commands watcher_set/a_done_watcher_is_kept
 EDITS
