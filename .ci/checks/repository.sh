@@ -71,6 +71,9 @@ a_body_read_uncounted           checkpoint_store/body_read_uncounted
 a_checkpoint's_ledger_unchecked checkpoint_store/ledger_not_checked
 an_upgrade_forgotten            checkpoint_store/upgrade_forgotten
 a_second_disk_touched_by_run    life_app/second_disk_touched_by_run
+an_exit_status_always_0         life_cli/exit_status_always_0
+words_of_no_text_as_no_memory   life_cli/no_text_told_as_no_memory
+files_exchanged                 life_cli/files_exchanged
 a_second_disk's_fault_not_told  kept_books/second_disks_fault_told_as_want_of_memory
 watchers_told_of_refusals       office_state/told_of_refused_commands watcher_set/a_done_watcher_is_kept
 EDITS

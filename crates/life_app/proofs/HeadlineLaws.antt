@@ -203,7 +203,7 @@ module _ {D : Type 0} (g : Ghosts D) (old new : D) (output : Stream) where
       → IsUnrun g Opens old new output status
   unrun_alone status failed why line alone = record { failed = failed; line = (why, line); since = alone.since }
 
-  unrun_untouched : (status : ℕ) → (status ≡ 0 → ⊥) → (why : List ℕ) → WroteOrFailed output why → new ≡ old
+  pub unrun_untouched : (status : ℕ) → (status ≡ 0 → ⊥) → (why : List ℕ) → WroteOrFailed output why → new ≡ old
       → ((disk : D) (image : List ℕ) → g.honest disk → g.left_since disk (g.clock disk) image → g.may_leave disk image)
       → IsUnrun g Opens old new output status
   unrun_untouched status failed why line same only_now = record {

@@ -136,6 +136,19 @@ pub record IsUnrun {D : Type 0} (g : Ghosts D) (Opens : List ℕ → List Comman
   pub since : g.honest new → (image : List ℕ) → g.left_since new (g.clock old) image → g.may_leave old image
       ⊎ ((commands : List Command) × Opens (g.reads old) commands × Opens image commands)
 
+-- a disk on which no call had been made, and which then read as these bytes
+pub record IsFirstFound {D : Type 0} (g : Ghosts D) (bytes : List ℕ) (old : D) : Type 0 where
+  pub faultless : g.faults old ≡ 0
+  pub first : g.clock old ≡ 0
+  pub reads : g.reads old ≡ bytes
+
+-- The run of these lanes, by a basis, over a disk as it was found: it was as is promised, or none of the lines was answered.
+pub record IsPromisedFromStart {D : Type 0} (g : Ghosts D) (Opens : List ℕ → List Command → Type 0) (bytes : List ℕ) (new : D)
+    (lanes : List Lane) (basis : List Dated) (output : Stream) (status : ℕ) : Type 0 where
+  pub old : D
+  pub found : IsFirstFound g bytes old
+  pub told : IsPromised g Opens old new lanes basis output status ⊎ IsUnrun g Opens old new output status
+
 -- the basis that a run of these lanes is given: where a line asks for values, files that the shelf's answers agree with make
 -- it under this name, and else it is none
 abbrev pub IsGivenBasis : List Lane → List ℕ → Shelving → List Dated → Type 0

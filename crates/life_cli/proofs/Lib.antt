@@ -1,1 +1,2 @@
 pub mod FromStart
+pub mod Promised

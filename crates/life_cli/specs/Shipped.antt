@@ -10,6 +10,7 @@ use Rattle.program_endings.specs.Writing.{Input, Shelving, Stream}
 use Rattle.program_endings.specs.declared.ending.Ending.{Ending}
 use Rattle.kept_books.specs.TwoDisks.{TwoDisks}
 use Rattle.life_app.specs.DueKept.{IsDueOfBoth}
+use Rattle.life_app.specs.Headline.{IsFirstFound}
 use Rattle.life_app.specs.Needs.{Filing}
 use Rattle.life_app.specs.ObeysKept.{AskForBoth, ObeysKept}
 
@@ -53,12 +54,6 @@ filing_from_start before after Honest faults =
 -- the journal's disk and the second one, as they were and as they are
 abbrev pub two_disks : {D E : Type 0} → (old new : D) → (second kept : E) → TwoDisks D E
 two_disks old new second kept = record { old = old; new = new; second = second; kept = kept }
-
--- a disk on which no call had been made, and which then read as these bytes
-pub record IsFirstFound {D : Type 0} (g : Ghosts D) (bytes : List ℕ) (old : D) : Type 0 where
-  pub faultless : g.faults old ≡ 0
-  pub first : g.clock old ≡ 0
-  pub reads : g.reads old ≡ bytes
 
 -- The words were obeyed, over two disks as they were found; and where they ask for the books by both, what is due came
 -- about, but for want of memory.

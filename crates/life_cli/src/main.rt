@@ -1,46 +1,31 @@
 //! The program `life`: the top call on the real devices.
 #![tactic(auto)]
 
+mod named_files;
 mod shipped;
 mod words;
 
 use outside_io::{AnyFile, StdSink, write_all};
-use shipped::{Left, run_shipped};
+use shipped::{leave, run_shipped};
 use std::alloc::AllocError;
 use std::env;
 use std::fs::File;
-use std::io::ErrorKind;
 use std::process::ExitCode;
 use std::rt::{Env, Files};
-use words::behind_first;
+use words::told_words;
 
 /// Ends with the status that the run leaves; with 9 where not even the words find memory.
 fn main(rt: HostRuntime) -> ExitCode {
     let held = hold_descriptors(&rt);
-    let status = match words_of(&rt) {
-        Ok(words) => {
-            let Left {
-                status,
-                input,
-                output,
-                shelf,
-                disk,
-                second,
-            } = run_shipped(&rt, rt, &words, AnyFile, AnyFile);
-            drop(input);
-            drop(output);
-            drop(shelf);
-            drop(disk);
-            drop(second);
-            status
-        }
+    let code = match words_of(&rt) {
+        Ok(words) => leave(run_shipped(&rt, rt, &words, AnyFile, AnyFile)),
         Err(AllocError) => {
             let _ = write_all(&mut StdSink::new(rt.stdout()), b"nomemory\n");
-            9
+            ExitCode::from(9)
         }
     };
     drop(held);
-    ExitCode::from(status)
+    code
 }
 
 // Where the program is started with a closed input, output or error, the next file that is opened would take its place,
@@ -54,11 +39,7 @@ fn hold_descriptors<R: Files<File = File>>(files: &R) -> [Option<File>; 3] {
     ]
 }
 
-// The words behind the program's name. Words that are no text are no words, which no command has.
+// The words behind the program's name.
 fn words_of<R: Env + AllocGlobal>(rt: &R) -> Result<Vec<String>, AllocError> {
-    match env::args(rt) {
-        Ok(all) => behind_first(rt.alloc(), all),
-        Err(error) if error.kind() == ErrorKind::OutOfMemory => Err(AllocError),
-        Err(_) => Ok(Vec::new(rt.alloc())),
-    }
+    told_words(rt.alloc(), env::args(rt))
 }

@@ -1,15 +1,23 @@
 // All of the program but what the system hands it, on the devices that it is shipped with.
-ghost use Rattle.std.specs.Prelude.{◌≡◌, ◌⊎◌, List, []};
+ghost use Rattle.std.specs.Prelude.{◌≡◌, ◌⊎◌, ℕ, List, [], codes};
+ghost use Rattle.std.specs.Process.{exit_status};
 ghost use Rattle.outside_io.specs.Shelves.{Files};
+ghost use Rattle.policy_types.specs.declared.script.Lane.{Lane};
+ghost use Rattle.basis_book.specs.Dated.{Dated};
+ghost use Rattle.command_csv.specs.Reads.{Reads};
+ghost use Rattle.office_state.specs.Journals.{Opens};
 ghost use Rattle.program_endings.specs.Status.{status_of};
-ghost use Rattle.program_endings.specs.Writing.{between, input_between, shelf_between};
+ghost use Rattle.program_endings.specs.Writing.{IsWholeInput, between, input_between, shelf_between};
 ghost use Rattle.program_endings.specs.declared.ending.Ending.{Ending as AnEnding};
 ghost use Rattle.life_app.specs.DueKept.{IsDueOfBoth};
+ghost use Rattle.life_app.specs.Headline.{IsGivenBasis, IsPromisedFromStart};
 ghost use Rattle.life_app.specs.Needs.{filing_between};
 ghost use Rattle.life_app.specs.ObeysKept.{AskForBoth, ObeysKept};
+ghost use Rattle.life_app.specs.Words.{AskForRun};
 ghost use Rattle.life_cli.specs.Completing.{EndsDuly};
 ghost use Rattle.life_cli.specs.Shipped.{ObeysFromStart, filing_from_start, shipped_auditors, input_from_start, output_from_start, shelf_from_start, two_disks};
 
+use crate::named_files::{CheckpointOf, JournalOf};
 use life_app::{EndedKept, life_kept};
 use outside_io::{
     Disk, FileDisk, FolderShelf, FoundFile, OpenGate, Shelf, Sink, Source, StdSink, StdSource,
@@ -18,6 +26,7 @@ use policy_types::Watcher;
 use program_endings::lack_memory;
 use std::alloc::Global;
 use std::io::{Stdin, Stdout};
+use std::process::ExitCode;
 use std::sync::Wait;
 use std::thread::Threads;
 use watcher_set::{CountWatcher, PremiumWatcher};
@@ -41,13 +50,13 @@ pub type Output = StdSink<Stdout>;
 pub type Folder = FolderShelf<HostRuntime>;
 
 /// What the program leaves: its exit status, and its devices with what they noted.
-pub struct Left<F: FoundFile, C: FoundFile> {
+pub struct Left<D, E> {
     pub status: u8,
     pub input: Input,
     pub output: Output,
     pub shelf: Folder,
-    pub disk: FileDisk<HostRuntime, F>,
-    pub second: FileDisk<HostRuntime, C>,
+    pub disk: D,
+    pub second: E,
 }
 
 /// Does what the words ask for, over standard input and output, the folder and its `journal.life` and `checkpoint.life`.
@@ -61,30 +70,42 @@ pub fn run_shipped<R: Threads + Wait + Sync, F: FoundFile, C: FoundFile>(
     words: &[String],
     found: F,
     kept: C,
-) -> Left<F, C>
-    ensures obeys { ObeysFromStart ⟦<FileDisk<HostRuntime, F> as Disk>⟧ ⟦<FileDisk<HostRuntime, C> as Disk>⟧ F.bytes C.bytes
-        result.disk result.second words.now
+) -> Left<FileDisk<HostRuntime, JournalOf<F>>, FileDisk<HostRuntime, CheckpointOf<C>>>
+    ensures obeys { ObeysFromStart ⟦<FileDisk<HostRuntime, JournalOf<F>> as Disk>⟧
+        ⟦<FileDisk<HostRuntime, CheckpointOf<C>> as Disk>⟧ F.bytes C.bytes result.disk result.second words.now
         (input_from_start (⟦<Input as Source>⟧.faults result.input) (⟦<Input as Source>⟧.given result.input)
         (⟦<Input as Source>⟧.ended result.input))
         (output_from_start (⟦<Output as Sink>⟧.faults result.output) (⟦<Output as Sink>⟧.written result.output))
         (shelf_from_start (⟦<Folder as Shelf>⟧.faults result.shelf) (⟦<Folder as Shelf>⟧.agrees result.shelf))
         (⟦<Input as Source>⟧.given result.input ≡ [])
         ((files : Files) → ⟦<Folder as Shelf>⟧.agrees result.shelf files) result.status }
+    // A script's run: of words that ask for one, the whole input, the lanes that it reads as, and the basis that it is given.
+    ensures promised { (name script : List ℕ) (lanes : List Lane) (basis : List Dated) → AskForRun words.now name
+        → IsWholeInput (input_from_start (⟦<Input as Source>⟧.faults result.input) (⟦<Input as Source>⟧.given result.input)
+        (⟦<Input as Source>⟧.ended result.input)) script
+        → Reads script lanes
+        → IsGivenBasis lanes name
+        (shelf_from_start (⟦<Folder as Shelf>⟧.faults result.shelf) (⟦<Folder as Shelf>⟧.agrees result.shelf)) basis
+        → IsPromisedFromStart ⟦<FileDisk<HostRuntime, JournalOf<F>> as Disk>⟧ Opens F.bytes result.disk lanes basis
+        (output_from_start (⟦<Output as Sink>⟧.faults result.output) (⟦<Output as Sink>⟧.written result.output))
+        result.status }
+    // Each of the two files has its own name.
+    ensures names { (result.disk.file.name.now ≡ codes "journal.life") × (result.second.file.name.now ≡ codes "checkpoint.life") }
     ensures ends { EndsDuly words.now
         (input_from_start (⟦<Input as Source>⟧.faults result.input) (⟦<Input as Source>⟧.given result.input)
         (⟦<Input as Source>⟧.ended result.input))
         (output_from_start (⟦<Output as Sink>⟧.faults result.output) (⟦<Output as Sink>⟧.written result.output))
         (shelf_from_start (⟦<Folder as Shelf>⟧.faults result.shelf) (⟦<Folder as Shelf>⟧.agrees result.shelf))
-        (filing_from_start F.bytes (⟦<FileDisk<HostRuntime, F> as Disk>⟧.reads result.disk)
-        (⟦<FileDisk<HostRuntime, F> as Disk>⟧.honest result.disk)
-        (⟦<FileDisk<HostRuntime, F> as Disk>⟧.faults result.disk)) result.status }
+        (filing_from_start F.bytes (⟦<FileDisk<HostRuntime, JournalOf<F>> as Disk>⟧.reads result.disk)
+        (⟦<FileDisk<HostRuntime, JournalOf<F>> as Disk>⟧.honest result.disk)
+        (⟦<FileDisk<HostRuntime, JournalOf<F>> as Disk>⟧.faults result.disk)) result.status }
 {
     let alloc = system.alloc();
     let mut input = StdSource::new(system.stdin());
     let mut output = StdSink::new(system.stdout());
     let mut shelf = FolderShelf::new(system);
-    let disk = FileDisk::at(system, JOURNAL, found);
-    let second = FileDisk::at(system, CHECKPOINT, kept);
+    let disk = FileDisk::at(system, JOURNAL, JournalOf { found });
+    let second = FileDisk::at(system, CHECKPOINT, CheckpointOf { found: kept });
     let EndedKept {
         status,
         disk,
@@ -109,6 +130,26 @@ pub fn run_shipped<R: Threads + Wait + Sync, F: FoundFile, C: FoundFile>(
     }
 }
 
+/// Gives the devices back, and ends with the status that the run left.
+pub fn leave<D: Drop, E: Drop>(left: Left<D, E>) -> ExitCode
+    ensures { exit_status result ≡ left.status }
+{
+    let Left {
+        status,
+        input,
+        output,
+        shelf,
+        disk,
+        second,
+    } = left;
+    drop(input);
+    drop(output);
+    drop(shelf);
+    drop(disk);
+    drop(second);
+    ExitCode::from(status)
+}
+
 // The same over devices as they are: the top call with the two auditors, or 9 where these find no memory.
 fn obey<R: Threads + Wait + Sync, F: FoundFile, C: FoundFile>(
     rt: &R,
@@ -117,10 +158,10 @@ fn obey<R: Threads + Wait + Sync, F: FoundFile, C: FoundFile>(
     input: &mut Input,
     output: &mut Output,
     shelf: &mut Folder,
-    disk: FileDisk<HostRuntime, F>,
-    second: FileDisk<HostRuntime, C>,
-) -> EndedKept<FileDisk<HostRuntime, F>, FileDisk<HostRuntime, C>>
-    ensures obeys { ObeysKept ⟦<FileDisk<HostRuntime, F> as Disk>⟧ ⟦<FileDisk<HostRuntime, C> as Disk>⟧
+    disk: FileDisk<HostRuntime, JournalOf<F>>,
+    second: FileDisk<HostRuntime, CheckpointOf<C>>,
+) -> EndedKept<FileDisk<HostRuntime, JournalOf<F>>, FileDisk<HostRuntime, CheckpointOf<C>>>
+    ensures obeys { ObeysKept ⟦<FileDisk<HostRuntime, JournalOf<F>> as Disk>⟧ ⟦<FileDisk<HostRuntime, CheckpointOf<C>> as Disk>⟧
         (two_disks disk result.disk second result.second) words.now shipped_auditors
         (input_between (⟦<Input as Source>⟧.faults) (⟦<Input as Source>⟧.left) (⟦<Input as Source>⟧.given)
         (⟦<Input as Source>⟧.ended) input.old input.new)
@@ -132,9 +173,9 @@ fn obey<R: Threads + Wait + Sync, F: FoundFile, C: FoundFile>(
         (⟦<Input as Source>⟧.ended) input.old input.new)
         (between (⟦<Output as Sink>⟧.faults) (⟦<Output as Sink>⟧.written) output.old output.new)
         (shelf_between (⟦<Folder as Shelf>⟧.faults) (⟦<Folder as Shelf>⟧.agrees) shelf.old shelf.new)
-        (filing_between ⟦<FileDisk<HostRuntime, F> as Disk>⟧ disk result.disk) result.status }
+        (filing_between ⟦<FileDisk<HostRuntime, JournalOf<F>> as Disk>⟧ disk result.disk) result.status }
     ensures due { (ending : AnEnding) → AskForBoth words.now
-        → IsDueOfBoth ⟦<FileDisk<HostRuntime, F> as Disk>⟧ ⟦<FileDisk<HostRuntime, C> as Disk>⟧
+        → IsDueOfBoth ⟦<FileDisk<HostRuntime, JournalOf<F>> as Disk>⟧ ⟦<FileDisk<HostRuntime, CheckpointOf<C>> as Disk>⟧
         (two_disks disk result.disk second result.second)
         (between (⟦<Output as Sink>⟧.faults) (⟦<Output as Sink>⟧.written) output.old output.new) ending
         → (result.status ≡ status_of ending) ⊎ (result.status ≡ 9) }

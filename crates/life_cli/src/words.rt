@@ -1,12 +1,30 @@
 // The words of the command line.
-ghost use Rattle.std.specs.Prelude.{◌≡◌, IfOk, drop};
+ghost use Rattle.std.specs.Prelude.{◌≡◌, ◌≢◌, IfErr, IfOk, [], drop, is_ok, true};
+ghost use Rattle.std.specs.IoError.{error_kind};
 ghost use Rattle.std.specs.Vec.Iter.{into_iter_items};
+ghost use Rattle.std.specs.declared.io.ErrorKind.TheVariants.{OutOfMemory};
 
 use std::alloc::{AllocError, Global};
 use std::env::Args;
+use std::io;
+use std::io::ErrorKind;
 
-/// All words but the first, which is the program's name.
-pub fn behind_first(alloc: Global, words: Args) -> Result<Vec<String>, AllocError>
+/// The words behind the program's name, as the system told them all. Words that are no text are no words, which no
+/// command has.
+pub fn told_words(alloc: Global, all: io::Result<Args>) -> Result<Vec<String>, AllocError>
+    ensures words { IfOk all (λ words. IfOk result (λ kept. kept.items ≡ drop 1 (into_iter_items words))) }
+    ensures no_text { IfErr all (λ error. error_kind error ≢ OutOfMemory
+        → (is_ok result ≡ true) × IfOk result (λ kept. kept.items ≡ [])) }
+{
+    match all {
+        Ok(words) => behind_first(alloc, words),
+        Err(error) if error.kind() == ErrorKind::OutOfMemory => Err(AllocError),
+        Err(_) => Ok(Vec::new(alloc)),
+    }
+}
+
+// All words but the first, which is the program's name.
+fn behind_first(alloc: Global, words: Args) -> Result<Vec<String>, AllocError>
     ensures { IfOk result (λ kept. kept.items ≡ drop 1 (into_iter_items words)) }
 {
     let mut words = words;

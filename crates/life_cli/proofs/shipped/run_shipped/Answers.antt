@@ -1,9 +1,11 @@
-use Rattle.std.proofs.Common.{◌≡◌, List, [], length, Some, ap}
+use Rattle.std.proofs.Common.{◌≡◌, List, [], length, Some, ap, refl}
 use Rattle.outside_io.specs.FileCalls.{FileCall, file_reads, AreAllowed}
 use Rattle.outside_io.specs.Shelves.{Files, Agrees}
 use Rattle.outside_io.specs.Streams.{StreamPiece, passed_bytes, HasEnd}
+use Rattle.outside_io.specs.FileLaws.{left_only_now}
 use Rattle.life_cli.specs.Shipped.{two_disks}
 use Rattle.life_cli.proofs.FromStart.{due_from_start, ends_from_start, agrees_with_all, kept_still, obeys_from_start}
+use Rattle.life_cli.proofs.Promised.{promised}
 use Rattle.life_cli.proofs.shipped.run_shipped.Goals as goal
 
 pub returns-clause-obeys : goal.returns-clause-obeys
@@ -44,6 +46,13 @@ returns-clause-obeys g c =
           c.new-output.ensures.faults took c.obey-status.ensures.due;
     }
 
+pub returns-clause-promised : goal.returns-clause-promised
+returns-clause-promised g c = λ name script lanes basis run whole reads given.
+    let found = g.F.FoundFile.bytes in
+    promised _ _ _ name script lanes basis _ _ _ _ _ _ found _ c.obey-status.result.disk _ (returns-clause-obeys g c)
+    (λ disk image honest left. left_only_now found g.F.FoundFile.torn g.F.FoundFile.unsynced disk.file.calls image left)
+    run whole reads given
+
 pub returns-clause-ends : goal.returns-clause-ends
 returns-clause-ends g c =
     let input = c.new-input.result in
@@ -62,3 +71,6 @@ returns-clause-ends g c =
     c.new-input.ensures.faults (ap (λ (pieces : List StreamPiece). passed_bytes pieces) c.new-input.ensures.given) c.new-output.ensures.faults
     (ap (λ (pieces : List StreamPiece). Some (passed_bytes pieces)) c.new-output.ensures.taken) c.new-shelf.ensures.faults c.at-disk.ensures.faults
     (ap (λ (calls : List FileCall). file_reads found torn calls) c.at-disk.ensures.calls) c.obey-status.ensures.ends
+
+pub returns-clause-names : goal.returns-clause-names
+returns-clause-names g c = (c.obey-status.result.disk.named _ refl, c.obey-status.result.second.named _ refl)
