@@ -346,7 +346,7 @@ const PROJECTED: &[Projected] = &[
     },
 ];
 
-fn projected(row: &Projected) -> Policy {
+fn policy_of(row: &Projected) -> Policy {
     Policy {
         id: 7001,
         plan: row.plan,
@@ -367,7 +367,7 @@ fn years_of_one_policy(rt: HostRuntime) -> Result<(), Fail> {
     for row in PROJECTED {
         let name = row.name;
         let many = row.expected.len().min(131) as u8;
-        let (years, unvalued) = cash(rt.alloc(), FLAT, &projected(row), row.on, many)?;
+        let (years, unvalued) = cash(rt.alloc(), FLAT, &policy_of(row), row.on, many)?;
         assert_eq!(rt; unvalued, 0, "{name}");
         assert_eq!(rt; years.len(), row.expected.len(), "{name}");
         for (year, expected) in years.iter().zip(row.expected) {
