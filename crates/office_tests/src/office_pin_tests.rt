@@ -146,8 +146,7 @@ const EMPTY: &[Pinning] = &[
     Pinning::Trim(0),
 ];
 
-// Pins below, at and above the count of three policies, whose postings take the turns 5 to 9, and the floors that
-// they leave.
+// Pins below, at and above the count of three policies, whose postings take the turns 5 to 9, and the floors that they leave.
 const FULL: &[Pinning] = &[
     Pinning::At(5, Err(PinRefusal::Ahead(4))),
     Pinning::Now(Ok(PinInfo {
