@@ -3,6 +3,7 @@ from __future__ import annotations
 
 import os
 import pkgutil
+import socket
 import tempfile
 import time
 import zipfile
@@ -10,7 +11,7 @@ from types import ModuleType
 from typing import Any, Callable, Iterator
 
 import life_tools
-from life_tools.book_runs import NOT_DONE, Outcome, Task, run_once
+from life_tools.book_runs import NOT_DONE, Outcome, Task, run_once, sum_of
 from life_tools.formats import Wrong, demand
 from life_tools.packages import package
 
@@ -41,6 +42,22 @@ def modules_below(module: ModuleType) -> Iterator[str]:
     for found in pkgutil.iter_modules(module.__path__):
         if not found.ispkg:
             yield f"{found.name}.py"
+
+
+def tools_here() -> str:
+    """The sum of these tools as they were when they were read."""
+    return sum_of(b"".join(pkgutil.get_data("life_tools", name) or b"" for name in modules_below(life_tools)))
+
+
+TOOLS = tools_here()
+
+
+def run_there(task: Task, tools: str) -> Outcome:
+    """On a worker: its own folder takes the copies, so that what one leaves that dies is Dask's to remove."""
+    if tools != TOOLS:
+        return Outcome(task.name, NOT_DONE, f"{socket.gethostname()} has other tools: begin its workers anew")
+    worker = distributed().get_worker()
+    return run_once(task, worker.local_directory)
 
 
 class Cluster:
@@ -89,7 +106,7 @@ class Cluster:
                     tell(made)
                     ended.append(made)
                 else:
-                    running[self.client.submit(run_once, made, pure=False, retries=MOST_DEATHS)] = made
+                    running[self.client.submit(run_there, made, TOOLS, pure=False, retries=MOST_DEATHS)] = made
             for future in self.done_of(running, len(ended), len(makes)):
                 ended.append(self.outcome_of(future, running.pop(future)))
                 tell(ended[-1])
