@@ -1,10 +1,12 @@
 # What the checks share: where the repository and the program are, a folder to work in, and cases that are begun and
-# judged. Read by `. "$(dirname "$0")/../common.sh"`.
+# judged. Read by `. "$(dirname "$0")/../common.sh"`, or by `../../common.sh` from .ci/checks/long.
 #
 # LIFE_PROGRAM may name another program than the proved one, to try the checks before there is a proof; it is then run
 # as the launcher runs the proved one.
 check=$(basename "$0" .sh)
-root=$(cd "$(dirname "$0")/../.." && pwd) || exit 2
+# a check lies in .ci/checks, or one folder deeper in .ci/checks/long
+case $(basename "$(dirname "$0")") in long) up=../../.. ;; *) up=../.. ;; esac
+root=$(cd "$(dirname "$0")/$up" && pwd) || exit 2
 work=$(mktemp -d) || exit 2
 trap 'chmod -R u+w "$work"; rm -rf "$work"' EXIT
 if [ -n "${LIFE_PROGRAM:-}" ]; then

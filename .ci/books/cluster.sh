@@ -1,41 +1,9 @@
 # The part of the check of books that runs a cluster of Dask on the loopback. Read by .ci/checks/books.sh, in the folder
 # of its three books.
-dask=/usr/bin/python3
+. "$root/.ci/books/loopback.sh"
 
-begin_cluster() {
-    export DASK_LOGGING__DISTRIBUTED=critical DASK_DISTRIBUTED__COMM__TIMEOUTS__CONNECT=10s
-    "$dask" -m distributed.cli.dask_scheduler --host 127.0.0.1 --port 0 --no-dashboard --scheduler-file where.json >scheduler.log 2>&1 &
-    scheduler=$!
-    wait_for 'test -s where.json' || { complain "no scheduler: $(tail -n 3 scheduler.log)"; return 1; }
-    address=$("$dask" -c 'import json; print(json.load(open("where.json"))["address"])')
-    begin_worker 1
-    begin_worker 2
-    wait_for "$dask -c 'import distributed, sys; sys.exit(len(distributed.Client(\"$address\").scheduler_info()[\"workers\"]) < 2)' 2>/dev/null" ||
-        complain "there are no two workers: $(tail -n 3 worker*.log)"
-}
-
-begin_worker() {
-    "$dask" -m distributed.cli.dask_worker "$address" --nthreads 1 --no-nanny --no-dashboard --local-directory "room$1" >"worker$1.log" 2>&1 &
-    eval "worker$1=$!"
-}
-
-# until a command holds, for a minute at most
-wait_for() {
-    tried=0
-    until eval "$1"; do
-        tried=$((tried + 1))
-        [ "$tried" -lt 240 ] || return 1
-        sleep 0.25
-    done
-}
-
-end_cluster() {
-    kill "$@" 2>/dev/null
-    wait "$@" 2>/dev/null
-}
-
-if ! "$dask" -c 'import distributed' 2>/dev/null; then
-    echo "books: skipped: the cluster: apt-get install python3-distributed"
+if ! has_dask; then
+    skip_cluster
     refuses "apt-get install python3-distributed" books.csv value 2010-12-31 --scheduler tcp://127.0.0.1:1
 else
     go_on "a cluster on the loopback"

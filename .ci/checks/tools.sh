@@ -89,20 +89,6 @@ says export jsonl journal.life
 python3 -c 'import json; print(sum(json.loads(line)["policy"] == 14 for line in open("out")))' >found
 wc -l <wanted | cmp -s - found || complain "the JSON lines have other records"
 says export sqlite journal.life journal.db
-python3 - <<'PY' >found
-import sqlite3
-money = lambda cents: f"{'-' if cents < 0 else ''}{abs(cents) // 100}.{abs(cents) % 100:02}"
-database = sqlite3.connect("journal.db")
-issues = "select policy.* from policy join command on command.policy = policy.policy and kind = 'issue' order by position"
-for number, status, plan, age, years, amount, premium, issued, paid, outstanding in database.execute(issues):
-    fields = [number, status, plan, age, years, money(amount), money(premium), issued, paid, money(outstanding)]
-    print(",".join(["policy", *map(str, fields)]))
-for account in ("cash", "premiums", "incurred", "payable"):
-    (cents,) = database.execute("select sum(cents) from booking where account = ?", [account]).fetchone()
-    print(f"balance,{account},{money(cents)}")
-print(f"count,{database.execute('select count(*) from command').fetchone()[0]}")
-PY
-cmp -s found state || complain "the SQLite file has another state"
 refuses "there already" export sqlite journal.life journal.db
 refuses "badjournal,badrecord,1" export csv cut.life
 

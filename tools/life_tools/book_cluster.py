@@ -3,18 +3,22 @@ from __future__ import annotations
 
 import os
 import pkgutil
+import signal
+import socket
 import tempfile
 import time
 import zipfile
+from contextlib import contextmanager
 from types import ModuleType
 from typing import Any, Callable, Iterator
 
 import life_tools
-from life_tools.book_runs import NOT_DONE, Outcome, Task, run_once
+from life_tools.book_runs import NOT_DONE, Outcome, Task, run_once, sum_of
 from life_tools.formats import Wrong, demand
 from life_tools.packages import package
 
 SECONDS_TO_CONNECT = 10
+SECONDS_TO_ANSWER = 60
 SECONDS_BETWEEN = 0.05
 # how many workers may die over one book
 MOST_DEATHS = 3
@@ -43,6 +47,36 @@ def modules_below(module: ModuleType) -> Iterator[str]:
             yield f"{found.name}.py"
 
 
+def tools_here() -> str:
+    """The sum of these tools as they were when they were read."""
+    return sum_of(b"".join(pkgutil.get_data("life_tools", name) or b"" for name in modules_below(life_tools)))
+
+
+TOOLS = tools_here()
+
+
+def run_there(task: Task, tools: str) -> Outcome:
+    """On a worker: its own folder takes the copies, so that what one leaves that dies is Dask's to remove."""
+    if tools != TOOLS:
+        return Outcome(task.name, NOT_DONE, f"{socket.gethostname()} has other tools: begin its workers anew")
+    worker = distributed().get_worker()
+    return run_once(task, worker.local_directory)
+
+
+@contextmanager
+def at_most(seconds: int, why: str) -> Iterator[None]:
+    """Dask may wait for ever on a scheduler that goes away in the midst of a call; this ends the wait."""
+    def end(*_: object) -> None:
+        raise Wrong(why)
+    before = signal.signal(signal.SIGALRM, end)
+    signal.alarm(seconds)
+    try:
+        yield
+    finally:
+        signal.alarm(0)
+        signal.signal(signal.SIGALRM, before)
+
+
 class Cluster:
     """A scheduler and its workers, which are handed these tools."""
 
@@ -54,12 +88,14 @@ class Cluster:
         except (OSError, ValueError, TimeoutError) as error:
             raise Wrong(f"there is no scheduler at {address}: {error}") from error
         demand(self.workers(), f"the scheduler at {address} has no workers")
-        self.hand_tools()
+        with at_most(SECONDS_TO_ANSWER, f"the scheduler at {address} doesn't answer"):
+            self.hand_tools()
 
     def workers(self) -> int:
         """How many books can be worked on at once."""
         try:
-            info: dict[str, Any] = self.client.scheduler_info()
+            with at_most(SECONDS_TO_ANSWER, f"the scheduler at {self.address} went away"):
+                info: dict[str, Any] = self.client.scheduler_info()
         except (OSError, TimeoutError) as error:
             raise Wrong(f"the scheduler at {self.address} went away: {error}") from error
         return sum(worker["nthreads"] for worker in info["workers"].values())
@@ -73,7 +109,8 @@ class Cluster:
 
     def close(self) -> None:
         try:
-            self.client.close(timeout=2)
+            with at_most(SECONDS_TO_CONNECT, "it doesn't close"):
+                self.client.close(timeout=2)
         except Exception as error:  # noqa: B902
             # what is closed may be gone already
             del error
@@ -89,7 +126,7 @@ class Cluster:
                     tell(made)
                     ended.append(made)
                 else:
-                    running[self.client.submit(run_once, made, pure=False, retries=MOST_DEATHS)] = made
+                    running[self.client.submit(run_there, made, TOOLS, pure=False, retries=MOST_DEATHS)] = made
             for future in self.done_of(running, len(ended), len(makes)):
                 ended.append(self.outcome_of(future, running.pop(future)))
                 tell(ended[-1])

@@ -198,9 +198,9 @@ def failure(name: str, why: Exception) -> Outcome:
     return Outcome(name, NOT_DONE, str(why).replace("\n", " "))
 
 
-def run_on(task: Task, folder: str) -> Outcome:
+def run_on(task: Task, folder: str, room: str | None) -> Outcome:
     """Runs a task in a folder; the file of its lines stays where they are kept."""
-    with tempfile.NamedTemporaryFile(prefix="life-book-", delete=False) as file:
+    with tempfile.NamedTemporaryFile(prefix="life-book-", dir=room, delete=False) as file:
         try:
             outcome = run_in(task, folder, file)
         except BaseException:
@@ -211,14 +211,14 @@ def run_on(task: Task, folder: str) -> Outcome:
     return outcome
 
 
-def run_once(task: Task) -> Outcome:
-    """Runs a task; what can't be asked of the program is told with a status of its own."""
+def run_once(task: Task, room: str | None = None) -> Outcome:
+    """Runs a task; what can't be asked of the program is told with a status of its own. Copies are made in the room."""
     try:
         if not task.is_copied:
             demand_journal(task.folder)
-            return run_on(task, task.folder)
-        with tempfile.TemporaryDirectory(prefix="life-books-") as desk:
+            return run_on(task, task.folder, room)
+        with tempfile.TemporaryDirectory(prefix="life-books-", dir=room) as desk:
             lay_copy(task, desk)
-            return run_on(task, desk)
+            return run_on(task, desk, room)
     except (Wrong, OSError, ValueError, zlib.error) as wrong:
         return failure(task.name, wrong)

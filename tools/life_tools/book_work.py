@@ -3,7 +3,7 @@ from __future__ import annotations
 
 import os
 import zlib
-from concurrent.futures import ThreadPoolExecutor
+from concurrent.futures import ThreadPoolExecutor, as_completed
 from dataclasses import dataclass, replace
 from typing import Callable
 
@@ -13,6 +13,7 @@ from life_tools.book_runs import JOURNAL, Outcome, Parts, Task, demand_journal, 
 from life_tools.copied_folder import basis_files
 from life_tools.formats import Wrong, bytes_of, remark
 from life_tools.program import demand_as_installed, life_command, program_file
+from life_tools.progress import Progress
 from life_tools.record_columns import columns_at
 
 
@@ -66,18 +67,29 @@ def made_elsewhere(asked: Asked, book: ListedBook, program: str, program_sum: st
         return failure(book.name, wrong)
 
 
-def tell_failure(outcome: Outcome) -> None:
-    if outcome.status:
-        remark(f"{outcome.name}: status {outcome.status}: {outcome.line}")
+class Told:
+    """Tells each book that failed, and how many are done."""
+
+    def __init__(self, books: int) -> None:
+        self.progress, self.done = Progress("books", books), 0
+
+    def tell(self, outcome: Outcome) -> None:
+        self.progress.end()
+        if outcome.status:
+            remark(f"{outcome.name}: status {outcome.status}: {outcome.line}")
+        self.done += 1
+        self.progress.at(self.done)
 
 
 def run_here(asked: Asked, books: list[ListedBook]) -> list[Outcome]:
-    def done(book: ListedBook) -> Outcome:
-        outcome = run_once(task_here(asked, book))
-        tell_failure(outcome)
-        return outcome
+    told, outcomes = Told(len(books)), []
     with ThreadPoolExecutor(asked.processes) as pool:
-        return list(pool.map(done, largest_first(books)))
+        begun = [pool.submit(run_once, task_here(asked, book)) for book in largest_first(books)]
+        for future in as_completed(begun):
+            outcomes.append(future.result())
+            told.tell(outcomes[-1])
+    told.progress.end()
+    return outcomes
 
 
 def run_elsewhere(asked: Asked, books: list[ListedBook], cluster: Cluster) -> list[Outcome]:
@@ -86,7 +98,10 @@ def run_elsewhere(asked: Asked, books: list[ListedBook], cluster: Cluster) -> li
 
     def maker(book: ListedBook) -> Make:
         return lambda: made_elsewhere(asked, book, program, program_sum)
-    return cluster.run([maker(book) for book in largest_first(books)], tell_failure)
+    told = Told(len(books))
+    outcomes = cluster.run([maker(book) for book in largest_first(books)], told.tell)
+    told.progress.end()
+    return outcomes
 
 
 def twice(asked: Asked, books: list[ListedBook], run: Callable[[Asked, list[ListedBook]], list[Outcome]]) -> list[Outcome]:

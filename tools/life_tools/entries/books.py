@@ -87,10 +87,15 @@ def print_book(outcome: Outcome) -> None:
         sys.stdout.flush()
         with open(outcome.rows, "rb") as file:
             named(outcome.name, file, sys.stdout.buffer)
-        os.remove(outcome.rows)
     else:
         first = [outcome.text.first] if outcome.text.first else []
         print_lines(outcome.name, first + outcome.text.lines)
+
+
+def forget_rows(outcomes: list[Outcome]) -> None:
+    for outcome in outcomes:
+        if outcome.rows:
+            os.remove(outcome.rows)
 
 
 def print_total(outcomes: list[Outcome]) -> None:
@@ -141,10 +146,13 @@ def tell_twice(books: list[ListedBook], outcomes: list[Outcome]) -> int:
 def run_program(options: argparse.Namespace, books: list[ListedBook]) -> int:
     asked = asked_of(options, books)
     outcomes = work(asked, books)
-    for outcome in outcomes:
-        print_book(outcome)
-    print_total(outcomes)
-    sys.stdout.flush()
+    try:
+        for outcome in outcomes:
+            print_book(outcome)
+        print_total(outcomes)
+        sys.stdout.flush()
+    finally:
+        forget_rows(outcomes)
     write_list_of_parts(asked, outcomes)
     failed = [outcome.status for outcome in outcomes if outcome.status]
     twice = tell_twice(books, outcomes)

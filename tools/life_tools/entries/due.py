@@ -18,9 +18,9 @@ import sys
 from operator import itemgetter
 from typing import Iterator
 
-from life_tools.bulk import Bulk, anniversary_at, bulk_at, day_at, many_objects, number_at, spelled, text_at
+from life_tools.bulk import ISSUES, Bulk, anniversary_at, bulk_at, day_at, many_objects, number_at, text_at
 from life_tools.formats import LAST_DAY, Wrong, day_in, demand, money, number_of, remark
-from life_tools.rules import GRACE, REINSTATEMENT_ANNIVERSARIES, Policy, due_of, end_of, missed_by
+from life_tools.rules import GRACE, REINSTATEMENT_ANNIVERSARIES, Policy, due_of, end_of, missed_by, years_of
 
 WHATS = ("premium", "grace", "lapse", "mature", "reinstate", "settle")
 PREMIUM, IN_GRACE, LAPSE, MATURE, REINSTATE, SETTLE = range(len(WHATS))
@@ -38,16 +38,23 @@ class Items:
         self.day, self.last = day, min(day + within, number_at(LAST_DAY))
         self.found: list[Due] = []
 
-    def paying(self, number: int, first: int, due: int, end: int, premium: int, benefit: int) -> None:
-        """Of a policy of which a premium is to come; before the first day it takes no line."""
+    def paying(self, number: int, first: int, due: int, cover: tuple[int, int], premium: int, benefit: int) -> None:
+        """Of a policy of which a premium is to come; before the first day it takes no line.
+
+        The cover is the day of issue and the years, whose end is worked out where it matters: it is after the due day.
+        """
         grace_end, found = due + DAYS_OF_GRACE, self.found
-        if first <= due <= self.last:
-            found.append((PREMIUM, due, number, grace_end, premium, due))
-        elif due < first <= grace_end and first < end:
-            found.append((IN_GRACE, due, number, grace_end, premium, first))
         if first > grace_end:
             found.append((LAPSE, due, number, grace_end, premium, first))
-        elif max(end, first) <= grace_end:
+            return
+        if due > self.last:
+            return
+        end = anniversary_at(*cover)
+        if first <= due:
+            found.append((PREMIUM, due, number, grace_end, premium, due))
+        elif first < end:
+            found.append((IN_GRACE, due, number, grace_end, premium, first))
+        if max(end, first) <= grace_end:
             self.paid(number, first, end, benefit)
         elif grace_end < self.last:
             found.append((LAPSE, due, number, grace_end, premium, grace_end + 1))
@@ -77,12 +84,12 @@ class Items:
         elif policy.outstanding:
             self.found.append((SETTLE, last, number, None, policy.outstanding, first))
         elif policy.status in ("inforce", "paidup"):
-            end, due = number_at(end_of(policy)), due_of(policy)
-            benefit = 0 if policy.plan == "term" else policy.amount
+            due, benefit = due_of(policy), 0 if policy.plan == "term" else policy.amount
             if due is None:
-                self.paid(number, first, end, benefit)
+                self.paid(number, first, number_at(end_of(policy)), benefit)
             else:
-                self.paying(number, first, number_at(due), end, policy.premium, benefit)
+                cover = number_at(policy.issued), years_of(policy)
+                self.paying(number, first, number_at(due), cover, policy.premium, benefit)
 
     def plain(self, book: Bulk) -> None:
         """Of the policies that only premiums befell, which are in force."""
@@ -92,12 +99,12 @@ class Items:
             # nothing falls before as many years of 365 days as premiums were paid
             if first > last or issued + 365 * paid > last or place in others:
                 continue
-            plan, _, _, years, payments = spelled(head)
-            end, benefit = anniversary_at(issued, years), 0 if plan == "term" else amount
+            plan, _, _, years, payments = ISSUES[head]
+            benefit = 0 if plan == "term" else amount
             if paid < payments:
-                self.paying(number, first, anniversary_at(issued, paid), end, premium, benefit)
+                self.paying(number, first, anniversary_at(issued, paid), (issued, years), premium, benefit)
             else:
-                self.paid(number, first, end, benefit)
+                self.paid(number, first, anniversary_at(issued, years), benefit)
 
 
 def due_in(book: Bulk, day: int, within: int) -> list[Due]:
@@ -105,7 +112,8 @@ def due_in(book: Bulk, day: int, within: int) -> list[Due]:
     items.plain(book)
     for policy in book.others.values():
         items.other(policy)
-    items.found.sort(key=itemgetter(0, 1, 2))
+    # what, day and number tell all items apart
+    items.found.sort()
     return items.found
 
 

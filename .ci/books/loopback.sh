@@ -1,0 +1,42 @@
+# A cluster of Dask on the loopback, of a scheduler and two workers of a thread each. Read by checks.
+dask=/usr/bin/python3
+
+begin_cluster() {
+    export DASK_LOGGING__DISTRIBUTED=critical DASK_DISTRIBUTED__COMM__TIMEOUTS__CONNECT=10s
+    "$dask" -m distributed.cli.dask_scheduler --host 127.0.0.1 --port 0 --no-dashboard --scheduler-file where.json >scheduler.log 2>&1 &
+    scheduler=$!
+    wait_for 'test -s where.json' || { complain "no scheduler: $(tail -n 3 scheduler.log)"; return 1; }
+    address=$("$dask" -c 'import json; print(json.load(open("where.json"))["address"])')
+    begin_worker 1
+    begin_worker 2
+    wait_for "$dask -c 'import distributed, sys; sys.exit(len(distributed.Client(\"$address\").scheduler_info()[\"workers\"]) < 2)' 2>/dev/null" ||
+        complain "there are no two workers: $(tail -n 3 worker*.log)"
+}
+
+begin_worker() {
+    "$dask" -m distributed.cli.dask_worker "$address" --nthreads 1 --no-nanny --no-dashboard --local-directory "room$1" >"worker$1.log" 2>&1 &
+    eval "worker$1=$!"
+}
+
+# until a command holds, for a minute at most
+wait_for() {
+    tried=0
+    until eval "$1"; do
+        tried=$((tried + 1))
+        [ "$tried" -lt 240 ] || return 1
+        sleep 0.25
+    done
+}
+
+end_cluster() {
+    kill "$@" 2>/dev/null
+    wait "$@" 2>/dev/null
+}
+
+has_dask() {
+    "$dask" -c 'import distributed' 2>/dev/null
+}
+
+skip_cluster() {
+    echo "$check: skipped: the cluster: apt-get install python3-distributed"
+}

@@ -1,0 +1,62 @@
+#!/bin/sh
+# What `life-tools books` takes beside the runs of the program that it makes: by four processes, beside the longest share
+# of the single runs over four; and on a cluster of two workers on the loopback, beside two processes. Medians of three.
+# usage: sh bench/measure_books.sh [BOOKS POLICIES], else 8 books of 1,000,000 policies
+set -- "${1:-8}" "${2:-1000000}"
+root=$(cd "$(dirname "$0")/.." && pwd) || exit 2
+program=$(readlink -f -- "${LIFE_PROGRAM:-$root/crates/life_cli/out/life_cli}")
+LIFE_PROGRAM=$program
+export LIFE_PROGRAM
+work=$(mktemp -d) || exit 2
+trap 'rm -rf "$work"' EXIT
+check=measure
+complain() { echo "$check: $1" >&2; }
+. "$root/.ci/books/loopback.sh"
+cd "$work" && python3 "$root/examples/many_books.py" . "$1" "$2" || exit 2
+
+# the seconds that words take, appended to a file
+seconds() {
+    into=$1
+    shift
+    begun=$(date +%s%N)
+    "$@" >out 2>remarks || { cat remarks >&2; exit 1; }
+    echo "$(($(date +%s%N) - begun))" >>"$into"
+}
+
+books() {
+    python3 "$root/tools/life-tools" books books.csv value 2024-12-31 --totals "$@"
+}
+
+alone() {
+    cd "$1" && "$program" value 2024-12-31 </dev/null
+}
+
+has_dask && begin_cluster
+for round in 1 2 3; do
+    for book in book*/; do (seconds "$work/alone.$(basename "$book")" alone "$book"); done
+    seconds four books --processes 4
+    seconds two books --processes 2
+    ! has_dask || { seconds cluster books --scheduler "$address"; seconds sent books --scheduler "$address" --send; }
+done
+! has_dask || end_cluster "$worker1" "$worker2" "$scheduler"
+python3 - <<'PY'
+import glob
+import statistics
+
+
+def median(name):
+    with open(name, encoding="ascii") as file:
+        return statistics.median(int(line) / 1e9 for line in file)
+
+
+single = sorted((median(name) for name in glob.glob("alone.*")), reverse=True)
+shares = [0.0] * 4
+for each in single:
+    shares[shares.index(min(shares))] += each
+print(f"single runs {sum(single):.2f} s, the longest share over four {max(shares):.2f} s")
+print(f"four processes {median('four'):.2f} s, {median('four') / max(shares):.2f} times that")
+if glob.glob("cluster"):
+    print(f"two processes {median('two'):.2f} s, two workers {median('cluster'):.2f} s, "
+          f"{median('cluster') / median('two'):.2f} times; sent {median('sent'):.2f} s")
+PY
+uptime
