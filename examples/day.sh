@@ -29,6 +29,14 @@ left_open() {
     done
 }
 
+# the name of a folder that isn't there yet: the second, a number where two scripts of a name came in one, and the name
+new_folder() {
+    second=$(date +%Y-%m-%dT%H%M%S)
+    nth=
+    while [ -e "log/$second${nth:+.$nth}-$1" ]; do nth=$((${nth:-1} + 1)); done
+    echo "log/$second${nth:+.$nth}-$1"
+}
+
 # A folder for a script appears whole, before the script is sent.
 keep_script() {
     rm -rf log/.next
@@ -64,7 +72,7 @@ send() {
     [ -z "$earlier" ] || { say "$script isn't sent, since it was sent before: ${earlier%/sum}"; return 1; }
     before=$(count)
     [ -n "$before" ] || { say "$script isn't sent, since the book can't be read: life state tells why"; return 1; }
-    kept=log/$(date +%Y-%m-%dT%H%M%S)-$(basename "$script" .csv)
+    kept=$(new_folder "$(basename "$script" .csv)")
     keep_script || { say "$script isn't sent, since log/ can't be written"; return 1; }
     life-wait "$patience" run <"$kept/script" >"$kept/transcript" 2>"$kept/remarks"
     status=$?
