@@ -21,7 +21,7 @@ while read -r status line words; do
     name="life $words"
     echo "$line" >wanted
     eval "set -- $words"
-    "$life" "$@" <script >out
+    "$program" "$@" <script >out
     judge $? "$status" wanted
     leaves_none
     rm -f journal.life
@@ -54,7 +54,7 @@ run_one() {
     rm -f before
     [ ! -e journal.life ] || cp journal.life before
     # shellcheck disable=SC2086
-    "$life" ${asked%%<*} <"$script" >>out
+    "$program" ${asked%%<*} <"$script" >>out
     ended=$?
     [ "$ended" = "$status" ] || complain "$asked: status $ended, wanted $status"
     judge_journal "${asked%% *}"
