@@ -37,7 +37,7 @@ PY
     judge $? 5 wanted
     leaves before
     python3 "$tools/life-tools" read journal.life >out 2>remarks
-    judge $? 1 wanted
+    judge $? 2 wanted
 }
 
 refused_at "upgraded twice" 3 "0 1 2 2"
