@@ -113,7 +113,7 @@ changed_byte() {
     printf '%b' "$2" | dd of=checkpoint.life bs=1 seek="$1" conv=notrunc status=none
     stated_alike "byte $1 is $2"
     python3 "$tools/life-tools" read-checkpoint checkpoint.life journal.life >out 2>&1
-    [ $? = "${3:-1}" ] || complain "the tool says of byte $1: $(cat out)"
+    [ $? = "${3:-2}" ] || complain "the tool says of byte $1: $(cat out)"
 }
 changed_byte 0 '\000'
 changed_byte 0 '\002'

@@ -311,10 +311,10 @@ echo more >>"$bin/life"
 cp kept "$bin/life"
 
 go_on "an installation that fails leaves what was"
-# no room for the program: a device of a megabyte, or else a limit on the size of files
+# no room for the program: a device of half a megabyte, or else a limit on the size of files
 no_room() {
     mkdir small
-    if mount -t tmpfs -o size=1m none small 2>/dev/null; then
+    if mount -t tmpfs -o size=500k none small 2>/dev/null; then
         launch install "$PWD/small/bin" </dev/null
         ls -A small/bin >found
         umount small
@@ -441,7 +441,10 @@ PATH=${PATH#*:}
 begin "on a terminal"
 touch "$built"
 "$life" run <"$first.csv" >transcript
-"$life" generate 1 "${LIFE_PROGRAM:+1}000" 8 </dev/null >script || complain "no script"
+# a preview is slow
+many=3000
+[ -z "${LIFE_PROGRAM:-}" ] || many=1000
+"$life" generate 1 "$many" 8 </dev/null >script || complain "no script"
 timeout 600 python3 "$root/.ci/launcher/on_a_terminal.py" "$launcher" script || complain "on a terminal"
 
 end "only a current proof is run, previews touch no book, who waits gets it, and an installation is whole or isn't made"

@@ -364,7 +364,7 @@ undone "nowhere: $none" rest nowhere journal.life 0
 undone "strange is badscript,1,1" rest strange journal.life 0
 undone "nowhere: $none" rest small-office.csv nowhere 0
 undone "$cut" rest small-office.csv cut.life 0
-undone "has 27 commands, and before the run there were 28" rest small-office.csv journal.life 28
+undone "has 28 commands, and before the run there were 29" rest small-office.csv journal.life 29
 undone "nowhere is no journal, and no number of commands" rest small-office.csv journal.life nowhere
 undone "badjournal,notajournal" rest small-office.csv journal.life strange
 undone "nowhere: $none" explain badscript,1,1 nowhere
@@ -406,7 +406,7 @@ undone "has no total" plot reserves cut.block
 undone "isn't what life state prints" plot book cut.state
 undone "isn't what life project prints" plot projection strange
 undone "this one 3" plot projection cut.projected
-undone "28 is no position of ./journal.life, which has 27 commands" at 28 state
+undone "29 is no position of ./journal.life, which has 28 commands" at 29 state
 undone "x is no position" at x state
 undone "behind the position stands one of state, value, project" at 1 run
 undone "behind the position stands one of state, value, project" at 1
