@@ -1,7 +1,7 @@
 """Runs of one mode that may want memory, judged beside a run that had ample.
 
-The answer has to be the right text, or that memory was wanting: `nomemory` before the first posting, lines answered so, or
-no text where the lanes had ended; with status 9 each time, and with a file that holds what was accepted.
+The answer has to be the right text, or that memory was wanting: `nomemory` before the first posting, lines answered so,
+or no text where the lanes had ended; with status 9 each time, and with a file that holds what was accepted.
 """
 from __future__ import annotations
 
@@ -16,7 +16,7 @@ from runs import Desk, Ended
 
 @dataclass
 class Mode:
-    """What is run, over which journal and which checkpoint; of `load` the script is the one that it draws for itself."""
+    """What is run, over which journal and which checkpoint. Of `load` the script is what it draws for itself."""
 
     name: str
     words: list[str]
@@ -47,7 +47,8 @@ class Lacking:
 
     def judge(self, ended: Ended) -> str:
         """What became of the run: a word."""
-        demand(ended.status in (0, 9) and not ended.complaints, f"printed {ended.text[:200]!r} {ended.complaints[:200]!r}")
+        demand(ended.status in (0, 9), f"printed {ended.text[:200]!r} {ended.complaints[:200]!r}")
+        demand(not ended.complaints, f"on standard error: {ended.complaints[:200]!r}")
         demand(self.mode.posts or ended.after == self.mode.before, "the file was touched")
         if ended.status == 0:
             self.judge_right(ended)

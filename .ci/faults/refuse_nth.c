@@ -1,9 +1,9 @@
 /* Refuses one request for memory of the program beside which it is loaded (LD_PRELOAD): the one of a number.
  *
- * A request is a call of a function below, by any thread, from the beginning of `main` to its end; the start of a thread
- * is one, since the system takes memory for its stack. REQUESTS names a file of sixteen bytes, in which it is counted
- * how many requests there were, and how many were refused, however the program ends. REFUSED_REQUEST is the number of
- * the one that is refused; none is where it is 0 or absent.
+ * A request is a call of a function below, by any thread, from the beginning of `main` to its end. The start of a
+ * thread is one, since the system takes memory for its stack. REQUESTS names a file of sixteen bytes: how many requests
+ * were made, and how many refused, which is counted there however the program ends. REFUSED_REQUEST is the number of
+ * the one that is refused; where it is 0 or absent none is.
  */
 #define _GNU_SOURCE
 #include <dlfcn.h>

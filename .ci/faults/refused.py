@@ -57,7 +57,7 @@ class Refused(Lacking):
         self.library = library
 
     def refuse(self, desk: Desk, number: int) -> tuple[Ended, int, int]:
-        """A run whose request of this number is refused: how it ended, how often it asked and how often it was refused."""
+        """A run whose request of this number is refused: how it ended, how often it asked, and was refused."""
         counted = desk.path("requests")
         write_bytes(counted, bytes(COUNTED.size))
         library = ["env", f"LD_PRELOAD={self.library}", f"REQUESTS={counted}", f"REFUSED_REQUEST={number}"]
@@ -68,7 +68,8 @@ class Refused(Lacking):
     def count(self) -> int:
         """How often it asks where nothing is refused."""
         ended, made, _ = self.refuse(self.desk("counted"), 0)
-        demand(self.judge(ended) == "right" and made, f"{self.mode.name}: status {ended.status}, and it asked {made} times")
+        demand(self.judge(ended) == "right", f"{self.mode.name}: with all memory it ends with {ended.status}")
+        demand(made, f"{self.mode.name}: no request for memory was counted")
         return made
 
     def try_one(self, number: int) -> str:
@@ -105,7 +106,8 @@ def numbers(count: int) -> list[int]:
 def try_mode(trial: Refused, tried: list[int]) -> collections.Counter[str]:
     with ThreadPoolExecutor(AT_ONCE) as pool:
         seen = collections.Counter(pool.map(trial.try_one, tried))
-    demand(seen["fewer"] * 10 <= len(tried), f"{trial.mode.name}: {seen['fewer']} runs of {len(tried)} asked less often")
+    few = seen["fewer"]
+    demand(few * 10 <= len(tried), f"{trial.mode.name}: {few} runs of {len(tried)} asked less often")
     return seen
 
 
@@ -118,11 +120,11 @@ def try_all(program: str, folder: str, library: str) -> None:
         count = trial.count()
         seen += try_mode(trial, numbers(count))
         asked += count
-    demand(all(seen[word] for word in ("nomemory", "in part", "no text")), f"runs that wanted memory ended as {dict(seen)}")
-    print(f"faults: {len(tried)} small runs ask for memory {asked} times; {sum(seen.values())} times one request is refused: "
-          f"{seen['nomemory']} runs end with nomemory and have posted nothing, {seen['in part']} answer one line so, "
-          f"{seen['no text']} have posted all and print nothing, {seen['right']} print the right text, and {seen['fewer']} "
-          "ask less often")
+    demand(all(seen[word] for word in ("nomemory", "in part", "no text")), f"the runs ended as {dict(seen)}")
+    print(f"faults: {len(tried)} small runs ask for memory {asked} times; where one request is refused, each of "
+          f"{sum(seen.values())} alone, {seen['nomemory']} end with nomemory and post nothing, {seen['in part']} answer "
+          f"one line so, {seen['no text']} post all and print nothing, {seen['right']} print the right text, and "
+          f"{seen['fewer']} ask less often")
 
 
 def main() -> None:
