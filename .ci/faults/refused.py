@@ -122,8 +122,8 @@ def try_all(program: str, folder: str, library: str) -> None:
         asked += count
     demand(all(seen[word] for word in ("nomemory", "in part", "no text")), f"the runs ended as {dict(seen)}")
     print(f"faults: {len(tried)} small runs ask for memory {asked} times; where one request is refused, each of "
-          f"{sum(seen.values())} alone, {seen['nomemory']} end with nomemory and post nothing, {seen['in part']} answer "
-          f"one line so, {seen['no text']} post all and print nothing, {seen['right']} print the right text, and "
+          f"{sum(seen.values())} alone, {seen['nomemory']} end with nomemory and post nothing, {seen['in part']} answer"
+          f" one line so, {seen['no text']} post all and print nothing, {seen['right']} print the right text, and "
           f"{seen['fewer']} ask less often")
 
 
