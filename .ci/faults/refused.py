@@ -10,6 +10,7 @@ from __future__ import annotations
 
 import collections
 import os
+import re
 import shutil
 import struct
 import sys
@@ -26,6 +27,8 @@ AT_ONCE = 4
 EACH, SPREAD = 300, 100
 # what the library writes: how many requests were made, and how many refused
 COUNTED = struct.Struct("=QQ")
+# how else a program might ask the system, which the library doesn't see
+OTHER_WAYS = re.compile(rb"\0(mmap|mmap64|mremap|brk|sbrk|memalign|valloc|pvalloc|reallocarray)[@\0]")
 ON = "2024-12-31"
 
 
@@ -112,6 +115,8 @@ def try_mode(trial: Refused, tried: list[int]) -> collections.Counter[str]:
 
 
 def try_all(program: str, folder: str, library: str) -> None:
+    other = OTHER_WAYS.search(read_bytes(program))
+    demand(not other, f"the program may ask for memory by {other and other[1].decode()}, which is never refused")
     seen: collections.Counter[str] = collections.Counter()
     tried = modes(program, os.path.join(folder, "before"))
     asked = 0
