@@ -67,9 +67,15 @@ class Lacking:
         """Status 9 behind the first turn: some lines were answered so, or there was no memory for the text."""
         demand(self.mode.posts, f"printed {ended.text[:200]!r}")
         if ended.text:
-            demand(self.unserved(ended), "no line wanted memory, at status 9")
+            self.judge_count(self.unserved(ended))
         else:
-            judge_lacking(self.mode.script, self.mode.before, ended.after)
+            self.judge_silent(ended)
+
+    def judge_count(self, unserved: int) -> None:
+        demand(unserved, "no line wanted memory, at status 9")
+
+    def judge_silent(self, ended: Ended) -> None:
+        judge_lacking(self.mode.script, self.mode.before, ended.after)
 
     def unserved(self, ended: Ended) -> int:
         """How many lines wanted memory, by the text of a run that posts, whose file holds what was accepted."""

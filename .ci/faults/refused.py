@@ -43,8 +43,8 @@ def modes(program: str, folder: str) -> list[Mode]:
     kept = bytes_of_checkpoint(checkpoint_of(read_journal(before).commands[:20]))
     # what `load` runs is what `generate` writes
     drawn = desk.run(["generate", "1", "4", "2"]).text.encode()
-    texts = [["state"], ["state", "14"], ["checkpoint"], ["project", ON, "5"], ["value", ON, "--at", "20"],
-             ["value", ON, "--workers", "2"], ["value", ON, "--mean"], ["value", ON, "--deficiency"]]
+    texts = [["state"], ["state", "14"], ["checkpoint"], ["project", ON, "5"],
+             ["value", ON, "--at", "20", "--workers", "2"], ["value", ON, "--mean"], ["value", ON, "--deficiency"]]
     return [Mode("the small office", ["run"], office, b""),
             Mode("the small office again", ["run"], office, before),
             Mode("two clerks and two valuations", ["run"], example("two-clerks.csv"), b""),
@@ -92,12 +92,11 @@ class Refused(Lacking):
         shutil.rmtree(desk.folder)
         return word
 
-    def judge_part(self, ended: Ended) -> None:
-        super().judge_part(ended)
-        if ended.text:
-            demand(self.unserved(ended) == 1, "more lines than one wanted memory")
-        else:
-            judge_unanswered(self.mode.script, self.mode.before, ended.after, True)
+    def judge_count(self, unserved: int) -> None:
+        demand(unserved == 1, f"{unserved} lines wanted memory, at status 9")
+
+    def judge_silent(self, ended: Ended) -> None:
+        judge_unanswered(self.mode.script, self.mode.before, ended.after, True)
 
 
 def numbers(count: int) -> list[int]:
