@@ -2,11 +2,9 @@
 
 usage: python3 memory.py PROGRAM FOLDER SEED
 
-The answer has to be the right text, or that memory was wanting: `nomemory` before the first posting, lines answered so, or
-no text where the lanes had ended; with status 9 each time, and with a file that holds what was accepted. In two cases
-the system ends the program, which then can say nothing, as docs/CLERK.md tells: below some limit it can't be loaded; and
-where memory ends just where the stack of the first thread has to grow, the system has no other answer than a signal.
-strace records where such a signal points.
+The answer has to be that of a run which may want memory. In two cases the system ends the program, which then can say
+nothing, as docs/CLERK.md tells: below some limit it can't be loaded; and where memory ends just where the stack of the
+first thread has to grow, the system has no other answer than a signal. strace records where such a signal points.
 """
 import collections
 import os
@@ -15,13 +13,12 @@ import re
 import signal
 import sys
 from concurrent.futures import ThreadPoolExecutor
-from dataclasses import dataclass
 
-from judge import Wrong, commands_in, demand, demand_file, follow, judge_early_end, judge_lacking, reason
+from judge import Wrong, demand, judge_lacking, reason
+from lacking import Lacking, Mode
 from life_tools.journals import file_of
-from runs import Desk, read_bytes
+from runs import Desk, is_preview, read_bytes
 from scenes import eight_clerks, many_policies
-from life_tools.tables import read_basis
 
 AT_ONCE = 2
 KIB = 1024
@@ -34,14 +31,6 @@ THREAD, BESIDE = 8256, 3100
 BEFORE = 150
 
 
-@dataclass
-class Mode:
-    name: str
-    words: list
-    script: bytes
-    before: bytes
-
-
 def modes(program, folder):
     # what `load` runs is what `generate` writes
     generated = Desk(program, folder).run(["generate", "1", "300", "8"]).text.encode()
@@ -52,19 +41,10 @@ def modes(program, folder):
             Mode("checkpoint", ["checkpoint"], b"", before), Mode("load", ["load", "1", "300", "8", "1"], generated, b"")]
 
 
-class Trial:
+class Trial(Lacking):
     def __init__(self, program, folder, mode):
-        self.program, self.folder, self.mode = program, folder, mode
-        desk = self.desk("ample")
-        self.basis, self.known = read_basis(desk.path("basis.csv")), {}
-        self.right = desk.run(mode.words)
-        demand(self.right.status == 0, f"{mode.name}: with ample memory it ends with {self.right.status}")
+        super().__init__(program, folder, mode)
         self.seen = collections.Counter()
-
-    def desk(self, name):
-        desk = Desk(self.program, os.path.join(self.folder, name))
-        desk.lay(self.mode.before, self.mode.script)
-        return desk
 
     def try_limit(self, kib):
         """What became of a run under this limit: a word."""
@@ -73,14 +53,14 @@ class Trial:
         ended = desk.run(self.mode.words, [*strace, "prlimit", f"--as={kib * KIB}"])
         at = re.search(rb"SIGSEGV \{.*si_addr=0x([0-9a-f]+)", read_bytes(desk.path("log")))
         try:
-            word = self.judge(kib, ended, int(at[1], 16) if at else 0)
+            word = self.judge_limited(kib, ended, int(at[1], 16) if at else 0)
         except Exception as wrong:
             raise Wrong(f"{self.mode.name} under {kib} KiB: status {ended.status}: {reason(wrong)}; "
                         f"the files are in {desk.folder}")
         self.seen[word] += 1
         return word
 
-    def judge(self, kib, ended, pointed):
+    def judge_limited(self, kib, ended, pointed):
         if ended.status == -signal.SIGSEGV and pointed >= STACKS_FROM:
             demand(not ended.text, f"printed {ended.text[:200]!r}")
             judge_lacking(self.mode.script, self.mode.before, ended.after)
@@ -89,36 +69,7 @@ class Trial:
             demand(kib < LOADED_FROM, f"it isn't loaded, or a signal ended it: {ended.complaints[:200]}")
             demand(ended.text == "" and ended.after == self.mode.before, "it had begun")
             return "not loaded"
-        demand(ended.status in (0, 9) and not ended.complaints, f"printed {ended.text[:200]!r} {ended.complaints[:200]!r}")
-        if ended.status == 0:
-            self.judge_right(ended)
-            return "right"
-        if ended.text == "nomemory\n":
-            judge_early_end(ended, 9, self.mode.before)
-            return "nomemory"
-        self.judge_part(ended)
-        return "in part"
-
-    def judge_right(self, ended):
-        if self.mode.name != "run":
-            demand(ended.text == self.right.text, f"another text: {ended.text[:200]!r}")
-            return
-        run = follow(self.mode.script, ended.text, self.mode.before, self.basis, self.known)
-        demand(not run.faults and not run.unserved, "a line met a fault or no memory, at status 0")
-        demand_file(ended.after, run.book.commands)
-
-    def judge_part(self, ended):
-        """Status 9 behind the first turn: some lines were answered so, or there was no memory for the text."""
-        demand(self.mode.name in ("run", "load"), f"printed {ended.text[:200]!r}")
-        if self.mode.name == "load" and ended.text:
-            posted = len(commands_in(ended.after, "the file afterwards"))
-            demand(ended.text.startswith(f"load,{posted},"), f"{posted} records, and printed {ended.text!r}")
-        elif ended.text:
-            run = follow(self.mode.script, ended.text, self.mode.before, self.basis, self.known)
-            demand(run.unserved and not run.faults, "no line wanted memory, at status 9")
-            demand_file(ended.after, run.book.commands)
-        else:
-            judge_lacking(self.mode.script, self.mode.before, ended.after)
+        return self.judge(ended)
 
 
 def limits(draw):
@@ -156,7 +107,7 @@ def try_mode(trial, draw):
 
 def main():
     program, folder, seed = sys.argv[1:4]
-    if b"__asan_init" in read_bytes(program):
+    if is_preview(program):
         print("faults: a preview asks for more memory than any limit gives, so memory isn't tried; the proved program is")
         return
     seen = collections.Counter()
@@ -165,8 +116,8 @@ def main():
         try_mode(trial, random.Random(f"{seed} {mode.name}"))
         seen += trial.seen
     print(f"faults: {sum(seen.values())} limits of memory: {seen['right']} right texts, {seen['nomemory']} ended with "
-          f"nomemory, {seen['in part']} with a part; {seen['not loaded']} were too small to load the program, and "
-          f"{seen['stack']} ended where its stack had to grow")
+          f"nomemory, {seen['in part'] + seen['no text']} with a part; {seen['not loaded']} were too small to load the "
+          f"program, and {seen['stack']} ended where its stack had to grow")
 
 
 if __name__ == "__main__":

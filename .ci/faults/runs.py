@@ -39,6 +39,11 @@ def write_bytes(path, data):
         file.write(data)
 
 
+def is_preview(program):
+    """Whether it has checks of memory in it, which ask for memory in their own way."""
+    return b"__asan_init" in read_bytes(program)
+
+
 class Desk:
     """A folder with the basis of the examples, in which a program runs. Its journal goes on unless it is laid anew."""
 

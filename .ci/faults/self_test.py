@@ -7,7 +7,9 @@ import sys
 from dataclasses import replace
 
 from judge import Wrong, demand, demand_faults, judge_early_end, judge_lacking, judge_transcript, judge_unanswered
+from lacking import Mode
 from life_tools.journals import RECORD_SIZE, file_of, read_journal
+from refused import Refused
 from runs import JOURNAL, Desk, read_bytes
 from scenes import ONE_CLERK, TWO_CLERKS, book_before
 from life_tools.tables import read_basis
@@ -118,10 +120,47 @@ def try_ends(program, folder):
     return len(changed)
 
 
+def without_the_last(program, folder, rows):
+    """A run of one clerk without its last rows, told as one that found no memory for them."""
+    desk, lines = Desk(program, folder), ONE_CLERK.splitlines(keepends=True)
+    desk.lay(file_of(book_before().commands), b"".join(lines[:-rows]))
+    unserved = "".join(",".join(line.decode().split(",")[:3]) + ",nomemory\n" for line in lines[-rows:])
+    ended = desk.run(["run"])
+    return replace(ended, status=9, text=ended.text.replace("watcher,1,", unserved + "watcher,1,"))
+
+
+def try_refusals(program, folder):
+    """Runs as they may be where one request for memory is refused, and what may not be made of them."""
+    before = file_of(book_before().commands)
+    trial = Refused(program, folder, "", Mode("a run", ["run"], ONE_CLERK, before))
+    whole, lacking = trial.right, without_the_last(program, os.path.join(folder, "lacking"), 1)
+    silent, early = replace(whole, status=9, text=""), replace(whole, status=9, text="nomemory\n", after=before)
+    for word, ended in {"right": whole, "in part": lacking, "no text": silent, "nomemory": early}.items():
+        demand(trial.judge(ended) == word, f"{word} isn't told of the run that has it")
+    changed = {
+        "an accepted line more": replace(whole, text="1,premium,102,accepted,9\n" + whole.text),
+        "an accepted line in place of one without memory": replaced(lacking, ",nomemory", ",accepted,9"),
+        "status 1": replace(whole, status=1),
+        "status 1 behind a line without memory": replace(lacking, status=1),
+        "status 0 behind a line without memory": replace(lacking, status=0),
+        "status 9 behind the right text": replace(whole, status=9),
+        "two lines without memory": without_the_last(program, os.path.join(folder, "twice"), 2),
+        "a record cut off": cut(lacking, 1),
+        "a record more": replace(lacking, after=doubled(lacking)),
+        "nomemory alone, and records": replace(early, after=whole.after),
+        "no text, and a record cut off": cut(silent, 1),
+        "no text at status 0": replace(silent, status=0),
+        "a line on standard error": replace(whole, complaints="out of memory"),
+    }
+    for what, ended in changed.items():
+        demand(refused(lambda: trial.judge(ended)), f"the judge takes {what}")
+    return len(changed)
+
+
 def main():
     program, folder = sys.argv[1:3]
     tried = (try_transcripts(program, os.path.join(folder, "transcripts")) + try_counts(program, os.path.join(folder, "counts"))
-             + try_ends(program, folder))
+             + try_ends(program, folder) + try_refusals(program, os.path.join(folder, "refusals")))
     print(f"faults: the judge refuses {tried} changed runs")
 
 
