@@ -13,6 +13,8 @@ from collections import defaultdict
 from pathlib import Path
 
 MINUTES_BETWEEN_LINES = 5
+# what a run from nothing may cost, in processor minutes; one above it is told, and not refused
+MOST_MINUTES = 190
 TICKS = os.sysconf("SC_CLK_TCK")
 PARTS = ("proofs", "tests", "seeds", "edits", "compiling")
 
@@ -132,6 +134,8 @@ class Budget:
         total = (sum(whole.values()) + rest + checks) / 60
         lines.append(f"tests and programs run, and the rest of `rt ci`: {rest:.0f}; this repository's own checks: {checks:.0f}")
         lines.append(f"gate: {total:.0f} processor minutes in {(time.time() - self.begun) / 60:.0f} minutes")
+        if total > MOST_MINUTES:
+            lines.append(f"gate: ABOVE ITS LIMIT of {MOST_MINUTES} processor minutes")
         return "\n".join(lines)
 
 
