@@ -47,7 +47,7 @@ class Lacking:
 
     def judge(self, ended: Ended) -> str:
         """What became of the run: a word."""
-        demand(ended.status in (0, 9), f"printed {ended.text[:200]!r} {ended.complaints[:200]!r}")
+        demand(ended.status in (0, 9), f"status {ended.status}, and {ended.text[:200]!r} {ended.complaints[:200]!r}")
         demand(not ended.complaints, f"on standard error: {ended.complaints[:200]!r}")
         demand(self.mode.posts or ended.after == self.mode.before, "the file was touched")
         if ended.status == 0:

@@ -78,8 +78,8 @@ class Refused(Lacking):
     def try_one(self, number: int) -> str:
         """What became of a run whose request of this number was refused, if it came to it: a word."""
         desk = self.desk(str(number))
-        ended, made, refused = self.refuse(desk, number)
         try:
+            ended, made, refused = self.refuse(desk, number)
             word = self.judge(ended)
             if not refused:
                 demand(word == "right" and made < number, f"of {made} requests none was refused, and it ended {word}")
@@ -87,8 +87,7 @@ class Refused(Lacking):
             if self.mode.posts or self.mode.words[0] == "checkpoint":
                 desk.judge_reopening()
         except Exception as wrong:
-            raise Wrong(f"{self.mode.name}: request {number} refused: status {ended.status}: {reason(wrong)}; "
-                        f"the files are in {desk.folder}")
+            raise Wrong(f"{self.mode.name}: request {number} refused: {reason(wrong)}; the files are in {desk.folder}")
         shutil.rmtree(desk.folder)
         return word
 
