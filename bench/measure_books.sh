@@ -14,10 +14,11 @@ complain() { echo "$check: $1" >&2; }
 . "$root/.ci/books/loopback.sh"
 cd "$work" && python3 "$root/examples/many_books.py" . "$1" "$2" || exit 2
 
-# the seconds that words take, appended to a file
+# the seconds that words take, appended to a file; what was written before is on the disk by then
 seconds() {
     into=$1
     shift
+    sync
     begun=$(date +%s%N)
     "$@" >out 2>remarks || { cat remarks >&2; exit 1; }
     echo "$(($(date +%s%N) - begun))" >>"$into"
@@ -31,14 +32,19 @@ alone() {
     cd "$1" && "$program" value 2024-12-31 </dev/null
 }
 
-has_dask && begin_cluster
 for round in 1 2 3; do
     for book in book*/; do (seconds "$work/alone.$(basename "$book")" alone "$book"); done
     seconds four books --processes 4
-    seconds two books --processes 2
-    ! has_dask || { seconds cluster books --scheduler "$address"; seconds sent books --scheduler "$address" --send; }
 done
-! has_dask || end_cluster "$worker1" "$worker2" "$scheduler"
+if has_dask; then
+    begin_cluster
+    for round in 1 2 3; do
+        seconds two books --processes 2
+        seconds cluster books --scheduler "$address"
+        seconds sent books --scheduler "$address" --send
+    done
+    end_cluster "$worker1" "$worker2" "$scheduler"
+fi
 python3 - <<'PY'
 import glob
 import statistics

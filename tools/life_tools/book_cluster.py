@@ -8,9 +8,10 @@ import socket
 import tempfile
 import time
 import zipfile
+from concurrent.futures import Future, ThreadPoolExecutor
 from contextlib import contextmanager
 from types import ModuleType
-from typing import Any, Callable, Iterator
+from typing import Any, Callable, Iterator, TypeVar
 
 import life_tools
 from life_tools.book_runs import NOT_DONE, Outcome, Task, run_once, sum_of
@@ -19,11 +20,15 @@ from life_tools.packages import package
 
 SECONDS_TO_CONNECT = 10
 SECONDS_TO_ANSWER = 60
-SECONDS_BETWEEN = 0.05
+SECONDS_BETWEEN = 0.02
 # how many workers may die over one book
 MOST_DEATHS = 3
 MOST_LETTERS = 300
+# how many threads make tasks and compare outcomes, beside the runs
+BESIDE = 2
 Tell = Callable[[Outcome], None]
+# what an outcome is, once it is compared with what is here
+Settle = Callable[[Outcome], Outcome]
 # a task, or that none can be made
 Make = Callable[[], "Task | Outcome"]
 
@@ -77,6 +82,16 @@ def at_most(seconds: int, why: str) -> Iterator[None]:
         signal.signal(signal.SIGALRM, before)
 
 
+Made = TypeVar("Made")
+
+
+def taken(futures: list[Future[Made]]) -> list[Made]:
+    """The results of those that are done, which are taken out."""
+    done = [each for each in futures if each.done()]
+    futures[:] = [each for each in futures if each not in done]
+    return [each.result() for each in done]
+
+
 class Cluster:
     """A scheduler and its workers, which are handed these tools."""
 
@@ -115,22 +130,32 @@ class Cluster:
             # what is closed may be gone already
             del error
 
-    def run(self, makes: list[Make], tell: Tell) -> list[Outcome]:
-        """Runs the tasks, each made when its turn comes, so that few are held at once; gives what became of each."""
-        waiting, ended = list(reversed(makes)), []
+    def run(self, makes: list[Make], settle: Settle, tell: Tell) -> list[Outcome]:
+        """Runs the tasks, each made when its turn comes, so that few are held at once; gives what became of each. Tasks are
+        made, and outcomes compared with what is here, beside the runs."""
+        waiting = list(reversed(makes))
+        making: list[Future[Task | Outcome]] = []
         running: dict[Any, Task] = {}
-        while waiting or running:
-            while waiting and len(running) <= self.workers():
-                made = waiting.pop()()
-                if isinstance(made, Outcome):
-                    tell(made)
-                    ended.append(made)
-                else:
-                    running[self.client.submit(run_there, made, TOOLS, pure=False, retries=MOST_DEATHS)] = made
-            for future in self.done_of(running, len(ended), len(makes)):
-                ended.append(self.outcome_of(future, running.pop(future)))
-                tell(ended[-1])
+        settling: list[Future[Outcome]] = []
+        ended: list[Outcome] = []
+        with ThreadPoolExecutor(BESIDE) as pool:
+            while waiting or making or running or settling:
+                while waiting and len(making) + len(running) <= self.workers() + BESIDE:
+                    making.append(pool.submit(waiting.pop()))
+                for made in taken(making):
+                    self.begin(made, running, lambda outcome: settling.append(pool.submit(settle, outcome)))
+                for future in self.done_of(running, len(ended), len(makes)):
+                    settling.append(pool.submit(settle, self.outcome_of(future, running.pop(future))))
+                for outcome in taken(settling):
+                    ended.append(outcome)
+                    tell(outcome)
         return ended
+
+    def begin(self, made: Task | Outcome, running: dict[Any, Task], end: Tell) -> None:
+        if isinstance(made, Outcome):
+            end(made)
+        else:
+            running[self.client.submit(run_there, made, TOOLS, pure=False, retries=MOST_DEATHS)] = made
 
     def done_of(self, running: dict[Any, Task], ended: int, books: int) -> list[Any]:
         """Those that have ended by now, or soon. Where the scheduler is gone, so are all that run."""

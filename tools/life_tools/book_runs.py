@@ -8,6 +8,7 @@ import socket
 import subprocess
 import tempfile
 import zlib
+from concurrent.futures import ThreadPoolExecutor, wait
 from dataclasses import dataclass, field
 from typing import IO, Iterator
 
@@ -15,7 +16,7 @@ from life_tools.book_totals import Text, text_in
 from life_tools.copied_folder import copy_basis
 from life_tools.export_tables import VALUATION, valuation_rows
 from life_tools.formats import Wrong, bytes_of, demand
-from life_tools.record_columns import BadJournal, beginnings_at, columns_at
+from life_tools.record_columns import BadJournal, beginnings_at, copy_front, front_count, front_sum, places_in
 
 JOURNAL = "journal.life"
 # the status of what the program can't be asked, and the program's own of a file that is no journal
@@ -41,7 +42,7 @@ class Task:
     life: tuple[str, ...]
     at: int | None = None
     is_copied: bool = False
-    # of a worker elsewhere: the sum of the program, that of each file by its name, and the files where they are sent
+    # of a worker elsewhere: the sum of the program; where files are sent, the sum of each by its name, and the files
     program_sum: str = ""
     sums: tuple[tuple[str, str], ...] = ()
     files: tuple[tuple[str, bytes], ...] = ()
@@ -53,7 +54,8 @@ class Task:
 class Outcome:
     """What became of a task: the status and the last line; and where it is well, what is added up.
 
-    Of the policies' numbers it has the beginnings: where those of two books differ, no number stands in both.
+    Of the policies' numbers it has the beginnings: where those of two books differ, no number stands in both. They may be
+    of later commands, too. Of a copy it has the sums of the files, by their names.
     """
 
     name: str
@@ -61,6 +63,7 @@ class Outcome:
     line: str = ""
     text: Text | None = None
     beginnings: frozenset[int] = frozenset()
+    sums: tuple[tuple[str, str], ...] = ()
     rows: str = ""
     part: tuple[str, str, str] | None = None
     tried: int = field(default=1)
@@ -93,8 +96,7 @@ def lay_copy(task: Task, folder: str) -> None:
                 file.write(zlib.decompress(packed))
     else:
         demand_journal(task.folder)
-        with open(os.path.join(folder, JOURNAL), "wb") as file:
-            file.write(columns_at(os.path.join(task.folder, JOURNAL), task.at).front())
+        copy_front(os.path.join(task.folder, JOURNAL), task.at, os.path.join(folder, JOURNAL))
         copy_basis(task.folder, task.basis, folder)
     for name, wanted in task.sums:
         path = os.path.join(folder, name)
@@ -179,12 +181,46 @@ def write_part_database(task: Task, file: IO[bytes], path: str) -> None:
     database.close()
 
 
+@dataclass(frozen=True)
+class Look:
+    """What was seen of a folder while the program ran: the beginnings of so many records, and the sums of a copy's files."""
+
+    count: int
+    beginnings: frozenset[int]
+    sums: tuple[tuple[str, str], ...]
+
+
+def look_at(task: Task, folder: str) -> Look:
+    path = os.path.join(folder, JOURNAL)
+    count = front_count(path) if task.is_copied else places_in(path)
+    if count is None:
+        return Look(0, frozenset(), ())
+    sums = tuple(sums_of(folder, count)) if task.is_copied and not task.sums else ()
+    return Look(count, beginnings_at(path, count), sums)
+
+
+def sums_of(folder: str, count: int) -> Iterator[tuple[str, str]]:
+    for name in sorted(os.listdir(folder)):
+        path = os.path.join(folder, name)
+        yield name, front_sum(path, count) if name == JOURNAL else sum_of(bytes_of(path))
+
+
+# one at a time, beside the runs of the program
+LOOKING = ThreadPoolExecutor(1)
+
+
 def run_in(task: Task, folder: str, file: IO[bytes]) -> Outcome:
-    status, said = printed_by(program_of(task), words_of(task), folder, file)
+    program = program_of(task)
+    looking = LOOKING.submit(look_at, task, folder)
+    try:
+        status, said = printed_by(program, words_of(task), folder, file)
+    finally:
+        wait([looking])
     if status != 0:
         return Outcome(task.name, status, last_line(file) or said.rpartition("\n")[2])
-    text = text_in(task.words[0], file)
-    outcome = Outcome(task.name, 0, text=text, beginnings=beginnings_at(os.path.join(folder, JOURNAL), text.position))
+    text, look = text_in(task.words[0], file), looking.result()
+    begun = look.beginnings if look.count >= text.position else beginnings_at(os.path.join(folder, JOURNAL), text.position)
+    outcome = Outcome(task.name, 0, text=text, beginnings=begun, sums=look.sums)
     if task.parts:
         outcome.part = write_part(task, file)
     if task.are_rows_kept:

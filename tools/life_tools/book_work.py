@@ -11,10 +11,10 @@ from life_tools.book_cluster import Cluster, Make
 from life_tools.book_lists import ListedBook
 from life_tools.book_runs import JOURNAL, Outcome, Parts, Task, demand_journal, failure, run_once, sum_of
 from life_tools.copied_folder import basis_files
-from life_tools.formats import Wrong, bytes_of, remark
+from life_tools.formats import Wrong, bytes_of, demand, remark
 from life_tools.program import demand_as_installed, life_command, program_file
 from life_tools.progress import Progress
-from life_tools.record_columns import columns_at
+from life_tools.record_columns import columns_at, front_sum
 
 
 @dataclass(frozen=True)
@@ -49,14 +49,20 @@ def task_here(asked: Asked, book: ListedBook) -> Task:
 
 
 def task_elsewhere(asked: Asked, book: ListedBook, program: str, program_sum: str) -> Task:
-    """A task of any machine, on a copy at a position, with the sums of all that it needs."""
-    columns = columns_at(book.journal, asked.positions.get(book.name))
-    files = {JOURNAL: columns.front()}
-    if asked.words[0] in ("value", "project"):
-        files.update((name, bytes_of(os.path.join(book.folder, name))) for name in basis_files(book.folder, book.basis))
-    return Task(book.name, book.folder, book.basis, asked.words, (program,), columns.count, True, program_sum,
-                tuple((name, sum_of(data)) for name, data in files.items()),
-                tuple((name, zlib.compress(data, 1)) for name, data in files.items()) if asked.are_sent else (), asked.parts)
+    """A task of any machine, on a copy at a position."""
+    task = Task(book.name, book.folder, book.basis, asked.words, (program,), asked.positions.get(book.name), True, program_sum,
+                parts=asked.parts)
+    if not asked.are_sent:
+        return task
+    files = {JOURNAL: columns_at(book.journal, task.at).front()}
+    files.update((name, bytes_of(os.path.join(book.folder, name))) for name in names_of_basis(asked, book))
+    return replace(task, sums=tuple((name, sum_of(data)) for name, data in files.items()),
+                   files=tuple((name, zlib.compress(data, 1)) for name, data in files.items()))
+
+
+def names_of_basis(asked: Asked, book: ListedBook) -> list[str]:
+    """The basis file and its tables, where the words need them."""
+    return basis_files(book.folder, book.basis) if asked.words[0] in ("value", "project") else []
 
 
 def made_elsewhere(asked: Asked, book: ListedBook, program: str, program_sum: str) -> Task | Outcome:
@@ -65,6 +71,21 @@ def made_elsewhere(asked: Asked, book: ListedBook, program: str, program_sum: st
         return task_elsewhere(asked, book, program, program_sum)
     except Wrong as wrong:
         return failure(book.name, wrong)
+
+
+def seen_alike(asked: Asked, book: ListedBook, outcome: Outcome) -> Outcome:
+    """An outcome of a copy, where it was a copy of what this machine sees; else that it wasn't."""
+    if outcome.status or not outcome.text or not outcome.sums:
+        return outcome
+    told = dict(outcome.sums)
+    try:
+        seen = {JOURNAL: front_sum(book.journal, outcome.text.position)}
+        seen.update((name, sum_of(bytes_of(os.path.join(book.folder, name)))) for name in names_of_basis(asked, book))
+        for name, wanted in seen.items():
+            demand(told.get(name) == wanted, f"its worker sees another {name} than the one asked for")
+    except (Wrong, OSError, ValueError) as wrong:
+        return failure(book.name, wrong)
+    return outcome
 
 
 class Told:
@@ -98,8 +119,9 @@ def run_elsewhere(asked: Asked, books: list[ListedBook], cluster: Cluster) -> li
 
     def maker(book: ListedBook) -> Make:
         return lambda: made_elsewhere(asked, book, program, program_sum)
-    told = Told(len(books))
-    outcomes = cluster.run([maker(book) for book in largest_first(books)], told.tell)
+    told, by_name = Told(len(books)), {book.name: book for book in books}
+    outcomes = cluster.run([maker(book) for book in largest_first(books)],
+                           lambda outcome: seen_alike(asked, by_name[outcome.name], outcome), told.tell)
     told.progress.end()
     return outcomes
 
