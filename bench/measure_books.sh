@@ -32,8 +32,14 @@ alone() {
     cd "$1" && "$program" value 2024-12-31 </dev/null
 }
 
+# the same runs without the tool
+four_at_a_time() {
+    printf '%s\n' book*/ | xargs -P 4 -I{} sh -c 'cd "$1" && exec "$LIFE_PROGRAM" value 2024-12-31 </dev/null >out' sh {}
+}
+
 for round in 1 2 3; do
     for book in book*/; do (seconds "$work/alone.$(basename "$book")" alone "$book"); done
+    seconds plain four_at_a_time
     seconds four books --processes 4
 done
 if has_dask; then
@@ -60,7 +66,8 @@ shares = [0.0] * 4
 for each in single:
     shares[shares.index(min(shares))] += each
 print(f"single runs {sum(single):.2f} s, the longest share over four {max(shares):.2f} s")
-print(f"four processes {median('four'):.2f} s, {median('four') / max(shares):.2f} times that")
+print(f"four processes {median('four'):.2f} s, {median('four') / max(shares):.2f} times that; "
+      f"without the tool {median('plain'):.2f} s, {median('plain') / max(shares):.2f} times")
 if glob.glob("cluster"):
     print(f"two processes {median('two'):.2f} s, two workers {median('cluster'):.2f} s, "
           f"{median('cluster') / median('two'):.2f} times; sent {median('sent'):.2f} s")
