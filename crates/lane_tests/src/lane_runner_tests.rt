@@ -220,8 +220,8 @@ fn trims_and_refused_valuations(rt: HostRuntime) -> Result<(), Fail> {
 fn watchers_of_eight_lanes(rt: HostRuntime) -> Result<(), Fail> {
     let alloc = rt.alloc();
     let mut boxes: Vec<Box<dyn Watcher + Send>> = Vec::new(alloc);
-    boxes.push(Box::new(alloc, CountWatcher::new(alloc, 3))?)?;
-    boxes.push(Box::new(alloc, PremiumWatcher::new(alloc))?)?;
+    boxes.push(Box::new(alloc, CountWatcher::new(3))?)?;
+    boxes.push(Box::new(alloc, PremiumWatcher::new())?)?;
     let mut lanes = Vec::new(alloc);
     for number in 1..=8u8 {
         let id = u32::from(number);

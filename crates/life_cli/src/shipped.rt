@@ -180,8 +180,8 @@ fn obey<R: Threads + Wait + Sync, F: FoundFile, C: FoundFile>(
         (between (⟦<Output as Sink>⟧.faults) (⟦<Output as Sink>⟧.written) output.old output.new) ending
         → (result.status ≡ status_of ending) ⊎ (result.status ≡ 9) }
 {
-    let counting = Box::new(alloc, CountWatcher::new(alloc, MOST_COUNTED));
-    let adding = Box::new(alloc, PremiumWatcher::new(alloc));
+    let counting = Box::new(alloc, CountWatcher::new(MOST_COUNTED));
+    let adding = Box::new(alloc, PremiumWatcher::new());
     let mut auditors: Vec<Box<dyn Watcher + Send>> = Vec::new(alloc);
     let room = auditors.reserve(2);
     let (Ok(counting), Ok(adding), Ok(())) = (counting, adding, room) else {

@@ -4,12 +4,12 @@ use Rattle.std.proofs.lemmas.Bool.{cases_lt}
 use Rattle.std.proofs.lemmas.Bool.Decides.{nat_tests}
 use Rattle.jiff_core.specs.declared.civil.date.Date.{Date as Plain}
 use Rattle.jiff_core.specs.Calendar as jiff
-use Rattle.jiff_core.specs.Date.{epoch_day}
+use Rattle.jiff_core.specs.Date.{epoch_day, IsYmd}
 use Rattle.jiff_core.proofs.SignedLemmas.{signed_arith, one_part}
 use Rattle.jiff_core.proofs.MarchLemmas.{leap_day, days_in_year-leap_day, day_count-early}
 use Rattle.jiff_core.proofs.CalendarLemmas.{days_of_months_table, days_of_months_more, days_of_months_mono, days_of_months_all, day_count-day_of_year, days_from_civil-day_count}
 use Rattle.jiff_core.proofs.DateLemmas.{epoch_day_injective}
-use Rattle.life_dates.specs.Calendar.{Date, IsDate, IsDay, IsTermDay, days_in_month, days_before_year, days_of_months, days_before, day_number, year_of, month_of, date_at, date_of}
+use Rattle.life_dates.specs.Calendar.{Date, ymd, IsDate, IsDay, IsTermDay, days_in_month, days_before_year, days_of_months, days_before, day_number, year_of, month_of, date_at, date_of}
 
 -- the months are those of `jiff`
 pub days_of_months-jiff : (y n : ℕ) → days_of_months y n ≡ jiff.days_of_months (pos y) n
@@ -196,3 +196,18 @@ IsTermDay-from_year d h low high =
     let first = days_before_year_mono 1900 d.year (omega arith) low in
     let last = days_before_year_mono (suc d.year) 2400 (omega arith) (omega arith) in
     (omega (arith, signed_arith, lies.0, years_begin.0), omega (arith, signed_arith, lies.1, years_begin.2))
+
+epoch_date : IsDate (ymd 1970 1 1)
+epoch_date = record { year_low = omega arith; year_high = omega arith; month_low = omega arith; month_high = omega arith; day_low = omega arith; day_high = omega arith }
+
+epoch_number : day_number (ymd 1970 1 1) ≡ pos 0
+unfolding day_number
+epoch_number = refl
+
+-- the first day of 1970 is day 0
+pub epoch_is : (x : Plain) → IsYmd (pos 1970) (pos 1) (pos 1) x → epoch_day x ≡ pos 0
+epoch_is x h =
+    let e : jiff.days_from_civil (pos 1970) 1 1 ≡ pos 0 = days_from_civil-day_number (ymd 1970 1 1) epoch_date ∙ epoch_number in
+    let month : x.month ≡ 1 = omega (arith, signed_arith, h.1) in
+    let day : x.day ≡ 1 = omega (arith, signed_arith, h.2) in
+    rw (h.0, month, day) e

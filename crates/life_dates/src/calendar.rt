@@ -1,8 +1,10 @@
-// Days and dates by `jiff_core`, tied to the calendar of this crate's definitions.
+// Days and dates by `jiff`, tied to the calendar of this crate's definitions.
 ghost use Rattle.std.specs.Prelude.{◌≡◌, ◌<◌, ◌≤◌, pos};
+ghost use Rattle.jiff_core.specs.Date.{epoch_day};
 ghost use Rattle.life_dates.specs.Calendar.{IsTermDay, date_of, ymd};
 
-use jiff_core::civil::Date;
+use jiff::ToSpan;
+use jiff::civil::{Date, date};
 
 // The date of a day.
 pub fn civil_date(day: i32) -> Date
@@ -11,7 +13,14 @@ pub fn civil_date(day: i32) -> Date
     ensures month { result.month ≡ (date_of day).month }
     ensures day { result.day ≡ (date_of day).day }
 {
-    Date::from_unix_epoch_day(day as i64).unwrap()
+    date(1970, 1, 1).checked_add((day as i64).days()).unwrap()
+}
+
+// The day of a date.
+pub fn number_of(date: Date) -> i32
+    ensures { result ≡ epoch_day date }
+{
+    date.to_plain().to_unix_epoch_day()
 }
 
 // The year, month and day of a day's date.
@@ -21,5 +30,5 @@ pub fn year_month_day(day: i32) -> (u16, u8, u8)
     ensures bound { (result.0 < 2400) × (result.1 ≤ 12) × (result.2 ≤ 31) }
 {
     let date = civil_date(day);
-    (date.year as u16, date.month, date.day)
+    (date.year() as u16, date.month() as u8, date.day() as u8)
 }

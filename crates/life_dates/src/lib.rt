@@ -1,10 +1,12 @@
 //! Civil days, as days since 1970-01-01: the anniversaries of an issue day, and the texts of days.
 //!
-//! The calendar's arithmetic is `jiff_core`'s; `specs/Calendar.antt` states the calendar anew.
+//! The calendar's arithmetic is `jiff`'s, and for completed years that of its core, which is faster;
+//! `specs/Calendar.antt` states the calendar anew.
 #![tactic(auto)]
 
 mod calendar;
 mod laws;
+mod plain;
 mod text;
 mod years;
 

@@ -5,8 +5,8 @@ ghost use Rattle.std.specs.Option.{SomeIff};
 ghost use Rattle.life_dates.specs.Calendar.{IsDate, IsDay, IsTermDay, day_number, ymd};
 ghost use Rattle.life_dates.specs.DayText.{day_text, two_digits, IsDayText};
 
-use crate::calendar::year_month_day;
-use jiff_core::civil::Date;
+use crate::calendar::{number_of, year_month_day};
+use jiff::civil::Date;
 
 const FIRST_DAY: i32 = -25_567;
 
@@ -53,7 +53,7 @@ fn day_of(year: u16, month: u8, day: u8) -> Option<i32>
     let Ok(date) = Date::new(year as i16, month as i8, day as i8) else {
         return None;
     };
-    let number = date.to_unix_epoch_day();
+    let number = number_of(date);
     if number < FIRST_DAY || number > LAST_DAY {
         return None;
     }

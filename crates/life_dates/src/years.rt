@@ -3,8 +3,9 @@ ghost use Rattle.std.specs.Prelude.{◌≡◌, ◌-◌, ◌≤◌, min, ◌≤�
 ghost use Rattle.life_dates.specs.Calendar.{IsDay, IsTermDay, date_of};
 ghost use Rattle.life_dates.specs.Anniversary.{anniversary_of, IsCompleted};
 
-use crate::calendar::{civil_date, year_month_day};
-use jiff_core::civil::Date;
+use crate::calendar::{civil_date, number_of};
+use crate::plain::{plain_anniversary, plain_year};
+use jiff::ToSpan;
 
 const LAST_TERM_DAY: i32 = 157_053;
 
@@ -16,8 +17,8 @@ pub fn anniversary(issued: i32, t: u8) -> i32
     ensures value { result ≡ anniversary_of issued t }
     ensures range { IsTermDay result }
 {
-    let date = civil_date(issued);
-    Date::constrain(date.year + t as i16, date.month, date.day).to_unix_epoch_day()
+    let years = (t as i64).years();
+    number_of(civil_date(issued).checked_add(years).unwrap())
 }
 
 /// How many whole years, up to 131, have passed on a day since the issue day: the greatest number
@@ -28,7 +29,7 @@ pub fn completed(issued: i32, on: i32) -> u8
     ensures { IsCompleted issued on result }
 {
     let years = years_between(issued, on.min(LAST_TERM_DAY));
-    if anniversary(issued, years) > on {
+    if plain_anniversary(issued, years) > on {
         return years - 1;
     }
     years
@@ -41,7 +42,7 @@ fn years_between(issued: i32, on: i32) -> u8
     requires not_before { issued ≤ℤ on }
     ensures { result ≡ min ((date_of on).year - (date_of issued).year) 131 }
 {
-    let (last, _, _) = year_month_day(on);
-    let (first, _, _) = year_month_day(issued);
+    let last = plain_year(on);
+    let first = plain_year(issued);
     (last - first).min(131) as u8
 }

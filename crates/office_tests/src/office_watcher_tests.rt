@@ -137,8 +137,8 @@ fn reports_after<W: Watching>(
 fn reports_of_two_watchers(rt: HostRuntime) -> Result<(), AllocError> {
     let alloc = rt.alloc();
     let mut boxes: Vec<Box<dyn Watcher + Send>> = Vec::new(alloc);
-    boxes.push(Box::new(alloc, CountWatcher::new(alloc, 3))?)?;
-    boxes.push(Box::new(alloc, PremiumWatcher::new(alloc))?)?;
+    boxes.push(Box::new(alloc, CountWatcher::new(3))?)?;
+    boxes.push(Box::new(alloc, PremiumWatcher::new())?)?;
     let faulted = Posting {
         command: issue(5, NEW_YEAR),
         answer: Answer::DiskFault(1),

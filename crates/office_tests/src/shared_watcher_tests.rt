@@ -89,8 +89,8 @@ fn reported<D: Disk + Send, W: Watching + Send, R: Threads + Wait + Sync>(
 fn watchers_of_two_callers(rt: HostRuntime) -> Result<(), AllocError> {
     let alloc = rt.alloc();
     let mut boxes: Vec<Box<dyn Watcher + Send>> = Vec::new(alloc);
-    boxes.push(Box::new(alloc, CountWatcher::new(alloc, 3))?)?;
-    boxes.push(Box::new(alloc, PremiumWatcher::new(alloc))?)?;
+    boxes.push(Box::new(alloc, CountWatcher::new(3))?)?;
+    boxes.push(Box::new(alloc, PremiumWatcher::new())?)?;
     let empty = MemoryDisk::new(alloc, Vec::new(alloc), Vec::new(alloc));
     let Ok((disk, reports)) = reported(&rt, alloc, empty, Watchers::new(boxes), 50) else {
         panic!(rt; "no office");
@@ -119,7 +119,7 @@ fn closed_at_once(rt: HostRuntime) -> Result<(), AllocError> {
     before.extend_from_slice(disk.bytes())?;
     assert_eq!(rt; before.len(), 538);
     let mut boxes: Vec<Box<dyn Watcher + Send>> = Vec::new(alloc);
-    boxes.push(Box::new(alloc, CountWatcher::new(alloc, 3))?)?;
+    boxes.push(Box::new(alloc, CountWatcher::new(3))?)?;
     let Ok((disk, reports)) = reported(&rt, alloc, disk, Watchers::new(boxes), 0) else {
         panic!(rt; "no office");
     };

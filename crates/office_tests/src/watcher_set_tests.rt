@@ -19,13 +19,13 @@ struct Guest {
 }
 
 impl Watcher for Guest {
-    ghost use Rattle.std.specs.Prelude.{◌==◌, ◌-◌, length, vec_len, vec_capacity};
+    ghost use Rattle.std.specs.Prelude.{◌==◌, length};
 
-    ghost noted = { λ guest. guest.count.noted.items };
+    ghost noted = { λ guest. guest.count.heard };
 
     ghost last = { λ guest. guest.count.last.value };
 
-    ghost spare = { λ guest. vec_capacity guest.count.noted - vec_len guest.count.noted };
+    ghost spare = { λ _. 1 };
 
     ghost stops = { λ guest list. length list == guest.count.limit };
 
@@ -90,7 +90,7 @@ fn done_and_dropped_at_the_third(rt: HostRuntime) -> Result<(), Fail> {
     let alloc = rt.alloc();
     let token = Arc::new(alloc, 0u8)?;
     let guest = Guest {
-        count: CountWatcher::new(alloc, 3),
+        count: CountWatcher::new(3),
         _token: token.clone()?,
     };
     let mut guests = Vec::new(alloc);
@@ -148,8 +148,8 @@ fn counts_and_premiums(rt: HostRuntime) -> Result<(), Fail> {
         (6, 120_000),
     ] {
         let mut boxes: Vec<Box<dyn Watcher + Send>> = Vec::new(alloc);
-        boxes.push(Box::new(alloc, CountWatcher::new(alloc, 4_000_000))?)?;
-        boxes.push(Box::new(alloc, PremiumWatcher::new(alloc))?)?;
+        boxes.push(Box::new(alloc, CountWatcher::new(4_000_000))?)?;
+        boxes.push(Box::new(alloc, PremiumWatcher::new())?)?;
         let reports = told(&rt, Watchers::new(boxes), &commands[..count], &token, &[])?;
         let seen = count as u32;
         let expected = [
@@ -180,7 +180,7 @@ fn none_and_sixteen(rt: HostRuntime) -> Result<(), Fail> {
     assert!(rt; none.as_slice().is_empty());
     let mut boxes: Vec<Box<dyn Watcher + Send>> = Vec::new(alloc);
     for limit in 1..17 {
-        boxes.push(Box::new(alloc, CountWatcher::new(alloc, limit))?)?;
+        boxes.push(Box::new(alloc, CountWatcher::new(limit))?)?;
     }
     assert!(rt; boxes.len() == MOST_WATCHERS && are_fresh(&boxes));
     let reports = told(&rt, Watchers::new(boxes), &commands, &token, &[])?;

@@ -75,11 +75,11 @@ fn run_audited<R: Threads + Wait + Sync>(
             run_watched(rt, alloc, &["run"], case.script, boxes, disk)
         }
         (limit, 0) => {
-            boxes.push(Box::new(alloc, CountWatcher::new(alloc, limit))?)?;
+            boxes.push(Box::new(alloc, CountWatcher::new(limit))?)?;
             run_watched(rt, alloc, &["run"], case.script, boxes, disk)
         }
         (limit, refused) => {
-            boxes.push(Box::new(alloc, CountWatcher::new(alloc, limit))?)?;
+            boxes.push(Box::new(alloc, CountWatcher::new(limit))?)?;
             boxes.push(Box::new(alloc, TightWatcher::new(alloc, refused))?)?;
             run_watched(rt, alloc, &["run"], case.script, boxes, disk)
         }
@@ -117,13 +117,13 @@ impl Drop for Guest {
 }
 
 impl Watcher for Guest {
-    ghost use Rattle.std.specs.Prelude.{◌==◌, ◌-◌, length, vec_len, vec_capacity};
+    ghost use Rattle.std.specs.Prelude.{◌==◌, length};
 
-    ghost noted = { λ guest. guest.count.noted.items };
+    ghost noted = { λ guest. guest.count.heard };
 
     ghost last = { λ guest. guest.count.last.value };
 
-    ghost spare = { λ guest. vec_capacity guest.count.noted - vec_len guest.count.noted };
+    ghost spare = { λ _. 1 };
 
     ghost stops = { λ guest list. length list == guest.count.limit };
 
@@ -241,13 +241,13 @@ fn run_visited<R: Threads + Wait + Sync>(
     visit: &Visit,
 ) -> Result<Finished, AllocError> {
     let first = Guest {
-        count: CountWatcher::new(alloc, case.limit),
+        count: CountWatcher::new(case.limit),
         drops: visit.first.clone()?,
         other: visit.second.clone()?,
         heard: Arc::new(alloc, AtomicU32::new(0))?,
     };
     let second = Guest {
-        count: CountWatcher::new(alloc, 9),
+        count: CountWatcher::new(9),
         drops: visit.second.clone()?,
         other: visit.first.clone()?,
         heard: visit.heard.clone()?,

@@ -7,7 +7,7 @@ use Rattle.watcher_set.specs.declared.tight.TightWatcher.{TightWatcher}
 
 -- the commands that it has noted
 abbrev pub counted : CountWatcher → List Command
-counted watcher = watcher.noted.items
+counted watcher = watcher.heard
 
 -- the number of the command at which it is done
 abbrev pub limit_of : CountWatcher → ℕ
@@ -15,7 +15,7 @@ limit_of watcher = watcher.limit
 
 -- the commands that it has noted
 abbrev pub premium_commands : PremiumWatcher → List Command
-premium_commands watcher = watcher.noted.items
+premium_commands watcher = watcher.heard
 
 -- the commands that it has noted
 abbrev pub tight_commands : TightWatcher → List Command

@@ -3,6 +3,7 @@
 
 mod counting;
 mod empty;
+mod heard;
 mod laws;
 mod place;
 mod premiums;

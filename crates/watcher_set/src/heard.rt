@@ -1,0 +1,53 @@
+ghost use Rattle.std.specs.Prelude.{◌≡◌, [], ◌∷◌, ◌++◌};
+
+use policy_types::Command;
+use std::marker::Model;
+use std::mem;
+use std::snapshot::Snapshot;
+
+/// What an auditor was told of, from its last command back to its first.
+#[derive(Drop)]
+enum Told {
+    Nothing,
+    Of {
+        earlier: Snapshot<Told>,
+        command: Command,
+    },
+}
+
+/// The commands that an auditor noted, as contracts see them, in order. It has no bytes: the auditor keeps numbers alone.
+#[derive(Drop)]
+pub(crate) struct Heard {
+    told: Snapshot<Told>,
+}
+
+impl Model for Heard {
+    ghost use Rattle.std.specs.Prelude.{List};
+    ghost use Rattle.policy_types.specs.declared.command.Command.{Command};
+    ghost use Rattle.watcher_set.specs.inside.Heard.{commands_of};
+
+    ghost Value = { List Command };
+
+    ghost view = { λ heard. commands_of heard.told.value };
+}
+
+impl Heard {
+    pub(crate) fn nothing() -> Heard
+        ensures { result ≡ [] }
+    {
+        Heard {
+            told: Snapshot::of(&Told::Nothing),
+        }
+    }
+
+    pub(crate) fn hear(&mut self, command: &Command)
+        ensures { self.new ≡ self.old ++ command.now ∷ [] }
+    {
+        let earlier = mem::replace(&mut self.told, Snapshot::of(&Told::Nothing));
+        let told = Told::Of {
+            earlier,
+            command: *command,
+        };
+        self.told = Snapshot::of(&told);
+    }
+}
