@@ -103,6 +103,10 @@ impl<D: Disk, W: Watching> Turn<SharedState<D, W>> for ReadPart {
         batch
     }
 
+    fn is_brief(&self) -> bool {
+        true
+    }
+
     ghost by_caller = { λ _ _ _. refl };
 }
 

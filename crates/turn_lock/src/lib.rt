@@ -2,6 +2,7 @@
 //! caller's pass knows, in contracts alone, which entries it has seen and made.
 #![tactic(auto)]
 
+mod door;
 mod pass;
 mod plays;
 mod seats;

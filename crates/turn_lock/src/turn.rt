@@ -20,6 +20,11 @@ pub trait Turn<T: Stands> {
         ensures stood { (history seen made : List Entry) → IsLent T.stands (needs self) value.old caller history seen made → T.stands value.new (history ++ entry self caller result ∷ []) }
         ensures opening { T.opening value.new ≡ T.opening value.old };
 
+    /// Whether the call is over so soon that others lose little by waiting for it. No contract rests on the answer.
+    fn is_brief(&self) -> bool {
+        false
+    }
+
     // The entry is the caller's.
     ghost by_caller: { (call : Self) (caller : ℕ) (answer : Self.Answer) → (entry call caller answer).caller ≡ caller };
 }

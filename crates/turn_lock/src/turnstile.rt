@@ -5,6 +5,7 @@ ghost use Rattle.turn_lock.specs.declared.seats.Stage.TheVariants.{Inside};
 ghost use Rattle.turn_lock.specs.inside.Seats.{SeatFacts, handed_on};
 ghost use Rattle.turn_lock.specs.inside.Places.{IsBoard, IsNow};
 
+use crate::door::Door;
 use crate::pass::Pass;
 use crate::seats::{Board, Place, SharedBoard, VALUE};
 use crate::stands::Stands;
@@ -15,13 +16,13 @@ use atomic_table::{Refused, Table};
 use std::alloc::Global;
 use std::marker::{Brand, Model};
 use std::snapshot::Snapshot;
-use std::sync::{Mutex, Wait};
+use std::sync::Wait;
 
 /// A lock round a value, whose turns are one history. Contracts see which turnstile it is.
 pub struct Turnstile<T: Stands> {
     board: Board<T>,
-    /// Who takes a turn holds the door: others sleep at it, before they draw a ticket. No contract rests on it.
-    door: Mutex<()>,
+    /// Who takes a turn is through the door: others sleep before it, and draw no ticket. No contract rests on it.
+    door: Door,
 }
 
 impl<T: Stands> Model for Turnstile<T> {
@@ -51,7 +52,7 @@ impl<T: Stands> Turnstile<T> {
         ensures facts { IfOk result (λ made. PassFacts T.legal made.1) }
         ensures err { IfErr result (λ refused. refused.value ≡ value) }
     {
-        let door = Mutex::new(());
+        let door = Door::new();
         let first = Snapshot::of(&value);
         let mut slots = Vec::new(alloc);
         if let Err(failed) = slots.push(Some(value)) {
@@ -128,11 +129,11 @@ impl<T: Stands> Turnstile<T> {
         ensures facts { PassFacts T.legal pass.new }
     {
         let shared = &self.board.shared;
-        let door = self.door.lock(rt);
+        self.door.enter(rt, call.is_brief());
         let ticket = draw(shared, &mut pass.place);
         let value = wait(rt, shared, &mut pass.place, ticket);
         let turned = serve(shared, &mut pass.place, value, call, pass.caller);
-        drop(door);
+        self.door.leave();
         pass.left -= 1;
         turned
     }
