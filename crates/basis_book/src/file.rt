@@ -1,4 +1,5 @@
-ghost use Rattle.std.specs.Prelude.{◌≡◌, ◌≤◌, ℕ, List, true, length, IfOk, IfErr, Result};
+ghost use Rattle.std.specs.Prelude.{◌≡◌, ◌==◌, ◌+◌, ◌≤◌, ℕ, List, true, length, IfOk, IfErr, Result};
+ghost use Rattle.std.specs.List.{count_by};
 ghost use Rattle.csv.specs.Reading.{error_kind, stops_reader};
 ghost use Rattle.csv.specs.Records.{fields_of};
 ghost use Rattle.basis_book.specs.Dated.{AreBounded};
@@ -58,9 +59,10 @@ fn three_fields(row: &ByteRecord) -> Option<Fields<'_>>
 }
 
 /// The most fields that a row can have: one more than there are commas.
-fn most_fields(bytes: &[u8]) -> usize {
-    let commas = bytes.iter().filter(|byte| **byte == b',').count();
-    commas.saturating_add(1)
+fn most_fields(bytes: &[u8]) -> usize
+    ensures { result ≡ count_by (λ byte. byte == 44) bytes.now + 1 }
+{
+    bytes.iter().filter(|byte| **byte == b',').count() + 1
 }
 
 /// A reader of all rows. It has a header row, which is no row of the file: else it would take the first row of the file

@@ -1,6 +1,7 @@
 -- What readers answer
-use Rattle.std.proofs.Common.{◌≡◌, ◌≤◌, ◌∙◌, arith, drop, get_or, length, map, string_bytes, String, take, ◌-◌, ap₂, IfOk, IfErr, IfSome, ok_or, ℤ, ap, sym, refl, subst, true, false, List, [], ◌∷◌, Option, Some, None, unwrap_or, Result, Ok, Err, IsErrAnd, true≢false}
+use Rattle.std.proofs.Common.{◌≡◌, ◌≤◌, ◌∙◌, arith, drop, get_or, length, map, string_bytes, String, take, lit<, ◌-◌, ap₂, IfOk, IfErr, IfSome, ok_or, ℤ, ap, sym, refl, subst, true, false, List, [], ◌∷◌, Option, Some, None, unwrap_or, Result, Ok, Err, IsErrAnd, true≢false}
 use Rattle.std.specs.Global.{Global}
+use Rattle.std.specs.List.{Contains}
 use Rattle.std.proofs.lemmas.List.{take_all}
 use Rattle.clap.specs.Words.{Text, found_of}
 use Rattle.clap.specs.declared.parser.matches.ArgMatches.{ArgMatches}
@@ -9,8 +10,9 @@ use Rattle.life_args.specs.declared.fault.WordsFault.{WordsFault}
 use Rattle.life_args.specs.declared.fault.WordsFault.TheVariants.{Usage, NoMemory}
 use Rattle.life_args.specs.declared.mode.Mode.{Mode}
 use Rattle.life_args.specs.declared.verb.Verb.{Verb}
+use Rattle.life_args.specs.declared.verb.Verb.TheVariants as verb
 use Rattle.life_args.specs.Pieces.{WordPiece}
-use Rattle.life_args.specs.Words.{AreWords, AskFor, AskForNothing, IsFaultOf}
+use Rattle.life_args.specs.Words.{AreWords, AskFor, AskForNothing, IsFaultOf, NameAMode, mode_names}
 use Rattle.life_args.specs.inside.Lines.{GivesAsked, IsLine, ReadsLine, Spelling, TakesWords, has_odd, line_app, values_of}
 use Rattle.life_args.specs.inside.Verbs.{AsksFor, IsLone, SaysMode, options_of, verb_of, verb_word}
 use Rattle.life_args.proofs.Lines.{spelled_even, spelled_taken, taken_spelled, values_in}
@@ -126,14 +128,24 @@ split_words (one ∷ words) first word some is same =
     let all : take (length (one ∷ words) - 1) words ≡ words = take_all (length (one ∷ words) - 1) words (omega arith) in
     ap₂ (λ (w : Text) (ws : List (String Global)). w ∷ map string_bytes ws) (sym same ∙ ap string_bytes is) all
 
-pub answered : (words : List (String Global)) (texts : List Text) (r : Result Mode WordsFault) → texts ≡ map string_bytes words → GivesAsked (AreWords texts) r
-    → IfOk r (AskFor words) × IfErr r (IsFaultOf words)
-answered words texts r same gives = go r (subst (λ ws. GivesAsked (AreWords ws) r) same gives)
+-- each verb is the name of a mode
+pub names_a_mode : (verb : Verb) → Contains mode_names (verb_word verb)
+names_a_mode verb.Run = (0, lit< tt, refl)
+names_a_mode verb.Value = (1, lit< tt, refl)
+names_a_mode verb.Project = (2, lit< tt, refl)
+names_a_mode verb.State = (3, lit< tt, refl)
+names_a_mode verb.Checkpoint = (4, lit< tt, refl)
+names_a_mode verb.Generate = (5, lit< tt, refl)
+names_a_mode verb.Load = (6, lit< tt, refl)
+
+pub answered : (words : List (String Global)) (verb : Verb) (rest : List Text) (r : Result Mode WordsFault) → verb_word verb ∷ rest ≡ map string_bytes words
+    → GivesAsked (AreWords (verb_word verb ∷ rest)) r → IfOk r (AskFor words) × IfErr r (IsFaultOf words)
+answered words verb rest r same gives = go r (subst (λ ws. GivesAsked (AreWords ws) r) same gives)
   where
     go : (x : Result Mode WordsFault) → GivesAsked (AreWords (map string_bytes words)) x → IfOk x (AskFor words) × IfErr x (IsFaultOf words)
     go (Ok one) h = (h, tt)
     go (Err Usage) h = (tt, h)
-    go (Err NoMemory) h = (tt, tt)
+    go (Err NoMemory) h = (tt, subst NameAMode same (names_a_mode verb))
 
 pub unnamed : (words : List (String Global)) (first : String Global) → 1 ≤ length words → first ≡ get_or words 0 first → ((verb : Verb) → string_bytes first ≡ verb_word verb → ⊥) → AskForNothing words
 unnamed words first some is none one asks =

@@ -1,6 +1,7 @@
 -- The words of the program's commands
-use Rattle.std.specs.Prelude.{◌≡◌, ℕ, ⊤, List, [], ◌∷◌, map, codes, decimal, string_bytes, String, Option, ℤ}
+use Rattle.std.specs.Prelude.{◌≡◌, ℕ, List, [], ◌∷◌, map, codes, decimal, string_bytes, String, Option, ℤ}
 use Rattle.std.specs.Global.{Global}
+use Rattle.std.specs.List.{Contains}
 use Rattle.policy_types.specs.declared.entry.At.{At}
 use Rattle.policy_value.specs.declared.worth.Measure.{Measure}
 use Rattle.life_args.specs.declared.fault.WordsFault.{WordsFault}
@@ -86,7 +87,16 @@ AskFor words mode = AreWords (map string_bytes words) mode
 abbrev pub AskForNothing : List (String Global) → Type 0
 AskForNothing words = (mode : Mode) → AskFor words mode → ⊥
 
--- the cause of a fault. Memory may always be refused.
+-- the names of the modes
+abbrev pub mode_names : List (List ℕ)
+mode_names = codes "run" ∷ codes "value" ∷ codes "project" ∷ codes "state" ∷ codes "checkpoint" ∷ codes "generate" ∷ codes "load" ∷ []
+
+-- the first word is the name of a mode
+abbrev pub NameAMode : List (List ℕ) → Type 0
+NameAMode [] = ⊥
+NameAMode (word ∷ words) = Contains mode_names word
+
+-- the cause of a fault. Memory is taken, and may be refused, only where a mode is named.
 abbrev pub IsFaultOf : List (String Global) → WordsFault → Type 0
 IsFaultOf words Usage = AskForNothing words
-IsFaultOf words NoMemory = ⊤
+IsFaultOf words NoMemory = NameAMode (map string_bytes words)

@@ -1,5 +1,5 @@
 // A command is posted.
-ghost use Rattle.std.specs.Prelude.{◌≡◌, ◌^◌, ◌<◌, ◌++◌, [], ◌∷◌, Ok, OnOk, List, ℕ};
+ghost use Rattle.std.specs.Prelude.{◌≡◌, ◌≢◌, ◌^◌, ◌<◌, ◌++◌, [], ◌∷◌, Ok, OnOk, List, ℕ};
 ghost use Rattle.policy_types.specs.Valid.{IsValid, id_of};
 ghost use Rattle.policy_types.specs.declared.command.Command.{Command as ACommand};
 ghost use Rattle.policy_types.specs.declared.entry.Entry.{Entry};
@@ -59,6 +59,25 @@ impl<D: Disk, W: Watching> OfficeState<D, W> {
         if take_memory(&mut self.books, command.id(), &mut self.watchers).is_err() {
             return Answer::NoMemory;
         }
+        self.decide_ready(command)
+    }
+
+    // The same, once its memory is taken: so no more can be wanting.
+    fn decide_ready(&mut self, command: &Command) -> Answer
+        requires valid { IsValid command.now }
+        requires stands { (history : List Entry) × StandsFor self.old history }
+        requires room { CanKeep self.old.books (id_of command.now) }
+        requires ready { W.has_room self.old.watchers }
+        ensures ample { result ≢ Answer.NoMemory }
+        ensures opened { opened_of self.new ≡ opened_of self.old }
+        ensures honesty { D.honest (disk_of self.new) → D.honest (disk_of self.old) }
+        ensures turns { turns_of self.new ≡ turns_of self.old }
+        ensures unwritten { IsBeforeWriting result → disk_of self.new ≡ disk_of self.old }
+        ensures stands { (history : List Entry) (caller : ℕ) → StandsFor self.old history
+            → StandsFor (one_more self.new) (history ++ turn_of caller command.now result ∷ []) }
+        ensures crash { (history : List Entry) → StandsFor self.old history → D.honest (disk_of self.new)
+            → CrashesIn D.Disk (disk_of self.old) (disk_of self.new) (opening_of self.old) history command.now result }
+    {
         match self.books.judgement(command) {
             Ok(after) => self.accept(command, after),
             Err(refusal) => Answer::Refused(refusal),
@@ -72,6 +91,7 @@ impl<D: Disk, W: Watching> OfficeState<D, W> {
         requires accepted { judged_after (commands_of self.old) command.now ≡ Ok after }
         requires room { CanKeep self.old.books (id_of command.now) }
         requires ready { W.has_room self.old.watchers }
+        ensures ample { result ≢ Answer.NoMemory }
         ensures opened { opened_of self.new ≡ opened_of self.old }
         ensures honesty { D.honest (disk_of self.new) → D.honest (disk_of self.old) }
         ensures turns { turns_of self.new ≡ turns_of self.old }

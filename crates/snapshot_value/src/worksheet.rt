@@ -1,12 +1,12 @@
 // What a valuation has at hand: its workers, the policies that were read last, and the rows of those before them.
-ghost use Rattle.std.specs.Prelude.{◌≡◌, ◌≤◌, ℤ, List, [], ◌++◌, ◌+◌, ◌*◌, IfOk, OnOk, length, min, take, drop};
+ghost use Rattle.std.specs.Prelude.{◌≡◌, ◌≤◌, ◌<◌, ℤ, List, [], ◌++◌, ◌+◌, IfOk, OnOk, length, take, drop};
 ghost use Rattle.std.specs.List.{AllByRecursion};
 ghost use Rattle.basis_book.specs.Dated.{Dated};
 ghost use Rattle.parallel_value.specs.Pieces.{AddsBehind, AreAsBefore};
 ghost use Rattle.policy_machine.specs.Rules.{IsSound};
 ghost use Rattle.policy_types.specs.declared.policy.Policy.{Policy as APolicy};
 ghost use Rattle.policy_value.specs.declared.worth.Measure.{Measure as AMeasure};
-ghost use Rattle.snapshot_value.specs.inside.Sheets.{AreSmallRows, IsSheetReady, HasMade};
+ghost use Rattle.snapshot_value.specs.inside.Sheets.{AreSmallRows, IsSheetReady, HasMade, valued_together};
 ghost use Rattle.snapshot_value.specs.inside.Workers.{GivesRow, IsReadyWorker, TakesPolicy, ValuesBy};
 
 use crate::worker::Worker;
@@ -85,11 +85,26 @@ impl<'a> Worksheet<'a> {
         ensures made { (basis : List Dated) (on : ℤ) (measure : AMeasure) (policies : List APolicy)
             → HasMade basis on measure policies self.old
             → OnOk result (HasMade basis on measure (policies ++ part.now) self.new) }
+        // Before them there were fewer than are valued together.
+        ensures held { OnOk result
+            (length self.new.read.items < valued_together (length self.old.workers.items) + length part.now) }
     {
-        if together(self.workers.len()) <= self.read.len() {
-            self.value_read(rt, alloc)?;
-        }
+        self.make_room(rt, alloc)?;
         self.put(part)
+    }
+
+    // Values the policies that were read, where they are enough.
+    fn make_room<R: Threads + Sync>(&mut self, rt: &R, alloc: Global) -> Result<(), NoMemory>
+        requires can { IsSheetReady self.old }
+        ensures room { OnOk result (length self.new.read.items < valued_together (length self.old.workers.items)) }
+        ensures made { (basis : List Dated) (on : ℤ) (measure : AMeasure) (policies : List APolicy)
+            → HasMade basis on measure policies self.old
+            → OnOk result (HasMade basis on measure policies self.new) }
+    {
+        if self.read.len() < together(self.workers.len()) {
+            return Ok(());
+        }
+        self.value_read(rt, alloc)
     }
 
     /// Values the policies that were read: the workers add the rows to those that are there.
@@ -114,6 +129,7 @@ impl<'a> Worksheet<'a> {
         ensures made { (basis : List Dated) (on : ℤ) (measure : AMeasure) (policies : List APolicy)
             → HasMade basis on measure policies self.old
             → OnOk result (HasMade basis on measure (policies ++ part.now) self.new) }
+        ensures longer { OnOk result (length self.new.read.items ≡ length self.old.read.items + length part.now) }
     {
         self.read.extend_from_slice(part).map_err(|_| NoMemory)
     }
@@ -130,7 +146,7 @@ impl<'a> Worksheet<'a> {
 // How many policies so many workers value together.
 fn together(workers: usize) -> usize
     requires { workers ≤ 64 }
-    ensures { result ≡ min (32768 * workers) 131072 }
+    ensures { result ≡ valued_together workers }
 {
     (POLICIES_READ_FOR_A_WORKER * workers).min(POLICIES_TOGETHER)
 }

@@ -1,5 +1,5 @@
 -- What a valuation has at hand between two reads
-use Rattle.std.specs.Prelude.{◌≡◌, ◌≤◌, ℤ, List, ◌++◌, length}
+use Rattle.std.specs.Prelude.{◌≡◌, ◌≤◌, ◌*◌, ℕ, ℤ, List, ◌++◌, length, min}
 use Rattle.std.specs.List.{AllByRecursion, AllZip}
 use Rattle.basis_book.specs.Dated.{Dated}
 use Rattle.policy_types.specs.declared.policy.Policy.{Policy}
@@ -32,3 +32,7 @@ pub record HasMade (basis : List Dated) (on : ℤ) (measure : Measure) (policies
   pub valued : List Policy
   pub all : policies ≡ valued ++ sheet.read.items
   pub rows : AreSmallRows basis on measure valued sheet.rows.items
+
+-- how many policies so many workers value together: 32,768 each, and at most 131,072
+abbrev pub valued_together : ℕ → ℕ
+valued_together workers = min (32768 * workers) 131072
