@@ -29,6 +29,8 @@ OPERAND = PATH + r"|\d[\w_]*|b?\"(?:[^\"\\]|\\.)*\"|b?'(?:[^'\\]|\\.)'"
 TOKEN = re.compile(OPERAND + r"|[A-Za-z_]\w*!?|::|->|=>|[=!<>]=|&&|\|\||\.\.=|\.\.|[-+*/%]=|\S")
 OPERANDS = rf"\((?:{OPERAND})(?:, (?:{OPERAND}))*\)"
 FIELDS = rf" \{{ (?:\w+(?:: (?:{OPERAND}))?,? |\.\. )+\}}"
+# What a method is called of, where that is a path.
+RECEIVER = re.compile(r"\b[A-Za-z_]\w*(?:(?:::|\.)[A-Za-z_]\w*)+(?=\.[a-z_]\w*\()")
 PLAIN_VALUE = re.compile(rf"\b(?:[A-Za-z_]\w*::)*[A-Z]\w*(?:{OPERANDS}|{FIELDS})")
 OPERATORS = {"==", "!=", "<", "<=", ">", ">=", "+", "-", "*", "/", "%", "&&", "||"}
 # What a change adds to an expression, and the same that changes nothing.
@@ -47,6 +49,7 @@ def tokens(text: str) -> list[str]:
 def values(text: str) -> list[str]:
     """The tokens of a line, where a plain value counts as one: a path, a literal, or a variant of such."""
     text = re.sub(r" as [iu](?:\d+|size)\b", "", text.replace("(())", "(unit)"))
+    text = RECEIVER.sub("value", text)
     was = ""
     while was != text:
         was, text = text, PLAIN_VALUE.sub("value", text)

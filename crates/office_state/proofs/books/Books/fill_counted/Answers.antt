@@ -6,6 +6,9 @@ use Rattle.office_state.specs.inside.Books.{commands_in}
 use Rattle.office_state.proofs.FillingSteps.{copied_all, copy_more}
 use Rattle.office_state.proofs.books.Books.fill_counted.Goals as goal
 
+pub policy_counted-policy-requires-clause-within : goal.policy_counted-policy-requires-clause-within
+policy_counted-policy-requires-clause-within g c = omega (arith, c.loop-index-test.true, c.min-end.ensures, c.policies.ensures)
+
 pub loop-index-preserved : goal.loop-index-preserved
 loop-index-preserved g c =
     let so_far = c.loop-index.invariant in

@@ -1,6 +1,24 @@
 -- A file that is to be refused doesn't open, and is refused for no other cause.
+use Rattle.posting_journal.specs.Files.{IsJournal}
+use Rattle.posting_journal.proofs.Staging.{each_safe}
 use Rattle.posting_journal.proofs.Unique.{refusal_never, due_cause}
 use Rattle.posting_journal.proofs.journal.Journal.start.Goals as goal
+
+pub returns-in-Ok-clause-opened : goal.returns-in-Ok-clause-opened
+returns-in-Ok-clause-opened g c = λ honest.
+    let opened = c.in-Ok.ensures.opened honest in
+    record {
+      bodies = opened.bodies;
+      opened = opened.opened;
+      holds = opened.holds;
+      stands = record {
+        count = opened.counted;
+        reads = opened.holds;
+        images = each_safe g.D.Disk c.open.new.disk (λ image. IsJournal image opened.bodies) opened.safe opened.holds;
+      };
+      safe = opened.safe;
+      moments = c.in-Ok.ensures.synced honest;
+    }
 
 pub returns-in-Ok-clause-due : goal.returns-in-Ok-clause-due
 returns-in-Ok-clause-due g c = λ cause honest refusal.
