@@ -1,0 +1,5 @@
+pub mod Calls
+pub mod Runs
+pub mod Promise
+pub mod Due
+pub mod Both
