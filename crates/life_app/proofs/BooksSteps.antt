@@ -1,6 +1,5 @@
 -- Which of the modes that open both disks the words ask for, and how these end
-use Rattle.std.proofs.Common.{◌≡◌, ◌<◌, ◌⊎◌, ℕ, List, map, string_bytes, inl, inr, refl, ap, ap₂, sym, subst, ◌∙◌, Option, Some, None, Ok, Err, String, Global, arith}
-use Rattle.outside_io.specs.Faults.{Rose}
+use Rattle.std.proofs.Common.{◌≡◌, ◌<◌, ◌⊎◌, ℕ, List, map, string_bytes, inl, inr, refl, ap₂, sym, subst, Option, Some, None, Ok, String, Global, arith}
 use Rattle.outside_io.specs.Streams.{AppendsPart}
 use Rattle.outside_io.specs.declared.disks.Disk.{Ghosts}
 use Rattle.policy_types.specs.declared.command.Command.{Command}
@@ -20,18 +19,16 @@ use Rattle.program_endings.specs.Status.{status_of}
 use Rattle.program_endings.specs.Writing.{Stream, WroteAll}
 use Rattle.program_endings.specs.declared.ending.Ending.{Ending}
 use Rattle.program_endings.specs.declared.ending.Ending.TheVariants.{Done, BadJournal, WriteFault, DiskFault, NoMemory}
-use Rattle.kept_books.specs.Saved.{EndsCheckpoint, IsSaved}
-use Rattle.kept_books.specs.Stated.{EndsStateKept, snapshot_text}
+use Rattle.kept_books.specs.Saved.{IsSaved}
+use Rattle.kept_books.specs.Stated.{snapshot_text}
 use Rattle.kept_books.specs.Telling.{EndsTelling, IsRefusedByTwo, TellsSnapshot}
-use Rattle.kept_books.specs.TwoDisks.{AreBothQuiet, AreTrue, HasOneFailed, TwoDisks, disks_of}
+use Rattle.kept_books.specs.TwoDisks.{AreBothQuiet, AreTrue, TwoDisks, disks_of}
 use Rattle.kept_books.specs.declared.finished.FinishedKept.{FinishedKept}
 use Rattle.life_app.specs.declared.kept.Books.{Books}
 use Rattle.life_app.specs.declared.kept.Books.TheVariants.{State as ToState, Checkpoint as ToSave}
 use Rattle.life_app.specs.declared.kept.EndedKept.{EndedKept}
-use Rattle.life_app.specs.Due.{IsHeld}
 use Rattle.life_app.specs.DueKept.{HasReasonOfBoth, IsDueOfBoth, IsReasonedOfBoth}
-use Rattle.life_app.specs.ObeysKept.{AskForBooks, AskForBoth, EndsByBoth, ObeysByBoth}
-use Rattle.life_app.specs.Words.{AskForCheckpoint}
+use Rattle.life_app.specs.ObeysKept.{AskForBoth, EndsByBoth, ObeysByBoth}
 use Rattle.life_app.specs.inside.Books.{GivesBooks, IsBooksOf, IsOfBoth, ended_disks}
 
 -- words that ask for a mode ask for no other

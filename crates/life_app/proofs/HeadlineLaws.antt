@@ -66,7 +66,7 @@ worth_by policy entry on (Err word) t (Bounds lo hi) is value exact = let never 
 worth_by policy entry on (Err word) t (Both lo hi min_lo min_hi test) is value exact = let never = value.1 in cc
 worth_by policy entry on (Err word) t (Word why) is value exact = let same = value.1 in cc
 
-enclosing : (basis : List Dated) (on : ℤ) (policy : Policy) (row : Row) → IsValuedRow basis on Terminal policy row → IsEnclosingRow basis on policy row
+pub enclosing : (basis : List Dated) (on : ℤ) (policy : Policy) (row : Row) → IsValuedRow basis on Terminal policy row → IsEnclosingRow basis on policy row
 enclosing basis on policy row is = record {
   id = is.valued.id;
   status = is.valued.status;
@@ -76,7 +76,7 @@ enclosing basis on policy row is = record {
   uninsured = λ never. (is.valued.uninsured never).1;
 }
 
-each_pair : {A B : Type 0} (P Q : A → B → Type 0) → ((a : A) (b : B) → P a b → Q a b) → (xs : List A) (ys : List B)
+pub each_pair : {A B : Type 0} (P Q : A → B → Type 0) → ((a : A) (b : B) → P a b → Q a b) → (xs : List A) (ys : List B)
     → AllZip P xs ys → AllZip Q xs ys
 each_pair P Q step [] [] all = tt
 each_pair P Q step [] (y ∷ ys) all = absurd all

@@ -3,3 +3,4 @@ pub mod Row
 pub mod Promise
 pub mod Due
 pub mod Both
+pub mod Told

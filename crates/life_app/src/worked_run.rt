@@ -5,6 +5,7 @@ ghost use Rattle.life_app.specs.WorkedRun.Runs.{CrashesByHand, FoundByHand, Left
 ghost use Rattle.life_app.specs.WorkedRun.Promise.{GivenByHand, HeadlineByHand, ObeyedByHand, PromisedByHand};
 ghost use Rattle.life_app.specs.WorkedRun.Due.{BasisByHand, DueByHand, NeedsByHand};
 ghost use Rattle.life_app.specs.WorkedRun.Both.{DueOfBothByHand, LeftOfTwoByHand, OtherwiseByHand, PartsOfTwoByHand, RowOfTwoByHand, SavedByHand, StatedByHand, TrustedByHand};
+ghost use Rattle.life_app.specs.WorkedRun.Told.{EnclosedByHand, EndedByHand, ReasonsByHand};
 
 use basis_shelf::shelves_by_hand;
 use command_csv::{faults_are_placed, lines_are_written};
@@ -59,4 +60,13 @@ pub fn both_disks_by_hand()
     ensures left { LeftOfTwoByHand }
 {
     shown_by_hand();
+}
+
+/// What is concluded of the run, and of small values: what a run adds, why a program ends so, and an enclosing row.
+pub fn told_by_hand()
+    ensures ended { EndedByHand }
+    ensures reasons { ReasonsByHand }
+    ensures enclosed { EnclosedByHand }
+{
+    lines_are_written();
 }

@@ -1,13 +1,12 @@
 -- The worked run over both disks holds what its cases say.
-use Rattle.std.proofs.Common.{◌≡◌, ◌≢◌, ◌⊎◌, ℕ, zero, suc, ◌≤◌, true, List, [], ◌∷◌, ◌++◌, length, take, drop, get_or, refl, sym, ◌∙◌, ap, subst, inl, inr, lit≤, lit<, arith, codes, None, Some, String, Global, append-nil, map, string_bytes}
+use Rattle.std.proofs.Common.{◌≡◌, ◌⊎◌, ℕ, ◌≤◌, true, List, [], ◌∷◌, ◌++◌, length, take, drop, get_or, refl, sym, ◌∙◌, ap, subst, inl, inr, lit≤, lit<, arith, codes, None, String, Global, append-nil, map, string_bytes}
 use Rattle.std.specs.Fmt.{digits}
 use Rattle.std.proofs.lemmas.Bool.{cases_eq}
 use Rattle.std.proofs.lemmas.List.{take_at}
 use Rattle.checkpoint_store.specs.Checkpoints.{CheckpointBytes, IsNoCheckpoint, IsSnapshotOf}
-use Rattle.checkpoint_store.specs.Reopening.{IsSnapshotOfFront, IsTrueWhereUsed}
+use Rattle.checkpoint_store.specs.Reopening.{IsSnapshotOfFront}
 use Rattle.checkpoint_store.specs.Spelling.{balance_bytes, policy_bytes, position_bytes, snapshot_bytes}
 use Rattle.checkpoint_store.specs.Worked.{issued_file, issued_snapshot}
-use Rattle.checkpoint_store.specs.declared.snapshot.Snapshot.{Snapshot}
 use Rattle.checkpoint_store.proofs.ClaimedFile.{issued_checkpoint, issued_sound}
 use Rattle.checkpoint_store.proofs.OneSnapshot.{one_snapshot}
 use Rattle.book_state.specs.Books.{books_text}
@@ -18,38 +17,36 @@ use Rattle.life_dates.specs.DayText.{day_text}
 use Rattle.policy_machine.proofs.LedgerLemmas.{sum_of-ledger}
 use Rattle.statements.specs.Statements.{account_line, count_text, policy_text}
 use Rattle.kept_books.specs.Stated.{EndsStateKept, snapshot_text}
-use Rattle.kept_books.specs.Saved.{EndsCheckpoint, IsCheckpointHeld, IsNoneOrEarlierOrHeld, IsSaved}
-use Rattle.kept_books.specs.TwoDisks.{AreTrue, IsHeldWhereTrue, IsMadeSafe, IsSnapshotHeld, TellsTruth}
+use Rattle.kept_books.specs.Saved.{EndsCheckpoint, IsNoneOrEarlierOrHeld}
+use Rattle.kept_books.specs.TwoDisks.{AreTrue, IsHeldWhereTrue, IsMadeSafe, TellsTruth}
 use Rattle.life_args.specs.declared.mode.Mode.TheVariants.{Checkpoint, Run, State}
 use Rattle.life_args.proofs.Answering.{ask_once}
 use Rattle.life_args.proofs.WorkedWords.{asks, asks_nothing}
 use Rattle.office_state.specs.declared.faults.StartCause.TheVariants.{NotAJournal}
-use Rattle.office_state.specs.Journals.{IsShown, Opens}
+use Rattle.office_state.specs.Journals.{IsShown}
 use Rattle.office_state.specs.Worked.{hand_issue, hand_premium}
-use Rattle.office_state.proofs.JournalLaws.{shown_opens_to_none, to_bodies}
+use Rattle.office_state.proofs.JournalLaws.{shown_opens_to_none}
 use Rattle.office_state.proofs.WorkedOffices.{both, valid_issue}
 use Rattle.outside_io.specs.Disks.{Torn}
 use Rattle.outside_io.specs.FileCalls.{Synced}
-use Rattle.posting_journal.specs.Creation.{IsForeign, OpensToBodies}
-use Rattle.posting_journal.specs.Runs.{IsSafe, Leaves, LooksOn}
+use Rattle.posting_journal.specs.Runs.{Leaves, LooksOn}
 use Rattle.posting_journal.proofs.Bytes.{same_byte}
 use Rattle.posting_journal.proofs.Unique.{opens_once}
 use Rattle.program_endings.specs.declared.ending.Ending.TheVariants.{Done, Usage}
 use Rattle.record_codec.specs.Spelling.{spelling_of}
-use Rattle.life_app.specs.DueKept.{AreGood}
 use Rattle.life_app.specs.KeptRuns.{AreRunsOfTwo, IsRunOfTwo, IsSnapshotOfFirst, KeepsSecond, LeavesSaved, LeavesSecond, SavedOfFirst, SavesBooks, WasCutAfter, WasLeftOf}
 use Rattle.life_app.specs.Obeys.{SaysUnasked}
 use Rattle.life_app.specs.ObeysKept.{AskForBooks, AskForBoth}
-use Rattle.life_app.proofs.KeptRunLaws.{left_by_call, two_left}
-use Rattle.life_app.specs.WorkedRun.Due.{letters, no_input}
-use Rattle.life_app.specs.WorkedRun.Calls.{CalledDisk, called, cut_disk, cut_file, called_disk, empty_disk, last_disk, puts, reopening, untorn}
-use Rattle.life_app.specs.WorkedRun.Promise.{AreTyped, output_of, shelf_that_told, two_auditors}
-use Rattle.life_app.specs.WorkedRun.Runs.{both_commands, cut_run, looked_disk, second_opening, whole_run}
+use Rattle.life_app.proofs.KeptRunLaws.{two_left}
+use Rattle.life_app.specs.WorkedRun.Due.{letters}
+use Rattle.life_app.specs.WorkedRun.Calls.{CalledDisk, called, cut_disk, cut_file, called_disk, empty_disk, last_disk, puts, reopening}
+use Rattle.life_app.specs.WorkedRun.Promise.{AreTyped, output_of}
+use Rattle.life_app.specs.WorkedRun.Runs.{both_commands, looked_disk, second_opening}
 use Rattle.life_app.specs.WorkedRun.Both.{DueOfBothByHand, LeftOfTwoByHand, OtherwiseByHand, PartsOfTwoByHand, RowOfTwoByHand, SavedByHand, StatedByHand, TrustedByHand, cut_of_two, issue_books, letters_disks, read_disk, runs_of_two, saved_disk, saved_file, saved_of_two, saving, saving_disks, second_disk, stating_disks, whole_of_two}
 use Rattle.life_app.proofs.WorkedRun.Calls.{Left, reads}
 use Rattle.life_app.proofs.WorkedRun.Due.{none_failed}
 use Rattle.life_app.proofs.WorkedRun.Promise.{asks_run, obeyed}
-use Rattle.life_app.proofs.WorkedRun.Row.{cut, facts, found_safe, honest_last, honest_looked, honest_paid, in_a_row, journal_of_issue, left_alone, opened_left, second_left, was_cut, first_left}
+use Rattle.life_app.proofs.WorkedRun.Row.{cut, facts, found_safe, honest_last, honest_looked, honest_paid, journal_of_issue, left_alone, opened_left, second_left, was_cut, first_left}
 
 saved_reads : saved_file ≡ issued_file
 unfolding balance_bytes policy_bytes position_bytes

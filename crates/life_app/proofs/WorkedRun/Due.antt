@@ -1,6 +1,5 @@
 -- Worked cases have what is due.
-use Rattle.std.proofs.Common.{◌≡◌, ◌≤◌, ℕ, List, [], ◌∷◌, refl, inl, inr, lit≤, arith, codes, pos, replicate, None, Some, String, Global}
-use Rattle.std.specs.Prelude.{true}
+use Rattle.std.proofs.Common.{◌≤◌, [], ◌∷◌, refl, inr, lit≤, arith, codes, pos, None, Some}
 use Rattle.std.proofs.lemmas.Int.{ints}
 use Rattle.std.proofs.lemmas.List.Elements.{All-nil}
 use Rattle.basis_shelf.specs.Worked.{BasisOfOneRow, FirstBadFiles, certain_death, one_row, shelf_with}
@@ -14,7 +13,6 @@ use Rattle.office_state.specs.declared.faults.StartCause.TheVariants.{NotAJourna
 use Rattle.office_state.specs.Journals.{IsShown}
 use Rattle.office_state.specs.Worked.{hand_issue}
 use Rattle.office_state.proofs.JournalLaws.{shown_opens_to_none}
-use Rattle.outside_io.specs.Faults.{Rose}
 use Rattle.life_app.specs.Due.{HasBasis, HasJournal, HasNoBasis, HasNoJournal, HasNoScript, HasScript, IsHeld}
 use Rattle.life_app.specs.WorkedRun.Promise.{given_script, premium_lanes, premium_script}
 use Rattle.life_app.specs.WorkedRun.Due.{BasisByHand, DueByHand, NeedsByHand, basisless_shelf, cut_filing, faulty_script, letters, letters_filing, stocked_shelf, value_lanes, value_script}
@@ -69,16 +67,25 @@ module _ (clerk : NoClerk) (line : ValueLine) (basis : BasisOfOneRow) (bad : Fir
     has_basis,
     (hand_issue ∷ [], journal, lit≤ tt),
     no_journal,
-    λ words same. (1, (Terminal, asks _ (Value (pos 18628) Now 1 (codes "basis.csv") Terminal) (refl, record {
-      pieces = bare (codes "2021-01-01") ∷ [];
-      spells = refl;
-      only = tt;
-      day = codes "2021-01-01";
-      alone = refl;
-      day_is = new_year;
-      position_is = refl;
-      workers_are = refl;
-      basis_is = refl;
-      measure_is = refl;
-    }) words same)),
+    λ words same. (
+      1,
+      (
+        Terminal,
+        asks _ (Value (pos 18628) Now 1 (codes "basis.csv") Terminal) (
+          refl,
+          record {
+            pieces = bare (codes "2021-01-01") ∷ [];
+            spells = refl;
+            only = tt;
+            day = codes "2021-01-01";
+            alone = refl;
+            day_is = new_year;
+            position_is = refl;
+            workers_are = refl;
+            basis_is = refl;
+            measure_is = refl;
+          },
+        ) words same,
+      ),
+    ),
   )

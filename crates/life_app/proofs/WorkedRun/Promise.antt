@@ -1,8 +1,7 @@
 -- The worked run is as the headline says.
-use Rattle.std.proofs.Common.{◌≡◌, ◌⊎◌, ◌++◌, ℕ, true, false, List, [], ◌∷◌, refl, sym, ap, subst, inl, inr, lit≤, lit<, arith, codes, map, string_bytes, String, Global, pos, None, Some}
+use Rattle.std.proofs.Common.{◌≡◌, ◌++◌, ℕ, List, [], ◌∷◌, refl, sym, inl, inr, lit≤, lit<, codes, String, Global}
 use Rattle.std.specs.Fmt.{digits}
 use Rattle.std.specs.List.{IsDistinct}
-use Rattle.std.proofs.lemmas.Int.{ints}
 use Rattle.csv.proofs.OnLiterals.{csv_on_literals}
 use Rattle.life_dates.specs.Calendar.{date_of, date_at, year_of, month_of, days_before, days_before_year, days_of_months}
 use Rattle.life_dates.specs.DayText.{day_text}
@@ -21,17 +20,17 @@ use Rattle.program_endings.specs.declared.ending.Ending.TheVariants.{Done}
 use Rattle.program_endings.specs.Replies.{AreAnswered}
 use Rattle.program_endings.specs.Writing.{IsWholeInput, WroteAll}
 use Rattle.script_run.specs.Outcome.{IsRunOf}
-use Rattle.script_run.specs.Running.{EndsRun}
-use Rattle.transcript_text.specs.Transcript.{IsTranscript, posting_text, reports_text}
+use Rattle.script_run.specs.Running.{EndsLanes, EndsRead, EndsRun}
+use Rattle.transcript_text.specs.Transcript.{posting_text, reports_text}
 use Rattle.watcher_set.specs.Noted.{reports_of}
-use Rattle.life_app.specs.Headline.{IsFirstFound, IsGivenBasis, IsPromised, IsUnrun}
+use Rattle.life_app.specs.Headline.{IsPromised, IsUnrun}
 use Rattle.life_app.specs.Obeys.{Obeys}
 use Rattle.life_app.specs.Words.{AskForRun}
 use Rattle.life_app.proofs.HeadlineLaws.{by_script, headline}
-use Rattle.life_app.specs.WorkedRun.Calls.{called, cut_disk, cut_file, last_disk}
+use Rattle.life_app.specs.WorkedRun.Calls.{called, cut_disk, last_disk}
 use Rattle.life_app.specs.WorkedRun.Runs.{second_turns}
 use Rattle.life_app.specs.WorkedRun.Promise.{AreTyped, GivenByHand, HeadlineByHand, ObeyedByHand, PromisedByHand, given_script, output_of, premium_lanes, premium_script, premium_text, shelf_that_told, two_auditors}
-use Rattle.life_app.proofs.WorkedRun.Row.{facts, found_by_hand, legal_second, second_left, second_ran}
+use Rattle.life_app.proofs.WorkedRun.Row.{facts, found_by_hand, legal_second, second_left}
 
 pub asks_run : (words : List (String Global)) → AreTyped words (codes "run" ∷ []) → AskForRun words (codes "basis.csv")
 asks_run words same = asks _ (Run (codes "basis.csv")) (refl, record { pieces = []; spells = refl; only = tt; alone = refl; basis_is = refl }) words same
@@ -96,21 +95,27 @@ ran = record {
   disk = second_left;
 }
 
-run_ended : EndsRun called cut_disk last_disk (codes "basis.csv") two_auditors given_script (output_of premium_text) (shelf_that_told []) (Unit {0}) Done
-run_ended = inl (record {
+ended : EndsLanes called cut_disk last_disk premium_lanes (codes "basis.csv") two_auditors (shelf_that_told []) (output_of premium_text) (Unit {0}) Done
+ended = inl (refl, tt, ran)
+
+read : EndsRead called cut_disk last_disk (codes "basis.csv") two_auditors given_script (output_of premium_text) (shelf_that_told []) (Unit {0}) Done
+read = record {
   bytes = premium_script;
   gave = record { given = refl; ended = tt; left = tt; end = tt };
   lanes = premium_lanes;
   read = (lit≤ tt, reads_premium);
-  ends = inl (refl, tt, ran);
-})
+  ends = ended;
+}
+
+run_ended : EndsRun called cut_disk last_disk (codes "basis.csv") two_auditors given_script (output_of premium_text) (shelf_that_told []) (Unit {0}) Done
+run_ended = inl read
 
 pub obeyed : (words : List (String Global)) → AreTyped words (codes "run" ∷ [])
     → Obeys called cut_disk last_disk words two_auditors given_script (output_of premium_text) (shelf_that_told []) ⊥ (Unit {0}) 0
 obeyed words same = record { ending = Done; exits = refl; does = inl (Run (codes "basis.csv"), asks_run words same, run_ended) }
 
 pub obeyed_by_hand : ObeyedByHand
-obeyed_by_hand = (run_ended, obeyed)
+obeyed_by_hand = (ran, ran, ended, read, run_ended, obeyed)
 
 no_unrun : IsUnrun called Opens cut_disk last_disk (output_of premium_text) 0 → ⊥
 no_unrun unrun = unrun.failed refl
@@ -122,9 +127,9 @@ headline_by_hand words same = headline called cut_disk last_disk (output_of prem
 promised : IsPromised called Opens cut_disk last_disk premium_lanes [] (output_of premium_text) 0
 promised = elim (by_script called cut_disk last_disk (output_of premium_text) facts.only_now premium_lanes [] two_auditors (codes "basis.csv") premium_script
     given_script (shelf_that_told []) (Unit {0}) Done whole reads_premium (inl (refl, refl)) run_ended) [
-  | inl told ↦ told
-  | inr unrun ↦ absurd (no_unrun unrun)
-]
+      | inl told ↦ told
+      | inr unrun ↦ absurd (no_unrun unrun)
+    ]
 
 pub promised_by_hand : PromisedByHand
 promised_by_hand = (promised, record { old = cut_disk; found = found_by_hand.1; told = inl promised }, no_unrun)

@@ -1,34 +1,28 @@
 -- The worked run holds what its cases say.
-use Rattle.std.proofs.Common.{◌≡◌, ◌⊎◌, ℕ, true, false, List, [], ◌∷◌, ◌++◌, length, refl, sym, ◌∙◌, ap, subst, inl, inr, lit≤, lit<, arith}
-use Rattle.std.specs.List.{AllByRecursion}
+use Rattle.std.proofs.Common.{◌≡◌, ◌⊎◌, ℕ, true, List, [], ◌∷◌, length, refl, sym, subst, inl, inr, lit≤, lit<}
 use Rattle.life_dates.specs.Anniversary as dates
 use Rattle.outside_io.specs.FileCalls.{AreAllowed, Synced, writes_within}
 use Rattle.outside_io.specs.FileLaws.{left_by_now, left_only_now, reads_as_left}
 use Rattle.policy_types.specs.declared.command.Command.{Command}
 use Rattle.policy_types.specs.declared.entry.Entry.{Entry}
 use Rattle.policy_types.specs.declared.entry.Reply.TheVariants.{Accepted}
-use Rattle.policy_types.specs.Valid.{IsValid}
-use Rattle.policy_machine.specs.Book.{IsAccepted}
-use Rattle.policy_machine.specs.History.{Opening, IsLegal, accepted_of, commands_after, opened_on}
-use Rattle.posting_journal.specs.Creation.{IsUnfinished}
+use Rattle.policy_machine.specs.History.{IsLegal, accepted_of}
 use Rattle.posting_journal.specs.Files.{IsJournal}
-use Rattle.posting_journal.specs.Runs.{IsSafe, Leaves, LooksOn}
-use Rattle.posting_journal.specs.Opening.{IsSynced}
-use Rattle.posting_journal.proofs.Unique.{journal_finished}
+use Rattle.posting_journal.specs.Runs.{IsSafe, LooksOn}
 use Rattle.record_codec.specs.Spelling.{spelling_of}
 use Rattle.office_state.specs.Images.{HasKept, HoldsAtLeast, HoldsNow, HoldsOnce, IsLeftAlone, IsLeftBy, KeepsAccepted}
-use Rattle.office_state.specs.Journals.{JournalBytes, Opens, bodies_of}
+use Rattle.office_state.specs.Journals.{JournalBytes, Opens}
 use Rattle.office_state.specs.Worked.{hand_issue, hand_premium, premium_turn}
 use Rattle.office_state.proofs.JournalLaws.{opens_to_one}
 use Rattle.office_state.proofs.KeptSteps.{keeps_first, keeps_more, kept_now}
-use Rattle.office_state.proofs.WorkedOffices.{both, valid_issue, valid_premium}
-use Rattle.life_app.specs.Crashes.{AreAllHeld, AreHeld, HasRun}
-use Rattle.life_app.specs.Runs.{AreLeft, AreRuns, HasAnsweredSome, HasReturned, IsRunOn, WasCut}
+use Rattle.office_state.proofs.WorkedOffices.{both, valid_issue}
+use Rattle.life_app.specs.Crashes.{HasRun}
+use Rattle.life_app.specs.Runs.{AreLeft, AreRuns, HasAnsweredSome, WasCut}
 use Rattle.life_app.proofs.CrashLaws.{afterwards, during, next_commands, opened_again}
 use Rattle.life_app.proofs.RunLaws.{Facts, runs_left}
-use Rattle.life_app.specs.WorkedRun.Calls.{CalledDisk, HonestCalls, Unsynced, called, creation, cut_disk, cut_file, called_disk, empty_disk, issuing, last_disk, paid_disk, first_calls, second_calls, posts, puts, reopening, stages, untorn}
+use Rattle.life_app.specs.WorkedRun.Calls.{CalledDisk, HonestCalls, Unsynced, called, creation, cut_disk, cut_file, called_disk, empty_disk, issuing, last_disk, paid_disk, first_calls, second_calls, reopening, untorn}
 use Rattle.life_app.specs.WorkedRun.Runs.{CrashesByHand, FoundByHand, LeftByHand, OpenedByHand, RanByHand, RowByHand, both_commands, cut_run, first_opening, first_turns, issue_turn, looked_disk, second_opening, second_turns, whole_run}
-use Rattle.life_app.proofs.WorkedRun.Calls.{AreSafe, Left, created, creation_left, creation_safe, first_bytes, is_posted, is_staged, is_still, posted_left, posted_safe, posted_within, posting_leaves, reads, staged_safe}
+use Rattle.life_app.proofs.WorkedRun.Calls.{AreSafe, Left, created, creation_left, creation_safe, first_bytes, is_posted, is_still, posted_left, posted_safe, posted_within, posting_leaves, reads}
 
 -- ---- the commands
 

@@ -1,12 +1,11 @@
 -- The worked run over both disks: the cut run, then one that saves the books and is cut once they are saved, and the premium
-use Rattle.std.specs.Prelude.{◌≡◌, ◌⊎◌, ℕ, true, List, [], ◌∷◌, ◌++◌, None, Some, codes, length, take, String}
+use Rattle.std.specs.Prelude.{ℕ, true, List, [], ◌∷◌, ◌++◌, Some, codes, length, String}
 use Rattle.std.specs.Global.{Global}
 use Rattle.checkpoint_store.specs.Checkpoints.{CheckpointBytes}
 use Rattle.checkpoint_store.specs.Spelling.{snapshot_bytes}
-use Rattle.checkpoint_store.specs.Worked.{issued_file, issued_snapshot}
-use Rattle.outside_io.specs.FileCalls.{FileCall, Measured, ReadFrom, Synced, file_reads}
+use Rattle.checkpoint_store.specs.Worked.{issued_snapshot}
+use Rattle.outside_io.specs.FileCalls.{FileCall, Measured, Synced, file_reads}
 use Rattle.office_state.specs.Journals.{Opens}
-use Rattle.office_state.specs.Worked.{hand_issue}
 use Rattle.policy_types.specs.declared.command.Command.{Command}
 use Rattle.program_endings.specs.declared.ending.Ending.TheVariants.{Done, Usage, BadJournal}
 use Rattle.book_state.specs.Books.{books_text}
@@ -15,12 +14,12 @@ use Rattle.kept_books.specs.Saved.{EndsCheckpoint}
 use Rattle.kept_books.specs.Stated.{EndsStateKept}
 use Rattle.kept_books.specs.TwoDisks.{AreTrue, IsMadeSafe, TellsTruth, TwoDisks}
 use Rattle.life_app.specs.DueKept.{AreGood, IsDueOfBoth}
-use Rattle.life_app.specs.KeptRuns.{AreRunsOfTwo, IsLeftByCall, IsRunOfTwo, IsSnapshotOfFirst, KeepsSecond, LeavesSaved, LeavesSecond, OneRunOfTwo, SavedOfFirst, SavesBooks, WasCutAfter, WasCutBefore, WasLeftOf, run_disks}
+use Rattle.life_app.specs.KeptRuns.{AreRunsOfTwo, IsLeftByCall, IsRunOfTwo, IsSnapshotOfFirst, KeepsSecond, LeavesSaved, LeavesSecond, OneRunOfTwo, SavedOfFirst, SavesBooks, WasCutAfter, WasCutBefore, WasLeftOf}
 use Rattle.life_app.specs.Obeys.{EndsUnasked, SaysUnasked}
 use Rattle.life_app.specs.ObeysKept.{AskForBooks, AskForBoth, EndsByBoth, HasNoWords, ObeysByBoth, ObeysByOne, ObeysKept}
 use Rattle.life_app.specs.Words.{AskForCheckpoint}
 use Rattle.life_app.specs.WorkedRun.Due.{letters, letters_disk, no_input}
-use Rattle.life_app.specs.WorkedRun.Calls.{CalledDisk, called, cut_disk, cut_file, called_disk, empty_disk, last_disk, puts, untorn}
+use Rattle.life_app.specs.WorkedRun.Calls.{CalledDisk, called, cut_disk, called_disk, empty_disk, last_disk, puts, untorn}
 use Rattle.life_app.specs.WorkedRun.Promise.{AreTyped, given_script, output_of, premium_text, shelf_that_told, two_auditors}
 use Rattle.life_app.specs.WorkedRun.Runs.{both_commands, cut_run, looked_disk, second_opening, whole_run}
 

@@ -1,6 +1,6 @@
 -- A worked run, told by the calls of its file: an empty file becomes a journal, a policy is issued, and a premium is posted of
 -- which a crash leaves the body behind a closed gate; the file is opened again, and the premium is posted anew
-use Rattle.std.specs.Prelude.{◌≡◌, ℕ, Bool, true, false, List, [], ◌∷◌, ◌++◌, Some, length, take, drop}
+use Rattle.std.specs.Prelude.{◌≡◌, ℕ, true, List, [], ◌∷◌, ◌++◌, Some, length, take, drop}
 use Rattle.outside_io.specs.FileCalls.{FileCall, Measured, ReadFrom, WrittenTo, Synced, file_reads, writes_within, AreAllowed, FileImage, FileLeft}
 use Rattle.outside_io.specs.declared.disks.Disk.{Ghosts}
 use Rattle.policy_types.specs.declared.command.Command.{Command}

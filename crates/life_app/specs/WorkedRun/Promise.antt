@@ -1,25 +1,21 @@
 -- What the headline says of the worked run's second half: the script, what is written, and the basis that is given
-use Rattle.std.specs.Prelude.{◌≡◌, ◌⊎◌, ◌==◌, ℕ, true, false, List, [], ◌∷◌, ◌++◌, None, Some, codes, map, pos, string_bytes, String}
+use Rattle.std.specs.Prelude.{◌≡◌, ◌⊎◌, ◌==◌, ℕ, false, length, List, [], ◌∷◌, ◌++◌, Some, codes, map, string_bytes, String}
 use Rattle.std.specs.Global.{Global}
-use Rattle.basis_book.specs.Dated.{Dated}
-use Rattle.basis_shelf.specs.Worked.{certain_death, one_row, shelf_with}
 use Rattle.command_csv.specs.Reads.{Reads, lane_of}
-use Rattle.outside_io.specs.Shelves.{Agrees, Answer, Found, Files}
-use Rattle.policy_types.specs.declared.entry.At.TheVariants.{Now}
-use Rattle.policy_types.specs.declared.entry.Reply.TheVariants.{Accepted}
+use Rattle.outside_io.specs.Shelves.{Agrees, Answer}
 use Rattle.policy_types.specs.declared.script.Lane.{Lane}
-use Rattle.policy_types.specs.declared.script.Line.{Line}
-use Rattle.policy_types.specs.declared.script.Line.TheVariants.{Post, Value}
-use Rattle.lane_runner.specs.AnsweredLines.{AnsweredLine}
+use Rattle.policy_types.specs.declared.script.Line.TheVariants.{Post}
 use Rattle.office_state.specs.Journals.{Opens}
-use Rattle.office_state.specs.Worked.{hand_premium, premium_turn}
-use Rattle.program_endings.specs.Writing.{Input, IsWholeInput, Shelving, Stream}
+use Rattle.office_state.specs.Worked.{hand_premium}
+use Rattle.program_endings.specs.Replies.{AreAnswered}
+use Rattle.program_endings.specs.Writing.{Input, IsWholeInput, Shelving, Stream, WroteAll}
 use Rattle.program_endings.specs.declared.ending.Ending.TheVariants.{Done}
-use Rattle.script_run.specs.Running.{EndsRun}
+use Rattle.script_run.specs.Outcome.{EndsScript, IsRunOf}
+use Rattle.script_run.specs.Running.{EndsLanes, EndsRead, EndsRun}
 use Rattle.script_run.specs.Worked.{input_that_gave}
 use Rattle.watcher_set.specs.Noted.{Auditor}
 use Rattle.watcher_set.specs.Premiums.{premiums_of}
-use Rattle.life_app.specs.Headline.{IsFirstFound, IsGivenBasis, IsPromised, IsPromisedFromStart, IsUnrun}
+use Rattle.life_app.specs.Headline.{IsGivenBasis, IsPromised, IsPromisedFromStart, IsUnrun}
 use Rattle.life_app.specs.Obeys.{Obeys}
 use Rattle.life_app.specs.Words.{AskForRun}
 use Rattle.life_app.specs.WorkedRun.Calls.{called, cut_disk, cut_file, last_disk}
@@ -36,7 +32,8 @@ abbrev pub premium_text : List ℕ
 premium_text = codes "1,premium,7001,accepted,2" ++ 10 ∷ codes "watcher,1,1,1" ++ 10 ∷ codes "watcher,2,1,40000" ++ 10 ∷ []
 
 abbrev pub two_auditors : List Auditor
-two_auditors = (record { stops = λ commands. false; number = λ commands. 1 }) ∷ (record { stops = λ commands. false; number = premiums_of }) ∷ []
+two_auditors = (record { stops = λ commands. length commands == 4000000; number = λ commands. length commands })
+    ∷ (record { stops = λ commands. false; number = λ commands. premiums_of commands }) ∷ []
 
 -- an output that held nothing, took these bytes, and didn't fail
 abbrev pub output_of : List ℕ → Stream
@@ -61,7 +58,11 @@ GivenByHand = ((words : List (String Global)) → AreTyped words (codes "run" �
 
 -- the program obeyed them, over the file that the crash had cut, and nothing was asked of the shelf
 abbrev pub ObeyedByHand : Type 0
-ObeyedByHand = EndsRun called cut_disk last_disk (codes "basis.csv") two_auditors given_script (output_of premium_text) (shelf_that_told []) (Unit {0}) Done
+ObeyedByHand = IsRunOf called cut_disk last_disk premium_lanes [] two_auditors (WroteAll (output_of premium_text)) AreAnswered
+    × EndsScript called cut_disk last_disk premium_lanes [] two_auditors (output_of premium_text) Done
+    × EndsLanes called cut_disk last_disk premium_lanes (codes "basis.csv") two_auditors (shelf_that_told []) (output_of premium_text) (Unit {0}) Done
+    × EndsRead called cut_disk last_disk (codes "basis.csv") two_auditors given_script (output_of premium_text) (shelf_that_told []) (Unit {0}) Done
+    × EndsRun called cut_disk last_disk (codes "basis.csv") two_auditors given_script (output_of premium_text) (shelf_that_told []) (Unit {0}) Done
     × ((words : List (String Global)) → AreTyped words (codes "run" ∷ [])
     → Obeys called cut_disk last_disk words two_auditors given_script (output_of premium_text) (shelf_that_told []) ⊥ (Unit {0}) 0)
 

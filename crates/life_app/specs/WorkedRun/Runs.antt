@@ -1,6 +1,5 @@
 -- What the laws of a crash and of runs in a row say of the worked run
-use Rattle.std.specs.Prelude.{◌≡◌, ℕ, List, [], ◌∷◌}
-use Rattle.outside_io.specs.FileCalls.{Synced}
+use Rattle.std.specs.Prelude.{ℕ, List, [], ◌∷◌}
 use Rattle.policy_types.specs.declared.command.Command.{Command}
 use Rattle.policy_types.specs.declared.entry.Call.TheVariants.{Post}
 use Rattle.policy_types.specs.declared.entry.Reply.TheVariants.{Accepted}
