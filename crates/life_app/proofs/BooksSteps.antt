@@ -91,7 +91,7 @@ module _ {D E : Type 0} (g : Ghosts D) (e : Ghosts E) (disks : TwoDisks D E) (ou
     telling_due DiskFault _ ends due = absurd due
     telling_due _ _ ends due = absurd ends
 
-  both_due : (words : List (String Global)) (ending wanted : Ending) → EndsByBoth g e disks words output ending → IsDueOfBoth g e disks output wanted
+  pub both_due : (words : List (String Global)) (ending wanted : Ending) → EndsByBoth g e disks words output ending → IsDueOfBoth g e disks output wanted
       → (status_of ending ≡ status_of wanted) ⊎ (status_of ending ≡ 9)
   both_due words ending wanted (inl stated) due =
       telling_due (TellsSnapshot g e disks snapshot_text) (λ Wrote told. told.quiet)

@@ -3,8 +3,8 @@
 ghost use Rattle.life_app.specs.WorkedRun.Calls.{HonestCalls, ReadsByHand};
 ghost use Rattle.life_app.specs.WorkedRun.Runs.{CrashesByHand, FoundByHand, LeftByHand, OpenedByHand, RanByHand, RowByHand};
 ghost use Rattle.life_app.specs.WorkedRun.Promise.{GivenByHand, HeadlineByHand, ObeyedByHand, PromisedByHand};
-ghost use Rattle.life_app.specs.WorkedRun.Due.{BasisByHand, DueByHand, NeedsByHand};
-ghost use Rattle.life_app.specs.WorkedRun.Both.{DueOfBothByHand, LeftOfTwoByHand, OtherwiseByHand, PartsOfTwoByHand, RowOfTwoByHand, SavedByHand, StatedByHand, TrustedByHand};
+ghost use Rattle.life_app.specs.WorkedRun.Due.{BasisByHand, DueByHand, DueOfTheRun, NeedsByHand};
+ghost use Rattle.life_app.specs.WorkedRun.Both.{DueOfBothByHand, DueOfTheSaving, LeftOfTwoByHand, OtherwiseByHand, PartsOfTwoByHand, RowOfTwoByHand, SavedByHand, StatedByHand, TrustedByHand};
 ghost use Rattle.life_app.specs.WorkedRun.Told.{EnclosedByHand, EndedByHand, ReasonsByHand};
 
 use basis_shelf::shelves_by_hand;
@@ -41,6 +41,7 @@ pub fn due_by_hand()
     ensures needs { NeedsByHand }
     ensures basis { BasisByHand }
     ensures due { DueByHand }
+    ensures comes { DueOfTheRun }
 {
     faults_are_placed();
     lines_are_written();
@@ -52,6 +53,7 @@ pub fn due_by_hand()
 pub fn both_disks_by_hand()
     ensures trusted { TrustedByHand }
     ensures due { DueOfBothByHand }
+    ensures comes { DueOfTheSaving }
     ensures saved { SavedByHand }
     ensures stated { StatedByHand }
     ensures otherwise { OtherwiseByHand }

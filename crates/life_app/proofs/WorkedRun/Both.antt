@@ -37,12 +37,13 @@ use Rattle.record_codec.specs.Spelling.{spelling_of}
 use Rattle.life_app.specs.KeptRuns.{AreRunsOfTwo, IsRunOfTwo, IsSnapshotOfFirst, KeepsSecond, LeavesSaved, LeavesSecond, SavedOfFirst, SavesBooks, WasCutAfter, WasLeftOf}
 use Rattle.life_app.specs.Obeys.{SaysUnasked}
 use Rattle.life_app.specs.ObeysKept.{AskForBooks, AskForBoth}
+use Rattle.life_app.proofs.BooksSteps.{both_due}
 use Rattle.life_app.proofs.KeptRunLaws.{two_left}
 use Rattle.life_app.specs.WorkedRun.Due.{letters}
 use Rattle.life_app.specs.WorkedRun.Calls.{CalledDisk, called, cut_disk, cut_file, called_disk, empty_disk, last_disk, puts, reopening}
 use Rattle.life_app.specs.WorkedRun.Promise.{AreTyped, output_of}
 use Rattle.life_app.specs.WorkedRun.Runs.{both_commands, looked_disk, second_opening}
-use Rattle.life_app.specs.WorkedRun.Both.{DueOfBothByHand, LeftOfTwoByHand, OtherwiseByHand, PartsOfTwoByHand, RowOfTwoByHand, SavedByHand, StatedByHand, TrustedByHand, cut_of_two, issue_books, letters_disks, read_disk, runs_of_two, saved_disk, saved_file, saved_of_two, saving, saving_disks, second_disk, stating_disks, whole_of_two}
+use Rattle.life_app.specs.WorkedRun.Both.{DueOfBothByHand, DueOfTheSaving, LeftOfTwoByHand, OtherwiseByHand, PartsOfTwoByHand, RowOfTwoByHand, SavedByHand, StatedByHand, TrustedByHand, cut_of_two, issue_books, letters_disks, read_disk, runs_of_two, saved_disk, saved_file, saved_of_two, saving, saving_disks, second_disk, stating_disks, whole_of_two}
 use Rattle.life_app.proofs.WorkedRun.Calls.{Left, reads}
 use Rattle.life_app.proofs.WorkedRun.Due.{none_failed}
 use Rattle.life_app.proofs.WorkedRun.Promise.{asks_run, obeyed}
@@ -369,7 +370,7 @@ stated_by_hand = (
 
 -- ---- other words
 
-none_of_both : (words : List (String Global)) → AreTyped words (codes "run" ∷ []) → AskForBoth words → ⊥
+pub none_of_both : (words : List (String Global)) → AreTyped words (codes "run" ∷ []) → AskForBoth words → ⊥
 none_of_both words same (inl state) =
     let no : Run (codes "basis.csv") ≡ State None = ask_once (map string_bytes words) _ _ (asks_run words same) state in cc
 none_of_both words same (inr save) =
@@ -386,3 +387,8 @@ otherwise_by_hand = (
   λ words same. record { disk = refl; input = tt; shelf = tt; says = says_usage words same },
   λ words. record { exits = refl; unasked = record { disk = refl; input = tt; shelf = tt; says = inl refl }; second = refl },
 )
+
+pub due_of_the_saving : DueOfTheSaving
+due_of_the_saving words same ending is =
+    both_due called called saving_disks (output_of (codes "checkpoint,1" ++ 10 ∷ [])) words Done ending
+    (inr (asks _ Checkpoint (refl, refl) words same, saved)) is

@@ -14,9 +14,12 @@ use Rattle.office_state.specs.Journals.{IsShown}
 use Rattle.office_state.specs.Worked.{hand_issue}
 use Rattle.office_state.proofs.JournalLaws.{shown_opens_to_none}
 use Rattle.life_app.specs.Due.{HasBasis, HasJournal, HasNoBasis, HasNoJournal, HasNoScript, HasScript, IsHeld}
-use Rattle.life_app.specs.WorkedRun.Promise.{given_script, premium_lanes, premium_script}
-use Rattle.life_app.specs.WorkedRun.Due.{BasisByHand, DueByHand, NeedsByHand, basisless_shelf, cut_filing, faulty_script, letters, letters_filing, stocked_shelf, value_lanes, value_script}
-use Rattle.life_app.proofs.WorkedRun.Promise.{asks_run, reads_premium}
+use Rattle.program_endings.specs.declared.ending.Ending.TheVariants.{Done}
+use Rattle.life_app.proofs.ProgramSteps.{due}
+use Rattle.life_app.specs.WorkedRun.Calls.{called, cut_disk, last_disk}
+use Rattle.life_app.specs.WorkedRun.Promise.{given_script, output_of, premium_lanes, premium_script, premium_text, shelf_that_told, two_auditors}
+use Rattle.life_app.specs.WorkedRun.Due.{BasisByHand, DueByHand, DueOfTheRun, NeedsByHand, basisless_shelf, cut_filing, faulty_script, letters, letters_filing, stocked_shelf, value_lanes, value_script}
+use Rattle.life_app.proofs.WorkedRun.Promise.{asks_run, did, reads_premium}
 use Rattle.life_app.proofs.WorkedRun.Row.{honest_last, second_left}
 
 pub none_failed : IsHeld 0 0
@@ -89,3 +92,7 @@ module _ (clerk : NoClerk) (line : ValueLine) (basis : BasisOfOneRow) (bad : Fir
       ),
     ),
   )
+
+pub due_of_the_run : DueOfTheRun
+due_of_the_run words same ending is = due called cut_disk last_disk two_auditors words given_script (output_of premium_text) (shelf_that_told []) ⊥ (Unit {0}) Done
+    (did words same) (λ rose. absurd (omega (arith, rose))) ending is

@@ -24,7 +24,7 @@ use Rattle.script_run.specs.Running.{EndsLanes, EndsRead, EndsRun}
 use Rattle.transcript_text.specs.Transcript.{posting_text, reports_text}
 use Rattle.watcher_set.specs.Noted.{reports_of}
 use Rattle.life_app.specs.Headline.{IsPromised, IsUnrun}
-use Rattle.life_app.specs.Obeys.{Obeys}
+use Rattle.life_app.specs.Obeys.{Does, Obeys}
 use Rattle.life_app.specs.Words.{AskForRun}
 use Rattle.life_app.proofs.HeadlineLaws.{by_script, headline}
 use Rattle.life_app.specs.WorkedRun.Calls.{called, cut_disk, last_disk}
@@ -110,9 +110,13 @@ read = record {
 run_ended : EndsRun called cut_disk last_disk (codes "basis.csv") two_auditors given_script (output_of premium_text) (shelf_that_told []) (Unit {0}) Done
 run_ended = inl read
 
+pub did : (words : List (String Global)) → AreTyped words (codes "run" ∷ [])
+    → Does called cut_disk last_disk words two_auditors given_script (output_of premium_text) (shelf_that_told []) ⊥ (Unit {0}) Done
+did words same = inl (Run (codes "basis.csv"), asks_run words same, run_ended)
+
 pub obeyed : (words : List (String Global)) → AreTyped words (codes "run" ∷ [])
     → Obeys called cut_disk last_disk words two_auditors given_script (output_of premium_text) (shelf_that_told []) ⊥ (Unit {0}) 0
-obeyed words same = record { ending = Done; exits = refl; does = inl (Run (codes "basis.csv"), asks_run words same, run_ended) }
+obeyed words same = record { ending = Done; exits = refl; does = did words same }
 
 pub obeyed_by_hand : ObeyedByHand
 obeyed_by_hand = (ran, ran, ended, read, run_ended, obeyed)

@@ -1,5 +1,5 @@
 -- What the laws and the contract conclude holds of small values.
-use Rattle.std.proofs.Common.{◌≡◌, ◌≤◌, ℕ, List, [], ◌∷◌, ◌++◌, refl, sym, inl, inr, lit≤, arith, codes, pos, None, Some, String, Global}
+use Rattle.std.proofs.Common.{◌≡◌, List, [], ◌∷◌, ◌++◌, refl, inl, inr, lit≤, arith, codes, pos, String, Global}
 use Rattle.std.specs.Fmt.{digits}
 use Rattle.std.specs.List.{AllZip}
 use Rattle.std.specs.Prelude.{◌<ℤ◌}
@@ -9,8 +9,6 @@ use Rattle.life_dates.specs.Anniversary.{anniversary_of}
 use Rattle.life_dates.specs.Calendar.{day_number, date_of, date_at, year_of, month_of, days_before, days_before_year, days_of_months}
 use Rattle.basis_shelf.specs.Lines.{bad_basis_text}
 use Rattle.basis_shelf.specs.declared.fault.BasisWord.TheVariants.{Absent}
-use Rattle.policy_machine.specs.Rules.{issued}
-use Rattle.policy_types.specs.declared.command.Plan.TheVariants.{Endowment}
 use Rattle.basis_book.specs.Dated.{Dated, IsPicked}
 use Rattle.book_value.specs.Worked.Valued.{five_endowments, from_2000, from_2020}
 use Rattle.book_value.proofs.WorkedValuation.{first_row, second_row, third_row, fourth_row, fifth_row}
@@ -26,7 +24,6 @@ use Rattle.office_state.specs.Journals.{Opens}
 use Rattle.office_state.specs.Worked.{hand_issue, hand_premium}
 use Rattle.policy_machine.specs.Book.{book}
 use Rattle.policy_types.specs.declared.entry.At.TheVariants.{Position}
-use Rattle.policy_types.specs.declared.policy.Policy.{Policy}
 use Rattle.policy_types.specs.declared.policy.Status.TheVariants.{InForce, PaidUp}
 use Rattle.policy_value.specs.Rows.{IsInsured}
 use Rattle.policy_value.specs.declared.worth.Measure.TheVariants.{Terminal}
@@ -87,40 +84,70 @@ module _ (line : ValueLine) where
         5,
         (
           codes "basis.csv",
-          (1, (Terminal, asks _ (Value (pos 18628) (Position 5) 1 (codes "basis.csv") Terminal) (refl, record {
-            pieces = bare (codes "2021-01-01") ∷ joined (codes "at") (codes "5") ∷ [];
-            spells = refl;
-            only = (inl refl, tt);
-            day = codes "2021-01-01";
-            alone = refl;
-            day_is = new_year;
-            position_is = (lit≤ tt, refl);
-            workers_are = refl;
-            basis_is = refl;
-            measure_is = refl;
-          }) words same)),
+          (
+            1,
+            (
+              Terminal,
+              asks _ (Value (pos 18628) (Position 5) 1 (codes "basis.csv") Terminal) (
+                refl,
+                record {
+                  pieces = bare (codes "2021-01-01") ∷ joined (codes "at") (codes "5") ∷ [];
+                  spells = refl;
+                  only = (inl refl, tt);
+                  day = codes "2021-01-01";
+                  alone = refl;
+                  day_is = new_year;
+                  position_is = (lit≤ tt, refl);
+                  workers_are = refl;
+                  basis_is = refl;
+                  measure_is = refl;
+                },
+              ) words same,
+            ),
+          ),
           (λ honest. (hand_issue ∷ [], second_left.opened honest_last, lit≤ tt)),
         ),
       ),
     ),
-    λ words same. (1, asks _ (Project (pos 18628) 1 1 (codes "basis.csv")) (refl, record {
-      pieces = bare (codes "2021-01-01") ∷ bare (codes "1") ∷ [];
-      spells = refl;
-      only = tt;
-      day = codes "2021-01-01";
-      alone = refl;
-      day_is = new_year;
-      years_in = (lit≤ tt, lit≤ tt);
-      workers_are = refl;
-      basis_is = refl;
-    }) words same),
-    λ words same. (7, (5, (2, (1, asks _ (Load 7 5 2 1) (refl, record {
-      spells = refl;
-      seed_in = lit≤ tt;
-      count_in = (lit≤ tt, lit≤ tt);
-      lanes_in = (lit≤ tt, lit≤ tt);
-      workers_in = (lit≤ tt, lit≤ tt);
-    }) words same)))),
+    λ words same. (
+      1,
+      asks _ (Project (pos 18628) 1 1 (codes "basis.csv")) (
+        refl,
+        record {
+          pieces = bare (codes "2021-01-01") ∷ bare (codes "1") ∷ [];
+          spells = refl;
+          only = tt;
+          day = codes "2021-01-01";
+          alone = refl;
+          day_is = new_year;
+          years_in = (lit≤ tt, lit≤ tt);
+          workers_are = refl;
+          basis_is = refl;
+        },
+      ) words same,
+    ),
+    λ words same. (
+      7,
+      (
+        5,
+        (
+          2,
+          (
+            1,
+            asks _ (Load 7 5 2 1) (
+              refl,
+              record {
+                spells = refl;
+                seed_in = lit≤ tt;
+                count_in = (lit≤ tt, lit≤ tt);
+                lanes_in = (lit≤ tt, lit≤ tt);
+                workers_in = (lit≤ tt, lit≤ tt);
+              },
+            ) words same,
+          ),
+        ),
+      ),
+    ),
     tt,
     (Done, refl, tt),
   )

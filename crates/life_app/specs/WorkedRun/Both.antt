@@ -1,5 +1,5 @@
 -- The worked run over both disks: the cut run, then one that saves the books and is cut once they are saved, and the premium
-use Rattle.std.specs.Prelude.{ℕ, true, List, [], ◌∷◌, ◌++◌, Some, codes, length, String}
+use Rattle.std.specs.Prelude.{◌≡◌, ◌⊎◌, ℕ, true, List, [], ◌∷◌, ◌++◌, Some, codes, length, String}
 use Rattle.std.specs.Global.{Global}
 use Rattle.checkpoint_store.specs.Checkpoints.{CheckpointBytes}
 use Rattle.checkpoint_store.specs.Spelling.{snapshot_bytes}
@@ -7,6 +7,8 @@ use Rattle.checkpoint_store.specs.Worked.{issued_snapshot}
 use Rattle.outside_io.specs.FileCalls.{FileCall, Measured, Synced, file_reads}
 use Rattle.office_state.specs.Journals.{Opens}
 use Rattle.policy_types.specs.declared.command.Command.{Command}
+use Rattle.program_endings.specs.Status.{status_of}
+use Rattle.program_endings.specs.declared.ending.Ending.{Ending}
 use Rattle.program_endings.specs.declared.ending.Ending.TheVariants.{Done, Usage, BadJournal}
 use Rattle.book_state.specs.Books.{books_text}
 use Rattle.book_state.specs.Stating.{EndsState}
@@ -94,6 +96,12 @@ RowOfTwoByHand = IsRunOfTwo called called empty_disk empty_disk cut_of_two
     × AreRunsOfTwo called called empty_disk empty_disk runs_of_two last_disk second_disk
     × WasCutBefore called empty_disk empty_disk
     × SavedOfFirst [] []
+
+-- and so the call that saved them, which ended with 0, ended as is due
+abbrev pub DueOfTheSaving : Type 0
+DueOfTheSaving = (words : List (String Global)) → AreTyped words (codes "checkpoint" ∷ []) → (ending : Ending)
+    → IsDueOfBoth called called saving_disks (output_of (codes "checkpoint,1" ++ 10 ∷ [])) ending
+    → (status_of Done ≡ status_of ending) ⊎ (status_of Done ≡ 9)
 
 -- what these runs are made of
 abbrev pub PartsOfTwoByHand : Type 0

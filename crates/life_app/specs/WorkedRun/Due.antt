@@ -1,7 +1,8 @@
 -- Which endings are due in worked cases, of the run's script and of files by hand, so that what is due can come about
-use Rattle.std.specs.Prelude.{ℕ, true, List, [], ◌∷◌, None, Some, codes, pos, replicate, String}
+use Rattle.std.specs.Prelude.{◌≡◌, ◌⊎◌, ℕ, true, List, [], ◌∷◌, None, Some, codes, pos, replicate, String}
 use Rattle.std.specs.Global.{Global}
 use Rattle.basis_book.specs.Dated.{Dated, IsPicked}
+use Rattle.basis_shelf.specs.Bases.{IsBasis}
 use Rattle.basis_shelf.specs.Worked.{certain_death, one_row}
 use Rattle.command_csv.specs.Reads.{lane_of}
 use Rattle.outside_io.specs.FileCalls.{Measured, ReadFrom, Synced}
@@ -12,7 +13,9 @@ use Rattle.policy_types.specs.declared.script.Line.TheVariants.{Value}
 use Rattle.policy_value.specs.declared.worth.Measure.TheVariants.{Terminal}
 use Rattle.life_args.specs.declared.mode.Mode.TheVariants.{Run, Value as ToValue, State}
 use Rattle.office_state.specs.Worked.{hand_issue}
+use Rattle.program_endings.specs.Status.{status_of}
 use Rattle.program_endings.specs.Writing.{Input, Shelving}
+use Rattle.program_endings.specs.declared.ending.Ending.{Ending}
 use Rattle.program_endings.specs.declared.ending.Ending.TheVariants.{Done, Usage, BadScript, BadJournal}
 use Rattle.script_run.specs.Script.{IsReadable, IsUnreadable}
 use Rattle.script_run.specs.Worked.{input_that_gave}
@@ -72,7 +75,7 @@ NeedsByHand = IsReadable premium_script
 
 -- the line that asks for values is given the basis that the files make, of which its one row is picked for a policy of 2020
 abbrev pub BasisByHand : Type 0
-BasisByHand = (entry : Dated) × IsGivenBasis value_lanes (codes "b.csv") stocked_shelf (entry ∷ []) × IsPicked (entry ∷ []) (pos 18262) 0 entry
+BasisByHand = (entry : Dated) × IsGivenBasis IsBasis value_lanes (codes "b.csv") stocked_shelf (entry ∷ []) × IsPicked (entry ∷ []) (pos 18262) 0 entry
 
 -- the run of the premium has all that it needs, and so it is to be done; other words, files and scripts have other endings
 abbrev pub DueByHand : Type 0
@@ -88,3 +91,9 @@ DueByHand = HasItsNeeds (Run (codes "basis.csv")) given_script (shelf_that_told 
     × HasItsJournal (ToValue (pos 18262) (Position 1) 1 (codes "b.csv") Terminal) cut_filing
     × LacksItsJournal (State None) letters_filing
     × ((words : List (String Global)) → AreTyped words (codes "value" ∷ codes "2021-01-01" ∷ []) → AskForValue words (pos 18628) Now (codes "basis.csv"))
+
+-- and so the run of the premium, which ended with 0, ended as is due
+abbrev pub DueOfTheRun : Type 0
+DueOfTheRun = (words : List (String Global)) → AreTyped words (codes "run" ∷ []) → (ending : Ending)
+    → IsDueEnding words given_script (output_of premium_text) (shelf_that_told []) cut_filing ending
+    → (status_of Done ≡ status_of ending) ⊎ (status_of Done ≡ 9)

@@ -1,6 +1,7 @@
 -- What the headline says of the worked run's second half: the script, what is written, and the basis that is given
 use Rattle.std.specs.Prelude.{◌≡◌, ◌⊎◌, ◌==◌, ℕ, false, length, List, [], ◌∷◌, ◌++◌, Some, codes, map, string_bytes, String}
 use Rattle.std.specs.Global.{Global}
+use Rattle.basis_shelf.specs.Bases.{IsBasis}
 use Rattle.command_csv.specs.Reads.{Reads, lane_of}
 use Rattle.outside_io.specs.Shelves.{Agrees, Answer}
 use Rattle.policy_types.specs.declared.script.Lane.{Lane}
@@ -54,7 +55,7 @@ AreTyped words typed = map string_bytes words ≡ typed
 abbrev pub GivenByHand : Type 0
 GivenByHand = ((words : List (String Global)) → AreTyped words (codes "run" ∷ []) → AskForRun words (codes "basis.csv"))
     × IsWholeInput given_script premium_script × Reads premium_script premium_lanes
-    × IsGivenBasis premium_lanes (codes "basis.csv") (shelf_that_told []) []
+    × IsGivenBasis IsBasis premium_lanes (codes "basis.csv") (shelf_that_told []) []
 
 -- the program obeyed them, over the file that the crash had cut, and nothing was asked of the shelf
 abbrev pub ObeyedByHand : Type 0

@@ -1,12 +1,11 @@
 -- What the laws and the contract conclude, of the worked run and of small values by hand
-use Rattle.std.specs.Prelude.{◌≡◌, ℕ, List, [], ◌∷◌, ◌++◌, None, Some, codes, pos, String}
+use Rattle.std.specs.Prelude.{ℕ, List, [], ◌∷◌, ◌++◌, codes, pos, String}
 use Rattle.std.specs.Global.{Global}
 use Rattle.basis_book.specs.Dated.{Dated, IsPicked}
 use Rattle.book_value.specs.Worked.Valued.{five_endowments, from_2000, from_2020}
 use Rattle.outside_io.specs.Shelves.{Absent}
 use Rattle.plan_benefits.specs.Shapes.{shape_of}
 use Rattle.policy_types.specs.declared.entry.Reply.TheVariants.{Faulted}
-use Rattle.policy_types.specs.declared.entry.Entry.{Entry}
 use Rattle.policy_machine.specs.Rules.{issued}
 use Rattle.policy_types.specs.declared.command.Plan.TheVariants.{Endowment}
 use Rattle.policy_types.specs.declared.policy.Policy.{Policy}

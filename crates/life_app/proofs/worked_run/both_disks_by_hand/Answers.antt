@@ -1,4 +1,4 @@
-use Rattle.life_app.proofs.WorkedRun.Both.{due_of_both, left_by_hand, otherwise_by_hand, parts_by_hand, rows_by_hand, saved_by_hand, stated_by_hand, trusted_by_hand}
+use Rattle.life_app.proofs.WorkedRun.Both.{due_of_both, due_of_the_saving, left_by_hand, otherwise_by_hand, parts_by_hand, rows_by_hand, saved_by_hand, stated_by_hand, trusted_by_hand}
 use Rattle.life_app.proofs.worked_run.both_disks_by_hand.Goals as goal
 
 pub returns-clause-trusted : goal.returns-clause-trusted
@@ -24,3 +24,6 @@ returns-clause-otherwise c = otherwise_by_hand
 
 pub returns-clause-parts : goal.returns-clause-parts
 returns-clause-parts c = parts_by_hand
+
+pub returns-clause-comes : goal.returns-clause-comes
+returns-clause-comes c = due_of_the_saving

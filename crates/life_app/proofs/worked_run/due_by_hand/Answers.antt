@@ -15,3 +15,6 @@ pub returns-clause-due : goal.returns-clause-due
 returns-clause-due c =
     due.due_by_hand c.faults_are_placed.ensures.clerk c.lines_are_written.ensures.value c.shelves_by_hand.ensures.basis c.shelves_by_hand.ensures.bad
     c.shown_by_hand.ensures.causes.0
+
+pub returns-clause-comes : goal.returns-clause-comes
+returns-clause-comes c = due.due_of_the_run
