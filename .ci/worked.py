@@ -1,71 +1,169 @@
-"""Which definitions under the promise no worked case rests on.
+"""Which definitions under the promise no worked case rests on, and which premises of it no worked case builds.
 
-A worked case is a definition of a file specs/Worked*.antt, or specs/Worked/*.antt, that a contract names: a theorem on small
-values from outside. It holds what its words name, and so on down, but for what is said of a disk, whatever it is: a case
-that names that says nothing of it. Each definition under `Obeys` has to be held so, or to stand below with the reason; and
-none that is held may stand there.
+A worked case is a definition of a file specs/Worked*.antt, or below specs/Worked*/, that a contract names: a theorem on
+small values from outside. It holds what its words name, and so on down, but for what is said of a disk, whatever it is: a
+case that names that says nothing of it. The worked run (`life_app/specs/WorkedRun`) names whole runs, under which all else
+stands; so it holds what it names itself, and what it builds. Each definition under a clause of a public function of
+`life_app` and `life_cli` has to be held so, or to stand below with the reason; and none that is held may stand there.
 
-usage: python3 .ci/worked.py [--all]      with --all: each definition that no case holds
+A premise of such a clause, and each statement of these two crates under one, has to be built: a case shows it, as a part
+that is no choice, by its name or in a field of what it builds (`statements.py`). A premise that nothing builds might never
+hold, and then the law under it says nothing.
+
+usage: python3 .ci/worked.py [--all]      with --all: each definition that no case holds, and each premise
 """
 
 import re
 import sys
 
 import definitions as known
+import statements
 
-ROOTS = {"life_app.specs.Obeys.Obeys", "life_app.specs.ObeysKept.ObeysKept"}
+HOME = ("life_app.specs.", "life_cli.specs.")
+WHOLE_RUN = "life_app.specs.WorkedRun."
 
-OF_A_DISK = "Of a disk, whatever it is: disks in memory, and files that are honest or not, are told of by laws and tests."
+# Of a disk, whatever it is. A case that names these says nothing of what stands below them.
+OF_A_DISK = set("""
+    outside_io.specs.Disks.Elapses outside_io.specs.Disks.Looks outside_io.specs.Disks.Only
+    outside_io.specs.Shelves.Files posting_journal.specs.Opening.IsSynced posting_journal.specs.Runs.IsSafe
+    posting_journal.specs.Runs.LooksOn office_state.specs.Images.IsLeftBy office_state.specs.Images.IsLeftAlone
+    office_state.specs.Images.HoldsSince office_state.specs.Images.HasKept office_state.specs.Images.KeepsAccepted""".split())
 
 # Held by no worked case, for good, by the reason.
 EXCEPTIONS = {
-    "A whole run, or how a mode ends: it puts together what is held apart, and says no value of its own.": """
-        life_app.specs.Obeys.Obeys life_app.specs.Obeys.Does life_app.specs.Obeys.EndsMode
-        life_app.specs.ObeysKept.ObeysKept life_app.specs.ObeysKept.ObeysByBoth life_app.specs.ObeysKept.ObeysByOne
-        script_run.specs.Outcome.EndsScript script_run.specs.Outcome.IsRunOf script_run.specs.Running.EndsByName
-        script_run.specs.Running.EndsLanes script_run.specs.Running.EndsRead script_run.specs.Running.EndsRun
-        script_run.specs.Running.EndsScriptBy script_run.specs.Script.IsReadAs
+    "How a mode ends that no worked run is of: it puts together what is held apart, and says no value of its own.": """
+        life_app.specs.Obeys.EndsMode script_run.specs.Running.EndsByName script_run.specs.Running.EndsScriptBy
         trial_load.specs.Generating.EndsGenerate trial_load.specs.Loading.EndsBegun trial_load.specs.Loading.EndsLoad
         trial_load.specs.Loading.EndsLoadBy trial_load.specs.Loading.EndsLoading trial_load.specs.Loading.IsLoadOf
-        book_state.specs.Stating.EndsState book_value.specs.Valuing.EndsByBasis book_value.specs.Valuing.EndsValue
-        book_value.specs.Valuing.EndsValuing""",
-    OF_A_DISK: """
-        outside_io.specs.Disks.Elapses outside_io.specs.Disks.Looks outside_io.specs.Disks.Only
-        outside_io.specs.Shelves.Files posting_journal.specs.Opening.IsSynced posting_journal.specs.Runs.IsSafe
-        posting_journal.specs.Runs.LooksOn office_state.specs.Images.IsLeftBy office_state.specs.Images.IsLeftAlone
-        office_state.specs.Images.HoldsSince office_state.specs.Images.HasKept office_state.specs.Images.KeepsAccepted""",
+        book_value.specs.Valuing.EndsByBasis book_value.specs.Valuing.EndsValue book_value.specs.Valuing.EndsValuing""",
+    "The devices of a contract, as one value.": """
+        program_endings.specs.Writing.between program_endings.specs.Writing.input_between
+        program_endings.specs.Writing.shelf_between life_app.specs.inside.Books.ended_disks""",
     "Says nothing.": "program_endings.specs.Replies.AreAny",
 }
 
+# Premises that no worked case builds, by the reason.
+UNBUILT = {
+    "A mode that no worked run is of: `Obeys` is built by another one.": """
+        life_app.specs.Obeys.EndsMode book_projection.specs.Projecting.EndsProject book_value.specs.Valuing.EndsValue
+        trial_load.specs.Generating.EndsGenerate trial_load.specs.Loading.EndsLoad""",
+}
 
-def cases_of(definitions):
+
+class Texts:
+    """All definitions of specs/, what each shows and asks for, and what its words mean."""
+
+    def __init__(self) -> None:
+        self.definitions, self.imports = known.read_specs()
+        self.sides = {key: statements.sides_of(one) for key, one in self.definitions.items()}
+        self.says = self.statements()
+
+    def meant(self, words: set[str], imports: dict[str, str], place: str = "") -> set[str]:
+        found = {imports[word] for word in words if word in imports} | {f"{place}.{word}" for word in words}
+        return found & self.definitions.keys()
+
+    def side(self, key: str, side: str) -> set[str]:
+        """The definitions that this one shows for sure (`sure`), shows perhaps (`choice`), or asks for (`asked`)."""
+        place = self.definitions[key].place
+        return self.meant(getattr(self.sides[key], side), self.imports[place], place)
+
+    def under(self, roots: set[str], less: set[str]) -> set[str]:
+        return known.reach(roots, self.definitions, self.imports, less)[0]
+
+    def statements(self) -> set[str]:
+        """The definitions that say something, and aren't data: an equation, an order, a choice, or another one."""
+        says = {key for key, one in self.definitions.items() if re.search("[≡≢≤<⊥⊎⊤]|Unit {0}", statements.body_of(one))}
+        size = 0
+        while size < len(says):
+            size = len(says)
+            says |= {key for key in self.definitions if says & (self.side(key, "sure") | self.side(key, "choice"))}
+        return {key for key in says if self.definitions[key].name[0].isupper()}
+
+
+def contracts(texts: Texts) -> tuple[set[str], set[str]]:
+    """The definitions that public clauses of the two crates name, and those under them that are asked for."""
+    named, open_names = set(), []
+    for crate in (prefix.split(".")[0] for prefix in HOME):
+        for path in sorted(known.TOP.glob(f"crates/{crate}/src/**/*.rt")):
+            if path.name.startswith("worked"):
+                continue
+            text = path.read_text(encoding="utf-8")
+            imports = known.imports_of(text)
+            for shown, clause in statements.contracts_of(text):
+                sides = statements.Sides().read(clause, shown)
+                named |= texts.meant(set(known.WORD.findall(clause)), imports)
+                open_names += [(key, True) for key in texts.meant(sides.sure | sides.choice, imports)]
+                open_names += [(key, False) for key in texts.meant(sides.asked, imports)]
+    return named, asked_for(texts, open_names)
+
+
+def asked_for(texts: Texts, open_names: list[tuple[str, bool]]) -> set[str]:
+    """What is asked for, through the statements of the two crates; of others the first alone."""
+    seen = set()
+    while open_names:
+        one = open_names.pop()
+        if one in seen:
+            continue
+        seen.add(one)
+        key, shown = one
+        if key.startswith(HOME):
+            open_names += [(under, shown) for under in texts.side(key, "sure") | texts.side(key, "choice")]
+            open_names += [(under, not shown) for under in texts.side(key, "asked")]
+    return {key for key, shown in seen if not shown and key in texts.says}
+
+
+def cases_of(texts: Texts) -> set[str]:
     """The worked cases: those that a contract names."""
     named = set()
     for path in known.TOP.glob("crates/*/src/**/*.rt"):
         for meaning in known.imports_of(path.read_text(encoding="utf-8")).values():
-            if re.search(r"\.specs\.(?:\w+\.)*Worked\w*", meaning) and meaning in definitions:
+            if re.search(r"\.specs\.(?:\w+\.)*Worked\w*", meaning) and meaning in texts.definitions:
                 named.add(meaning)
     return named
 
 
+def built_by(texts: Texts, cases: set[str]) -> set[str]:
+    """What these show for sure, and what that shows so."""
+    built, open_names = set(), set(cases)
+    while open_names:
+        key = open_names.pop()
+        built.add(key)
+        open_names |= texts.side(key, "sure") - built
+    return built
+
+
+def held_by(texts: Texts, cases: set[str], built: set[str]) -> set[str]:
+    """What the cases hold."""
+    whole = {key for key in texts.under(cases, set()) if key.startswith(HOME) and re.search(r"\.specs\.Worked\w", key)}
+    named = set().union(*(known.named_in(texts.definitions[key].lines, texts.definitions[key].place,
+                                         texts.imports[texts.definitions[key].place], texts.definitions) for key in whole))
+    asked = set().union(*(texts.side(key, "asked") for key in whole))
+    plain = {case for case in cases if not case.startswith(HOME) or ".Worked." in case or ".WorkedKept." in case}
+    return texts.under(plain, OF_A_DISK) | built | (named - asked)
+
+
 def main():
-    definitions, imports = known.read_specs()
-    under = lambda roots, less: known.reach(roots, definitions, imports, less)[0]
-    cases = cases_of(definitions)
-    promise = {it for it in under(ROOTS, set()) if ".Worked" not in it}
-    bare = promise - under(cases, set(EXCEPTIONS[OF_A_DISK].split()))
-    excepted = {it for names in EXCEPTIONS.values() for it in names.split()}
-    wrong = [f"no worked case rests on {it}" for it in sorted(bare - excepted)]
-    wrong += [f"{it} is held, or gone, and needs no exception" for it in sorted(excepted - bare)]
+    texts = Texts()
+    cases = cases_of(texts)
+    named, premises = contracts(texts)
+    promise = {key for key in texts.under(named, set()) if ".Worked" not in key}
+    built = built_by(texts, cases)
+    bare = promise - held_by(texts, cases, built)
+    excepted = {key for names in EXCEPTIONS.values() for key in names.split()}
+    empty, spared = premises - built, {key for names in UNBUILT.values() for key in names.split()}
+    wrong = [f"no worked case rests on {key}" for key in sorted(bare - excepted)]
+    wrong += [f"{key} is held, or gone, and needs no exception" for key in sorted(excepted - bare)]
+    wrong += [f"no worked case builds the premise {key}" for key in sorted(empty - spared)]
+    wrong += [f"{key} is built, or no premise, and needs no exception" for key in sorted(spared - empty)]
     if len(excepted) >= 40:
         wrong.append(f"{len(excepted)} exceptions are too many")
     for what in wrong:
         print(f"worked: {what}", file=sys.stderr)
     if "--all" in sys.argv:
-        print("\n".join(sorted(bare)))
+        print("\n".join(sorted(bare)), "\n".join(f"premise {key}" for key in sorted(premises)), sep="\n")
     if not wrong:
-        print(f"worked: {len(cases)} cases hold {len(promise - bare)} of the {len(promise)} definitions under the promise; "
-              f"{len(excepted)} are excepted")
+        print(f"worked: {len(cases)} cases hold {len(promise - bare)} of the {len(promise)} definitions under the promise, "
+              f"and build {len(premises - empty)} of its {len(premises)} premises; {len(excepted | spared)} are excepted")
     return 1 if wrong else 0
 
 

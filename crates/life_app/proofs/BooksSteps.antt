@@ -1,6 +1,5 @@
 -- Which of the modes that open both disks the words ask for, and how these end
-use Rattle.std.proofs.Common.{◌≡◌, ◌<◌, ◌⊎◌, ℕ, List, map, string_bytes, inl, inr, refl, ap, ap₂, sym, subst, ◌∙◌, Option, Some, None, Ok, Err, String, Global, arith}
-use Rattle.outside_io.specs.Faults.{Rose}
+use Rattle.std.proofs.Common.{◌≡◌, ◌<◌, ◌⊎◌, ℕ, List, map, string_bytes, inl, inr, refl, ap₂, sym, subst, Option, Some, None, Ok, String, Global, arith}
 use Rattle.outside_io.specs.Streams.{AppendsPart}
 use Rattle.outside_io.specs.declared.disks.Disk.{Ghosts}
 use Rattle.policy_types.specs.declared.command.Command.{Command}
@@ -20,18 +19,16 @@ use Rattle.program_endings.specs.Status.{status_of}
 use Rattle.program_endings.specs.Writing.{Stream, WroteAll}
 use Rattle.program_endings.specs.declared.ending.Ending.{Ending}
 use Rattle.program_endings.specs.declared.ending.Ending.TheVariants.{Done, BadJournal, WriteFault, DiskFault, NoMemory}
-use Rattle.kept_books.specs.Saved.{EndsCheckpoint, IsSaved}
-use Rattle.kept_books.specs.Stated.{EndsStateKept, snapshot_text}
+use Rattle.kept_books.specs.Saved.{IsSaved}
+use Rattle.kept_books.specs.Stated.{snapshot_text}
 use Rattle.kept_books.specs.Telling.{EndsTelling, IsRefusedByTwo, TellsSnapshot}
-use Rattle.kept_books.specs.TwoDisks.{AreBothQuiet, AreTrue, HasOneFailed, TwoDisks, disks_of}
+use Rattle.kept_books.specs.TwoDisks.{AreBothQuiet, AreTrue, TwoDisks, disks_of}
 use Rattle.kept_books.specs.declared.finished.FinishedKept.{FinishedKept}
 use Rattle.life_app.specs.declared.kept.Books.{Books}
 use Rattle.life_app.specs.declared.kept.Books.TheVariants.{State as ToState, Checkpoint as ToSave}
 use Rattle.life_app.specs.declared.kept.EndedKept.{EndedKept}
-use Rattle.life_app.specs.Due.{IsHeld}
-use Rattle.life_app.specs.DueKept.{IsDueOfBoth}
-use Rattle.life_app.specs.ObeysKept.{AskForBooks, AskForBoth, EndsByBoth, ObeysByBoth}
-use Rattle.life_app.specs.Words.{AskForCheckpoint}
+use Rattle.life_app.specs.DueKept.{HasReasonOfBoth, IsDueOfBoth, IsReasonedOfBoth}
+use Rattle.life_app.specs.ObeysKept.{AskForBoth, EndsByBoth, ObeysByBoth}
 use Rattle.life_app.specs.inside.Books.{GivesBooks, IsBooksOf, IsOfBoth, ended_disks}
 
 -- words that ask for a mode ask for no other
@@ -94,7 +91,7 @@ module _ {D E : Type 0} (g : Ghosts D) (e : Ghosts E) (disks : TwoDisks D E) (ou
     telling_due DiskFault _ ends due = absurd due
     telling_due _ _ ends due = absurd ends
 
-  both_due : (words : List (String Global)) (ending wanted : Ending) → EndsByBoth g e disks words output ending → IsDueOfBoth g e disks output wanted
+  pub both_due : (words : List (String Global)) (ending wanted : Ending) → EndsByBoth g e disks words output ending → IsDueOfBoth g e disks output wanted
       → (status_of ending ≡ status_of wanted) ⊎ (status_of ending ≡ 9)
   both_due words ending wanted (inl stated) due =
       telling_due (TellsSnapshot g e disks snapshot_text) (λ Wrote told. told.quiet)
@@ -102,6 +99,21 @@ module _ {D E : Type 0} (g : Ghosts D) (e : Ghosts E) (disks : TwoDisks D E) (ou
   both_due words ending wanted (inr saved) due =
       telling_due (IsSaved g e disks) (λ Wrote saved. saved.told.quiet)
       (λ Wrote saved are. (let held = saved.told.held are in (held.commands, held.opened))) ending wanted saved.1.telling due
+
+  -- why it ended so
+  telling_reason : (Tells : (List ℕ → Type 0) → Type 0) (ending : Ending) → EndsTelling g e disks Tells output ending
+      → HasReasonOfBoth g e disks output ending
+  telling_reason Tells Done ends = tt
+  telling_reason Tells BadJournal ends = (ends.cause, ends.line, ends.shown)
+  telling_reason Tells WriteFault ends = ends.0
+  telling_reason Tells DiskFault ends = ends.0
+  telling_reason Tells NoMemory ends = tt
+  telling_reason Tells _ ends = absurd ends
+
+  both_reason : (words : List (String Global)) (ending : Ending) → EndsByBoth g e disks words output ending
+      → HasReasonOfBoth g e disks output ending
+  both_reason words ending (inl stated) = telling_reason (TellsSnapshot g e disks snapshot_text) ending stated.1.telling
+  both_reason words ending (inr saved) = telling_reason (IsSaved g e disks) ending saved.1.telling
 
   alone : (words : List (String Global)) (ending : Ending) → EndsByBoth g e disks words output ending → IsLeftAlone g disks.old disks.new
   alone words ending (inl stated) = stated.1.first
@@ -131,6 +143,9 @@ module _ {D E : Type 0} (g : Ghosts D) (e : Ghosts E) (disk : D) (second : E) (d
   due_both wanted due =
       subst (λ (n : ℕ). (n ≡ status_of wanted) ⊎ (n ≡ 9)) (sym exits)
       (both_due g e (ended_disks disk second ended) output words done.ending wanted ends_so due)
+
+  pub reason_both : IsReasonedOfBoth g e (ended_disks disk second ended) output ended.status
+  reason_both = (done.ending, exits, both_reason g e (ended_disks disk second ended) output words done.ending ends_so)
 
   pub unopened_both : g.honest ended.disk → OpensToNone (g.reads disk) → g.reads ended.disk ≡ g.reads disk
   unopened_both = both_as_before g e (ended_disks disk second ended) output words done.ending ends_so

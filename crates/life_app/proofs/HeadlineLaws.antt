@@ -7,6 +7,7 @@ use Rattle.std.proofs.lemmas.Bool.{false≢true}
 use Rattle.std.proofs.lemmas.List.{take_all}
 use Rattle.std.proofs.lemmas.List.Elements.{filter_map-append}
 use Rattle.basis_book.specs.Dated.{Dated}
+use Rattle.basis_shelf.specs.Bases.{IsBasis}
 use Rattle.basis_shelf.proofs.OneBasis.{one_basis}
 use Rattle.outside_io.specs.declared.disks.Disk.{Ghosts}
 use Rattle.command_csv.specs.Reads.{Reads}
@@ -66,7 +67,7 @@ worth_by policy entry on (Err word) t (Bounds lo hi) is value exact = let never 
 worth_by policy entry on (Err word) t (Both lo hi min_lo min_hi test) is value exact = let never = value.1 in cc
 worth_by policy entry on (Err word) t (Word why) is value exact = let same = value.1 in cc
 
-enclosing : (basis : List Dated) (on : ℤ) (policy : Policy) (row : Row) → IsValuedRow basis on Terminal policy row → IsEnclosingRow basis on policy row
+pub enclosing : (basis : List Dated) (on : ℤ) (policy : Policy) (row : Row) → IsValuedRow basis on Terminal policy row → IsEnclosingRow basis on policy row
 enclosing basis on policy row is = record {
   id = is.valued.id;
   status = is.valued.status;
@@ -76,7 +77,7 @@ enclosing basis on policy row is = record {
   uninsured = λ never. (is.valued.uninsured never).1;
 }
 
-each_pair : {A B : Type 0} (P Q : A → B → Type 0) → ((a : A) (b : B) → P a b → Q a b) → (xs : List A) (ys : List B)
+pub each_pair : {A B : Type 0} (P Q : A → B → Type 0) → ((a : A) (b : B) → P a b → Q a b) → (xs : List A) (ys : List B)
     → AllZip P xs ys → AllZip Q xs ys
 each_pair P Q step [] [] all = tt
 each_pair P Q step [] (y ∷ ys) all = absurd all
@@ -265,7 +266,7 @@ module _ {D : Type 0} (g : Ghosts D) (old new : D) (output : Stream) where
 
     -- the lanes by the basis that is given
     by_lanes : (lanes : List Lane) (basis : List Dated) (auditors : List Auditor) (name : List ℕ) (shelf : Shelving)
-        (ShelfStays : Type 0) (ending : Ending) → IsGivenBasis lanes name shelf basis
+        (ShelfStays : Type 0) (ending : Ending) → IsGivenBasis IsBasis lanes name shelf basis
         → EndsLanes g old new lanes name auditors shelf output ShelfStays ending → Told lanes basis (status_of ending)
     by_lanes lanes basis auditors name shelf ShelfStays ending (inl none) (inl ends) =
         subst (λ (b : List Dated). Told lanes b (status_of ending)) (sym none.1) (by_ending lanes [] auditors ending ends.2)
@@ -279,7 +280,7 @@ module _ {D : Type 0} (g : Ghosts D) (old new : D) (output : Stream) where
 
     -- the script that is given
     pub by_script : (lanes : List Lane) (basis : List Dated) (auditors : List Auditor) (name bytes : List ℕ) (input : Input) (shelf : Shelving)
-        (ShelfStays : Type 0) (ending : Ending) → IsWholeInput input bytes → Reads bytes lanes → IsGivenBasis lanes name shelf basis
+        (ShelfStays : Type 0) (ending : Ending) → IsWholeInput input bytes → Reads bytes lanes → IsGivenBasis IsBasis lanes name shelf basis
         → EndsRun g old new name auditors input output shelf ShelfStays ending → Told lanes basis (status_of ending)
     by_script lanes basis auditors name bytes input shelf ShelfStays ending whole reads given (inl read) =
         let same : read.lanes ≡ lanes =
@@ -293,7 +294,7 @@ module _ {D : Type 0} (g : Ghosts D) (old new : D) (output : Stream) where
     -- what the words ask for, and how it ended
     by_words : (lanes : List Lane) (basis : List Dated) (auditors : List Auditor) (name bytes : List ℕ) (words : List (String Global))
         (input : Input) (shelf : Shelving) (InputStays ShelfStays : Type 0) (ending : Ending) → AskForRun words name
-        → IsWholeInput input bytes → Reads bytes lanes → IsGivenBasis lanes name shelf basis
+        → IsWholeInput input bytes → Reads bytes lanes → IsGivenBasis IsBasis lanes name shelf basis
         → Does g old new words auditors input output shelf InputStays ShelfStays ending → Told lanes basis (status_of ending)
     by_words lanes basis auditors name bytes words input shelf InputStays ShelfStays ending asked whole reads given (inl (mode, for, ends)) =
         by_script lanes basis auditors name bytes input shelf ShelfStays ending whole reads given
@@ -310,7 +311,7 @@ module _ {D : Type 0} (g : Ghosts D) (old new : D) (output : Stream) where
     pub headline : (lanes : List Lane) (basis : List Dated) (auditors : List Auditor) (name bytes : List ℕ) (words : List (String Global))
         (input : Input) (shelf : Shelving) (InputStays ShelfStays : Type 0) (status : ℕ)
         → Obeys g old new words auditors input output shelf InputStays ShelfStays status → AskForRun words name
-        → IsWholeInput input bytes → Reads bytes lanes → IsGivenBasis lanes name shelf basis → Told lanes basis status
+        → IsWholeInput input bytes → Reads bytes lanes → IsGivenBasis IsBasis lanes name shelf basis → Told lanes basis status
     headline lanes basis auditors name bytes words input shelf InputStays ShelfStays status obeys asked whole reads given =
         subst (λ (s : ℕ). Told lanes basis s) (sym obeys.exits)
         (by_words lanes basis auditors name bytes words input shelf InputStays ShelfStays obeys.ending asked whole reads given obeys.does)

@@ -8,3 +8,4 @@ pub mod ReasonSteps
 pub mod BooksSteps
 pub mod KeptRunLaws
 pub mod WorkedBoth
+pub mod WorkedRun

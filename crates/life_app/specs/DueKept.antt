@@ -6,6 +6,7 @@ use Rattle.policy_types.specs.declared.command.Command.{Command}
 use Rattle.office_state.specs.Journals.{Opens, OpensToNone, IsShown}
 use Rattle.office_state.specs.declared.faults.StartCause.{StartCause}
 use Rattle.program_endings.specs.Refusals.{SaysWhy}
+use Rattle.program_endings.specs.Status.{status_of}
 use Rattle.program_endings.specs.Writing.{Stream}
 use Rattle.program_endings.specs.declared.ending.Ending.{Ending}
 use Rattle.program_endings.specs.declared.ending.Ending.TheVariants.{Done, BadJournal, WriteFault, DiskFault, NoMemory}
@@ -39,3 +40,8 @@ HasReasonOfBoth g e disks output WriteFault = Rose output.faults_before output.f
 HasReasonOfBoth g e disks output DiskFault = HasOneFailed g e disks
 HasReasonOfBoth g e disks output NoMemory = Unit {0}
 HasReasonOfBoth _ _ _ _ _ = ⊥
+
+-- the status is that of an ending for which there is a reason
+abbrev pub IsReasonedOfBoth : {D E : Type 0} → Ghosts D → Ghosts E → TwoDisks D E → Stream → ℕ → Type 0
+IsReasonedOfBoth g e disks output status =
+    (ending : Ending) × (status ≡ status_of ending) × HasReasonOfBoth g e disks output ending

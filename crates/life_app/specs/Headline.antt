@@ -1,11 +1,11 @@
 -- What is promised of a script's run, in few words: its transcript is one legal history, in which each lane's lines stand
 -- once, in order; its valuations enclose the exact reserves; and what a crash leaves. Which file opens to which commands is
--- a parameter: all that is asked of it is that a file opens to one list of commands at most, and an empty file to none.
+-- a parameter: all that is asked of it is that a file opens to one list of commands at most, and an empty file to none. So is
+-- which files make which basis under a name: they make one at most.
 use Rattle.std.specs.Prelude.{◌≡◌, ◌≢◌, ◌⊎◌, ℕ, ℤ, ◌≤◌, ◌<ℤ◌, All, List, [], ◌∷◌, ◌++◌, nat_eq, true, false, take, Result, Ok, Err}
 use Rattle.std.specs.Io.KnownBytes.{Appends}
 use Rattle.std.specs.List.{AllByRecursion, AllZip, Contains, IsDistinct, flat_map}
 use Rattle.basis_book.specs.Dated.{Dated, IsPicked}
-use Rattle.basis_shelf.specs.Bases.{IsBasis}
 use Rattle.outside_io.specs.Shelves.{Files}
 use Rattle.outside_io.specs.declared.disks.Disk.{Ghosts}
 use Rattle.plan_benefits.specs.Shapes.{shape_of}
@@ -151,7 +151,7 @@ pub record IsPromisedFromStart {D : Type 0} (g : Ghosts D) (Opens : List ℕ →
 
 -- the basis that a run of these lanes is given: where a line asks for values, files that the shelf's answers agree with make
 -- it under this name, and else it is none
-abbrev pub IsGivenBasis : List Lane → List ℕ → Shelving → List Dated → Type 0
-IsGivenBasis lanes name shelf basis =
+abbrev pub IsGivenBasis : (Files → List ℕ → List Dated → Type 0) → List Lane → List ℕ → Shelving → List Dated → Type 0
+IsGivenBasis Makes lanes name shelf basis =
     ((asks_for_values lanes ≡ false) × (basis ≡ []))
-    ⊎ ((asks_for_values lanes ≡ true) × ((files : Files) × shelf.Agrees files × IsBasis files name basis))
+    ⊎ ((asks_for_values lanes ≡ true) × ((files : Files) × shelf.Agrees files × Makes files name basis))

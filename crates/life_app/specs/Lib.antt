@@ -11,4 +11,5 @@ pub mod Runs
 pub mod KeptRuns
 pub mod Worked
 pub mod WorkedKept
+pub mod WorkedRun
 pub mod inside

@@ -7,7 +7,7 @@ ghost use Rattle.program_endings.specs.Status.{status_of};
 ghost use Rattle.program_endings.specs.Writing.{between, input_between, shelf_between};
 ghost use Rattle.program_endings.specs.declared.ending.Ending.{Ending as AnEnding};
 ghost use Rattle.life_app.specs.Due.{IsDueEnding};
-ghost use Rattle.life_app.specs.DueKept.{IsDueOfBoth};
+ghost use Rattle.life_app.specs.DueKept.{IsDueOfBoth, IsReasonedOfBoth};
 ghost use Rattle.life_app.specs.Needs.{filing_between};
 ghost use Rattle.life_app.specs.ObeysKept.{AskForBoth, ObeysKept};
 ghost use Rattle.life_app.specs.Reasons.{IsReasoned};
@@ -79,7 +79,9 @@ pub fn life_kept<
         (shelf_between H.faults H.agrees shelf.old shelf.new) (filing_between D.Disk disk result.disk) ending
         → (result.status ≡ status_of ending) ⊎ (result.status ≡ 9) }
 
-    // Where they do, what is due by both disks comes about, but for want of memory.
+    // Where they do, each status has its reason too, and what is due by both disks comes about, but for want of memory.
+    ensures reason_both { AskForBoth words.now → IsReasonedOfBoth D.Disk E.Disk (ended_disks disk second result)
+        (between K.faults K.written output.old output.new) result.status }
     ensures due_both { (ending : AnEnding) → AskForBoth words.now
         → IsDueOfBoth D.Disk E.Disk (ended_disks disk second result) (between K.faults K.written output.old output.new) ending
         → (result.status ≡ status_of ending) ⊎ (result.status ≡ 9) }

@@ -6,6 +6,7 @@ mod laws;
 mod program;
 mod promise;
 pub mod worked;
+pub mod worked_run;
 
 pub use kept::{EndedKept, life_kept};
 pub use laws::{

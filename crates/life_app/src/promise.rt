@@ -1,9 +1,11 @@
 // What the program promises of a script's run, as a function that does nothing.
 ghost use Rattle.std.specs.Prelude.{◌≡◌, ◌⊎◌, ℕ, List, [], String};
 ghost use Rattle.std.specs.Global.{Global};
+ghost use Rattle.outside_io.specs.Shelves.{Files};
 ghost use Rattle.policy_types.specs.declared.command.Command.{Command};
 ghost use Rattle.policy_types.specs.declared.script.Lane.{Lane};
 ghost use Rattle.basis_book.specs.Dated.{Dated};
+ghost use Rattle.basis_shelf.specs.Bases.{IsBasis};
 ghost use Rattle.command_csv.specs.Reads.{Reads};
 ghost use Rattle.office_state.specs.Journals.{Opens};
 ghost use Rattle.program_endings.specs.Writing.{IsWholeInput, between, input_between, shelf_between};
@@ -16,7 +18,7 @@ use outside_io::{Disk, Shelf, Sink, Source};
 
 /// Where the program obeys words that ask to run a script, and the input gave that of these lanes, it ran them as is
 /// promised, with the basis that it was given, or answered none of them. A file opens to one list of commands at most, and
-/// an empty one to none.
+/// an empty one to none; and files make one basis at most under a name.
 pub fn headline<S: Source, K: Sink, H: Shelf, D: Disk>()
     ensures promised { (old new : D) (input read : S) (output written : K) (shelf asked : H)
         (words : List (String Global)) (auditors : List Auditor) (status : ℕ) (name bytes : List ℕ)
@@ -25,10 +27,12 @@ pub fn headline<S: Source, K: Sink, H: Shelf, D: Disk>()
         (between K.faults K.written output written) (shelf_between H.faults H.agrees shelf asked)
         (read ≡ input) (asked ≡ shelf) status
         → AskForRun words name → IsWholeInput (input_between S.faults S.left S.given S.ended input read) bytes
-        → Reads bytes lanes → IsGivenBasis lanes name (shelf_between H.faults H.agrees shelf asked) basis
+        → Reads bytes lanes → IsGivenBasis IsBasis lanes name (shelf_between H.faults H.agrees shelf asked) basis
         → IsPromised D.Disk Opens old new lanes basis (between K.faults K.written output written) status
         ⊎ IsUnrun D.Disk Opens old new (between K.faults K.written output written) status }
     ensures one { (bytes : List ℕ) (commands others : List Command) → Opens bytes commands → Opens bytes others
         → commands ≡ others }
     ensures empty { Opens [] [] }
+    ensures one_basis { (files : Files) (name : List ℕ) (basis other : List Dated) → IsBasis files name basis
+        → IsBasis files name other → basis ≡ other }
 {}

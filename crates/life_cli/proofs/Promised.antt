@@ -3,10 +3,10 @@ use Rattle.std.proofs.Common.{◌≡◌, ◌⊎◌, inl, inr, ℕ, List, map, st
 use Rattle.std.specs.Global.{Global}
 use Rattle.outside_io.specs.declared.disks.Disk.{Ghosts}
 use Rattle.basis_book.specs.Dated.{Dated}
+use Rattle.basis_shelf.specs.Bases.{IsBasis}
 use Rattle.command_csv.specs.Reads.{Reads}
 use Rattle.kept_books.specs.TwoDisks.{TwoDisks}
 use Rattle.life_args.proofs.Answering.{ask_once}
-use Rattle.life_args.specs.declared.mode.Mode.{Mode}
 use Rattle.life_args.specs.declared.mode.Mode.TheVariants.{Run, State, Checkpoint}
 use Rattle.policy_types.specs.declared.script.Lane.{Lane}
 use Rattle.office_state.specs.Journals.{Opens}
@@ -29,7 +29,7 @@ module _ {D E : Type 0} (g : Ghosts D) (e : Ghosts E)
     (output : Stream) (shelf : Shelving) (A B : Type 0) (status : ℕ) where
   over_both : (disks : TwoDisks D E) (auditors : List Auditor)
       → ObeysKept g e disks words auditors input output shelf A B status → AskForRun words name
-      → IsWholeInput input script → Reads script lanes → IsGivenBasis lanes name shelf basis
+      → IsWholeInput input script → Reads script lanes → IsGivenBasis IsBasis lanes name shelf basis
       → IsPromised g Opens disks.old disks.new lanes basis output status ⊎ IsUnrun g Opens disks.old disks.new output status
   over_both disks auditors (inl both) run whole reads given = absurd (not_of_both words name run (elim both.ends [
     | inl books ↦ inl books.0
@@ -45,7 +45,7 @@ module _ {D E : Type 0} (g : Ghosts D) (e : Ghosts E) (words : List (String Glob
   pub promised : (bytes saved : List ℕ) (new : D) (kept : E)
       → ObeysFromStart g e bytes saved new kept words input output shelf A B status
       → ((disk : D) (image : List ℕ) → g.honest disk → g.left_since disk (g.clock disk) image → g.may_leave disk image)
-      → AskForRun words name → IsWholeInput input script → Reads script lanes → IsGivenBasis lanes name shelf basis
+      → AskForRun words name → IsWholeInput input script → Reads script lanes → IsGivenBasis IsBasis lanes name shelf basis
       → IsPromisedFromStart g Opens bytes new lanes basis output status
   promised bytes saved new kept obeys only_now run whole reads given = record {
     old = obeys.old;

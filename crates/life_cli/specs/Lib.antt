@@ -1,2 +1,3 @@
 pub mod Shipped
 pub mod Completing
+pub mod WorkedShipped

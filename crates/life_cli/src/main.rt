@@ -4,6 +4,7 @@
 mod named_files;
 mod shipped;
 mod words;
+mod worked;
 
 use outside_io::{AnyFile, StdSink, write_all};
 use shipped::{leave, run_shipped};

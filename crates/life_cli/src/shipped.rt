@@ -4,6 +4,7 @@ ghost use Rattle.std.specs.Process.{exit_status};
 ghost use Rattle.outside_io.specs.Shelves.{Files};
 ghost use Rattle.policy_types.specs.declared.script.Lane.{Lane};
 ghost use Rattle.basis_book.specs.Dated.{Dated};
+ghost use Rattle.basis_shelf.specs.Bases.{IsBasis};
 ghost use Rattle.command_csv.specs.Reads.{Reads};
 ghost use Rattle.office_state.specs.Journals.{Opens};
 ghost use Rattle.program_endings.specs.Status.{status_of};
@@ -84,7 +85,7 @@ pub fn run_shipped<R: Threads + Wait + Sync, F: FoundFile, C: FoundFile>(
         → IsWholeInput (input_from_start (⟦<Input as Source>⟧.faults result.input) (⟦<Input as Source>⟧.given result.input)
         (⟦<Input as Source>⟧.ended result.input)) script
         → Reads script lanes
-        → IsGivenBasis lanes name
+        → IsGivenBasis IsBasis lanes name
         (shelf_from_start (⟦<Folder as Shelf>⟧.faults result.shelf) (⟦<Folder as Shelf>⟧.agrees result.shelf)) basis
         → IsPromisedFromStart ⟦<FileDisk<HostRuntime, JournalOf<F>> as Disk>⟧ Opens F.bytes result.disk lanes basis
         (output_from_start (⟦<Output as Sink>⟧.faults result.output) (⟦<Output as Sink>⟧.written result.output))

@@ -2,7 +2,6 @@
 use Rattle.std.specs.Prelude.{◌≡◌, List, Option, Some, None, Result, Ok, Err, String}
 use Rattle.std.specs.Global.{Global}
 use Rattle.policy_types.specs.declared.watcher.NoMemory.{NoMemory as Lack}
-use Rattle.life_args.specs.Words.{AskFor}
 use Rattle.life_args.specs.declared.mode.Mode.{Mode}
 use Rattle.life_args.specs.declared.mode.Mode.TheVariants.{State, Checkpoint as ACheckpoint}
 use Rattle.kept_books.specs.TwoDisks.{TwoDisks}

@@ -1,4 +1,5 @@
 use Rattle.std.proofs.Common.{inl, inr, lit≤, refl}
+use Rattle.basis_shelf.proofs.OneBasis.{one_basis}
 use Rattle.office_state.proofs.JournalLaws.{opens_to_one}
 use Rattle.life_app.proofs.HeadlineLaws.{headline}
 use Rattle.life_app.proofs.promise.headline.Goals as goal
@@ -10,4 +11,5 @@ returns g c = record {
       words _ _ _ _ status obeys run whole reads given;
   one = opens_to_one;
   empty = inr (refl, inl (lit≤ tt));
+  one_basis = one_basis;
 }

@@ -1,0 +1,148 @@
+"""What a statement asks for, and what it shows: the definitions that it names, by the side of an arrow on which they stand.
+
+Whoever holds to `A → B` shows B, and asks for A. In `A → ⊥` and `¬ A` it is A that is asked for. A record shows what its
+fields show; a definition by several clauses, and each side of `⊎`, are choices: one of them is enough.
+"""
+
+import re
+
+import definitions as known
+
+OPEN, CLOSE = "({⦃", ")}⦄"
+CLAUSE = re.compile(r"\b(requires|ensures)\b(?:\s+\w+)?\s*\{")
+BINDER = re.compile(r"^[^():→×⊎{}]+ : (.*)$", re.S)
+LAMBDA = re.compile(r"^λ[^.]*(?:\([^)]*\))?[^.]*\. (.*)$", re.S)
+NEGATION = re.compile(r"^¬\s*(.*)$", re.S)
+
+
+def bare(text: str) -> str:
+    """Without comments."""
+    return "\n".join(line.split(" -- ")[0] for line in text.splitlines() if not line.strip().startswith(("--", "//")))
+
+
+def split(text: str, marks: str) -> list[str]:
+    """At these marks, but for those in brackets."""
+    parts, depth, begun = [], 0, 0
+    for place, letter in enumerate(text):
+        if letter in OPEN:
+            depth += 1
+        elif letter in CLOSE:
+            depth -= 1
+        elif letter in marks and depth == 0:
+            parts.append(text[begun:place])
+            begun = place + 1
+    return parts + [text[begun:]]
+
+
+def groups(text: str) -> tuple[str, list[str]]:
+    """What stands outside of brackets, and what is in each of the outermost ones."""
+    outside, inside, depth, begun = [], [], 0, 0
+    for place, letter in enumerate(text):
+        if letter in OPEN:
+            depth += 1
+            if depth == 1:
+                begun = place + 1
+        elif letter in CLOSE:
+            depth -= 1
+            if depth == 0:
+                inside.append(text[begun:place])
+                outside.append(" ")
+        elif depth == 0:
+            outside.append(letter)
+    return "".join(outside), inside
+
+
+class Sides:
+    """The words of a statement that are shown for sure, those that may be, and those that are asked for."""
+
+    def __init__(self) -> None:
+        self.sure, self.choice, self.asked = set(), set(), set()
+
+    def read(self, text: str, shown: bool = True, sure: bool = True) -> "Sides":
+        parts = split(text, "→")
+        for part in parts[:-1]:
+            self.read_part(part, not shown, sure)
+        self.read_part(parts[-1], shown, sure)
+        return self
+
+    def read_part(self, text: str, shown: bool, sure: bool) -> None:
+        sides = split(text, "⊎")
+        for side in sides:
+            for factor in split(side, "×"):
+                self.read_factor(factor.strip(), shown, sure and len(sides) == 1)
+
+    def read_factor(self, text: str, shown: bool, sure: bool) -> None:
+        negation = NEGATION.match(text)
+        if negation:
+            self.read_part(negation.group(1), not shown, sure)
+            return
+        outside, inside = groups(text)
+        into = (self.sure if sure else self.choice) if shown else self.asked
+        into.update(known.WORD.findall(outside))
+        for group in inside:
+            for form in (BINDER, LAMBDA):
+                found = form.match(group.strip())
+                if found:
+                    group = found.group(1)
+            self.read(group, shown, sure)
+
+
+def fields_of(lines: list[str]) -> list[str]:
+    """The types of a record's fields, each with the lines that go on with it."""
+    fields = []
+    for line in lines:
+        begins = re.match(r"\s+pub [^\s:]+ : (.*)$", line)
+        if begins:
+            fields.append(begins.group(1))
+        elif fields:
+            fields[-1] += "\n" + line
+    return fields
+
+
+def clauses_of(name: str, lines: list[str]) -> list[str]:
+    """The right sides of a definition's clauses."""
+    clauses = []
+    for line in lines:
+        begins = re.match(r"\s*" + re.escape(name) + r"\b(?!\s*:)(.*)$", line)
+        if begins and " =" in line:
+            clauses.append(line[line.index(" =") + 2:])
+        elif clauses:
+            clauses[-1] += "\n" + line
+    return clauses
+
+
+def body_of(one: known.Definition) -> str:
+    """What a definition says: a record's fields, or its clauses."""
+    lines = bare("\n".join(one.lines)).splitlines()
+    if re.match(r"\s*pub record", lines[0]):
+        return "\n".join(fields_of(lines))
+    return "\n".join(clauses_of(one.name, lines))
+
+
+def sides_of(one: known.Definition) -> Sides:
+    """What a definition shows and asks for. Of several clauses each is a choice."""
+    lines = bare("\n".join(one.lines)).splitlines()
+    sides = Sides()
+    if re.match(r"\s*pub record", lines[0]):
+        for field in fields_of(lines):
+            sides.read(field)
+        return sides
+    clauses = clauses_of(one.name, lines)
+    for clause in clauses:
+        sides.read(clause, True, len(clauses) == 1)
+    return sides
+
+
+def contracts_of(text: str) -> list[tuple[bool, str]]:
+    """The clauses of the public functions of a file: whether each is shown, and what it says."""
+    found = []
+    for function in re.split(r"\n(?=pub fn |    pub fn |fn |impl |pub struct |struct |#\[)", bare(text)):
+        if not function.lstrip().startswith("pub fn "):
+            continue
+        for clause in CLAUSE.finditer(function):
+            depth, place = 1, clause.end()
+            while depth:
+                depth += {"{": 1, "}": -1}.get(function[place], 0)
+                place += 1
+            found.append((clause.group(1) == "ensures", function[clause.end():place - 1]))
+    return found

@@ -1,0 +1,98 @@
+-- Worked cases have what is due.
+use Rattle.std.proofs.Common.{◌≤◌, [], ◌∷◌, refl, inr, lit≤, arith, codes, pos, None, Some}
+use Rattle.std.proofs.lemmas.Int.{ints}
+use Rattle.std.proofs.lemmas.List.Elements.{All-nil}
+use Rattle.basis_shelf.specs.Worked.{BasisOfOneRow, FirstBadFiles, certain_death, one_row, shelf_with}
+use Rattle.command_csv.specs.Worked.{NoClerk, ValueLine}
+use Rattle.life_args.specs.declared.mode.Mode.TheVariants.{Run, State, Value}
+use Rattle.life_args.specs.Pieces.{bare}
+use Rattle.policy_types.specs.declared.entry.At.TheVariants.{Now}
+use Rattle.policy_value.specs.declared.worth.Measure.TheVariants.{Terminal}
+use Rattle.life_args.proofs.WorkedWords.{asks, asks_nothing, new_year}
+use Rattle.office_state.specs.declared.faults.StartCause.TheVariants.{NotAJournal}
+use Rattle.office_state.specs.Journals.{IsShown}
+use Rattle.office_state.specs.Worked.{hand_issue}
+use Rattle.office_state.proofs.JournalLaws.{shown_opens_to_none}
+use Rattle.life_app.specs.Due.{HasBasis, HasJournal, HasNoBasis, HasNoJournal, HasNoScript, HasScript, IsHeld}
+use Rattle.program_endings.specs.declared.ending.Ending.TheVariants.{Done}
+use Rattle.life_app.proofs.ProgramSteps.{due}
+use Rattle.life_app.specs.WorkedRun.Calls.{called, cut_disk, last_disk}
+use Rattle.life_app.specs.WorkedRun.Promise.{given_script, output_of, premium_lanes, premium_script, premium_text, shelf_that_told, two_auditors}
+use Rattle.life_app.specs.WorkedRun.Due.{BasisByHand, DueByHand, DueOfTheRun, NeedsByHand, basisless_shelf, cut_filing, faulty_script, letters, letters_filing, stocked_shelf, value_lanes, value_script}
+use Rattle.life_app.proofs.WorkedRun.Promise.{asks_run, did, reads_premium}
+use Rattle.life_app.proofs.WorkedRun.Row.{honest_last, second_left}
+
+pub none_failed : IsHeld 0 0
+none_failed rose = let no : 1 ≤ 0 = rose in omega (arith, no)
+
+script : HasScript given_script premium_lanes
+script = record { bytes = premium_script; whole = inr (refl, tt); read = (lit≤ tt, reads_premium); held = none_failed }
+
+journal : HasJournal cut_filing (hand_issue ∷ [])
+journal = record { honest = honest_last; opens = second_left.opened honest_last; held = none_failed }
+
+module _ (clerk : NoClerk) (line : ValueLine) (basis : BasisOfOneRow) (bad : FirstBadFiles) (shown : IsShown letters NotAJournal) where
+  values : HasScript value_script value_lanes
+  values = record { bytes = codes "1,value,2020-01-01,now,64\n"; whole = inr (refl, tt); read = (lit≤ tt, line); held = none_failed }
+
+  no_script : HasNoScript faulty_script
+  no_script = record { unreadable = inr (codes "9,lapse,1,2020-01-01", inr (refl, tt), inr (1, (1, clerk))); held = none_failed }
+
+  has_basis : HasBasis stocked_shelf (codes "b.csv")
+  has_basis = record { files = shelf_with one_row (Some certain_death); agree = ((tt, refl), refl); basis = _; is = basis; held = none_failed }
+
+  no_basis : HasNoBasis basisless_shelf (codes "a.csv")
+  no_basis = record { files = shelf_with one_row None; agree = (tt, refl); bad = _; first = bad.0; held = none_failed }
+
+  no_journal : HasNoJournal letters_filing
+  no_journal = record { honest = ((((tt, tt), refl), refl), refl); none = shown_opens_to_none letters NotAJournal tt shown; held = none_failed }
+
+  pub needs_by_hand : NeedsByHand
+  needs_by_hand = ((premium_lanes, (lit≤ tt, reads_premium)), inr (1, (1, clerk)), script, values, no_script, has_basis, no_basis, journal, no_journal)
+
+  pub basis_by_hand : BasisByHand
+  basis_by_hand = (
+    _,
+    inr (refl, (shelf_with one_row (Some certain_death), ((tt, refl), refl), basis)),
+    record { before = []; after = []; split = refl; place = refl; begun = omega (arith, ints); later = All-nil _ },
+  )
+
+  pub due_by_hand : DueByHand
+  due_by_hand = (
+    (premium_lanes, script, λ asks. cc),
+    (hand_issue ∷ [], journal),
+    λ words same. (Run (codes "basis.csv"), asks_run words same, (premium_lanes, script, λ asks. cc), (hand_issue ∷ [], journal), none_failed),
+    λ words same. (State None, asks _ (State None) (refl, record { pieces = []; spells = refl; only = tt; id_is = refl }) words same, tt, no_journal),
+    λ words same. asks_nothing [] (λ mode are. are) words same,
+    λ words same. (codes "basis.csv", asks_run words same, no_script),
+    (value_lanes, values, refl, no_basis),
+    no_basis,
+    has_basis,
+    (hand_issue ∷ [], journal, lit≤ tt),
+    no_journal,
+    λ words same. (
+      1,
+      (
+        Terminal,
+        asks _ (Value (pos 18628) Now 1 (codes "basis.csv") Terminal) (
+          refl,
+          record {
+            pieces = bare (codes "2021-01-01") ∷ [];
+            spells = refl;
+            only = tt;
+            day = codes "2021-01-01";
+            alone = refl;
+            day_is = new_year;
+            position_is = refl;
+            workers_are = refl;
+            basis_is = refl;
+            measure_is = refl;
+          },
+        ) words same,
+      ),
+    ),
+  )
+
+pub due_of_the_run : DueOfTheRun
+due_of_the_run words same ending is = due called cut_disk last_disk two_auditors words given_script (output_of premium_text) (shelf_that_told []) ⊥ (Unit {0}) Done
+    (did words same) (λ rose. absurd (omega (arith, rose))) ending is

@@ -1,0 +1,197 @@
+-- What the laws and the contract conclude holds of small values.
+use Rattle.std.proofs.Common.{◌≡◌, List, [], ◌∷◌, ◌++◌, refl, inl, inr, lit≤, arith, codes, pos, String, Global}
+use Rattle.std.specs.Fmt.{digits}
+use Rattle.std.specs.List.{AllZip}
+use Rattle.std.specs.Prelude.{◌<ℤ◌}
+use Rattle.std.proofs.lemmas.Int.{ints}
+use Rattle.std.proofs.lemmas.List.Elements.{All-from_recursion}
+use Rattle.life_dates.specs.Anniversary.{anniversary_of}
+use Rattle.life_dates.specs.Calendar.{day_number, date_of, date_at, year_of, month_of, days_before, days_before_year, days_of_months}
+use Rattle.basis_shelf.specs.Lines.{bad_basis_text}
+use Rattle.basis_shelf.specs.declared.fault.BasisWord.TheVariants.{Absent}
+use Rattle.basis_book.specs.Dated.{Dated, IsPicked}
+use Rattle.book_value.specs.Worked.Valued.{five_endowments, from_2000, from_2020}
+use Rattle.book_value.proofs.WorkedValuation.{first_row, second_row, third_row, fourth_row, fifth_row}
+use Rattle.life_dates.specs.DayText.{day_text}
+use Rattle.plan_benefits.specs.declared.fault.NotValued.TheVariants.{BelowTable, NoBasis}
+use Rattle.policy_value.specs.declared.worth.Worth.TheVariants.{Bounds, Word}
+use Rattle.report_text.specs.Block.{block_text, row_text, total_text, heading_text}
+use Rattle.command_csv.specs.Worked.{ValueLine}
+use Rattle.life_args.specs.Pieces.{bare, joined}
+use Rattle.life_args.specs.declared.mode.Mode.TheVariants.{Load, Project, Value}
+use Rattle.life_args.proofs.WorkedWords.{asks, new_year}
+use Rattle.office_state.specs.Journals.{Opens}
+use Rattle.office_state.specs.Worked.{hand_issue, hand_premium}
+use Rattle.policy_machine.specs.Book.{book}
+use Rattle.policy_types.specs.declared.entry.At.TheVariants.{Position}
+use Rattle.policy_types.specs.declared.policy.Status.TheVariants.{InForce, PaidUp}
+use Rattle.policy_value.specs.Rows.{IsInsured}
+use Rattle.policy_value.specs.declared.worth.Measure.TheVariants.{Terminal}
+use Rattle.policy_value.specs.declared.worth.Row.{Row}
+use Rattle.snapshot_value.specs.Valuing.{IsValuedRow}
+use Rattle.program_endings.specs.declared.ending.Ending.TheVariants.{Done}
+use Rattle.script_run.specs.Running.{ReadsForValues}
+use Rattle.life_app.specs.Headline.{IsEnclosingRow, IsEnclosingText, IsUnrun}
+use Rattle.life_app.specs.Needs.{HasBadFile}
+use Rattle.life_app.specs.WorkedRun.Calls.{called, cut_disk}
+use Rattle.life_app.specs.WorkedRun.Due.{value_lanes, value_script}
+use Rattle.life_app.specs.WorkedRun.Promise.{AreTyped, output_of}
+use Rattle.life_app.specs.WorkedRun.Told.{EnclosedByHand, EndedByHand, ReasonsByHand, absent_basis, first_endowment, first_value, five_text, two_bases, unstocked_shelf}
+use Rattle.life_app.proofs.HeadlineLaws.{each_pair, enclosing}
+use Rattle.life_app.proofs.WorkedRun.Promise.{asks_run}
+use Rattle.life_app.proofs.WorkedRun.Row.{honest_last, second_left}
+
+unrun : IsUnrun called Opens cut_disk cut_disk (output_of (codes "nomemory" ++ 10 ∷ [])) 9
+unrun = record { failed = λ never. cc; line = (_, inl refl); since = λ honest image left. inl left.1 }
+
+pub ended_by_hand : EndedByHand
+ended_by_hand = (
+  record { front = (hand_premium ∷ [], refl); one = tt; answered = ([], refl) },
+  record { before = []; caller = 1; count = 4; after = []; turns = refl; then = refl },
+  unrun,
+)
+
+module _ (line : ValueLine) where
+  reads_values : ReadsForValues value_script
+  reads_values = record {
+    bytes = codes "1,value,2020-01-01,now,64\n";
+    gave = record { given = refl; ended = tt; left = tt; end = tt };
+    lanes = value_lanes;
+    read = (lit≤ tt, line);
+    asks = refl;
+  }
+
+  bad_file : (words : List (String Global)) → AreTyped words (codes "run" ∷ []) → HasBadFile words value_script unstocked_shelf (output_of absent_basis)
+  unfolding digits bad_basis_text
+  bad_file words same = (
+    codes "basis.csv",
+    (
+      record { name = codes "basis.csv"; place = 0; word = Absent },
+      inr (inl (asks_run words same, reads_values)),
+      (λ files agree. inl (refl, (agree.1, refl))),
+      inl refl,
+    ),
+  )
+
+  pub reasons_by_hand : ReasonsByHand
+  unfolding digits
+  reasons_by_hand = (
+    λ words same. ((Done, refl, tt), inr (inl (asks_run words same, reads_values)), bad_file words same, bad_file words same),
+    reads_values,
+    λ words same. (
+      pos 18628,
+      (
+        5,
+        (
+          codes "basis.csv",
+          (
+            1,
+            (
+              Terminal,
+              asks _ (Value (pos 18628) (Position 5) 1 (codes "basis.csv") Terminal) (
+                refl,
+                record {
+                  pieces = bare (codes "2021-01-01") ∷ joined (codes "at") (codes "5") ∷ [];
+                  spells = refl;
+                  only = (inl refl, tt);
+                  day = codes "2021-01-01";
+                  alone = refl;
+                  day_is = new_year;
+                  position_is = (lit≤ tt, refl);
+                  workers_are = refl;
+                  basis_is = refl;
+                  measure_is = refl;
+                },
+              ) words same,
+            ),
+          ),
+          (λ honest. (hand_issue ∷ [], second_left.opened honest_last, lit≤ tt)),
+        ),
+      ),
+    ),
+    λ words same. (
+      1,
+      asks _ (Project (pos 18628) 1 1 (codes "basis.csv")) (
+        refl,
+        record {
+          pieces = bare (codes "2021-01-01") ∷ bare (codes "1") ∷ [];
+          spells = refl;
+          only = tt;
+          day = codes "2021-01-01";
+          alone = refl;
+          day_is = new_year;
+          years_in = (lit≤ tt, lit≤ tt);
+          workers_are = refl;
+          basis_is = refl;
+        },
+      ) words same,
+    ),
+    λ words same. (
+      7,
+      (
+        5,
+        (
+          2,
+          (
+            1,
+            asks _ (Load 7 5 2 1) (
+              refl,
+              record {
+                spells = refl;
+                seed_in = lit≤ tt;
+                count_in = (lit≤ tt, lit≤ tt);
+                lanes_in = (lit≤ tt, lit≤ tt);
+                workers_in = (lit≤ tt, lit≤ tt);
+              },
+            ) words same,
+          ),
+        ),
+      ),
+    ),
+    tt,
+    (Done, refl, tt),
+  )
+
+-- ---- a valuation
+
+rows : List Row
+rows =
+    (record { id = 7001; status = InForce; t = 1; worth = Bounds 12722 12723 })
+    ∷ (record { id = 7002; status = InForce; t = 0; worth = Word BelowTable })
+    ∷ (record { id = 7003; status = InForce; t = 0; worth = Word NoBasis })
+    ∷ (record { id = 7004; status = InForce; t = 0; worth = Bounds 0 0 })
+    ∷ (record { id = 7005; status = PaidUp; t = 1; worth = Bounds 30000 30000 }) ∷ []
+
+each_valued : AllZip (IsValuedRow two_bases (pos 18628) Terminal) (book five_endowments) rows
+unfolding rows anniversary_of day_number date_of date_at year_of month_of days_before days_before_year days_of_months
+each_valued = (first_row, (second_row, (third_row, (fourth_row, (fifth_row, tt)))))
+
+block : five_text ≡ block_text 0 (pos 18628) 8 Terminal rows
+unfolding rows row_text heading_text total_text day_text date_of date_at year_of month_of days_before days_before_year days_of_months digits
+block = refl
+
+text : IsEnclosingText 0 (pos 18628) five_endowments two_bases 8 five_text
+text = (
+  rows,
+  each_pair (IsValuedRow two_bases (pos 18628) Terminal) (IsEnclosingRow two_bases (pos 18628)) (enclosing two_bases (pos 18628)) (book five_endowments) rows each_valued,
+  block,
+)
+
+row : IsEnclosingRow two_bases (pos 18628) first_endowment first_value
+row = enclosing two_bases (pos 18628) first_endowment first_value first_row
+
+insured : IsInsured first_endowment (pos 18628)
+insured = (inl refl, omega (arith, ints))
+
+picked : IsPicked two_bases (pos 18262) 0 from_2000
+picked = record {
+  before = [];
+  after = from_2020 ∷ [];
+  split = refl;
+  place = refl;
+  begun = omega (arith, ints);
+  later = All-from_recursion (λ (other : Dated). pos 18262 <ℤ other.from_day) (from_2020 ∷ []) (omega (arith, ints), tt);
+}
+
+pub enclosed_by_hand : EnclosedByHand
+enclosed_by_hand = (text, row, insured, picked, row.insured insured 0 from_2000 picked)

@@ -1,0 +1,14 @@
+use Rattle.life_app.proofs.WorkedRun.Promise.{given_by_hand, headline_by_hand, obeyed_by_hand, promised_by_hand}
+use Rattle.life_app.proofs.worked_run.promise_by_hand.Goals as goal
+
+pub returns-clause-given : goal.returns-clause-given
+returns-clause-given c = given_by_hand
+
+pub returns-clause-obeyed : goal.returns-clause-obeyed
+returns-clause-obeyed c = obeyed_by_hand
+
+pub returns-clause-headline : goal.returns-clause-headline
+returns-clause-headline c = headline_by_hand
+
+pub returns-clause-promised : goal.returns-clause-promised
+returns-clause-promised c = promised_by_hand

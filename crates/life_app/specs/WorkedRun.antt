@@ -1,0 +1,6 @@
+pub mod Calls
+pub mod Runs
+pub mod Promise
+pub mod Due
+pub mod Both
+pub mod Told

@@ -1,0 +1,146 @@
+-- The worked run over both disks: the cut run, then one that saves the books and is cut once they are saved, and the premium
+use Rattle.std.specs.Prelude.{◌≡◌, ◌⊎◌, ℕ, true, List, [], ◌∷◌, ◌++◌, Some, codes, length, String}
+use Rattle.std.specs.Global.{Global}
+use Rattle.checkpoint_store.specs.Checkpoints.{CheckpointBytes}
+use Rattle.checkpoint_store.specs.Spelling.{snapshot_bytes}
+use Rattle.checkpoint_store.specs.Worked.{issued_snapshot}
+use Rattle.outside_io.specs.FileCalls.{FileCall, Measured, Synced, file_reads}
+use Rattle.office_state.specs.Journals.{Opens}
+use Rattle.policy_types.specs.declared.command.Command.{Command}
+use Rattle.program_endings.specs.Status.{status_of}
+use Rattle.program_endings.specs.declared.ending.Ending.{Ending}
+use Rattle.program_endings.specs.declared.ending.Ending.TheVariants.{Done, Usage, BadJournal}
+use Rattle.book_state.specs.Books.{books_text}
+use Rattle.book_state.specs.Stating.{EndsState}
+use Rattle.kept_books.specs.Saved.{EndsCheckpoint}
+use Rattle.kept_books.specs.Stated.{EndsStateKept}
+use Rattle.kept_books.specs.TwoDisks.{AreTrue, IsMadeSafe, TellsTruth, TwoDisks}
+use Rattle.life_app.specs.DueKept.{AreGood, IsDueOfBoth}
+use Rattle.life_app.specs.KeptRuns.{AreRunsOfTwo, IsLeftByCall, IsRunOfTwo, IsSnapshotOfFirst, KeepsSecond, LeavesSaved, LeavesSecond, OneRunOfTwo, SavedOfFirst, SavesBooks, WasCutAfter, WasCutBefore, WasLeftOf}
+use Rattle.life_app.specs.Obeys.{EndsUnasked, SaysUnasked}
+use Rattle.life_app.specs.ObeysKept.{AskForBooks, AskForBoth, EndsByBoth, HasNoWords, ObeysByBoth, ObeysByOne, ObeysKept}
+use Rattle.life_app.specs.Words.{AskForCheckpoint}
+use Rattle.life_app.specs.WorkedRun.Due.{letters, letters_disk, no_input}
+use Rattle.life_app.specs.WorkedRun.Calls.{CalledDisk, called, cut_disk, called_disk, empty_disk, last_disk, puts, untorn}
+use Rattle.life_app.specs.WorkedRun.Promise.{AreTyped, given_script, output_of, premium_text, shelf_that_told, two_auditors}
+use Rattle.life_app.specs.WorkedRun.Runs.{both_commands, cut_run, looked_disk, second_opening, whole_run}
+
+-- an empty second file is made safe; its gate is closed, all else is written, and the gate is opened
+abbrev pub saving : List FileCall
+saving = puts 0 (1 ∷ []) (puts 1 (snapshot_bytes issued_snapshot) (puts 0 (0 ∷ []) (Measured (Some 0) ∷ Synced true ∷ [])))
+
+abbrev pub saved_disk : CalledDisk
+saved_disk = called_disk [] saving
+
+-- what it reads as then
+abbrev pub saved_file : List ℕ
+saved_file = file_reads [] untorn saving
+
+-- the disks of a call that saves the books of the cut file
+abbrev pub saving_disks : TwoDisks CalledDisk CalledDisk
+saving_disks = record { old = cut_disk; new = looked_disk; second = empty_disk; kept = saved_disk }
+
+-- those of a call that reads them, and those of one that finds letters
+abbrev pub second_disk : CalledDisk
+second_disk = called_disk saved_file []
+
+abbrev pub read_disk : CalledDisk
+read_disk = called_disk saved_file (Measured (Some (length saved_file)) ∷ Synced true ∷ [])
+
+abbrev pub stating_disks : TwoDisks CalledDisk CalledDisk
+stating_disks = record { old = cut_disk; new = looked_disk; second = second_disk; kept = read_disk }
+
+abbrev pub letters_disks : TwoDisks CalledDisk CalledDisk
+letters_disks = record { old = called_disk letters []; new = letters_disk; second = empty_disk; kept = empty_disk }
+
+-- a crash left the second file as it was
+abbrev pub cut_of_two : OneRunOfTwo CalledDisk CalledDisk
+cut_of_two = record { one = cut_run; kept = empty_disk; next_second = empty_disk }
+
+-- the books were saved, and then a crash came
+abbrev pub saved_of_two : OneRunOfTwo CalledDisk CalledDisk
+saved_of_two = record {
+  one = record { new = looked_disk; next = cut_disk; opening = second_opening; history = []; answered = [] };
+  kept = saved_disk;
+  next_second = second_disk;
+}
+
+-- the run of the premium leaves the second disk
+abbrev pub whole_of_two : OneRunOfTwo CalledDisk CalledDisk
+whole_of_two = record { one = whole_run; kept = second_disk; next_second = second_disk }
+
+abbrev pub runs_of_two : List (OneRunOfTwo CalledDisk CalledDisk)
+runs_of_two = cut_of_two ∷ saved_of_two ∷ whole_of_two ∷ []
+
+-- both disks are true where the second has no checkpoint, where it has that of the journal, and beside what is no journal
+abbrev pub TrustedByHand : Type 0
+TrustedByHand = AreTrue called called saving_disks × AreTrue called called stating_disks × AreTrue called called letters_disks
+
+-- and neither failed, so what is due is the work, or that there is no journal
+abbrev pub DueOfBothByHand : Type 0
+DueOfBothByHand = AreGood called called saving_disks × AreGood called called stating_disks
+    × IsDueOfBoth called called saving_disks (output_of (codes "checkpoint,1" ++ 10 ∷ [])) Done
+    × IsDueOfBoth called called letters_disks (output_of []) BadJournal
+
+-- `checkpoint` saved the books, and the words are obeyed
+abbrev pub SavedByHand : Type 0
+SavedByHand = EndsCheckpoint called called saving_disks (output_of (codes "checkpoint,1" ++ 10 ∷ [])) Done
+    × ((words : List (String Global)) → AreTyped words (codes "checkpoint" ∷ []) → AskForBoth words
+    × ObeysKept called called saving_disks words two_auditors no_input (output_of (codes "checkpoint,1" ++ 10 ∷ [])) (shelf_that_told []) (Unit {0}) (Unit {0}) 0)
+
+-- each run is one over both disks, and they follow one another
+abbrev pub RowOfTwoByHand : Type 0
+RowOfTwoByHand = IsRunOfTwo called called empty_disk empty_disk cut_of_two
+    × IsRunOfTwo called called cut_disk empty_disk saved_of_two
+    × IsRunOfTwo called called cut_disk second_disk whole_of_two
+    × AreRunsOfTwo called called empty_disk empty_disk runs_of_two last_disk second_disk
+    × WasCutBefore called empty_disk empty_disk
+    × SavedOfFirst [] []
+
+-- and so the call that saved them, which ended with 0, ended as is due
+abbrev pub DueOfTheSaving : Type 0
+DueOfTheSaving = (words : List (String Global)) → AreTyped words (codes "checkpoint" ∷ []) → (ending : Ending)
+    → IsDueOfBoth called called saving_disks (output_of (codes "checkpoint,1" ++ 10 ∷ [])) ending
+    → (status_of Done ≡ status_of ending) ⊎ (status_of Done ≡ 9)
+
+-- what these runs are made of
+abbrev pub PartsOfTwoByHand : Type 0
+PartsOfTwoByHand = KeepsSecond called empty_disk cut_of_two × LeavesSecond called empty_disk empty_disk × WasLeftOf called empty_disk empty_disk empty_disk
+    × SavesBooks called called cut_disk empty_disk saved_of_two × LeavesSaved called called saving_disks
+    × ((safe : IsMadeSafe called cut_disk looked_disk) × WasCutAfter called called cut_disk empty_disk saved_of_two safe)
+    × WasLeftOf called empty_disk saved_disk second_disk
+
+-- `state` writes the policy of the cut file, by the checkpoint and by the journal alone
+abbrev pub issue_books : List ℕ
+issue_books = codes "policy,7001,inforce,endowment,0,3,1000.00,400.00,2020-01-01,0,0.00" ++ 10
+    ∷ codes "balance,cash,0.00" ++ 10 ∷ codes "balance,premiums,0.00" ++ 10
+    ∷ codes "balance,incurred,0.00" ++ 10 ∷ codes "balance,payable,0.00" ++ 10 ∷ codes "count,1" ++ 10 ∷ []
+
+abbrev pub StatedByHand : Type 0
+StatedByHand = EndsState called cut_disk looked_disk books_text (output_of issue_books) Done
+    × EndsStateKept called called stating_disks (output_of issue_books) Done
+    × ((words : List (String Global)) → AreTyped words (codes "state" ∷ []) → AskForBooks words
+    × EndsByBoth called called stating_disks words (output_of issue_books) Done
+    × ObeysByBoth called called stating_disks words (output_of issue_books) (Unit {0}) (Unit {0}) 0)
+
+-- disks that aren't touched
+abbrev pub untouched_disks : TwoDisks CalledDisk CalledDisk
+untouched_disks = record { old = cut_disk; new = cut_disk; second = second_disk; kept = second_disk }
+
+-- a script's run leaves the second disk; no words ask for nothing; and there may be no memory to read them
+abbrev pub OtherwiseByHand : Type 0
+OtherwiseByHand = ((words : List (String Global)) → AreTyped words (codes "run" ∷ []) → ObeysByOne called
+    (record { old = cut_disk; new = last_disk; second = second_disk; kept = second_disk }) words two_auditors given_script
+    (output_of premium_text) (shelf_that_told []) ⊥ (Unit {0}) 0)
+    × ((words : List (String Global)) → AreTyped words (codes "checkpoint" ∷ []) → AskForCheckpoint words)
+    × ((words : List (String Global)) → AreTyped words [] → SaysUnasked words (output_of (codes "usage" ++ 10 ∷ [])) Usage)
+    × ((words : List (String Global)) → AreTyped words [] → EndsUnasked cut_disk cut_disk words (output_of (codes "usage" ++ 10 ∷ [])) (Unit {0}) (Unit {0}) Usage)
+    × ((words : List (String Global)) → HasNoWords untouched_disks words (output_of (codes "nomemory" ++ 10 ∷ [])) (Unit {0}) (Unit {0}) 9)
+
+-- so the second file's checkpoint is of the first of the commands, and tells the truth of the journal
+abbrev pub LeftOfTwoByHand : Type 0
+LeftOfTwoByHand = ((image file : List ℕ) → called.may_leave last_disk image → called.may_leave second_disk file
+    → (held : List Command) × Opens image held × SavedOfFirst file held × TellsTruth file image)
+    × CheckpointBytes saved_file issued_snapshot
+    × IsSnapshotOfFirst both_commands issued_snapshot
+    × IsLeftByCall called called saving_disks

@@ -1,0 +1,99 @@
+-- Which endings are due in worked cases, of the run's script and of files by hand, so that what is due can come about
+use Rattle.std.specs.Prelude.{◌≡◌, ◌⊎◌, ℕ, true, List, [], ◌∷◌, None, Some, codes, pos, replicate, String}
+use Rattle.std.specs.Global.{Global}
+use Rattle.basis_book.specs.Dated.{Dated, IsPicked}
+use Rattle.basis_shelf.specs.Bases.{IsBasis}
+use Rattle.basis_shelf.specs.Worked.{certain_death, one_row}
+use Rattle.command_csv.specs.Reads.{lane_of}
+use Rattle.outside_io.specs.FileCalls.{Measured, ReadFrom, Synced}
+use Rattle.outside_io.specs.Shelves.{Absent, Found}
+use Rattle.policy_types.specs.declared.entry.At.TheVariants.{Now, Position}
+use Rattle.policy_types.specs.declared.script.Lane.{Lane}
+use Rattle.policy_types.specs.declared.script.Line.TheVariants.{Value}
+use Rattle.policy_value.specs.declared.worth.Measure.TheVariants.{Terminal}
+use Rattle.life_args.specs.declared.mode.Mode.TheVariants.{Run, Value as ToValue, State}
+use Rattle.office_state.specs.Worked.{hand_issue}
+use Rattle.program_endings.specs.Status.{status_of}
+use Rattle.program_endings.specs.Writing.{Input, Shelving}
+use Rattle.program_endings.specs.declared.ending.Ending.{Ending}
+use Rattle.program_endings.specs.declared.ending.Ending.TheVariants.{Done, Usage, BadScript, BadJournal}
+use Rattle.script_run.specs.Script.{IsReadable, IsUnreadable}
+use Rattle.script_run.specs.Worked.{input_that_gave}
+use Rattle.life_app.specs.Due.{HasBasis, HasItsJournal, HasItsNeeds, HasJournal, HasNoBasis, HasNoJournal, HasNoScript, HasScript, IsDueEnding, LacksItsBasis, LacksItsJournal}
+use Rattle.life_app.specs.Headline.{IsGivenBasis}
+use Rattle.life_app.specs.Needs.{Filing, filing_between}
+use Rattle.life_app.specs.Words.{AskForValue}
+use Rattle.life_app.specs.WorkedRun.Calls.{CalledDisk, called, cut_disk, called_disk, last_disk}
+use Rattle.life_app.specs.WorkedRun.Promise.{AreTyped, given_script, output_of, premium_lanes, premium_script, premium_text, shelf_that_told}
+
+-- the journal's file, as it was cut and as it is after the premium
+abbrev pub cut_filing : Filing
+cut_filing = filing_between called cut_disk last_disk
+
+-- eighteen letters A, which are no journal, made safe, measured and read
+abbrev pub letters : List ℕ
+letters = replicate 18 65
+
+abbrev pub letters_disk : CalledDisk
+letters_disk = called_disk letters (ReadFrom 0 18 (Some letters) ∷ Measured (Some 18) ∷ Synced true ∷ [])
+
+abbrev pub letters_filing : Filing
+letters_filing = filing_between called (called_disk letters []) letters_disk
+
+-- an untouched input
+abbrev pub no_input : Input
+no_input = input_that_gave [] ⊥ 0
+
+-- a row of clerk 9, who isn't one; and a line that asks for values
+abbrev pub faulty_script : Input
+faulty_script = input_that_gave (codes "9,lapse,1,2020-01-01") (Unit {0}) 0
+
+abbrev pub value_script : Input
+value_script = input_that_gave (codes "1,value,2020-01-01,now,64\n") (Unit {0}) 0
+
+abbrev pub value_lanes : List Lane
+value_lanes = lane_of 1 (Value (pos 18262) Now 64 ∷ [])
+
+-- a shelf that had a basis file and its table, and one that had none
+abbrev pub stocked_shelf : Shelving
+stocked_shelf = shelf_that_told ((record { name = codes "q.xml"; told = Found certain_death }) ∷ (record { name = codes "b.csv"; told = Found one_row }) ∷ [])
+
+abbrev pub basisless_shelf : Shelving
+basisless_shelf = shelf_that_told ((record { name = codes "a.csv"; told = Absent }) ∷ [])
+
+-- what each mode needs is there, or lacks
+abbrev pub NeedsByHand : Type 0
+NeedsByHand = IsReadable premium_script
+    × IsUnreadable (codes "9,lapse,1,2020-01-01")
+    × HasScript given_script premium_lanes
+    × HasScript value_script value_lanes
+    × HasNoScript faulty_script
+    × HasBasis stocked_shelf (codes "b.csv")
+    × HasNoBasis basisless_shelf (codes "a.csv")
+    × HasJournal cut_filing (hand_issue ∷ [])
+    × HasNoJournal letters_filing
+
+-- the line that asks for values is given the basis that the files make, of which its one row is picked for a policy of 2020
+abbrev pub BasisByHand : Type 0
+BasisByHand = (entry : Dated) × IsGivenBasis IsBasis value_lanes (codes "b.csv") stocked_shelf (entry ∷ []) × IsPicked (entry ∷ []) (pos 18262) 0 entry
+
+-- the run of the premium has all that it needs, and so it is to be done; other words, files and scripts have other endings
+abbrev pub DueByHand : Type 0
+DueByHand = HasItsNeeds (Run (codes "basis.csv")) given_script (shelf_that_told [])
+    × HasItsJournal (Run (codes "basis.csv")) cut_filing
+    × ((words : List (String Global)) → AreTyped words (codes "run" ∷ []) → IsDueEnding words given_script (output_of premium_text) (shelf_that_told []) cut_filing Done)
+    × ((words : List (String Global)) → AreTyped words (codes "state" ∷ []) → IsDueEnding words no_input (output_of []) (shelf_that_told []) letters_filing BadJournal)
+    × ((words : List (String Global)) → AreTyped words [] → IsDueEnding words no_input (output_of []) (shelf_that_told []) cut_filing Usage)
+    × ((words : List (String Global)) → AreTyped words (codes "run" ∷ []) → IsDueEnding words faulty_script (output_of []) (shelf_that_told []) cut_filing BadScript)
+    × LacksItsBasis (Run (codes "a.csv")) value_script basisless_shelf
+    × LacksItsBasis (ToValue (pos 18262) Now 1 (codes "a.csv") Terminal) no_input basisless_shelf
+    × HasItsNeeds (ToValue (pos 18262) Now 1 (codes "b.csv") Terminal) no_input stocked_shelf
+    × HasItsJournal (ToValue (pos 18262) (Position 1) 1 (codes "b.csv") Terminal) cut_filing
+    × LacksItsJournal (State None) letters_filing
+    × ((words : List (String Global)) → AreTyped words (codes "value" ∷ codes "2021-01-01" ∷ []) → AskForValue words (pos 18628) Now (codes "basis.csv"))
+
+-- and so the run of the premium, which ended with 0, ended as is due
+abbrev pub DueOfTheRun : Type 0
+DueOfTheRun = (words : List (String Global)) → AreTyped words (codes "run" ∷ []) → (ending : Ending)
+    → IsDueEnding words given_script (output_of premium_text) (shelf_that_told []) cut_filing ending
+    → (status_of Done ≡ status_of ending) ⊎ (status_of Done ≡ 9)

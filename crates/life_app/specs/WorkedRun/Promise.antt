@@ -1,0 +1,80 @@
+-- What the headline says of the worked run's second half: the script, what is written, and the basis that is given
+use Rattle.std.specs.Prelude.{◌≡◌, ◌⊎◌, ◌==◌, ℕ, false, length, List, [], ◌∷◌, ◌++◌, Some, codes, map, string_bytes, String}
+use Rattle.std.specs.Global.{Global}
+use Rattle.basis_shelf.specs.Bases.{IsBasis}
+use Rattle.command_csv.specs.Reads.{Reads, lane_of}
+use Rattle.outside_io.specs.Shelves.{Agrees, Answer}
+use Rattle.policy_types.specs.declared.script.Lane.{Lane}
+use Rattle.policy_types.specs.declared.script.Line.TheVariants.{Post}
+use Rattle.office_state.specs.Journals.{Opens}
+use Rattle.office_state.specs.Worked.{hand_premium}
+use Rattle.program_endings.specs.Replies.{AreAnswered}
+use Rattle.program_endings.specs.Writing.{Input, IsWholeInput, Shelving, Stream, WroteAll}
+use Rattle.program_endings.specs.declared.ending.Ending.TheVariants.{Done}
+use Rattle.script_run.specs.Outcome.{EndsScript, IsRunOf}
+use Rattle.script_run.specs.Running.{EndsLanes, EndsRead, EndsRun}
+use Rattle.script_run.specs.Worked.{input_that_gave}
+use Rattle.watcher_set.specs.Noted.{Auditor}
+use Rattle.watcher_set.specs.Premiums.{premiums_of}
+use Rattle.life_app.specs.Headline.{IsGivenBasis, IsPromised, IsPromisedFromStart, IsUnrun}
+use Rattle.life_app.specs.Obeys.{Obeys}
+use Rattle.life_app.specs.Words.{AskForRun}
+use Rattle.life_app.specs.WorkedRun.Calls.{called, cut_disk, cut_file, last_disk}
+
+-- the clerk's one line
+abbrev pub premium_script : List ℕ
+premium_script = codes "1,premium,7001,2020-01-01,400.00\n"
+
+abbrev pub premium_lanes : List Lane
+premium_lanes = lane_of 1 (Post hand_premium ∷ [])
+
+-- what is answered, and what the two auditors say of it: one counts, and one adds up premiums
+abbrev pub premium_text : List ℕ
+premium_text = codes "1,premium,7001,accepted,2" ++ 10 ∷ codes "watcher,1,1,1" ++ 10 ∷ codes "watcher,2,1,40000" ++ 10 ∷ []
+
+abbrev pub two_auditors : List Auditor
+two_auditors = (record { stops = λ commands. length commands == 4000000; number = λ commands. length commands })
+    ∷ (record { stops = λ commands. false; number = λ commands. premiums_of commands }) ∷ []
+
+-- an output that held nothing, took these bytes, and didn't fail
+abbrev pub output_of : List ℕ → Stream
+output_of bytes = record { faults_before = 0; faults_after = 0; before = Some []; after = Some bytes }
+
+-- a shelf that gave these answers, and didn't fail
+abbrev pub shelf_that_told : List Answer → Shelving
+shelf_that_told answers = record { faults_before = 0; faults_after = 0; Agrees = Agrees answers }
+
+-- the whole input, up to its end
+abbrev pub given_script : Input
+given_script = input_that_gave premium_script (Unit {0}) 0
+
+abbrev pub AreTyped : List (String Global) → List (List ℕ) → Type 0
+AreTyped words typed = map string_bytes words ≡ typed
+
+-- the words `run` ask for a run, of the whole input, which is read as the lane; no line asks for values
+abbrev pub GivenByHand : Type 0
+GivenByHand = ((words : List (String Global)) → AreTyped words (codes "run" ∷ []) → AskForRun words (codes "basis.csv"))
+    × IsWholeInput given_script premium_script × Reads premium_script premium_lanes
+    × IsGivenBasis IsBasis premium_lanes (codes "basis.csv") (shelf_that_told []) []
+
+-- the program obeyed them, over the file that the crash had cut, and nothing was asked of the shelf
+abbrev pub ObeyedByHand : Type 0
+ObeyedByHand = IsRunOf called cut_disk last_disk premium_lanes [] two_auditors (WroteAll (output_of premium_text)) AreAnswered
+    × EndsScript called cut_disk last_disk premium_lanes [] two_auditors (output_of premium_text) Done
+    × EndsLanes called cut_disk last_disk premium_lanes (codes "basis.csv") two_auditors (shelf_that_told []) (output_of premium_text) (Unit {0}) Done
+    × EndsRead called cut_disk last_disk (codes "basis.csv") two_auditors given_script (output_of premium_text) (shelf_that_told []) (Unit {0}) Done
+    × EndsRun called cut_disk last_disk (codes "basis.csv") two_auditors given_script (output_of premium_text) (shelf_that_told []) (Unit {0}) Done
+    × ((words : List (String Global)) → AreTyped words (codes "run" ∷ [])
+    → Obeys called cut_disk last_disk words two_auditors given_script (output_of premium_text) (shelf_that_told []) ⊥ (Unit {0}) 0)
+
+-- so the headline says of it what is promised, or that no line was answered
+abbrev pub HeadlineByHand : Type 0
+HeadlineByHand = (words : List (String Global)) → AreTyped words (codes "run" ∷ [])
+    → IsPromised called Opens cut_disk last_disk premium_lanes [] (output_of premium_text) 0
+    ⊎ IsUnrun called Opens cut_disk last_disk (output_of premium_text) 0
+
+-- and it is the first, from the start of that disk on
+abbrev pub PromisedByHand : Type 0
+PromisedByHand = IsPromised called Opens cut_disk last_disk premium_lanes [] (output_of premium_text) 0
+    × IsPromisedFromStart called Opens cut_file last_disk premium_lanes [] (output_of premium_text) 0
+    × (IsUnrun called Opens cut_disk last_disk (output_of premium_text) 0 → ⊥)

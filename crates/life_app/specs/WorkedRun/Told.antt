@@ -1,0 +1,83 @@
+-- What the laws and the contract conclude, of the worked run and of small values by hand
+use Rattle.std.specs.Prelude.{ℕ, List, [], ◌∷◌, ◌++◌, codes, pos, String}
+use Rattle.std.specs.Global.{Global}
+use Rattle.basis_book.specs.Dated.{Dated, IsPicked}
+use Rattle.book_value.specs.Worked.Valued.{five_endowments, from_2000, from_2020}
+use Rattle.outside_io.specs.Shelves.{Absent}
+use Rattle.plan_benefits.specs.Shapes.{shape_of}
+use Rattle.policy_types.specs.declared.entry.Reply.TheVariants.{Faulted}
+use Rattle.policy_machine.specs.Rules.{issued}
+use Rattle.policy_types.specs.declared.command.Plan.TheVariants.{Endowment}
+use Rattle.policy_types.specs.declared.policy.Policy.{Policy}
+use Rattle.policy_types.specs.declared.policy.Status.TheVariants.{InForce}
+use Rattle.policy_value.specs.Rows.{IsInsured}
+use Rattle.policy_value.specs.declared.worth.Row.{Row}
+use Rattle.policy_value.specs.declared.worth.Worth.TheVariants.{Bounds}
+use Rattle.office_state.specs.Journals.{Opens}
+use Rattle.office_state.specs.Worked.{hand_issue, hand_premium, premium_turn}
+use Rattle.program_endings.specs.Writing.{Shelving}
+use Rattle.program_endings.specs.declared.ending.Ending.TheVariants.{Done, BadBasis}
+use Rattle.script_run.specs.Running.{ReadsForValues}
+use Rattle.life_app.specs.DueKept.{HasReasonOfBoth, IsReasonedOfBoth}
+use Rattle.life_app.specs.Headline.{IsEnclosingRow, IsEnclosingText, IsUnrun, IsWorthBy, WasFaulted}
+use Rattle.life_app.specs.Needs.{HasBadFile, IsPastTheEnd, NeedBasis}
+use Rattle.life_app.specs.Reasons.{HasReason, IsReasoned}
+use Rattle.life_app.specs.Runs.{AddsCommands}
+use Rattle.life_app.specs.Words.{AskForLoad, AskForProject}
+use Rattle.life_app.specs.WorkedRun.Both.{saving_disks}
+use Rattle.life_app.specs.WorkedRun.Calls.{called, cut_disk}
+use Rattle.life_app.specs.WorkedRun.Due.{cut_filing, value_script}
+use Rattle.life_app.specs.WorkedRun.Promise.{AreTyped, given_script, output_of, premium_text, shelf_that_told}
+use Rattle.life_app.specs.WorkedRun.Runs.{cut_run}
+
+-- the cut run added the issue, of a posting that faulted none was accepted before, and a run may answer no line
+abbrev pub EndedByHand : Type 0
+EndedByHand = AddsCommands cut_run (hand_issue ∷ []) []
+    × WasFaulted (premium_turn (Faulted 4) ∷ []) [] hand_premium
+    × IsUnrun called Opens cut_disk cut_disk (output_of (codes "nomemory" ++ 10 ∷ [])) 9
+
+-- the basis of the name that is meant where none is given, and which isn't there
+abbrev pub unstocked_shelf : Shelving
+unstocked_shelf = shelf_that_told ((record { name = codes "basis.csv"; told = Absent }) ∷ [])
+
+abbrev pub absent_basis : List ℕ
+absent_basis = codes "badbasis,basis.csv,0,absent" ++ 10 ∷ []
+
+-- statuses and endings with their reasons
+abbrev pub ReasonsByHand : Type 0
+ReasonsByHand = ((words : List (String Global)) → AreTyped words (codes "run" ∷ [])
+    → IsReasoned words given_script (output_of premium_text) (shelf_that_told []) cut_filing 0
+    × NeedBasis words value_script (codes "basis.csv")
+    × HasBadFile words value_script unstocked_shelf (output_of absent_basis)
+    × HasReason words value_script (output_of absent_basis) unstocked_shelf cut_filing BadBasis)
+    × ReadsForValues value_script
+    × ((words : List (String Global)) → AreTyped words (codes "value" ∷ codes "2021-01-01" ∷ codes "--at=5" ∷ []) → IsPastTheEnd words cut_filing)
+    × ((words : List (String Global)) → AreTyped words (codes "project" ∷ codes "2021-01-01" ∷ codes "1" ∷ []) → AskForProject words (pos 18628) 1 (codes "basis.csv"))
+    × ((words : List (String Global)) → AreTyped words (codes "load" ∷ codes "7" ∷ codes "5" ∷ codes "2" ∷ codes "1" ∷ []) → AskForLoad words)
+    × HasReasonOfBoth called called saving_disks (output_of (codes "checkpoint,1" ++ 10 ∷ [])) Done
+    × IsReasonedOfBoth called called saving_disks (output_of (codes "checkpoint,1" ++ 10 ∷ [])) 0
+
+abbrev pub two_bases : List Dated
+two_bases = from_2000 ∷ from_2020 ∷ []
+
+-- the first of five endowments, and its row on 2021-01-01
+abbrev pub first_endowment : Policy
+first_endowment = issued 7001 (pos 18262) Endowment 0 3 100000 40000
+
+abbrev pub first_value : Row
+first_value = record { id = 7001; status = InForce; t = 1; worth = Bounds 12722 12723 }
+
+-- all of them
+abbrev pub five_text : List ℕ
+five_text = codes "0,value,2021-01-01,8,5" ++ (10 ∷ []) ++ codes "row,7001,inforce,1,127.22,127.23" ++ (10 ∷ [])
+    ++ codes "row,7002,inforce,0,belowtable" ++ (10 ∷ []) ++ codes "row,7003,inforce,0,nobasis" ++ (10 ∷ [])
+    ++ codes "row,7004,inforce,0,0.00,0.00" ++ (10 ∷ []) ++ codes "row,7005,paidup,1,300.00,300.00" ++ (10 ∷ [])
+    ++ codes "total,427.22,427.23,2" ++ 10 ∷ []
+
+-- the rows enclose the exact reserves; the first is insured, and its worth is by the rates from 2000 on
+abbrev pub EnclosedByHand : Type 0
+EnclosedByHand = IsEnclosingText 0 (pos 18628) five_endowments two_bases 8 five_text
+    × IsEnclosingRow two_bases (pos 18628) first_endowment first_value
+    × IsInsured first_endowment (pos 18628)
+    × IsPicked two_bases (pos 18262) 0 from_2000
+    × IsWorthBy first_endowment from_2000 (pos 18628) (shape_of Endowment 0 3 from_2000.table) 1 (Bounds 12722 12723)

@@ -1,0 +1,74 @@
+//! A worked run, each part a theorem: it holds what the laws ask for, and they say of it what is written here.
+
+ghost use Rattle.life_app.specs.WorkedRun.Calls.{HonestCalls, ReadsByHand};
+ghost use Rattle.life_app.specs.WorkedRun.Runs.{CrashesByHand, FoundByHand, LeftByHand, OpenedByHand, RanByHand, RowByHand};
+ghost use Rattle.life_app.specs.WorkedRun.Promise.{GivenByHand, HeadlineByHand, ObeyedByHand, PromisedByHand};
+ghost use Rattle.life_app.specs.WorkedRun.Due.{BasisByHand, DueByHand, DueOfTheRun, NeedsByHand};
+ghost use Rattle.life_app.specs.WorkedRun.Both.{DueOfBothByHand, DueOfTheSaving, LeftOfTwoByHand, OtherwiseByHand, PartsOfTwoByHand, RowOfTwoByHand, SavedByHand, StatedByHand, TrustedByHand};
+ghost use Rattle.life_app.specs.WorkedRun.Told.{EnclosedByHand, EndedByHand, ReasonsByHand};
+
+use basis_shelf::shelves_by_hand;
+use command_csv::{faults_are_placed, lines_are_written};
+use office_state::shown_by_hand;
+
+/// The calls of the file are honest, and it reads so; no call was made before the first.
+pub fn calls_by_hand()
+    ensures honest { HonestCalls }
+    ensures reads { ReadsByHand }
+    ensures found { FoundByHand }
+{}
+
+/// A creation and two postings, a crash in the second, a reopening and a third posting: what ran, what the crash left, and
+/// what is left in the end.
+pub fn runs_by_hand()
+    ensures ran { RanByHand }
+    ensures row { RowByHand }
+    ensures crashes { CrashesByHand }
+    ensures opened { OpenedByHand }
+    ensures left { LeftByHand }
+{}
+
+/// The script of the third posting is run as is promised.
+pub fn promise_by_hand()
+    ensures given { GivenByHand }
+    ensures obeyed { ObeyedByHand }
+    ensures headline { HeadlineByHand }
+    ensures promised { PromisedByHand }
+{}
+
+/// Each mode has what it needs, or lacks it, and so some ending is due.
+pub fn due_by_hand()
+    ensures needs { NeedsByHand }
+    ensures basis { BasisByHand }
+    ensures due { DueByHand }
+    ensures comes { DueOfTheRun }
+{
+    faults_are_placed();
+    lines_are_written();
+    shelves_by_hand();
+    shown_by_hand();
+}
+
+/// The same run over both disks, with the books saved in between.
+pub fn both_disks_by_hand()
+    ensures trusted { TrustedByHand }
+    ensures due { DueOfBothByHand }
+    ensures comes { DueOfTheSaving }
+    ensures saved { SavedByHand }
+    ensures stated { StatedByHand }
+    ensures otherwise { OtherwiseByHand }
+    ensures row { RowOfTwoByHand }
+    ensures parts { PartsOfTwoByHand }
+    ensures left { LeftOfTwoByHand }
+{
+    shown_by_hand();
+}
+
+/// What is concluded of the run, and of small values: what a run adds, why a program ends so, and an enclosing row.
+pub fn told_by_hand()
+    ensures ended { EndedByHand }
+    ensures reasons { ReasonsByHand }
+    ensures enclosed { EnclosedByHand }
+{
+    lines_are_written();
+}
