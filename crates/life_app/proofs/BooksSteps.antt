@@ -16,9 +16,10 @@ use Rattle.office_state.proofs.JournalLaws.{shown_opens_to_none}
 use Rattle.office_state.proofs.OpeningSteps.{finished}
 use Rattle.program_endings.specs.Refusals.{SaysWhy}
 use Rattle.program_endings.specs.Status.{status_of}
-use Rattle.program_endings.specs.Writing.{Stream, WroteAll}
+use Rattle.program_endings.specs.Writing.{Input, Shelving, Stream, WroteAll}
 use Rattle.program_endings.specs.declared.ending.Ending.{Ending}
 use Rattle.program_endings.specs.declared.ending.Ending.TheVariants.{Done, BadJournal, WriteFault, DiskFault, NoMemory}
+use Rattle.watcher_set.specs.Noted.{Auditor}
 use Rattle.kept_books.specs.Saved.{IsSaved}
 use Rattle.kept_books.specs.Stated.{snapshot_text}
 use Rattle.kept_books.specs.Telling.{EndsTelling, IsRefusedByTwo, TellsSnapshot}
@@ -28,7 +29,7 @@ use Rattle.life_app.specs.declared.kept.Books.{Books}
 use Rattle.life_app.specs.declared.kept.Books.TheVariants.{State as ToState, Checkpoint as ToSave}
 use Rattle.life_app.specs.declared.kept.EndedKept.{EndedKept}
 use Rattle.life_app.specs.DueKept.{HasReasonOfBoth, IsDueOfBoth, IsReasonedOfBoth}
-use Rattle.life_app.specs.ObeysKept.{AskForBoth, EndsByBoth, ObeysByBoth}
+use Rattle.life_app.specs.ObeysKept.{AskForBoth, EndsByBoth, ObeysByBoth, ObeysKept}
 use Rattle.life_app.specs.inside.Books.{GivesBooks, IsBooksOf, IsOfBoth, ended_disks}
 
 -- words that ask for a mode ask for no other
@@ -114,6 +115,14 @@ module _ {D E : Type 0} (g : Ghosts D) (e : Ghosts E) (disks : TwoDisks D E) (ou
       → HasReasonOfBoth g e disks output ending
   both_reason words ending (inl stated) = telling_reason (TellsSnapshot g e disks snapshot_text) ending stated.1.telling
   both_reason words ending (inr saved) = telling_reason (IsSaved g e disks) ending saved.1.telling
+
+  -- whatever the words
+  pub reasoned : (words : List (String Global)) (auditors : List Auditor) (input : Input) (shelf : Shelving) (InputStays ShelfStays : Type 0) (status : ℕ)
+      → ObeysKept g e disks words auditors input output shelf InputStays ShelfStays status → AskForBoth words
+      → IsReasonedOfBoth g e disks output status
+  reasoned words auditors input shelf InputStays ShelfStays status (inl both) asked = (both.ending, both.exits, both_reason words both.ending both.ends)
+  reasoned words auditors input shelf InputStays ShelfStays status (inr (inl one)) asked = absurd (one.other asked)
+  reasoned words auditors input shelf InputStays ShelfStays status (inr (inr none)) asked = (NoMemory, none.exits, tt)
 
   alone : (words : List (String Global)) (ending : Ending) → EndsByBoth g e disks words output ending → IsLeftAlone g disks.old disks.new
   alone words ending (inl stated) = stated.1.first

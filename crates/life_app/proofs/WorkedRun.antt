@@ -1,4 +1,5 @@
 pub mod Calls
+pub mod First
 pub mod Row
 pub mod Promise
 pub mod Due

@@ -8,7 +8,8 @@ use Rattle.life_app.specs.WorkedRun.Promise.{AreTyped, premium_script, premium_t
 use Rattle.life_app.proofs.WorkedRun.Both.{none_of_both}
 use Rattle.life_app.proofs.WorkedRun.Due.{due_of_the_run}
 use Rattle.life_app.proofs.WorkedRun.Promise.{obeyed}
-use Rattle.life_app.proofs.WorkedRun.Row.{honest_last, second_left}
+use Rattle.life_app.proofs.WorkedRun.First.{honest_last}
+use Rattle.life_app.proofs.WorkedRun.Row.{second_left}
 use Rattle.life_cli.specs.Completing.{EndsDuly}
 use Rattle.life_cli.specs.Shipped.{ObeysFromStart, filing_from_start, input_from_start, output_from_start, shelf_from_start}
 use Rattle.life_cli.specs.WorkedShipped.{ShippedByHand}
@@ -22,6 +23,7 @@ obeys words same = record {
   found = record { faultless = refl; first = refl; reads = refl };
   second_found = record { faultless = refl; first = refl; reads = refl };
   obeys = inr (inl (record { other = none_of_both words same; obeys = obeyed words same; second = refl }));
+  reason = λ both. absurd (none_of_both words same both);
   due = λ ending both is. absurd (none_of_both words same both);
 }
 

@@ -9,7 +9,7 @@ use Rattle.program_endings.specs.Status.{status_of}
 use Rattle.program_endings.specs.Writing.{Input, Shelving, Stream}
 use Rattle.program_endings.specs.declared.ending.Ending.{Ending}
 use Rattle.kept_books.specs.TwoDisks.{TwoDisks}
-use Rattle.life_app.specs.DueKept.{IsDueOfBoth}
+use Rattle.life_app.specs.DueKept.{IsDueOfBoth, IsReasonedOfBoth}
 use Rattle.life_app.specs.Headline.{IsFirstFound}
 use Rattle.life_app.specs.Needs.{Filing}
 use Rattle.life_app.specs.ObeysKept.{AskForBoth, ObeysKept}
@@ -55,8 +55,8 @@ filing_from_start before after Honest faults =
 abbrev pub two_disks : {D E : Type 0} → (old new : D) → (second kept : E) → TwoDisks D E
 two_disks old new second kept = record { old = old; new = new; second = second; kept = kept }
 
--- The words were obeyed, over two disks as they were found; and where they ask for the books by both, what is due came
--- about, but for want of memory.
+-- The words were obeyed, over two disks as they were found; and where they ask for the books by both, the status has its
+-- reason, and what is due came about, but for want of memory.
 pub record ObeysFromStart {D E : Type 0} (g : Ghosts D) (e : Ghosts E) (bytes saved : List ℕ) (new : D) (kept : E)
     (words : List (String Global)) (input : Input) (output : Stream) (shelf : Shelving) (InputStays ShelfStays : Type 0)
     (status : ℕ) : Type 0 where
@@ -65,5 +65,6 @@ pub record ObeysFromStart {D E : Type 0} (g : Ghosts D) (e : Ghosts E) (bytes sa
   pub found : IsFirstFound g bytes old
   pub second_found : IsFirstFound e saved second
   pub obeys : ObeysKept g e (two_disks old new second kept) words shipped_auditors input output shelf InputStays ShelfStays status
+  pub reason : AskForBoth words → IsReasonedOfBoth g e (two_disks old new second kept) output status
   pub due : (ending : Ending) → AskForBoth words → IsDueOfBoth g e (two_disks old new second kept) output ending
       → (status ≡ status_of ending) ⊎ (status ≡ 9)

@@ -47,7 +47,8 @@ use Rattle.life_app.specs.WorkedRun.Both.{DueOfBothByHand, DueOfTheSaving, LeftO
 use Rattle.life_app.proofs.WorkedRun.Calls.{Left, reads}
 use Rattle.life_app.proofs.WorkedRun.Due.{none_failed}
 use Rattle.life_app.proofs.WorkedRun.Promise.{asks_run, obeyed}
-use Rattle.life_app.proofs.WorkedRun.Row.{cut, facts, found_safe, honest_last, honest_looked, honest_paid, journal_of_issue, left_alone, opened_left, second_left, was_cut, first_left}
+use Rattle.life_app.proofs.WorkedRun.First.{cut, found_safe, honest_last, honest_paid, journal_of_issue, was_cut, first_left}
+use Rattle.life_app.proofs.WorkedRun.Row.{facts, honest_looked, left_alone, opened_left, second_left}
 
 saved_reads : saved_file ≡ issued_file
 unfolding balance_bytes policy_bytes position_bytes

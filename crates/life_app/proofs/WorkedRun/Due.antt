@@ -20,7 +20,8 @@ use Rattle.life_app.specs.WorkedRun.Calls.{called, cut_disk, last_disk}
 use Rattle.life_app.specs.WorkedRun.Promise.{given_script, output_of, premium_lanes, premium_script, premium_text, shelf_that_told, two_auditors}
 use Rattle.life_app.specs.WorkedRun.Due.{BasisByHand, DueByHand, DueOfTheRun, NeedsByHand, basisless_shelf, cut_filing, faulty_script, letters, letters_filing, stocked_shelf, value_lanes, value_script}
 use Rattle.life_app.proofs.WorkedRun.Promise.{asks_run, did, reads_premium}
-use Rattle.life_app.proofs.WorkedRun.Row.{honest_last, second_left}
+use Rattle.life_app.proofs.WorkedRun.First.{honest_last}
+use Rattle.life_app.proofs.WorkedRun.Row.{second_left}
 
 pub none_failed : IsHeld 0 0
 none_failed rose = let no : 1 ≤ 0 = rose in omega (arith, no)

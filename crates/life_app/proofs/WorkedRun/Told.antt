@@ -39,7 +39,8 @@ use Rattle.life_app.specs.WorkedRun.Promise.{AreTyped, output_of}
 use Rattle.life_app.specs.WorkedRun.Told.{EnclosedByHand, EndedByHand, ReasonsByHand, absent_basis, first_endowment, first_value, five_text, two_bases, unstocked_shelf}
 use Rattle.life_app.proofs.HeadlineLaws.{each_pair, enclosing}
 use Rattle.life_app.proofs.WorkedRun.Promise.{asks_run}
-use Rattle.life_app.proofs.WorkedRun.Row.{honest_last, second_left}
+use Rattle.life_app.proofs.WorkedRun.First.{honest_last}
+use Rattle.life_app.proofs.WorkedRun.Row.{second_left}
 
 unrun : IsUnrun called Opens cut_disk cut_disk (output_of (codes "nomemory" ++ 10 ∷ [])) 9
 unrun = record { failed = λ never. cc; line = (_, inl refl); since = λ honest image left. inl left.1 }

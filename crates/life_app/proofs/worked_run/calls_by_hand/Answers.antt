@@ -1,6 +1,7 @@
 use Rattle.std.proofs.Common.{refl}
 use Rattle.record_codec.specs.Spelling.{spelling_of}
-use Rattle.life_app.proofs.WorkedRun.Row.{found_by_hand, honest_calls}
+use Rattle.life_app.proofs.WorkedRun.First.{honest_calls}
+use Rattle.life_app.proofs.WorkedRun.Row.{found_by_hand}
 use Rattle.life_app.proofs.worked_run.calls_by_hand.Goals as goal
 
 pub returns-clause-honest : goal.returns-clause-honest

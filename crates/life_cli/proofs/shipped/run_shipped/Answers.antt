@@ -3,6 +3,7 @@ use Rattle.outside_io.specs.FileCalls.{FileCall, file_reads, AreAllowed}
 use Rattle.outside_io.specs.Shelves.{Files, Agrees}
 use Rattle.outside_io.specs.Streams.{StreamPiece, passed_bytes, HasEnd}
 use Rattle.outside_io.specs.FileLaws.{left_only_now}
+use Rattle.life_app.proofs.BooksSteps.{reasoned}
 use Rattle.life_cli.specs.Shipped.{two_disks}
 use Rattle.life_cli.proofs.FromStart.{due_from_start, ends_from_start, agrees_with_all, kept_still, obeys_from_start}
 use Rattle.life_cli.proofs.Promised.{promised}
@@ -21,6 +22,15 @@ returns-clause-obeys g c =
     let second = c.at-second.result in
     let disks = two_disks disk c.obey-status.result.disk second c.obey-status.result.second in
     let took = ap (λ (pieces : List StreamPiece). Some (passed_bytes pieces)) c.new-output.ensures.taken in
+    let obeys =
+    obeys_from_start _ _ _ _ _ _ _ _ input.faults input'.faults output.faults output'.faults shelf.faults shelf'.faults
+    (passed_bytes input.given) (passed_bytes input'.given) (HasEnd input'.given) (Some (passed_bytes output.taken)) (Some (passed_bytes output'.taken))
+    (λ files. Agrees shelf'.answers files)
+    c.new-input.ensures.faults gave c.new-output.ensures.faults took c.new-shelf.ensures.faults
+    (
+    kept_still _ _ disks _ _ _ _ _ (input' ≡ input) (shelf' ≡ shelf) (passed_bytes input'.given ≡ []) ((files : Files) → Agrees shelf'.answers files)
+    (λ stays. cc (gave)) (λ stays. agrees_with_all shelf'.answers (cc (c.new-shelf.ensures.answers))) _ c.obey-status.ensures.obeys
+    ) in
     record {
       old = disk;
       second = second;
@@ -34,14 +44,8 @@ returns-clause-obeys g c =
         first = ap (λ (calls : List FileCall). length calls) c.at-second.ensures.calls;
         reads = ap (λ (calls : List FileCall). file_reads g.C.FoundFile.bytes g.C.FoundFile.torn calls) c.at-second.ensures.calls;
       };
-      obeys = obeys_from_start _ _ _ _ _ _ _ _ input.faults input'.faults output.faults output'.faults shelf.faults shelf'.faults
-          (passed_bytes input.given) (passed_bytes input'.given) (HasEnd input'.given) (Some (passed_bytes output.taken)) (Some (passed_bytes output'.taken))
-          (λ files. Agrees shelf'.answers files)
-          c.new-input.ensures.faults gave c.new-output.ensures.faults took c.new-shelf.ensures.faults
-          (
-          kept_still _ _ disks _ _ _ _ _ (input' ≡ input) (shelf' ≡ shelf) (passed_bytes input'.given ≡ []) ((files : Files) → Agrees shelf'.answers files)
-          (λ stays. cc (gave)) (λ stays. agrees_with_all shelf'.answers (cc (c.new-shelf.ensures.answers))) _ c.obey-status.ensures.obeys
-          );
+      obeys = obeys;
+      reason = λ both. reasoned _ _ disks _ _ _ _ _ _ _ _ obeys both;
       due = due_from_start _ _ disks _ _ output.faults output'.faults (Some (passed_bytes output.taken)) (Some (passed_bytes output'.taken))
           c.new-output.ensures.faults took c.obey-status.ensures.due;
     }
