@@ -3,6 +3,7 @@
 # element past a limit; right files of which one byte is changed; drawn files and words. Where a case fails, it is named
 # with its number, and its files are left.
 . "$(dirname "$0")/../common.sh"
+needs_proved
 hostile=$root/.ci/hostile
 quick=$(mktemp -d -p /dev/shm 2>/dev/null) || quick=$work
 
