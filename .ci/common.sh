@@ -9,6 +9,8 @@ case $(basename "$(dirname "$0")") in long) up=../../.. ;; *) up=../.. ;; esac
 root=$(cd "$(dirname "$0")/$up" && pwd) || exit 2
 work=$(mktemp -d) || exit 2
 trap 'chmod -R u+w "$work"; rm -rf "$work"' EXIT
+# also where it is stopped
+trap 'exit 143' HUP INT TERM
 if [ -n "${LIFE_PROGRAM:-}" ]; then
     program=$(readlink -f -- "$LIFE_PROGRAM")
     life=$work/life
@@ -26,6 +28,14 @@ fi
 needs() {
     command -v "$1" >/dev/null || {
         echo "$check: skipped: $1 isn't installed"
+        exit 0
+    }
+}
+
+# what takes too long over a preview, or is timed for a built program, isn't tried on one by `sh life test --all`
+needs_proved() {
+    [ -z "${LIFE_PREVIEW:-}" ] || {
+        echo "$check: skipped: no proved program is as new as its sources"
         exit 0
     }
 }

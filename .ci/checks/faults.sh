@@ -3,6 +3,7 @@
 # taken away, each request for memory is refused once, memory comes to an end, signals stop runs, and the reader of the
 # output goes away. Each time the answers, the status and the file are judged by docs/FORMATS.md.
 . "$(dirname "$0")/../common.sh"
+needs_proved
 needs strace
 seed=1
 quick=$(mktemp -d -p /dev/shm 2>/dev/null) || quick=$work

@@ -3,6 +3,7 @@
 # element past a limit; right files of which one byte is changed; drawn files and words. Where a case fails, it is named
 # with its number, and its files are left.
 . "$(dirname "$0")/../common.sh"
+needs_proved
 hostile=$root/.ci/hostile
 quick=$(mktemp -d -p /dev/shm 2>/dev/null) || quick=$work
 
@@ -149,12 +150,30 @@ name="drawn cases"
 wait "$drawn" || { complain "a case failed"; kept=yes; }
 cat "$work/drawn"
 
+# The longest valuation: as many policies as there may be, of the greatest amount. What one of them is worth is worked out
+# without the program.
+longest_valuation() {
+    begin_with_examples "the longest valuation"
+    python3 "$hostile/big_journals.py" greatest 1 journal.life
+    "$life" value 2022-12-31 </dev/null >one.block
+    python3 "$tools/life-tools" check-values journal.life basis.csv one.block >out || complain "$(cat out)"
+    worth=$(sed -n 's/^row,1,//p' one.block)
+    python3 "$hostile/big_journals.py" greatest 4000000 journal.life
+    timeout "${patience:-300}" "$life" value 2022-12-31 </dev/null >block
+    [ $? = 0 ] || complain "it ends otherwise, after $(wc -l <block) lines"
+    {
+        echo 0,value,2022-12-31,4000000,4000000
+        seq 4000000 | sed "s/.*/row,&,$worth/"
+        echo "$worth" | tr -d . |
+            awk -F, '{ printf "total,%.0f.00,%.0f.00,0\n", $3 * 40000, $4 * 40000 }'
+    } | cmp - block || complain "it prints $(head -n 2 block) to $(tail -n 1 block)"
+}
+
 # A journal that lacks one record, takes it, and is full; then one with a further open gate, which is the last byte. A
 # program that LIFE_PROGRAM names is mostly an unproved one, which isn't compiled for speed and takes minutes over each; it
-# is spared these three.
+# is spared these four.
 full_journal() {
     begin "full journal"
-    [ -z "${LIFE_FULL:-}" ] || patience=3000
     python3 "$hostile/big_journals.py" policies 3999999 journal.life
     echo "1,issue,4000001,2020-01-01,endowment,0,3,1000.00,400.00" >more.csv
     { echo "1,issue,4000000,2020-01-01,endowment,0,3,1000.00,400.00"; cat more.csv; } >two.csv
@@ -169,9 +188,11 @@ $(cat "$none_watched")" more.csv
     answers 5 badjournal,badrecord,4000000
 }
 if [ -z "${LIFE_PROGRAM:-}" ] || [ -n "${LIFE_FULL:-}" ]; then
+    [ -z "${LIFE_FULL:-}" ] || patience=3000
+    longest_valuation
     full_journal
 else
-    echo "hostile: the full journal isn't tried on $LIFE_PROGRAM (LIFE_FULL=1 does)"
+    echo "hostile: a full journal isn't tried on $LIFE_PROGRAM (LIFE_FULL=1 does)"
 fi
 
 if [ -n "${kept:-}" ]; then

@@ -2,6 +2,7 @@
 # `import`: a book of 5,000 drawn policies of another system, beside what was drawn and the exact values; and what can't be
 # mapped.
 . "$(dirname "$0")/../common.sh"
+needs_proved
 
 tool() {
     python3 "$tools/life-tools" "$@" >out 2>remarks

@@ -46,15 +46,28 @@ is_stopped() {
     moment=$1 line=$2
     shift 2
     rm -f "$work/noted"
-    # what runs in the background doesn't hear of it otherwise
-    env --default-signal=INT sh "$launcher" "$@" </dev/null >out 2>notes &
+    # what runs in the background has no input, and doesn't hear of it, otherwise
+    exec 5<&0
+    env --default-signal=INT sh "$launcher" "$@" <&5 5<&- >out 2>notes &
     stopped=$!
+    exec 5<&-
     await "$moment"
     kill -INT "$stopped"
     wait "$stopped"
     status=$?
     [ "$status" = 130 ] || complain "$*: status $status, not stopped: $(cat out notes)"
-    notes_are "$line"
+    grep -v '^life: ' notes >&2 && complain "$*: it isn't the launcher that says this"
+    tail -n 1 notes | grep -q "$line" || complain "$*: it says last: $(tail -n 1 notes)"
+    none_is_left "$*"
+}
+
+# that no process works below this check's folder
+none_is_left() {
+    for process in /proc/[0-9]*; do
+        case $(readlink "$process/cwd") in
+            "$copy"*) complain "$1: $(tr '\0' ' ' <"$process/cmdline") goes on" ;;
+        esac
+    done
 }
 
 begin "wrong words build nothing"
@@ -146,9 +159,24 @@ sh "$launcher" try run <two.csv >two.out 2>/dev/null &
 wait
 launch try state </dev/null
 tail -n 1 out | grep -q '^count,12$' || complain "eight postings of two previews: $(tail -n 1 out)"
-# one that waits for the other's output may not wait for its journal
-sh "$launcher" try generate 5 2000 8 2>/dev/null | timeout 60 sh "$launcher" try run >out 2>/dev/null ||
-    complain "a pipe between two previews hangs"
+# one that waits for the other's output, more than a pipe holds, may not wait for its journal
+{ sh "$launcher" try generate 5 2000 8 2>/dev/null && echo no line; } | timeout 300 sh "$launcher" try run >out 2>/dev/null
+[ $? = 3 ] || complain "a pipe between two previews hangs"
+leaves_none
+
+begin "a preview that is stopped"
+mkfifo slow
+exec 6<>slow
+echo 1,trim >&6
+is_stopped '[ -n "$(find "$copy/out/preview/rooms" -name "input.*")" ]' \
+    "stopped; the script wasn't read to its end" try run <slow
+exec 6>&-
+[ -z "$(find "$copy/out/preview/rooms" -name "input.*")" ] || complain "it leaves what it read"
+sh "$launcher" try generate 6 2000 8 >long.csv 2>/dev/null
+is_stopped '[ -n "$(find "$copy/out/preview/rooms" -name journal.life -size +4k)" ]' "stopped; that was a preview" \
+    try run <long.csv
+launch try state </dev/null
+tail -n 1 out | grep -q '^count,[1-9][0-9]' || complain "what it had posted is lost: $(tail -n 1 out)"
 leaves_none
 
 begin "a preview beside a real journal"
@@ -254,6 +282,7 @@ kill "$holder"
 # shellcheck disable=SC2086
 wait $waiters
 [ "$(cat out.? | grep -c ,accepted,)" = 6 ] || complain "of six that wait some aren't answered: $(cat out.? notes.?)"
+python3 "$root/.ci/launcher/no_trial.py" "$launcher" 2>notes || complain "one that waits keeps another off: $(cat notes)"
 hold
 is_stopped 'grep -q "is held" notes' "stopped waiting, and nothing was run" --wait 600 run
 kill "$holder"
@@ -390,41 +419,29 @@ proves unbuilt 70 "not proved and built" old
 proves edited 70 "not proved and built" old
 proves kept 0 "is proved and built, after" current
 touch "$main"
-PATH=$work/proving/kit:$PATH STAND_IN=stopped NOTED=$work/noted sh "$launcher" prove >out 2>notes </dev/null &
-stopped=$!
-until [ -s "$work/noted" ]; do sleep 0.1; done
-kill "$stopped"
-wait "$stopped"
-[ $? = 130 ] || complain "it isn't stopped: $(cat notes)"
-# one that has ended may still be waiting to be taken note of
-has_ended() {
-    ! ps -o stat= -p "$(cat "$work/noted")" | grep -qv '^Z'
-}
-await has_ended
-has_ended || complain "the kit goes on after the launcher was stopped"
+PATH=$work/proving/kit:$PATH
+export STAND_IN=stopped NOTED="$work/noted"
+is_stopped '[ -s "$work/noted" ]' "stopped; what is proved is kept, and sh life prove goes on from there" prove
 answers old "a proof that was stopped"
 
 begin "stopped while a preview is built, and while tests run"
-PATH=$work/proving/kit:$PATH
 touch "$main"
-export STAND_IN=slow NOTED="$work/noted"
+export STAND_IN=slow
 is_stopped '[ -s "$work/noted" ]' "stopped; no preview was built" try run
-await has_ended
-has_ended || complain "the kit goes on"
 ls "$copy/out/preview" | grep -q '^build\.' && complain "it leaves a folder"
 touch "$copy/out/preview/life_preview"
-is_stopped '[ -s "$work/noted" ]' "stopped; nothing was proved" test
-await has_ended
-has_ended || complain "the kit goes on"
+is_stopped '[ -s "$work/noted" ]' "stopped; the tests weren't run to their end" test
 
 begin "tests"
 export STAND_IN=tests
 rm -rf "$copy"/.ci/checks
 mkdir "$copy/.ci/checks"
+printf 'cd "%s" && : >"%s" && sleep 60 & wait\n' "$copy" "$work/noted" >"$copy/.ci/checks/program_run.sh"
+is_stopped '[ -e "$work/noted" ]' "stopped; the tests weren't run to their end" test
 printf 'echo "program_run: skipped: there is no wind"\n[ -x "$LIFE_PROGRAM" ]\n' >"$copy/.ci/checks/program_run.sh"
-printf 'echo "names: no"\nexit 1\n' >"$copy/.ci/checks/names.sh"
-# crates with two tests that pass, one with one of two, one without any; and a check
-passed=$(($(grep -c '^[a-z]*_tests:' "$copy/crates.txt") * 2 - 2))
+printf 'echo "names: no ${LIFE_PREVIEW-proved} ${LIFE_PROGRAM-alone}"\nexit 1\n' >"$copy/.ci/checks/names.sh"
+# crates with two tests that pass, one with one of two, one without any; and a check that is skipped
+passed=$(($(grep -c '^[a-z]*_tests:' "$copy/crates.txt") * 2 - 3))
 launch test </dev/null
 [ "$status" = 1 ] || complain "status $status"
 [ "$(tail -n 1 out)" = "$passed passed, 2 failed, nothing proved" ] || complain "its last line is: $(tail -n 1 out)"
@@ -432,14 +449,17 @@ for line in "^office_tests: 2 passed, after" "^base_tests: 1 passed, 1 FAILED" "
     "^program_run: skipped: there is no wind"; do
     grep -q "$line" out || complain "it doesn't say $line: $(cat out)"
 done
-launch test --all </dev/null
-[ "$(tail -n 1 out)" = "$passed passed, 3 failed, nothing proved" ] || complain "with all: $(tail -n 1 out)"
-grep -q "names: no" out || complain "a check that fails isn't shown"
+for judged in "yes $copy/out/preview/life_preview" "proved alone"; do
+    launch test --all </dev/null
+    [ "$(tail -n 1 out)" = "$passed passed, 3 failed, nothing proved" ] || complain "with all: $(tail -n 1 out)"
+    grep -qF "names: no $judged" out || complain "a check that fails isn't shown, or it judges otherwise: $(cat out)"
+    touch "$built"
+done
 unset STAND_IN
 PATH=${PATH#*:}
 
 begin "on a terminal"
-touch "$built"
+touch "$built" "$copy/out/preview/life_preview"
 "$life" run <"$first.csv" >transcript
 # a preview is slow
 many=3000

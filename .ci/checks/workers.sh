@@ -3,6 +3,7 @@
 # a thread more where each has 8,192 policies, and a lane more is one, as strace counts; and whatever the number of
 # workers, the text is that of one.
 . "$(dirname "$0")/../common.sh"
+needs_proved
 needs strace
 
 # a journal of so many issues, of all plans, ages and durations, and of twenty years

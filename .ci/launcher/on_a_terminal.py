@@ -1,29 +1,40 @@
-"""What the launcher says on a terminal: why a file can't be had, which words there are, and how far a run is.
+"""What the launcher says on a terminal: why a file can't be had, which words there are, how far a run is, and where it
+was stopped.
 
-usage: python3 on_a_terminal.py LAUNCHER SCRIPT, in a folder with a journal, and a SCRIPT that is long
+usage: python3 on_a_terminal.py LAUNCHER SCRIPT, in a folder with a journal, and a SCRIPT that is long; the launcher has a
+current preview and a proved program
 """
 from __future__ import annotations
 
 import fcntl
+import glob
 import os
 import pty
 import re
+import signal
 import sys
 import time
+from collections.abc import Callable
 
 LAUNCHER, SCRIPT = sys.argv[1:]
 
 
-def on_a_terminal(*words: str, given: str = os.devnull, taken: str = "", stop_after: float = 0) -> tuple[int, str]:
+def on_a_terminal(*words: str, given: str = os.devnull, taken: str = "",
+                  stop_when: Callable[[], bool] | None = None) -> tuple[int, str]:
     """The status, and what is written on the terminal: what the launcher says, and the text where no file takes it."""
     child, terminal = pty.fork()
     if child == 0:
-        os.dup2(os.open(given, os.O_RDONLY), 0)
+        # what runs in the background of a shell doesn't hear of it otherwise
+        signal.signal(signal.SIGINT, signal.SIG_DFL)
+        if given:
+            os.dup2(os.open(given, os.O_RDONLY), 0)
         if taken:
             os.dup2(os.open(taken, os.O_WRONLY | os.O_CREAT | os.O_TRUNC), 1)
         os.execvp("sh", ["sh", LAUNCHER, *words])
-    if stop_after:
-        time.sleep(stop_after)
+    if stop_when:
+        until = time.monotonic() + 60
+        while not stop_when() and time.monotonic() < until:
+            time.sleep(0.02)
         os.write(terminal, b"\x03")
     said = b""
     while True:
@@ -71,8 +82,31 @@ def growth() -> None:
     assert status == 0 and re.fullmatch(told + r"\r\x1b\[K", said), (status, said)
     assert lines_of("text") == lines_of(SCRIPT) + 2, "the text isn't whole"
     os.remove("journal.life")
-    status, said = on_a_terminal("run", given=SCRIPT, stop_after=took / 3)
+    stop = time.monotonic() + took / 3
+    status, said = on_a_terminal("run", given=SCRIPT, stop_when=lambda: time.monotonic() > stop)
     assert status == 130 and "life: stopped; what was accepted stands" in said, (status, said)
+
+
+def stopped_previews() -> None:
+    """A preview that is stopped while its script is typed, and while it runs."""
+    rooms = os.path.join(os.path.dirname(LAUNCHER), "out/preview/rooms")
+    status, said = on_a_terminal("try", "run", given="", stop_when=lambda: bool(glob.glob(f"{rooms}/*/input.*")))
+    assert status == 130 and "life: stopped; the script wasn't read to its end" in said, (status, said)
+    status, said = on_a_terminal("try", "run", given=SCRIPT, stop_when=lambda: running("life_preview"))
+    assert status == 130 and "life: stopped; that was a preview" in said, (status, said)
+    assert not running("life_preview"), "the preview goes on"
+
+
+def running(name: str) -> bool:
+    """Whether a program of this name runs, from a folder below this one's parent."""
+    for process in filter(str.isdigit, os.listdir("/proc")):
+        try:
+            program = os.readlink(f"/proc/{process}/exe")
+        except OSError:
+            continue
+        if program.startswith(os.path.dirname(os.getcwd())) and os.path.basename(program) == name:
+            return True
+    return False
 
 
 def lines_of(path: str) -> int:
@@ -85,3 +119,4 @@ if __name__ == "__main__":
     wrong_words()
     os.remove("journal.life")
     growth()
+    stopped_previews()

@@ -58,11 +58,11 @@ install_life() {
     is_current "$program" ||
         give_up "nothing was installed, since no proved program is as new as its sources: sh life prove" 69
     command -v python3 >/dev/null || give_up "nothing was installed: the tools need python3"
-    name_places "$@"
-    sum=$(sum_of "$program")
     staged= staged_share=
     trap 'rm -rf "$staged" "$staged_share"' EXIT
-    trap 'echo "life: stopped; nothing was installed" >&2; exit 130' INT TERM HUP
+    ends_by_signal : "nothing was installed"
+    name_places "$@"
+    sum=$(sum_of "$program")
     staged=$(mktemp -d "$dir/.life.XXXXXX" 2>/dev/null) &&
         staged_share=$(mktemp -d "$share/.life.XXXXXX" 2>/dev/null) ||
         give_up "nothing was installed: $dir and $share have to be folders that $(id -un) can write"
@@ -73,7 +73,7 @@ install_life() {
     echo "revision: $(revision)"
     echo "kit: $(kit)"
     echo "sum: $sum"
-    echo "installed: $dir/life, life-tools, life-wait; $manuals/life.1; $completions/life"
+    echo "installed: $dir/life, life-tools, life-wait; $manuals/life.1; $completions/life, life-tools, life-wait"
     case :$PATH: in *:"$dir":*) ;; *) echo "life: $dir isn't on the path" >&2 ;; esac
     exit 0
 }

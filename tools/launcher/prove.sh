@@ -20,14 +20,15 @@ show_progress() {
 
 # a command of the kit in the program's crate; what is proved by then is kept, so the next one goes on from there
 in_program() {
-    in_a_group "$root/crates/life_cli" "$@"
     ends_by_signal 'rm -f "$log" "$begun"' "what is proved is kept, and sh life prove goes on from there"
+    in_a_session "$root/crates/life_cli" "$@"
 }
 
 prove() {
     need_kit
     exec 9<"$root/crates.txt"
-    flock -n 9 || { echo "life: another launcher is proving; this one waits for it" >&2; flock 9; }
+    ends_by_signal : "nothing was begun"
+    take_turn 9 "another launcher is proving"
     is_current "$program" && { echo "life: the program is proved and built" >&2; exit 0; }
     log=$(mktemp) && begun=$(mktemp) || exit 70
     at_once=$(jobs_at_once 3000)

@@ -6,6 +6,15 @@ give_up() {
     exit "${2:-70}"
 }
 
+# Says so where another launcher has a lock, and waits for it.
+take_turn() {
+    flock -n "$1" && return
+    echo "life: $2; this one waits for it" >&2
+    # a signal is heard at once by a shell that waits for what runs in the background
+    flock "$1" &
+    wait "$!"
+}
+
 # a line on standard error, which the next one replaces on a terminal
 tell() {
     if [ -t 2 ]; then printf '\r\033[K%s' "life: $1" >&2; else echo "life: $1" >&2; fi
@@ -55,16 +64,34 @@ jobs_at_once() {
         END { print n < 1 ? 1 : n < most ? n : most }' /proc/meminfo
 }
 
-# A command in a folder and in a group of its own, so that it ends with the launcher; what it prints goes to the log.
-in_a_group() {
+# A command in a folder and in a session of its own, so that it ends with the launcher; what it prints goes to the log.
+in_a_session() {
     (cd "$1" && shift && exec setsid "$@" </dev/null >>"$log" 2>&1) &
     worker=$!
 }
 
-# what a signal does to the command in its group: it ends, and so does the launcher, which says what is left
+# the processes of a session that haven't ended
+session() {
+    cat /proc/[0-9]*/stat 2>/dev/null | sed -n "s/^\([0-9]*\) .*) [^Z] [0-9]* [0-9]* $1 .*/\1/p"
+}
+
+# Ends what was last begun in the background, with its group where it leads one, and waits until nothing of its session
+# is left; what is left after ten seconds is killed.
+end_worker() {
+    [ -n "$!" ] || return 0
+    kill -- -"$!" 2>/dev/null || kill "$!" 2>/dev/null
+    tries=0
+    while left=$(session "$!") && [ -n "$left" ] && [ "$tries" -lt 150 ]; do
+        # shellcheck disable=SC2086
+        [ "$tries" -lt 100 ] || kill -s KILL $left 2>/dev/null
+        sleep 0.1
+        tries=$((tries + 1))
+    done
+}
+
+# What a signal does from here on: what runs in the background ends, and so does the launcher, which says what is left.
 ends_by_signal() {
-    # a group that isn't there yet is the process alone
-    trap 'kill -- -"$worker" 2>/dev/null || kill "$worker" 2>/dev/null; '"$1"'
+    trap 'trap "" INT TERM HUP; end_worker; '"$1"'
         tell_no_more
         echo "life: stopped; '"$2"'" >&2
         exit 130' INT TERM HUP

@@ -24,15 +24,14 @@ other_checks() {
 # Jobs of a list, so many at once; each says a line as it ends, and leaves its counts in the folder of results.
 do_jobs() {
     setsid xargs -r -d '\n' -a "$1" -n 1 -P "$2" sh "$launcher/test_job.sh" "$root" "$results" "$3" </dev/null &
-    worker=$!
-    ends_by_signal 'rm -rf "$results"' "nothing was proved"
-    wait "$worker"
+    wait "$!"
 }
 
 run_tests() {
     case $*,$# in ,0 | --all,1) ;; *) usage "it is sh life test, or sh life test --all" ;; esac
     need_kit
     results=$(mktemp -d) || exit 70
+    ends_by_signal 'rm -rf "$results"' "the tests weren't run to their end"
     started=$(date +%s)
     : >"$results/counts"
     # a crate of tests takes up to a gigabyte and a half
@@ -40,14 +39,14 @@ run_tests() {
     { echo preview; test_crates; } >"$results/jobs"
     example_checks >"$results/checks"
     echo "life: $(test_crates | wc -l) crates of tests, $(wc -l <"$results/checks") checks, $at_once side by side" >&2
-    do_jobs "$results/jobs" "$at_once" "$preview"
-    do_jobs "$results/checks" "$at_once" "$preview"
+    do_jobs "$results/jobs" "$at_once" preview
+    do_jobs "$results/checks" "$at_once" preview
     if [ "${1-}" = --all ]; then
         other_checks >"$results/others"
         # they measure, and kill at moments: each alone
-        judged=$preview
-        ! is_current "$program" || judged=$program
-        echo "life: $(wc -l <"$results/others") checks more, of $judged" >&2
+        judged=preview
+        ! is_current "$program" || judged=proved
+        echo "life: $(wc -l <"$results/others") checks more, of the $judged program" >&2
         do_jobs "$results/others" 1 "$judged"
     fi
     trap - INT TERM HUP

@@ -1,6 +1,6 @@
-# One job of `sh life test`: test_job.sh ROOT RESULTS PROGRAM JOB, where JOB is `preview`, which builds the program that
-# the checks run, a crate of tests, or a check's file. It says a line, and more where something failed, and adds its
-# counts of what passed and failed to RESULTS/counts.
+# One job of `sh life test`: test_job.sh ROOT RESULTS JUDGED JOB, where JOB is `preview`, which builds that, a crate of
+# tests, or a check's file. A check judges the preview, or the proved program where JUDGED is `proved`. It says a line,
+# and more where something failed, and adds its counts of what passed and failed to RESULTS/counts.
 root=$1 results=$2 judged=$3 job=$4
 launcher=$root/tools/launcher
 previews=$root/out/preview
@@ -16,7 +16,7 @@ report() {
     echo "$1 $2" >>"$results/counts"
     if [ "$2" = 0 ]; then
         grep ': skipped: ' "$said"
-        echo "$name: $1 passed, after $(time_since "$started")"
+        [ "$1" = 0 ] || echo "$name: $1 passed, after $(time_since "$started")"
     else
         {
             echo "$name: $1 passed, $2 FAILED, after $(time_since "$started"):"
@@ -26,10 +26,18 @@ report() {
     fi
 }
 
+# A command in a folder, for so long at the most, which ends where this job is ended; what it prints is kept.
+do_bounded() {
+    (cd "$1" && shift && exec timeout 1800 "$@") </dev/null >"$said" 2>&1 &
+    trap 'kill "$!"; wait "$!"; exit 143' TERM
+    wait "$!"
+    ended=$?
+    trap - TERM
+} 2>/dev/null
+
 try_crate() {
     # a test has so long by the clock, whatever else the machine does; the longest take a minute with nothing beside
-    (cd "$root/crates/$job" && timeout 1800 rt try --test --seconds 600) </dev/null >"$said" 2>&1
-    ended=$?
+    do_bounded "$root/crates/$job" rt try --test --seconds 600
     grep -v '^test .* ok$' "$said" >"$said.rest"
     counts=$(sed -n 's/^test result: [A-Za-z]*\. \([0-9]*\) passed; \([0-9]*\) failed;.*/\1 \2/p' "$said")
     case $counts,$ended in
@@ -40,10 +48,17 @@ try_crate() {
 }
 
 run_check() {
-    if LIFE_PROGRAM=$judged timeout 1800 sh "$job" </dev/null >"$said" 2>&1; then
-        report 1 0
-    else
+    case $judged in
+        proved) set -- -u LIFE_PROGRAM -u LIFE_PREVIEW ;;
+        *) set -- LIFE_PROGRAM="$preview" LIFE_PREVIEW=yes ;;
+    esac
+    do_bounded "$root" env "$@" sh "$job"
+    if [ "$ended" != 0 ]; then
         report 0 1 "$said"
+    elif tail -n 1 "$said" | grep -q ': skipped: '; then
+        report 0 0
+    else
+        report 1 0
     fi
 }
 

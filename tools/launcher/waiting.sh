@@ -17,28 +17,26 @@ is_held() {
     ! { flock -n -s 7; } 7<"$1"
 } 2>/dev/null
 
-# the file that these words need, and somebody has
-held_file() {
+# the files that these words need
+needed_files() {
     case $1 in
-        run | load | value | project) set -- journal.life ;;
-        state | checkpoint) set -- journal.life checkpoint.life ;;
-        *) return ;;
+        run | load | value | project) echo journal.life ;;
+        state | checkpoint) echo journal.life checkpoint.life ;;
     esac
-    for file in "$@"; do
-        ! is_held "$file" || { echo "$file"; return; }
-    done
 }
 
-# why these words can't have the book yet: the one that has it, or one that waited longer
+# Why these words can't have the book yet: the one that has it, or one that waited longer. A lock that is tried is one for
+# a moment, and would keep off the program of another; so only the one whose turn it is tries.
 why_wait() {
     flock -n 9 2>/dev/null
     queue=$?
-    file=$(held_file "$@")
-    if [ -n "$file" ]; then
-        echo "$file is held by $(holder_of "$file")"
-    elif [ "$queue" = 1 ]; then
-        echo "another one that waited for this folder has its turn"
-    fi
+    for file in $(needed_files "$1"); do
+        holder=$(holder_of "$file")
+        if [ "$queue" = 1 ]; then [ -n "$holder" ]; else is_held "$file"; fi || continue
+        echo "$file is held by $holder"
+        return
+    done
+    [ "$queue" != 1 ] || echo "another one that waited for this folder has its turn"
 }
 
 # Waits so many seconds at most until nobody has what the words need. Those that wait take turns by a lock on the

@@ -2,6 +2,7 @@
 # Eight books of 50,000 drawn policies as one: beside a run of each, on two processes, and on a cluster of two workers on
 # the loopback, by folders and sent; all of them byte for byte. POLICIES names another size.
 . "$(dirname "$0")/../../common.sh"
+needs_proved
 . "$root/.ci/books/loopback.sh"
 
 LIFE_PROGRAM=$program

@@ -302,20 +302,19 @@ fn blocks(rt: HostRuntime) -> Result<(), Fail> {
     Ok(())
 }
 
-// The longest valuation, by its length, its first and its last lines. Built, it takes a second; `rt try` doesn't end it
-// within the minute that a test has.
+// A long valuation, by its length, its first and its last lines. The longest, of 4,000,000 rows, is asked of the built
+// program by .ci/checks/hostile.sh: `rt try` takes a minute and more over it.
 #[test]
-fn most_policies(rt: HostRuntime) -> Result<(), Fail> {
-    let rows = copies(rt.alloc(), MOST_ROWS, valued(1, GREATEST, GREATEST))?;
+fn many_policies(rt: HostRuntime) -> Result<(), Fail> {
+    let rows = copies(rt.alloc(), 100_000, valued(1, GREATEST, GREATEST))?;
     assert!(rt; are_summable(&rows));
     let Ok(text) = print_block(rt.alloc(), 8, -25_567, MOST_ROWS, Measure::Terminal, &rows) else {
-        return Err("memory for the longest block".into());
+        return Err("memory for a long block".into());
     };
-    let start =
-        "8,value,1900-01-01,4000000,4000000\nrow,7001,inforce,1,200000000.00,200000000.00\n";
+    let start = "8,value,1900-01-01,4000000,100000\nrow,7001,inforce,1,200000000.00,200000000.00\n";
     let end =
-        "row,7001,inforce,1,200000000.00,200000000.00\ntotal,800000000000000.00,800000000000000.00,0\n";
-    assert_eq!(rt; text.as_slice().len(), 35 + 4_000_000 * 45 + 46);
+        "row,7001,inforce,1,200000000.00,200000000.00\ntotal,20000000000000.00,20000000000000.00,0\n";
+    assert_eq!(rt; text.as_slice().len(), 34 + 100_000 * 45 + 44);
     assert!(rt; text.as_slice().starts_with(start.as_bytes()));
     assert!(rt; text.as_slice().ends_with(end.as_bytes()));
     Ok(())
