@@ -24,11 +24,11 @@ pub(crate) struct Heard {
 impl Model for Heard {
     ghost use Rattle.std.specs.Prelude.{List};
     ghost use Rattle.policy_types.specs.declared.command.Command.{Command};
-    ghost use Rattle.watcher_set.specs.inside.Heard.{commands_of};
+    ghost use Rattle.watcher_set.specs.inside.Heard.{all_told};
 
     ghost Value = { List Command };
 
-    ghost view = { λ heard. commands_of heard.told.value };
+    ghost view = { λ heard. all_told heard.told.value };
 }
 
 impl Heard {

@@ -3,6 +3,6 @@ use Rattle.std.specs.Prelude.{List, [], ◌∷◌, ◌++◌}
 use Rattle.policy_types.specs.declared.command.Command.{Command}
 use Rattle.watcher_set.specs.declared.heard.Told.{Told, Nothing, Of'}
 
-abbrev pub commands_of : Told → List Command
-commands_of Nothing = []
-commands_of (Of' marker earlier command) = commands_of earlier ++ command ∷ []
+abbrev pub all_told : Told → List Command
+all_told Nothing = []
+all_told (Of' marker earlier command) = all_told earlier ++ command ∷ []
