@@ -19,7 +19,7 @@ use Rattle.program_endings.specs.Refusals.{SaysUnopened}
 use Rattle.program_endings.specs.Texts.{EndsText}
 use Rattle.program_endings.specs.Writing.{Stream, WroteAll}
 use Rattle.kept_books.specs.Saved.{EndsCheckpoint, IsNoneOrEarlierOrHeld, IsSaved, checkpoint_text}
-use Rattle.kept_books.specs.Stated.{EndsStateKept, snapshot_text}
+use Rattle.kept_books.specs.Stated.{EndsStateKept, IsTold, ReadsFew, snapshot_text}
 use Rattle.kept_books.specs.Telling.{EndsTelling, TellsSnapshot}
 use Rattle.kept_books.specs.TwoDisks.{AreBothQuiet, IsHeldWhereTrue, IsOnlyRead, TwoDisks, disks_of}
 use Rattle.kept_books.specs.declared.finished.FinishedKept.{FinishedKept}
@@ -58,6 +58,13 @@ same_disks : {D E : Type 0} {g : Ghosts D} {e : Ghosts E} (disk : D) (second : E
     → finished.disk ≡ disk_of opened.journal → finished.second ≡ store_disk opened.store → disks_under disk second opened ≡ disks_of disk second finished
 same_disks disk second opened finished first kept =
     ap₂ (λ new kept. record { old = disk; new = new; second = second; kept = kept }) (sym first) (sym kept)
+
+-- what was counted, by the disks that are given back
+pub few_read : {D E : Type 0} (g : Ghosts D) (e : Ghosts E) (disk : D) (second : E) (opened : Reopened D E g e) (finished : FinishedKept D E)
+    (before now : ℕ) → finished.disk ≡ disk_of opened.journal → finished.second ≡ store_disk opened.store
+    → ReadsFew g e (disks_under disk second opened) before now → ReadsFew g e (disks_of disk second finished) before now
+few_read g e disk second opened finished before now first kept few =
+    subst (λ disks. ReadsFew g e disks before now) (same_disks disk second opened finished first kept) few
 
 module _ {D E : Type 0} (g : Ghosts D) (e : Ghosts E) (disk : D) (second : E) (opened : Reopened D E g e) (reopened : HasReopened disk second opened)
     (output : Stream) where
@@ -135,6 +142,15 @@ module _ {D E : Type 0} (g : Ghosts D) (e : Ghosts E) (disk : D) (second : E) (o
       ap₂ (λ new kept. record { old = disk; new = new; second = second; kept = kept }) (ap disk_of (sym same) ∙ sym first) (sym kept) in
       subst (λ (disks : TwoDisks D E). EndsCheckpoint g e disks output finished.ending) disks
       (subst (EndsCheckpoint g e (saved_disks only_now now.store) output) (sym same_ending) (saving_ends only_now now.store ending ends))
+
+-- a refusal writes no text
+pub untold : (cause : StartCause) (output : Stream) (ending : Ending) → SaysUnopened cause output ending → IsTold ending → ⊥
+untold (FaultyDisk count) output DiskFault said told = told
+untold NotAJournal output BadJournal said told = told
+untold (BadRecord n) output BadJournal said told = told
+untold (BadRecord n) output NoMemory said told = told
+untold NoRoom output NoMemory said told = told
+untold _ output _ said told = said
 
 -- no snapshot was read, so both disks are as they were opened
 module _ {D E : Type 0} (g : Ghosts D) (e : Ghosts E) (only_now : OnlyNow e) (disks : TwoDisks D E) (output : Stream) (cause : StartCause)

@@ -7,13 +7,13 @@ use Rattle.policy_machine.specs.History.{Opening, opened_on}
 use Rattle.posting_journal.specs.Creation.{OpensToBodies}
 use Rattle.posting_journal.specs.Starting.{HasStarted, ShowsCause, TellsCause}
 use Rattle.posting_journal.specs.Opening.{IsOpenedOn, OpensOn}
-use Rattle.posting_journal.specs.States.{StandsFor, disk_of, is_clean}
+use Rattle.posting_journal.specs.States.{StandsFor, count_of, disk_of, is_clean}
 use Rattle.posting_journal.specs.declared.faults.JournalCause.{JournalCause}
 use Rattle.posting_journal.specs.declared.faults.JournalCause.TheVariants.{DiskFault as FaultyDisk, NotAJournal as IsNoJournal, BadRecord as IsBadRecord}
 use Rattle.posting_journal.specs.declared.journal.Journal.{Journal}
 use Rattle.posting_journal.proofs.Moments.{looks_none, looks_on}
 use Rattle.checkpoint_store.specs.Checkpoints.{IsSoundSnapshot}
-use Rattle.checkpoint_store.specs.Reopening.{HasCauseOfTwo, IsFirstBadBody, IsReopened, IsSnapshotOfAll, IsTrueWhereUsed, KeepsAsBefore, StandsAsBefore}
+use Rattle.checkpoint_store.specs.Reopening.{HasCauseOfTwo, IsFirstBadBody, IsReopened, IsSnapshotOfAll, IsTrueWhereUsed, KeepsAsBefore, StandsAsBefore, TakesSteps}
 use Rattle.checkpoint_store.specs.Starts.{HasLookedAt}
 use Rattle.checkpoint_store.specs.Stores.{store_disk}
 use Rattle.checkpoint_store.specs.declared.faults.ReopenFault.{ReopenFault}
@@ -32,6 +32,7 @@ use Rattle.office_state.proofs.ImageSteps.{holds_now}
 use Rattle.office_state.proofs.KeptSteps.{keeps_first, kept_now}
 use Rattle.office_state.proofs.OpeningSteps.{CountsNow, IsStarted, OnlyNow, ReadsImage, holds_once, looked_alone, looked_ever, not_started, opening_keeps, opens_commands, started_later, synced_images}
 use Rattle.office_state.proofs.ReplaySteps.{stopped_shown}
+use Rattle.kept_books.specs.Stated.{ReadsFew}
 use Rattle.kept_books.specs.TwoDisks.{AreBothQuiet, AreTrue, HasOneFailed, IsHeldWhereTrue, IsMadeSafe, IsOnlyRead, IsSnapshotHeld, TwoDisks}
 use Rattle.kept_books.specs.declared.reopened.Reopened.{Reopened}
 use Rattle.kept_books.specs.inside.Reopened.{HasJournalOn, HasNoSnapshot, HasReopened, HasStoreOn, TellsFaultOfOne, as_start_cause, disks_under}
@@ -213,6 +214,19 @@ module _ {D E : Type 0} (g : Ghosts D) (e : Ghosts E) (reads_image : ReadsImage 
       answers opened.bodies [] are.second_honest are.first_honest opened.stands
       (subst (λ file. IsTrueWhereUsed file opened.bodies) (sym (same_file e second store after under keeps are.second_honest))
       (are.truth opened.bodies opened.opened))
+
+  -- the steps of the reopening, one for each record from the start on
+  pub reads_few : (first last : ℕ)
+      → (e.honest (store_disk after) → TakesSteps (e.reads (store_disk store)) (count_of journal) first last)
+      → ReadsFew g e disks first last
+  reads_few first last takes honest second_honest =
+      let opened = opened_so g reads_image counts_now disk journal now on stays honest in
+      record {
+        bodies = opened.bodies;
+        opened = opened.opened;
+        taken = subst (λ n. TakesSteps (e.reads second) n first last) opened.stands.count
+            (subst (λ file. TakesSteps file (count_of journal) first last) (same_file e second store after under keeps second_honest) (takes second_honest));
+      }
 
   both_quiet : e.faults (store_disk after) ≡ e.faults (store_disk store) → g.faults (disk_of now) ≡ g.faults (disk_of journal)
       → AreBothQuiet g e disks

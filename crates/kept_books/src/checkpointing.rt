@@ -1,5 +1,5 @@
 // The journal's snapshot is saved on the second disk.
-ghost use Rattle.std.specs.Prelude.{◌≡◌, IfOk};
+ghost use Rattle.std.specs.Prelude.{◌≡◌, ◌<◌, IfOk};
 ghost use Rattle.checkpoint_store.specs.Checkpoints.{IsSoundSnapshot};
 ghost use Rattle.program_endings.specs.Writing.{between};
 ghost use Rattle.kept_books.specs.Saved.{EndsCheckpoint, checkpoint_text};
@@ -9,10 +9,12 @@ ghost use Rattle.kept_books.specs.inside.Saving.{EndsSaving};
 use crate::finished::FinishedKept;
 use crate::reopened::reopen_both;
 use checkpoint_store::{Books, Snapshot, Store};
-use outside_io::{Disk, Sink};
+use outside_io::{Disk, Sink, Steps};
 use policy_types::NoMemory;
 use program_endings::{Ending, end, lack_memory, refuse_journal, write_text};
 use std::alloc::Global;
+use std::marker::Brand;
+use std::sync::ledger::{Blank, Ledger};
 use text_lines::LineWriter;
 
 /// Saves the journal's snapshot on the second disk, and writes the number of its commands. The snapshot is read as
@@ -26,7 +28,25 @@ pub fn checkpoint<K: Sink, D: Disk, E: Disk>(
     ensures { EndsCheckpoint D.Disk E.Disk (disks_of disk second result)
         (between K.faults K.written output.old output.new) result.ending }
 {
-    match reopen_both(alloc, disk, second) {
+    checkpoint_by::<K, D, E, Brand>(alloc, output, disk, second, Blank::new(1))
+}
+
+// The same, with a ledger for the steps of its reading that the blank becomes.
+fn checkpoint_by<K: Sink, D: Disk, E: Disk, L: Ledger>(
+    alloc: Global,
+    output: &mut K,
+    disk: D,
+    second: E,
+    blank: Blank,
+) -> FinishedKept<D, E>
+    requires name { blank.name ≡ L.name }
+    requires parts { blank.parts ≡ L.parts }
+    requires some { 0 < L.parts }
+    ensures { EndsCheckpoint D.Disk E.Disk (disks_of disk second result)
+        (between K.faults K.written output.old output.new) result.ending }
+{
+    let mut steps: Steps<L> = Steps::open(blank);
+    match reopen_both(alloc, disk, second, &mut steps) {
         Ok(opened) => {
             let mut opened = opened;
             let ending = save_books(alloc, &opened.books, &mut opened.store, output);

@@ -1,8 +1,9 @@
 // The two disks are opened, and the journal's snapshot is read from them.
-ghost use Rattle.std.specs.Prelude.{◌≡◌, ◌<◌, IfErr, IfOk};
+ghost use Rattle.std.specs.Prelude.{◌≡◌, IfErr, IfOk};
 ghost use Rattle.checkpoint_store.specs.Stores.{store_disk};
 ghost use Rattle.posting_journal.specs.States.{disk_of};
-ghost use Rattle.kept_books.specs.inside.Reopened.{HasJournalOn, HasNoSnapshot, HasReopened, HasStoreOn, as_start_cause};
+ghost use Rattle.kept_books.specs.Stated.{ReadsFew};
+ghost use Rattle.kept_books.specs.inside.Reopened.{HasJournalOn, HasNoSnapshot, HasReopened, HasStoreOn, as_start_cause, disks_under};
 ghost use Rattle.kept_books.specs.TwoDisks.{TwoDisks};
 
 use crate::finished::FinishedKept;
@@ -13,8 +14,7 @@ use outside_io::{Disk, Steps};
 use posting_journal::Journal;
 use program_endings::Ending;
 use std::alloc::Global;
-use std::marker::Brand;
-use std::sync::ledger::{Blank, Ledger};
+use std::sync::ledger::Ledger;
 
 /// A journal and a store on their disks, and the journal's books.
 #[derive(Drop)]
@@ -33,17 +33,20 @@ pub struct Unopened<D, E> {
 }
 
 /// Opens the journal, then the store, and reads the journal's snapshot: from the store's checkpoint on, where it has one.
-pub fn reopen_both<D: Disk, E: Disk>(
+/// Each record that is read is a step.
+pub fn reopen_both<D: Disk, E: Disk, L: Ledger>(
     alloc: Global,
     disk: D,
     second: E,
+    steps: &mut Steps<L>,
 ) -> Result<Reopened<D, E>, Unopened<D, E>>
     ensures reopened { IfOk result (λ opened. HasReopened disk second opened) }
+    ensures few { IfOk result (λ opened. ReadsFew D.Disk E.Disk (disks_under disk second opened) steps.old steps.new) }
     ensures none { IfErr result (λ none. HasNoSnapshot D.Disk E.Disk
         (record { old = disk; new = none.disk; second = second; kept = none.second }) none.cause) }
 {
     match Journal::start(disk) {
-        Ok(journal) => start_store(alloc, journal, second),
+        Ok(journal) => start_store(alloc, journal, second, steps),
         Err(fault) => Err(Unopened {
             cause: cause_of(fault.cause),
             disk: fault.disk,
@@ -53,17 +56,20 @@ pub fn reopen_both<D: Disk, E: Disk>(
 }
 
 // Starts the store, and reads the snapshot.
-fn start_store<D: Disk, E: Disk>(
+fn start_store<D: Disk, E: Disk, L: Ledger>(
     alloc: Global,
     journal: Journal<D>,
     second: E,
+    steps: &mut Steps<L>,
 ) -> Result<Reopened<D, E>, Unopened<D, E>>
     ensures reopened { (disk : D) → HasJournalOn disk journal → IfOk result (λ opened. HasReopened disk second opened) }
+    ensures few { (disk : D) → HasJournalOn disk journal
+        → IfOk result (λ opened. ReadsFew D.Disk E.Disk (disks_under disk second opened) steps.old steps.new) }
     ensures none { (disk : D) → HasJournalOn disk journal → IfErr result (λ none. HasNoSnapshot D.Disk E.Disk
         (record { old = disk; new = none.disk; second = second; kept = none.second }) none.cause) }
 {
     match Store::start(second) {
-        Ok(store) => read_snapshot::<D, E, Brand>(alloc, journal, store, Blank::new(1)),
+        Ok(store) => read_snapshot(alloc, journal, store, steps),
         Err(fault) => Err(Unopened {
             cause: StartCause::DiskFault(fault.count),
             disk: journal.release(),
@@ -72,26 +78,24 @@ fn start_store<D: Disk, E: Disk>(
     }
 }
 
-// Reads the snapshot, with a ledger for its steps that the blank becomes.
+// Reads the snapshot.
 fn read_snapshot<D: Disk, E: Disk, L: Ledger>(
     alloc: Global,
     journal: Journal<D>,
     store: Store<E>,
-    blank: Blank,
+    steps: &mut Steps<L>,
 ) -> Result<Reopened<D, E>, Unopened<D, E>>
-    requires name { blank.name ≡ L.name }
-    requires parts { blank.parts ≡ L.parts }
-    requires some { 0 < L.parts }
     ensures reopened { (disk : D) (second : E) → HasJournalOn disk journal → HasStoreOn second store
         → IfOk result (λ opened. HasReopened disk second opened) }
+    ensures few { (disk : D) (second : E) → HasJournalOn disk journal → HasStoreOn second store
+        → IfOk result (λ opened. ReadsFew D.Disk E.Disk (disks_under disk second opened) steps.old steps.new) }
     ensures none { (disk : D) (second : E) → HasJournalOn disk journal → HasStoreOn second store
         → IfErr result (λ none. HasNoSnapshot D.Disk E.Disk
         (record { old = disk; new = none.disk; second = second; kept = none.second }) none.cause) }
 {
     let mut journal = journal;
     let mut store = store;
-    let mut steps: Steps<L> = Steps::open(blank);
-    match reopen_books(alloc, &mut store, &mut journal, &mut steps) {
+    match reopen_books(alloc, &mut store, &mut journal, steps) {
         Ok(books) => Ok(Reopened {
             books,
             journal,

@@ -5,32 +5,35 @@ ghost use Rattle.policy_machine.specs.Rules.{IsSound};
 ghost use Rattle.statements.specs.Statements.{policy_text};
 ghost use Rattle.checkpoint_store.specs.Checkpoints.{IsSoundSnapshot};
 ghost use Rattle.program_endings.specs.Writing.{between};
-ghost use Rattle.kept_books.specs.Stated.{EndsStateKept, snapshot_text};
+ghost use Rattle.kept_books.specs.Stated.{EndsStateKept, IsTold, ReadsFew, snapshot_text};
 ghost use Rattle.kept_books.specs.TwoDisks.{disks_of};
 
 use crate::finished::FinishedKept;
 use crate::reopened::reopen_both;
 use checkpoint_store::Books;
-use outside_io::{Disk, Sink};
+use outside_io::{Disk, Sink, Steps};
 use policy_types::{NoMemory, Policy};
 use program_endings::{add, refuse_journal, write_text};
 use statements::{PolicyLines, balance};
 use std::alloc::Global;
+use std::sync::ledger::Ledger;
 use text_lines::Text;
 
 /// Writes all policies in order of issue, and the balances. The journal's records are decided anew from the position of
 /// the second disk's checkpoint on, where it has one that isn't above the journal's count, and else from the first on. The
-/// second disk is synced and read, and not written to.
-pub fn state_kept<K: Sink, D: Disk, E: Disk>(
+/// second disk is synced and read, and not written to. Each record that is read is a step.
+pub fn state_kept<K: Sink, D: Disk, E: Disk, L: Ledger>(
     alloc: Global,
     output: &mut K,
     disk: D,
     second: E,
+    steps: &mut Steps<L>,
 ) -> FinishedKept<D, E>
-    ensures { EndsStateKept D.Disk E.Disk (disks_of disk second result)
+    ensures few { IsTold result.ending → ReadsFew D.Disk E.Disk (disks_of disk second result) steps.old steps.new }
+    ensures ends { EndsStateKept D.Disk E.Disk (disks_of disk second result)
         (between K.faults K.written output.old output.new) result.ending }
 {
-    match reopen_both(alloc, disk, second) {
+    match reopen_both(alloc, disk, second, steps) {
         Ok(opened) => {
             let text = text_of(alloc, &opened.books);
             let ending = write_text(text, output);

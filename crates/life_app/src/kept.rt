@@ -1,11 +1,13 @@
 // The top call over two disks.
-ghost use Rattle.std.specs.Prelude.{◌≡◌, ◌≤◌, ◌⊎◌, ℕ, [], map, length};
+ghost use Rattle.std.specs.Prelude.{◌≡◌, ◌<◌, ◌≤◌, ◌⊎◌, ℕ, [], map, length};
 ghost use Rattle.std.specs.List.{AllByRecursion};
 ghost use Rattle.office_state.specs.Journals.{OpensToNone};
 ghost use Rattle.watcher_set.specs.Limits.{most_watchers};
 ghost use Rattle.program_endings.specs.Status.{status_of};
 ghost use Rattle.program_endings.specs.Writing.{between, input_between, shelf_between};
 ghost use Rattle.program_endings.specs.declared.ending.Ending.{Ending as AnEnding};
+ghost use Rattle.kept_books.specs.Stated.{EndsStateKept};
+ghost use Rattle.kept_books.specs.TwoDisks.{disks_of};
 ghost use Rattle.life_app.specs.Due.{IsDueEnding};
 ghost use Rattle.life_app.specs.DueKept.{IsDueOfBoth, IsReasonedOfBoth};
 ghost use Rattle.life_app.specs.Needs.{filing_between};
@@ -16,11 +18,13 @@ ghost use Rattle.life_app.specs.inside.Books.{GivesBooks, IsBooksOf, ended_disks
 use crate::program::{Ended, life};
 use kept_books::{FinishedKept, checkpoint, state_kept};
 use life_args::{Mode, WordsFault, read_words};
-use outside_io::{Disk, Gate, Shelf, Sink, Source};
+use outside_io::{Disk, Gate, Shelf, Sink, Source, Steps};
 use policy_types::{NoMemory, Watcher};
 use program_endings::lack_memory;
 use std::alloc::Global;
+use std::marker::Brand;
 use std::sync::Wait;
+use std::sync::ledger::{Blank, Ledger};
 use std::thread::Threads;
 
 /// What the program leaves: its exit status, and its two disks.
@@ -90,7 +94,10 @@ pub fn life_kept<
     ensures unopened { D.honest result.disk → OpensToNone (D.reads disk) → D.reads result.disk ≡ D.reads disk }
 {
     match books_of(alloc, words) {
-        Ok(Some(Books::State)) => ended(state_kept(alloc, output, disk, second)),
+        Ok(Some(Books::State)) => {
+            let blank = Blank::new(1);
+            ended(state_by::<K, D, E, Brand>(alloc, output, disk, second, blank))
+        }
         Ok(Some(Books::Checkpoint)) => ended(checkpoint(alloc, output, disk, second)),
         Ok(None) => {
             let Ended { status, disk } = life(
@@ -108,6 +115,24 @@ pub fn life_kept<
             second,
         },
     }
+}
+
+// The books of the two disks, with a ledger for the steps of their reading that the blank becomes.
+fn state_by<K: Sink, D: Disk, E: Disk, L: Ledger>(
+    alloc: Global,
+    output: &mut K,
+    disk: D,
+    second: E,
+    blank: Blank,
+) -> FinishedKept<D, E>
+    requires name { blank.name ≡ L.name }
+    requires parts { blank.parts ≡ L.parts }
+    requires some { 0 < L.parts }
+    ensures { EndsStateKept D.Disk E.Disk (disks_of disk second result)
+        (between K.faults K.written output.old output.new) result.ending }
+{
+    let mut steps: Steps<L> = Steps::open(blank);
+    state_kept(alloc, output, disk, second, &mut steps)
 }
 
 // Which of the modes that open both disks the words ask for, if one.

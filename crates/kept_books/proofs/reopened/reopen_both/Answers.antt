@@ -8,6 +8,12 @@ returns-in-Ok-clause-reopened g c =
     c.start_store.ensures.reopened c.args.disk
     (record { quiet = start.quiet; clean = start.clean; honesty = start.honesty; opened = start.opened; opens = start.opens })
 
+pub returns-in-Ok-clause-few : goal.returns-in-Ok-clause-few
+returns-in-Ok-clause-few g c =
+    let start = c.in-Ok.ensures in
+    c.start_store.ensures.few c.args.disk
+    (record { quiet = start.quiet; clean = start.clean; honesty = start.honesty; opened = start.opened; opens = start.opens })
+
 pub returns-in-Ok-clause-none : goal.returns-in-Ok-clause-none
 returns-in-Ok-clause-none g c =
     let start = c.in-Ok.ensures in

@@ -7,20 +7,20 @@ use Rattle.life_app.proofs.kept.life_kept.Goals as goal
 pub returns-in-Ok-Some-State-clause-reason_both : goal.returns-in-Ok-Some-State-clause-reason_both
 returns-in-Ok-Some-State-clause-reason_both g c both =
     let asked : AskForBooks c.args.words.now = rw (c.in-Ok-Some-State.field-0-is, c.in-Ok-Some-State.field-0-0-is) at c.in-Ok-Some-State.ensures in
-    reason_both g.D.Disk g.E.Disk c.args.disk c.args.second c.state_kept.result c.ended.result c.ended.ensures.status c.ended.ensures.disk c.ended.ensures.second
-    c.args.words.now _ (inl (asked, c.state_kept.ensures))
+    reason_both g.D.Disk g.E.Disk c.args.disk c.args.second c.state_by.result c.ended.result c.ended.ensures.status c.ended.ensures.disk c.ended.ensures.second
+    c.args.words.now _ (inl (asked, c.state_by.ensures))
 
 pub returns-in-Ok-Some-State-clause-due_both : goal.returns-in-Ok-Some-State-clause-due_both
 returns-in-Ok-Some-State-clause-due_both g c wanted both due =
     let asked : AskForBooks c.args.words.now = rw (c.in-Ok-Some-State.field-0-is, c.in-Ok-Some-State.field-0-0-is) at c.in-Ok-Some-State.ensures in
-    due_both g.D.Disk g.E.Disk c.args.disk c.args.second c.state_kept.result c.ended.result c.ended.ensures.status c.ended.ensures.disk c.ended.ensures.second
-    c.args.words.now _ (inl (asked, c.state_kept.ensures)) wanted due
+    due_both g.D.Disk g.E.Disk c.args.disk c.args.second c.state_by.result c.ended.result c.ended.ensures.status c.ended.ensures.disk c.ended.ensures.second
+    c.args.words.now _ (inl (asked, c.state_by.ensures)) wanted due
 
 pub returns-in-Ok-Some-State-clause-unopened : goal.returns-in-Ok-Some-State-clause-unopened
 returns-in-Ok-Some-State-clause-unopened g c =
     let asked : AskForBooks c.args.words.now = rw (c.in-Ok-Some-State.field-0-is, c.in-Ok-Some-State.field-0-0-is) at c.in-Ok-Some-State.ensures in
-    unopened_both g.D.Disk g.E.Disk c.args.disk c.args.second c.state_kept.result c.ended.result c.ended.ensures.status c.ended.ensures.disk c.ended.ensures.second
-    c.args.words.now _ (inl (asked, c.state_kept.ensures))
+    unopened_both g.D.Disk g.E.Disk c.args.disk c.args.second c.state_by.result c.ended.result c.ended.ensures.status c.ended.ensures.disk c.ended.ensures.second
+    c.args.words.now _ (inl (asked, c.state_by.ensures))
 
 pub returns-in-Ok-Some-Checkpoint-clause-reason_both : goal.returns-in-Ok-Some-Checkpoint-clause-reason_both
 returns-in-Ok-Some-Checkpoint-clause-reason_both g c both =
