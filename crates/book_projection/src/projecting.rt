@@ -4,6 +4,7 @@ ghost use Rattle.life_dates.specs.Calendar.{IsDay};
 ghost use Rattle.shared_office.specs.Offices.{IsOfficeHistory};
 ghost use Rattle.shared_office.specs.Starting.{HasStartedOffice};
 ghost use Rattle.turn_lock.specs.Passes.{PassFacts};
+ghost use Rattle.program_endings.specs.Refusals.{SaysUnopened};
 ghost use Rattle.program_endings.specs.Writing.{between, shelf_between};
 ghost use Rattle.program_endings.specs.declared.ending.Ending.TheVariants.{ReadFault};
 ghost use Rattle.book_projection.specs.Projecting.{EndsProject, EndsProjecting};
@@ -12,6 +13,7 @@ ghost use Rattle.book_projection.specs.inside.Projected.{EndsPrinted, IsLoneProj
 use basis_book::{Basis, Name};
 use basis_shelf::fetch_basis;
 use cash_projection::{Projection, print_projection};
+use office_state::StartFault;
 use outside_io::{Disk, Gate, Shelf, Sink};
 use program_endings::{Ending, Finished, lack_memory, refuse_basis, refuse_journal, write_text};
 use shared_office::{Office, OfficeCalls, OfficePass, close};
@@ -78,10 +80,22 @@ fn project_by<R: Threads + Wait + Sync, K: Sink, D: Disk, G: Gate>(
                 rt, alloc, on, years, workers, basis, office, pass, output, gate,
             )
         }
-        Err(fault) => Finished {
-            ending: refuse_journal(alloc, fault.cause, output),
-            disk: fault.disk,
-        },
+        Err(fault) => refuse_opening(alloc, fault, output),
+    }
+}
+
+// Says why no office was opened, and gives the disk back.
+fn refuse_opening<K: Sink, D: Disk>(
+    alloc: Global,
+    fault: StartFault<D>,
+    output: &mut K,
+) -> Finished<D>
+    ensures says { SaysUnopened fault.cause (between K.faults K.written output.old output.new) result.ending }
+    ensures disk { result.disk ≡ fault.disk }
+{
+    Finished {
+        ending: refuse_journal(alloc, fault.cause, output),
+        disk: fault.disk,
     }
 }
 

@@ -37,7 +37,8 @@ pub struct Path {
 impl PathKey {
     /// Whether both are by the same rates and of the same age.
     pub fn is(self, other: PathKey) -> bool
-        ensures { IsTrue result → self ≡ other }
+        ensures equal { IsTrue result → self ≡ other }
+        ensures same { self ≡ other → IsTrue result }
     {
         self.row == other.row && self.issue == other.issue && self.age == other.age
     }

@@ -101,11 +101,24 @@ fn read_snapshot<D: Disk, E: Disk, L: Ledger>(
             journal,
             store,
         }),
-        Err(fault) => Err(Unopened {
-            cause: start_cause(fault),
-            disk: journal.release(),
-            second: store.release(),
-        }),
+        Err(fault) => Err(unread(fault, journal, store)),
+    }
+}
+
+// Why the snapshot isn't read, and the two disks.
+fn unread<D: Disk, E: Disk>(
+    fault: ReopenFault,
+    journal: Journal<D>,
+    store: Store<E>,
+) -> Unopened<D, E>
+    ensures cause { result.cause ≡ as_start_cause fault }
+    ensures disk { result.disk ≡ disk_of journal }
+    ensures second { result.second ≡ store_disk store }
+{
+    Unopened {
+        cause: start_cause(fault),
+        disk: journal.release(),
+        second: store.release(),
     }
 }
 

@@ -358,15 +358,17 @@ module _ {D : Type 0} (g : Ghosts D) (old new : D) (auditors : List Auditor) whe
           let file = journal.1 in
           loaded has.files has.basis journal.0 (seed, (count, (lanes, (workers, asked)))) has.agree has.is file.honest file.opens has.held output_held file.held
 
-      pub due : (shelf.faults_before < shelf.faults_after → ending ≡ ReadFault) → (wanted : Ending) → IsDueEnding words input output shelf (filing_between g old new) wanted
+      pub due : (shelf.faults_before < shelf.faults_after → ending ≡ ReadFault)
+          → (input.faults_before < input.faults_after → ending ≡ ReadFault) → (wanted : Ending) → IsDueEnding words input output shelf (filing_between g old new) wanted
           → (status_of ending ≡ status_of wanted) ⊎ (status_of ending ≡ 9)
-      due counted Usage is = as_nothing ending does is
-      due counted BadScript is = unscript is.0 is.1 is.2
-      due counted BadBasis is = bad_basis is.0 is.1 is.2
-      due counted BadJournal is = bad_journal is.0 is.1 is.2 is.3
-      due counted Done is = done is.0 is.1 is.2 is.3 is.4
-      due counted Ahead (on, (p, (name, asked, has, (commands, file, past)))) =
+      due counted heard Usage is = as_nothing ending does is
+      due counted heard BadScript is = unscript is.0 is.1 is.2
+      due counted heard BadBasis is = bad_basis is.0 is.1 is.2
+      due counted heard BadJournal is = bad_journal is.0 is.1 is.2 is.3
+      due counted heard Done is = done is.0 is.1 is.2 is.3 is.4
+      due counted heard Ahead (on, (p, (name, asked, has, (commands, file, past)))) =
           ahead on p name has.files has.basis commands asked has.agree has.is file.honest file.opens past has.held file.held
-      due counted ReadFault is = inl (ap (λ (e : Ending). status_of e) (counted is))
-      due counted DiskFault is = fault_told g old new output is.0 is.1 words auditors input shelf InputStays ShelfStays ending does
-      due counted _ is = absurd is
+      due counted heard ReadFault (inl rose) = inl (ap (λ (e : Ending). status_of e) (counted rose))
+      due counted heard ReadFault (inr rose) = inl (ap (λ (e : Ending). status_of e) (heard rose))
+      due counted heard DiskFault is = fault_told g old new output is.0 is.1 words auditors input shelf InputStays ShelfStays ending does
+      due counted heard _ is = absurd is

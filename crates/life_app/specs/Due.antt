@@ -105,8 +105,8 @@ LacksItsJournal (Generate seed count lanes) disk = ⊥
 LacksItsJournal _ disk = HasNoJournal disk
 
 -- The ending that is due: by the words; by the script; by the basis; by the journal, and how many commands it has; where
--- nothing is lacking, and the output doesn't fail, the work is done; and where the count of the shelf rises, or that of the
--- disk while the output doesn't fail, that is told.
+-- nothing is lacking, and the output doesn't fail, the work is done; and where the count of the shelf or of the input rises,
+-- or that of the disk while the output doesn't fail, that is told.
 abbrev pub IsDueEnding : List (String Global) → Input → Stream → Shelving → Filing → Ending → Type 0
 IsDueEnding words input output shelf disk Usage = AskForNothing words
 IsDueEnding words input output shelf disk BadScript = (name : List ℕ) × AskForRun words name × HasNoScript input
@@ -119,7 +119,8 @@ IsDueEnding words input output shelf disk Ahead =
 IsDueEnding words input output shelf disk Done =
     (mode : Mode) × AskFor words mode × HasItsNeeds mode input shelf × HasItsJournal mode disk
     × IsHeld output.faults_before output.faults_after
-IsDueEnding words input output shelf disk ReadFault = shelf.faults_before < shelf.faults_after
+IsDueEnding words input output shelf disk ReadFault =
+    (shelf.faults_before < shelf.faults_after) ⊎ (input.faults_before < input.faults_after)
 IsDueEnding words input output shelf disk DiskFault =
     (disk.faults_before < disk.faults_after) × IsHeld output.faults_before output.faults_after
 IsDueEnding _ _ _ _ _ _ = ⊥

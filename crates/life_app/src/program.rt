@@ -106,6 +106,7 @@ fn obey<
         (between K.faults K.written output.old output.new)
         (shelf_between H.faults H.agrees shelf.old shelf.new)
         (input.new ≡ input.old) (shelf.new ≡ shelf.old) result.ending }
+    ensures heard { S.faults input.old < S.faults input.new → result.ending ≡ ReadFault }
     ensures counted { H.faults shelf.old < H.faults shelf.new → result.ending ≡ ReadFault }
     ensures files { H.files shelf.new ≡ H.files shelf.old }
 {

@@ -172,3 +172,11 @@ ends_unread g disk name auditors input output shelf ShelfStays unread ending sta
     by ReadFault InputFault is said = (is.fault refl, said)
     by OutOfMemory NoMemory is said = said
     by _ _ is said = absurd said
+
+-- where the input failed, this is told
+pub failed_told : (unread : Unread) (output : Stream) (ending : Ending) → unread ≡ ReadFault → SaysUnread unread output ending → ending ≡ InputFault
+failed_told ReadFault output InputFault failed says = refl
+failed_told ReadFault output _ failed says = absurd says
+failed_told TooLong output ending failed says = cc
+failed_told (BadRow row field) output ending failed says = cc
+failed_told OutOfMemory output ending failed says = cc

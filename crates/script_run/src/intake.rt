@@ -1,5 +1,5 @@
 // What is read from the input.
-ghost use Rattle.std.specs.Prelude.{◌≡◌, ◌≤◌, ℕ, List, Err, IfOk, IsErrOf};
+ghost use Rattle.std.specs.Prelude.{◌≡◌, ◌<◌, ◌≤◌, ℕ, List, Err, IfOk, IsErrOf};
 ghost use Rattle.outside_io.specs.Faults.{Rose};
 ghost use Rattle.program_endings.specs.Writing.{GaveAll, input_between};
 ghost use Rattle.script_run.specs.Script.{GaveBadRow, GaveTooMany, IsReadAs};
@@ -32,6 +32,7 @@ pub fn read_lanes<S: Source>(alloc: Global, input: &mut S) -> Result<Script, Unr
     ensures bad_row { (row field : ℕ) → result ≡ Err (BadRow row field)
         → GaveBadRow (input_between S.faults S.left S.given S.ended input.old input.new) row field }
     ensures fault { IsErrOf result Unread.ReadFault → Rose (S.faults input.old) (S.faults input.new) }
+    ensures counted { S.faults input.old < S.faults input.new → IsErrOf result Unread.ReadFault }
     ensures later { S.faults input.old ≤ S.faults input.new }
 {
     let bytes = match read_all(alloc, input, MOST_SCRIPT_BYTES) {

@@ -57,7 +57,8 @@ pub fn run<
     ensures ends { EndsRun D.Disk disk result.disk name.now (W.handed watchers) (input_between S.faults S.left S.given S.ended input.old input.new)
         (between K.faults K.written output.old output.new) (shelf_between H.faults H.agrees shelf.old shelf.new)
         (shelf.new ≡ shelf.old) result.ending }
-    // Where the shelf failed the run ends with that, and with nothing else.
+    // Where the input failed, or the shelf did, the run ends with that, and with nothing else.
+    ensures heard { S.faults input.old < S.faults input.new → result.ending ≡ ReadFault }
     ensures counted { H.faults shelf.old < H.faults shelf.new → result.ending ≡ ReadFault }
     ensures files { H.files shelf.new ≡ H.files shelf.old }
 {

@@ -1,5 +1,5 @@
 -- Those alive of an age, as a path holds them.
-use Rattle.std.specs.Prelude.{◌≡◌, ℕ, ◌+◌, ◌<◌, ◌≤◌, List, length, All, slice_index_or, slice_get, Some}
+use Rattle.std.specs.Prelude.{◌≡◌, ℕ, ◌+◌, ◌*◌, ◌%◌, ◌<◌, ◌≤◌, List, length, All, slice_index_or, slice_get, Some}
 use Rattle.rate_table.specs.Rates.{Rates, rate_at}
 use Rattle.select_rates.specs.Along.{table_along}
 use Rattle.select_rates.specs.declared.any.AnyTable.{AnyTable}
@@ -56,3 +56,11 @@ pub record ArePaths (basis : List Dated) (paths : Paths) : Type 0 where
 pub record IsPathAt (table : Rates) (age : ℕ) (kept : List Path) (place : ℕ) : Type 0 where
   pub within : place < length kept
   pub here : (none : Path) → IsSurvivalPath table age (slice_index_or kept place none)
+
+-- the path of a key lies at a place
+abbrev pub IsKeptAt : List Path → PathKey → ℕ → Type 0
+IsKeptAt kept key place = (none : Path) → (slice_index_or kept place none).key ≡ key
+
+-- the place of a key among so many
+abbrev pub slot_of : PathKey → ℕ → ℕ
+slot_of key count = (key.row * 131 + key.issue * 17 + key.age) % count

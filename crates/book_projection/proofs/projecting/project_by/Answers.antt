@@ -11,6 +11,6 @@ returns-in-Ok g c =
 
 pub returns-in-Err : goal.returns-in-Err
 returns-in-Err g c =
-    ends_refused g.D.Disk c.args.disk c.in-Err.fault.disk
-    (IsProjected g.D.Disk c.args.disk c.in-Err.fault.disk c.args.on c.args.years c.args.basis.now) _ c.in-Err.fault.cause c.refuse_journal.result
-    c.in-Err.ensures.refused c.refuse_journal.ensures.says
+    rw c.refuse_opening.ensures.disk (ends_refused g.D.Disk c.args.disk c.in-Err.fault.disk
+    (IsProjected g.D.Disk c.args.disk c.in-Err.fault.disk c.args.on c.args.years c.args.basis.now) _ c.in-Err.fault.cause c.refuse_opening.result.ending
+    c.in-Err.ensures.refused c.refuse_opening.ensures.says)

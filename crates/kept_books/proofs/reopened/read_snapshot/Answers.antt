@@ -18,8 +18,8 @@ returns-in-Ok-clause-few g c disk second on under =
 pub returns-in-Err-clause-none : goal.returns-in-Err-clause-none
 returns-in-Err-clause-none g c disk second on under =
     let done = c.in-Err.ensures in
-    renamed g.D.Disk g.E.Disk disk _ c.release.result second _ c.release-in-Err.result _ c.start_cause.result
-    c.release.ensures c.release-in-Err.ensures c.start_cause.ensures
+    renamed g.D.Disk g.E.Disk disk _ c.unread.result.disk second _ c.unread.result.second _ c.unread.result.cause
+    c.unread.ensures.disk c.unread.ensures.second c.unread.ensures.cause
     (has_no_snapshot g.D.Disk g.E.Disk g.met.D.Disk.reads_as_image g.met.D.Disk.counts_now disk c.args.journal c.reopen_books.new.journal on done.journal
     second c.args.store c.reopen_books.new.store under done.store c.in-Err.fault done.cause
     (λ bodies faulted second_honest honest stands are. done.reopened bodies faulted second_honest honest stands are))

@@ -10,7 +10,7 @@ returns-clause-reason g c = (
 )
 
 pub returns-clause-due : goal.returns-clause-due
-returns-clause-due g c = rw c.status.ensures (step.due g.D.Disk c.args.disk c.obey-finished.result.disk _ c.args.words.now _ _ _ _ _ c.obey-finished.result.ending c.obey-finished.ensures.does c.obey-finished.ensures.counted)
+returns-clause-due g c = rw c.status.ensures (step.due g.D.Disk c.args.disk c.obey-finished.result.disk _ c.args.words.now _ _ _ _ _ c.obey-finished.result.ending c.obey-finished.ensures.does c.obey-finished.ensures.counted c.obey-finished.ensures.heard)
 
 pub returns-clause-unopened : goal.returns-clause-unopened
 returns-clause-unopened g c = step.unopened g.D.Disk c.args.disk c.obey-finished.result.disk _ c.args.words.now _ _ _ _ _ c.obey-finished.result.ending c.obey-finished.ensures.does

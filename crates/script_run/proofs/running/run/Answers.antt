@@ -1,6 +1,6 @@
-use Rattle.std.proofs.Common.{ℕ, ◌≡◌, ◌∙◌, ap, inl, refl, Err}
+use Rattle.std.proofs.Common.{ℕ, ◌≡◌, ◌∙◌, ap, inl, refl, sym, Err}
 use Rattle.script_run.specs.declared.intake.Unread.TheVariants.{TooLong, BadRow, ReadFault}
-use Rattle.script_run.proofs.RunSteps.{ends_unread}
+use Rattle.script_run.proofs.RunSteps.{ends_unread, failed_told}
 use Rattle.script_run.proofs.ScriptSteps.{script_lanes}
 use Rattle.script_run.proofs.running.run.Goals as goal
 
@@ -29,3 +29,13 @@ returns-in-Err-clause-ends g c =
       fault = λ (e : c.in-Err.unread ≡ ReadFault). c.read_lanes.ensures.fault (c.in-Err.is ∙ ap Err e);
     })
     c.refuse.ensures.says
+
+pub returns-in-Ok-clause-heard : goal.returns-in-Ok-clause-heard
+returns-in-Ok-clause-heard g c = λ rose.
+    let failed = c.read_lanes.ensures.counted rose in
+    let given = c.in-Ok.is in cc
+
+pub returns-in-Err-clause-heard : goal.returns-in-Err-clause-heard
+returns-in-Err-clause-heard g c = λ rose.
+    let same : Err c.in-Err.unread ≡ Err ReadFault = sym c.in-Err.is ∙ c.read_lanes.ensures.counted rose in
+    let failed : c.in-Err.unread ≡ ReadFault = cc in failed_told c.in-Err.unread _ c.refuse.result failed c.refuse.ensures.says

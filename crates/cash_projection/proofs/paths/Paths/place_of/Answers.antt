@@ -1,4 +1,4 @@
-use Rattle.std.proofs.Common.{arith, ap, sym, ◌∙◌, ◌<◌, length}
+use Rattle.std.proofs.Common.{◌≡◌, arith, ap, sym, ◌∙◌, ◌<◌, length, true≢false}
 use Rattle.std.proofs.lemmas.List.{length-set, get_or_read}
 use Rattle.std.proofs.lemmas.List.Elements.{All-set}
 use Rattle.cash_projection.specs.inside.Paths.{IsRightPath}
@@ -12,7 +12,7 @@ returns-then-is-clause-here c =
     let within : c.slot_of-place.result < length kept = omega arith in
     kept_here c.args.basis.now c.args.key c.args.rates.now kept c.slot_of-place.result c.requires.right.right within
     c.requires.age.1 c.requires.rates
-    (λ none. ap (λ (p : Path). p.key) (sym (get_or_read kept _ _ within c.index.ensures none)) ∙ c.is.ensures c.if-is.true)
+    (λ none. ap (λ (p : Path). p.key) (sym (get_or_read kept _ _ within c.index.ensures none)) ∙ c.is.ensures.equal c.if-is.true)
 
 pub returns-clause-right : goal.returns-clause-right
 returns-clause-right c = record {
@@ -25,3 +25,10 @@ returns-clause-right c = record {
 pub returns-clause-here : goal.returns-clause-here
 returns-clause-here c =
     put_here c.args.rates.now c.args.key.age c.args.self.now.kept.items c.slot_of-place.result c.of.result (omega arith) c.of.ensures.path
+
+pub returns-clause-found : goal.returns-clause-found
+returns-clause-found c = λ kept_there.
+    let kept = c.args.self.now.kept.items in
+    let within : c.slot_of-place.result < length kept = omega arith in
+    let same = ap (λ (p : Path). p.key) (get_or_read kept _ _ within c.index.ensures c.of.result) ∙ kept_there c.of.result in
+    absurd (true≢false (sym (c.is.ensures.same same) ∙ c.if-is.false))
