@@ -31,24 +31,16 @@ OF_A_DISK = set("""
 
 # Held by no worked case, for good, by the reason.
 EXCEPTIONS = {
-    "How a mode ends that no worked run is of: it puts together what is held apart, and says no value of its own.": """
-        life_app.specs.Obeys.EndsMode script_run.specs.Running.EndsByName script_run.specs.Running.EndsScriptBy
-        trial_load.specs.Generating.EndsGenerate trial_load.specs.Loading.EndsBegun trial_load.specs.Loading.EndsLoad
-        trial_load.specs.Loading.EndsLoadBy trial_load.specs.Loading.EndsLoading trial_load.specs.Loading.IsLoadOf
-        book_value.specs.Valuing.EndsByBasis book_value.specs.Valuing.EndsValue book_value.specs.Valuing.EndsValuing""",
+    "How a mode ends with a basis: no worked run has one. It puts together what is held apart, and says no value of its own.": """
+        script_run.specs.Running.EndsByName script_run.specs.Running.EndsScriptBy
+        trial_load.specs.Loading.EndsBegun trial_load.specs.Loading.EndsLoadBy
+        trial_load.specs.Loading.EndsLoading trial_load.specs.Loading.IsLoadOf
+        book_value.specs.Valuing.EndsByBasis book_value.specs.Valuing.EndsValuing""",
     "The devices of a contract, as one value.": """
         program_endings.specs.Writing.between program_endings.specs.Writing.input_between
         program_endings.specs.Writing.shelf_between life_app.specs.inside.Books.ended_disks""",
     "Says nothing.": "program_endings.specs.Replies.AreAny",
 }
-
-# Premises that no worked case builds, by the reason.
-UNBUILT = {
-    "A mode that no worked run is of: `Obeys` is built by another one.": """
-        life_app.specs.Obeys.EndsMode book_projection.specs.Projecting.EndsProject book_value.specs.Valuing.EndsValue
-        trial_load.specs.Generating.EndsGenerate trial_load.specs.Loading.EndsLoad""",
-}
-
 
 class Texts:
     """All definitions of specs/, what each shows and asks for, and what its words mean."""
@@ -150,12 +142,11 @@ def main():
     built = built_by(texts, cases)
     bare = promise - held_by(texts, cases, built)
     excepted = {key for names in EXCEPTIONS.values() for key in names.split()}
-    empty, spared = premises - built, {key for names in UNBUILT.values() for key in names.split()}
+    empty = premises - built
     wrong = [f"no worked case rests on {key}" for key in sorted(bare - excepted)]
     wrong += [f"{key} is held, or gone, and needs no exception" for key in sorted(excepted - bare)]
-    wrong += [f"no worked case builds the premise {key}" for key in sorted(empty - spared)]
-    wrong += [f"{key} is built, or no premise, and needs no exception" for key in sorted(spared - empty)]
-    if len(excepted) >= 40:
+    wrong += [f"no worked case builds the premise {key}" for key in sorted(empty)]
+    if len(excepted) >= 20:
         wrong.append(f"{len(excepted)} exceptions are too many")
     for what in wrong:
         print(f"worked: {what}", file=sys.stderr)
@@ -163,7 +154,7 @@ def main():
         print("\n".join(sorted(bare)), "\n".join(f"premise {key}" for key in sorted(premises)), sep="\n")
     if not wrong:
         print(f"worked: {len(cases)} cases hold {len(promise - bare)} of the {len(promise)} definitions under the promise, "
-              f"and build {len(premises - empty)} of its {len(premises)} premises; {len(excepted | spared)} are excepted")
+              f"and build its {len(premises)} premises; {len(excepted)} are excepted")
     return 1 if wrong else 0
 
 

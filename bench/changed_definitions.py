@@ -1,4 +1,4 @@
-"""Twenty changes of what definitions mean, one at a time: a worked case has to refuse each.
+"""Twenty-four changes of what definitions mean, one at a time: a worked case has to refuse each.
 
 usage: python3 bench/changed_definitions.py [--processes N] [--logs FOLDER] [NUMBER..]
 
@@ -87,6 +87,19 @@ CHANGES = [
     ("the last line tells the position asked for, and not the count", "book_value/specs/Valuing.antt",
      ["(codes \"refused,ahead,\" ++ decimal (length commands))", "(codes \"refused,ahead,\" ++ decimal (position_of at (length commands)))"],
      "book_value", "worked::valuations_by_hand"),
+    ("no run is ever cut", "life_app/specs/Runs.antt",
+     ["  pub when : (run.answered ≡ []) ⊎ HasAnsweredSome g old run\n",
+      "  pub when : (run.answered ≡ []) ⊎ HasAnsweredSome g old run\n  pub never : ⊥\n"],
+     "life_app", "worked_run::runs_by_hand"),
+    ("no disk has a journal", "life_app/specs/Due.antt",
+     ["  pub opens : Opens disk.before commands\n", "  pub opens : Opens disk.before commands\n  pub never : ⊥\n"],
+     "life_app", "worked_run::due_by_hand"),
+    ("no run is one over both disks", "life_app/specs/KeptRuns.antt",
+     ["  pub before : e.honest second\n", "  pub before : e.honest second\n  pub never : ⊥\n"],
+     "life_app", "worked_run::both_disks_by_hand"),
+    ("no two disks are good", "life_app/specs/DueKept.antt",
+     ["  pub none_failed : ¬ HasOneFailed g e disks\n", "  pub none_failed : ¬ HasOneFailed g e disks\n  pub never : ⊥\n"],
+     "life_app", "worked_run::both_disks_by_hand"),
 ]
 
 

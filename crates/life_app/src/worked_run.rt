@@ -5,7 +5,7 @@ ghost use Rattle.life_app.specs.WorkedRun.Runs.{CrashesByHand, FoundByHand, Left
 ghost use Rattle.life_app.specs.WorkedRun.Promise.{GivenByHand, HeadlineByHand, ObeyedByHand, PromisedByHand};
 ghost use Rattle.life_app.specs.WorkedRun.Due.{BasisByHand, DueByHand, DueOfTheRun, NeedsByHand};
 ghost use Rattle.life_app.specs.WorkedRun.Both.{DueOfBothByHand, DueOfTheSaving, LeftOfTwoByHand, OtherwiseByHand, PartsOfTwoByHand, RowOfTwoByHand, SavedByHand, StatedByHand, TrustedByHand};
-ghost use Rattle.life_app.specs.WorkedRun.Told.{EnclosedByHand, EndedByHand, ReasonsByHand};
+ghost use Rattle.life_app.specs.WorkedRun.Told.{EnclosedByHand, EndedByHand, ModesByHand, ReasonsByHand};
 
 use basis_shelf::shelves_by_hand;
 use command_csv::{faults_are_placed, lines_are_written};
@@ -67,6 +67,7 @@ pub fn both_disks_by_hand()
 /// What is concluded of the run, and of small values: what a run adds, why a program ends so, and an enclosing row.
 pub fn told_by_hand()
     ensures ended { EndedByHand }
+    ensures modes { ModesByHand }
     ensures reasons { ReasonsByHand }
     ensures enclosed { EnclosedByHand }
 {

@@ -320,7 +320,7 @@ books_of_issue : books_text (hand_issue ∷ []) ≡ issue_books
 unfolding digits anniversary_of day_number date_of date_at year_of month_of days_before days_before_year days_of_months day_text account_line count_text policy_text
 books_of_issue = refl
 
-stated_alone : EndsState called cut_disk looked_disk books_text (output_of issue_books) Done
+pub stated_alone : EndsState called cut_disk looked_disk books_text (output_of issue_books) Done
 stated_alone = record {
   commands = hand_issue ∷ [];
   opened = λ honest. inl (journal_of_issue cut_file cut);

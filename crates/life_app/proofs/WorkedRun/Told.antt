@@ -29,14 +29,16 @@ use Rattle.policy_value.specs.Rows.{IsInsured}
 use Rattle.policy_value.specs.declared.worth.Measure.TheVariants.{Terminal}
 use Rattle.policy_value.specs.declared.worth.Row.{Row}
 use Rattle.snapshot_value.specs.Valuing.{IsValuedRow}
-use Rattle.program_endings.specs.declared.ending.Ending.TheVariants.{Done}
+use Rattle.program_endings.specs.declared.ending.Ending.TheVariants.{Done, BadBasis}
+use Rattle.program_endings.specs.WithoutBasis.{EndsNoBasis}
+use Rattle.life_app.proofs.WorkedRun.Both.{stated_alone}
 use Rattle.script_run.specs.Running.{ReadsForValues}
 use Rattle.life_app.specs.Headline.{IsEnclosingRow, IsEnclosingText, IsUnrun}
 use Rattle.life_app.specs.Needs.{HasBadFile}
 use Rattle.life_app.specs.WorkedRun.Calls.{called, cut_disk}
 use Rattle.life_app.specs.WorkedRun.Due.{value_lanes, value_script}
 use Rattle.life_app.specs.WorkedRun.Promise.{AreTyped, output_of}
-use Rattle.life_app.specs.WorkedRun.Told.{EnclosedByHand, EndedByHand, ReasonsByHand, absent_basis, first_endowment, first_value, five_text, two_bases, unstocked_shelf}
+use Rattle.life_app.specs.WorkedRun.Told.{EnclosedByHand, EndedByHand, ModesByHand, ReasonsByHand, absent_basis, first_endowment, first_value, five_text, two_bases, unstocked_shelf}
 use Rattle.life_app.proofs.HeadlineLaws.{each_pair, enclosing}
 use Rattle.life_app.proofs.WorkedRun.Promise.{asks_run}
 use Rattle.life_app.proofs.WorkedRun.First.{honest_last}
@@ -52,6 +54,13 @@ ended_by_hand = (
   unrun,
 )
 
+no_basis : EndsNoBasis (codes "basis.csv") unstocked_shelf (output_of absent_basis) BadBasis
+unfolding digits bad_basis_text
+no_basis = (record { name = codes "basis.csv"; place = 0; word = Absent }, (λ files agree. inl (refl, (agree.1, refl))), inl refl)
+
+pub modes_by_hand : ModesByHand
+modes_by_hand = (inr (refl, no_basis), inr (refl, no_basis), inr (refl, no_basis), inl refl, (tt, tt, stated_alone))
+
 module _ (line : ValueLine) where
   reads_values : ReadsForValues value_script
   reads_values = record {
@@ -64,15 +73,7 @@ module _ (line : ValueLine) where
 
   bad_file : (words : List (String Global)) → AreTyped words (codes "run" ∷ []) → HasBadFile words value_script unstocked_shelf (output_of absent_basis)
   unfolding digits bad_basis_text
-  bad_file words same = (
-    codes "basis.csv",
-    (
-      record { name = codes "basis.csv"; place = 0; word = Absent },
-      inr (inl (asks_run words same, reads_values)),
-      (λ files agree. inl (refl, (agree.1, refl))),
-      inl refl,
-    ),
-  )
+  bad_file words same = (codes "basis.csv", (no_basis.0, inr (inl (asks_run words same, reads_values)), no_basis.1, no_basis.2))
 
   pub reasons_by_hand : ReasonsByHand
   unfolding digits

@@ -1,5 +1,5 @@
 -- What the laws and the contract conclude, of the worked run and of small values by hand
-use Rattle.std.specs.Prelude.{ℕ, List, [], ◌∷◌, ◌++◌, codes, pos, String}
+use Rattle.std.specs.Prelude.{ℕ, List, None, [], ◌∷◌, ◌++◌, codes, pos, String}
 use Rattle.std.specs.Global.{Global}
 use Rattle.basis_book.specs.Dated.{Dated, IsPicked}
 use Rattle.book_value.specs.Worked.Valued.{five_endowments, from_2000, from_2020}
@@ -16,7 +16,15 @@ use Rattle.policy_value.specs.declared.worth.Worth.TheVariants.{Bounds}
 use Rattle.office_state.specs.Journals.{Opens}
 use Rattle.office_state.specs.Worked.{hand_issue, hand_premium, premium_turn}
 use Rattle.program_endings.specs.Writing.{Shelving}
-use Rattle.program_endings.specs.declared.ending.Ending.TheVariants.{Done, BadBasis}
+use Rattle.program_endings.specs.declared.ending.Ending.TheVariants.{Done, BadBasis, NoMemory}
+use Rattle.book_projection.specs.Projecting.{EndsProject}
+use Rattle.book_value.specs.Valuing.{EndsValue}
+use Rattle.life_args.specs.declared.mode.Mode.TheVariants.{State}
+use Rattle.policy_types.specs.declared.entry.At.TheVariants.{Now}
+use Rattle.policy_value.specs.declared.worth.Measure.TheVariants.{Terminal}
+use Rattle.trial_load.specs.Generating.{EndsGenerate}
+use Rattle.trial_load.specs.Loading.{EndsLoad}
+use Rattle.life_app.specs.Obeys.{EndsMode}
 use Rattle.script_run.specs.Running.{ReadsForValues}
 use Rattle.life_app.specs.DueKept.{HasReasonOfBoth, IsReasonedOfBoth}
 use Rattle.life_app.specs.Headline.{IsEnclosingRow, IsEnclosingText, IsUnrun, IsWorthBy, WasFaulted}
@@ -24,11 +32,11 @@ use Rattle.life_app.specs.Needs.{HasBadFile, IsPastTheEnd, NeedBasis}
 use Rattle.life_app.specs.Reasons.{HasReason, IsReasoned}
 use Rattle.life_app.specs.Runs.{AddsCommands}
 use Rattle.life_app.specs.Words.{AskForLoad, AskForProject}
-use Rattle.life_app.specs.WorkedRun.Both.{saving_disks}
+use Rattle.life_app.specs.WorkedRun.Both.{issue_books, saving_disks}
 use Rattle.life_app.specs.WorkedRun.Calls.{called, cut_disk}
-use Rattle.life_app.specs.WorkedRun.Due.{cut_filing, value_script}
-use Rattle.life_app.specs.WorkedRun.Promise.{AreTyped, given_script, output_of, premium_text, shelf_that_told}
-use Rattle.life_app.specs.WorkedRun.Runs.{cut_run}
+use Rattle.life_app.specs.WorkedRun.Due.{cut_filing, no_input, value_script}
+use Rattle.life_app.specs.WorkedRun.Promise.{AreTyped, given_script, output_of, premium_text, shelf_that_told, two_auditors}
+use Rattle.life_app.specs.WorkedRun.Runs.{cut_run, looked_disk}
 
 -- the cut run added the issue, of a posting that faulted none was accepted before, and a run may answer no line
 abbrev pub EndedByHand : Type 0
@@ -56,6 +64,14 @@ ReasonsByHand = ((words : List (String Global)) → AreTyped words (codes "run" 
     × ((words : List (String Global)) → AreTyped words (codes "load" ∷ codes "7" ∷ codes "5" ∷ codes "2" ∷ codes "1" ∷ []) → AskForLoad words)
     × HasReasonOfBoth called called saving_disks (output_of (codes "checkpoint,1" ++ 10 ∷ [])) Done
     × IsReasonedOfBoth called called saving_disks (output_of (codes "checkpoint,1" ++ 10 ∷ [])) 0
+
+-- the modes that need a basis end so where it isn't there, `generate` where there is no memory, and `state` with its books
+abbrev pub ModesByHand : Type 0
+ModesByHand = EndsValue called cut_disk cut_disk (pos 18628) Now Terminal (codes "basis.csv") unstocked_shelf (output_of absent_basis) BadBasis
+    × EndsProject called cut_disk cut_disk (pos 18628) 1 (codes "basis.csv") unstocked_shelf (output_of absent_basis) BadBasis
+    × EndsLoad called cut_disk cut_disk 7 5 2 1 unstocked_shelf (output_of absent_basis) BadBasis
+    × EndsGenerate 7 5 2 (output_of (codes "nomemory" ++ 10 ∷ [])) NoMemory
+    × EndsMode called cut_disk looked_disk (State None) two_auditors no_input (output_of issue_books) (shelf_that_told []) (Unit {0}) (Unit {0}) Done
 
 abbrev pub two_bases : List Dated
 two_bases = from_2000 ∷ from_2020 ∷ []

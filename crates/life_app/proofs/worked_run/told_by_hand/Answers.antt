@@ -9,3 +9,6 @@ returns-clause-reasons c = told.reasons_by_hand c.lines_are_written.ensures.valu
 
 pub returns-clause-enclosed : goal.returns-clause-enclosed
 returns-clause-enclosed c = told.enclosed_by_hand
+
+pub returns-clause-modes : goal.returns-clause-modes
+returns-clause-modes c = told.modes_by_hand
