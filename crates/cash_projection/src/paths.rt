@@ -2,7 +2,7 @@
 ghost use Rattle.std.specs.Prelude.{◌≡◌, ◌≤◌, ◌<◌, IfOk, List, length, slice_index_or};
 ghost use Rattle.rate_table.specs.Rates.{HoldsAge};
 ghost use Rattle.basis_book.specs.Dated.{Dated};
-ghost use Rattle.cash_projection.specs.inside.Paths.{ArePaths, AreRatesOf, IsKeptAt, IsPathAt, slot_of};
+ghost use Rattle.cash_projection.specs.inside.Paths.{ArePaths, AreRatesOf, IsPathKept, IsPathAt, path_slot};
 ghost use Rattle.cash_projection.specs.declared.path.Path.{Path as APath};
 
 use crate::path::{Path, PathKey};
@@ -37,9 +37,9 @@ impl Paths {
         requires age { HoldsAge rates.now key.age × (key.age ≤ 130) }
         ensures right { ArePaths basis.now self.new }
         ensures here { IsPathAt rates.now key.age self.new.kept.items result }
-        ensures slot { result ≡ slot_of key (length self.old.kept.items) }
+        ensures slot { result ≡ path_slot key (length self.old.kept.items) }
         // One that is found isn't made again.
-        ensures found { IsKeptAt self.old.kept.items key result → self.new ≡ self.old }
+        ensures found { IsPathKept self.old.kept.items key result → self.new ≡ self.old }
     {
         let place = slot_of(key, self.kept.len());
         if self.kept[place].key.is(key) {
@@ -61,7 +61,7 @@ impl Paths {
 // The place of a key among so many: the ages of one table lie at places of their own where there are 131.
 fn slot_of(key: PathKey, count: usize) -> usize
     requires { 1 ≤ count }
-    ensures is { result ≡ slot_of key count }
+    ensures is { result ≡ path_slot key count }
     ensures within { result < count }
 {
     (key.row as usize * 131 + key.issue as usize * 17 + key.age as usize) % count

@@ -19,7 +19,7 @@ use Rattle.program_endings.specs.Refusals.{SaysUnopened}
 use Rattle.program_endings.specs.Texts.{EndsText}
 use Rattle.program_endings.specs.Writing.{Stream, WroteAll}
 use Rattle.kept_books.specs.Saved.{EndsCheckpoint, IsNoneOrEarlierOrHeld, IsSaved, checkpoint_text}
-use Rattle.kept_books.specs.Stated.{EndsStateKept, IsTold, ReadsFew, snapshot_text}
+use Rattle.kept_books.specs.Stated.{EndsStateKept, IsStateTold, ReadsFew, snapshot_text}
 use Rattle.kept_books.specs.Telling.{EndsTelling, TellsSnapshot}
 use Rattle.kept_books.specs.TwoDisks.{AreBothQuiet, IsHeldWhereTrue, IsOnlyRead, TwoDisks, disks_of}
 use Rattle.kept_books.specs.declared.finished.FinishedKept.{FinishedKept}
@@ -144,7 +144,7 @@ module _ {D E : Type 0} (g : Ghosts D) (e : Ghosts E) (disk : D) (second : E) (o
       (subst (EndsCheckpoint g e (saved_disks only_now now.store) output) (sym same_ending) (saving_ends only_now now.store ending ends))
 
 -- a refusal writes no text
-pub untold : (cause : StartCause) (output : Stream) (ending : Ending) → SaysUnopened cause output ending → IsTold ending → ⊥
+pub untold : (cause : StartCause) (output : Stream) (ending : Ending) → SaysUnopened cause output ending → IsStateTold ending → ⊥
 untold (FaultyDisk count) output DiskFault said told = told
 untold NotAJournal output BadJournal said told = told
 untold (BadRecord n) output BadJournal said told = told

@@ -26,10 +26,10 @@ pub record EndsStateKept {D E : Type 0} (g : Ghosts D) (e : Ghosts E) (disks : T
   pub second : IsOnlyRead e disks.second disks.kept
 
 -- the text was written, whole or a front of it
-abbrev pub IsTold : Ending → Type 0
-IsTold Done = Unit {0}
-IsTold WriteFault = Unit {0}
-IsTold _ = ⊥
+abbrev pub IsStateTold : Ending → Type 0
+IsStateTold Done = Unit {0}
+IsStateTold WriteFault = Unit {0}
+IsStateTold _ = ⊥
 
 -- one step was taken for each record of the journal from the checkpoint's position on, where the file has one that isn't
 -- above the journal's count, and else for each record

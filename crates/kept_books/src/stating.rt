@@ -5,7 +5,7 @@ ghost use Rattle.policy_machine.specs.Rules.{IsSound};
 ghost use Rattle.statements.specs.Statements.{policy_text};
 ghost use Rattle.checkpoint_store.specs.Checkpoints.{IsSoundSnapshot};
 ghost use Rattle.program_endings.specs.Writing.{between};
-ghost use Rattle.kept_books.specs.Stated.{EndsStateKept, IsTold, ReadsFew, snapshot_text};
+ghost use Rattle.kept_books.specs.Stated.{EndsStateKept, IsStateTold, ReadsFew, snapshot_text};
 ghost use Rattle.kept_books.specs.TwoDisks.{disks_of};
 
 use crate::finished::FinishedKept;
@@ -29,7 +29,7 @@ pub fn state_kept<K: Sink, D: Disk, E: Disk, L: Ledger>(
     second: E,
     steps: &mut Steps<L>,
 ) -> FinishedKept<D, E>
-    ensures few { IsTold result.ending → ReadsFew D.Disk E.Disk (disks_of disk second result) steps.old steps.new }
+    ensures few { IsStateTold result.ending → ReadsFew D.Disk E.Disk (disks_of disk second result) steps.old steps.new }
     ensures ends { EndsStateKept D.Disk E.Disk (disks_of disk second result)
         (between K.faults K.written output.old output.new) result.ending }
 {

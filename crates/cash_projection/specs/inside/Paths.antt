@@ -58,9 +58,9 @@ pub record IsPathAt (table : Rates) (age : ℕ) (kept : List Path) (place : ℕ)
   pub here : (none : Path) → IsSurvivalPath table age (slice_index_or kept place none)
 
 -- the path of a key lies at a place
-abbrev pub IsKeptAt : List Path → PathKey → ℕ → Type 0
-IsKeptAt kept key place = (none : Path) → (slice_index_or kept place none).key ≡ key
+abbrev pub IsPathKept : List Path → PathKey → ℕ → Type 0
+IsPathKept kept key place = (none : Path) → (slice_index_or kept place none).key ≡ key
 
 -- the place of a key among so many
-abbrev pub slot_of : PathKey → ℕ → ℕ
-slot_of key count = (key.row * 131 + key.issue * 17 + key.age) % count
+abbrev pub path_slot : PathKey → ℕ → ℕ
+path_slot key count = (key.row * 131 + key.issue * 17 + key.age) % count
