@@ -39,7 +39,7 @@ impl ColumnCache {
         ColumnCache::with_room(alloc, 4 * capacity as u32, capacity as u32)
     }
 
-    /// A cache for so many columns, of some 2 kB each, and the premiums of so many keys of policies.
+    /// A cache for so many columns, of at most some 2 kB each, and the premiums of so many keys of policies.
     pub fn with_room(alloc: Global, columns: u32, premiums: u32) -> Result<ColumnCache, NoMemory>
         requires columns { (1 ≤ columns) × (columns ≤ 65535) }
         requires premiums { 1 ≤ premiums }

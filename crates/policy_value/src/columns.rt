@@ -7,9 +7,9 @@ ghost use Rattle.present_value.specs.Premium.{cap_shape};
 ghost use Rattle.crvm_reserve.specs.Made.{premium_of};
 ghost use Rattle.present_value.specs.Ends.{AreValuesAt, CanEnd, IsColumn, value_to};
 ghost use Rattle.present_value.specs.Values.{CanValue};
-ghost use Rattle.policy_value.specs.Caches.{IsRightColumn, IsRightStore, IsStore};
+ghost use Rattle.policy_value.specs.Caches.{IsRightStore};
 ghost use Rattle.policy_value.specs.inside.Covered.{IsByRow, IsCovered, cap_by, cover_by};
-ghost use Rattle.policy_value.specs.inside.Kept.{IsAtSlot, IsKeptOf, IsKeptAt, IsNew, slot_of};
+ghost use Rattle.policy_value.specs.inside.Kept.{HasPut, IsAtSlot, IsKeptOf, IsKeptAt, slot_of};
 
 use crate::covered::{Covered, IssueRates};
 use basis_book::Basis;
@@ -35,53 +35,44 @@ pub struct ColumnKey {
     pub end: u8,
 }
 
-/// A column, and the row of the basis and the age at issue by which it is computed.
+/// The ages that the values of a column can have: none is above 131.
+const AGES: usize = 132;
+
+/// A column, the row of the basis and the age at issue by which it is computed, and where its values lie: from the lowest
+/// age of the rates to the age at which it ends.
 #[derive(Clone, Copy)]
 pub struct KeptColumn {
     basis_row: u16,
     issue: u8,
-    column: Column,
+    stream: Stream,
+    end: u8,
+    lowest: u8,
+    /// The place of the value at the lowest age.
+    first: usize,
 }
 
-/// The columns that are kept. Where there are as many as there may be, the oldest makes room for a new one.
+/// The columns that are kept. Where there are as many as there may be, all make room for a new one.
 #[derive(Drop)]
 pub struct ColumnStore {
     /// There is room for as many as there may be.
     kept: Vec<KeptColumn>,
-    /// Where among them a column may lie.
+    /// Their values, one column's behind the other's. There is room for as many columns of all ages.
+    pairs: Vec<Pair>,
+    /// Where among the columns one may lie.
     places: Vec<u16>,
     most: usize,
-    oldest: usize,
+    /// The column at work.
+    column: Column,
 }
 
 impl KeptColumn {
-    fn new(key: ColumnKey) -> KeptColumn
-        requires { key.end ≤ 131 }
-        ensures { IsNew key result }
-    {
-        KeptColumn {
-            basis_row: key.basis_row,
-            issue: key.issue,
-            column: Column::new(key.stream, key.end),
-        }
-    }
-
-    /// Becomes the column of another key.
-    fn restart(&mut self, key: ColumnKey)
-        requires { key.end ≤ 131 }
-        ensures { IsNew key self.new }
-    {
-        self.basis_row = key.basis_row;
-        self.issue = key.issue;
-        self.column.restart(key.stream, key.end);
-    }
-
     fn is_of(&self, key: ColumnKey) -> bool
         ensures { IsTrue result ↔ IsKeptOf self.now key }
     {
         self.basis_row == key.basis_row
             && self.issue == key.issue
-            && self.column.is_of(key.stream, key.end)
+            && self.stream == key.stream
+            && self.end == key.end
     }
 }
 
@@ -96,14 +87,18 @@ impl ColumnStore {
         let Ok(kept) = Vec::with_capacity(alloc, most) else {
             return Err(NoMemory);
         };
+        let Ok(pairs) = Vec::with_capacity(alloc, most * AGES) else {
+            return Err(NoMemory);
+        };
         let Ok(places) = Vec::from_elem(alloc, 0, SLOTS) else {
             return Err(NoMemory);
         };
         Ok(ColumnStore {
             kept,
+            pairs,
             places,
             most,
-            oldest: 0,
+            column: Column::new(Stream::Annuity, 0),
         })
     }
 
@@ -169,17 +164,19 @@ impl ColumnStore {
         ensures value { result ≡ value_to rates.now.table.now rates.now.bp key.stream key.end age }
         ensures right { IsRightStore basis.now self.new }
     {
-        let place = self.place_of(key);
-        self.kept[place].column.at(rates.table, rates.bp, age)
+        let place = self.place_of(basis, rates, key);
+        let kept = self.kept[place];
+        self.pairs[kept.first + usize::from(age - kept.lowest)]
     }
 
     /// Where the column of a key lies, which is kept from now on.
-    fn place_of(&mut self, key: ColumnKey) -> usize
-        requires store { IsStore self.old }
+    fn place_of(&mut self, basis: &Basis, rates: &IssueRates<'_>, key: ColumnKey) -> usize
+        requires right { IsRightStore basis.now self.old }
+        requires row { IsByRow basis.now rates.now }
+        requires key { (key.basis_row ≡ rates.now.basis_row) × (key.issue ≡ rates.now.issue) }
+        requires can { CanEnd rates.now.table.now rates.now.bp key.end rates.now.table.now.first_age }
         requires end { key.end ≤ 131 }
-        ensures store { IsStore self.new }
-        ensures right { (basis : List Dated) → All (IsRightColumn basis) self.old.kept.items
-            → All (IsRightColumn basis) self.new.kept.items }
+        ensures right { IsRightStore basis.now self.new }
         ensures kept { IsKeptAt self.new.kept.items result key }
         ensures slot { IsAtSlot self.new key result }
         // One that is found isn't made again.
@@ -190,7 +187,8 @@ impl ColumnStore {
         if self.lies_at(place, key) {
             return place;
         }
-        let place = self.keep(key);
+        self.make_room();
+        let place = self.keep(basis, rates, key);
         self.places[slot] = place as u16;
         place
     }
@@ -201,25 +199,60 @@ impl ColumnStore {
         place < self.kept.len() && self.kept[place].is_of(key)
     }
 
+    /// Lets all columns go where there are as many as there may be.
+    fn make_room(&mut self)
+        ensures right { (basis : List Dated) → IsRightStore basis self.old → IsRightStore basis self.new }
+        ensures room { 1 ≤ self.old.most → length self.old.kept.items ≤ self.old.most → length self.new.kept.items < self.new.most }
+        ensures places { self.new.places ≡ self.old.places }
+    {
+        if self.kept.len() >= self.most {
+            self.kept.clear();
+            self.pairs.clear();
+        }
+    }
+
     /// Keeps a new column, and tells where it lies.
-    fn keep(&mut self, key: ColumnKey) -> usize
-        requires store { IsStore self.old }
+    fn keep(&mut self, basis: &Basis, rates: &IssueRates<'_>, key: ColumnKey) -> usize
+        requires right { IsRightStore basis.now self.old }
+        requires room { length self.old.kept.items < self.old.most }
+        requires row { IsByRow basis.now rates.now }
+        requires key { (key.basis_row ≡ rates.now.basis_row) × (key.issue ≡ rates.now.issue) }
+        requires can { CanEnd rates.now.table.now rates.now.bp key.end rates.now.table.now.first_age }
         requires end { key.end ≤ 131 }
-        ensures store { IsStore self.new }
-        ensures right { (basis : List Dated) → All (IsRightColumn basis) self.old.kept.items
-            → All (IsRightColumn basis) self.new.kept.items }
+        ensures right { IsRightStore basis.now self.new }
         ensures kept { IsKeptAt self.new.kept.items result key }
         ensures few { result < 65535 }
+        ensures places { self.new.places ≡ self.old.places }
     {
-        let count = self.kept.len();
-        if count < self.most {
-            self.kept.push_reserved(KeptColumn::new(key));
-            return count;
-        }
-        let place = self.oldest;
-        self.oldest = if place + 1 < self.most { place + 1 } else { 0 };
-        self.kept[place].restart(key);
+        let place = self.kept.len();
+        let kept = KeptColumn {
+            basis_row: key.basis_row,
+            issue: key.issue,
+            stream: key.stream,
+            end: key.end,
+            lowest: rates.table.first_age(),
+            first: self.pairs.len(),
+        };
+        self.column.restart(key.stream, key.end);
+        put_values(&mut self.pairs, &mut self.column, rates, key.end);
+        self.kept.push_reserved(kept);
         place
+    }
+}
+
+/// Puts the values of a column behind others, from the lowest age of the rates to its end.
+fn put_values(pairs: &mut Vec<Pair>, column: &mut Column, rates: &IssueRates<'_>, end: u8)
+    requires column { IsColumn rates.now.table.now rates.now.bp column.old × (column.old.end ≡ end) }
+    requires can { CanEnd rates.now.table.now rates.now.bp end rates.now.table.now.first_age }
+    requires room { length pairs.old.items + 132 ≤ vec_capacity pairs.old }
+    requires end { end ≤ 131 }
+    ensures put { HasPut rates.now.table.now rates.now.bp column.old.stream end (end + 1) pairs.old.items pairs.new.items }
+    ensures room { vec_capacity pairs.new ≡ vec_capacity pairs.old }
+{
+    let mut age = rates.table.first_age();
+    while age <= end {
+        pairs.push_reserved(column.at(rates.table, rates.bp, age));
+        age += 1;
     }
 }
 

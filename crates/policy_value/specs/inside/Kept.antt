@@ -1,7 +1,9 @@
 -- The store of columns.
-use Rattle.std.specs.Prelude.{◌≡◌, ℕ, ◌+◌, ◌*◌, ◌%◌, ◌<◌, List, Some, length, slice_get, slice_index_or}
+use Rattle.std.specs.Prelude.{◌≡◌, ℕ, ◌+◌, ◌-◌, ◌*◌, ◌%◌, ◌<◌, ◌≤◌, List, Some, length, slice_get, slice_index_or}
 use Rattle.rate_table.specs.Rates.{Rates}
-use Rattle.present_value.specs.Ends.{IsColumn, IsOf}
+use Rattle.present_value.specs.Ends.{value_to}
+use Rattle.present_value.specs.Values.{pair_at}
+use Rattle.present_value.specs.declared.pair.Pair.{Pair}
 use Rattle.present_value.specs.declared.column.Stream.{Stream}
 use Rattle.present_value.specs.declared.column.Stream.TheVariants.{Insurance, Endowment, Annuity}
 use Rattle.policy_value.specs.declared.columns.ColumnKey.{ColumnKey}
@@ -10,12 +12,14 @@ use Rattle.policy_value.specs.declared.columns.KeptColumn.{KeptColumn}
 
 -- the column is that of a key
 abbrev pub IsKeptOf : KeptColumn → ColumnKey → Type 0
-IsKeptOf kept key = (kept.basis_row ≡ key.basis_row) × (kept.issue ≡ key.issue) × IsOf kept.column key.stream key.end
+IsKeptOf kept key = (kept.basis_row ≡ key.basis_row) × (kept.issue ≡ key.issue) × (kept.stream ≡ key.stream) × (kept.end ≡ key.end)
 
--- a column that knows only its last value is right by each basis
-pub record IsNew (key : ColumnKey) (kept : KeptColumn) : Type 0 where
-  pub is_of : IsKeptOf kept key
-  pub is_column : (table : Rates) → (bp : ℕ) → IsColumn table bp kept.column
+-- behind other values stand those of a stream until an age, from the lowest age of the rates to below this one
+pub record HasPut (table : Rates) (bp : ℕ) (stream : Stream) (end below : ℕ) (old new : List Pair) : Type 0 where
+  pub count : length new ≡ length old + (below - table.first_age)
+  pub before : (k : ℕ) → k < length old → pair_at new k ≡ pair_at old k
+  pub values : (age : ℕ) → table.first_age ≤ age → age < below
+      → pair_at new (length old + (age - table.first_age)) ≡ value_to table bp stream end age
 
 -- the column of a key lies at a place
 pub record IsKeptAt (columns : List KeptColumn) (place : ℕ) (key : ColumnKey) : Type 0 where
