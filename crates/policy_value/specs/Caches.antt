@@ -24,11 +24,10 @@ abbrev pub IsRowOf : List Dated → ℕ → ℕ → Rates → ℕ → Type 0
 IsRowOf basis place issue table bp =
     (entry : Dated) × (slice_get basis place ≡ Some entry) × (table ≡ table_along entry.table issue) × (bp ≡ entry.bp)
 
--- the values of a column are those that this table and interest say, from the lowest age of the rates on
-pub record HoldsValues (table : Rates) (bp : ℕ) (pairs : List Pair) (kept : KeptColumn) : Type 0 where
-  pub lowest : kept.lowest ≡ table.first_age
-  pub values : (age : ℕ) → kept.lowest ≤ age → age ≤ kept.end
-      → pair_at pairs (kept.first + (age - kept.lowest)) ≡ value_to table bp kept.stream kept.end age
+-- the values of a column are those that this table and interest say, from its lowest age on
+abbrev pub HoldsValues : Rates → ℕ → List Pair → KeptColumn → Type 0
+HoldsValues table bp pairs kept = (age : ℕ) → kept.lowest ≤ age → age ≤ kept.end
+    → pair_at pairs (kept.first + (age - kept.lowest)) ≡ value_to table bp kept.stream kept.end age
 
 -- a column lies among these values, and they are what its row of this basis says for its age at issue
 pub record IsRightColumn (basis : List Dated) (pairs : List Pair) (kept : KeptColumn) : Type 0 where
@@ -42,14 +41,12 @@ IsRightPremium basis kept = (entry : Dated) → (shape : Shape) → slice_get ba
     → shape_of kept.0.plan kept.0.age kept.0.years entry.table ≡ Ok shape
     → kept.1 ≡ premium_of (cover_along entry.table shape entry.bp) (cap_along entry.table shape.age entry.bp)
 
--- a store has room for as many columns as it may hold, each with values at all ages
+-- a store has room for its columns, and for the values of as many of all ages as it says
 pub record IsStore (store : ColumnStore) : Type 0 where
   pub slots : length store.places.items ≡ 65536
   pub one : 1 ≤ store.most
   pub most : store.most ≤ 65535
-  pub few : length store.kept.items ≤ store.most
-  pub room : store.most ≤ vec_capacity store.kept
-  pub values : length store.pairs.items ≤ length store.kept.items * 132
+  pub room : 65535 ≤ vec_capacity store.kept
   pub wide : store.most * 132 ≤ vec_capacity store.pairs
 
 pub record IsRightStore (basis : List Dated) (given : ColumnStore) : Type 0 where

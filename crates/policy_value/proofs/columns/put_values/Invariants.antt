@@ -7,9 +7,9 @@ abbrev pub invariant-loop-age : goal.invariant-loop-age
 invariant-loop-age l = record {
   column : IsColumn l.rates.table.now l.rates.bp l.column;
   stays : IsOf l.column l.fn.column.stream l.fn.column.end;
-  least : l.rates.table.now.first_age ≤ l.age;
+  least : l.lowest ≤ l.age;
   most : l.age ≤ l.end + 1;
-  put : HasPut l.rates.table.now l.rates.bp l.fn.column.stream l.end l.age l.fn.pairs.items l.pairs.items;
+  put : HasPut l.rates.table.now l.rates.bp l.fn.column.stream l.end l.lowest l.age l.fn.pairs.items l.pairs.items;
   room : vec_capacity l.pairs ≡ vec_capacity l.fn.pairs;
 }
 

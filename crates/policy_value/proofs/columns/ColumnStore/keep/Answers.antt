@@ -13,17 +13,15 @@ returns-clause-right c =
     let store = c.requires.right.store in
     let old = c.args.self.now.pairs.items in
     let new = c.put_values.new.pairs.items in
-    let put = subst (λ s. HasPut rates.table.now rates.bp s key.end (key.end + 1) old new) c.restart.ensures.is_of.0 c.put_values.ensures.put in
+    let put = subst (λ s. HasPut rates.table.now rates.bp s key.end c.args.lowest (key.end + 1) old new) c.restart.ensures.is_of.0 c.put_values.ensures.put in
     record {
       store = record {
         slots = store.slots;
         one = store.one;
         most = store.most;
-        few = omega (arith, c.push_reserved.ensures.len, c.requires.room);
         room = rw c.push_reserved.ensures.capacity store.room;
-        values = omega (arith, c.push_reserved.ensures.len, store.values, put.count, c.requires.end);
         wide = rw c.put_values.ensures.room store.wide;
       };
       columns = rw c.push_reserved.ensures.items (all_put c.args.basis.now rates.table.now rates.bp old new c.args.self.now.kept.items _ c.requires.right.columns
-          (rw (c.requires.key.0, c.requires.key.1) c.requires.row) c.first_age.ensures.age c.requires.can.before (omega (arith, c.len.ensures)) put);
+          (rw (c.requires.key.0, c.requires.key.1) c.requires.row) c.requires.can.before (omega (arith, c.len.ensures)) put);
     }
