@@ -46,7 +46,8 @@ pub record IsStore (store : ColumnStore) : Type 0 where
   pub slots : length store.places.items ≡ 65536
   pub one : 1 ≤ store.most
   pub most : store.most ≤ 65535
-  pub room : 65535 ≤ vec_capacity store.kept
+  pub some : (1 ≤ store.most_kept) × (store.most_kept ≤ 65535)
+  pub room : store.most_kept ≤ vec_capacity store.kept
   pub wide : store.most * 132 ≤ vec_capacity store.pairs
 
 pub record IsRightStore (basis : List Dated) (given : ColumnStore) : Type 0 where

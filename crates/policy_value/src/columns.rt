@@ -38,6 +38,9 @@ pub struct ColumnKey {
 /// The ages that the values of a column can have: none is above 131.
 const AGES: usize = 132;
 
+/// So many columns by select rates, of some sixteen values, lie in the room of one of all ages.
+const NARROW_IN_ONE: usize = 8;
+
 /// So many columns are kept at most.
 const MOST_KEPT: usize = 65_535;
 
@@ -60,7 +63,9 @@ pub struct KeptColumn {
 /// The columns that are kept. Where there is no room for a new one, all of them go.
 #[derive(Drop)]
 pub struct ColumnStore {
+    /// There is room for as many as there may be.
     kept: Vec<KeptColumn>,
+    most_kept: usize,
     /// Their values, one column's behind the other's.
     pairs: Vec<Pair>,
     /// Where among the columns one may lie.
@@ -92,7 +97,8 @@ impl ColumnStore {
         ensures most { IfOk result (λ store. store.most ≡ most) }
     {
         let most = most as usize;
-        let Ok(kept) = Vec::with_capacity(alloc, MOST_KEPT) else {
+        let most_kept = (most * NARROW_IN_ONE).min(MOST_KEPT);
+        let Ok(kept) = Vec::with_capacity(alloc, most_kept) else {
             return Err(NoMemory);
         };
         let Ok(pairs) = Vec::with_capacity(alloc, most * AGES) else {
@@ -103,6 +109,7 @@ impl ColumnStore {
         };
         Ok(ColumnStore {
             kept,
+            most_kept,
             pairs,
             places,
             most,
@@ -215,7 +222,7 @@ impl ColumnStore {
         ensures room { HasRoom self.new }
         ensures places { self.new.places ≡ self.old.places }
     {
-        if self.kept.len() >= MOST_KEPT || self.pairs.len() + AGES > self.most * AGES {
+        if self.kept.len() >= self.most_kept || self.pairs.len() + AGES > self.most * AGES {
             self.kept.clear();
             self.pairs.clear();
         }

@@ -28,7 +28,7 @@ pub record HasAgeAt (columns : List KeptColumn) (place : ℕ) (key : ColumnKey) 
 
 -- there is room for a column more
 pub record HasRoom (store : ColumnStore) : Type 0 where
-  pub few : length store.kept.items < 65535
+  pub few : length store.kept.items < store.most_kept
   pub values : length store.pairs.items + 132 ≤ store.most * 132
 
 -- the number of what is paid

@@ -19,6 +19,7 @@ returns-clause-right c =
         slots = store.slots;
         one = store.one;
         most = store.most;
+        some = store.some;
         room = rw c.push_reserved.ensures.capacity store.room;
         wide = rw c.put_values.ensures.room store.wide;
       };
