@@ -1,22 +1,18 @@
 -- What a cache keeps is right, and stays so.
-use Rattle.std.proofs.Common.{rules, ◌≡◌, ℕ, Bool, true, List, get_or, slice_get, All, Contains, Result, Ok, Err, OnOk, OnErr, Option, Some, None, IfSome, sym, ap, subst, ◌∙◌, inl, inr}
+use Rattle.std.proofs.Common.{rules, ◌≡◌, ℕ, Bool, true, List, slice_get, All, Contains, Result, Ok, Err, OnOk, OnErr, Option, Some, None, IfSome, sym, ap, subst, ◌∙◌, inl, inr}
 use Rattle.std.proofs.lemmas.List.Elements.{All-weaker, All-contains, All-contains_itself}
 use Rattle.std.specs.Map.{lookup}
 use Rattle.rate_table.specs.Rates.{Rates}
-use Rattle.present_value.specs.Ends.{IsColumn}
 use Rattle.basis_book.specs.Dated.{Dated}
-use Rattle.policy_value.specs.Caches.{IsRowOf, IsRightColumn, IsRightPremium}
+use Rattle.policy_value.specs.Caches.{IsRowOf, IsRightPremium}
 use Rattle.policy_value.specs.declared.key.CacheKey.{CacheKey}
 use Rattle.policy_value.specs.contracts.key.CacheKeyPartialEq.TheImpl.{eq-value}
 use Rattle.std.specs.Cmp.Rules.{comparing, hashing}
 use Rattle.select_rates.specs.Along.{table_along}
 use Rattle.crvm_reserve.specs.Made.{premium_of}
 use Rattle.crvm_reserve.specs.declared.premium.Premium.{Premium}
-use Rattle.policy_value.specs.inside.Kept.{IsKeptAt}
 use Rattle.policy_value.specs.inside.Covered.{IsCoverOf, cap_by, cover_by}
 use Rattle.policy_value.specs.declared.covered.Covered.{Covered}
-use Rattle.policy_value.specs.declared.columns.ColumnKey.{ColumnKey}
-use Rattle.policy_value.specs.declared.columns.KeptColumn.{KeptColumn}
 use Rattle.lru.specs.LruCache.{LruCache, lru_cache, promoted, put_entries}
 use Rattle.lru.proofs.CallerLemmas.{Contains-promoted, Contains-lookup, Contains-put_entries}
 
@@ -70,21 +66,6 @@ pub one_row : (basis : List Dated) (place issue : ℕ) (table other : Rates) (bp
 one_row basis place issue table other bp more row again =
     let same = one_entry basis place row.0 again.0 row.1 again.1 in
     (row.2 ∙ ap (λ (e : Dated). table_along e.table issue) same ∙ sym again.2, row.3 ∙ ap (λ (e : Dated). e.bp) same ∙ sym again.3)
-
--- the column that lies where that of a key is kept
-pub kept_right : (basis : List Dated) (columns : List KeptColumn) (place : ℕ) (key : ColumnKey) (table : Rates) (bp : ℕ) (none : KeptColumn)
-    → All (IsRightColumn basis) columns → IsKeptAt columns place key → IsRowOf basis key.basis_row key.issue table bp
-    → IsColumn table bp (get_or columns place none).column
-kept_right basis columns place key table bp none all at row =
-    let here = at.here none in
-    all place none at.within table bp (rw (here.0, here.1) row)
-
--- a column by a row of the basis is right by it
-pub by_row : (basis : List Dated) (table : Rates) (bp : ℕ) (kept : KeptColumn) → IsRowOf basis kept.basis_row kept.issue table bp → IsColumn table bp kept.column
-    → IsRightColumn basis kept
-by_row basis table bp kept row is other more again =
-    let same = one_row basis kept.basis_row kept.issue table other bp more row again in
-    rw (← same.0, ← same.1) is
 
 -- a premium of a cover by a row of the basis is right by it
 pub premium_by_row : (basis : List Dated) (key : CacheKey) (covered : Covered) (premium : Premium) → IsCoverOf basis key.plan key.age key.years covered

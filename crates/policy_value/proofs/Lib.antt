@@ -2,3 +2,4 @@ pub mod Keeping
 pub mod Asking
 pub mod Statuses
 pub mod Covering
+pub mod Putting

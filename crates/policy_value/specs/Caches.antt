@@ -1,5 +1,5 @@
 -- What a cache holds, and when that is right.
-use Rattle.std.specs.Prelude.{◌≡◌, ℕ, ◌+◌, ◌^◌, min, ◌<◌, ◌≤◌, List, length, None, slice_get, All, Some, Ok, vec_capacity, Contains, take, ◌-◌, ◌∷◌, ◌⊎◌}
+use Rattle.std.specs.Prelude.{◌≡◌, ℕ, ◌+◌, ◌^◌, min, ◌<◌, ◌≤◌, List, length, None, slice_get, All, Some, Ok, vec_capacity, Contains, take, ◌-◌, ◌*◌, ◌∷◌, ◌⊎◌}
 use Rattle.std.specs.Map.{keys_of, lookup}
 use Rattle.std.specs.Set.{remove_key}
 use Rattle.policy_value.specs.contracts.key.CacheKeyPartialEq.TheImpl.{eq-value}
@@ -7,7 +7,9 @@ use Rattle.rate_table.specs.Rates.{Rates}
 use Rattle.rate_table.specs.declared.shape.Shape.{Shape}
 use Rattle.select_rates.specs.Along.{table_along}
 use Rattle.plan_benefits.specs.Shapes.{shape_of}
-use Rattle.present_value.specs.Ends.{IsColumn}
+use Rattle.present_value.specs.Ends.{value_to}
+use Rattle.present_value.specs.Values.{pair_at}
+use Rattle.present_value.specs.declared.pair.Pair.{Pair}
 use Rattle.crvm_reserve.specs.Made.{premium_of}
 use Rattle.crvm_reserve.specs.declared.premium.Premium.{Premium}
 use Rattle.basis_book.specs.Dated.{Dated}
@@ -22,10 +24,16 @@ abbrev pub IsRowOf : List Dated → ℕ → ℕ → Rates → ℕ → Type 0
 IsRowOf basis place issue table bp =
     (entry : Dated) × (slice_get basis place ≡ Some entry) × (table ≡ table_along entry.table issue) × (bp ≡ entry.bp)
 
--- a column holds what its row of this basis says for its age at issue
-abbrev pub IsRightColumn : List Dated → KeptColumn → Type 0
-IsRightColumn basis kept =
-    (table : Rates) → (bp : ℕ) → IsRowOf basis kept.basis_row kept.issue table bp → IsColumn table bp kept.column
+-- the values of a column are those that this table and interest say, from its lowest age on
+abbrev pub HoldsValues : Rates → ℕ → List Pair → KeptColumn → Type 0
+HoldsValues table bp pairs kept = (age : ℕ) → kept.lowest ≤ age → age ≤ kept.end
+    → pair_at pairs (kept.first + (age - kept.lowest)) ≡ value_to table bp kept.stream kept.end age
+
+-- a column lies among these values, and they are what its row of this basis says for its age at issue
+pub record IsRightColumn (basis : List Dated) (pairs : List Pair) (kept : KeptColumn) : Type 0 where
+  pub ages : kept.lowest ≤ kept.end
+  pub within : kept.first + (kept.end - kept.lowest) < length pairs
+  pub by_row : (table : Rates) → (bp : ℕ) → IsRowOf basis kept.basis_row kept.issue table bp → HoldsValues table bp pairs kept
 
 -- a premium is what its key says by this basis
 abbrev pub IsRightPremium : List Dated → CacheKey × Premium → Type 0
@@ -33,17 +41,18 @@ IsRightPremium basis kept = (entry : Dated) → (shape : Shape) → slice_get ba
     → shape_of kept.0.plan kept.0.age kept.0.years entry.table ≡ Ok shape
     → kept.1 ≡ premium_of (cover_along entry.table shape entry.bp) (cap_along entry.table shape.age entry.bp)
 
--- a store has room for as many columns as it may hold
+-- a store has room for its columns, and for the values of as many of all ages as it says
 pub record IsStore (store : ColumnStore) : Type 0 where
   pub slots : length store.places.items ≡ 65536
+  pub one : 1 ≤ store.most
   pub most : store.most ≤ 65535
-  pub few : length store.kept.items ≤ store.most
-  pub room : store.most ≤ vec_capacity store.kept
-  pub oldest : store.oldest < store.most
+  pub some : (1 ≤ store.most_kept) × (store.most_kept ≤ 65535)
+  pub room : store.most_kept ≤ vec_capacity store.kept
+  pub wide : store.most * 132 ≤ vec_capacity store.pairs
 
 pub record IsRightStore (basis : List Dated) (given : ColumnStore) : Type 0 where
   pub store : IsStore given
-  pub columns : All (IsRightColumn basis) given.kept.items
+  pub columns : All (IsRightColumn basis given.pairs.items) given.kept.items
 
 -- each entry of a cache is what its key says by this basis
 pub record IsRightFor (basis : List Dated) (cache : ColumnCache) : Type 0 where

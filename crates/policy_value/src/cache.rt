@@ -19,7 +19,7 @@ use std::alloc::Global;
 use std::num::NonZeroUsize;
 
 /// What was computed for policies and serves others: columns of present values by the age at which they end, and
-/// premiums by the key of the policy. The premiums last used and the columns last made are kept.
+/// premiums by the key of the policy. The premiums last used are kept, and columns until there is no room for more.
 #[derive(Drop)]
 pub struct ColumnCache {
     premiums: LruCache<CacheKey, Premium>,
@@ -39,7 +39,7 @@ impl ColumnCache {
         ColumnCache::with_room(alloc, 4 * capacity as u32, capacity as u32)
     }
 
-    /// A cache for so many columns, of some 2 kB each, and the premiums of so many keys of policies.
+    /// A cache with room for so many columns of all ages, of some 2 kB each, and for the premiums of so many keys.
     pub fn with_room(alloc: Global, columns: u32, premiums: u32) -> Result<ColumnCache, NoMemory>
         requires columns { (1 ≤ columns) × (columns ≤ 65535) }
         requires premiums { 1 ≤ premiums }

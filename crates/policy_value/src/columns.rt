@@ -7,9 +7,9 @@ ghost use Rattle.present_value.specs.Premium.{cap_shape};
 ghost use Rattle.crvm_reserve.specs.Made.{premium_of};
 ghost use Rattle.present_value.specs.Ends.{AreValuesAt, CanEnd, IsColumn, value_to};
 ghost use Rattle.present_value.specs.Values.{CanValue};
-ghost use Rattle.policy_value.specs.Caches.{IsRightColumn, IsRightStore, IsStore};
+ghost use Rattle.policy_value.specs.Caches.{IsRightStore, IsStore};
 ghost use Rattle.policy_value.specs.inside.Covered.{IsByRow, IsCovered, cap_by, cover_by};
-ghost use Rattle.policy_value.specs.inside.Kept.{IsAtSlot, IsKeptOf, IsKeptAt, IsNew, slot_of};
+ghost use Rattle.policy_value.specs.inside.Kept.{HasAge, HasAgeAt, HasPut, HasRoom, IsAtSlot, slot_of};
 
 use crate::covered::{Covered, IssueRates};
 use basis_book::Basis;
@@ -35,53 +35,57 @@ pub struct ColumnKey {
     pub end: u8,
 }
 
-/// A column, and the row of the basis and the age at issue by which it is computed.
+/// The ages that the values of a column can have: none is above 131.
+const AGES: usize = 132;
+
+/// So many columns by select rates, of some sixteen values, lie in the room of one of all ages.
+const NARROW_IN_ONE: usize = 8;
+
+/// So many columns are kept at most.
+const MOST_KEPT: usize = 65_535;
+
+/// A column goes down to a multiple of this age, so that it seldom has to be made again for a lower one.
+const AGES_TOGETHER: u8 = 32;
+
+/// A column, the row of the basis and the age at issue by which it is computed, and where its values lie: from its lowest
+/// age to the age at which it ends.
 #[derive(Clone, Copy)]
 pub struct KeptColumn {
     basis_row: u16,
     issue: u8,
-    column: Column,
+    stream: Stream,
+    end: u8,
+    lowest: u8,
+    /// The place of the value at the lowest age.
+    first: usize,
 }
 
-/// The columns that are kept. Where there are as many as there may be, the oldest makes room for a new one.
+/// The columns that are kept. Where there is no room for a new one, all of them go.
 #[derive(Drop)]
 pub struct ColumnStore {
     /// There is room for as many as there may be.
     kept: Vec<KeptColumn>,
-    /// Where among them a column may lie.
+    most_kept: usize,
+    /// Their values, one column's behind the other's.
+    pairs: Vec<Pair>,
+    /// Where among the columns one may lie.
     places: Vec<u16>,
+    /// There is room for the values of so many columns of all ages.
     most: usize,
-    oldest: usize,
+    /// The column at work.
+    column: Column,
 }
 
 impl KeptColumn {
-    fn new(key: ColumnKey) -> KeptColumn
-        requires { key.end ≤ 131 }
-        ensures { IsNew key result }
-    {
-        KeptColumn {
-            basis_row: key.basis_row,
-            issue: key.issue,
-            column: Column::new(key.stream, key.end),
-        }
-    }
-
-    /// Becomes the column of another key.
-    fn restart(&mut self, key: ColumnKey)
-        requires { key.end ≤ 131 }
-        ensures { IsNew key self.new }
-    {
-        self.basis_row = key.basis_row;
-        self.issue = key.issue;
-        self.column.restart(key.stream, key.end);
-    }
-
-    fn is_of(&self, key: ColumnKey) -> bool
-        ensures { IsTrue result ↔ IsKeptOf self.now key }
+    /// Whether it is the column of a key, and has the value at an age.
+    fn has(&self, key: ColumnKey, age: u8) -> bool
+        ensures { IsTrue result ↔ HasAge self.now key age }
     {
         self.basis_row == key.basis_row
             && self.issue == key.issue
-            && self.column.is_of(key.stream, key.end)
+            && self.stream == key.stream
+            && self.end == key.end
+            && self.lowest <= age
     }
 }
 
@@ -93,7 +97,11 @@ impl ColumnStore {
         ensures most { IfOk result (λ store. store.most ≡ most) }
     {
         let most = most as usize;
-        let Ok(kept) = Vec::with_capacity(alloc, most) else {
+        let most_kept = (most * NARROW_IN_ONE).min(MOST_KEPT);
+        let Ok(kept) = Vec::with_capacity(alloc, most_kept) else {
+            return Err(NoMemory);
+        };
+        let Ok(pairs) = Vec::with_capacity(alloc, most * AGES) else {
             return Err(NoMemory);
         };
         let Ok(places) = Vec::from_elem(alloc, 0, SLOTS) else {
@@ -101,9 +109,11 @@ impl ColumnStore {
         };
         Ok(ColumnStore {
             kept,
+            most_kept,
+            pairs,
             places,
             most,
-            oldest: 0,
+            column: Column::new(Stream::Annuity, 0),
         })
     }
 
@@ -169,57 +179,111 @@ impl ColumnStore {
         ensures value { result ≡ value_to rates.now.table.now rates.now.bp key.stream key.end age }
         ensures right { IsRightStore basis.now self.new }
     {
-        let place = self.place_of(key);
-        self.kept[place].column.at(rates.table, rates.bp, age)
+        let place = self.place_of(basis, rates, key, age);
+        let kept = self.kept[place];
+        self.pairs[kept.first + usize::from(age - kept.lowest)]
     }
 
-    /// Where the column of a key lies, which is kept from now on.
-    fn place_of(&mut self, key: ColumnKey) -> usize
-        requires store { IsStore self.old }
+    /// Where the column of a key lies, which is kept from now on and has the value at an age.
+    fn place_of(&mut self, basis: &Basis, rates: &IssueRates<'_>, key: ColumnKey, age: u8) -> usize
+        requires right { IsRightStore basis.now self.old }
+        requires row { IsByRow basis.now rates.now }
+        requires key { (key.basis_row ≡ rates.now.basis_row) × (key.issue ≡ rates.now.issue) }
+        requires can { CanEnd rates.now.table.now rates.now.bp key.end age }
         requires end { key.end ≤ 131 }
-        ensures store { IsStore self.new }
-        ensures right { (basis : List Dated) → All (IsRightColumn basis) self.old.kept.items
-            → All (IsRightColumn basis) self.new.kept.items }
-        ensures kept { IsKeptAt self.new.kept.items result key }
-        ensures slot { IsAtSlot self.new key result }
+        ensures right { IsRightStore basis.now self.new }
+        ensures kept { HasAgeAt self.new.kept.items result key age }
+        ensures slot { IsAtSlot self.new key age result }
         // One that is found isn't made again.
-        ensures found { (place : ℕ) → IsAtSlot self.old key place → self.new ≡ self.old }
+        ensures found { (place : ℕ) → IsAtSlot self.old key age place → self.new ≡ self.old }
     {
         let slot = slot_of(key);
         let place = self.places[slot] as usize;
-        if self.lies_at(place, key) {
+        if self.lies_at(place, key, age) {
             return place;
         }
-        let place = self.keep(key);
+        self.make_room();
+        let lowest = lowest_of(rates.table.first_age(), age);
+        let place = self.keep(basis, rates, key, lowest);
         self.places[slot] = place as u16;
         place
     }
 
-    fn lies_at(&self, place: usize, key: ColumnKey) -> bool
-        ensures { IsTrue result ↔ IsKeptAt self.now.kept.items place key }
+    fn lies_at(&self, place: usize, key: ColumnKey, age: u8) -> bool
+        ensures { IsTrue result ↔ HasAgeAt self.now.kept.items place key age }
     {
-        place < self.kept.len() && self.kept[place].is_of(key)
+        place < self.kept.len() && self.kept[place].has(key, age)
     }
 
-    /// Keeps a new column, and tells where it lies.
-    fn keep(&mut self, key: ColumnKey) -> usize
+    /// Lets all columns go where there is no room for one more.
+    fn make_room(&mut self)
         requires store { IsStore self.old }
-        requires end { key.end ≤ 131 }
-        ensures store { IsStore self.new }
-        ensures right { (basis : List Dated) → All (IsRightColumn basis) self.old.kept.items
-            → All (IsRightColumn basis) self.new.kept.items }
-        ensures kept { IsKeptAt self.new.kept.items result key }
-        ensures few { result < 65535 }
+        ensures right { (basis : List Dated) → IsRightStore basis self.old → IsRightStore basis self.new }
+        ensures room { HasRoom self.new }
+        ensures places { self.new.places ≡ self.old.places }
     {
-        let count = self.kept.len();
-        if count < self.most {
-            self.kept.push_reserved(KeptColumn::new(key));
-            return count;
+        if self.kept.len() >= self.most_kept || self.pairs.len() + AGES > self.most * AGES {
+            self.kept.clear();
+            self.pairs.clear();
         }
-        let place = self.oldest;
-        self.oldest = if place + 1 < self.most { place + 1 } else { 0 };
-        self.kept[place].restart(key);
+    }
+
+    /// Keeps a new column from this age on, and tells where it lies.
+    fn keep(&mut self, basis: &Basis, rates: &IssueRates<'_>, key: ColumnKey, lowest: u8) -> usize
+        requires right { IsRightStore basis.now self.old }
+        requires room { HasRoom self.old }
+        requires row { IsByRow basis.now rates.now }
+        requires key { (key.basis_row ≡ rates.now.basis_row) × (key.issue ≡ rates.now.issue) }
+        requires can { CanEnd rates.now.table.now rates.now.bp key.end lowest }
+        requires end { key.end ≤ 131 }
+        ensures right { IsRightStore basis.now self.new }
+        ensures kept { HasAgeAt self.new.kept.items result key lowest }
+        ensures few { result < 65535 }
+        ensures places { self.new.places ≡ self.old.places }
+    {
+        let place = self.kept.len();
+        let kept = KeptColumn {
+            basis_row: key.basis_row,
+            issue: key.issue,
+            stream: key.stream,
+            end: key.end,
+            lowest,
+            first: self.pairs.len(),
+        };
+        self.column.restart(key.stream, key.end);
+        put_values(&mut self.pairs, &mut self.column, rates, lowest, key.end);
+        self.kept.push_reserved(kept);
         place
+    }
+}
+
+/// The age from which on a column is made for a value at this one.
+fn lowest_of(first_age: u8, age: u8) -> u8
+    requires { first_age ≤ age }
+    ensures { (first_age ≤ result) × (result ≤ age) }
+{
+    first_age.max(age / AGES_TOGETHER * AGES_TOGETHER)
+}
+
+/// Puts the values of a column behind others, from an age on to its end.
+fn put_values(
+    pairs: &mut Vec<Pair>,
+    column: &mut Column,
+    rates: &IssueRates<'_>,
+    lowest: u8,
+    end: u8,
+)
+    requires column { IsColumn rates.now.table.now rates.now.bp column.old × (column.old.end ≡ end) }
+    requires can { CanEnd rates.now.table.now rates.now.bp end lowest }
+    requires room { length pairs.old.items + 132 ≤ vec_capacity pairs.old }
+    requires end { end ≤ 131 }
+    ensures put { HasPut rates.now.table.now rates.now.bp column.old.stream end lowest (end + 1) pairs.old.items pairs.new.items }
+    ensures room { vec_capacity pairs.new ≡ vec_capacity pairs.old }
+{
+    let mut age = lowest;
+    while age <= end {
+        pairs.push_reserved(column.at(rates.table, rates.bp, age));
+        age += 1;
     }
 }
 

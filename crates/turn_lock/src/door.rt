@@ -4,11 +4,14 @@ use std::sync::Wait;
 use std::sync::atomic::Ordering::SeqCst;
 use std::sync::atomic::{AtomicBool, AtomicU64};
 
-/// So many turns on end may pass the caller that waits longest.
-const MOST_PASSED: u64 = 8;
+/// So many turns on end may pass the brief turn that waits longest.
+const MOST_BEFORE_BRIEF: u64 = 3;
 
-/// A door that one caller at a time is through. A free one is anybody's; it is handed to brief turns that wait, and after
-/// as many turns on end as may be to the other turn that waits longest.
+/// So many turns on end may pass the other turn that waits longest.
+const MOST_BEFORE_OTHERS: u64 = 8;
+
+/// A door that one caller at a time is through. A free one is anybody's; but it is handed to who waits longest once as many
+/// turns on end as may be have passed.
 #[derive(Drop)]
 pub(crate) struct Door {
     taken: AtomicBool,
@@ -16,9 +19,11 @@ pub(crate) struct Door {
     others: Line,
 }
 
-/// Callers that wait, in the order in which they came. Where a comment says so, only who is through the door writes.
+/// Callers that wait, in the order in which they came.
 #[derive(Drop)]
 struct Line {
+    /// So many turns on end may pass the first.
+    most: u64,
     came: AtomicU64,
     /// How many of these were let in. Who is through the door writes it.
     let_in: AtomicU64,
@@ -38,8 +43,8 @@ impl Door {
     pub(crate) fn new() -> Door {
         Door {
             taken: AtomicBool::new(false),
-            brief: Line::new(),
-            others: Line::new(),
+            brief: Line::new(MOST_BEFORE_BRIEF),
+            others: Line::new(MOST_BEFORE_OTHERS),
         }
     }
 
@@ -62,14 +67,15 @@ impl Door {
 
     /// Hands the door over or sets it free, by whoever is through.
     pub(crate) fn leave(&self) {
-        if self.others.has_waited() {
+        let other_is_due = self.others.is_due();
+        let brief_is_due = self.brief.is_due();
+        if other_is_due {
             self.others.hand_over();
-        } else if self.brief.is_waited_in() {
+        } else if brief_is_due {
             self.brief.hand_over();
         } else {
             self.taken.store(false, SeqCst);
-            self.brief.wake_first();
-            self.others.wake_first();
+            self.wake_one();
         }
     }
 
@@ -77,6 +83,15 @@ impl Door {
         self.taken
             .compare_exchange(false, true, SeqCst, SeqCst)
             .is_ok()
+    }
+
+    /// Wakes one that waits, which looks whether it finds the door free.
+    fn wake_one(&self) {
+        if self.others.is_waited_in() {
+            self.others.wake_first();
+        } else {
+            self.brief.wake_first();
+        }
     }
 
     /// Whether the door was handed to this caller, or the caller is the first of its line and takes it free.
@@ -91,8 +106,9 @@ impl Door {
 }
 
 impl Line {
-    fn new() -> Line {
+    fn new(most: u64) -> Line {
         Line {
+            most,
             came: AtomicU64::new(0),
             let_in: AtomicU64::new(0),
             passed: AtomicU64::new(0),
@@ -118,12 +134,13 @@ impl Line {
     }
 
     /// Counts a turn that passed the first of the line, and tells whether these are as many as may be.
-    fn has_waited(&self) -> bool {
+    fn is_due(&self) -> bool {
         if !self.is_waited_in() {
             self.passed.store(0, SeqCst);
             return false;
         }
-        self.passed.fetch_add(1, SeqCst) >= MOST_PASSED - 1
+        let before = self.passed.fetch_add(1, SeqCst);
+        before.saturating_add(1) >= self.most
     }
 
     /// Lets the first in, and gives its number.
@@ -137,7 +154,6 @@ impl Line {
         self.bell(number).ring();
     }
 
-    /// Wakes the first, which looks whether it finds the door free.
     fn wake_first(&self) {
         let number = self.let_in.load(SeqCst);
         if self.came.load(SeqCst) != number {

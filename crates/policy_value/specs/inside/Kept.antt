@@ -1,26 +1,35 @@
 -- The store of columns.
-use Rattle.std.specs.Prelude.{◌≡◌, ℕ, ◌+◌, ◌*◌, ◌%◌, ◌<◌, List, Some, length, slice_get, slice_index_or}
+use Rattle.std.specs.Prelude.{◌≡◌, ℕ, ◌+◌, ◌-◌, ◌*◌, ◌%◌, ◌<◌, ◌≤◌, List, Some, length, slice_get, slice_index_or}
 use Rattle.rate_table.specs.Rates.{Rates}
-use Rattle.present_value.specs.Ends.{IsColumn, IsOf}
+use Rattle.present_value.specs.Ends.{value_to}
+use Rattle.present_value.specs.Values.{pair_at}
+use Rattle.present_value.specs.declared.pair.Pair.{Pair}
 use Rattle.present_value.specs.declared.column.Stream.{Stream}
 use Rattle.present_value.specs.declared.column.Stream.TheVariants.{Insurance, Endowment, Annuity}
 use Rattle.policy_value.specs.declared.columns.ColumnKey.{ColumnKey}
 use Rattle.policy_value.specs.declared.columns.ColumnStore.{ColumnStore}
 use Rattle.policy_value.specs.declared.columns.KeptColumn.{KeptColumn}
 
--- the column is that of a key
-abbrev pub IsKeptOf : KeptColumn → ColumnKey → Type 0
-IsKeptOf kept key = (kept.basis_row ≡ key.basis_row) × (kept.issue ≡ key.issue) × IsOf kept.column key.stream key.end
+-- the column is that of a key, and has the value at an age
+abbrev pub HasAge : KeptColumn → ColumnKey → ℕ → Type 0
+HasAge kept key age =
+    (kept.basis_row ≡ key.basis_row) × (kept.issue ≡ key.issue) × (kept.stream ≡ key.stream) × (kept.end ≡ key.end) × (kept.lowest ≤ age)
 
--- a column that knows only its last value is right by each basis
-pub record IsNew (key : ColumnKey) (kept : KeptColumn) : Type 0 where
-  pub is_of : IsKeptOf kept key
-  pub is_column : (table : Rates) → (bp : ℕ) → IsColumn table bp kept.column
+-- behind other values stand those of a stream until an age, from the lowest age to below this one
+pub record HasPut (table : Rates) (bp : ℕ) (stream : Stream) (end lowest below : ℕ) (old new : List Pair) : Type 0 where
+  pub count : length new ≡ length old + (below - lowest)
+  pub before : (k : ℕ) → k < length old → pair_at new k ≡ pair_at old k
+  pub values : (age : ℕ) → lowest ≤ age → age < below → pair_at new (length old + (age - lowest)) ≡ value_to table bp stream end age
 
--- the column of a key lies at a place
-pub record IsKeptAt (columns : List KeptColumn) (place : ℕ) (key : ColumnKey) : Type 0 where
+-- the column of a key that has the value at an age lies at a place
+pub record HasAgeAt (columns : List KeptColumn) (place : ℕ) (key : ColumnKey) (age : ℕ) : Type 0 where
   pub within : place < length columns
-  pub here : (none : KeptColumn) → IsKeptOf (slice_index_or columns place none) key
+  pub here : (none : KeptColumn) → HasAge (slice_index_or columns place none) key age
+
+-- there is room for a column more
+pub record HasRoom (store : ColumnStore) : Type 0 where
+  pub few : length store.kept.items < store.most_kept
+  pub values : length store.pairs.items + 132 ≤ store.most * 132
 
 -- the number of what is paid
 abbrev pub stream_number : Stream → ℕ
@@ -32,7 +41,7 @@ stream_number Annuity = 2
 abbrev pub slot_of : ColumnKey → ℕ
 slot_of key = (((key.basis_row * 41 + key.issue) * 3 + stream_number key.stream) * 132 + key.end) % 65536
 
--- the column of a key lies at a place, and that is written at the key's slot
-pub record IsAtSlot (store : ColumnStore) (key : ColumnKey) (place : ℕ) : Type 0 where
+-- the column of a key that has the value at an age lies at a place, and that is written at the key's slot
+pub record IsAtSlot (store : ColumnStore) (key : ColumnKey) (age place : ℕ) : Type 0 where
   pub written : slice_get store.places.items (slot_of key) ≡ Some place
-  pub lies : IsKeptAt store.kept.items place key
+  pub lies : HasAgeAt store.kept.items place key age

@@ -5,6 +5,6 @@ use Rattle.policy_value.proofs.columns.ColumnStore.new.Goals as goal
 
 pub returns-clause-right : goal.returns-clause-right
 returns-clause-right c = λ basis. record {
-  store = record { slots = search rules; most = search rules; few = search rules; room = search rules; oldest = search rules };
-  columns = rw c.in-Ok.ensures.items (All-nil (IsRightColumn basis));
+  store = record { slots = search rules; one = search rules; most = search rules; some = search rules; room = search rules; wide = search rules };
+  columns = rw c.in-Ok.ensures.items (All-nil (IsRightColumn basis _));
 }
