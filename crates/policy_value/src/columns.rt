@@ -9,7 +9,7 @@ ghost use Rattle.present_value.specs.Ends.{AreValuesAt, CanEnd, IsColumn, value_
 ghost use Rattle.present_value.specs.Values.{CanValue};
 ghost use Rattle.policy_value.specs.Caches.{IsRightStore, IsStore};
 ghost use Rattle.policy_value.specs.inside.Covered.{IsByRow, IsCovered, cap_by, cover_by};
-ghost use Rattle.policy_value.specs.inside.Kept.{HasAge, HasAgeAt, HasPut, HasRoom, IsAtSlot, slot_of};
+ghost use Rattle.policy_value.specs.inside.Kept.{HasAge, HasAgeAt, HasPut, HasColumnRoom, IsAtSlot, slot_of};
 
 use crate::covered::{Covered, IssueRates};
 use basis_book::Basis;
@@ -219,7 +219,7 @@ impl ColumnStore {
     fn make_room(&mut self)
         requires store { IsStore self.old }
         ensures right { (basis : List Dated) → IsRightStore basis self.old → IsRightStore basis self.new }
-        ensures room { HasRoom self.new }
+        ensures room { HasColumnRoom self.new }
         ensures places { self.new.places ≡ self.old.places }
     {
         if self.kept.len() >= self.most_kept || self.pairs.len() + AGES > self.most * AGES {
@@ -231,7 +231,7 @@ impl ColumnStore {
     /// Keeps a new column from this age on, and tells where it lies.
     fn keep(&mut self, basis: &Basis, rates: &IssueRates<'_>, key: ColumnKey, lowest: u8) -> usize
         requires right { IsRightStore basis.now self.old }
-        requires room { HasRoom self.old }
+        requires room { HasColumnRoom self.old }
         requires row { IsByRow basis.now rates.now }
         requires key { (key.basis_row ≡ rates.now.basis_row) × (key.issue ≡ rates.now.issue) }
         requires can { CanEnd rates.now.table.now rates.now.bp key.end lowest }

@@ -27,7 +27,7 @@ pub record HasAgeAt (columns : List KeptColumn) (place : ℕ) (key : ColumnKey) 
   pub here : (none : KeptColumn) → HasAge (slice_index_or columns place none) key age
 
 -- there is room for a column more
-pub record HasRoom (store : ColumnStore) : Type 0 where
+pub record HasColumnRoom (store : ColumnStore) : Type 0 where
   pub few : length store.kept.items < store.most_kept
   pub values : length store.pairs.items + 132 ≤ store.most * 132
 
