@@ -1,5 +1,5 @@
 // The journal's snapshot is saved on the second disk.
-ghost use Rattle.std.specs.Prelude.{◌≡◌, ◌<◌, IfOk};
+ghost use Rattle.std.specs.Prelude.{◌≡◌, ◌≢◌, ◌<◌, IfOk};
 ghost use Rattle.checkpoint_store.specs.Checkpoints.{IsSoundSnapshot};
 ghost use Rattle.program_endings.specs.Writing.{between};
 ghost use Rattle.kept_books.specs.Saved.{EndsCheckpoint, checkpoint_text};
@@ -91,6 +91,22 @@ fn save<K: Sink, E: Disk>(
     let Ok(line) = line_of(alloc, snapshot) else {
         return lack_memory(output);
     };
+    save_with_line(snapshot, line, store, output)
+}
+
+// The same, once its memory is taken: so no more can be wanting.
+fn save_with_line<K: Sink, E: Disk>(
+    snapshot: &Snapshot,
+    line: Vec<u8>,
+    store: &mut Store<E>,
+    output: &mut K,
+) -> Ending
+    requires sound { IsSoundSnapshot snapshot.now }
+    requires line { line.items ≡ checkpoint_text snapshot.now }
+    ensures ample { result ≢ Ending.NoMemory }
+    ensures ends { EndsSaving store.old store.new snapshot.now
+        (between K.faults K.written output.old output.new) result }
+{
     match store.save(snapshot) {
         Ok(()) => write_text(Ok(line), output),
         Err(_) => end(output, b"diskfault\n", Ending::DiskFault),
