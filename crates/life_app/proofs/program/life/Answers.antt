@@ -2,6 +2,13 @@ use Rattle.life_app.proofs.ProgramSteps as step
 use Rattle.life_app.proofs.ReasonSteps.{reason}
 use Rattle.life_app.proofs.program.life.Goals as goal
 
+pub returns-clause-obeys : goal.returns-clause-obeys
+returns-clause-obeys g c = record {
+  ending = c.obey-finished.result.ending;
+  exits = c.status.ensures;
+  does = rw c.new-watchers.ensures.handed at c.obey-finished.ensures.does;
+}
+
 pub returns-clause-reason : goal.returns-clause-reason
 returns-clause-reason g c = (
   c.obey-finished.result.ending,
