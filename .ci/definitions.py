@@ -139,13 +139,14 @@ def main() -> int:
     files = collections.defaultdict(list)
     for key in seen:
         files[definitions[key].place].append(key)
-    lines = sum(len(definitions[key].lines) for key in seen)
+    lines = [line for key in seen for line in definitions[key].lines]
+    words = sum(len(line.split(" -- ")[0].split()) for line in lines)
     if asked.list:
         for place in sorted(files):
             print(f"{place}: {', '.join(sorted(definitions[key].name for key in files[place]))}")
         for name in sorted(types):
             print(f"  type {name}")
-    print(f"definitions: {len(seen)} in {len(files)} files, {lines} lines; {len(types)} types")
+    print(f"definitions: {len(seen)} in {len(files)} files, {len(lines)} lines, {words} words; {len(types)} types")
     return 0
 
 
