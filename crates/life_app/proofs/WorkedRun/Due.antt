@@ -96,4 +96,4 @@ module _ (clerk : NoClerk) (line : ValueLine) (basis : BasisOfOneRow) (bad : Fir
 
 pub due_of_the_run : DueOfTheRun
 due_of_the_run words same ending is = due called cut_disk last_disk two_auditors words given_script (output_of premium_text) (shelf_that_told []) ⊥ (Unit {0}) Done
-    (did words same) (λ rose. absurd (omega (arith, rose))) ending is
+    (did words same) (λ rose. absurd (omega (arith, rose))) (λ rose. absurd (omega (arith, rose))) ending is
