@@ -203,7 +203,7 @@ impl ColumnStore {
             return place;
         }
         self.make_room();
-        let lowest = lowest_of(rates.table.first_age(), age);
+        let lowest = lowest_of(rates.table.first_age(), key.issue, age);
         let place = self.keep(basis, rates, key, lowest);
         self.places[slot] = place as u16;
         place
@@ -258,10 +258,13 @@ impl ColumnStore {
 }
 
 /// The age from which on a column is made for a value at this one.
-fn lowest_of(first_age: u8, age: u8) -> u8
+fn lowest_of(first_age: u8, issue: u8, age: u8) -> u8
     requires { first_age ≤ age }
     ensures { (first_age ≤ result) × (result ≤ age) }
 {
+    if issue > 0 {
+        return first_age;
+    }
     first_age.max(age / AGES_TOGETHER * AGES_TOGETHER)
 }
 
