@@ -4,9 +4,13 @@
 # usage: sh compare_programs.sh OLD NEW [FOLDER [ROUNDS]]   (needs python3; FOLDER lies on a real disk, else the current one)
 # SIZES="POSTINGS OPENED VALUED" makes it smaller; EXAMPLES names the folder of g.xml.
 old=$(readlink -f -- "$1") && new=$(readlink -f -- "$2") || exit 2
+here=$(cd "$(dirname "$0")" && pwd) || exit 2
+. "$here/common.sh"
 uptime
-exec python3 - "$old" "$new" "${3:-.}" "${4:-9}" "${EXAMPLES:-../examples}" <<'PY'
+take_real_time
+PYTHONPATH=$here exec python3 -B - "$old" "$new" "${3:-.}" "${4:-9}" "${EXAMPLES:-../examples}" <<'PY'
 import os, resource, shutil, statistics, subprocess, sys, tempfile, time
+import workload
 
 old, new, parent, rounds, tables = sys.argv[1:]
 rounds = int(rounds)
@@ -15,38 +19,18 @@ folder = tempfile.mkdtemp(prefix="compare-", dir=parent)
 os.chdir(folder)
 shutil.copy(os.path.join(tables, "g.xml"), ".")
 open("basis.csv", "w").write("1900-01-01,g.xml,400\n")
-HEAD = b"\x01LIFEJRNL\x00\x01\x00\x40\x00\x00\x00\x00"
-
-
-class Draws:
-    def __init__(self, seed):
-        self.x = seed
-
-    def below(self, m):
-        self.x = (self.x * 1103515245 + 12345) % 2**31
-        return self.x // 256 % m
-
-
-def record(kind, head, number, day, amount, premium):
-    return (bytes([1, kind, *head]) + number.to_bytes(4, "big") + day.to_bytes(4, "big") + amount.to_bytes(8, "big")
-            + premium.to_bytes(8, "big") + bytes(36))
 
 
 def issues(count):
-    draws, made, drawn = Draws(1), bytearray(), []
-    for number in range(1, count + 1):
-        plan, age, years = draws.below(4), 20 + draws.below(60), 2 + draws.below(20)
-        units, day = draws.below(1000) + 1, 10957 + draws.below(3650)
-        made += record(1, [plan + 1, age, 0 if plan == 1 else years], number, day, units * 100000, units * 2000)
-        drawn.append((number, day, units * 50000))
+    """Issues of the workload, and of each its number, its day of issue and half its sum insured."""
+    made = b"".join(workload.drawn_policies(count))
+    drawn = [(int.from_bytes(made[at + 5:at + 9], "big"), int.from_bytes(made[at + 9:at + 13], "big"),
+              int.from_bytes(made[at + 13:at + 21], "big") // 2) for at in range(0, len(made), 65)]
     return made, drawn
 
 
 def write(body):
-    with open("journal.life", "wb") as file:
-        file.write(HEAD + body + b"\x00")
-        file.flush()
-        os.fsync(file.fileno())
+    workload.write_journal("journal.life", [body])
 
 
 def timed(words, script=os.devnull):
@@ -92,7 +76,7 @@ write(body)
 compare("value of %d policies" % VALUED, ["value", "2020-12-31"])
 compare("value on a day before them", ["value", "1999-12-31"])
 # nothing but issues is accepted without premiums in the first 31 days, so each is made paid up on its day of issue
-write(body + record(9, [0, 0, 0], 0, 0, 0, 0) + b"".join(record(10, [0, 0, 0], *one, 0) for one in drawn))
+write(body + workload.record(9, 0, 0) + b"".join(workload.record(10, number, day, amount=amount) for number, day, amount in drawn))
 alone = [timed([new, "value", "2020-12-31"]) for _ in range(rounds)]
 print("value of %d paid-up policies: %.4f s by the clock, %.4f of processor time"
       % (VALUED, *(statistics.median(each[place] for each in alone) for place in (0, 1))))

@@ -4,9 +4,8 @@
 # usage: sh bench/measure_books.sh [BOOKS POLICIES], else 8 books of 1,000,000 policies
 set -- "${1:-8}" "${2:-1000000}"
 root=$(cd "$(dirname "$0")/.." && pwd) || exit 2
-program=$(readlink -f -- "${LIFE_PROGRAM:-$root/crates/life_cli/out/life_cli}")
-LIFE_PROGRAM=$program
-export LIFE_PROGRAM
+. "$root/bench/common.sh"
+need_program
 work=$(mktemp -d) || exit 2
 trap 'rm -rf "$work"' EXIT
 check=measure
@@ -29,7 +28,7 @@ books() {
 }
 
 alone() {
-    cd "$1" && "$program" value 2024-12-31 </dev/null
+    cd "$1" && "$LIFE_PROGRAM" value 2024-12-31 </dev/null
 }
 
 # the same runs without the tool
@@ -37,6 +36,7 @@ four_at_a_time() {
     printf '%s\n' book*/ | xargs -P 4 -I{} sh -c 'cd "$1" && exec "$LIFE_PROGRAM" value 2024-12-31 </dev/null >out' sh {}
 }
 
+take_real_time
 for round in 1 2 3; do
     for book in book*/; do (seconds "$work/alone.$(basename "$book")" alone "$book"); done
     seconds plain four_at_a_time

@@ -8,6 +8,7 @@ seed=${1:-1}
 count=${2:-1000000}
 years=${3:-40}
 here=$(cd "$(dirname "$0")" && pwd)
+. "$here/common.sh"
 cd "$here/../crates/measure" || exit 1
 rt run -- reserves 1 1 >/dev/null 2>&1 || exit 1
 
@@ -15,6 +16,7 @@ rt run -- reserves 1 1 >/dev/null 2>&1 || exit 1
     echo "the sums of a thousand policies aren't those of exact fractions" >&2
     exit 1
 }
+take_real_time
 for over in 0 "$years"; do
     figures=$({ /usr/bin/time -f '%U %M' ./out/measure projections "$seed" "$count" "$over" >&3; } 2>&1) 3>&1 || exit 1
     echo "$figures" | awk -v n="$count" -v y="$over" \

@@ -5,6 +5,7 @@
 seed=${1:-1}
 count=${2:-100000}
 here=$(cd "$(dirname "$0")" && pwd)
+. "$here/common.sh"
 TIMEFORMAT=%U
 
 # timed COMMAND..: its output, and then its seconds and policies a second
@@ -16,6 +17,7 @@ timed() {
 
 cd "$here/../crates/measure" || exit 1
 rt run -- reserves 1 1 >/dev/null 2>&1 || exit 1
+take_real_time
 echo "measure reserves:"
 timed ./out/measure reserves
 if command -v rustc >/dev/null; then

@@ -3,8 +3,10 @@
 # script's size.
 # usage: sh bench/measure_run.sh   (needs python3 and GNU time; sqlite3 is timed beside it where it is installed)
 root=$(cd "$(dirname "$0")/.." && pwd) || exit 2
-sh "$root/life" prove || exit 1
-exec python3 - "$root/crates/life_cli/out/life_cli" <<'PY'
+. "$root/bench/common.sh"
+need_program
+take_real_time
+exec python3 - "$LIFE_PROGRAM" <<'PY'
 import os, shutil, subprocess, sys, tempfile, time
 
 program = sys.argv[1]

@@ -11,6 +11,7 @@
 # alone), 4000 postings. Needs python3; where rustc isn't installed the plain programs are left out. The status is 1 where
 # a count isn't what it must be.
 here=$(cd "$(dirname "$0")" && pwd) || exit 2
+. "$here/common.sh"
 (cd "$here/../crates/measure" && rt run -- turns 1 1 >/dev/null 2>&1) || exit 2
 plain=
 if command -v rustc >/dev/null; then
@@ -19,8 +20,8 @@ if command -v rustc >/dev/null; then
     rustc -O --edition 2024 -o "$plain/plain_turns" "$here/plain_turns.rs" || exit 2
     rustc -O -o "$plain/plain_journal" "$here/plain_journal.rs" || exit 2
 fi
-echo "$(uname -sr), $(nproc) processors, $(rt --version)"
-uptime
+tell_machine
+take_real_time
 python3 - "$here/../crates/measure/out/measure" "$plain" "$@" <<'PY'
 import os, resource, shutil, statistics, subprocess, sys, tempfile, time
 from collections import namedtuple

@@ -8,9 +8,10 @@
 # without.
 # usage: sh bench/measure_versions.sh [ROUNDS]   (needs python3 and GNU time; 5 rounds where none are given)
 here=$(cd "$(dirname "$0")" && pwd) || exit 2
+. "$here/common.sh"
 (cd "$here/../crates/measure" && rt run -- versions 1 1 1 1 >/dev/null 2>&1) || exit 2
-echo "$(uname -sr), $(nproc) processors, $(rt --version)"
-uptime
+tell_machine
+take_real_time
 python3 - "$here/../crates/measure/out/measure" "${1:-5}" <<'PY'
 import resource, statistics, subprocess, sys
 program, rounds = sys.argv[1], int(sys.argv[2])

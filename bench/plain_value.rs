@@ -1,6 +1,6 @@
 //! `life value` over a journal of issues alone, in plain Rust: the same columns by end age and the same premiums kept, the
 //! same workers, the same rows printed. It tries no rule of the journal and proves nothing; it is timed beside the
-//! program by `measure_workers.sh`, to tell what the machine gives to several threads.
+//! program by `figures.sh workers`, to tell what the machine gives to several threads.
 //! usage: plain_value TABLE.xml BASIS_POINTS WORKERS <journal.life >rows   (2020-12-31; seconds on standard error)
 use std::collections::HashMap;
 use std::fmt::Write as _;

@@ -1,0 +1,36 @@
+"""Takes the rows of docs/FIGURES.md; see figures.sh."""
+import collections
+import os
+import sys
+
+sys.path.insert(0, os.path.dirname(os.path.abspath(__file__)))
+import figures_opening
+import figures_postings
+import figures_reading
+import figures_tables
+import figures_value
+import timing
+
+FIGURES = figures_postings.FIGURES | figures_value.FIGURES | figures_opening.FIGURES | figures_reading.FIGURES
+FIGURES |= figures_tables.FIGURES
+
+# the program, a folder on a real disk, one in memory where there is any, and how many rounds
+Setting = collections.namedtuple("Setting", "program disk memory rounds")
+
+
+def main():
+    names = sys.argv[1:] or list(FIGURES)
+    for name in names:
+        if name not in FIGURES:
+            sys.exit(f"no figure {name}; there are {' '.join(FIGURES)}")
+    disk = os.path.realpath(os.environ.get("FOLDER", "."))
+    setting = Setting(os.environ["LIFE_PROGRAM"], disk, "/dev/shm" if os.path.isdir("/dev/shm") else disk,
+                      int(os.environ.get("ROUNDS", "5")))
+    timing.watch()
+    print("| what | figure | beside | script |\n|---|---|---|---|")
+    for name in names:
+        for what, figure, beside in FIGURES[name](setting):
+            print(f"| {what} | {figure} | {beside} | `figures.sh {name}` |", flush=True)
+
+
+main()

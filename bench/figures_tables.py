@@ -1,0 +1,97 @@
+"""Figures of the readers of basis and table files over inputs of up to 4 MiB, beside Python's parser of XML, expat."""
+import os
+import resource
+import subprocess
+import time
+import xml.parsers.expat
+
+import timing
+from timing import Folder
+
+LONGEST = 4 * 1024 * 1024
+ROWS = "".join('        <Y t="%d">%.9f</Y>\n' % (age, min(1.0, 6e-7 * age**3)) for age in range(121))
+HEAD = '<?xml version="1.0" encoding="utf-8"?>\n<XTbML>\n'
+TAIL = "</XTbML>\n"
+FILLINGS = {
+    "elements with short text": "<Z>text</Z>",
+    "elements with long text": '        <Note lang="en">rates are graduated</Note>\n',
+    "elements nested 60 deep": "<a>" * 60 + "</a>" * 60,
+    "empty elements": "<Z/>",
+    "plain text": "x" * 1000 + "\n",
+}
+
+
+def table(filling=""):
+    return "  <Table>\n    <Values>\n      <Axis>\n%s      </Axis>\n    </Values>\n  </Table>\n" % (ROWS + filling)
+
+
+def repeated():
+    one = table()
+    return HEAD + one * ((LONGEST - len(HEAD) - len(TAIL)) // len(one)) + TAIL
+
+
+def filled(filling):
+    room = LONGEST - len(HEAD) - len(table()) - len(TAIL)
+    return HEAD + table(filling * (room // len(filling))) + TAIL
+
+
+def basis(first_day):
+    """A thousand rows, each on a day of its own."""
+    days = ["%d-%02d-01" % (first_day + i // 12, 1 + i % 12) for i in range(1000)]
+    return "".join("%s,%s,%d\n" % (day, "table-" + "x" * 40 + ".xml", 300 + i % 7) for i, day in enumerate(days))
+
+
+def readings(program, folder, name, times):
+    """Seconds of the processor of so many readings of a file and a start, the least of five."""
+    def once():
+        before = resource.getrusage(resource.RUSAGE_CHILDREN).ru_utime
+        subprocess.run([program, "tables", str(times), name], check=True, capture_output=True, cwd=folder.path,
+                       preexec_fn=timing.below_watcher)
+        return resource.getrusage(resource.RUSAGE_CHILDREN).ru_utime - before
+    return min(once() for _ in range(5))
+
+
+def of_one(program, folder, name):
+    """Seconds of one reading, from so many that a start is little beside them."""
+    more = 4
+    while readings(program, folder, name, 1 + more) < 0.4:
+        more *= 2
+    return (readings(program, folder, name, 1 + more) - readings(program, folder, name, 1)) / more
+
+
+def by_expat(data):
+    turns = max(1, 1024 * 1024 // len(data))
+
+    def once():
+        begun = time.process_time()
+        for _ in range(turns):
+            xml.parsers.expat.ParserCreate().Parse(data, True)
+        return time.process_time() - begun
+    return min(once() for _ in range(5)) / turns
+
+
+def documents():
+    yield "a table that repeats", repeated()
+    for name, filling in FILLINGS.items():
+        yield name, filled(filling)
+
+
+def tables(setting):
+    program = timing.measure_program()
+    with Folder(setting.memory) as folder:
+        for what, text in documents():
+            data = text.encode()
+            with open(folder.at("read.xml"), "wb") as file:
+                file.write(data)
+            ours, other = of_one(program, folder, "read.xml"), by_expat(data)
+            yield (f"`read_table`, 4 MiB of {what}", f"{len(data) / ours / 1e6:,.0f} MB/s",
+                   f"expat {len(data) / other / 1e6:,.0f} MB/s")
+        size, seconds = os.path.getsize(folder.at("g.xml")), of_one(program, folder, "g.xml")
+        yield "`read_table`, table G of 121 ages", f"{1e6 * seconds:.0f} us, {size / seconds / 1e6:.0f} MB/s", ""
+        with open(folder.at("basis.csv"), "w", encoding="ascii") as file:
+            file.write(basis(1900))
+        size, seconds = os.path.getsize(folder.at("basis.csv")), of_one(program, folder, "basis.csv")
+        yield "`read_basis`, 1,000 rows", f"{size / seconds / 1e6:.0f} MB/s", ""
+
+
+FIGURES = {"tables": tables}

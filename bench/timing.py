@@ -1,0 +1,199 @@
+"""How the scripts of this folder time a run: at real-time priority, with whoever watches it above it.
+
+At a high weight alone a thread that wakes where its processor is busy waits for the next tick of 4 ms, so that a figure
+tells of the other work. Where the machine doesn't give real-time priority, that is said once on standard error.
+"""
+import collections
+import os
+import resource
+import shutil
+import signal
+import statistics
+import subprocess
+import sys
+import tempfile
+import time
+
+import workload
+
+# a script that is begun at a real-time priority of its own times at that one, where other work has the lowest
+TIMED = max(os.sched_getparam(0).sched_priority, 1)
+WATCHER = TIMED + 1
+FIRST_MARK, LAST_MARK = 4294967294, 4294967295
+ROOT = os.path.dirname(os.path.dirname(os.path.abspath(__file__)))
+
+# seconds by the clock, of the processors, and the most memory in MiB
+Run = collections.namedtuple("Run", "clock used peak")
+
+
+def set_priority(level):
+    os.sched_setscheduler(0, os.SCHED_FIFO, os.sched_param(level))
+
+
+def watch():
+    """Puts this process above what it will time; without the right to do so nothing has real-time priority."""
+    # ended from outside it takes its folders away, too
+    signal.signal(signal.SIGTERM, lambda *_: sys.exit(143))
+    try:
+        set_priority(WATCHER)
+    except PermissionError:
+        print("without real-time priority: figures tell of the machine's other work, too", file=sys.stderr)
+
+
+def below_watcher():
+    """In a new process, before its program begins."""
+    if os.sched_getscheduler(0) == os.SCHED_FIFO:
+        set_priority(TIMED)
+
+
+def start(words, folder, script=os.devnull, written=os.devnull, told=None):
+    with open(script, "rb") as given, open(written, "wb") as out:
+        return subprocess.Popen(words, stdin=given, stdout=out, stderr=told, cwd=folder, preexec_fn=below_watcher)
+
+
+def need_right(status, words):
+    if status != 0:
+        sys.exit(f"wrong: status {status} of {' '.join(words)}")
+
+
+def timed(words, folder, script=os.devnull, written=os.devnull):
+    before, begun = resource.getrusage(resource.RUSAGE_CHILDREN), time.perf_counter()
+    run = start(["/usr/bin/time", "-f", "%M", *words], folder, script, written, subprocess.PIPE)
+    told = run.communicate()[1]
+    clock, after = time.perf_counter() - begun, resource.getrusage(resource.RUSAGE_CHILDREN)
+    need_right(run.returncode, words)
+    used = after.ru_utime + after.ru_stime - before.ru_utime - before.ru_stime
+    return Run(clock, used, int(told.split()[-1]) / 1024)
+
+
+def in_turn(rounds, ways):
+    """What each way gives in so many rounds, every other round from the last to the first."""
+    found = {name: [] for name in ways}
+    for number in range(rounds):
+        for name in list(ways) if number % 2 == 0 else list(ways)[::-1]:
+            found[name].append(ways[name]())
+    return found
+
+
+def median(values, part=None):
+    return statistics.median(values if part is None else [getattr(each, part) for each in values])
+
+
+def build_plain(name, folder):
+    """A plain program of this folder, in Rust or C, to stand beside `life`."""
+    built = os.path.join(folder, name)
+    rust = os.path.join(ROOT, "bench", name + ".rs")
+    if os.path.exists(rust):
+        subprocess.run(["rustc", "-O", "--edition", "2024", "-o", built, rust], check=True)
+    else:
+        subprocess.run(["cc", "-O2", "-o", built, os.path.join(ROOT, "bench", name + ".c")], check=True)
+    return built
+
+
+def measure_program():
+    """The program `measure`, which runs single functions of the crates again and again."""
+    given = os.environ.get("MEASURE_PROGRAM")
+    if given:
+        return given
+    folder = os.path.join(ROOT, "crates", "measure")
+    subprocess.run(["rt", "run", "--", "turns", "1", "1"], cwd=folder, check=True, stdout=subprocess.DEVNULL)
+    return os.path.join(folder, "out", "measure")
+
+
+class Folder:
+    """A new folder with table G and the basis at 4 percent."""
+
+    def __init__(self, parent):
+        self.path = tempfile.mkdtemp(prefix="figures.", dir=parent)
+        shutil.copy(os.path.join(ROOT, "examples", "g.xml"), self.path)
+        workload.write_lines(self.at("basis.csv"), ["1900-01-01,g.xml,400"])
+        self.journal = self.at("journal.life")
+
+    def at(self, name):
+        return os.path.join(self.path, name)
+
+    def __enter__(self):
+        return self
+
+    def __exit__(self, *_):
+        shutil.rmtree(self.path)
+
+
+def size_of(path):
+    try:
+        return os.path.getsize(path)
+    except OSError:
+        return 0
+
+
+def mark(lane, number):
+    return [f"{lane},issue,{number},2020-01-01,endowment,30,20,1000.00,40.00"]
+
+
+def marked(lane, lines):
+    """Lines between two postings that tell by when they ran."""
+    return mark(lane, FIRST_MARK) + lines + mark(lane, LAST_MARK)
+
+
+class Watched:
+    """One run of a script: when the journal grew, when the marks stood in it, and how long the whole took."""
+
+    def __init__(self, program, folder, lines):
+        script = folder.at("script.csv")
+        workload.write_lines(script, lines)
+        self.grown, self.marks = [], {}
+        seen, begun = size_of(folder.journal), time.perf_counter()
+        run = start([program, "run"], folder.path, script)
+        while run.poll() is None:
+            seen = self.look(folder.journal, seen)
+            time.sleep(0.0002)
+        self.seconds = time.perf_counter() - begun
+        self.look(folder.journal, seen)
+        need_right(run.returncode, [program, "run"])
+
+    def look(self, path, seen):
+        size = size_of(path)
+        if size <= seen:
+            return seen
+        now = time.perf_counter()
+        with open(path, "rb") as file:
+            file.seek(seen)
+            new = file.read(size - seen)
+        # what is new begins with a body, whose gate stood there before
+        for number in (FIRST_MARK, LAST_MARK):
+            if b"\x1e\x14" + number.to_bytes(4, "big") in new:
+                self.marks.setdefault(number, now)
+        self.grown.append((now, (size - 18) // 65))
+        return size
+
+    def postings_a_second(self):
+        (begun, first), (end, last) = self.grown[0], self.grown[-1]
+        return (last - first) / max(end - begun, 0.001)
+
+    def between_marks(self):
+        return self.marks[LAST_MARK] - self.marks[FIRST_MARK]
+
+
+def counted_bytes(process):
+    """How many bytes a process has read and has written by now."""
+    with open(f"/proc/{process}/io", encoding="ascii") as file:
+        told = dict(line.split(": ") for line in file)
+    return int(told["rchar"]), int(told["wchar"])
+
+
+def from_last_read_to_first_write(words, folder):
+    """Seconds of a run in which it neither reads nor writes: of a valuation with its text, or a projection."""
+    run = start(words, folder)
+    read, wrote, last_read = 0, 0, time.perf_counter()
+    while run.poll() is None and not wrote:
+        try:
+            now, wrote = counted_bytes(run.pid)
+        except (OSError, ValueError, KeyError):
+            break
+        if now != read:
+            read, last_read = now, time.perf_counter()
+        time.sleep(0.0001)
+    seconds = time.perf_counter() - last_read
+    run.wait()
+    need_right(run.returncode, words)
+    return seconds

@@ -1,0 +1,64 @@
+"""The journals and scripts that the scripts of this folder measure over, drawn as `life generate` draws."""
+import os
+import struct
+
+HEADER = b"\x01LIFEJRNL\x00\x01\x00\x40\x00\x00\x00\x00"
+RECORD = struct.Struct(">BBBBBIiQQ36x")
+ISSUE, PREMIUM = 1, 2
+WHOLE = 2
+FIRST_DAY = 10957
+
+
+class Draws:
+    """The generator of `life generate`."""
+
+    def __init__(self, seed):
+        self.x = seed
+
+    def below(self, most):
+        self.x = (self.x * 1103515245 + 12345) % 2**31
+        return self.x // 256 % most
+
+
+def record(kind, number, day, head=(0, 0, 0), amount=0, premium=0):
+    return RECORD.pack(1, kind, *head, number, day, amount, premium)
+
+
+def write_journal(path, records):
+    """A journal of these records, safe on the disk."""
+    with open(path, "wb") as file:
+        file.write(HEADER)
+        file.writelines(records)
+        file.write(b"\0")
+        file.flush()
+        os.fsync(file.fileno())
+
+
+def drawn_policies(count, seed=1):
+    """Issues of the workload, with numbers in a row."""
+    draws = Draws(seed)
+    for number in range(1, count + 1):
+        plan, age, years = draws.below(4) + 1, draws.below(60) + 20, draws.below(20) + 2
+        units, day = draws.below(1000) + 1, FIRST_DAY + draws.below(3650)
+        yield record(ISSUE, number, day, (plan, age, 0 if plan == WHOLE else years), units * 100000, units * 2000)
+
+
+def like_policies(count):
+    """Issues that differ in their numbers alone, which are in a row."""
+    body = record(ISSUE, 0, 18262, (3, 0, 3), 100000, 40000)
+    for number in range(1, count + 1):
+        yield body[:5] + number.to_bytes(4, "big") + body[9:]
+
+
+def issue_lines(lanes, count, first=1000001):
+    """So many lines of a script that issue policies, dealt to the lanes in turn."""
+    return [f"{lanes[n % len(lanes)]},issue,{first + n},2020-01-01,endowment,30,20,1000.00,40.00" for n in range(count)]
+
+
+def valuation_lines(lane, count, workers=1, day="2020-12-31"):
+    return [f"{lane},value,{day},now,{workers}"] * count
+
+
+def write_lines(path, lines):
+    with open(path, "w", encoding="ascii") as file:
+        file.writelines(line + "\n" for line in lines)
