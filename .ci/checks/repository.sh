@@ -25,7 +25,9 @@ while read -r name edits; do
         [ -f "crates/${edit%/*}/must-fail/${edit#*/}.edit" ] || complain "nothing tries $name: $edit is gone"
     done
 done <<'EDITS'
-a_made-up_fault                 life_app/made_up_read_fault life_app/always_usage office_state/number_of_an_earlier_fault
+a_made-up_fault                 life_app/made_up_read_fault office_state/number_of_an_earlier_fault
+always_2_3_4_or_5               life_app/always_usage life_app/always_bad_script life_app/always_bad_basis life_app/always_bad_journal
+always_7_8_or_10                life_app/always_write_fault life_app/always_disk_fault life_app/always_ahead
 policies_issued_later_listed    office_state/policies_issued_later_listed
 a_made-up_fault_of_a_device     outside_io/read_all_made_up_fault memory_disk/made_up_fault posting_journal/made_up_fault
 the_newest_state_valued         snapshot_value/newest_position_pinned office_state/newest_state_read

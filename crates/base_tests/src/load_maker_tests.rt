@@ -1,5 +1,6 @@
 use load_maker::{make_lanes, make_script};
 use policy_types::{Command, Line};
+use std::alloc::Global;
 
 // The greatest seed, with policies of three plans that are dealt out to three lanes.
 const FIVE_POLICIES: &str = "1,issue,1,2001-04-01,whole,68,0,966000.00,19320.00\n\
@@ -13,28 +14,37 @@ const FIVE_POLICIES: &str = "1,issue,1,2001-04-01,whole,68,0,966000.00,19320.00\
     2,issue,5,2008-05-10,whole,28,0,869000.00,17380.00\n\
     2,premium,5,2008-05-10,17380.00\n";
 
-// Scripts of a few policies.
+// A seed, policies and lanes, and the script.
+const SCRIPTS: &[(u32, u32, u8, &str)] = &[
+    (
+        1,
+        1,
+        1,
+        "1,issue,1,2008-11-03,endowment,44,18,996000.00,19920.00\n1,premium,1,2008-11-03,19920.00\n",
+    ),
+    (
+        0,
+        1,
+        8,
+        "1,issue,1,2003-10-20,term,30,9,981000.00,19620.00\n1,premium,1,2003-10-20,19620.00\n",
+    ),
+    (2_147_483_647, 5, 3, FIVE_POLICIES),
+];
+
+fn is_made(alloc: Global, seed: u32, count: u32, lanes: u8, text: &str) -> bool {
+    if seed > 2_147_483_647 || count < 1 || count > 100_000 || lanes < 1 || lanes > 8 {
+        return false;
+    }
+    match make_script(alloc, seed, count, lanes) {
+        Ok(script) => script.as_slice() == text.as_bytes(),
+        Err(_) => false,
+    }
+}
+
 #[test]
 fn scripts(rt: HostRuntime) {
-    for (seed, count, lanes, expected) in [
-        (
-            1,
-            1,
-            1,
-            "1,issue,1,2008-11-03,endowment,44,18,996000.00,19920.00\n1,premium,1,2008-11-03,19920.00\n",
-        ),
-        (
-            0,
-            1,
-            8,
-            "1,issue,1,2003-10-20,term,30,9,981000.00,19620.00\n1,premium,1,2003-10-20,19620.00\n",
-        ),
-        (2_147_483_647, 5, 3, FIVE_POLICIES),
-    ] {
-        let Ok(script) = make_script(rt.alloc(), seed, count, lanes) else {
-            panic!(rt; "{expected}: no memory");
-        };
-        assert_eq!(rt; script.as_slice(), expected.as_bytes());
+    for (seed, count, lanes, text) in SCRIPTS {
+        assert!(rt; is_made(rt.alloc(), *seed, *count, *lanes, text), "{text}");
     }
 }
 

@@ -13,7 +13,7 @@ const REDUCED: &[Step] = &[Issue(Endowment), FIRST, Reduce(18_300, 30_000)];
 
 const REDUCED_TERM: &[Step] = &[Issue(Term), FIRST, Reduce(18_300, 30_000)];
 
-pub(crate) const PAID_UP_ROWS: [Row; 20] = [
+pub(crate) const PAID_UP_ROWS: &[Row] = &[
     ("paid up: unknown", &[], Reduce(18_262, 1), Err(Unknown)),
     (
         "paid up: before the last day",

@@ -76,7 +76,7 @@ pub(crate) const PAID_UP: &[Step] = &[Issue(Limited), FIRST, SECOND];
 
 const PAID_UP_BUT_ONE: &[Step] = &[Issue(Limited), FIRST, Lapse(18_660)];
 
-pub(crate) const ROWS: [Row; 57] = [
+pub(crate) const ROWS: &[Row] = &[
     (
         "issue",
         &[],

@@ -98,25 +98,38 @@ fn answers(rt: &impl Abort, rows: &[Row]) {
 
 #[test]
 fn each_command_is_answered_by_the_rules(rt: HostRuntime) {
-    answers(&rt, ROWS.as_slice());
-    answers(&rt, PAID_UP_ROWS.as_slice());
+    answers(&rt, ROWS);
+    answers(&rt, PAID_UP_ROWS);
+}
+
+const REDUCE: Command = Command::PaidUp {
+    id: 7001,
+    day: 18_300,
+    amount: 30_000,
+};
+
+/// The place of the upgrade, a command for a policy that isn't there, and its answer.
+type Judged = (u32, Command, Result<Option<Policy>, Refusal>);
+
+const JUDGED: &[Judged] = &[
+    (0, REDUCE, Err(Refusal::NotUpgraded)),
+    (3, REDUCE, Err(Refusal::Unknown)),
+    (0, Command::Upgrade, Ok(None)),
+    (3, Command::Upgrade, Err(Refusal::Upgraded(3))),
+];
+
+fn is_judged(judged: &Judged) -> bool {
+    let (upgrade, command, answer) = judged;
+    command.is_valid() && judge(*upgrade, None, command) == *answer
 }
 
 // What waits for an upgrade, and that it comes once; its place is counted from 1.
 #[test]
 fn commands_are_judged_by_the_place_of_the_upgrade(rt: HostRuntime) {
-    let reduce = command(Reduce(18_300, 30_000));
-    assert!(rt; reduce.is_valid() && Command::Upgrade.is_valid());
-    for (upgrade, command, wanted) in [
-        (0, reduce, Err(Refusal::NotUpgraded)),
-        (3, reduce, Err(Refusal::Unknown)),
-        (0, Command::Upgrade, Ok(None)),
-        (3, Command::Upgrade, Err(Refusal::Upgraded(3))),
-    ] {
-        assert!(rt; command.is_valid());
-        assert_eq!(rt; judge(upgrade, None, &command), wanted);
+    for (row, judged) in JUDGED.iter().enumerate() {
+        assert!(rt; is_judged(judged), "row {row}");
     }
-    assert_eq!(rt; upgrade_place(0, 2, &reduce), 0);
+    assert_eq!(rt; upgrade_place(0, 2, &REDUCE), 0);
     assert_eq!(rt; upgrade_place(0, 2, &Command::Upgrade), 3);
     assert_eq!(rt; upgrade_place(3, 9, &Command::Upgrade), 3);
 }

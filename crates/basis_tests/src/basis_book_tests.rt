@@ -1,6 +1,7 @@
 ghost use Rattle.std.specs.Prelude.{◌≤◌, IfOk, length};
 ghost use Rattle.basis_book.specs.Dated.{AreBounded};
 
+use BasisFault::{BadBasisRow, NotRising, TooManyRows};
 use basis_book::{Basis, BasisFault, BasisRows, LONGEST_FILE, Name, NoSuchTable, read_basis};
 use indexmap::IndexMap;
 use rate_table::RateTable;
@@ -18,7 +19,10 @@ fn table(alloc: Global, first_age: u8) -> Result<AnyTable, Fail> {
 
 /// The first age of a table, for an age at issue that it holds.
 fn first_age(table: &AnyTable) -> Option<u8> {
-    table.along(20).map(RateTable::first_age)
+    match table.along(20) {
+        Some(rates) => Some(rates.first_age()),
+        None => None,
+    }
 }
 
 /// What a file is read as: the number of its rows, or its fault.
@@ -31,73 +35,88 @@ fn rows_of(alloc: Global, bytes: &[u8]) -> Result<usize, BasisFault>
     }
 }
 
+/// A file, and the number of its rows or its fault.
+type File = (&'static [u8], Result<usize, BasisFault>);
+
+const FILES: &[File] = &[
+    (b"", Ok(0)),
+    (b"1900-01-01,q.xml,0", Ok(1)),
+    (
+        b"1900-01-01,q.xml,0\n\n\n2199-12-31,Q_2-b.xml,2000\n",
+        Ok(2),
+    ),
+    (b"\xef\xbb\xbf1900-01-01,q.xml,0\r\n", Ok(1)),
+    (b"\"1900-01-01\",\"q.xml\",\"0\"\r2000-02-29,7,400", Ok(2)),
+    (
+        b"1900-01-01,q.xml,0\n1900-01-01,q.xml,0\n",
+        Err(NotRising(2)),
+    ),
+    (
+        b"1900-01-02,q.xml,0\n1900-01-01,q.xml,0\nx",
+        Err(NotRising(2)),
+    ),
+    (
+        b"1900-01-02,q.xml,0\n1900-01-01,q.xml,2001\n",
+        Err(BadBasisRow(2)),
+    ),
+    (b"1900-01-01,q.xml", Err(BadBasisRow(1))),
+    (b"1900-01-01,q.xml,0,0", Err(BadBasisRow(1))),
+    (b"\"\"", Err(BadBasisRow(1))),
+    (b"1899-12-31,q.xml,0", Err(BadBasisRow(1))),
+    (b"2200-01-01,q.xml,0", Err(BadBasisRow(1))),
+    (b"2001-02-29,q.xml,0", Err(BadBasisRow(1))),
+    (b"1900-01-01,,0", Err(BadBasisRow(1))),
+    (b"1900-01-01,.xml,0", Err(BadBasisRow(1))),
+    (b"1900-01-01,a/b,0", Err(BadBasisRow(1))),
+    (b"1900-01-01,\xe9,0", Err(BadBasisRow(1))),
+    (b"1900-01-01,q.xml,", Err(BadBasisRow(1))),
+    (b"1900-01-01,q.xml,00", Err(BadBasisRow(1))),
+    (b"1900-01-01,q.xml,007", Err(BadBasisRow(1))),
+    (b"1900-01-01,q.xml,+7", Err(BadBasisRow(1))),
+    (b"1900-01-01,q.xml,2001", Err(BadBasisRow(1))),
+    (b"1900-01-01,q.xml,70000", Err(BadBasisRow(1))),
+    (b"1900-01-01,q.xml,0 ", Err(BadBasisRow(1))),
+    (b"1900-01-01, q.xml,0", Err(BadBasisRow(1))),
+];
+
+fn is_read(alloc: Global, bytes: &[u8], expected: Result<usize, BasisFault>) -> bool {
+    bytes.len() <= LONGEST_FILE && rows_of(alloc, bytes) == expected
+}
+
 #[test]
 fn files(rt: HostRuntime) {
-    let cases: [(&[u8], Result<usize, BasisFault>); 26] = [
-        (b"", Ok(0)),
-        (b"1900-01-01,q.xml,0", Ok(1)),
-        (
-            b"1900-01-01,q.xml,0\n\n\n2199-12-31,Q_2-b.xml,2000\n",
-            Ok(2),
-        ),
-        (b"\xef\xbb\xbf1900-01-01,q.xml,0\r\n", Ok(1)),
-        (b"\"1900-01-01\",\"q.xml\",\"0\"\r2000-02-29,7,400", Ok(2)),
-        (
-            b"1900-01-01,q.xml,0\n1900-01-01,q.xml,0\n",
-            Err(BasisFault::NotRising(2)),
-        ),
-        (
-            b"1900-01-02,q.xml,0\n1900-01-01,q.xml,0\nx",
-            Err(BasisFault::NotRising(2)),
-        ),
-        (
-            b"1900-01-02,q.xml,0\n1900-01-01,q.xml,2001\n",
-            Err(BasisFault::BadBasisRow(2)),
-        ),
-        (b"1900-01-01,q.xml", Err(BasisFault::BadBasisRow(1))),
-        (b"1900-01-01,q.xml,0,0", Err(BasisFault::BadBasisRow(1))),
-        (b"\"\"", Err(BasisFault::BadBasisRow(1))),
-        (b"1899-12-31,q.xml,0", Err(BasisFault::BadBasisRow(1))),
-        (b"2200-01-01,q.xml,0", Err(BasisFault::BadBasisRow(1))),
-        (b"2001-02-29,q.xml,0", Err(BasisFault::BadBasisRow(1))),
-        (b"1900-01-01,,0", Err(BasisFault::BadBasisRow(1))),
-        (b"1900-01-01,.xml,0", Err(BasisFault::BadBasisRow(1))),
-        (b"1900-01-01,a/b,0", Err(BasisFault::BadBasisRow(1))),
-        (b"1900-01-01,\xe9,0", Err(BasisFault::BadBasisRow(1))),
-        (b"1900-01-01,q.xml,", Err(BasisFault::BadBasisRow(1))),
-        (b"1900-01-01,q.xml,00", Err(BasisFault::BadBasisRow(1))),
-        (b"1900-01-01,q.xml,007", Err(BasisFault::BadBasisRow(1))),
-        (b"1900-01-01,q.xml,+7", Err(BasisFault::BadBasisRow(1))),
-        (b"1900-01-01,q.xml,2001", Err(BasisFault::BadBasisRow(1))),
-        (b"1900-01-01,q.xml,70000", Err(BasisFault::BadBasisRow(1))),
-        (b"1900-01-01,q.xml,0 ", Err(BasisFault::BadBasisRow(1))),
-        (b"1900-01-01, q.xml,0", Err(BasisFault::BadBasisRow(1))),
-    ];
-    for (bytes, expected) in cases {
-        assert!(rt; bytes.len() <= LONGEST_FILE);
-        assert_eq!(rt; rows_of(rt.alloc(), bytes), expected, "{bytes:?}");
+    for (bytes, expected) in FILES {
+        assert!(rt; is_read(rt.alloc(), bytes, *expected), "{bytes:?}");
     }
+}
+
+// Whether so many letters are a name.
+fn are_name(alloc: Global, count: usize) -> Result<bool, Fail> {
+    let name = vec![in alloc; b'a'; count]?;
+    match Name::of(alloc, &name) {
+        Ok(name) => Ok(name.is_some()),
+        Err(_) => Err("memory".into()),
+    }
+}
+
+// A thousand lines that are no rows, and an end.
+fn thousand_lines(alloc: Global, end: &[u8]) -> Result<Vec<u8>, Fail> {
+    let mut file = Vec::new(alloc);
+    for _ in 0..1_000 {
+        file.extend_from_slice(b"x\n")?;
+    }
+    file.extend_from_slice(end)?;
+    Ok(file)
 }
 
 #[test]
 fn names_and_many_rows(rt: HostRuntime) -> Result<(), Fail> {
     let alloc = rt.alloc();
-    let mut name = vec![in alloc; b'a'; 64]?;
-    assert!(rt; Name::of(alloc, &name).is_ok_and(|name| name.is_some()));
-    name.push(b'a')?;
-    assert!(rt;
-        Name::of(alloc, &name).is_ok_and(|name| name.is_none()),
-        "65 characters"
-    );
-    let mut file = Vec::new(alloc);
-    for _ in 0..1_000 {
-        file.extend_from_slice(b"x\n")?;
-    }
-    assert!(rt; file.len() <= LONGEST_FILE);
-    assert_eq!(rt; rows_of(alloc, &file), Err(BasisFault::BadBasisRow(1)));
-    file.extend_from_slice(b"1900-01-01,q.xml,0")?;
-    assert!(rt; file.len() <= LONGEST_FILE);
-    assert_eq!(rt; rows_of(alloc, &file), Err(BasisFault::TooManyRows));
+    assert!(rt; are_name(alloc, 64)? && !are_name(alloc, 65)?);
+    let file = thousand_lines(alloc, b"")?;
+    assert!(rt; is_read(alloc, &file, Err(BadBasisRow(1))));
+    let file = thousand_lines(alloc, b"1900-01-01,q.xml,0")?;
+    assert!(rt; is_read(alloc, &file, Err(TooManyRows)));
     Ok(())
 }
 
@@ -114,20 +133,23 @@ fn thousand_rows(alloc: Global) -> Result<Vec<u8>, Fail> {
     Ok(file)
 }
 
+// The same, with empty lines, which are no rows, up to the length of the longest file.
+fn longest_file(alloc: Global) -> Result<Vec<u8>, Fail> {
+    let mut file = thousand_rows(alloc)?;
+    file.resize(LONGEST_FILE, b'\n')?;
+    Ok(file)
+}
+
 #[test]
 fn files_at_their_limits(rt: HostRuntime) -> Result<(), Fail> {
-    let mut file = thousand_rows(rt.alloc())?;
-    assert!(rt; file.len() <= LONGEST_FILE);
-    assert_eq!(rt; rows_of(rt.alloc(), &file), Ok(1_000));
-    let rows = file.len();
+    let alloc = rt.alloc();
+    let mut file = thousand_rows(alloc)?;
+    assert!(rt; is_read(alloc, &file, Ok(1_000)));
     file.extend_from_slice(b"1983-05-01,q.xml,0\n")?;
-    assert!(rt; file.len() <= LONGEST_FILE);
-    assert_eq!(rt; rows_of(rt.alloc(), &file), Err(BasisFault::TooManyRows));
-    // Empty lines are no rows.
-    file.truncate(rows);
-    file.resize(LONGEST_FILE, b'\n')?;
-    assert_eq!(rt; file.len(), LONGEST_FILE);
-    assert_eq!(rt; rows_of(rt.alloc(), &file), Ok(1_000));
+    assert!(rt; is_read(alloc, &file, Err(TooManyRows)));
+    let file = longest_file(alloc)?;
+    assert!(rt; file.len() == LONGEST_FILE);
+    assert!(rt; is_read(alloc, &file, Ok(1_000)));
     Ok(())
 }
 
@@ -184,7 +206,7 @@ fn picked(basis: &Basis, issued: i32) -> Option<(u16, Option<u8>, u16)> {
 fn picks(rt: HostRuntime) -> Result<(), Fail> {
     let basis = basis(rt.alloc())?;
     for (issued, expected) in PICKED {
-        assert_eq!(rt; picked(&basis, *issued), *expected, "{issued}");
+        assert!(rt; picked(&basis, *issued) == *expected, "{issued}");
     }
     Ok(())
 }
@@ -192,6 +214,6 @@ fn picks(rt: HostRuntime) -> Result<(), Fail> {
 #[test]
 fn a_table_that_is_named_and_missing(rt: HostRuntime) -> Result<(), Fail> {
     let missing = Basis::of(three_rows(rt.alloc())?, tables(rt.alloc(), false)?);
-    assert!(rt; missing.is_err_and(|fault| fault == NoSuchTable(2)));
+    assert!(rt; matches!(missing, Err(NoSuchTable(2))));
     Ok(())
 }

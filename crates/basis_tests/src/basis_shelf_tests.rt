@@ -1,4 +1,4 @@
-use basis_book::Name;
+use basis_book::{Basis, Name};
 use basis_shelf::{NoBasis, bad_basis_line, fetch_basis};
 use outside_io::{MapShelf, Shelf};
 use select_rates::AnyTable;
@@ -61,139 +61,203 @@ fn told<H: Shelf>(alloc: Global, shelf: &mut H) -> Result<Vec<u8>, Fail> {
     }
 }
 
-#[test]
-fn bad_tables(rt: HostRuntime) -> Result<(), Fail> {
-    let cases: [(&[u8], &str); 10] = [
-        (CUT, "badbasis,q.xml,55,notdocument\n"),
-        (b"", "badbasis,q.xml,0,notdocument\n"),
-        (b"<XTbML/>", "badbasis,q.xml,0,notable\n"),
-        (SELECT, "badbasis,q.xml,28,badduration\n"),
-        (SCALED, "badbasis,q.xml,24,scaled\n"),
-        (NO_AGE, "badbasis,q.xml,28,badage\n"),
-        (GAP, "badbasis,q.xml,44,agegap\n"),
-        (ABOVE_ONE, "badbasis,q.xml,28,badrate\n"),
-        (SHORT, "basis"),
-        (Q, "basis"),
-    ];
-    for (table, expected) in cases {
-        let files = [(BASIS, ONE_ROW), ("q.xml", table)];
-        let mut shelf = shelf(rt.alloc(), &files, 0)?;
-        let found = told(rt.alloc(), &mut shelf)?;
-        assert!(rt; found.as_slice() == expected.as_bytes(), "{expected}");
-    }
-    Ok(())
+/// The name of a file, and the file.
+type File = (&'static str, &'static [u8]);
+
+/// What stands on a shelf, and the line of the first bad file, or a word.
+const SHELVES: &[(&[File], &str)] = &[
+    (
+        &[(BASIS, ONE_ROW), ("q.xml", CUT)],
+        "badbasis,q.xml,55,notdocument\n",
+    ),
+    (
+        &[(BASIS, ONE_ROW), ("q.xml", b"")],
+        "badbasis,q.xml,0,notdocument\n",
+    ),
+    (
+        &[(BASIS, ONE_ROW), ("q.xml", b"<XTbML/>")],
+        "badbasis,q.xml,0,notable\n",
+    ),
+    (
+        &[(BASIS, ONE_ROW), ("q.xml", SELECT)],
+        "badbasis,q.xml,28,badduration\n",
+    ),
+    (
+        &[(BASIS, ONE_ROW), ("q.xml", SCALED)],
+        "badbasis,q.xml,24,scaled\n",
+    ),
+    (
+        &[(BASIS, ONE_ROW), ("q.xml", NO_AGE)],
+        "badbasis,q.xml,28,badage\n",
+    ),
+    (
+        &[(BASIS, ONE_ROW), ("q.xml", GAP)],
+        "badbasis,q.xml,44,agegap\n",
+    ),
+    (
+        &[(BASIS, ONE_ROW), ("q.xml", ABOVE_ONE)],
+        "badbasis,q.xml,28,badrate\n",
+    ),
+    (&[(BASIS, ONE_ROW), ("q.xml", SHORT)], "basis"),
+    (&[(BASIS, ONE_ROW), ("q.xml", Q)], "basis"),
+    (&[("q.xml", CUT)], "badbasis,basis.csv,0,absent\n"),
+    (&[(BASIS, b"")], "basis"),
+    (
+        &[(BASIS, b"x\n1900-01-01,q.xml,0")],
+        "badbasis,basis.csv,1,badrow\n",
+    ),
+    (
+        &[(BASIS, b"1900-01-01,q.xml,0\n1900-01-01,q.xml,0\n")],
+        "badbasis,basis.csv,2,notrising\n",
+    ),
+    (&[(BASIS, FIVE_ROWS)], "badbasis,q.xml,1,absent\n"),
+    (
+        &[(BASIS, FIVE_ROWS), ("q.xml", Q)],
+        "badbasis,s.xml,2,absent\n",
+    ),
+    (
+        &[(BASIS, FIVE_ROWS), ("q.xml", Q), ("t.xml", CUT)],
+        "badbasis,s.xml,2,absent\n",
+    ),
+    (
+        &[(BASIS, FIVE_ROWS), ("q.xml", Q), ("s.xml", SHORT)],
+        "badbasis,t.xml,4,absent\n",
+    ),
+    (
+        &[
+            (BASIS, FIVE_ROWS),
+            ("q.xml", Q),
+            ("s.xml", CUT),
+            ("t.xml", SELECT),
+        ],
+        "badbasis,s.xml,55,notdocument\n",
+    ),
+    (
+        &[
+            (BASIS, FIVE_ROWS),
+            ("q.xml", Q),
+            ("s.xml", SHORT),
+            ("t.xml", Q),
+        ],
+        "basis",
+    ),
+];
+
+fn is_told<H: Shelf>(alloc: Global, shelf: &mut H, expected: &str) -> Result<bool, Fail> {
+    Ok(told(alloc, shelf)?.as_slice() == expected.as_bytes())
 }
 
 #[test]
 fn first_bad_files(rt: HostRuntime) -> Result<(), Fail> {
-    let cases: [(&[(&str, &[u8])], &str); 10] = [
-        (&[("q.xml", CUT)], "badbasis,basis.csv,0,absent\n"),
-        (&[(BASIS, b"")], "basis"),
-        (
-            &[(BASIS, b"x\n1900-01-01,q.xml,0")],
-            "badbasis,basis.csv,1,badrow\n",
-        ),
-        (
-            &[(
-                BASIS,
-                b"1900-01-01,q.xml,0\n1900-01-01,q.xml,0\n".as_slice(),
-            )],
-            "badbasis,basis.csv,2,notrising\n",
-        ),
-        (&[(BASIS, FIVE_ROWS)], "badbasis,q.xml,1,absent\n"),
-        (
-            &[(BASIS, FIVE_ROWS), ("q.xml", Q)],
-            "badbasis,s.xml,2,absent\n",
-        ),
-        (
-            &[(BASIS, FIVE_ROWS), ("q.xml", Q), ("t.xml", CUT)],
-            "badbasis,s.xml,2,absent\n",
-        ),
-        (
-            &[(BASIS, FIVE_ROWS), ("q.xml", Q), ("s.xml", SHORT)],
-            "badbasis,t.xml,4,absent\n",
-        ),
-        (
-            &[
-                (BASIS, FIVE_ROWS),
-                ("q.xml", Q),
-                ("s.xml", CUT),
-                ("t.xml", SELECT),
-            ],
-            "badbasis,s.xml,55,notdocument\n",
-        ),
-        (
-            &[
-                (BASIS, FIVE_ROWS),
-                ("q.xml", Q),
-                ("s.xml", SHORT),
-                ("t.xml", Q),
-            ],
-            "basis",
-        ),
-    ];
-    for (files, expected) in cases {
+    for (files, expected) in SHELVES {
         let mut shelf = shelf(rt.alloc(), files, 0)?;
-        let found = told(rt.alloc(), &mut shelf)?;
-        assert!(rt; found.as_slice() == expected.as_bytes(), "{expected}");
+        assert!(rt; is_told(rt.alloc(), &mut shelf, expected)?, "{expected}");
     }
     Ok(())
+}
+
+/// A front, so many bytes behind it, as the basis or as the table, and the line.
+type Long = (&'static [u8], usize, u8, bool, &'static str);
+
+const LONG_FILES: &[Long] = &[
+    (b"", 4_194_304, b'\n', true, "basis"),
+    (
+        b"",
+        4_194_305,
+        b'\n',
+        true,
+        "badbasis,basis.csv,0,toolong\n",
+    ),
+    (Q, 4_194_304, b' ', false, "basis"),
+    (b"", 4_194_305, b'\n', false, "badbasis,q.xml,1,toolong\n"),
+];
+
+// A file that begins so, with this byte up to that length.
+fn long_file(alloc: Global, front: &[u8], length: usize, byte: u8) -> Result<Vec<u8>, Fail> {
+    let mut file = front.to_vec(alloc)?;
+    file.resize(length, byte)?;
+    Ok(file)
+}
+
+fn is_told_of(alloc: Global, basis: &[u8], table: &[u8], expected: &str) -> Result<bool, Fail> {
+    let mut shelf = shelf(alloc, &[(BASIS, basis), ("q.xml", table)], 0)?;
+    is_told(alloc, &mut shelf, expected)
+}
+
+fn holds(alloc: Global, long: &Long) -> Result<bool, Fail> {
+    let (front, length, byte, is_basis, expected) = *long;
+    let file = long_file(alloc, front, length, byte)?;
+    if is_basis {
+        is_told_of(alloc, &file, b"", expected)
+    } else {
+        is_told_of(alloc, ONE_ROW, &file, expected)
+    }
+}
+
+// A thousand lines that are no rows, and an end.
+fn thousand_lines(alloc: Global, end: &[u8]) -> Result<Vec<u8>, Fail> {
+    let mut file = Vec::new(alloc);
+    for _ in 0..1_000 {
+        file.extend_from_slice(b"x\n")?;
+    }
+    file.extend_from_slice(end)?;
+    Ok(file)
 }
 
 #[test]
 fn files_at_their_limits(rt: HostRuntime) -> Result<(), Fail> {
     let alloc = rt.alloc();
-    let most = vec![in alloc; b'\n'; 4_194_304]?;
-    let long = vec![in alloc; b'\n'; 4_194_305]?;
-    let mut table = Q.to_vec(alloc)?;
-    table.resize(4_194_304, b' ')?;
-    let mut rows = Vec::new(alloc);
-    for _ in 0..1_000 {
-        rows.extend_from_slice(b"x\n")?;
+    for (row, long) in LONG_FILES.iter().enumerate() {
+        assert!(rt; holds(alloc, long)?, "row {row}");
     }
-    let mut more = rows.clone()?;
-    more.push(b'x')?;
-    let cases: [(&[u8], &[u8], &str); 6] = [
-        (&most, b"", "basis"),
-        (&long, b"", "badbasis,basis.csv,0,toolong\n"),
-        (ONE_ROW, &table, "basis"),
-        (ONE_ROW, &long, "badbasis,q.xml,1,toolong\n"),
-        (&rows, b"", "badbasis,basis.csv,1,badrow\n"),
-        (&more, b"", "badbasis,basis.csv,1001,toomanyrows\n"),
-    ];
-    for (basis, table, expected) in cases {
-        let mut shelf = shelf(alloc, &[(BASIS, basis), ("q.xml", table)], 0)?;
-        let found = told(alloc, &mut shelf)?;
-        assert!(rt; found.as_slice() == expected.as_bytes(), "{expected}");
-    }
+    let rows = thousand_lines(alloc, b"")?;
+    assert!(rt; is_told_of(alloc, &rows, b"", "badbasis,basis.csv,1,badrow\n")?);
+    let rows = thousand_lines(alloc, b"x")?;
+    assert!(rt; is_told_of(alloc, &rows, b"", "badbasis,basis.csv,1001,toomanyrows\n")?);
     Ok(())
 }
+
+const WHOLE: &[File] = &[
+    (BASIS, FIVE_ROWS),
+    ("q.xml", Q),
+    ("s.xml", SHORT),
+    ("t.xml", Q),
+];
 
 /// Each of the four fetches fails in turn; there is no fifth, though five rows name tables.
+const FETCHES: &[(u64, &str, u64)] = &[
+    (1, "readfault", 1),
+    (2, "readfault", 1),
+    (3, "readfault", 1),
+    (4, "readfault", 1),
+    (5, "basis", 0),
+];
+
 #[test]
 fn failing_fetches(rt: HostRuntime) -> Result<(), Fail> {
-    let files = [
-        (BASIS, FIVE_ROWS),
-        ("q.xml", Q),
-        ("s.xml", SHORT),
-        ("t.xml", Q),
-    ];
-    for (failing, expected, faults) in [
-        (1, "readfault", 1),
-        (2, "readfault", 1),
-        (3, "readfault", 1),
-        (4, "readfault", 1),
-        (5, "basis", 0),
-    ] {
-        let mut shelf = shelf(rt.alloc(), &files, failing)?;
-        let found = told(rt.alloc(), &mut shelf)?;
-        assert!(rt; found.as_slice() == expected.as_bytes(), "fetch {failing}");
-        assert_eq!(rt; shelf.faults(), faults, "fetch {failing}");
+    for (failing, expected, faults) in FETCHES {
+        let mut shelf = shelf(rt.alloc(), WHOLE, *failing)?;
+        assert!(rt;
+            is_told(rt.alloc(), &mut shelf, expected)?,
+            "fetch {failing}"
+        );
+        assert!(rt; shelf.faults() == *faults, "fetch {failing}");
     }
     Ok(())
 }
 
-/// The first and the last age of the rates for age 0 at issue.
+/// The number of a row, the first and the last age of its table's rates for age 0 at issue, and the points.
+type Picked = (u16, Option<(u8, u8)>, u16);
+
+const PICKED: &[(i32, Option<Picked>)] = &[
+    (-1, None),
+    (0, Some((0, Some((0, 1)), 100))),
+    (10, Some((1, Some((7, 7)), 200))),
+    (29, Some((2, Some((7, 7)), 300))),
+    (30, Some((3, Some((0, 1)), 400))),
+    (40, Some((4, Some((0, 1)), 500))),
+];
+
 fn ages_of(table: &AnyTable) -> Option<(u8, u8)> {
     match table.along(0) {
         Some(rates) => Some((rates.first_age(), rates.last_age())),
@@ -201,34 +265,27 @@ fn ages_of(table: &AnyTable) -> Option<(u8, u8)> {
     }
 }
 
-#[test]
-fn picks(rt: HostRuntime) -> Result<(), Fail> {
-    let alloc = rt.alloc();
-    let files = [
-        (BASIS, FIVE_ROWS),
-        ("q.xml", Q),
-        ("s.xml", SHORT),
-        ("t.xml", Q),
-    ];
-    let mut shelf = shelf(alloc, &files, 0)?;
+fn picked(basis: &Basis, issued: i32) -> Option<Picked> {
+    let (index, table, bp) = basis.pick(issued)?;
+    Some((index, ages_of(table), bp))
+}
+
+fn basis(alloc: Global) -> Result<Basis, Fail> {
+    let mut shelf = shelf(alloc, WHOLE, 0)?;
     let Ok(Some(name)) = Name::of(alloc, BASIS.as_bytes()) else {
         return Err("a name".into());
     };
-    let Ok(basis) = fetch_basis(alloc, &name, &mut shelf) else {
-        return Err("a basis".into());
-    };
-    for (issued, expected) in [
-        (-1, None),
-        (0, Some((0, Some((0, 1)), 100))),
-        (10, Some((1, Some((7, 7)), 200))),
-        (29, Some((2, Some((7, 7)), 300))),
-        (30, Some((3, Some((0, 1)), 400))),
-        (40, Some((4, Some((0, 1)), 500))),
-    ] {
-        let seen = basis
-            .pick(issued)
-            .map(|(index, table, bp)| (index, ages_of(table), bp));
-        assert_eq!(rt; seen, expected, "{issued}");
+    match fetch_basis(alloc, &name, &mut shelf) {
+        Ok(basis) => Ok(basis),
+        Err(_) => Err("a basis".into()),
+    }
+}
+
+#[test]
+fn picks(rt: HostRuntime) -> Result<(), Fail> {
+    let basis = basis(rt.alloc())?;
+    for (issued, expected) in PICKED {
+        assert!(rt; picked(&basis, *issued) == *expected, "{issued}");
     }
     Ok(())
 }

@@ -20,21 +20,34 @@ const CLAIMED_FRONT: &[u8] =
 const CLAIMED_POLICY: &[u8] =
     b"\x00\x00\x1b\x59\x03\x00\x03\x01\x03\x00\x00\x00\x00\x00\x47\x56\x00\x00\x48\x0c\x00\x00\x00\x00\x00\x01\x86\xa0\x00\x00\x00\x00\x00\x00\x9c\x40\x00\x00\x00\x00\x00\x00\xea\x60\x00\x00\x00\x00";
 
-fn claimed() -> Policy {
-    Policy {
-        id: 7001,
-        plan: Plan::Endowment,
-        age: 0,
-        years: 3,
-        amount: 100_000,
-        premium: 40_000,
-        issued: 18262,
-        last: 18444,
-        paid: 1,
-        status: Status::Claimed,
-        outstanding: 60_000,
-    }
-}
+const CLAIMED: Policy = Policy {
+    id: 7001,
+    plan: Plan::Endowment,
+    age: 0,
+    years: 3,
+    amount: 100_000,
+    premium: 40_000,
+    issued: 18262,
+    last: 18444,
+    paid: 1,
+    status: Status::Claimed,
+    outstanding: 60_000,
+};
+
+// The same with another number.
+const OTHER: Policy = Policy {
+    id: 7002,
+    plan: Plan::Endowment,
+    age: 0,
+    years: 3,
+    amount: 100_000,
+    premium: 40_000,
+    issued: 18262,
+    last: 18444,
+    paid: 1,
+    status: Status::Claimed,
+    outstanding: 60_000,
+};
 
 fn snapshot_of(alloc: Global, policies: &[Policy]) -> Result<Snapshot, AllocError> {
     Ok(Snapshot {
@@ -85,20 +98,19 @@ fn saved(disk: MemoryDisk, snapshot: &Snapshot) -> (Result<(), u64>, MemoryDisk)
     }
 }
 
-// A policy that stands in it twice isn't sound.
+// Books, and whether they are sound: a policy that stands in one twice isn't.
+const BOOKS: &[(&[Policy], bool)] = &[
+    (&[], true),
+    (&[OTHER, CLAIMED], true),
+    (&[CLAIMED, CLAIMED], false),
+    (&[CLAIMED, OTHER, CLAIMED], false),
+];
+
 #[test]
 fn numbers_are_compared(rt: HostRuntime) -> Result<(), Fail> {
     let alloc = rt.alloc();
-    let mut other = claimed();
-    other.id = 7000;
-    let cases: [(&[Policy], bool); 4] = [
-        (&[], true),
-        (&[claimed(), other], true),
-        (&[claimed(), claimed()], false),
-        (&[claimed(), other, claimed()], false),
-    ];
-    for (policies, sound) in cases {
-        assert!(rt; snapshot_of(alloc, policies)?.is_sound(alloc)? == sound);
+    for (policies, sound) in BOOKS {
+        assert!(rt; snapshot_of(alloc, policies)?.is_sound(alloc)? == *sound);
     }
     Ok(())
 }
@@ -106,7 +118,7 @@ fn numbers_are_compared(rt: HostRuntime) -> Result<(), Fail> {
 #[test]
 fn a_snapshot_is_spelled(rt: HostRuntime) -> Result<(), Fail> {
     let alloc = rt.alloc();
-    let snapshot = sound_snapshot_of(alloc, &[claimed()])?;
+    let snapshot = sound_snapshot_of(alloc, &[CLAIMED])?;
     let wanted = file_of(alloc, &[CLAIMED_FRONT, CLAIMED_POLICY])?;
     for before in [&[] as &[u8], &[0], &[7; 40], &[1; 40]] {
         let (answer, disk) = saved(
@@ -122,7 +134,7 @@ fn a_snapshot_is_spelled(rt: HostRuntime) -> Result<(), Fail> {
 #[test]
 fn a_longer_file_is_not_cut(rt: HostRuntime) -> Result<(), Fail> {
     let alloc = rt.alloc();
-    let snapshot = sound_snapshot_of(alloc, &[claimed()])?;
+    let snapshot = sound_snapshot_of(alloc, &[CLAIMED])?;
     let before = file_of(alloc, &[&[1; 200]])?;
     let wanted = file_of(alloc, &[CLAIMED_FRONT, CLAIMED_POLICY, &[1; 88]])?;
     let (answer, disk) = saved(MemoryDisk::new(alloc, before, Vec::new(alloc)), &snapshot);
@@ -176,10 +188,8 @@ fn is_closed_or(file: &[u8], old: &[u8], new: &[u8]) -> bool {
 #[test]
 fn a_fault_or_a_crash_leaves_the_old_or_the_new(rt: HostRuntime) -> Result<(), Fail> {
     let alloc = rt.alloc();
-    let mut other = claimed();
-    other.id = 7002;
     let old = file_of(alloc, &[CLAIMED_FRONT, CLAIMED_POLICY])?;
-    let snapshot = sound_snapshot_of(alloc, &[claimed(), other])?;
+    let snapshot = sound_snapshot_of(alloc, &[CLAIMED, OTHER])?;
     let (answer, disk) = saved(
         MemoryDisk::new(
             alloc,
@@ -211,7 +221,7 @@ fn a_fault_or_a_crash_leaves_the_old_or_the_new(rt: HostRuntime) -> Result<(), F
 #[test]
 fn a_save_after_a_fault_is_whole(rt: HostRuntime) -> Result<(), Fail> {
     let alloc = rt.alloc();
-    let snapshot = sound_snapshot_of(alloc, &[claimed()])?;
+    let snapshot = sound_snapshot_of(alloc, &[CLAIMED])?;
     let wanted = file_of(alloc, &[CLAIMED_FRONT, CLAIMED_POLICY])?;
     for call in 4..11_u64 {
         let failing = Vec::from_slice(alloc, &[call])?;
@@ -235,7 +245,7 @@ fn a_save_after_a_fault_is_whole(rt: HostRuntime) -> Result<(), Fail> {
 #[test]
 fn a_closed_gate_is_left(rt: HostRuntime) -> Result<(), Fail> {
     let alloc = rt.alloc();
-    let snapshot = sound_snapshot_of(alloc, &[claimed()])?;
+    let snapshot = sound_snapshot_of(alloc, &[CLAIMED])?;
     let cases: [(&[u8], u32); 3] = [(&[0], 8), (&[1], 10), (&[], 9)];
     for (before, calls) in cases {
         let (answer, disk) = saved(

@@ -13,27 +13,10 @@ const HEAD: [u8; 16] = [
 const NO_RECORD: &[&[u8]] = &[&[1], &HEAD, &[0]];
 
 // A file in parts, what opening it must answer, and what must stand there afterwards.
-#[derive(Drop)]
 struct Case {
     file: &'static [&'static [u8]],
     answer: Result<u32, JournalCause>,
     after: &'static [&'static [u8]],
-}
-
-fn taken(file: &'static [&'static [u8]], count: u32, after: &'static [&'static [u8]]) -> Case {
-    Case {
-        file,
-        answer: Ok(count),
-        after,
-    }
-}
-
-fn refused(file: &'static [&'static [u8]], cause: JournalCause) -> Case {
-    Case {
-        file,
-        answer: Err(cause),
-        after: file,
-    }
 }
 
 fn file_of(alloc: Global, parts: &[&[u8]]) -> Result<Vec<u8>, AllocError> {
@@ -62,32 +45,82 @@ fn holds(alloc: Global, case: &Case) -> Result<bool, AllocError> {
     Ok(answer == case.answer && disk.bytes() == after.as_slice())
 }
 
+const CASES: &[Case] = &[
+    Case {
+        file: &[],
+        answer: Ok(0),
+        after: NO_RECORD,
+    },
+    Case {
+        file: &[&[7]],
+        answer: Ok(0),
+        after: NO_RECORD,
+    },
+    Case {
+        file: &[&[0, 9, 9]],
+        answer: Ok(0),
+        after: NO_RECORD,
+    },
+    Case {
+        file: &[&[0; 18]],
+        answer: Ok(0),
+        after: NO_RECORD,
+    },
+    Case {
+        file: &[&[2], &HEAD, &[3]],
+        answer: Ok(0),
+        after: NO_RECORD,
+    },
+    Case {
+        file: NO_RECORD,
+        answer: Ok(0),
+        after: NO_RECORD,
+    },
+    Case {
+        file: &[&[1], &HEAD, &[1], &[5; 64], &[0, 8]],
+        answer: Ok(1),
+        after: &[&[1], &HEAD, &[1], &[5; 64], &[0, 8]],
+    },
+    Case {
+        file: &[&[65; 18]],
+        answer: Err(JournalCause::NotAJournal),
+        after: &[&[65; 18]],
+    },
+    Case {
+        file: &[&[1], &HEAD],
+        answer: Err(JournalCause::NotAJournal),
+        after: &[&[1], &HEAD],
+    },
+    Case {
+        file: &[&[0; 19]],
+        answer: Err(JournalCause::NotAJournal),
+        after: &[&[0; 19]],
+    },
+    Case {
+        file: &[&[2], &HEAD, &[1]],
+        answer: Err(JournalCause::NotAJournal),
+        after: &[&[2], &HEAD, &[1]],
+    },
+    Case {
+        file: &[&[1], &HEAD, &[1]],
+        answer: Err(JournalCause::BadRecord(0)),
+        after: &[&[1], &HEAD, &[1]],
+    },
+    Case {
+        file: &[&[1], &HEAD, &[1], &[5; 64]],
+        answer: Err(JournalCause::BadRecord(0)),
+        after: &[&[1], &HEAD, &[1], &[5; 64]],
+    },
+    Case {
+        file: &[&[1], &HEAD, &[1], &[5; 64], &[1]],
+        answer: Err(JournalCause::BadRecord(1)),
+        after: &[&[1], &HEAD, &[1], &[5; 64], &[1]],
+    },
+];
+
 #[test]
 fn files_are_opened_or_refused(rt: HostRuntime) -> Result<(), AllocError> {
-    let cases = [
-        taken(&[], 0, NO_RECORD),
-        taken(&[&[7]], 0, NO_RECORD),
-        taken(&[&[0, 9, 9]], 0, NO_RECORD),
-        taken(&[&[0; 18]], 0, NO_RECORD),
-        taken(&[&[2], &HEAD, &[3]], 0, NO_RECORD),
-        taken(NO_RECORD, 0, NO_RECORD),
-        taken(
-            &[&[1], &HEAD, &[1], &[5; 64], &[0, 8]],
-            1,
-            &[&[1], &HEAD, &[1], &[5; 64], &[0, 8]],
-        ),
-        refused(&[&[65; 18]], JournalCause::NotAJournal),
-        refused(&[&[1], &HEAD], JournalCause::NotAJournal),
-        refused(&[&[0; 19]], JournalCause::NotAJournal),
-        refused(&[&[2], &HEAD, &[1]], JournalCause::NotAJournal),
-        refused(&[&[1], &HEAD, &[1]], JournalCause::BadRecord(0)),
-        refused(&[&[1], &HEAD, &[1], &[5; 64]], JournalCause::BadRecord(0)),
-        refused(
-            &[&[1], &HEAD, &[1], &[5; 64], &[1]],
-            JournalCause::BadRecord(1),
-        ),
-    ];
-    for (k, case) in cases.iter().enumerate() {
+    for (k, case) in CASES.iter().enumerate() {
         assert!(rt; holds(rt.alloc(), case)?, "case {k}");
     }
     Ok(())
@@ -159,6 +192,39 @@ fn told(call: &DiskCall) -> (u8, u64, usize) {
     }
 }
 
+// Of a creation, and of two records.
+const CALLS: &[(u8, u64, usize)] = &[
+    (b's', 0, 0),
+    (b'l', 0, 0),
+    (b'r', 0, 0),
+    (b'w', 0, 1),
+    (b's', 0, 0),
+    (b'w', 1, 17),
+    (b's', 0, 0),
+    (b'w', 0, 1),
+    (b's', 0, 0),
+    (b'w', 18, 65),
+    (b's', 0, 0),
+    (b'w', 17, 1),
+    (b's', 0, 0),
+    (b'w', 83, 65),
+    (b's', 0, 0),
+    (b'w', 82, 1),
+    (b's', 0, 0),
+];
+
+fn are_calls(made: &[DiskCall], wanted: &[(u8, u64, usize)]) -> bool {
+    if made.len() != wanted.len() {
+        return false;
+    }
+    for (call, wanted) in made.iter().zip(wanted) {
+        if told(call) != *wanted {
+            return false;
+        }
+    }
+    true
+}
+
 #[test]
 fn records_outlive_reopening(rt: HostRuntime) -> Result<(), Fail> {
     let alloc = rt.alloc();
@@ -166,29 +232,7 @@ fn records_outlive_reopening(rt: HostRuntime) -> Result<(), Fail> {
     assert!(rt; added);
     let want = file_of(alloc, &[&[1], &HEAD, &[1], &[7; 64], &[1], &[9; 64], &[0]])?;
     assert!(rt; disk.bytes() == want.as_slice());
-    let calls = [
-        (b's', 0, 0),
-        (b'l', 0, 0),
-        (b'r', 0, 0),
-        (b'w', 0, 1),
-        (b's', 0, 0),
-        (b'w', 1, 17),
-        (b's', 0, 0),
-        (b'w', 0, 1),
-        (b's', 0, 0),
-        (b'w', 18, 65),
-        (b's', 0, 0),
-        (b'w', 17, 1),
-        (b's', 0, 0),
-        (b'w', 83, 65),
-        (b's', 0, 0),
-        (b'w', 82, 1),
-        (b's', 0, 0),
-    ];
-    assert!(rt; disk.made().len() == calls.len());
-    for (call, want) in disk.made().iter().zip(calls) {
-        assert!(rt; told(call) == want);
-    }
+    assert!(rt; are_calls(disk.made(), CALLS));
     assert!(rt; both_stand(disk));
     Ok(())
 }
@@ -294,27 +338,34 @@ fn records_are_read_by_pieces(rt: HostRuntime) -> Result<(), Fail> {
     Ok(())
 }
 
+// How many bytes are cut off, the place of a gate and its byte, and what is answered.
+type Long = (usize, usize, u8, Result<u32, JournalCause>);
+
 // The last gate, the last body or a gate amid is wrong, far behind the first piece.
+const LONG: &[Long] = &[
+    (0, 2100, 0, Ok(2100)),
+    (0, 2100, 1, Err(JournalCause::BadRecord(2100))),
+    (1, 2099, 1, Err(JournalCause::BadRecord(2099))),
+    (0, 1008, 2, Ok(1008)),
+    (30, 1500, 0, Ok(1500)),
+];
+
+fn is_answered(alloc: Global, long: &Long) -> Result<bool, AllocError> {
+    let (cut, at, gate, answer) = *long;
+    let mut bytes = long_file(alloc, 2100)?;
+    if let Some(byte) = bytes.as_mut_slice().get_mut(17 + 65 * at.min(2100)) {
+        *byte = gate;
+    }
+    let left = bytes.len().saturating_sub(cut);
+    bytes.truncate(left);
+    let (opened, _) = opened(MemoryDisk::new(alloc, bytes, Vec::new(alloc)));
+    Ok(opened == answer)
+}
+
 #[test]
-fn long_files_are_opened_or_refused(rt: HostRuntime) -> Result<(), Fail> {
-    let alloc = rt.alloc();
-    for (cut, at, gate, answer) in [
-        (0, 2100_u32, 0, Ok(2100)),
-        (0, 2100, 1, Err(JournalCause::BadRecord(2100))),
-        (1, 2099, 1, Err(JournalCause::BadRecord(2099))),
-        (0, 1008, 2, Ok(1008)),
-        (30, 1500, 0, Ok(1500)),
-    ] {
-        let mut bytes = long_file(alloc, 2100)?;
-        let place = 17 + 65 * at as usize;
-        if place >= bytes.len() {
-            return Err(Fail::new("no such gate"));
-        }
-        bytes[place] = gate;
-        let left = bytes.len().saturating_sub(cut);
-        bytes.truncate(left);
-        let (opened, _) = opened(MemoryDisk::new(alloc, bytes, Vec::new(alloc)));
-        assert!(rt; opened == answer, "gate {at} is {gate}");
+fn long_files_are_opened_or_refused(rt: HostRuntime) -> Result<(), AllocError> {
+    for (row, long) in LONG.iter().enumerate() {
+        assert!(rt; is_answered(rt.alloc(), long)?, "row {row}");
     }
     Ok(())
 }

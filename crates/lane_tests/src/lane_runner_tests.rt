@@ -6,7 +6,7 @@ use crate::offices::{ONE_YEAR, issue};
 use lane_runner::{Outcome, TranscriptLine};
 use office_state::Answer;
 use outside_io::OpenGate;
-use policy_types::{At, Command, Lane, Line, Lines, PinRefusal, Report, Status, Watcher};
+use policy_types::{At, Command, Lane, Line, Lines, PinRefusal, Plan, Report, Status, Watcher};
 use policy_value::{Row, Worth};
 use snapshot_value::Valuation;
 use std::alloc::{AllocError, Global};
@@ -100,49 +100,66 @@ fn count_issues(lines: &[TranscriptLine], lane: u8, first: u32) -> u32 {
     next.wrapping_sub(first)
 }
 
-fn value_at(at: At) -> Line {
-    Line::Value {
-        on: ONE_YEAR,
-        at,
-        workers: 1,
+// Whether just these lines were answered, each by its lane and so.
+fn are_told(lines: &[TranscriptLine], dues: &[(u8, Told)]) -> bool {
+    if lines.len() != dues.len() {
+        return false;
     }
+    for (line, due) in lines.iter().zip(dues) {
+        if answer_of(line) != *due {
+            return false;
+        }
+    }
+    true
 }
+
+const VALUE_NOW: Line = Line::Value {
+    on: ONE_YEAR,
+    at: At::Now,
+    workers: 1,
+};
 
 pub(crate) fn claim(id: u32) -> Line {
     Line::Post(Command::Claim { id, day: 18_276 })
 }
 
+const POSTED: &[Line] = &[
+    Line::Post(Command::Claim { id: 1, day: 18_276 }),
+    Line::Trim,
+    Line::Post(Command::Issue {
+        id: 1_201,
+        day: 18_262,
+        plan: Plan::Endowment,
+        age: 0,
+        years: 3,
+        amount: 100_000,
+        premium: 40_000,
+    }),
+    Line::Post(Command::Claim { id: 2, day: 18_276 }),
+    Line::Trim,
+    Line::Post(Command::Claim {
+        id: 1_201,
+        day: 18_276,
+    }),
+];
+
+const BETWEEN: &[(u8, Told)] = &[
+    (2, Told::Valued(1_200, 1_200)),
+    (1, Told::Accepted(1_201)),
+    (1, Told::Trimmed(1_200)),
+    (1, Told::Accepted(1_202)),
+    (1, Told::Accepted(1_203)),
+    (1, Told::Trimmed(1_200)),
+    (1, Told::Accepted(1_204)),
+];
+
 #[test]
 fn a_line_between_each_two_batches(rt: HostRuntime) -> Result<(), Fail> {
     let alloc = rt.alloc();
-    let posted = [
-        claim(1),
-        Line::Trim,
-        Line::Post(issue(1_201)),
-        claim(2),
-        Line::Trim,
-        claim(1_201),
-    ];
-    let lanes = [
-        lane(alloc, 1, &posted)?,
-        lane(alloc, 2, &[value_at(At::Now)])?,
-    ];
+    let lanes = [lane(alloc, 1, POSTED)?, lane(alloc, 2, &[VALUE_NOW])?];
     let gate = InTurn::new(5);
     let transcript = run_on(&rt, alloc, 1_200, lanes.as_slice(), &gate)?;
-    let dues = [
-        (2, Told::Valued(1_200, 1_200)),
-        (1, Told::Accepted(1_201)),
-        (1, Told::Trimmed(1_200)),
-        (1, Told::Accepted(1_202)),
-        (1, Told::Accepted(1_203)),
-        (1, Told::Trimmed(1_200)),
-        (1, Told::Accepted(1_204)),
-    ];
-    let lines = transcript.lines.as_slice();
-    assert_eq!(rt; lines.len(), dues.len());
-    for (line, due) in lines.iter().zip(dues.iter()) {
-        assert_eq!(rt; answer_of(line), *due);
-    }
+    assert!(rt; are_told(transcript.lines.as_slice(), BETWEEN));
     assert_eq!(rt; gate.missed(), 0);
     Ok(())
 }
@@ -151,11 +168,11 @@ fn a_line_between_each_two_batches(rt: HostRuntime) -> Result<(), Fail> {
 fn busy_lane(alloc: Global, number: u8) -> Result<Lane, AllocError> {
     let first = u32::from(number) * 1_000;
     let mut lines = Vec::new(alloc);
-    lines.push(value_at(At::Now))?;
+    lines.push(VALUE_NOW)?;
     for id in first..first + 200 {
         lines.push(Line::Post(issue(id)))?;
     }
-    lines.push(value_at(At::Now))?;
+    lines.push(VALUE_NOW)?;
     Ok(Lane {
         number,
         lines: Lines::new(lines),
@@ -179,42 +196,67 @@ fn eight_busy_lanes(rt: HostRuntime) -> Result<(), Fail> {
     Ok(())
 }
 
+const ASKED: &[Line] = &[
+    Line::Value {
+        on: ONE_YEAR,
+        at: At::Position(6),
+        workers: 1,
+    },
+    Line::Value {
+        on: ONE_YEAR,
+        at: At::Position(4),
+        workers: 1,
+    },
+    Line::Trim,
+    Line::Value {
+        on: ONE_YEAR,
+        at: At::Position(4),
+        workers: 1,
+    },
+    Line::Value {
+        on: ONE_YEAR,
+        at: At::Position(5),
+        workers: 1,
+    },
+    Line::Trim,
+    Line::Trim,
+    Line::Post(Command::Claim { id: 5, day: 18_276 }),
+    Line::Trim,
+    Line::Value {
+        on: ONE_YEAR,
+        at: At::Position(5),
+        workers: 1,
+    },
+];
+
+const TOLD: &[(u8, Told)] = &[
+    (7, Told::Refused(PinRefusal::Ahead(5))),
+    (7, Told::Valued(4, 4)),
+    (7, Told::Trimmed(5)),
+    (7, Told::Refused(PinRefusal::Trimmed(5))),
+    (7, Told::Valued(5, 5)),
+    (7, Told::Trimmed(5)),
+    (7, Told::Trimmed(5)),
+    (7, Told::Accepted(6)),
+    (7, Told::Trimmed(6)),
+    (7, Told::Refused(PinRefusal::Trimmed(6))),
+];
+
 #[test]
 fn trims_and_refused_valuations(rt: HostRuntime) -> Result<(), Fail> {
-    let alloc = rt.alloc();
-    let asked = [
-        value_at(At::Position(6)),
-        value_at(At::Position(4)),
-        Line::Trim,
-        value_at(At::Position(4)),
-        value_at(At::Position(5)),
-        Line::Trim,
-        Line::Trim,
-        claim(5),
-        Line::Trim,
-        value_at(At::Position(5)),
-    ];
-    let lanes = [lane(alloc, 7, &asked)?];
-    let transcript = run_on(&rt, alloc, 5, lanes.as_slice(), &OpenGate)?;
-    let dues = [
-        Told::Refused(PinRefusal::Ahead(5)),
-        Told::Valued(4, 4),
-        Told::Trimmed(5),
-        Told::Refused(PinRefusal::Trimmed(5)),
-        Told::Valued(5, 5),
-        Told::Trimmed(5),
-        Told::Trimmed(5),
-        Told::Accepted(6),
-        Told::Trimmed(6),
-        Told::Refused(PinRefusal::Trimmed(6)),
-    ];
-    let lines = transcript.lines.as_slice();
-    assert_eq!(rt; lines.len(), dues.len());
-    for (line, due) in lines.iter().zip(dues.iter()) {
-        assert_eq!(rt; answer_of(line), (7, *due));
-    }
+    let lanes = [lane(rt.alloc(), 7, ASKED)?];
+    let transcript = run_on(&rt, rt.alloc(), 5, lanes.as_slice(), &OpenGate)?;
+    assert!(rt; are_told(transcript.lines.as_slice(), TOLD));
     Ok(())
 }
+
+const REPORTS: &[Report] = &[
+    Report { seen: 3, tally: 3 },
+    Report {
+        seen: 16,
+        tally: 320_000,
+    },
+];
 
 #[test]
 fn watchers_of_eight_lanes(rt: HostRuntime) -> Result<(), Fail> {
@@ -243,14 +285,7 @@ fn watchers_of_eight_lanes(rt: HostRuntime) -> Result<(), Fail> {
     let lines = transcript.lines.as_slice();
     assert_eq!(rt; lines.len(), 16);
     assert!(rt; are_as_one(lines));
-    let due = [
-        Report { seen: 3, tally: 3 },
-        Report {
-            seen: 16,
-            tally: 320_000,
-        },
-    ];
-    assert_eq!(rt; reports.as_slice(), due.as_slice());
+    assert!(rt; reports.as_slice() == REPORTS);
     Ok(())
 }
 

@@ -1,7 +1,7 @@
 // Each position of a script, valued once all of it was posted: as an office values it that was given just its beginning.
 ghost use Rattle.std.specs.Prelude.{◌≡◌};
 
-use crate::forty_commands::{COMMANDS, forty_commands};
+use crate::forty_commands::COMMANDS;
 use crate::offices::{flat_basis, post};
 use basis_book::Basis;
 use memory_disk::MemoryDisk;
@@ -29,9 +29,9 @@ fn post_first<D: Disk, W: Watching, R: Wait>(
     requires { pass.old.turnstile ≡ office.now }
     ensures { (pass.new.turnstile ≡ pass.old.turnstile) × (pass.new.shares ≡ pass.old.shares) }
 {
-    let commands = forty_commands();
-    for place in 0..many.min(COMMANDS) {
-        post(rt, office, pass, &commands[place]);
+    let commands = COMMANDS.get(..many).unwrap_or(COMMANDS);
+    for command in commands {
+        post(rt, office, pass, command);
     }
 }
 
@@ -102,7 +102,7 @@ fn first_otherwise<D: Disk, W: Watching, R: Threads + Wait + Sync>(
     requires { pass.old.turnstile ≡ office.now }
     ensures { (pass.new.turnstile ≡ pass.old.turnstile) × (pass.new.shares ≡ pass.old.shares) }
 {
-    for position in 0..COMMANDS + 1 {
+    for position in 0..41usize {
         let at = At::Position(position as u32);
         let there = valued(rt, alloc, office, pass, basis, at);
         if !are_same(&there, &valued_then(rt, alloc, basis, position)) {
@@ -120,7 +120,7 @@ fn each_position_of_forty_commands(rt: HostRuntime) -> Result<(), Fail> {
     let Ok((office, mut pass)) = Office::start(alloc, empty, NoWatchers) else {
         return Err("an office".into());
     };
-    post_first(&rt, &office, &mut pass, COMMANDS);
+    post_first(&rt, &office, &mut pass, 40);
     let all = valued(&rt, alloc, &office, &mut pass, &basis, At::Now);
     let otherwise = first_otherwise(&rt, alloc, &office, &mut pass, &basis);
     close(office, pass);

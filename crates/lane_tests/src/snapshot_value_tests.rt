@@ -164,6 +164,35 @@ fn now_and_ahead<D: Disk, W: Watching, R: Threads + Wait + Sync>(
     Some((newest.position, row.status, *fault))
 }
 
+const FIRST: Row = Row {
+    id: 1,
+    status: Status::InForce,
+    t: 1,
+    worth: Worth::Bounds {
+        lo: 12_722,
+        hi: 12_723,
+    },
+};
+
+const SECOND: Row = Row {
+    id: 1,
+    status: Status::InForce,
+    t: 2,
+    worth: Worth::Bounds {
+        lo: 51_512,
+        hi: 51_513,
+    },
+};
+
+const CASES: &[Case] = &[
+    (At::Position(300), ONE_YEAR, 300, 300, FIRST, 4),
+    (At::Position(300), TWO_YEARS, 300, 300, SECOND, 4),
+    (At::Position(256), ONE_YEAR, 256, 256, FIRST, 3),
+    (At::Position(257), ONE_YEAR, 257, 257, FIRST, 4),
+    (At::Position(1), ONE_YEAR, 1, 1, FIRST, 3),
+    (At::Position(0), ONE_YEAR, 0, 0, FIRST, 2),
+];
+
 #[test]
 fn positions_are_valued(rt: HostRuntime) -> Result<(), Fail> {
     let alloc = rt.alloc();
@@ -179,17 +208,7 @@ fn positions_are_valued(rt: HostRuntime) -> Result<(), Fail> {
         &mut pass,
         &Command::Lapse { id: 1, day: 18_660 },
     );
-    let first = inforce(1, 1, 12_722, 12_723);
-    let second = inforce(1, 2, 51_512, 51_513);
-    let cases = [
-        (At::Position(300), ONE_YEAR, 300, 300, first, 4),
-        (At::Position(300), TWO_YEARS, 300, 300, second, 4),
-        (At::Position(256), ONE_YEAR, 256, 256, first, 3),
-        (At::Position(257), ONE_YEAR, 257, 257, first, 4),
-        (At::Position(1), ONE_YEAR, 1, 1, first, 3),
-        (At::Position(0), ONE_YEAR, 0, 0, first, 2),
-    ];
-    let wrong = first_wrong(&rt, alloc, &office, &mut pass, &basis, 4, 301, &cases);
+    let wrong = first_wrong(&rt, alloc, &office, &mut pass, &basis, 4, 301, CASES);
     let last = now_and_ahead(&rt, alloc, &office, &mut pass, &basis);
     close(office, pass);
     assert_eq!(rt; wrong, None);

@@ -16,7 +16,7 @@ use Rattle.measure.specs.Turns.{AllTake}
 module _ {D W : Type 0} (g : Ghosts D) (w : WatcherGhosts W) (old new : D) (watchers : W) (turns accepted : ℕ) (balances : Booking) (reports : List Report) (first last : Holding (OfficeOpening D W))
     (started : HasStartedOffice g old watchers first) (take : AllTake accepts turns accepted first last) (closed : HasClosed g w last new balances reports) (facts : PassFacts IsOfficeHistory last) where
   abbrev began : OfficeOpening D W
-  began = record { opening = started.opening; begun = old; watchers = watchers }
+  began = record { opening = started.opening; begun = old; held = started.held; watchers = watchers }
 
   -- what the last pass tells of the opening is what the first told
   one_opening : (opening : OfficeOpening D W) → last.opening ≡ Some opening → opening ≡ began
@@ -25,6 +25,7 @@ module _ {D W : Type 0} (g : Ghosts D) (w : WatcherGhosts W) (old new : D) (watc
   pub has_posted : HasPosted g old watchers new turns accepted
   has_posted = record {
     opening = started.opening;
+    held = started.held;
     history = last.seen;
     legal = subst (λ (o : OfficeOpening D W). IsOfficeHistory o last.seen) (one_opening facts.lawful.0 facts.lawful.1) facts.lawful.2;
     disk = subst (λ (o : OfficeOpening D W). IsLeftBy g o.begun new o.opening last.seen) (one_opening closed.opening closed.opened) closed.disk;

@@ -20,8 +20,9 @@ accepts entry = is_acceptance entry.reply
 -- and the disk is left by it
 pub record HasPosted {D W : Type 0} (g : Ghosts D) (old : D) (watchers : W) (new : D) (turns accepted : ℕ) : Type 0 where
   pub opening : Opening
+  pub held : D
   pub history : List Entry
-  pub legal : IsOfficeHistory (record { opening = opening; begun = old; watchers = watchers }) history
+  pub legal : IsOfficeHistory (record { opening = opening; begun = old; held = held; watchers = watchers }) history
   pub disk : IsLeftBy g old new opening history
   pub turns_are : length history ≡ turns
   pub accepted_are : count_by accepts history ≡ accepted

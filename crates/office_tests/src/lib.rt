@@ -4,6 +4,8 @@
 #[cfg(test)]
 mod office_desk;
 #[cfg(test)]
+mod office_fault_tests;
+#[cfg(test)]
 mod office_pin_tests;
 #[cfg(test)]
 mod office_posting_tests;

@@ -3,7 +3,7 @@ use crate::office_desk::{Desk, MOST_TURNS, Posting, accepted, answers, office_on
 use crate::policies::{NEW_YEAR, issue, premium};
 use office_state::{Answer, Batch, PinInfo};
 use policy_types::{Command, PinRefusal, Plan, Refusal, Status};
-use std::alloc::AllocError;
+use std::alloc::{AllocError, Global};
 use watcher_set::NoWatchers;
 
 // A call of one caller that concerns pins, and its answer.
@@ -209,19 +209,34 @@ const FULL: &[Pinning] = &[
     ),
 ];
 
+fn pins_all(desk: &mut Desk<NoWatchers>, pinnings: &[Pinning]) -> bool {
+    for pinning in pinnings {
+        if !pins_so(desk, *pinning) {
+            return false;
+        }
+    }
+    true
+}
+
+// The turns of an office that answers these so, one after the other.
+fn turns_after(
+    alloc: Global,
+    first: &[Pinning],
+    postings: &[Posting],
+    then: &[Pinning],
+) -> Result<Option<u64>, AllocError> {
+    let Ok(mut desk) = office_on(alloc, &[], &[])? else {
+        return Ok(None);
+    };
+    if !pins_all(&mut desk, first) || !answers(&mut desk, postings) || !pins_all(&mut desk, then) {
+        return Ok(None);
+    }
+    Ok(Some(desk.office.turns()))
+}
+
 #[test]
 fn positions_that_are_pinned(rt: HostRuntime) -> Result<(), AllocError> {
-    let Ok(mut desk) = office_on(rt.alloc(), &[], &[])? else {
-        panic!(rt; "no office");
-    };
-    for pinning in EMPTY {
-        assert!(rt; pins_so(&mut desk, *pinning));
-    }
-    assert!(rt; answers(&mut desk, POSTINGS));
-    for pinning in FULL {
-        assert!(rt; pins_so(&mut desk, *pinning));
-    }
-    assert_eq!(rt; desk.office.turns(), 30);
+    assert!(rt; turns_after(rt.alloc(), EMPTY, POSTINGS, FULL)? == Some(30));
     Ok(())
 }
 
@@ -239,19 +254,22 @@ const SEVENTEENTH: &[Pinning] = &[
     Pinning::Now(Err(PinRefusal::PinsFull)),
 ];
 
+fn takes_sixteen(desk: &mut Desk<NoWatchers>) -> bool {
+    for number in 0..16 {
+        if !pins_so(desk, Pinning::Now(pinned(number, 0, 0))) {
+            return false;
+        }
+    }
+    true
+}
+
 // Sixteen pins are taken, and the next only once one of them was given up.
 #[test]
 fn seventeen_pins(rt: HostRuntime) -> Result<(), AllocError> {
-    let alloc = rt.alloc();
-    let Ok(mut desk) = office_on(alloc, &[], &[])? else {
+    let Ok(mut desk) = office_on(rt.alloc(), &[], &[])? else {
         panic!(rt; "no office");
     };
-    for number in 0..16 {
-        assert!(rt; pins_so(&mut desk, Pinning::Now(pinned(number, 0, 0))));
-    }
-    for row in SEVENTEENTH {
-        assert!(rt; pins_so(&mut desk, *row));
-    }
+    assert!(rt; takes_sixteen(&mut desk) && pins_all(&mut desk, SEVENTEENTH));
     Ok(())
 }
 
@@ -292,6 +310,18 @@ fn reads_at_a_pins_position(rt: HostRuntime) -> Result<(), AllocError> {
     Ok(())
 }
 
+// A pin, the first policy that is read, how many are, and the numbers of the first and the last.
+const BATCHES: &[(u64, u32, usize, (u32, u32))] = &[
+    (300, 0, 256, (1, 256)),
+    (300, 256, 44, (257, 300)),
+    (300, 45, 255, (46, 300)),
+    (300, 300, 0, (0, 0)),
+    (301, 0, 256, (1, 256)),
+    (301, 256, 43, (257, 299)),
+    (301, 43, 256, (44, 299)),
+    (301, 299, 0, (0, 0)),
+];
+
 // Three hundred policies, read in batches of 256 at most, as they stand and as 299 stood.
 #[test]
 fn batches_of_many_policies(rt: HostRuntime) -> Result<(), AllocError> {
@@ -307,19 +337,9 @@ fn batches_of_many_policies(rt: HostRuntime) -> Result<(), AllocError> {
     }
     assert!(rt; pins_so(&mut desk, Pinning::Now(pinned(300, 300, 300))));
     assert!(rt; pins_so(&mut desk, Pinning::At(299, pinned(301, 299, 299))));
-    let rows = [
-        (300, 0, 256, (1, 256)),
-        (300, 256, 44, (257, 300)),
-        (300, 45, 255, (46, 300)),
-        (300, 300, 0, (0, 0)),
-        (301, 0, 256, (1, 256)),
-        (301, 256, 43, (257, 299)),
-        (301, 43, 256, (44, 299)),
-        (301, 299, 0, (0, 0)),
-    ];
-    for (pin, first, policies, ids) in rows {
-        assert!(rt; reads(&mut desk, pin, first, &mut batch));
-        assert!(rt; holds(&batch, policies, ids));
+    for (pin, first, policies, ids) in BATCHES {
+        assert!(rt; reads(&mut desk, *pin, *first, &mut batch));
+        assert!(rt; holds(&batch, *policies, *ids));
     }
     Ok(())
 }

@@ -1,13 +1,10 @@
 // The rows of postings that an office answers, what it then shows, and what it opens to again. Days, amounts and balances
 // are worked by hand from the rules.
-use crate::office_desk::{Posting, accepted, answers, office_on, policy, shows};
-use crate::policies::{NEW_YEAR, issue, premium};
-use memory_disk::MemoryDisk;
+use crate::office_desk::{Posting, answers, office_on, shows};
+use crate::policies::NEW_YEAR;
 use money_ledgers::Ledger;
-use office_state::{Answer, StartCause};
+use office_state::Answer;
 use policy_types::{Command, Plan, Policy, Refusal, Status};
-use posting_journal::Journal;
-use record_codec::encode;
 use std::alloc::{AllocError, Global};
 
 const ISSUED: Command = Command::Issue {
@@ -302,110 +299,123 @@ fn rows_of_postings(rt: HostRuntime) -> Result<(), AllocError> {
 }
 
 // Two policies, as they stood after each of four commands.
+const FOUR: &[Posting] = &[
+    Posting {
+        command: ISSUED,
+        answer: Answer::Accepted(1),
+    },
+    Posting {
+        command: PAID,
+        answer: Answer::Accepted(2),
+    },
+    Posting {
+        command: Command::Issue {
+            id: 3,
+            day: NEW_YEAR,
+            plan: Plan::Endowment,
+            age: 0,
+            years: 3,
+            amount: 100_000,
+            premium: 40_000,
+        },
+        answer: Answer::Accepted(3),
+    },
+    Posting {
+        command: Command::Premium {
+            id: 7001,
+            day: 18538,
+            amount: 40_000,
+        },
+        answer: Answer::Accepted(4),
+    },
+];
+
+const FIRST: Policy = Policy {
+    id: 7001,
+    plan: Plan::Endowment,
+    age: 0,
+    years: 3,
+    amount: 100_000,
+    premium: 40_000,
+    issued: NEW_YEAR,
+    last: NEW_YEAR,
+    paid: 0,
+    status: Status::InForce,
+    outstanding: 0,
+};
+
+const FIRST_PAID: Policy = Policy {
+    id: 7001,
+    plan: Plan::Endowment,
+    age: 0,
+    years: 3,
+    amount: 100_000,
+    premium: 40_000,
+    issued: NEW_YEAR,
+    last: NEW_YEAR,
+    paid: 1,
+    status: Status::InForce,
+    outstanding: 0,
+};
+
+const FIRST_PAID_TWICE: Policy = Policy {
+    id: 7001,
+    plan: Plan::Endowment,
+    age: 0,
+    years: 3,
+    amount: 100_000,
+    premium: 40_000,
+    issued: NEW_YEAR,
+    last: 18538,
+    paid: 2,
+    status: Status::InForce,
+    outstanding: 0,
+};
+
+const SECOND: Policy = Policy {
+    id: 3,
+    plan: Plan::Endowment,
+    age: 0,
+    years: 3,
+    amount: 100_000,
+    premium: 40_000,
+    issued: NEW_YEAR,
+    last: NEW_YEAR,
+    paid: 0,
+    status: Status::InForce,
+    outstanding: 0,
+};
+
+const SHOWN: &[&[Policy]] = &[
+    &[],
+    &[FIRST],
+    &[FIRST_PAID],
+    &[FIRST_PAID, SECOND],
+    &[FIRST_PAID_TWICE, SECOND],
+];
+
+// Whether the office answers these postings, and shows just these policies at each position from 0 on.
+fn shows_each(
+    alloc: Global,
+    postings: &[Posting],
+    shown: &[&[Policy]],
+) -> Result<bool, AllocError> {
+    let Ok(mut desk) = office_on(alloc, &[], &[])? else {
+        return Ok(false);
+    };
+    if !answers(&mut desk, postings) {
+        return Ok(false);
+    }
+    for (position, policies) in (0..5u32).zip(shown) {
+        if !shows(&desk, position, policies) {
+            return Ok(false);
+        }
+    }
+    Ok(true)
+}
+
 #[test]
 fn policies_at_each_position(rt: HostRuntime) -> Result<(), AllocError> {
-    let alloc = rt.alloc();
-    let Ok(mut desk) = office_on(alloc, &[], &[])? else {
-        panic!(rt; "no office");
-    };
-    let postings = [
-        accepted(issue(7001, NEW_YEAR), 1),
-        accepted(premium(NEW_YEAR), 2),
-        accepted(issue(3, NEW_YEAR), 3),
-        accepted(premium(18538), 4),
-    ];
-    assert!(rt; answers(&mut desk, &postings));
-    let first = policy(7001, NEW_YEAR, NEW_YEAR, 0, Status::InForce, 0);
-    let paid = policy(7001, NEW_YEAR, NEW_YEAR, 1, Status::InForce, 0);
-    let paid_twice = policy(7001, NEW_YEAR, 18538, 2, Status::InForce, 0);
-    let other = policy(3, NEW_YEAR, NEW_YEAR, 0, Status::InForce, 0);
-    assert!(rt; shows(&desk, 0, &[]));
-    assert!(rt; shows(&desk, 1, &[first]));
-    assert!(rt; shows(&desk, 2, &[paid]));
-    assert!(rt; shows(&desk, 3, &[paid, other]));
-    assert!(rt; shows(&desk, 4, &[paid_twice, other]));
-    Ok(())
-}
-
-// Six issues, the second sync of the fifth failing: it is none of the accepted ones, nor of those that are opened to.
-#[test]
-fn a_posting_that_faults(rt: HostRuntime) -> Result<(), AllocError> {
-    let alloc = rt.alloc();
-    // A creation makes 9 calls, a posting 4.
-    let Ok(mut desk) = office_on(alloc, &[], &[29])? else {
-        panic!(rt; "no office");
-    };
-    let faulted = Posting {
-        command: issue(5, NEW_YEAR),
-        answer: Answer::DiskFault(1),
-    };
-    let postings = [
-        accepted(issue(1, NEW_YEAR), 1),
-        accepted(issue(2, NEW_YEAR), 2),
-        accepted(issue(3, NEW_YEAR), 3),
-        accepted(issue(4, NEW_YEAR), 4),
-        faulted,
-    ];
-    assert!(rt; answers(&mut desk, &postings));
-    assert_eq!(rt; desk.office.count(), 4);
-    assert!(rt; answers(&mut desk, &[accepted(issue(6, NEW_YEAR), 5)]));
-    let (disk, _, _) = desk.office.close();
-    let Ok(again) = office_on(alloc, disk.bytes(), &[])? else {
-        panic!(rt; "not opened again");
-    };
-    let mut ids = [0; 5];
-    assert_eq!(rt; again.office.policies(again.office.count()), 5);
-    for index in 0..again.office.policies(again.office.count()) {
-        ids[index as usize] = again.office.policy(index, again.office.count()).id;
-    }
-    assert_eq!(rt; ids, [1, 2, 3, 4, 6]);
-    Ok(())
-}
-
-// Journals whose records aren't all of accepted commands, and the cause for which no office is opened on them.
-#[test]
-fn records_that_are_refused(rt: HostRuntime) -> Result<(), AllocError> {
-    let alloc = rt.alloc();
-    let first = issue(7001, NEW_YEAR);
-    assert!(rt; first.is_valid());
-    let early = Command::Settle {
-        id: 7001,
-        day: 18444,
-        amount: 1,
-    };
-    assert!(rt; early.is_valid());
-    let cases = [
-        ([encode(&first), encode(&first)], StartCause::BadRecord(1)),
-        ([encode(&early), encode(&first)], StartCause::BadRecord(0)),
-        ([encode(&first), encode(&early)], StartCause::BadRecord(1)),
-        ([encode(&first), [0; 64]], StartCause::BadRecord(1)),
-    ];
-    for (bodies, cause) in cases {
-        let empty = MemoryDisk::new(alloc, Vec::new(alloc), Vec::new(alloc));
-        let Ok(mut journal) = Journal::start(empty) else {
-            panic!(rt; "no journal");
-        };
-        for body in bodies {
-            assert!(rt; journal.count() < 4_000_000 && journal.is_clean());
-            assert!(rt; journal.append(&body).is_ok());
-        }
-        let disk = journal.release();
-        assert!(rt; matches!(office_on(alloc, disk.bytes(), &[])?, Err(found) if found == cause));
-    }
-    Ok(())
-}
-
-// A disk that fails while an office is opened.
-#[test]
-fn openings_that_fault(rt: HostRuntime) -> Result<(), AllocError> {
-    let alloc = rt.alloc();
-    for call in [1, 2, 3, 4, 5, 6, 7, 8, 9] {
-        assert!(rt;
-            matches!(
-                office_on(alloc, &[], &[call])?,
-                Err(StartCause::DiskFault(1))
-            )
-        );
-    }
+    assert!(rt; shows_each(rt.alloc(), FOUR, SHOWN)?);
     Ok(())
 }

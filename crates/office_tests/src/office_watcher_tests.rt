@@ -7,7 +7,7 @@ use crate::office_desk::{
 use crate::policies::{NEW_YEAR, issue, premium};
 use money_ledgers::Ledger;
 use office_state::Answer;
-use policy_types::{Command, NoMemory, Refusal, Report, Status, Watcher};
+use policy_types::{Command, NoMemory, Plan, Refusal, Report, Status, Watcher};
 use std::alloc::{AllocError, Global};
 use watcher_set::{CountWatcher, NoWatchers, PremiumWatcher, Reports, Watchers, Watching};
 
@@ -131,39 +131,121 @@ fn reports_after<W: Watching>(
     Ok(Some(reports))
 }
 
-// Five issues and a premium are accepted, an issue is refused and another meets a fault. One watcher counts to three, the
-// other hears all six.
+// Five issues and a premium are accepted, an issue is refused and another meets a fault.
+const HEARD: &[Posting] = &[
+    Posting {
+        command: Command::Issue {
+            id: 7001,
+            day: NEW_YEAR,
+            plan: Plan::Endowment,
+            age: 0,
+            years: 3,
+            amount: 100_000,
+            premium: 40_000,
+        },
+        answer: Answer::Accepted(1),
+    },
+    Posting {
+        command: Command::Issue {
+            id: 2,
+            day: NEW_YEAR,
+            plan: Plan::Endowment,
+            age: 0,
+            years: 3,
+            amount: 100_000,
+            premium: 40_000,
+        },
+        answer: Answer::Accepted(2),
+    },
+    Posting {
+        command: Command::Issue {
+            id: 2,
+            day: NEW_YEAR,
+            plan: Plan::Endowment,
+            age: 0,
+            years: 3,
+            amount: 100_000,
+            premium: 40_000,
+        },
+        answer: Answer::Refused(Refusal::Taken),
+    },
+    Posting {
+        command: Command::Issue {
+            id: 3,
+            day: NEW_YEAR,
+            plan: Plan::Endowment,
+            age: 0,
+            years: 3,
+            amount: 100_000,
+            premium: 40_000,
+        },
+        answer: Answer::Accepted(3),
+    },
+    Posting {
+        command: Command::Premium {
+            id: 7001,
+            day: NEW_YEAR,
+            amount: 40_000,
+        },
+        answer: Answer::Accepted(4),
+    },
+    Posting {
+        command: Command::Issue {
+            id: 4,
+            day: NEW_YEAR,
+            plan: Plan::Endowment,
+            age: 0,
+            years: 3,
+            amount: 100_000,
+            premium: 40_000,
+        },
+        answer: Answer::Accepted(5),
+    },
+    Posting {
+        command: Command::Issue {
+            id: 5,
+            day: NEW_YEAR,
+            plan: Plan::Endowment,
+            age: 0,
+            years: 3,
+            amount: 100_000,
+            premium: 40_000,
+        },
+        answer: Answer::DiskFault(1),
+    },
+    Posting {
+        command: Command::Issue {
+            id: 6,
+            day: NEW_YEAR,
+            plan: Plan::Endowment,
+            age: 0,
+            years: 3,
+            amount: 100_000,
+            premium: 40_000,
+        },
+        answer: Answer::Accepted(6),
+    },
+];
+
+const REPORTS: &[Report] = &[
+    Report { seen: 3, tally: 3 },
+    Report {
+        seen: 6,
+        tally: 40_000,
+    },
+];
+
+// One watcher counts to three, the other hears all six.
 #[test]
 fn reports_of_two_watchers(rt: HostRuntime) -> Result<(), AllocError> {
     let alloc = rt.alloc();
     let mut boxes: Vec<Box<dyn Watcher + Send>> = Vec::new(alloc);
     boxes.push(Box::new(alloc, CountWatcher::new(3))?)?;
     boxes.push(Box::new(alloc, PremiumWatcher::new())?)?;
-    let faulted = Posting {
-        command: issue(5, NEW_YEAR),
-        answer: Answer::DiskFault(1),
-    };
-    let postings = [
-        accepted(issue(7001, NEW_YEAR), 1),
-        accepted(issue(2, NEW_YEAR), 2),
-        refused(issue(2, NEW_YEAR), Refusal::Taken),
-        accepted(issue(3, NEW_YEAR), 3),
-        accepted(premium(NEW_YEAR), 4),
-        accepted(issue(4, NEW_YEAR), 5),
-        faulted,
-        accepted(issue(6, NEW_YEAR), 6),
-    ];
     // A creation makes 9 calls, a posting 4.
-    let Some(reports) = reports_after(alloc, &[33], Watchers::new(boxes), &postings)? else {
+    let Some(reports) = reports_after(alloc, &[33], Watchers::new(boxes), HEARD)? else {
         panic!(rt; "not answered so");
     };
-    let expected = [
-        Report { seen: 3, tally: 3 },
-        Report {
-            seen: 6,
-            tally: 40_000,
-        },
-    ];
-    assert_eq!(rt; reports.as_slice(), expected.as_slice());
+    assert!(rt; reports.as_slice() == REPORTS);
     Ok(())
 }

@@ -49,7 +49,7 @@ const STEEP_RATES: [u32; 5] = [
 type Case = (Rates, u8, u8, u8, bool, u16, u64, u8, u64, u64);
 
 /// Cases that an actuary can follow by hand.
-const BY_HAND: [Case; 21] = [
+const BY_HAND: &[Case] = &[
     (Q, 0, 3, 3, true, 0, 100000, 1, 12722, 12723),
     (Q, 0, 3, 3, true, 0, 100000, 2, 51512, 51513),
     (Q, 0, 3, 3, true, 0, 100000, 3, 100000, 100000),
@@ -78,7 +78,7 @@ const BY_HAND: [Case; 21] = [
 /// A hundred shapes drawn at random. Their bounds were computed outside this program, by the rounded
 /// recursion in whole numbers of any length, and each was compared there with the reserve as an exact
 /// fraction, found by the sums over the years: the two enclose it.
-const DRAWN: [Case; 100] = [
+const DRAWN: &[Case] = &[
     (Q, 3, 2, 2, true, 275, 99, 0, 0, 0),
     (Q, 3, 2, 2, true, 1250, 1, 0, 0, 0),
     (Q, 1, 4, 3, true, 350, 1, 2, 0, 1),
@@ -230,7 +230,7 @@ fn expect_all(rt: &impl Abort, alloc: Global, cases: &[Case]) -> Result<(), Allo
 
 #[test]
 fn reserves_by_hand_and_at_random(rt: HostRuntime) -> Result<(), Fail> {
-    expect_all(&rt, rt.alloc(), &BY_HAND)?;
-    expect_all(&rt, rt.alloc(), &DRAWN)?;
+    expect_all(&rt, rt.alloc(), BY_HAND)?;
+    expect_all(&rt, rt.alloc(), DRAWN)?;
     Ok(())
 }

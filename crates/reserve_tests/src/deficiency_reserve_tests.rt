@@ -18,10 +18,10 @@ type Point = (u64, u64, u8, u64, u64, Adequacy);
 /// Points that an actuary can follow by hand: 400.00 is short and 500.00 isn't, no premium and a very large one; one cent
 /// below, at and above the net premium of 35.37, which is 17.15; a plan with two premiums, before the second and after it;
 /// a term until it is over.
-const BY_HAND: [(Plan, [Point; 4]); 4] = [
+const BY_HAND: &[(Plan, &[Point])] = &[
     (
         (Q, 0, 3, 3, true, 0),
-        [
+        &[
             (100000, 40000, 1, 28000, 28000, Short),
             (100000, 50000, 1, 12722, 12723, Enough),
             (100000, 0, 0, 100000, 100000, Short),
@@ -30,7 +30,7 @@ const BY_HAND: [(Plan, [Point; 4]); 4] = [
     ),
     (
         (Q, 0, 3, 3, true, 0),
-        [
+        &[
             (3537, 1714, 1, 451, 452, Short),
             (3537, 1715, 1, 450, 451, Close),
             (3537, 1716, 1, 449, 451, Enough),
@@ -39,7 +39,7 @@ const BY_HAND: [(Plan, [Point; 4]); 4] = [
     ),
     (
         (Q, 0, 5, 2, true, 0),
-        [
+        &[
             (100000, 1, 1, 99999, 99999, Short),
             (100000, 1, 2, 100000, 100000, Short),
             (100000, 1, 3, 100000, 100000, Short),
@@ -48,7 +48,7 @@ const BY_HAND: [(Plan, [Point; 4]); 4] = [
     ),
     (
         (Q, 0, 3, 3, false, 0),
-        [
+        &[
             (100000, 1, 0, 45997, 45998, Short),
             (100000, 1, 1, 39998, 39999, Short),
             (100000, 1, 2, 24999, 24999, Short),
@@ -60,10 +60,10 @@ const BY_HAND: [(Plan, [Point; 4]); 4] = [
 /// Plans, ages, durations and premiums drawn at random: at the net premium and one cent above it, at nine, five and eleven
 /// tenths of it, and once all are paid. The bounds were computed outside this program, in whole numbers of any length, and
 /// each was compared there with the minimum as an exact fraction, found by sums over the years: the two enclose it.
-const DRAWN: [(Plan, [Point; 6]); 18] = [
+const DRAWN: &[(Plan, &[Point])] = &[
     (
         (Q, 0, 3, 3, true, 0),
-        [
+        &[
             (100000, 48487, 1, 12723, 12724, Short),
             (5000, 2425, 2, 2575, 2576, Enough),
             (100, 43, 1, 22, 23, Short),
@@ -74,7 +74,7 @@ const DRAWN: [(Plan, [Point; 6]); 18] = [
     ),
     (
         (Q, 0, 3, 3, false, 500),
-        [
+        &[
             (10000000000, 2110682110, 2, 270270270, 270270271, Short),
             (8503235, 1794763, 2, 229817, 229818, Enough),
             (100, 18, 1, 5, 6, Short),
@@ -85,7 +85,7 @@ const DRAWN: [(Plan, [Point; 6]); 18] = [
     ),
     (
         (Q, 0, 5, 2, true, 0),
-        [
+        &[
             (6771478, 4527518, 0, 0, 0, Short),
             (100000, 66862, 1, 33138, 33139, Enough),
             (100, 59, 1, 41, 41, Short),
@@ -96,7 +96,7 @@ const DRAWN: [(Plan, [Point; 6]); 18] = [
     ),
     (
         (Steep, 40, 3, 3, true, 400),
-        [
+        &[
             (5000, 2159, 0, 0, 1, Short),
             (3535887, 1527083, 2, 1872808, 1872809, Enough),
             (866974909, 336987092, 1, 144114783, 144114784, Short),
@@ -107,7 +107,7 @@ const DRAWN: [(Plan, [Point; 6]); 18] = [
     ),
     (
         (G, 19, 102, 22, true, 0),
-        [
+        &[
             (10000000000, 535070408, 20, 8948903088, 8948903089, Short),
             (2724228, 145766, 5, 526042, 526043, Enough),
             (100, 4, 7, 46, 47, Short),
@@ -118,7 +118,7 @@ const DRAWN: [(Plan, [Point; 6]); 18] = [
     ),
     (
         (G, 69, 38, 38, false, 1),
-        [
+        &[
             (5000, 1167, 22, 2508, 2509, Short),
             (8686665, 2028558, 34, 5577210, 5577211, Enough),
             (452646166, 95133946, 9, 144091660, 144091661, Short),
@@ -129,7 +129,7 @@ const DRAWN: [(Plan, [Point; 6]); 18] = [
     ),
     (
         (G, 31, 90, 90, true, 999),
-        [
+        &[
             (5000, 164, 18, 1458, 1459, Short),
             (8943893, 293724, 16, 2309479, 2309480, Enough),
             (100, 2, 42, 65, 66, Short),
@@ -140,7 +140,7 @@ const DRAWN: [(Plan, [Point; 6]); 18] = [
     ),
     (
         (G, 43, 78, 11, true, 999),
-        [
+        &[
             (10000000000, 747630234, 0, 0, 0, Short),
             (2639893, 197367, 8, 829498, 829499, Enough),
             (100, 6, 2, 12, 13, Short),
@@ -151,7 +151,7 @@ const DRAWN: [(Plan, [Point; 6]); 18] = [
     ),
     (
         (G, 19, 102, 15, true, 999),
-        [
+        &[
             (9020118, 153877, 7, 893587, 893588, Short),
             (100000, 1706, 9, 13885, 13886, Enough),
             (100, 0, 14, 27, 28, Short),
@@ -162,7 +162,7 @@ const DRAWN: [(Plan, [Point; 6]); 18] = [
     ),
     (
         (G, 76, 45, 20, true, 275),
-        [
+        &[
             (4568342, 1317952, 9, 1002682, 1002683, Short),
             (5000, 1443, 12, 1443, 1444, Enough),
             (100000, 25964, 5, 19828, 19829, Short),
@@ -173,7 +173,7 @@ const DRAWN: [(Plan, [Point; 6]); 18] = [
     ),
     (
         (G, 21, 33, 33, false, 1),
-        [
+        &[
             (100000, 3018, 21, 28625, 28626, Short),
             (5000, 151, 23, 1402, 1403, Enough),
             (100, 2, 24, 34, 35, Short),
@@ -184,7 +184,7 @@ const DRAWN: [(Plan, [Point; 6]); 18] = [
     ),
     (
         (G, 63, 12, 12, false, 275),
-        [
+        &[
             (5000, 878, 12, 0, 0, Short),
             (5000, 879, 2, 137, 138, Enough),
             (100000, 15806, 1, 8121, 8122, Short),
@@ -195,7 +195,7 @@ const DRAWN: [(Plan, [Point; 6]); 18] = [
     ),
     (
         (G, 19, 102, 102, true, 400),
-        [
+        &[
             (10000000000, 235752119, 65, 8442794722, 8442794723, Short),
             (9298213, 219208, 42, 6346810, 6346811, Enough),
             (100000, 2121, 8, 17367, 17368, Short),
@@ -206,7 +206,7 @@ const DRAWN: [(Plan, [Point; 6]); 18] = [
     ),
     (
         (G, 0, 121, 121, true, 999),
-        [
+        &[
             (10000000000, 24908858, 109, 8836437127, 8836437128, Short),
             (5000, 13, 34, 1354, 1355, Enough),
             (100, 0, 59, 59, 60, Short),
@@ -217,7 +217,7 @@ const DRAWN: [(Plan, [Point; 6]); 18] = [
     ),
     (
         (G, 76, 8, 8, false, 0),
-        [
+        &[
             (100000, 29313, 0, 0, 0, Short),
             (5000, 1466, 3, 243, 244, Enough),
             (100000, 26381, 5, 13682, 13683, Short),
@@ -228,7 +228,7 @@ const DRAWN: [(Plan, [Point; 6]); 18] = [
     ),
     (
         (G, 10, 111, 111, true, 2000),
-        [
+        &[
             (5000, 13, 2, 15, 16, Short),
             (9483466, 25741, 25, 1329668, 1329669, Enough),
             (100000, 243, 32, 21178, 21179, Short),
@@ -239,7 +239,7 @@ const DRAWN: [(Plan, [Point; 6]); 18] = [
     ),
     (
         (G, 66, 15, 15, false, 999),
-        [
+        &[
             (6163742, 1127480, 6, 719435, 719436, Short),
             (100000, 18293, 4, 7325, 7326, Enough),
             (894660865, 147287333, 12, 187722191, 187722192, Short),
@@ -250,7 +250,7 @@ const DRAWN: [(Plan, [Point; 6]); 18] = [
     ),
     (
         (G, 82, 18, 18, false, 275),
-        [
+        &[
             (5000, 1765, 12, 1370, 1371, Short),
             (9488313, 3349871, 10, 2217314, 2217315, Enough),
             (100, 31, 10, 32, 33, Short),
@@ -263,10 +263,10 @@ const DRAWN: [(Plan, [Point; 6]); 18] = [
 
 /// Amounts, found by a search outside this program, of which the net premium lies so near to a whole cent that its bounds
 /// don't tell on which side: one cent less, this cent, one more, and this cent at the end of the cover.
-const CLOSE_BY_SEARCH: [(Plan, [Point; 4]); 3] = [
+const CLOSE_BY_SEARCH: &[(Plan, &[Point])] = &[
     (
         (G, 35, 86, 86, true, 400),
-        [
+        &[
             (9999905903, 525620739, 7, 1579973441, 1579973442, Short),
             (9999905903, 525620740, 7, 1579973432, 1579973433, Close),
             (9999905903, 525620741, 7, 1579973432, 1579973433, Enough),
@@ -275,7 +275,7 @@ const CLOSE_BY_SEARCH: [(Plan, [Point; 4]); 3] = [
     ),
     (
         (G, 40, 25, 25, true, 275),
-        [
+        &[
             (9999433642, 718601278, 7, 1952890272, 1952890273, Short),
             (9999433642, 718601279, 7, 1952890264, 1952890265, Close),
             (9999433642, 718601280, 7, 1952890264, 1952890265, Enough),
@@ -284,7 +284,7 @@ const CLOSE_BY_SEARCH: [(Plan, [Point; 4]); 3] = [
     ),
     (
         (G, 30, 91, 20, true, 999),
-        [
+        &[
             (9999596868, 324652420, 7, 1156488032, 1156488033, Short),
             (9999596868, 324652421, 7, 1156488026, 1156488027, Close),
             (9999596868, 324652422, 7, 1156488026, 1156488027, Enough),
@@ -331,18 +331,10 @@ fn expect_all(
     Ok(())
 }
 
-#[test]
-fn minimums_by_hand(rt: HostRuntime) -> Result<(), Fail> {
-    for (plan, points) in BY_HAND {
-        expect_all(&rt, rt.alloc(), plan, &points)?;
-    }
-    Ok(())
-}
-
 fn expect_plans(
     rt: &impl Abort,
     alloc: Global,
-    plans: &[(Plan, [Point; 6])],
+    plans: &[(Plan, &[Point])],
 ) -> Result<(), AllocError> {
     for (plan, points) in plans {
         expect_all(rt, alloc, *plan, points)?;
@@ -351,15 +343,9 @@ fn expect_plans(
 }
 
 #[test]
-fn minimums_at_random(rt: HostRuntime) -> Result<(), Fail> {
-    expect_plans(&rt, rt.alloc(), &DRAWN)?;
-    Ok(())
-}
-
-#[test]
-fn minimums_where_the_bounds_do_not_tell(rt: HostRuntime) -> Result<(), Fail> {
-    for (plan, points) in CLOSE_BY_SEARCH {
-        expect_all(&rt, rt.alloc(), plan, &points)?;
-    }
+fn minimums_by_hand_and_at_random(rt: HostRuntime) -> Result<(), Fail> {
+    expect_plans(&rt, rt.alloc(), BY_HAND)?;
+    expect_plans(&rt, rt.alloc(), DRAWN)?;
+    expect_plans(&rt, rt.alloc(), CLOSE_BY_SEARCH)?;
     Ok(())
 }

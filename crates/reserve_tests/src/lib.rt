@@ -2,6 +2,8 @@
 #![tactic(auto)]
 
 #[cfg(test)]
+mod bases;
+#[cfg(test)]
 mod cash_projection_tests;
 #[cfg(test)]
 mod crvm_reserve_tests;
@@ -16,9 +18,15 @@ mod policy_cache_tests;
 #[cfg(test)]
 mod policy_measure_tests;
 #[cfg(test)]
+mod policy_rows;
+#[cfg(test)]
 mod policy_value_tests;
 #[cfg(test)]
+mod policy_word_tests;
+#[cfg(test)]
 mod present_value_tests;
+#[cfg(test)]
+mod projection_rows;
 #[cfg(test)]
 mod projection_sums_tests;
 #[cfg(test)]

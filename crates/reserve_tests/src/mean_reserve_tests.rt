@@ -21,7 +21,7 @@ enum Paid {
 type Case = (Rates, u8, u8, u8, bool, u16, u64, u8, Paid, u64, u64);
 
 /// Cases that an actuary can follow by hand.
-const BY_HAND: [Case; 22] = [
+const BY_HAND: &[Case] = &[
     (Q, 0, 3, 3, true, 0, 100000, 0, InForce, 17086, 17087),
     (Q, 0, 3, 3, true, 0, 100000, 1, InForce, 56361, 56362),
     (Q, 0, 3, 3, true, 0, 100000, 2, InForce, 99999, 100001),
@@ -54,7 +54,7 @@ const BY_HAND: [Case; 22] = [
 /// Shapes of each plan drawn at random, many around the last premium and the end of cover. Their bounds were computed
 /// outside this program, by the rounded recursion in whole numbers of any length, and each was compared there with the
 /// mean reserve as an exact fraction, found by the sums over the years: the two enclose it.
-const DRAWN: [Case; 56] = [
+const DRAWN: &[Case] = &[
     (G, 60, 50, 50, false, 25, 99, 0, InForce, 6, 7),
     (
         G, 29, 92, 35, true, 275, 2562149, 34, PaidUp, 2224667, 2224668,
@@ -277,7 +277,7 @@ fn expect_all(rt: &impl Abort, alloc: Global, cases: &[Case]) -> Result<(), Allo
 
 #[test]
 fn mean_reserves_by_hand_and_at_random(rt: HostRuntime) -> Result<(), Fail> {
-    expect_all(&rt, rt.alloc(), &BY_HAND)?;
-    expect_all(&rt, rt.alloc(), &DRAWN)?;
+    expect_all(&rt, rt.alloc(), BY_HAND)?;
+    expect_all(&rt, rt.alloc(), DRAWN)?;
     Ok(())
 }

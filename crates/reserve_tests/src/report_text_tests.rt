@@ -1,6 +1,12 @@
 ghost use Rattle.std.specs.Prelude.{IsTrue, length, ◌≤◌};
 ghost use Rattle.report_text.specs.Block.{IsSummable, AreSummable};
 
+use crate::policy_rows::{Expected, worth_of};
+use Adequacy::{Close, Enough, Short};
+use Expected::{Both, Bounds, Word};
+use Measure::{Deficiency, Mean, Terminal};
+use NotValued::{BelowTable, NoBasis, PastTable, RateHigh};
+use Status::{Claimed, Expired, InForce, Lapsed, Matured, Settled};
 use policy_types::Status;
 use policy_value::{Adequacy, Measure, NotValued, Row, Rows, Worth};
 use report_text::{Totals, print_block, print_row, print_total};
@@ -13,35 +19,6 @@ const ON: i32 = 18_628;
 const GREATEST: u64 = 20_000_000_000;
 
 const MOST_ROWS: u32 = 4_000_000;
-
-/// The row of policy 7001, in force.
-fn row(t: u8, worth: Worth) -> Row {
-    Row {
-        id: 7001,
-        status: Status::InForce,
-        t,
-        worth,
-    }
-}
-
-/// A row with bounds.
-fn valued(t: u8, lo: u64, hi: u64) -> Row {
-    row(t, Worth::Bounds { lo, hi })
-}
-
-/// A row with bounds of the minimum reserve, too.
-fn both(t: u8, lo: u64, hi: u64, min_lo: u64, min_hi: u64, test: Adequacy) -> Row {
-    row(
-        t,
-        Worth::Both {
-            lo,
-            hi,
-            min_lo,
-            min_hi,
-            test,
-        },
-    )
-}
 
 fn is_summable(worth: Worth) -> bool
     ensures { IsTrue result → IsSummable worth }
@@ -76,152 +53,240 @@ fn copies(alloc: Global, count: u32, row: Row) -> Result<Rows, Fail> {
     Ok(Rows::new(rows))
 }
 
-// A row with each status and each word, and at its limits.
+/// The policy's number, its status, its years and its worth.
+type Told = (u32, Status, u8, Expected);
+
+// An endowment, a term and a limited life of 1000.00, each word and each status, and rows at their limits.
+const ROWS: &[(Told, &str)] = &[
+    (
+        (7001, InForce, 1, Bounds(12_722, 12_723)),
+        "row,7001,inforce,1,127.22,127.23\n",
+    ),
+    (
+        (7001, InForce, 3, Bounds(100_000, 100_000)),
+        "row,7001,inforce,3,1000.00,1000.00\n",
+    ),
+    (
+        (7001, InForce, 1, Bounds(0, 1)),
+        "row,7001,inforce,1,0.00,0.01\n",
+    ),
+    (
+        (7001, InForce, 2, Bounds(2_777, 2_778)),
+        "row,7001,inforce,2,27.77,27.78\n",
+    ),
+    (
+        (7001, InForce, 1, Bounds(33_138, 33_139)),
+        "row,7001,inforce,1,331.38,331.39\n",
+    ),
+    (
+        (7001, InForce, 0, Word(PastTable)),
+        "row,7001,inforce,0,pasttable\n",
+    ),
+    (
+        (7001, InForce, 0, Word(NoBasis)),
+        "row,7001,inforce,0,nobasis\n",
+    ),
+    (
+        (7001, InForce, 0, Word(BelowTable)),
+        "row,7001,inforce,0,belowtable\n",
+    ),
+    (
+        (7001, InForce, 0, Word(RateHigh)),
+        "row,7001,inforce,0,ratehigh\n",
+    ),
+    (
+        (7001, Lapsed, 0, Bounds(0, 0)),
+        "row,7001,lapsed,0,0.00,0.00\n",
+    ),
+    (
+        (7001, Claimed, 0, Bounds(0, 0)),
+        "row,7001,claimed,0,0.00,0.00\n",
+    ),
+    (
+        (7001, Matured, 0, Bounds(0, 0)),
+        "row,7001,matured,0,0.00,0.00\n",
+    ),
+    (
+        (7001, Expired, 0, Bounds(0, 0)),
+        "row,7001,expired,0,0.00,0.00\n",
+    ),
+    (
+        (7001, Settled, 0, Bounds(0, 0)),
+        "row,7001,settled,0,0.00,0.00\n",
+    ),
+    // the minimum reserve, too: a premium that is short, one that is enough, one of which the bounds don't tell
+    (
+        (
+            7001,
+            InForce,
+            1,
+            Both(12_722, 12_723, 28_000, 28_000, Short),
+        ),
+        "row,7001,inforce,1,127.22,127.23,280.00,280.00,short\n",
+    ),
+    (
+        (
+            7001,
+            InForce,
+            1,
+            Both(12_722, 12_723, 12_722, 12_723, Enough),
+        ),
+        "row,7001,inforce,1,127.22,127.23,127.22,127.23,enough\n",
+    ),
+    (
+        (
+            7001,
+            InForce,
+            131,
+            Both(GREATEST, GREATEST, GREATEST, GREATEST, Close),
+        ),
+        "row,7001,inforce,131,200000000.00,200000000.00,200000000.00,200000000.00,close\n",
+    ),
+    (
+        (u32::MAX, InForce, 131, Bounds(GREATEST, GREATEST)),
+        "row,4294967295,inforce,131,200000000.00,200000000.00\n",
+    ),
+];
+
+fn row_of(told: Told) -> Row {
+    let (id, status, t, expected) = told;
+    Row {
+        id,
+        status,
+        t,
+        worth: worth_of(expected),
+    }
+}
+
+fn is_printed(alloc: Global, told: Told, text: &str) -> Result<bool, Fail> {
+    let row = row_of(told);
+    if !is_summable(row.worth) {
+        return Err("a summable row".into());
+    }
+    match print_row(alloc, &row) {
+        Ok(printed) => Ok(printed.as_slice() == text.as_bytes()),
+        Err(_) => Err("memory for a row".into()),
+    }
+}
+
 #[test]
 fn rows(rt: HostRuntime) -> Result<(), Fail> {
-    let past_the_table = row(0, Worth::Word(NotValued::PastTable));
-    let mut lapsed = valued(0, 0, 0);
-    lapsed.status = Status::Lapsed;
-    let mut claimed = lapsed;
-    claimed.status = Status::Claimed;
-    let mut matured = lapsed;
-    matured.status = Status::Matured;
-    let mut expired = lapsed;
-    expired.status = Status::Expired;
-    let mut settled = lapsed;
-    settled.status = Status::Settled;
-    let mut last = valued(131, GREATEST, GREATEST);
-    last.id = u32::MAX;
-    for (row, expected) in [
-        // an endowment, a term and a limited life of 1000.00
-        (
-            valued(1, 12_722, 12_723),
-            "row,7001,inforce,1,127.22,127.23\n",
-        ),
-        (
-            valued(3, 100_000, 100_000),
-            "row,7001,inforce,3,1000.00,1000.00\n",
-        ),
-        (valued(1, 0, 1), "row,7001,inforce,1,0.00,0.01\n"),
-        (valued(2, 2_777, 2_778), "row,7001,inforce,2,27.77,27.78\n"),
-        (
-            valued(1, 33_138, 33_139),
-            "row,7001,inforce,1,331.38,331.39\n",
-        ),
-        (past_the_table, "row,7001,inforce,0,pasttable\n"),
-        (
-            row(0, Worth::Word(NotValued::NoBasis)),
-            "row,7001,inforce,0,nobasis\n",
-        ),
-        (
-            row(0, Worth::Word(NotValued::BelowTable)),
-            "row,7001,inforce,0,belowtable\n",
-        ),
-        (
-            row(0, Worth::Word(NotValued::RateHigh)),
-            "row,7001,inforce,0,ratehigh\n",
-        ),
-        (lapsed, "row,7001,lapsed,0,0.00,0.00\n"),
-        (claimed, "row,7001,claimed,0,0.00,0.00\n"),
-        (matured, "row,7001,matured,0,0.00,0.00\n"),
-        (expired, "row,7001,expired,0,0.00,0.00\n"),
-        (settled, "row,7001,settled,0,0.00,0.00\n"),
-        // the minimum reserve, too: a premium that is short, one that is enough, one of which the bounds don't tell
-        (
-            both(1, 12_722, 12_723, 28_000, 28_000, Adequacy::Short),
-            "row,7001,inforce,1,127.22,127.23,280.00,280.00,short\n",
-        ),
-        (
-            both(1, 12_722, 12_723, 12_722, 12_723, Adequacy::Enough),
-            "row,7001,inforce,1,127.22,127.23,127.22,127.23,enough\n",
-        ),
-        (
-            both(131, GREATEST, GREATEST, GREATEST, GREATEST, Adequacy::Close),
-            "row,7001,inforce,131,200000000.00,200000000.00,200000000.00,200000000.00,close\n",
-        ),
-        (
-            last,
-            "row,4294967295,inforce,131,200000000.00,200000000.00\n",
-        ),
-    ] {
-        assert!(rt; is_summable(row.worth));
-        let Ok(text) = print_row(rt.alloc(), &row) else {
-            return Err("memory for a row".into());
-        };
-        assert_eq!(rt; text.as_slice(), expected.as_bytes());
+    for (told, text) in ROWS {
+        assert!(rt; is_printed(rt.alloc(), *told, text)?, "{text}");
     }
     Ok(())
 }
 
 // The totals of none, of 300 policies, of policies without a value, and at the limits.
+const TOTALS: &[(u32, Told, Measure, &str)] = &[
+    (
+        0,
+        (7001, InForce, 1, Bounds(12_722, 12_723)),
+        Terminal,
+        "total,0.00,0.00,0\n",
+    ),
+    (
+        1,
+        (7001, InForce, 0, Bounds(0, 0)),
+        Terminal,
+        "total,0.00,0.00,0\n",
+    ),
+    (
+        1,
+        (7001, InForce, 0, Word(PastTable)),
+        Terminal,
+        "total,0.00,0.00,1\n",
+    ),
+    (
+        300,
+        (7001, InForce, 1, Bounds(12_722, 12_723)),
+        Terminal,
+        "total,38166.00,38169.00,0\n",
+    ),
+    (
+        MOST_ROWS,
+        (7001, InForce, 131, Bounds(GREATEST - 1, GREATEST)),
+        Terminal,
+        "total,799999999960000.00,800000000000000.00,0\n",
+    ),
+    (
+        MOST_ROWS,
+        (7001, InForce, 0, Word(NoBasis)),
+        Terminal,
+        "total,0.00,0.00,4000000\n",
+    ),
+    // by the measure of deficiency with the minimum reserves, which rows without bounds don't show
+    (
+        1,
+        (7001, InForce, 0, Word(PastTable)),
+        Deficiency,
+        "total,0.00,0.00,0.00,0.00,1\n",
+    ),
+    (
+        1,
+        (7001, InForce, 0, Word(PastTable)),
+        Mean,
+        "total,0.00,0.00,1\n",
+    ),
+    (
+        300,
+        (
+            7001,
+            InForce,
+            1,
+            Both(12_722, 12_723, 28_000, 28_001, Short),
+        ),
+        Deficiency,
+        "total,38166.00,38169.00,84000.00,84003.00,0\n",
+    ),
+    (
+        MOST_ROWS,
+        (
+            7001,
+            InForce,
+            131,
+            Both(0, 1, GREATEST - 1, GREATEST, Short),
+        ),
+        Deficiency,
+        "total,0.00,40000.00,799999999960000.00,800000000000000.00,0\n",
+    ),
+];
+
+fn is_total(
+    alloc: Global,
+    count: u32,
+    told: Told,
+    measure: Measure,
+    text: &str,
+) -> Result<bool, Fail> {
+    let rows = copies(alloc, count, row_of(told))?;
+    if !are_summable(&rows) {
+        return Err("summable rows".into());
+    }
+    match print_total(alloc, &rows, measure) {
+        Ok(printed) => Ok(printed.as_slice() == text.as_bytes()),
+        Err(_) => Err("memory for a total".into()),
+    }
+}
+
 #[test]
 fn totals(rt: HostRuntime) -> Result<(), Fail> {
-    for (count, row, measure, expected) in [
-        (
-            0,
-            valued(1, 12_722, 12_723),
-            Measure::Terminal,
-            "total,0.00,0.00,0\n",
-        ),
-        (1, valued(0, 0, 0), Measure::Terminal, "total,0.00,0.00,0\n"),
-        (
-            1,
-            row(0, Worth::Word(NotValued::PastTable)),
-            Measure::Terminal,
-            "total,0.00,0.00,1\n",
-        ),
-        (
-            300,
-            valued(1, 12_722, 12_723),
-            Measure::Terminal,
-            "total,38166.00,38169.00,0\n",
-        ),
-        (
-            MOST_ROWS,
-            valued(131, GREATEST - 1, GREATEST),
-            Measure::Terminal,
-            "total,799999999960000.00,800000000000000.00,0\n",
-        ),
-        (
-            MOST_ROWS,
-            row(0, Worth::Word(NotValued::NoBasis)),
-            Measure::Terminal,
-            "total,0.00,0.00,4000000\n",
-        ),
-        // by the measure of deficiency with the minimum reserves, which rows without bounds don't show
-        (
-            1,
-            row(0, Worth::Word(NotValued::PastTable)),
-            Measure::Deficiency,
-            "total,0.00,0.00,0.00,0.00,1\n",
-        ),
-        (
-            1,
-            row(0, Worth::Word(NotValued::PastTable)),
-            Measure::Mean,
-            "total,0.00,0.00,1\n",
-        ),
-        (
-            300,
-            both(1, 12_722, 12_723, 28_000, 28_001, Adequacy::Short),
-            Measure::Deficiency,
-            "total,38166.00,38169.00,84000.00,84003.00,0\n",
-        ),
-        (
-            MOST_ROWS,
-            both(131, 0, 1, GREATEST - 1, GREATEST, Adequacy::Short),
-            Measure::Deficiency,
-            "total,0.00,40000.00,799999999960000.00,800000000000000.00,0\n",
-        ),
-    ] {
-        let rows = copies(rt.alloc(), count, row)?;
-        assert!(rt; are_summable(&rows));
-        let Ok(text) = print_total(rt.alloc(), &rows, measure) else {
-            return Err("memory for a total".into());
-        };
-        assert_eq!(rt; text.as_slice(), expected.as_bytes());
+    for (count, told, measure, text) in TOTALS {
+        assert!(rt;
+            is_total(rt.alloc(), *count, *told, *measure, text)?,
+            "{text}"
+        );
     }
-    let rows = copies(rt.alloc(), 300, valued(1, 12_722, 12_723))?;
+    Ok(())
+}
+
+#[test]
+fn totals_of_rows_without_a_minimum(rt: HostRuntime) -> Result<(), Fail> {
+    let rows = copies(
+        rt.alloc(),
+        300,
+        row_of((7001, InForce, 1, Bounds(12_722, 12_723))),
+    )?;
     assert!(rt; are_summable(&rows));
     let expected = Totals {
         lower: 3_816_600,
@@ -230,74 +295,107 @@ fn totals(rt: HostRuntime) -> Result<(), Fail> {
         upper_minimum: 3_816_900,
         unvalued: 0,
     };
-    assert_eq!(rt; Totals::of(&rows), expected);
+    assert!(rt; Totals::of(&rows) == expected);
     Ok(())
 }
 
+/// A lane, a day, a position, a measure, rows, and their text.
+struct Valued {
+    lane: u8,
+    on: i32,
+    position: u32,
+    measure: Measure,
+    rows: &'static [Told],
+    text: &'static str,
+}
+
 // Whole valuations: of no policy, of one, of some of which one has no value, and by each measure.
+const BLOCKS: &[Valued] = &[
+    Valued {
+        lane: 0,
+        on: ON,
+        position: 0,
+        measure: Terminal,
+        rows: &[],
+        text: "0,value,2021-01-01,0,0\ntotal,0.00,0.00,0\n",
+    },
+    Valued {
+        lane: 1,
+        on: ON,
+        position: 1,
+        measure: Terminal,
+        rows: &[(7001, InForce, 1, Bounds(12_722, 12_723))],
+        text: "1,value,2021-01-01,1,1\nrow,7001,inforce,1,127.22,127.23\ntotal,127.22,127.23,0\n",
+    },
+    Valued {
+        lane: 8,
+        on: 84_005,
+        position: 4_000_000,
+        measure: Terminal,
+        rows: &[
+            (7001, InForce, 1, Bounds(12_722, 12_723)),
+            (7002, InForce, 0, Word(PastTable)),
+            (7001, InForce, 1, Bounds(12_722, 12_723)),
+        ],
+        text: "8,value,2199-12-31,4000000,3\nrow,7001,inforce,1,127.22,127.23\nrow,7002,inforce,0,pasttable\n\
+            row,7001,inforce,1,127.22,127.23\ntotal,254.44,254.46,1\n",
+    },
+    Valued {
+        lane: 0,
+        on: ON - 1,
+        position: 1,
+        measure: Mean,
+        rows: &[(7001, InForce, 0, Bounds(17_086, 17_087))],
+        text: "0,value,2020-12-31,1,1,mean\nrow,7001,inforce,0,170.86,170.87\ntotal,170.86,170.87,0\n",
+    },
+    Valued {
+        lane: 0,
+        on: ON,
+        position: 1,
+        measure: Deficiency,
+        rows: &[(
+            7001,
+            InForce,
+            1,
+            Both(12_722, 12_723, 28_000, 28_000, Short),
+        )],
+        text: "0,value,2021-01-01,1,1,deficiency\nrow,7001,inforce,1,127.22,127.23,280.00,280.00,short\n\
+            total,127.22,127.23,280.00,280.00,0\n",
+    },
+    Valued {
+        lane: 0,
+        on: ON,
+        position: 0,
+        measure: Deficiency,
+        rows: &[],
+        text: "0,value,2021-01-01,0,0,deficiency\ntotal,0.00,0.00,0.00,0.00,0\n",
+    },
+];
+
+fn rows_of(alloc: Global, rows: &[Told]) -> Result<Rows, Fail> {
+    let mut made = Vec::new(alloc);
+    for told in rows {
+        made.push(row_of(*told))?;
+    }
+    Ok(Rows::new(made))
+}
+
+fn is_block(alloc: Global, valued: &Valued) -> Result<bool, Fail> {
+    let rows = rows_of(alloc, valued.rows)?;
+    if !are_summable(&rows) || valued.on < -25_567 || valued.on > 84_005 {
+        return Err("summable rows on a day".into());
+    }
+    let (lane, on, position) = (valued.lane, valued.on, valued.position);
+    match print_block(alloc, lane, on, position, valued.measure, &rows) {
+        Ok(printed) => Ok(printed.as_slice() == valued.text.as_bytes()),
+        Err(_) => Err("memory for a block".into()),
+    }
+}
+
 #[test]
 fn blocks(rt: HostRuntime) -> Result<(), Fail> {
-    let endowment = valued(1, 12_722, 12_723);
-    let mut past_the_table = row(0, Worth::Word(NotValued::PastTable));
-    past_the_table.id = 7002;
-    for (lane, on, position, measure, rows, expected) in [
-        (
-            0,
-            ON,
-            0,
-            Measure::Terminal,
-            [].as_slice(),
-            "0,value,2021-01-01,0,0\ntotal,0.00,0.00,0\n",
-        ),
-        (
-            1,
-            ON,
-            1,
-            Measure::Terminal,
-            [endowment].as_slice(),
-            "1,value,2021-01-01,1,1\nrow,7001,inforce,1,127.22,127.23\ntotal,127.22,127.23,0\n",
-        ),
-        (
-            8,
-            84_005,
-            4_000_000,
-            Measure::Terminal,
-            [endowment, past_the_table, endowment].as_slice(),
-            "8,value,2199-12-31,4000000,3\nrow,7001,inforce,1,127.22,127.23\nrow,7002,inforce,0,pasttable\n\
-                row,7001,inforce,1,127.22,127.23\ntotal,254.44,254.46,1\n",
-        ),
-        (
-            0,
-            ON - 1,
-            1,
-            Measure::Mean,
-            [valued(0, 17_086, 17_087)].as_slice(),
-            "0,value,2020-12-31,1,1,mean\nrow,7001,inforce,0,170.86,170.87\ntotal,170.86,170.87,0\n",
-        ),
-        (
-            0,
-            ON,
-            1,
-            Measure::Deficiency,
-            [both(1, 12_722, 12_723, 28_000, 28_000, Adequacy::Short)].as_slice(),
-            "0,value,2021-01-01,1,1,deficiency\nrow,7001,inforce,1,127.22,127.23,280.00,280.00,short\n\
-                total,127.22,127.23,280.00,280.00,0\n",
-        ),
-        (
-            0,
-            ON,
-            0,
-            Measure::Deficiency,
-            [].as_slice(),
-            "0,value,2021-01-01,0,0,deficiency\ntotal,0.00,0.00,0.00,0.00,0\n",
-        ),
-    ] {
-        let rows = Rows::new(rows.to_vec(rt.alloc())?);
-        assert!(rt; are_summable(&rows));
-        let Ok(text) = print_block(rt.alloc(), lane, on, position, measure, &rows) else {
-            return Err("memory for a block".into());
-        };
-        assert_eq!(rt; text.as_slice(), expected.as_bytes());
+    for (number, valued) in BLOCKS.iter().enumerate() {
+        assert!(rt; is_block(rt.alloc(), valued)?, "block {number}");
     }
     Ok(())
 }
@@ -306,7 +404,8 @@ fn blocks(rt: HostRuntime) -> Result<(), Fail> {
 // program by .ci/checks/hostile.sh: `rt try` takes a minute and more over it.
 #[test]
 fn many_policies(rt: HostRuntime) -> Result<(), Fail> {
-    let rows = copies(rt.alloc(), 100_000, valued(1, GREATEST, GREATEST))?;
+    let row = row_of((7001, InForce, 1, Bounds(GREATEST, GREATEST)));
+    let rows = copies(rt.alloc(), 100_000, row)?;
     assert!(rt; are_summable(&rows));
     let Ok(text) = print_block(rt.alloc(), 8, -25_567, MOST_ROWS, Measure::Terminal, &rows) else {
         return Err("memory for a long block".into());

@@ -23,15 +23,16 @@ use Rattle.shared_office.specs.inside.Standing.{SharedStandsFor, opening_on}
 module _ {D W : Type 0} (g : Ghosts D) (w : WatcherGhosts W) where
   -- an office that was opened, and put under the lock
   pub started : (old : D) (watchers handed : W) (state : OfficeState D W g w) → HasOpened old state → handed ≡ watchers
-      → (pass : Holding (OfficeOpening D W))
-      → IsFirst (record { opening = opening_of state; begun = begun_of state; watchers = handed }) pass
+      → (kept : OfficeState D W g w) → kept ≡ state → (pass : Holding (OfficeOpening D W))
+      → IsFirst (record { opening = opening_of state; begun = begun_of state; held = disk_of kept; watchers = handed }) pass
       → HasStartedOffice g old watchers pass
-  started old watchers handed state opened same pass first = record {
+  started old watchers handed state opened same kept as_opened pass first = record {
     opening = opening_of state;
-    first = subst (λ begun. IsFirst (record { opening = opening_of state; begun = begun; watchers = watchers }) pass) opened.begun
-        (subst (λ these. IsFirst (record { opening = opening_of state; begun = begun_of state; watchers = these }) pass) same first);
-    faults = ap g.faults opened.begun;
     held = disk_of state;
+    first = subst (λ begun. IsFirst (record { opening = opening_of state; begun = begun; held = disk_of state; watchers = watchers }) pass) opened.begun
+        (subst (λ these. IsFirst (record { opening = opening_of state; begun = begun_of state; held = disk_of state; watchers = these }) pass) same
+        (subst (λ (s : OfficeState D W g w). IsFirst (record { opening = opening_of state; begun = begun_of state; held = disk_of s; watchers = handed }) pass) as_opened first));
+    faults = ap g.faults opened.begun;
     honesty = opened.honesty;
     opened = opened.opened;
   }
@@ -47,15 +48,17 @@ module _ {D W : Type 0} (g : Ghosts D) (w : WatcherGhosts W) where
       (opened : pass.opening ≡ Some (opening_on shared)) (whole : OwnsAll pass) where
     -- the state was taken out and closed
     pub closed : (state : OfficeState D W g w) (disk : D) (booked : Booking) (reports : List Report) → state ≡ shared.state
+        → disk ≡ disk_of state
         → ((history : List Entry) → StandsFor state history → IsLeftBy g (begun_of state) disk (opening_of state) history)
         → booked ≡ ledger_of (commands_of state)
         → ((history : List Entry) → StandsFor state history → reports ≡ reports_of (auditors_of state) (accepted_of history))
         → HasClosed g w pass disk booked reports
-    closed state disk booked reports same left ledger told = record {
+    closed state disk booked reports same given left ledger told = record {
       opening = opening_on shared;
       opened = opened;
       whole = whole;
       disk = subst (λ (s : OfficeState D W g w). StandsFor s pass.seen → IsLeftBy g (begun_of s) disk (opening_of s) pass.seen) same (left pass.seen) stood.state;
+      untouched = λ none. given ∙ ap (λ (s : OfficeState D W g w). disk_of s) same ∙ stood.untouched none;
       ledger = ledger ∙ ap (λ (s : OfficeState D W g w). ledger_of (commands_of s)) same ∙ ap ledger_of stood.state.listed;
       reports = subst (λ (s : OfficeState D W g w). StandsFor s pass.seen → reports ≡ reports_of (auditors_of s) (accepted_of pass.seen)) same (told pass.seen) stood.state ∙ ap (λ auditors. reports_of auditors (accepted_of pass.seen)) stood.handed;
     }

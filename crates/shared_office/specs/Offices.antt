@@ -6,10 +6,12 @@ use Rattle.policy_types.specs.Limits.{most_commands}
 use Rattle.policy_types.specs.Valid.{IsValid}
 use Rattle.policy_machine.specs.History.{Opening, IsLegal, commands_after}
 
--- what an office was opened on: its opening, and the disk and the watchers as they were handed in
+-- what an office was opened on: its opening, the disk as it was handed in and as the office held it once it was open, and the
+-- watchers as they were handed in
 pub record OfficeOpening (D W : Type 0) : Type 0 where
   pub opening : Opening
   pub begun : D
+  pub held : D
   pub watchers : W
 
 -- a history of the office: every reply is the one due; the accepted commands are valid, and not more than there may be

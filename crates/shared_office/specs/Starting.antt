@@ -1,5 +1,5 @@
 -- How a shared office begins and ends
-use Rattle.std.specs.Prelude.{◌≡◌, List, Some}
+use Rattle.std.specs.Prelude.{◌≡◌, List, [], Some}
 use Rattle.outside_io.specs.declared.disks.Disk.{Ghosts}
 use Rattle.policy_types.specs.Accounts.{Booking}
 use Rattle.policy_types.specs.declared.watcher.Report.{Report}
@@ -14,18 +14,20 @@ use Rattle.shared_office.specs.Offices.{OfficeOpening}
 
 -- The office was opened on a list of commands and the disk's count of faults, with these watchers. Its first pass has all
 -- turns and all shares. Where the disk that the office then holds is honest, it was so before, and the commands are
--- those of its file; that the disk which an office leaves says the same stands in what closing tells.
+-- those of its file. It is the one that the pass's opening names, and which an office without turns leaves; that the disk
+-- which any office leaves says the same stands in what closing tells.
 pub record HasStartedOffice {D W : Type 0} (g : Ghosts D) (old : D) (watchers : W) (pass : Holding (OfficeOpening D W))
     : Type 0 where
   pub opening : Opening
-  pub first : IsFirst (record { opening = opening; begun = old; watchers = watchers }) pass
-  pub faults : opening.faults ≡ g.faults old
   pub held : D
+  pub first : IsFirst (record { opening = opening; begun = old; held = held; watchers = watchers }) pass
+  pub faults : opening.faults ≡ g.faults old
   pub honesty : g.honest held → g.honest old
   pub opened : g.honest held → Opens (g.reads old) opening.commands
 
 -- The pass has seen the whole history, and each entry is its own or that of a caller whose pass was taken back. The disk
--- is left by this history, from the office's opening on, and the balances are those of its accepted commands. The
+-- is left by this history, from the office's opening on, and without a turn it is the one that the office held once it was
+-- open. The balances are those of its accepted commands. The
 -- reports are those of the auditors that were handed in, of the commands that were accepted in this history.
 pub record HasClosed {D W : Type 0} (g : Ghosts D) (w : WatcherGhosts W) (pass : Holding (OfficeOpening D W)) (new : D)
     (balances : Booking) (told : List Report) : Type 0 where
@@ -33,5 +35,6 @@ pub record HasClosed {D W : Type 0} (g : Ghosts D) (w : WatcherGhosts W) (pass :
   pub opened : pass.opening ≡ Some opening
   pub whole : OwnsAll pass
   pub disk : IsLeftBy g opening.begun new opening.opening pass.seen
+  pub untouched : pass.seen ≡ [] → new ≡ opening.held
   pub ledger : balances ≡ ledger_of (commands_after opening.opening pass.seen)
   pub reports : told ≡ reports_of (w.handed opening.watchers) (accepted_of pass.seen)

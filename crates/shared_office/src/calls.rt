@@ -128,7 +128,13 @@ impl<D: Disk, W: Watching> OfficeCalls<D, W> for Office<D, W> {
     ) -> Result<(Office<D, W>, OfficePass<D, W>), StartFault<D>> {
         let handed = Snapshot::of(&watchers);
         let state = OfficeState::open(alloc, disk, watchers)?;
-        match Turnstile::new(alloc, SharedState { state, handed }) {
+        let opened = Snapshot::of(&state);
+        let shared = SharedState {
+            state,
+            handed,
+            opened,
+        };
+        match Turnstile::new(alloc, shared) {
             Ok(made) => Ok(made),
             Err(NoRoom { value }) => Err(without_memory(value.into_state())),
         }

@@ -12,6 +12,8 @@ pub struct SharedState<D: Disk, W: Watching> {
     pub(crate) state: OfficeState<D, W>,
     // The watchers as they were handed in, for contracts alone.
     pub(crate) handed: Snapshot<W>,
+    // The office as it was opened, for contracts alone.
+    pub(crate) opened: Snapshot<OfficeState<D, W>>,
 }
 
 impl<D: Disk, W: Watching> SharedState<D, W> {
@@ -20,7 +22,11 @@ impl<D: Disk, W: Watching> SharedState<D, W> {
     pub(crate) fn into_state(self) -> OfficeState<D, W>
         ensures { result ≡ self.state }
     {
-        let SharedState { state, handed: _ } = self;
+        let SharedState {
+            state,
+            handed: _,
+            opened: _,
+        } = self;
         state
     }
 }

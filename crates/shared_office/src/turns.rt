@@ -23,6 +23,7 @@ impl<'a, D: Disk, W: Watching> Turn<SharedState<D, W>> for Post<'a> {
 
     ghost entry = { λ post caller answer. turn_of caller post.command.now answer };
 
+    #[tactic(auto, using(crate::proofs::Turned::turned))]
     fn run(self, value: &mut SharedState<D, W>, caller: u64) -> Answer {
         value.state.post(caller, self.command)
     }
@@ -44,6 +45,7 @@ impl<D: Disk, W: Watching> Turn<SharedState<D, W>> for PinNewest {
 
     ghost entry = { λ _ caller answer. pin_turn caller answer };
 
+    #[tactic(auto, using(crate::proofs::Turned::turned))]
     fn run(self, value: &mut SharedState<D, W>, caller: u64) -> Result<PinInfo, PinRefusal> {
         value.state.pin(caller)
     }
@@ -67,6 +69,7 @@ impl<D: Disk, W: Watching> Turn<SharedState<D, W>> for PinPosition {
 
     ghost entry = { λ pin caller answer. pin_at_turn caller pin.position answer };
 
+    #[tactic(auto, using(crate::proofs::Turned::turned))]
     fn run(self, value: &mut SharedState<D, W>, caller: u64) -> Result<PinInfo, PinRefusal> {
         value.state.pin_at(caller, self.position)
     }
@@ -93,6 +96,7 @@ impl<D: Disk, W: Watching> Turn<SharedState<D, W>> for ReadPart {
 
     ghost entry = { λ read caller answer. read_turn caller read.pin.number read.first answer };
 
+    #[tactic(auto, using(crate::proofs::Turned::turned))]
     fn run(self, value: &mut SharedState<D, W>, caller: u64) -> Batch {
         let ReadPart {
             pin,
@@ -127,6 +131,7 @@ impl<D: Disk, W: Watching> Turn<SharedState<D, W>> for Unpin {
 
     ghost entry = { λ unpin caller answer. unpin_turn caller unpin.pin.number };
 
+    #[tactic(auto, using(crate::proofs::Turned::turned))]
     fn run(self, value: &mut SharedState<D, W>, caller: u64) {
         value.state.unpin(caller, self.pin.number);
     }
@@ -148,6 +153,7 @@ impl<D: Disk, W: Watching> Turn<SharedState<D, W>> for Trim {
 
     ghost entry = { λ _ caller answer. trim_turn caller answer };
 
+    #[tactic(auto, using(crate::proofs::Turned::turned))]
     fn run(self, value: &mut SharedState<D, W>, caller: u64) -> u32 {
         value.state.trim(caller)
     }

@@ -15,45 +15,62 @@ fn ages(
     })
 }
 
+/// A first age, rates, and what is made of them.
+type List = (u8, &'static [u32], Result<(u8, u8), RatesFault>);
+
+const LISTS: &[List] = &[
+    (0, &[], Err(RatesFault::Empty)),
+    // No rate, whatever the age.
+    (200, &[], Err(RatesFault::Empty)),
+    (130, &[5], Ok((130, 130))),
+    (131, &[5], Err(RatesFault::PastAge130)),
+    // Before a rate above 1.
+    (130, &[5, 2_000_000_000], Err(RatesFault::PastAge130)),
+    (
+        0,
+        &[1_000_000_000, 1_000_000_001, 4_000_000_000],
+        Err(RatesFault::RateAboveOne(1)),
+    ),
+    (
+        20,
+        &[0, 0, 1_000_000_001],
+        Err(RatesFault::RateAboveOne(22)),
+    ),
+];
+
 #[test]
 fn lists_of_rates(rt: HostRuntime) -> Result<(), Fail> {
-    let alloc = rt.alloc();
-    assert_eq!(rt; ages(alloc, 0, &[])?, Err(RatesFault::Empty));
-    assert_eq!(rt;
-        ages(alloc, 200, &[])?,
-        Err(RatesFault::Empty),
-        "no rate, whatever the age"
-    );
-    assert_eq!(rt; ages(alloc, 130, &[5])?, Ok((130, 130)));
-    assert_eq!(rt; ages(alloc, 131, &[5])?, Err(RatesFault::PastAge130));
-    assert_eq!(rt;
-        ages(alloc, 130, &[5, 2_000_000_000])?,
-        Err(RatesFault::PastAge130),
-        "before a rate above 1"
-    );
-    assert_eq!(rt;
-        ages(alloc, 0, &[1_000_000_000, 1_000_000_001, 4_000_000_000])?,
-        Err(RatesFault::RateAboveOne(1))
-    );
-    assert_eq!(rt;
-        ages(alloc, 20, &[0, 0, 1_000_000_001])?,
-        Err(RatesFault::RateAboveOne(22))
-    );
+    for (row, (first_age, rates, expected)) in LISTS.iter().enumerate() {
+        assert!(rt;
+            ages(rt.alloc(), *first_age, rates)? == *expected,
+            "row {row}"
+        );
+    }
     Ok(())
+}
+
+const RATES: &[(u8, Option<u32>)] = &[
+    (39, None),
+    (40, Some(100_000_000)),
+    (42, Some(1_000_000_000)),
+    (43, None),
+    (255, None),
+];
+
+fn table(alloc: Global) -> Result<RateTable, Fail> {
+    let rates = [100_000_000, 200_000_000, 1_000_000_000].to_vec(alloc)?;
+    match RateTable::new(40, rates) {
+        Ok(table) => Ok(table),
+        Err(_) => Err("a table".into()),
+    }
 }
 
 #[test]
 fn rates_by_age(rt: HostRuntime) -> Result<(), Fail> {
-    let rates = [100_000_000, 200_000_000, 1_000_000_000].to_vec(rt.alloc())?;
-    let table = RateTable::new(40, rates).ok().ok_or("a table")?;
-    assert_eq!(rt; table.rate(39), None);
-    assert_eq!(rt; table.rate(40), Some(100_000_000));
-    assert_eq!(rt; table.rate(42), Some(1_000_000_000));
-    assert_eq!(rt; table.rate(43), None);
-    assert_eq!(rt; table.rate(255), None);
-    assert_eq!(rt;
-        table.rates_from(41),
-        [200_000_000, 1_000_000_000].as_slice()
-    );
+    let table = table(rt.alloc())?;
+    for (age, rate) in RATES {
+        assert!(rt; table.rate(*age) == *rate, "at {age}");
+    }
+    assert!(rt; table.rates_from(41) == [200_000_000, 1_000_000_000].as_slice());
     Ok(())
 }

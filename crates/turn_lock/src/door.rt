@@ -5,7 +5,7 @@ use std::sync::atomic::Ordering::SeqCst;
 use std::sync::atomic::{AtomicBool, AtomicU64};
 
 /// So many turns on end may pass the brief turn that waits longest.
-const MOST_BEFORE_BRIEF: u64 = 3;
+const MOST_BEFORE_BRIEF: u64 = 5;
 
 /// So many turns on end may pass the other turn that waits longest.
 const MOST_BEFORE_OTHERS: u64 = 8;

@@ -1,5 +1,5 @@
 -- What the shared state was opened on, and the histories for which it stands
-use Rattle.std.specs.Prelude.{◌≡◌, ◌≤◌, List, length}
+use Rattle.std.specs.Prelude.{◌≡◌, ◌≤◌, List, [], length}
 use Rattle.std.specs.List.{AllByRecursion}
 use Rattle.std.proofs.Common.{subst}
 use Rattle.outside_io.specs.declared.disks.Disk.{Ghosts}
@@ -9,7 +9,7 @@ use Rattle.policy_types.specs.Limits.{most_commands}
 use Rattle.policy_types.specs.Valid.{IsValid}
 use Rattle.watcher_set.specs.declared.watching.Watching.{Ghosts as WatcherGhosts}
 use Rattle.office_state.specs.Standing.{StandsFor}
-use Rattle.office_state.specs.States.{auditors_of, begun_of, opening_of}
+use Rattle.office_state.specs.States.{auditors_of, begun_of, disk_of, opening_of}
 use Rattle.shared_office.specs.Offices.{IsOfficeHistory, OfficeOpening}
 use Rattle.shared_office.specs.declared.state.SharedState.{SharedState}
 
@@ -19,13 +19,16 @@ module _ {D W : Type 0} {g : Ghosts D} {w : WatcherGhosts W} where
   opening_on shared = record {
     opening = opening_of shared.state;
     begun = begun_of shared.state;
+    held = disk_of shared.opened.value;
     watchers = shared.handed.value;
   }
 
-  -- the state stands for the history, and its auditors are those that were handed in
+  -- The state stands for the history, and its auditors are those that were handed in. Before the first turn its disk is
+  -- the one that the office held once it was open.
   pub record SharedStandsFor (shared : SharedState D W g w) (history : List Entry) : Type 0 where
     pub state : StandsFor shared.state history
     pub handed : auditors_of shared.state ≡ w.handed shared.handed.value
+    pub untouched : history ≡ [] → disk_of shared.state ≡ disk_of shared.opened.value
 
   -- a history for which it stands is one of the office
   pub is_history : (shared : SharedState D W g w) (history : List Entry) → SharedStandsFor shared history
