@@ -2,8 +2,8 @@
 ghost use Rattle.std.specs.Prelude.{◌≡◌, ℕ, [], length, IsTrue};
 ghost use Rattle.std.specs.List.{AllByRecursion};
 
-use crate::policies::NEW_YEAR;
-use policy_types::{Attention, Command, NoMemory, Plan, Report, Watcher};
+use crate::policies::{NEW_YEAR, issue};
+use policy_types::{Attention, Command, NoMemory, Report, Watcher};
 use std::process::Abort;
 use std::sync::Arc;
 use std::test::Fail;
@@ -84,54 +84,6 @@ fn told<W: Watching + Send>(
     Ok(watchers.finish())
 }
 
-const ISSUES: &[Command] = &[
-    Command::Issue {
-        id: 1,
-        day: NEW_YEAR,
-        plan: Plan::Endowment,
-        age: 0,
-        years: 3,
-        amount: 100_000,
-        premium: 40_000,
-    },
-    Command::Issue {
-        id: 2,
-        day: NEW_YEAR,
-        plan: Plan::Endowment,
-        age: 0,
-        years: 3,
-        amount: 100_000,
-        premium: 40_000,
-    },
-    Command::Issue {
-        id: 3,
-        day: NEW_YEAR,
-        plan: Plan::Endowment,
-        age: 0,
-        years: 3,
-        amount: 100_000,
-        premium: 40_000,
-    },
-    Command::Issue {
-        id: 4,
-        day: NEW_YEAR,
-        plan: Plan::Endowment,
-        age: 0,
-        years: 3,
-        amount: 100_000,
-        premium: 40_000,
-    },
-    Command::Issue {
-        id: 5,
-        day: NEW_YEAR,
-        plan: Plan::Endowment,
-        age: 0,
-        years: 3,
-        amount: 100_000,
-        premium: 40_000,
-    },
-];
-
 // Five issues with a watcher of the first three, in no box.
 #[test]
 fn done_and_dropped_at_the_third(rt: HostRuntime) -> Result<(), Fail> {
@@ -143,110 +95,74 @@ fn done_and_dropped_at_the_third(rt: HostRuntime) -> Result<(), Fail> {
     };
     let mut guests = Vec::new(alloc);
     guests.push(guest)?;
-    let reports = told(&rt, Watchers::new(guests), ISSUES, &token, &[2, 2, 1, 1, 1])?;
-    assert!(rt; reports.as_slice() == [Report { seen: 3, tally: 3 }].as_slice());
+    let commands = [
+        issue(1, NEW_YEAR),
+        issue(2, NEW_YEAR),
+        issue(3, NEW_YEAR),
+        issue(4, NEW_YEAR),
+        issue(5, NEW_YEAR),
+    ];
+    let reports = told(
+        &rt,
+        Watchers::new(guests),
+        &commands,
+        &token,
+        &[2, 2, 1, 1, 1],
+    )?;
+    assert_eq!(rt;
+        reports.as_slice(),
+        [Report { seen: 3, tally: 3 }].as_slice()
+    );
     Ok(())
 }
-
-const PAYMENTS: &[Command] = &[
-    Command::Issue {
-        id: 1,
-        day: NEW_YEAR,
-        plan: Plan::Endowment,
-        age: 0,
-        years: 3,
-        amount: 100_000,
-        premium: 40_000,
-    },
-    Command::Premium {
-        id: 1,
-        day: NEW_YEAR,
-        amount: 40_000,
-    },
-    Command::Lapse {
-        id: 1,
-        day: NEW_YEAR,
-    },
-    Command::Reinstate {
-        id: 1,
-        day: NEW_YEAR,
-        amount: 80_000,
-    },
-    Command::Claim {
-        id: 1,
-        day: NEW_YEAR,
-    },
-    Command::Settle {
-        id: 1,
-        day: NEW_YEAR,
-        amount: 7,
-    },
-];
-
-// How many of them are told of, and the reports of both.
-const REPORTS: &[(usize, [Report; 2])] = &[
-    (
-        0,
-        [Report { seen: 0, tally: 0 }, Report { seen: 0, tally: 0 }],
-    ),
-    (
-        1,
-        [Report { seen: 1, tally: 1 }, Report { seen: 1, tally: 0 }],
-    ),
-    (
-        2,
-        [
-            Report { seen: 2, tally: 2 },
-            Report {
-                seen: 2,
-                tally: 40_000,
-            },
-        ],
-    ),
-    (
-        3,
-        [
-            Report { seen: 3, tally: 3 },
-            Report {
-                seen: 3,
-                tally: 40_000,
-            },
-        ],
-    ),
-    (
-        4,
-        [
-            Report { seen: 4, tally: 4 },
-            Report {
-                seen: 4,
-                tally: 120_000,
-            },
-        ],
-    ),
-    (
-        6,
-        [
-            Report { seen: 6, tally: 6 },
-            Report {
-                seen: 6,
-                tally: 120_000,
-            },
-        ],
-    ),
-];
 
 // The two watchers of the program: one issue, and then payments and a settlement.
 #[test]
 fn counts_and_premiums(rt: HostRuntime) -> Result<(), Fail> {
     let alloc = rt.alloc();
     let token = Arc::new(alloc, 0u8)?;
-    for (count, expected) in REPORTS {
-        let commands = PAYMENTS.get(..*count).unwrap_or(&[]);
+    let id = 1;
+    let day = 18262;
+    let commands = [
+        issue(id, NEW_YEAR),
+        Command::Premium {
+            id,
+            day,
+            amount: 40_000,
+        },
+        Command::Lapse { id, day },
+        Command::Reinstate {
+            id,
+            day,
+            amount: 80_000,
+        },
+        Command::Claim { id, day },
+        Command::Settle { id, day, amount: 7 },
+    ];
+    for (count, premiums) in [
+        (0, 0),
+        (1, 0),
+        (2, 40_000),
+        (3, 40_000),
+        (4, 120_000),
+        (6, 120_000),
+    ] {
         let mut boxes: Vec<Box<dyn Watcher + Send>> = Vec::new(alloc);
         boxes.push(Box::new(alloc, CountWatcher::new(4_000_000))?)?;
         boxes.push(Box::new(alloc, PremiumWatcher::new())?)?;
-        let reports = told(&rt, Watchers::new(boxes), commands, &token, &[])?;
-        assert!(rt; reports.as_slice() == expected.as_slice(), "{count}");
+        let reports = told(&rt, Watchers::new(boxes), &commands[..count], &token, &[])?;
+        let seen = count as u32;
+        let expected = [
+            Report {
+                seen,
+                tally: count as u64,
+            },
+            Report {
+                seen,
+                tally: premiums,
+            },
+        ];
+        assert_eq!(rt; reports.as_slice(), expected.as_slice());
     }
     Ok(())
 }
@@ -256,18 +172,18 @@ fn counts_and_premiums(rt: HostRuntime) -> Result<(), Fail> {
 fn none_and_sixteen(rt: HostRuntime) -> Result<(), Fail> {
     let alloc = rt.alloc();
     let token = Arc::new(alloc, 0u8)?;
-    let commands = ISSUES.get(..3).unwrap_or(&[]);
-    let none = told(&rt, NoWatchers, commands, &token, &[])?;
+    let commands = [issue(1, NEW_YEAR), issue(2, NEW_YEAR), issue(3, NEW_YEAR)];
+    let none = told(&rt, NoWatchers, &commands, &token, &[])?;
     assert!(rt; none.as_slice().is_empty());
     let nobody: Vec<CountWatcher> = Vec::new(alloc);
-    let none = told(&rt, Watchers::new(nobody), commands, &token, &[])?;
+    let none = told(&rt, Watchers::new(nobody), &commands, &token, &[])?;
     assert!(rt; none.as_slice().is_empty());
     let mut boxes: Vec<Box<dyn Watcher + Send>> = Vec::new(alloc);
     for limit in 1..17 {
         boxes.push(Box::new(alloc, CountWatcher::new(limit))?)?;
     }
     assert!(rt; boxes.len() == MOST_WATCHERS && are_fresh(&boxes));
-    let reports = told(&rt, Watchers::new(boxes), commands, &token, &[])?;
+    let reports = told(&rt, Watchers::new(boxes), &commands, &token, &[])?;
     assert_eq!(rt; reports.as_slice().len(), 16);
     for (place, report) in reports.as_slice().iter().enumerate() {
         let seen = if place < 3 { place as u32 + 1 } else { 3 };

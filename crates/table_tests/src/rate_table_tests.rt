@@ -49,28 +49,18 @@ fn lists_of_rates(rt: HostRuntime) -> Result<(), Fail> {
     Ok(())
 }
 
-const RATES: &[(u8, Option<u32>)] = &[
-    (39, None),
-    (40, Some(100_000_000)),
-    (42, Some(1_000_000_000)),
-    (43, None),
-    (255, None),
-];
-
-fn table(alloc: Global) -> Result<RateTable, Fail> {
-    let rates = [100_000_000, 200_000_000, 1_000_000_000].to_vec(alloc)?;
-    match RateTable::new(40, rates) {
-        Ok(table) => Ok(table),
-        Err(_) => Err("a table".into()),
-    }
-}
-
 #[test]
 fn rates_by_age(rt: HostRuntime) -> Result<(), Fail> {
-    let table = table(rt.alloc())?;
-    for (age, rate) in RATES {
-        assert!(rt; table.rate(*age) == *rate, "at {age}");
-    }
-    assert!(rt; table.rates_from(41) == [200_000_000, 1_000_000_000].as_slice());
+    let rates = [100_000_000, 200_000_000, 1_000_000_000].to_vec(rt.alloc())?;
+    let table = RateTable::new(40, rates).ok().ok_or("a table")?;
+    assert_eq!(rt; table.rate(39), None);
+    assert_eq!(rt; table.rate(40), Some(100_000_000));
+    assert_eq!(rt; table.rate(42), Some(1_000_000_000));
+    assert_eq!(rt; table.rate(43), None);
+    assert_eq!(rt; table.rate(255), None);
+    assert_eq!(rt;
+        table.rates_from(41),
+        [200_000_000, 1_000_000_000].as_slice()
+    );
     Ok(())
 }
