@@ -68,6 +68,11 @@ tool import book.csv --map map.csv --script script.csv --left none-left.csv || c
 cmp -s wanted script.csv || complain "the script is $(cat script.csv)"
 echo line,reason,row | cmp -s - none-left.csv || complain "left are $(cat none-left.csv)"
 
+go_on "a name in which a form feed and U+2028 stand"
+sed '2s/of a/\f\xe2\x80\xa8/' book.csv >pasted.csv
+tool import pasted.csv --map map.csv --script pasted-script.csv --left pasted-left.csv || complain "status $?: $(cat remarks)"
+cmp -s wanted pasted-script.csv || complain "the script is $(cat pasted-script.csv pasted-left.csv)"
+
 go_on "rows that can't be mapped, each with its reason"
 head -n 1 book.csv >bad.csv
 while IFS='|' read -r row reason; do
@@ -111,6 +116,13 @@ refuses "has no column no, from" "$examples/first-issues.csv" --map map.csv
 refuses "1 to 8 are wanted" book.csv --map map.csv --lanes 9
 grep -v ^paid map.csv >short-map.csv
 refuses "says nothing of paid" book.csv --map short-map.csv
+grep -v ^age map.csv >short-map.csv
+refuses "names neither of age and birth" book.csv --map short-map.csv
+sed 's/^age,age/&\nbirth,remark,DD.MM.YYYY/' map.csv >wrong-map.csv
+refuses "names both of age and birth" book.csv --map wrong-map.csv
+sed '1s/kind/gem\xe4\xdf/' book.csv >latin.csv
+sed 's/kind/gemäß/' map.csv >umlaut-map.csv
+refuses "isn't UTF-8, as this makes it: iconv" latin.csv --map umlaut-map.csv
 sed 's/^age,age/ages,age/' map.csv >wrong-map.csv
 refuses "wrong-map.csv, line 7: ages is none of" book.csv --map wrong-map.csv
 sed 's/MM\/DD/MM\/MM/' map.csv >wrong-map.csv

@@ -18,6 +18,7 @@ from __future__ import annotations
 
 import csv
 import datetime
+import io
 import re
 from dataclasses import dataclass, field
 from typing import Callable, Iterator
@@ -80,7 +81,8 @@ def map_at(path: str) -> Map:
             raise Wrong(f"{path}, line {row.line}: {wrong}") from wrong
     missing = [what for what in WANTED if what not in made.column]
     demand(not missing, f"{path} says nothing of {', '.join(missing)}")
-    demand(("age" in made.column) != ("birth" in made.column), f"{path} names one of age and birth")
+    given = [what for what in ("age", "birth") if what in made.column]
+    demand(len(given) == 1, f"{path} names {'both' if given else 'neither'} of age and birth, and one is wanted")
     return made
 
 
@@ -180,15 +182,23 @@ class Reading:
         return made
 
 
+def is_utf8(text: str) -> bool:
+    """Whether a text that was read with its stray bytes has none."""
+    return not re.search("[\udc80-\udcff]", text)
+
+
 def foreign_rows(path: str, separator: str, columns: list[str]) -> Iterator[Foreign]:
     """The rows of a file, which has to have the columns; a field more or less is a row that can't be read."""
     text = text_of(bytes_of(path))
     demand("\0" not in text, f"{path} is no CSV: it has a byte 0")
-    read = csv.reader(text.splitlines(keepends=True), delimiter=separator)
+    # not splitlines, which ends a line at a form feed and at U+2028 too, as they stand in names that were pasted
+    read = csv.reader(io.StringIO(text, newline=""), delimiter=separator)
     head = [name.strip() for name in next(read, [])]
     demand(len(set(head)) == len(head), f"{path}: two columns have one name")
     missing = [name for name in columns if name not in head]
-    demand(not missing, f"{path} has no column {', '.join(missing)}; it has {', '.join(head) or 'none'}")
+    shown = ", ".join(head).encode(errors="surrogateescape").decode(errors="replace") or "none"
+    hint = "" if is_utf8(text) else f"; it isn't UTF-8, as this makes it: iconv -f windows-1252 -t utf-8 {path}"
+    demand(not missing, f"{path} has no column {', '.join(missing)}; it has {shown}{hint}")
     line = read.line_num + 1
     for fields in read:
         if fields:
