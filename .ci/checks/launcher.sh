@@ -73,7 +73,7 @@ none_is_left() {
 begin "wrong words build nothing"
 echo usage >wanted
 for words in "" --help stat "prove it" try "try stat" "try try run" "test all" "install a b" "help me" --wait \
-    "--wait 5" "--wait x run" "--wait 5 stat" "--wait 5 try run" "--wait -1 run" "--wait 1234567 run"; do
+    "install --help" "--wait 5" "--wait x run" "--wait 5 stat" "--wait 5 try run" "--wait -1 run" "--wait 1234567 run"; do
     # shellcheck disable=SC2086
     launch $words </dev/null
     judge "$status" 2 wanted

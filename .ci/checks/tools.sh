@@ -465,6 +465,7 @@ refuses "is a table that is taken" explain badbasis,q.xml,28,notdocument
 refuses "is no word of a bad basis" explain badbasis,q.xml,28,strange
 # what is passed over without a word
 sed 's#</XTbML>#<Table><Values><Axis><Y t="0">1</Y></Axis></Values></Table></XTbML>#' q.xml >two.xml
+refuses "no such file, and no answer.*Each refusal" explain 1,lapse,7001,refused,unknown
 says explain two.xml
 grep -q "ages 0 to 4" out && grep -q "1 further Table" out || complain "explain: $(cat out)"
 for layout in select select-inner select-outer; do

@@ -55,6 +55,7 @@ put_in_place() {
 
 install_life() {
     [ $# -le 1 ] || usage "it is sh life install, or sh life install DIR"
+    case ${1-} in -*) usage "it is sh life install, or sh life install DIR, and a DIR that begins with - is ./${1}" ;; esac
     is_current "$program" ||
         give_up "nothing was installed, since no proved program is as new as its sources: sh life prove" 69
     command -v python3 >/dev/null || give_up "nothing was installed: the tools need python3"

@@ -10,6 +10,7 @@ the files don't fit the answer.
 from __future__ import annotations
 
 import argparse
+import os
 
 from life_tools.explanations import NotTaken, explain_basis, explain_script, explain_table
 from life_tools.formats import demand, remark
@@ -30,6 +31,8 @@ def run(options: argparse.Namespace) -> int:
     if kind == "badbasis":
         explain_basis(options.answer, options.files or ".")
         return 0
+    told = f"{options.answer}: no such file, and no answer of a script or a basis"
+    demand(os.path.lexists(options.answer), f"{told}; a refused line is told in docs/CLERK.md, Each refusal")
     try:
         explain_table(options.answer)
     except NotTaken as bad:

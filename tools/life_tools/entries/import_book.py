@@ -20,7 +20,8 @@ assert __doc__ and foreign_books.__doc__
 __doc__ += foreign_books.__doc__.partition("\n\n")[2].partition("\n\n")[2] + """
 The file and the map are UTF-8. Each premium is of the day on which it was due, and of the present premium. Lines of one
 policy are of one clerk. A script has at most 16 MiB: what goes on behind that is SCRIPT.2, SCRIPT.3 and so on, to be sent
-in order. A row that can't be mapped is left out whole, and stands in the file LEFT with its line and the reason.
+in order, each by its name, since *.csv doesn't name them. A row that can't be mapped is left out whole, and stands in the
+file LEFT with its line and the reason.
 """
 
 
