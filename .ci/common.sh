@@ -83,6 +83,20 @@ close_folder() {
     chmod 755 "$work" && cp "$program" "$reader" && chmod 755 "$reader" && chmod 444 "$1"/* && chmod 555 "$1" || exit 2
 }
 
+# somebody has this journal, until he is sent away
+hold() {
+    : >"$work/held"
+    python3 "$root/.ci/holding.py" "$1" >"$work/held" 2>&1 &
+    holder=$!
+    until grep -q held "$work/held" || ! kill -0 "$holder" 2>/dev/null; do sleep 0.05; done
+}
+
+let_go() {
+    kill "$holder"
+    # he has it until he has ended
+    wait "$holder" 2>/dev/null
+}
+
 # a case in a new folder with a basis of table Q without interest
 begin_with_basis() {
     begin "$1"

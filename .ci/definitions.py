@@ -22,10 +22,10 @@ WORD = re.compile(r"(?<![.\w])[^\s:{}()\[\],.;⦃⦄×⊎λ→≡]+")
 
 
 class Definition:
-    """A definition: its place, its text, and the names that it may mean."""
+    """A definition: its place, its text, and the comment right above it."""
 
-    def __init__(self, place: str, name: str) -> None:
-        self.place, self.name, self.lines = place, name, []
+    def __init__(self, place: str, name: str, comment: list[str]) -> None:
+        self.place, self.name, self.lines, self.comment = place, name, [], " ".join(comment)
 
     @property
     def key(self) -> str:
@@ -64,11 +64,15 @@ def read_specs() -> tuple[dict[str, Definition], dict[str, dict[str, str]]]:
 
 def read_file(place: str, text: str, definitions: dict[str, Definition]) -> None:
     """The definitions of a file, each with its lines: those that begin it, and those that go on by indentation."""
-    current, depth = None, 0
+    current, comment = None, []
     indent_of_module = 0
     for line in text.splitlines():
         bare = line.strip()
-        if not bare or bare.startswith("--") or line.startswith("use ") or line.startswith("pub mod"):
+        if bare.startswith("--"):
+            comment.append(bare[2:].strip())
+            continue
+        above, comment = comment, []
+        if not bare or line.startswith("use ") or line.startswith("pub mod"):
             continue
         indent = len(line) - len(line.lstrip())
         if bare.startswith("module _"):
@@ -82,7 +86,7 @@ def read_file(place: str, text: str, definitions: dict[str, Definition]) -> None
             name = (begins or private).group(1)
             key = f"{place}.{name}"
             if key not in definitions:
-                definitions[key] = Definition(place, name)
+                definitions[key] = Definition(place, name, above)
             current = definitions[key]
         if current is not None:
             current.lines.append(line)

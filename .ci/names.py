@@ -1,4 +1,4 @@
-"""One meaning a word: no two crates define the same name in specs/, but for the names below."""
+"""One meaning a word: no two crates define the same name in specs/, or the same type in src/, but for the names below."""
 
 import collections
 import pathlib
@@ -15,9 +15,16 @@ ALLOWED = {
     "turns_of": "of a caller's turns in a history, and of how many turns an office answered",
 }
 
+ALLOWED_TYPES = {
+    "Books": "of an office and of a checkpoint: what is kept of the accepted commands",
+    "NoMemory": "of parallel_value, which stands on no crate, and of all others",
+}
+
 DEFINITION = re.compile(
     r"(?:pub\s+(?!mod\s|use\s|record\s|data\s)|\s*(?:(?:abbrev|unfoldable)\s+pub|pub\s+(?:record|data))\s+)([^\s:{(]+)"
 )
+
+TYPE = re.compile(r"(?:pub(?:\([a-z]+\))? )?(?:struct|enum|trait|type) ([A-Z]\w*)")
 
 
 def definitions(top: pathlib.Path) -> dict[str, set[str]]:
@@ -34,17 +41,33 @@ def definitions(top: pathlib.Path) -> dict[str, set[str]]:
     return crates
 
 
+def types(top: pathlib.Path) -> dict[str, set[str]]:
+    """The crates of the program that have a type of each name."""
+    crates = collections.defaultdict(set)
+    for file in top.glob("crates/*/src/**/*.rt"):
+        crate = file.relative_to(top).parts[1]
+        if crate.endswith("_tests") or crate == "measure":
+            continue
+        for line in file.read_text(encoding="utf-8").splitlines():
+            found = TYPE.match(line)
+            if found:
+                crates[found.group(1)].add(crate)
+    return crates
+
+
+def amiss(crates: dict[str, set[str]], allowed: dict[str, str]) -> list[str]:
+    """What is wrong with these names."""
+    several = {name for name in crates if len(crates[name]) > 1}
+    told = [f"{name} is defined in {', '.join(sorted(crates[name]))}" for name in sorted(several - set(allowed))]
+    return told + [f"{name} has one meaning now, and needs no exception" for name in sorted(set(allowed) - several)]
+
+
 def main() -> int:
-    crates = definitions(pathlib.Path(__file__).resolve().parent.parent)
-    status = 0
-    for name in sorted(crates):
-        if len(crates[name]) > 1 and name not in ALLOWED:
-            print(f"names: {name} is defined in {', '.join(sorted(crates[name]))}", file=sys.stderr)
-            status = 1
-    for name in sorted(ALLOWED):
-        if len(crates[name]) < 2:
-            print(f"names: {name} has one meaning now, and needs no exception", file=sys.stderr)
-            status = 1
+    top = pathlib.Path(__file__).resolve().parent.parent
+    told = amiss(definitions(top), ALLOWED) + amiss(types(top), ALLOWED_TYPES)
+    for line in told:
+        print(f"names: {line}", file=sys.stderr)
+    status = 1 if told else 0
     if status == 0:
         print("names: one meaning each")
     return status

@@ -9,6 +9,7 @@ import re
 import sys
 from dataclasses import dataclass
 from pathlib import Path
+from typing import Iterator
 
 LINE = re.compile(r"\d+ +(\w+)\((.*)\) += (-?\d+)")
 TEXT = re.compile(r'"((?:\\x[0-9a-f]{2})*)"(\.\.\.)?')
@@ -34,11 +35,25 @@ def bytes_of(text: str) -> bytes:
     return bytes.fromhex(text.replace("\\x", ""))
 
 
+def whole_lines(record: Path) -> Iterator[str]:
+    """The calls of a record; one in which another thread's stands counts where it ends."""
+    begun: dict[str, str] = {}
+    for line in record.read_text().splitlines():
+        thread, _, call = line.partition(" ")
+        resumed = re.match(r" *<\.\.\. \w+ resumed>(.*)", call)
+        if call.endswith(" <unfinished ...>"):
+            begun[thread] = line.removesuffix(" <unfinished ...>")
+        elif resumed:
+            yield begun.pop(thread) + resumed[1]
+        else:
+            yield line
+
+
 def calls_of(record: Path) -> list[Call]:
     """The calls of a record on files that it opened and on the standard streams, in order."""
     files = {0: "input", 1: "output", 2: "error"}
     calls = []
-    for line in record.read_text().splitlines():
+    for line in whole_lines(record):
         found = LINE.match(line)
         if not found:
             continue

@@ -111,7 +111,7 @@ def main():
             office.judge()
         except Wrong as wrong:
             sys.exit(f"kill_checkpoints: round {number} of seed {seed}: {wrong}; the files are kept in {folder}")
-    demand(killed > kills // 4, f"of {kills} rounds {killed} were killed before their end")
+    demand(killed >= kills // 8, f"of {kills} rounds {killed} were killed before their end")
     print(f"{killed} of {kills} killed; left: {office.kinds}")
 
 

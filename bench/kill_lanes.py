@@ -37,7 +37,7 @@ def need(right, message):
 
 
 def kill_one(folder, first):
-    """Kills a run whose policies are numbered from there on; gives each clerk's numbers, and whether it had answered."""
+    """Kills a run whose policies are numbered from there on; gives each clerk's numbers, and what it had printed."""
     numbers = range(first, first + CLERKS * POSTINGS_EACH)
     lanes = [[n for n in numbers if n % CLERKS == clerk] for clerk in range(CLERKS)]
     rows = "".join(f"{n % CLERKS + 1},issue,{n},2020-01-01,endowment,0,3,1000.00,400.00\n" for n in numbers)
@@ -53,7 +53,7 @@ def kill_one(folder, first):
 
 def main(rounds, folder):
     random.seed(1)
-    journal, kept, cut = os.path.join(folder, "journal.life"), [], 0
+    journal, kept, cut, printed = os.path.join(folder, "journal.life"), [], 0, 0
     for number in range(rounds):
         lanes, answered = kill_one(folder, 1 + number * CLERKS * POSTINGS_EACH)
         left = policies_of(journal)
@@ -63,12 +63,15 @@ def main(rounds, folder):
             own = [n for n in new if n in set(lane)]
             need(own == lane[:len(own)], "a clerk's records aren't the first of its postings, in order")
         need(len(new) == len(set(new)) and len(new) <= CLERKS * POSTINGS_EACH, "a record stands twice")
-        need(not answered or len(new) == CLERKS * POSTINGS_EACH, "the run had answered, and records are missing")
+        for line in answered.decode("latin-1").split("\n")[:-1]:
+            fields = line.split(",")
+            need(fields[0] == "watcher" or left[int(fields[4]) - 1:][:1] == [int(fields[2])], "what was printed isn't there: " + line)
+        printed += bool(answered)
         cut += 0 < len(new) < CLERKS * POSTINGS_EACH
         state = subprocess.run([PROGRAM, "state"], cwd=folder, stdin=subprocess.DEVNULL, capture_output=True)
         need(state.returncode == 0 and state.stdout.endswith(b"\ncount,%d\n" % len(left)), "it opens to other records")
         kept = left
-    print(f"{rounds} runs of eight clerks killed, {cut} of them amid their postings: nothing is lost")
+    print(f"{rounds} runs of eight clerks killed, {cut} of them amid their postings, {printed} behind their first lines: nothing is lost")
 
 
 main(int(sys.argv[1]), sys.argv[2])

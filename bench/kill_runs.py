@@ -147,14 +147,17 @@ def judge_left(office, asked):
     printed = read_bytes(office.path("killed.out"))
     if image is None or is_unfinished(image):
         need(not kept, "a journal of %d records is none any more" % len(kept))
-        need(not printed, "the run had answered and left no journal")
+        need(not printed, "the run had printed and left no journal")
         return ("no file" if image is None else "creation"), 0
     need(image[0] == 1 and image[1:17] == HEADER, "the file is neither a journal nor an unfinished creation")
     count = open_gates(image)
     need(gate_of(count) < len(image), "the file ends at an open record, %d" % count)
     need(count >= len(kept), "%d records are open, and %d were before" % (count, len(kept)))
     need(count <= len(kept) + len(asked), "%d records are open, more than were asked for" % count)
-    need(not printed or count == len(kept) + len(asked), "the run had answered and left %d records" % count)
+    told = [line for line in printed.decode("latin-1").split("\n")[:-1] if not line.startswith("watcher,")]
+    due = ["1,issue,%d,accepted,%d" % (policy, len(kept) + n) for n, policy in enumerate(asked, 1)]
+    need(told == due[:len(told)], "it printed other lines than are due")
+    need(len(kept) + len(told) <= count, "it printed %d accepted lines, and left %d records" % (len(told), count))
     office.kept = kept + asked[:count - len(kept)]
     need(image.startswith(front_of(office.kept)), "the open records aren't those of the scripts in order")
     staged = image[gate_of(count) + 1:]

@@ -111,16 +111,9 @@ cp aside.life book2/journal.life
 mv book2/g.xml aside.xml
 fails 4 "badbasis,g.xml,1,absent"
 mv aside.xml book2/g.xml
-python3 -c 'import fcntl, time
-file = open("book2/journal.life")
-fcntl.flock(file, fcntl.LOCK_EX)
-print("held", flush=True)
-time.sleep(60)' >held &
-holder=$!
-until grep -q held held 2>/dev/null; do sleep 0.05; done
+hold book2/journal.life
 fails 8 diskfault
-kill "$holder"
-wait "$holder" 2>/dev/null
+let_go
 # one that is well when it's tried once more
 printf '#!/bin/sh\n[ -e tried ] || { touch tried; echo diskfault; exit 8; }\nexec "%s" "$@"\n' "$program" >flaky && chmod +x flaky
 LIFE_PROGRAM=$PWD/flaky

@@ -1,7 +1,7 @@
 #!/bin/sh
 # The calls that the program makes on real files, recorded by strace: just those that the journal and its checkpoint allow,
 # in order and number. A sync that is left out, or made too late, is seen here and by no proof, and so is a write to a file
-# that can only be read.
+# that can only be read, and a line that is written before its record is safe.
 . "$(dirname "$0")/../common.sh"
 needs strace
 begin "three postings"
@@ -42,10 +42,28 @@ close_folder archive
 python3 - <<'PY' || exit 1
 import re, sys
 
+def whole(name):
+    """The calls of a record. One in which another thread's stands counts where it ends, but a write to the output where it
+    begins."""
+    begun = {}
+    for line in open(name):
+        thread, call = line.rstrip("\n").split(None, 1)
+        if call.endswith(" <unfinished ...>"):
+            begun[thread] = call.removesuffix(" <unfinished ...>")
+            if begun[thread].startswith("write(1,"):
+                yield f"{thread} {begun[thread]}) = 1"
+            continue
+        resumed = re.match(r"<\.\.\. \w+ resumed>(.*)", call)
+        if resumed:
+            call = begun.pop(thread) + resumed[1]
+            if call.startswith("write(1,"):
+                continue
+        yield f"{thread} {call}"
+
 def calls(name):
     """The calls on the folder, the two files and the output, each with what it wrote and where."""
     roles, found = {}, []
-    for line in open(name):
+    for line in whole(name):
         call = re.match(r"\d+ +(\w+)\((.*)\) += (-?\d+)", line)
         if not call:
             continue
@@ -68,6 +86,9 @@ def calls(name):
             found.append(f"write {role} {at} {written.hex()}")
         elif word == "flock":
             found.append(f"lock {role} {args.split(', ')[1]}")
+        elif role == "output":
+            text = bytes.fromhex(re.search(r'"((?:\\x[0-9a-f]{2})*)"', args)[1].replace("\\x", ""))
+            found.append(f"write output {text.count(b',accepted,')}")
         else:
             found.append(f"{word} {role}")
     return found
@@ -89,13 +110,33 @@ for n in range(3):
     posted += [f"write journal {18 + 65 * n} {body.hex()}00", "fsync journal", f"write journal {17 + 65 * n} 01", "fsync journal"]
 
 def judge(name, wanted):
+    compare(name, ["write output" if call.startswith("write output ") else call for call in calls(name)], wanted)
+
+def judge_run(name, wanted, accepted):
+    """A run writes its lines while it goes on, but none that tells of a posting before its gate is safe."""
     made = calls(name)
+    told = safe = gate = 0
+    for place, call in enumerate(made):
+        if call.startswith("write output "):
+            told += int(call.split()[2])
+            if told > safe:
+                sys.exit(f"calls: the {name} run, call {place}: {told} accepted postings are told, and {safe} are safe")
+        elif call.startswith("write journal "):
+            gate = bool(re.fullmatch(r"write journal \d\d+ 01", call))
+        elif call == "fsync journal":
+            safe, gate = safe + gate, 0
+    if told != accepted:
+        sys.exit(f"calls: the {name} run tells of {told} accepted postings")
+    compare(name, [call for call in made if not call.startswith("write output ")],
+            [call for call in wanted if call != "write output"])
+
+def compare(name, made, wanted):
     if made != wanted:
         place = next((i for i, (a, b) in enumerate(zip(made, wanted)) if a != b), min(len(made), len(wanted)))
         sys.exit(f"calls: the {name} run, call {place}: made {made[place:place + 3]}, wanted {wanted[place:place + 3]}")
 
-judge("fresh", HELD + OPENED + created + posted + ENDED)
-judge("again", HELD + OPENED + ENDED)
+judge_run("fresh", HELD + OPENED + created + posted + ENDED, 3)
+judge_run("again", HELD + OPENED + ENDED, 0)
 # the gate is closed, all else is written, the gate is opened, each safe before the next; of an empty file and of a checkpoint
 kept = open("checkpoint.life", "rb").read()
 saved = ["write checkpoint 0 00", "fsync checkpoint", f"write checkpoint 1 {kept[1:64].hex()}",
@@ -104,10 +145,10 @@ judge("kept", BOTH + saved + BOTH_ENDED)
 judge("replaced", BOTH + saved + BOTH_ENDED)
 for name in ("unkept", "stated"):
     judge(name, BOTH + BOTH_ENDED)
-judge("beside", HELD + OPENED + ENDED)
+judge_run("beside", HELD + OPENED + ENDED, 0)
 # what can't be written is opened to be read, where it is there
 judge("archived", HELD + ["refused journal"] + OPENED + ["refused checkpoint"] * 2 + ENDED)
-judge("unposted", HELD + ["refused journal"] + OPENED + ENDED)
+judge_run("unposted", HELD + ["refused journal"] + OPENED + ENDED, 0)
 PY
 
 # A journal of 20,000 records is read by pieces, twice: for its gates, and for its bodies. For the account of one policy
@@ -138,5 +179,5 @@ strace -f -o reads -e trace=pread64 "$program" state </dev/null >out || complain
 reads=$(grep -c 'pread64(' reads)
 [ "$reads" -le $(($(wc -c <journal.life) / 65536 + 960064 / 65536 + 20)) ] || complain "with a checkpoint there are $reads reads"
 [ "$(tail -n 1 out)" = count,20000 ] || complain "another number of records with a checkpoint"
-end "the program syncs each write before the next, and its records before its transcript; it reads and writes by pieces; in \
+end "the program syncs each write before the next, and a record before its line is written; it reads and writes by pieces; in \
 an archive it writes nothing"

@@ -120,7 +120,7 @@ changed_byte 0 '\002'
 changed_byte 8 'K'
 changed_byte 12 '\061'
 # a position above the count, and one above the most commands
-changed_byte 20 '\005' 0
+changed_byte 20 '\005' 1
 changed_byte 17 '\001'
 # an upgrade and more policies than commands, balances out of bounds, a broken policy
 changed_byte 24 '\005'

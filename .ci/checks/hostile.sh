@@ -132,7 +132,7 @@ echo badbasis,q.xml,1,toolong >wanted
 judge $? 4 wanted
 
 # as many policies as a load may have, in as many lanes: it syncs some hundred thousand times, so in memory, where there
-# is such a folder; the sums are those of docs/FIGURES.md, which plain Rust adds up too (bench/plain_reserves.rs)
+# is such a folder; plain Rust adds up to the same sums (bench/plain_reserves.rs)
 begin_with_examples "a load of 100,000 policies"
 here=$(pwd)
 mkdir "$quick/load" && cp basis.csv g.xml q.xml "$quick/load" && cd "$quick/load" || exit 2

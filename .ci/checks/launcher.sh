@@ -41,18 +41,34 @@ await() {
     done
 }
 
+# whether a process is there, and hasn't ended
+still_runs() {
+    case $(cut -d ' ' -f 3 "/proc/$1/stat" 2>/dev/null) in '' | Z) return 1 ;; esac
+}
+
+# A signal, and after ten seconds another: a shell loses one that comes while it starts a command.
+interrupt() {
+    sent=0
+    while still_runs "$1"; do
+        [ $((sent % 100)) != 0 ] || kill -INT "$1"
+        sent=$((sent + 1))
+        sleep 0.1
+    done
+}
+
 # what a signal leaves of these words, once this holds: the status 130, and a line
 is_stopped() {
     moment=$1 line=$2
     shift 2
     rm -f "$work/noted"
+    : >notes
     # what runs in the background has no input, and doesn't hear of it, otherwise
     exec 5<&0
     env --default-signal=INT sh "$launcher" "$@" <&5 5<&- >out 2>notes &
     stopped=$!
     exec 5<&-
     await "$moment"
-    kill -INT "$stopped"
+    interrupt "$stopped"
     wait "$stopped"
     status=$?
     [ "$status" = 130 ] || complain "$*: status $status, not stopped: $(cat out notes)"
@@ -220,7 +236,7 @@ answers() {
     fi
 }
 sleep 0.1
-touch "$copy"/crates/measure*/src/*.rt "$copy"/crates/life_app/must-fail/*.edit "$copy/docs/MAP.md" 2>/dev/null
+touch "$copy"/crates/measure*/src/*.rt "$copy"/crates/life_app/must-fail/*.edit "$copy/docs/ARCHITECTURE.md" 2>/dev/null
 answers current "what isn't in it"
 for changed in policy_machine/src policy_machine/specs posting_journal/proofs; do
     file=$(find "$copy/crates/$changed" -type f | sort | head -n 1)
@@ -249,14 +265,7 @@ touch "$built"
 
 begin "waiting"
 "$life" run <"$first.csv" >transcript
-# somebody has the book, until he is sent away
-hold() {
-    python3 -c 'import fcntl, time; file = open("journal.life"); fcntl.flock(file, fcntl.LOCK_EX); time.sleep(600)' \
-        >/dev/null 2>&1 &
-    holder=$!
-    await '! flock -n -s journal.life true'
-}
-hold
+hold journal.life
 launch --wait 0 state </dev/null
 echo diskfault >wanted
 judge "$status" 8 wanted
@@ -265,28 +274,27 @@ notes_are "still journal.life is held by process [0-9]*, python"
 echo 1,issue,7501,2020-01-01,endowment,0,3,1000.00,400.00 | sh "$launcher" --wait 600 run >out 2>notes &
 waiter=$!
 await 'grep -q "waiting: journal.life is held by process [0-9]*, python" notes'
-kill "$holder"
+let_go
 wait "$waiter"
 [ $? = 0 ] && grep -q '^1,issue,7501,accepted,5$' out || complain "it doesn't wait: $(cat out notes)"
 launch --wait 30 state </dev/null
 [ "$status" = 0 ] && [ ! -s notes ] || complain "a free book isn't had at once: $(cat notes)"
 # of many that wait none is refused
-hold
+hold journal.life
 waiters=
 for n in 1 2 3 4 5 6; do
     echo "1,issue,76$n,2020-01-01,endowment,0,3,1000.00,400.00" | sh "$launcher" --wait 600 run >"out.$n" 2>"notes.$n" &
     waiters="$waiters $!"
 done
 await '[ "$(cat notes.? | grep -c "is held by")" -ge 6 ]'
-kill "$holder"
+let_go
 # shellcheck disable=SC2086
 wait $waiters
 [ "$(cat out.? | grep -c ,accepted,)" = 6 ] || complain "of six that wait some aren't answered: $(cat out.? notes.?)"
 python3 "$root/.ci/launcher/no_trial.py" "$launcher" 2>notes || complain "one that waits keeps another off: $(cat notes)"
-hold
+hold journal.life
 is_stopped 'grep -q "is held" notes' "stopped waiting, and nothing was run" --wait 600 run
-kill "$holder"
-await 'flock -n -s journal.life true'
+let_go
 rm journal.life
 launch --wait 0 generate 1 1 1 </dev/null
 [ "$status" = 0 ] || complain "what needs no book waits: $(cat notes)"

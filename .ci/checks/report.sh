@@ -46,6 +46,8 @@ printf '%s\n' 'by,group,policies,amount insured,lower bound,upper bound,words' '
     cmp -s - report.csv || complain "the CSV is $(cat report.csv)"
 says report 2022-12-31 --at 11 --html page.html
 grep -q 'The rows add up to the printed total' page.html || complain "the page doesn't say what was checked"
+grep -q '<td>endowment</td><td>1</td><td>9,000.00</td><td>2,656.22</td>' page.html && grep -q '<b>174,000.00</b>' page.html ||
+    complain "the page's amounts are written otherwise"
 ! grep -qE 'https?:|src=|@import' page.html || complain "the page asks for something of the network"
 if "$tools/life-tools" report 2022-12-31 --xlsx book.xlsx 2>remarks; then
     python3 -c 'import sys, zipfile; sys.exit(0 if "xl/workbook.xml" in zipfile.ZipFile("book.xlsx").namelist() else 1)' ||

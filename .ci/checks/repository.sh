@@ -1,6 +1,7 @@
 #!/bin/sh
-# What a reader relies on: the handles' line, every crate in docs/MAP.md, tests in crates of tests alone, and of the
-# wrong bodies few for each crate, among them each that has a name.
+# What a reader relies on: the handles' line, the layers in crates.txt and docs/ARCHITECTURE.md, few lines of specs and
+# proofs that stand twice, tests in crates of tests alone, and of the wrong bodies few for each crate, among them each that
+# has a name.
 cd "$(dirname "$0")/../.." || exit 2
 failed=0
 complain() {
@@ -9,8 +10,9 @@ complain() {
 }
 
 [ "$(cat HANDLES)" = "Handles allowed: Threads, Wait." ] || complain "HANDLES isn't the one line that it must be"
+python3 .ci/layers.py || failed=1
+python3 .ci/repeated.py || failed=1
 for crate in $(sed -n 's/^\([a-z_]*\):.*/\1/p' crates.txt); do
-    grep -q "\`$crate\`" docs/MAP.md || complain "docs/MAP.md doesn't say what $crate is"
     edits=$(find "crates/$crate/must-fail" -name '*.edit' 2>/dev/null | wc -l)
     [ "$edits" -le 12 ] || complain "$crate has $edits wrong bodies, which slow the gate"
     case $crate in
@@ -45,6 +47,11 @@ an_early_Ok                     posting_journal/ok_before_the_second_sync
 a_closed_record_kept            posting_journal/closed_record_kept
 the_earlier_state_always_opened posting_journal/earlier_state_opened
 a_line_posted_twice_or_left_out lane_runner/posted_twice lane_runner/line_left_out
+the_first_lane_with_a_line      lane_runner/first_lane_with_a_line
+the_last_line_never_printed     lane_runner/last_line_dropped
+a_text_begun_anew               lane_runner/written_again_after_a_fault
+lanes_stopped_by_the_output     lane_runner/lane_stopped_by_the_output
+a_block_at_its_end's_turn       lane_runner/block_at_its_ends_turn
 an_invented_reply               shared_office/invented_reply
 a_reinstatement_unpaid          policy_machine/reinstated_unpaid
 half_a_settlement               money_ledgers/half_settlement
@@ -65,21 +72,26 @@ projected_from_the_next_year    cash_projection/projected_from_the_next_year
 a_lapsed_policy_counted         cash_projection/lapsed_policies_counted
 a_last_portion_dropped          cash_projection/last_portion_dropped
 years_numbered_from_1           cash_projection/years_numbered_from_1
-a_made-up_fault_of_the_output   book_projection/made_up_write_fault
+a_made-up_fault_of_the_output   valuing_modes/made_up_write_fault
 the_closed_gate_always_first    checkpoint_store/closed_gate_always_written_first
 the_gate_before_the_rest        checkpoint_store/gate_opened_before_the_rest_is_safe
 a_checkpoint_above_the_count    checkpoint_store/checkpoint_above_the_count_used
-a_replay_begun_late             checkpoint_store/replay_begun_one_late
-a_body_read_uncounted           checkpoint_store/body_read_uncounted
+a_replay_begun_late             journal_replay/replay_begun_one_late
+a_body_read_uncounted           journal_replay/body_read_uncounted
 a_checkpoint's_ledger_unchecked checkpoint_store/ledger_not_checked
 an_upgrade_forgotten            checkpoint_store/upgrade_forgotten
 a_second_disk_touched_by_run    life_app/second_disk_touched_by_run
 an_exit_status_always_0         life_cli/exit_status_always_0
 words_of_no_text_as_no_memory   life_cli/no_text_told_as_no_memory
 files_exchanged                 life_cli/files_exchanged
-a_second_disk's_fault_not_told  kept_books/second_disks_fault_told_as_want_of_memory
+a_second_disk's_fault_not_told  stating_modes/second_disks_fault_told_as_want_of_memory
 watchers_told_of_refusals       office_state/told_of_refused_commands watcher_set/a_done_watcher_is_kept
 EDITS
+
+# docs/INDEX.md is what the comments beside definitions and clauses make now
+python3 .ci/index.py --check || failed=1
+# and the names that pages for engineers tell are there
+python3 .ci/told_names.py || failed=1
 
 [ "$failed" = 0 ] && echo "repository: in order"
 exit "$failed"

@@ -92,6 +92,13 @@ says export sqlite journal.life journal.db
 refuses "there already" export sqlite journal.life journal.db
 refuses "badjournal,badrecord,1" export csv cut.life
 
+go_on "a checkpoint that is longer than the journal"
+mkdir desk-of-27 && cp journal.life desk-of-27 && (cd desk-of-27 && "$life" checkpoint </dev/null >made)
+head -c 927 journal.life >front.life && printf '\000' >>front.life
+says read-checkpoint desk-of-27/checkpoint.life journal.life
+finds "front.life has 14 commands, so the program doesn't use a checkpoint of 27" read-checkpoint desk-of-27/checkpoint.life front.life
+prints "$nothing"
+
 go_on "positions of days"
 for day in 2021-01-19 2022-01-20 2024-03-12 2199-12-31; do
     says position-on "$day" journal.life
@@ -112,6 +119,23 @@ grep -q '2,issue,2,2020-04-01' remarks || complain "position-on says nothing of 
 go_on "values"
 "$life" value 2024-03-12 </dev/null >block
 says check-values journal.life basis.csv block
+# some of the rows, in any order, also with the total; a row that is off, twice, of nobody, or not of this position
+{ head -n 1 block; grep -e '^row,15,' block; grep -e '^row,11,' block; } >sample
+says check-values journal.life basis.csv sample --sample
+echo "2 of 6 rows are right; the total isn't checked" >wanted
+prints wanted
+finds "there are 6 policies, and 1 rows before the last line" check-values journal.life basis.csv sample
+tail -n 1 block | sed 's/,0$/,9/' | cat sample - >with-total
+says check-values journal.life basis.csv with-total --sample
+prints wanted
+sed 's/^\(row,15,.*\),[^,]*$/\1,9999.99/' sample >wrong
+finds "doesn't enclose" check-values journal.life basis.csv wrong --sample
+grep '^row,15,' block | cat sample - >wrong
+finds "or its row stood above" check-values journal.life basis.csv wrong --sample
+sed 's/^row,15,/row,99,/' sample >wrong
+finds "no policy has this number" check-values journal.life basis.csv wrong --sample
+sed '1s/,6$/,7/' sample >wrong
+finds "there are 6 policies" check-values journal.life basis.csv wrong --sample
 # tables that the program takes: a byte order mark, a comment that isn't ASCII, a blank before the end of a tag
 "$life" value 2024-03-12 </dev/null | sed -n 's/^row,14,//p' >row
 cp g.xml plain.xml
@@ -172,6 +196,13 @@ go_on "transcripts"
 says check-transcript small-office.csv transcript /dev/null journal.life basis.csv
 sed 's/refused,taken/refused,unknown/' transcript >wrong
 finds "and the rules say" check-transcript small-office.csv wrong /dev/null journal.life basis.csv
+# by what was printed nothing is left, and a line that is another's, or is accepted elsewhere, is told
+says rest small-office.csv journal.life --printed transcript
+prints "$nothing"
+sed 's/,accepted,3$/,accepted,4/' transcript >wrong
+refuses "has another position than the lines before" rest small-office.csv journal.life --printed wrong
+sed 1d transcript >wrong
+refuses "answers another row than" rest small-office.csv journal.life --printed wrong
 finds "record 1 of the journal is issue,1" check-transcript small-office.csv transcript /dev/null late/journal.life basis.csv
 
 go_on "a script before it is sent"
@@ -227,6 +258,26 @@ LINES
 prints wanted
 leaves before
 
+go_on "what lies years behind, and is meant"
+# a limited plan of two premiums, an endowment made paid up: the first ends with the table, 90 years on
+cat >ages.csv <<'ROWS'
+1,upgrade
+1,issue,31,2015-06-01,limited,40,2,1000.00,10.00
+1,premium,31,2015-06-01,10.00
+1,premium,31,2016-06-01,10.00
+1,issue,32,2015-06-01,endowment,40,10,1000.00,10.00
+1,premium,32,2015-06-01,10.00
+1,paidup,32,2016-06-01,100.00
+ROWS
+mkdir ages && (cd ages && "$life" run <../ages.csv >transcript && grep -c ,accepted, transcript | grep -qx 7) || complain "ages.csv"
+python3 "$tools/life-tools" due 2025-07-01 ages/journal.life --script mature >sent.csv 2>remarks
+echo 1,claim,31,2025-07-02 >>sent.csv
+says check sent.csv --folder ages --life "$life"
+prints "$nothing"
+echo 1,mature,32,2026-07-07 >late.csv
+finds "^rows: 1, told: 1;" check late.csv --folder ages --life "$life" --today 2026-07-07
+grep -qx "  the day is 401 days behind the end of the policy's term, 2025-06-01" out || complain "late: $(cat out)"
+
 go_on "dry runs"
 cp journal.life before
 printf '1,premium,12,2025-02-28,310.00\n1,value,2025-02-28,now,1\n' >next.csv
@@ -235,17 +286,9 @@ leaves before
 cp out wanted
 "$life" run <next.csv >transcript || complain "the run ended with $?"
 cmp -s wanted transcript || complain "the dry run had another transcript than the run"
-python3 -c 'import fcntl, sys, time
-file = open("journal.life")
-fcntl.flock(file, fcntl.LOCK_EX)
-print("held", flush=True)
-time.sleep(60)' >held &
-holder=$!
-until grep -q held held 2>/dev/null; do sleep 0.05; done
+hold journal.life
 refuses "held by another run" dry-run next.csv --life "$life"
-kill "$holder"
-# it holds the journal until it has ended
-wait "$holder" 2>/dev/null
+let_go
 
 go_on "drawings"
 for day in 2022-12-31 2023-12-31 2024-12-31; do "$life" value "$day" </dev/null; done >valuations
@@ -364,6 +407,7 @@ undone "nowhere: $none" rest nowhere journal.life 0
 undone "strange is badscript,1,1" rest strange journal.life 0
 undone "nowhere: $none" rest small-office.csv nowhere 0
 undone "$cut" rest small-office.csv cut.life 0
+undone "nowhere: $none" rest small-office.csv journal.life --printed nowhere
 undone "has 28 commands, and before the run there were 29" rest small-office.csv journal.life 29
 undone "nowhere is no journal, and no number of commands" rest small-office.csv journal.life nowhere
 undone "badjournal,notajournal" rest small-office.csv journal.life strange
@@ -497,7 +541,11 @@ kill -9 "$run"
 wait "$run" 2>/dev/null
 says rest script journal.life 0
 mv out rest
-[ ! -s killed ] || complain "the killed run printed something"
+# what it printed says where it began, and these rows are all accepted, so the same is left
+if grep -q ,accepted, killed; then says rest script journal.life --printed killed; else says rest script journal.life 0 --printed killed; fi
+prints rest
+refuses "BEFORE is needed" rest script journal.life
+refuses "BEFORE is needed" rest script journal.life --printed "$nothing"
 before=$(python3 "$tools/life-tools" read journal.life | sed -n 's/^count,//p')
 [ $((before + $(wc -l <rest))) = 720 ] || complain "$before were accepted and $(wc -l <rest) are left of 720"
 "$life" run <rest >transcript
@@ -519,7 +567,7 @@ awk 'BEGIN { for (i = 1; i <= 50000; i++) {
     if (i > 120) printf "%d,premium,%d,2020-11-01,300.00\n", (i + 6) % 8 + 1, i - 120 } }' >script
 "$program" run <script >killed &
 run=$!
-while kill -0 "$run" 2>/dev/null && [ "$({ wc -c <journal.life || echo 0; } 2>/dev/null)" -lt 6000000 ]; do sleep 0.1; done
+while kill -0 "$run" 2>/dev/null && [ "$({ wc -c <journal.life || echo 0; } 2>/dev/null)" -lt 6600000 ]; do sleep 0.1; done
 kill -9 "$run"
 wait "$run" 2>/dev/null
 says rest script journal.life 0

@@ -1,5 +1,4 @@
-"""Looks that the pages are whole: lists, tables, links, the layers of crates; and that each word which the program can
-print is documented.
+"""Looks that the pages are whole: lists, tables, links; and that each word which the program can print is documented.
 
 usage: python3 look_over.py ROOT PAGE..
 """
@@ -123,7 +122,25 @@ def printed_words(root):
     return words - NOT_PRINTED
 
 
+def wrong_tests(root):
+    """Tests, their crates and checks that the page's limits name, and that aren't there."""
+    with open(os.path.join(root, "docs", "FORMATS.md"), encoding="utf-8") as file:
+        limits = file.read().split("\n## Limits\n")[1]
+    files = subprocess.run(["git", "ls-files", "crates/*_tests/src/*.rt", ".ci/checks"], cwd=root, stdout=subprocess.PIPE,
+                           check=True).stdout.decode().split()
+    known = {part for name in files for part in (name.split("/")[1], os.path.basename(name), os.path.basename(name)[:-3])}
+    for name in filter(lambda name: name.endswith(".rt"), files):
+        with open(os.path.join(root, name), encoding="utf-8") as file:
+            known.update(re.findall(r"fn (\w+)", file.read()))
+    named = set(re.findall(r"`([a-z0-9]+(?:_[a-z0-9]+)+|[a-z_]+\.sh)`", limits))
+    if len(named) < 30:
+        yield 0, f"only {len(named)} tests are named in the limits"
+    for name in sorted(named - known):
+        yield 0, f"there is no test {name}, which the limits name"
+
+
 def wrong_words(root):
+    yield from wrong_tests(root)
     with open(os.path.join(root, "docs", "FORMATS.md"), encoding="utf-8") as file:
         known = {word for line in file for code in re.findall("`([^`]+)`", line) for word in re.findall("[a-z]+", code)}
     words = printed_words(root)
@@ -133,30 +150,10 @@ def wrong_words(root):
         yield 0, f"the program can print `{word}`, which FORMATS.md doesn't tell"
 
 
-def wrong_layers(root):
-    """Crates whose libraries in MAP.md's layers aren't those of crates.txt; MAP.md has those of tests without their libraries."""
-    stands = {}
-    with open(os.path.join(root, "crates.txt"), encoding="utf-8") as file:
-        for line in file:
-            crate = re.match(r"([a-z_]+)[^:#]*:(.*)", line)
-            if crate and not crate[1].endswith("_tests"):
-                stands[crate[1]] = set(crate[2].split())
-    with open(os.path.join(root, "docs", "MAP.md"), encoding="utf-8") as file:
-        layers = file.read().split("\n## Layers\n")[1].split("\n## ")[0]
-    told = {}
-    for item in re.finditer(r"^- ((?:`\w+`, )*`\w+`):(.*?)(?=^- |^\*\*|\n\n|\Z)", layers, re.M | re.S):
-        libraries = set(re.findall(r"`(\w+)`", item[2].partition("Stands")[2]))
-        told.update((name, libraries) for name in re.findall(r"`(\w+)`", item[1]))
-    for crate, libraries in sorted(stands.items()):
-        if told.get(crate) != libraries:
-            yield 0, f"{crate} stands on {sorted(libraries)}, and is told to stand on {sorted(told.get(crate, []))}"
-
-
 def main():
     root, *names = sys.argv[1:]
     pages = {name: Page(root, name) for name in names}
     wrong = [("docs/FORMATS.md", *each) for each in wrong_words(root)]
-    wrong += [("docs/MAP.md", *each) for each in wrong_layers(root)]
     for name, page in pages.items():
         if page.unended:
             wrong.append((name, len(page.lines), "the last block isn't ended"))

@@ -9,7 +9,7 @@ import re
 import sys
 
 sys.path.insert(0, os.path.join(os.path.dirname(os.path.abspath(__file__)), "..", "..", "tools"))
-from life_tools.transcript_check import Run, answers_in
+from life_tools.transcript_check import Run, answers_in, is_block
 from life_tools.commands import words_of
 from life_tools.formats import Wrong, demand
 from life_tools.journals import read_journal
@@ -88,6 +88,29 @@ def judge_transcript(script, ended, before, basis, known):
     demand_file(ended.after, run.book.commands, run.in_doubt)
     due = 8 if run.faults else 9 if run.unserved else 0
     demand(ended.status == due, f"status {ended.status}, with {run.faults} faults and {run.unserved} lines without memory")
+    return run
+
+
+def front_of(text):
+    """What is whole of a text that may be cut anywhere: its ended lines, but for those of a valuation without its total."""
+    lines, whole, amid = text.split("\n")[:-1], 0, False
+    for count, line in enumerate(lines, 1):
+        fields = line.split(",")
+        amid = is_block([fields]) or (amid and fields[0] != "total")
+        whole = whole if amid else count
+    return "".join(line + "\n" for line in lines[:whole])
+
+
+def judge_front(script, text, before, after, basis, known):
+    """A run whose transcript is cut: what is whole of it is a front of one, and the file has what it tells was accepted."""
+    run = FaultyRun(read_script(script), read_journal(before).book, basis, known)
+    answers, watchers = answers_in(front_of(text))
+    for answer in answers:
+        run.follow(answer)
+    left = [line.row.text for lines in run.left.values() for line in lines]
+    demand(not (watchers and left), f"the watchers' lines stand before the answers of {left}")
+    accepted, found = run.book.commands, commands_in(after, "the file afterwards")
+    demand(found[:len(accepted)] == accepted, "the file doesn't begin with what was printed as accepted")
     return run
 
 

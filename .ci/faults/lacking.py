@@ -1,14 +1,14 @@
 """Runs of one mode that may want memory, judged beside a run that had ample.
 
 The answer has to be the right text, or that memory was wanting: `nomemory` before the first posting, lines answered so,
-or no text where the lanes had ended; with status 9 each time, and with a file that holds what was accepted.
+or a front of the text; with status 9 each time, and with a file that holds what was accepted.
 """
 from __future__ import annotations
 
 import os
 from dataclasses import dataclass
 
-from judge import demand, demand_file, follow, judge_early_end, judge_lacking
+from judge import demand, demand_file, follow, judge_early_end, judge_front, judge_lacking
 from life_tools.reserves import Known
 from life_tools.tables import read_basis
 from runs import Desk, Ended
@@ -57,7 +57,7 @@ class Lacking:
             judge_early_end(ended, 9, self.mode.before)
             return "nomemory"
         self.judge_part(ended)
-        return "in part" if ended.text else "no text"
+        return "in part" if "\nwatcher," in ended.text or self.mode.words[0] == "load" and ended.text else "cut"
 
     def judge_right(self, ended: Ended) -> None:
         demand(self.mode.words[0] == "run" or ended.text == self.right.text, f"another text: {ended.text[:200]!r}")
@@ -66,10 +66,12 @@ class Lacking:
     def judge_part(self, ended: Ended) -> None:
         """Status 9 behind the first turn: some lines were answered so, or there was no memory for the text."""
         demand(self.mode.posts, f"printed {ended.text[:200]!r}")
-        if ended.text:
+        if "\nwatcher," in ended.text or self.mode.words[0] == "load" and ended.text:
             self.judge_count(self.unserved(ended))
         else:
             self.judge_silent(ended)
+            if self.mode.words[0] == "run":
+                judge_front(self.mode.script, ended.text, self.mode.before, ended.after, self.basis, self.known)
 
     def judge_count(self, unserved: int) -> None:
         demand(unserved, "no line wanted memory, at status 9")

@@ -62,7 +62,7 @@ class Trial(Lacking):
 
     def judge_limited(self, kib, ended, pointed):
         if ended.status == -signal.SIGSEGV and pointed >= STACKS_FROM:
-            demand(not ended.text, f"printed {ended.text[:200]!r}")
+            demand(self.mode.words[0] == "run" or not ended.text, f"printed {ended.text[:200]!r}")
             judge_lacking(self.mode.script, self.mode.before, ended.after)
             return "stack"
         if ended.status == 127 or ended.status < 0 or "error while loading" in ended.complaints:
@@ -116,7 +116,7 @@ def main():
         try_mode(trial, random.Random(f"{seed} {mode.name}"))
         seen += trial.seen
     print(f"faults: {sum(seen.values())} limits of memory: {seen['right']} right texts, {seen['nomemory']} ended with "
-          f"nomemory, {seen['in part'] + seen['no text']} with a part; {seen['not loaded']} were too small to load the "
+          f"nomemory, {seen['in part'] + seen['cut']} with a part; {seen['not loaded']} were too small to load the "
           f"program, and {seen['stack']} ended where its stack had to grow")
 
 

@@ -2,7 +2,7 @@
 
 usage: python3 refused.py PROGRAM FOLDER LIBRARY    (LIBRARY is refuse_nth.c, built)
 
-All other memory is given. So one line at most is answered `nomemory`, and where there is no text all lines were served.
+All other memory is given. So one line at most is answered `nomemory`, and where the text is cut all lines were served.
 Where several threads run, one run may ask less often than another; what comes to no refusal has to be the right text.
 Where a mode asks more than some hundred times, those behind are taken at even distances.
 """
@@ -123,10 +123,10 @@ def try_all(program: str, folder: str, library: str) -> None:
         count = trial.count()
         seen += try_mode(trial, numbers(count))
         asked += count
-    demand(all(seen[word] for word in ("nomemory", "in part", "no text")), f"the runs ended as {dict(seen)}")
+    demand(all(seen[word] for word in ("nomemory", "in part", "cut")), f"the runs ended as {dict(seen)}")
     print(f"faults: {len(tried)} small runs ask for memory {asked} times; where one request is refused, each of "
           f"{sum(seen.values())} alone, {seen['nomemory']} end with nomemory and post nothing, {seen['in part']} answer"
-          f" one line so, {seen['no text']} post all and print nothing, {seen['right']} print the right text, and "
+          f" one line so, {seen['cut']} post all and print a front, {seen['right']} print the right text, and "
           f"{seen['fewer']} ask less often")
 
 

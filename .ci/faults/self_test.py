@@ -135,7 +135,7 @@ def try_refusals(program, folder):
     trial = Refused(program, folder, "", Mode("a run", ["run"], ONE_CLERK, before))
     whole, lacking = trial.right, without_the_last(program, os.path.join(folder, "lacking"), 1)
     silent, early = replace(whole, status=9, text=""), replace(whole, status=9, text="nomemory\n", after=before)
-    for word, ended in {"right": whole, "in part": lacking, "no text": silent, "nomemory": early}.items():
+    for word, ended in {"right": whole, "in part": lacking, "cut": silent, "nomemory": early}.items():
         demand(trial.judge(ended) == word, f"{word} isn't told of the run that has it")
     changed = {
         "an accepted line more": replace(whole, text="1,premium,102,accepted,9\n" + whole.text),

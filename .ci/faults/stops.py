@@ -12,7 +12,7 @@ import subprocess
 import sys
 import time
 
-from judge import Wrong, demand, judge_transcript, judge_unanswered, reason
+from judge import Wrong, demand, judge_front, judge_transcript, judge_unanswered, reason
 from life_tools.journals import file_of
 from runs import Desk, Ended, default_signals
 from scenes import eight_clerks, many_policies
@@ -50,7 +50,7 @@ class Runs:
         self.desk.lay(self.before, self.script)
         self.span, ended = span_of(self.desk, ["run"])
         judge_transcript(self.script, ended, self.before, self.basis, self.known)
-        self.amid = 0
+        self.amid = self.printed = 0
 
     def try_one(self, draw):
         number = draw.choice(SIGNALS)
@@ -60,9 +60,10 @@ class Runs:
             judge_transcript(self.script, ended, self.before, self.basis, self.known)
         else:
             demand(ended.status == -number, f"status {ended.status} after signal {number}: {ended.complaints[:200]}")
-            # where the text was written, all was posted
-            posted = judge_unanswered(self.script, self.before, ended.after, bool(ended.text))
+            posted = judge_unanswered(self.script, self.before, ended.after, False)
+            judge_front(self.script, ended.text, self.before, ended.after, self.basis, self.known)
             self.amid += 0 < posted < 16 * EACH
+            self.printed += 0 < posted and bool(ended.text)
         self.desk.judge_reopening()
 
 
@@ -158,7 +159,8 @@ def main():
     try_closed_pipes(Desk(program, os.path.join(quick, "pipes")))
     try_pauses(Desk(program, os.path.join(quick, "paused")))
     print(f"faults: {RUNS} runs of eight clerks with two valuations stopped by SIGTERM, SIGINT or SIGKILL, "
-          f"{sum(it.amid for it in runs)} amid their postings, and {OPENINGS} openings of {LARGE} records, "
+          f"{sum(it.amid for it in runs)} amid their postings, {sum(it.printed for it in runs)} behind their first lines, "
+          f"and {OPENINGS} openings of {LARGE} records, "
           f"{sum(it.amid for it in openings)} before their end: nothing is lost; a closed pipe gives 7, and keeps the postings; "
           "a pause changes nothing")
 

@@ -20,7 +20,7 @@ from life_tools.tables import read_basis
 
 AT_ONCE = 4
 # a call is held up for so long, in microseconds; the deed is done once the file has stood still for so long, in seconds
-HELD_UP, STILL = 800_000, 0.2
+HELD_UP, STILL = 1_500_000, 0.2
 # The calls of the journal that are held up: the first sync and the question behind it; of the second posting the question
 # before it, both syncs and the question behind the second; and the last sync of all and the question behind it. The opening
 # makes one sync and asks four times; a posting makes two, and asks before its first write and behind its last sync.

@@ -7,20 +7,18 @@ The files are a journal of forty records of all kinds, its script, a basis file,
 order drawn by the seed, one part of so many, until the time is over and there were two hundred; where SECONDS is `all`,
 until there are none left.
 """
-import collections
 import os
 import random
 import sys
-import time
 
-from trial import Trial, demand, file_of, judge_basis, judge_journal, judge_posting, judge_script, judge_table, read_script, Book
+from trial import (Book, Trial, demand, file_of, judge_basis, judge_journal, judge_posting, judge_script, judge_table, read_script,
+                   try_for)
 from life_tools.formats import KINDS, Wrong
 
 VALUES = (0, 1, 2, 127, 255)
 HERE = os.path.dirname(os.path.abspath(__file__))
 # every further case of a journal is a run that posts
 POSTINGS = 4
-LEAST = 200
 TABLE = (b'\xef\xbb\xbf <?xml version="1.0"?>\n<!-- Q --><XTbML><Table><MetaData><ScalingFactor> 1.0 </ScalingFactor></MetaData>'
          b"<Values><Axis id='a'>\n<Y t=\"0\">0.1</Y><Y t='01' >2E-1</Y><Y t=\"2\">.25<!-- -->"
          b'</Y></Axis></Values></Table><Table/></XTbML>\n').replace(b"<!-- --></Y>", b"</Y><!-- -->")
@@ -89,17 +87,14 @@ def main():
     random.Random((sys.argv[6:] or ["1"])[0]).shuffle(every)
     mine = every[int(part)::int(parts)]
     trials = {kind: Trial(program, os.path.join(folder, f"{kind}-{part}")) for kind in files(book)}
-    end = time.monotonic() + (float("inf") if seconds == "all" else float(seconds))
-    seen = collections.Counter()
-    for case in mine:
-        if time.monotonic() > end and sum(seen.values()) >= LEAST:
-            break
+
+    def try_one(case):
         try:
-            seen[f"{case[0]} {judge(trials, book, case)}"] += 1
+            return f"{case[0]} {judge(trials, book, case)}"
         except Wrong as wrong:
             sys.exit(f"hostile: byte {case[1]} of the {case[0]} set to {case[2]} (files in {trials[case[0]].folder}): {wrong}")
-    tried = sum(seen.values())
-    print(f"hostile: {tried} of {len(mine)} changed bytes: " + ", ".join(f"{what} {seen[what]}" for what in sorted(seen)))
+
+    try_for(float("inf") if seconds == "all" else float(seconds), mine, try_one, f"of {len(mine)} changed bytes")
 
 
 if __name__ == "__main__":

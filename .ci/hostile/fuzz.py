@@ -6,20 +6,17 @@ usage: python3 fuzz.py PROGRAM FOLDER SECONDS SEED [CASE]
 The cases of a seed are numbered from 0 on, and taken until the time is over and there were two hundred, or there were
 twelve thousand, so that the gate tries no other cases on a faster machine; with CASE just this one is tried.
 """
-import collections
 import os
 import random
 import sys
-import time
 
 from changed_bytes import BASIS, SELECT, TABLE, book_of_forty, book_of_values, script_of_forty
 from life_tools.formats import Wrong
 from life_tools.rules import Book
 from scripts import MIDDLE, make_script
 from trial import (ROOT, Trial, bytes_of_checkpoint, checkpoint_of, file_of, judge_basis, judge_checkpoint, judge_journal, judge_posting,
-                   judge_script, judge_table, judge_words)
+                   judge_script, judge_table, judge_words, try_for)
 
-LEAST = 200
 MOST = 12_000
 KINDS = ("script", "words", "journal", "checkpoint", "basis", "table")
 TOKENS = {
@@ -149,19 +146,16 @@ def main():
     program, folder, seconds, seed = sys.argv[1:5]
     book = book_of_forty()
     trials = {kind: Trial(program, os.path.join(folder, f"fuzz-{kind}-{seed}")) for kind in KINDS}
-    end = time.monotonic() + float(seconds)
-    seen = collections.Counter()
     only = [int(it) for it in sys.argv[5:]]
-    for case in only or range(MOST):
-        if time.monotonic() > end and sum(seen.values()) >= LEAST:
-            break
+
+    def try_one(case):
         kind = KINDS[case % len(KINDS)]
         try:
-            seen[f"{kind} {judge(trials, book, random.Random(f'{seed} {case}'), kind)}"] += 1
+            return f"{kind} {judge(trials, book, random.Random(f'{seed} {case}'), kind)}"
         except Wrong as wrong:
             sys.exit(f"hostile: case {case} of seed {seed} (files in {trials[kind].folder}): {wrong}")
-    tried = sum(seen.values())
-    print(f"hostile: {tried} drawn cases of seed {seed}: " + ", ".join(f"{what} {seen[what]}" for what in sorted(seen)))
+
+    try_for(float(seconds), only or range(MOST), try_one, f"drawn cases of seed {seed}")
 
 
 if __name__ == "__main__":

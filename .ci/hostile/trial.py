@@ -4,9 +4,11 @@ The judges use the readers in tools/, and for tables and words the plain reading
 where the program does anything else: another line, another status, a signal, a word on standard error, a file that was
 changed, or no answer within a time that no such case needs.
 """
+import collections
 import os
 import subprocess
 import sys
+import time
 import zlib
 
 ROOT = os.path.abspath(os.path.join(os.path.dirname(os.path.abspath(__file__)), "..", ".."))
@@ -27,8 +29,20 @@ from scripts import folder_for
 from life_tools.tables import NotXml, BasisRow, Table, read_basis, read_table
 
 SECONDS = 30
+# so many cases are tried whatever their time
+LEAST = 200
 ON = "2021-01-01"
 FRESH = 4294967295
+
+
+def try_for(seconds, cases, try_one, what):
+    """Tries cases until the time is over and there were some, and tells how many became of each kind."""
+    end, seen = time.monotonic() + seconds, collections.Counter()
+    for case in cases:
+        if time.monotonic() > end and sum(seen.values()) >= LEAST:
+            break
+        seen[try_one(case)] += 1
+    print(f"hostile: {sum(seen.values())} {what}: " + ", ".join(f"{kind} {seen[kind]}" for kind in sorted(seen)))
 
 
 class Trial:

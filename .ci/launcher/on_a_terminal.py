@@ -64,21 +64,24 @@ def held_files() -> None:
 
 def wrong_words() -> None:
     status, said = on_a_terminal("state", "0")
-    assert status == 2 and said.startswith("usage") and "sh life help" in said, (status, said)
+    assert status == 2 and said.startswith("usage") and "sh life help" in said and "a day is" not in said, (status, said)
+    status, said = on_a_terminal("value", "2200-01-01")
+    assert status == 2 and said.startswith("usage") and "to 2199-12-31" in said, (status, said)
 
 
 def growth() -> None:
-    """The terminal is told how the journal grows, and is clean where the text begins; a file has the text alone."""
+    """The terminal is told how the journal grows until the text begins, which is soon; where the text goes to a file, until
+    the run ends."""
     told = r"(\r\x1b\[Klife: \d+ postings, \d+ in the last second)"
     begun = time.monotonic()
     status, said = on_a_terminal("run", given=SCRIPT)
     took = time.monotonic() - begun
-    # a disk on which the run ends within the first second tells nothing
-    told += "+" if took > 3 else "*"
-    assert status == 0 and re.match(told + r"\r\x1b\[K\d,issue,\d+,accepted,1\r\n", said), (status, said[:300])
+    assert status == 0 and re.match(told + r"*\r\x1b\[K\d,issue,\d+,accepted,1\r\n", said), (status, said[:300])
     assert said.count(",accepted,") == lines_of(SCRIPT), said[-300:]
     os.remove("journal.life")
     status, said = on_a_terminal("run", given=SCRIPT, taken="text")
+    # a disk on which the run ends within the first second tells nothing
+    told += "+" if took > 3 else "*"
     assert status == 0 and re.fullmatch(told + r"\r\x1b\[K", said), (status, said)
     assert lines_of("text") == lines_of(SCRIPT) + 2, "the text isn't whole"
     os.remove("journal.life")

@@ -1,5 +1,5 @@
 """The rest of a killed script, beside runs whose clerks' turns are known: an office of its own runs a script up to a
-moment, and `rests` of tools/ is handed what a kill leaves, the script and the journal.
+moment, and `rests` of tools/ is handed what a kill leaves: the script, the journal, and perhaps a front of what was printed.
 
 usage: python3 rests.py ROOT
 """
@@ -12,7 +12,8 @@ sys.path[:0] = [os.path.join(ROOT, "tools"), os.path.join(ROOT, ".ci", "stress")
 
 from life_tools.commands import words_of
 from life_tools.formats import Wrong
-from life_tools.rests import History, rest_of
+from life_tools.printed_fronts import read_front
+from life_tools.rests import History, NoRun, demand_records, rest_of
 from life_tools.rules import Book, Refusal
 from life_tools.script_lines import lanes_of, read_script
 from scripts import make_script
@@ -25,9 +26,24 @@ def need(right, message):
         sys.exit(f"tools: {message}")
 
 
+def answer_text(line, book, after):
+    """The line that tells of a row, as the program prints it; no policy is valued here."""
+    count = len(book.commands)
+    if line.kind == "trim":
+        words = [str(count)]
+    elif line.kind == "value" and (line.position or 0) > count:
+        words = ["refused", "ahead", str(count)]
+    elif line.kind == "value":
+        return ",".join([*line.head, str(count if line.position is None else line.position), "0"]) + "\ntotal,0.00,0.00,0\n"
+    else:
+        words = ["refused", *after.words()] if isinstance(after, Refusal) else ["accepted", str(count + 1)]
+    return ",".join([*line.head, *words]) + "\n"
+
+
 def run_up_to(draw, lines, book, turns):
-    """Each lane's number of answered rows after so many turns, and its number up to the last accepted one."""
-    left, answered, shown = lanes_of(lines), {}, {}
+    """Each lane's number of answered rows after so many turns, its number up to the last accepted one, and the transcript:
+    each answer's lane and text."""
+    left, answered, shown, told = lanes_of(lines), {}, {}, []
     for _ in range(turns):
         open_lanes = [lane for lane in left if answered.get(lane, 0) < len(left[lane])]
         if not open_lanes:
@@ -36,10 +52,21 @@ def run_up_to(draw, lines, book, turns):
         line = left[lane][answered.get(lane, 0)]
         answered[lane] = answered.get(lane, 0) + 1
         after = book.decide(line.command) if line.command else Refusal("none")
+        told.append((lane, answer_text(line, book, after)))
         if not isinstance(after, Refusal):
             book.take(line.command, after)
             shown[lane] = answered[lane]
-    return answered, shown
+    return answered, shown, told
+
+
+def front_of(draw, told):
+    """A front of a transcript that is cut anywhere, and how many of each lane's answers are whole in it."""
+    whole = draw.randrange(len(told) + 1)
+    part = told[whole][1][:draw.randrange(len(told[whole][1]))] if whole < len(told) else ""
+    counts = {}
+    for lane, _ in told[:whole]:
+        counts[lane] = counts.get(lane, 0) + 1
+    return "".join(text for _, text in told[:whole]) + part, counts
 
 
 def is_a_run(lines, book, commands, rest):
@@ -78,8 +105,19 @@ def judge_drawn(draw):
             text.append(row)
     lines = read_script("\n".join(text).encode())
     book = Book()
-    _, shown = run_up_to(draw, lines, book, draw.randrange(len(lines) + 1))
-    rest = rest_of(lines, History(0, book.commands))
+    _, shown, told = run_up_to(draw, lines, book, draw.randrange(len(lines) + 1))
+    judge_rest(lines, rest_of(lines, History(0, book.commands)), shown, text)
+    for _ in range(CUTS):
+        front, counts = front_of(draw, told)
+        printed, history = read_front(front, lines), History(0, book.commands)
+        need(printed.begun in (None, 0), f"the run of {text} is said to begin at {printed.begun}")
+        need(printed.answered == counts, f"of {front!r} these are whole: {counts}, and read as so {printed.answered}")
+        demand_records(printed, history)
+        judge_rest(lines, rest_of(lines, history, printed),
+                   {lane: max(shown.get(lane, 0), counts.get(lane, 0)) for lane in lanes_of(lines)}, text)
+
+
+def judge_rest(lines, rest, shown, text):
     for lane, rows in lanes_of(lines).items():
         need(len(rest[lane]) <= len(rows) - shown.get(lane, 0), f"lane {lane}: too much is left of {text}")
     need(is_short(lines, rest, shown), f"too little is left of {text}")
@@ -109,10 +147,17 @@ def judge_equal(draw):
     opening = [line.command for line in begun]
     for cut in range(CUTS):
         book = Book(opening)
-        run_up_to(draw, lines, book, draw.randrange(len(lines) + 1))
-        rest = rest_of(lines, History(len(opening), book.commands))
-        need(is_a_run(lines, Book(opening), book.commands, rest),
-             f"no run of {rows} leaves {[words_of(it) for it in book.commands]} and this rest")
+        _, _, told = run_up_to(draw, lines, book, draw.randrange(len(lines) + 1))
+        front, counts = front_of(draw, told)
+        for text in ("", front):
+            printed, history = read_front(text, lines), History(len(opening), book.commands)
+            need(printed.begun in (None, len(opening)), f"{text!r} is said to begin at {printed.begun}")
+            demand_records(printed, history)
+            rest = rest_of(lines, history, printed)
+            need(is_a_run(lines, Book(opening), book.commands, rest),
+                 f"no run of {rows} leaves {[words_of(it) for it in book.commands]} and this rest, where {text!r} is printed")
+        need(all(len(rest[lane]) <= len(rows_of) - counts.get(lane, 0) for lane, rows_of in lanes_of(lines).items()),
+             f"rows that are printed in {front!r} are left")
 
 
 def judge_strange(draw):
@@ -126,6 +171,29 @@ def judge_strange(draw):
         except Wrong:
             continue
         sys.exit(f"tools: a rest is told of {len(records)} records that the script can't have posted")
+    judge_printed_strange(lines, opening.commands, command)
+
+
+def judge_printed_strange(lines, opening, command):
+    """What is printed as accepted and isn't in the journal is refused; a faulted line may be the journal's last."""
+    printed = read_front("1,settle,1,accepted,3\n", lines)
+    try:
+        demand_records(printed, History(len(opening), opening))
+    except NoRun:
+        printed = read_front("1,settle,1,fault\n2,settle,1,nomemory\n", lines)
+        need(printed.begun is None and [word for word, _ in printed.unposted] == ["fault", "nomemory"], "unposted lines aren't told")
+        for commands in (opening, [*opening, command]):
+            rest = rest_of(lines, History(len(opening), commands), printed)
+            need(not any(rest.values()), f"printed rows are left: {rest}")
+    else:
+        sys.exit("tools: what is printed as accepted isn't looked for in the journal")
+    for text in ("1,settle,1,accepted,3\n1,settle,1,accepted,4\n", "1,settle,2,accepted,3\n", "row,1,inforce,0,0.00,0.00\n",
+                 "1,settle,1,accepted,3\n2,settle,1,accepted,5\n"):
+        try:
+            read_front(text, lines)
+        except Wrong:
+            continue
+        sys.exit(f"tools: {text!r} is read as a front of another script's transcript")
 
 
 def main():
@@ -135,7 +203,8 @@ def main():
     for _ in range(EQUAL_RUNS):
         judge_equal(draw)
     judge_strange(draw)
-    print(f"tools: the rests of {RUNS} scripts are what was left, and of {EQUAL_RUNS * CUTS} with equal rows each is a run's")
+    print(f"tools: the rests of {RUNS} scripts are what was left, and of {EQUAL_RUNS * CUTS} with equal rows each is a run's, "
+          "without what was printed and with it")
 
 
 main()

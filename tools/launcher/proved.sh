@@ -7,7 +7,12 @@ hint() {
     ended=$1
     shift
     case $ended in
-        2) echo "life: the words are told in docs/FORMATS.md, and by sh life help" >&2 ;;
+        2)
+            echo "life: the words are told in docs/FORMATS.md, and by sh life help" >&2
+            case "$1 ${2-}" in
+                value\ *-*-* | project\ *-*-*) echo "life: a day is YYYY-MM-DD of the calendar, from 1900-01-01 to 2199-12-31" >&2 ;;
+            esac
+            ;;
         8) echo "life: $(why_fault "$@")" >&2 ;;
         130) echo "life: stopped; what was accepted stands, and docs/CLERK.md tells how to go on after a kill" >&2 ;;
     esac
@@ -57,7 +62,7 @@ clear_growth() {
     printf '\r\033[K' >&2
 }
 
-# passes on what the program prints at its end, where how far it is has stood until then
+# passes on what the program prints; with its first line what told how far it is goes away
 after_growth() {
     first=$(dd bs=1 count=1 2>/dev/null && echo .)
     clear_growth

@@ -1,10 +1,11 @@
 """A report as one page of HTML, which needs no network: totals, groups with a picture of each, words, checks."""
 from __future__ import annotations
 
+import re
 from html import escape
 from typing import Sequence
 
-from life_tools.formats import money
+from life_tools.formats import money as plain_money
 from life_tools.groups import Groups, Joined, Sums
 from life_tools.printed_books import PrintedValuation
 from life_tools.worked_rows import WORDS
@@ -34,6 +35,16 @@ th:first-child, td:first-child { text-align: left } tr.total td { font-weight: 6
 """
 
 
+def apart(number: str) -> str:
+    """An amount or a count with its thousands apart, and any other text as it is."""
+    parts = re.fullmatch(r"(-?)([0-9]+)(\.[0-9]{2})?", number)
+    return f"{parts[1]}{int(parts[2]):,}{parts[3] or ''}" if parts else number
+
+
+def money(cents: int) -> str:
+    return apart(plain_money(cents))
+
+
 def table(heads: Sequence[str], rows: Sequence[Sequence[str]], total: Sequence[str] | None = None) -> str:
     """A table; the last row stands apart where it is a total."""
     lines = ["<div class=\"wide\"><table>", "<tr>" + "".join(f"<th>{escape(each)}</th>" for each in heads) + "</tr>"]
@@ -58,7 +69,7 @@ def facts(valuation: PrintedValuation, total: Sums, heads: Sequence[str]) -> str
     told = [("day", str(valuation.on)), ("position", f"{valuation.position:,}"), ("measure", valuation.measure),
             ("policies", f"{total.policies:,}"), ("amount insured", money(total.amount))]
     told += [(name, money(each)) for name, each in zip(heads, valuation.total)]
-    told.append(("rows with a word, in no sum", str(valuation.words)))
+    told.append(("rows with a word, in no sum", apart(str(valuation.words))))
     return "<div class=\"facts\">" + "".join(f"<div><span>{escape(name)}</span><b>{escape(value)}</b></div>"
                                              for name, value in told) + "</div>"
 
@@ -91,8 +102,8 @@ def page(valuation: PrintedValuation, rows: Sequence[Joined], total: Sums, table
     for keys, groups in tables:
         parts.append(f"<h2>By {escape(', '.join(keys))}</h2>")
         parts.append(picture(groups, len(valuation.total) - 1))
-        cells = [[", ".join(name), *sums.cells()] for name, sums in groups.items()]
-        parts.append(table([", ".join(keys), *columns], cells, ["total", *total.cells()]))
+        cells = [[", ".join(name), *map(apart, sums.cells())] for name, sums in groups.items()]
+        parts.append(table([", ".join(keys), *columns], cells, ["total", *map(apart, total.cells())]))
     parts += ["<h2>Words in place of bounds</h2>", words_of(rows), "<h2>Checks that were made</h2><ul>"]
     parts += [f"<li>{escape(each)}</li>" for each in checks]
     return "\n".join([*parts, "</ul></body></html>", ""])

@@ -1,7 +1,8 @@
 """The rows of a script that a killed run didn't reach.
 
-A killed run prints nothing. What it had accepted stands in the journal, and a lane's rows are answered in their order.
-So of each lane the rows up to the last one that the journal shows were answered, and the rest is to be run.
+What a killed run had accepted stands in the journal, and a lane's rows are answered in their order. So of each lane the
+rows up to the last one that the journal shows were answered, and the rest is to be run. Where what it printed is there,
+too, the rows that are answered in it are so for certain, and only the records behind it are to be dealt out.
 
 A record doesn't say whose it is. Where equal rows stand in several lanes, the records are dealt out so that each row
 in between was refused at some moment, or asked for a value or a trim: the killed run together with the rest is then one
@@ -16,6 +17,7 @@ from typing import Dict, Iterable, Iterator, Tuple
 
 from life_tools.commands import Command, words_of
 from life_tools.formats import Wrong, demand
+from life_tools.printed_fronts import Printed
 from life_tools.progress import Progress
 from life_tools.rules import Book, Policy, Refusal, Upgraded, decide
 from life_tools.script_lines import Line, lanes_of
@@ -182,10 +184,11 @@ class Search:
         raise NoRun(f"no run of this script leaves this journal: nobody can have posted "
                     f"{','.join(words_of(self.history.record(record)))}, which is command {record + 1} of the run")
 
-    def run(self) -> Stands:
-        """The first way to deal all records out, depth first; where a choice was come to before, it isn't made again."""
-        stands: Stands = {lane: (0, 0) for lane in self.lanes}
-        record = farthest = steps = 0
+    def run(self, answered: dict[int, int], record: int) -> Stands:
+        """The first way to deal the records from one on out, depth first, where so many rows of each lane are answered
+        before; where a choice was come to before, it isn't made again."""
+        stands: Stands = {lane: (answered.get(lane, 0), record) for lane in self.lanes}
+        farthest, steps = record, 0
         progress = Progress("dealing the records out", self.history.records)
         while record < self.history.records:
             steps += 1
@@ -203,8 +206,21 @@ class Search:
         return stands
 
 
-def rest_of(lines: list[Line], history: History) -> dict[int, list[Line]]:
-    """Of each lane the rows that are to be run."""
-    lanes = lanes_of(lines)
-    stands = Search(lanes, history).run()
+def demand_records(printed: Printed, history: History) -> None:
+    """Demands that the run's records begin with what is printed as accepted."""
+    for place, command in enumerate(printed.accepted):
+        if place >= history.records or history.record(place) != command:
+            raise NoRun(f"{','.join(words_of(command))} is printed as accepted, and isn't command {place + 1} of the run")
+
+
+def dealt_by(printed: Printed, history: History) -> int:
+    """How many of the run's records are those of printed lines: a faulted line's is there, if at all, behind all others."""
+    count = len(printed.accepted)
+    return count + (history.records == count + 1 and history.record(count) in printed.in_doubt)
+
+
+def rest_of(lines: list[Line], history: History, printed: Printed | None = None) -> dict[int, list[Line]]:
+    """Of each lane the rows that are to be run, behind those that are printed as answered."""
+    lanes, printed = lanes_of(lines), printed or Printed()
+    stands = Search(lanes, history).run(printed.answered, dealt_by(printed, history))
     return {lane: lanes[lane][answered:] for lane, (answered, _) in stands.items()}

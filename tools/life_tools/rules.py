@@ -1,6 +1,6 @@
 """The rules of policies, in one place: what a command makes of a policy, or why it is refused; the book; the accounts.
 
-Written from docs/DEFINITIONS.md ("The rules") and docs/FORMATS.md alone. A change of a rule is made here, and nowhere
+Written from docs/PROOF.md ("The rules") and docs/FORMATS.md alone. A change of a rule is made here, and nowhere
 else in Python.
 """
 from __future__ import annotations

@@ -6,10 +6,10 @@ from typing import Callable, Iterator
 
 from life_tools.commands import Command
 from life_tools.formats import money
-from life_tools.rules import Book, Policy, Refusal
+from life_tools.rules import Book, Policy, Refusal, due_of, end_of
 from life_tools.script_lines import Line
 
-# a posting lies at most so far from the newest one of its policy, unless it is warned of
+# a posting lies at most so far from what came before it, unless it is warned of
 FAR = datetime.timedelta(400)
 
 
@@ -50,10 +50,24 @@ def is_near(desk: Desk, line: Line, command: Command, policy: Policy | None) -> 
         return
     if command.day > desk.today:
         yield f"the day is behind today, which is {desk.today}"
-    if policy is not None and command.kind != "issue" and abs(command.day - policy.last) > FAR:
-        days = abs((command.day - policy.last).days)
-        where = "behind" if command.day > policy.last else "before"
-        yield f"the day is {days} days {where} the policy's newest posting, which is of {policy.last}"
+    if policy is None or command.kind == "issue":
+        return
+    before, what = came_before(command, policy)
+    if abs(command.day - before) > FAR:
+        days = abs((command.day - before).days)
+        yield f"the day is {days} days {'behind' if command.day > before else 'before'} {what} {before}"
+
+
+def came_before(command: Command, policy: Policy) -> tuple[datetime.date, str]:
+    """The day from which a posting's distance is counted. A policy that no premium is awaited of stays without a posting for
+    years, and then matures at its end; a claim on it may come on any day up to there."""
+    assert command.day
+    end = end_of(policy)
+    if command.kind == "mature" and policy.last < end:
+        return end, "the end of the policy's term,"
+    if command.kind == "claim" and due_of(policy) is None and policy.last < command.day < end:
+        return command.day, ""
+    return policy.last, "the policy's newest posting, which is of"
 
 
 def is_in_order(desk: Desk, line: Line, command: Command, policy: Policy | None) -> Iterator[str]:

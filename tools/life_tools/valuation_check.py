@@ -5,7 +5,7 @@ import datetime
 from fractions import Fraction
 from typing import Sequence
 
-from life_tools.formats import day_in, demand, measure_of, money, printed_cents
+from life_tools.formats import Wrong, day_in, demand, measure_of, money, printed_cents
 from life_tools.reserves import Known, minimum_worth, worth
 from life_tools.rules import Policy
 from life_tools.tables import BasisRow
@@ -68,16 +68,36 @@ def check_row(row: list[str], policy: Policy, basis: Sequence[BasisRow], on: dat
     return bounds
 
 
+def demand_policies(head: list[str], policies: Sequence[Policy]) -> None:
+    """Demands that a first line tells the number of policies."""
+    demand(head[4] == str(len(policies)), f"{','.join(head)}: there are {len(policies)} policies")
+
+
 def check_block(rows: list[list[str]], policies: Sequence[Policy], basis: Sequence[BasisRow], known: Known,
                 measure: str = "terminal") -> None:
     """Checks the lines of a valuation by a measure, by the policies at its position."""
     head, *middle, total = rows
     demand(measure_of(head) == measure, f"{','.join(head)} isn't of the measure {measure}")
-    is_whole = head[4] == str(len(policies)) and len(middle) == len(policies)
-    demand(is_whole, f"{','.join(head)}: there are {len(policies)} policies")
+    demand_policies(head, policies)
+    demand(len(middle) == len(policies), f"there are {len(policies)} policies, and {len(middle)} rows before the last line")
     on, totals = day_in(head[2]), Totals(measure)
     for row, policy in zip(middle, policies):
         bounds = check_row(row, policy, basis, on, measure, known)
         totals.words += not bounds
         totals.add(bounds or [0] * 4)
     demand(total == totals.line(), f"{','.join(total)} isn't {','.join(totals.line())}")
+
+
+def check_sample(lines: list[list[str]], policies: Sequence[Policy], basis: Sequence[BasisRow], measure: str) -> int:
+    """Checks some rows of a valuation, in any order, behind its first line; gives their number. A total is passed over."""
+    head, *rest = lines
+    rows = [row for row in rest if row[0] != "total"]
+    demand_policies(head, policies)
+    left = {str(policy.number): policy for policy in policies}
+    known: Known = {}
+    for row in rows:
+        policy = left.pop(row[1], None) if len(row) > 1 else None
+        if policy is None:
+            raise Wrong(f"{','.join(row)}: no policy has this number, or its row stood above")
+        check_row(row, policy, basis, day_in(head[2]), measure, known)
+    return len(rows)

@@ -11,7 +11,7 @@ ghost use Rattle.basis_book.specs.inside.Judged.{Judged};
 ghost use Rattle.basis_book.specs.inside.Starting.{StandsAtStart};
 
 use crate::fault::BasisFault;
-use crate::fields::Fields;
+use crate::fields::BasisFields;
 use crate::reading::Reading;
 use crate::row::BasisRows;
 use csv::{ByteRecord, Error, Reader, ReaderBuilder};
@@ -45,13 +45,13 @@ fn read_rows(alloc: Global, bytes: &[u8]) -> Result<BasisRows, BasisFault>
     }
 }
 
-fn three_fields(row: &ByteRecord) -> Option<Fields<'_>>
+fn three_fields(row: &ByteRecord) -> Option<BasisFields<'_>>
     ensures { AreThree (fields_of row.now) result }
 {
     if row.len() != 3 {
         return None;
     }
-    Some(Fields {
+    Some(BasisFields {
         day: row.get(0)?,
         table: row.get(1)?,
         points: row.get(2)?,

@@ -7,7 +7,7 @@ ghost use Rattle.basis_book.specs.inside.Fields.{AreThree, list_of};
 ghost use Rattle.basis_book.specs.inside.Judged.{Judged};
 
 use crate::fault::BasisFault;
-use crate::fields::Fields;
+use crate::fields::BasisFields;
 use crate::name::Name;
 use crate::points::points_of;
 use crate::reading::Reading;
@@ -20,7 +20,7 @@ use std::alloc::Global;
 const MOST_ROWS: u32 = 1_000;
 
 /// The basis row that three fields spell.
-fn row_of(alloc: Global, fields: &Fields) -> Result<Option<BasisRow>, NoMemory>
+fn row_of(alloc: Global, fields: &BasisFields) -> Result<Option<BasisRow>, NoMemory>
     ensures { IfOk result (λ found.
         MatchOption found ((row : ARow) → IsRow (list_of fields.now) row → ⊥) (IsRow (list_of fields.now))) }
 {
@@ -30,15 +30,14 @@ fn row_of(alloc: Global, fields: &Fields) -> Result<Option<BasisRow>, NoMemory>
     let Some(bp) = points_of(fields.points) else {
         return Ok(None);
     };
-    match Name::of(alloc, fields.table) {
-        Ok(Some(table)) => Ok(Some(BasisRow {
-            from_day,
-            table,
-            bp,
-        })),
-        Ok(None) => Ok(None),
-        Err(NoMemory) => Err(NoMemory),
-    }
+    let Some(table) = Name::of(alloc, fields.table)? else {
+        return Ok(None);
+    };
+    Ok(Some(BasisRow {
+        from_day,
+        table,
+        bp,
+    }))
 }
 
 /// Whether the day of the next row is after that of the last.
@@ -56,7 +55,7 @@ fn judge(
     alloc: Global,
     found: &mut Vec<BasisRow>,
     number: u32,
-    fields: Option<Fields>,
+    fields: Option<BasisFields>,
 ) -> Result<(), BasisFault>
     ensures { (rows : List (List (List ℕ))) (row : List (List ℕ))
         → AreThree row fields.entry → AreRows rows found.old.items
@@ -94,7 +93,7 @@ impl Reading {
     }
 
     /// Takes the next row.
-    pub fn add(&mut self, alloc: Global, fields: Option<Fields>) -> Result<(), NoMemory>
+    pub fn add(&mut self, alloc: Global, fields: Option<BasisFields>) -> Result<(), NoMemory>
         ensures { (rows : List (List (List ℕ))) (row : List (List ℕ))
             → AreThree row fields.entry → Judged rows self.old
             → OnOk result (Judged (rows ++ row ∷ []) self.new) }

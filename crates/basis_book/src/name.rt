@@ -56,10 +56,8 @@ impl Name {
         let Ok(text) = str::from_utf8(bytes) else {
             unreachable!();
         };
-        match String::from_str(alloc, text) {
-            Ok(text) => Ok(Some(Name { text })),
-            Err(_) => Err(NoMemory),
-        }
+        let text = String::from_str(alloc, text)?;
+        Ok(Some(Name { text }))
     }
 
     pub fn text(&self) -> &str

@@ -5,6 +5,7 @@ use Rattle.basis_shelf.specs.declared.fault.BadBasis.{BadBasis}
 use Rattle.basis_shelf.specs.declared.fault.BasisWord.{BasisWord}
 use Rattle.basis_shelf.specs.declared.fault.BasisWord.TheVariants.{Absent, TooLong, BadRow, NotRising, TooManyRows, NotDocument, NoTable, Scaled, BadAge, AgeGap, BadRate, BadDuration, NoUltimate, UltimateGap}
 
+-- the word for what is wrong with a file
 abbrev pub basis_word : BasisWord → List ℕ
 basis_word Absent = codes "absent"
 basis_word TooLong = codes "toolong"

@@ -16,7 +16,7 @@ use Rattle.cash_projection.specs.Policies.{nothing_ahead, prospect_of, charged, 
 use Rattle.cash_projection.specs.inside.Paths.{rates_after, alive_pair, dying_pair, IsSurvivalPath}
 use Rattle.cash_projection.specs.inside.Tallies.{Fits, HasAdded, HasGained, HasRisen, IsIdle, sum_at}
 use Rattle.cash_projection.specs.declared.column.Sums.{Sums}
-use Rattle.cash_projection.specs.declared.path.Path.{Path}
+use Rattle.cash_projection.specs.declared.path.SurvivalPath.{SurvivalPath}
 use Rattle.cash_projection.specs.declared.tally.Tally.{Tally}
 use Rattle.cash_projection.proofs.Survivors.{alive_lo_most, alive_hi_most, dying_lo_most, dying_hi_most}
 use Rattle.cash_projection.proofs.Dues.{due_cases, due_same, due_shifted, maturity_is}
@@ -126,7 +126,7 @@ column_gained years part p old new from to cents pairs risen lo hi = record {
 }
 
 -- along the path of the age, the facts that the code has of each column
-module _ (policy : Policy) (table : Rates) (shape : Shape) (t years : ℕ) (path : Path) (fits : Fits table shape) (year : t < shape.n)
+module _ (policy : Policy) (table : Rates) (shape : Shape) (t years : ℕ) (path : SurvivalPath) (fits : Fits table shape) (year : t < shape.n)
     (is : IsSurvivalPath table (shape.age + t) path) where
   alive_at : (j : ℕ) → t + j ≤ shape.n → pair_at path.alive j ≡ alive_pair (rates_after table (shape.age + t)) j
   alive_at j within = is.knows.alive j (omega (arith, is.whole, fits.last))

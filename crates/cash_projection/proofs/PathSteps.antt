@@ -11,7 +11,7 @@ use Rattle.select_rates.specs.Along.{table_along}
 use Rattle.basis_book.specs.Dated.{Dated}
 use Rattle.cash_projection.specs.Survival.{alive_by}
 use Rattle.cash_projection.specs.inside.Paths.{alive_pair, dying_pair, KnowsYears, AreRatesOf, IsSurvivalPath, IsPathAt, IsRightPath}
-use Rattle.cash_projection.specs.declared.path.Path.{Path}
+use Rattle.cash_projection.specs.declared.path.SurvivalPath.{SurvivalPath}
 use Rattle.cash_projection.specs.declared.path.PathKey.{PathKey}
 
 -- a part of a number, of what a division gives and of what it leaves
@@ -85,15 +85,15 @@ one_of basis key rates other row again =
     row.2 ∙ ap (λ (e : Dated). table_along e.table key.issue) same ∙ sym again.2
 
 -- a path by the rates of its key is right by them
-pub right_by_key : (basis : List Dated) (key : PathKey) (rates : Rates) (path : Path) → path.key ≡ key → AreRatesOf basis key rates → IsSurvivalPath rates key.age path
+pub right_by_key : (basis : List Dated) (key : PathKey) (rates : Rates) (path : SurvivalPath) → path.key ≡ key → AreRatesOf basis key rates → IsSurvivalPath rates key.age path
     → IsRightPath basis path
 right_by_key basis key rates path of row is young other again =
     let same = one_of basis key rates other row (rw of at again) in
     subst (λ (r : Rates). IsSurvivalPath r path.key.age path) same (subst (λ (k : PathKey). IsSurvivalPath rates k.age path) (sym of) is)
 
 -- the path that is kept at a place, or put there
-pub kept_here : (basis : List Dated) (key : PathKey) (rates : Rates) (kept : List Path) (place : ℕ) → All (IsRightPath basis) kept → place < length kept
-    → key.age ≤ 130 → AreRatesOf basis key rates → ((none : Path) → (slice_index_or kept place none).key ≡ key) → IsPathAt rates key.age kept place
+pub kept_here : (basis : List Dated) (key : PathKey) (rates : Rates) (kept : List SurvivalPath) (place : ℕ) → All (IsRightPath basis) kept → place < length kept
+    → key.age ≤ 130 → AreRatesOf basis key rates → ((none : SurvivalPath) → (slice_index_or kept place none).key ≡ key) → IsPathAt rates key.age kept place
 kept_here basis key rates kept place all within young row of = record {
   within = within;
   here = λ none.
@@ -102,7 +102,7 @@ kept_here basis key rates kept place all within young row of = record {
       rw is at (all place none within old rates (rw is row));
 }
 
-pub put_here : (rates : Rates) (age : ℕ) (kept : List Path) (place : ℕ) (path : Path) → place < length kept → IsSurvivalPath rates age path
+pub put_here : (rates : Rates) (age : ℕ) (kept : List SurvivalPath) (place : ℕ) (path : SurvivalPath) → place < length kept → IsSurvivalPath rates age path
     → IsPathAt rates age (slice_set kept place path) place
 put_here rates age kept place path within is = record {
   within = rw (length-set kept place path) within;

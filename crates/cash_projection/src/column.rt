@@ -15,16 +15,16 @@ pub struct Sums {
 
 /// The sums of each year from the current one on.
 #[derive(Clone, Copy)]
-pub struct Column {
+pub struct YearSums {
     pub sums: [Sums; 131],
 }
 
-impl Column {
-    pub fn new() -> Column
+impl YearSums {
+    pub fn new() -> YearSums
         ensures places { length result.sums ≡ 131 }
         ensures none { (j : ℕ) → ((sum_at result.sums j).lo ≡ 0) × ((sum_at result.sums j).hi ≡ 0) }
     {
-        Column {
+        YearSums {
             sums: [Sums { lo: 0, hi: 0 }; 131],
         }
     }
@@ -49,7 +49,7 @@ impl Column {
     }
 
     /// Adds the sums of another column in so many years.
-    pub fn join(&mut self, other: &Column, years: usize)
+    pub fn join(&mut self, other: &YearSums, years: usize)
         requires years { years ≤ 131 }
         requires room { IsRoomy years self.old.sums }
         requires other { IsRoomy years other.now.sums }

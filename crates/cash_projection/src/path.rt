@@ -28,7 +28,7 @@ pub struct PathKey {
 /// The part of those of an age who are alive after so many years, and the part who die in the year behind it, to the end
 /// of the table, in units of 10^-16. A place after the end has no meaning.
 #[derive(Clone, Copy)]
-pub struct Path {
+pub struct SurvivalPath {
     pub key: PathKey,
     pub alive: [Pair; 132],
     pub dying: [Pair; 132],
@@ -44,12 +44,12 @@ impl PathKey {
     }
 }
 
-impl Path {
+impl SurvivalPath {
     /// A path of no age.
-    pub fn none() -> Path
+    pub fn none() -> SurvivalPath
         ensures { result.key.age ≡ 255 }
     {
-        Path {
+        SurvivalPath {
             key: PathKey {
                 row: 0,
                 issue: 0,
@@ -69,7 +69,7 @@ impl Path {
     }
 
     /// The path of a key by its rates, which hold its age.
-    pub fn of(key: PathKey, table: &RateTable) -> Path
+    pub fn of(key: PathKey, table: &RateTable) -> SurvivalPath
         requires { HoldsAge table.now key.age }
         ensures key { result.key ≡ key }
         ensures path { IsSurvivalPath table.now key.age result }
@@ -85,7 +85,7 @@ impl Path {
             dying[j] = part_of(now, *rate);
             alive[j + 1] = part_of(now, 1_000_000_000 - *rate);
         }
-        Path { key, alive, dying }
+        SurvivalPath { key, alive, dying }
     }
 }
 

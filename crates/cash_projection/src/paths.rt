@@ -3,9 +3,9 @@ ghost use Rattle.std.specs.Prelude.{◌≡◌, ◌≤◌, ◌<◌, IfOk, List, l
 ghost use Rattle.rate_table.specs.Rates.{HoldsAge};
 ghost use Rattle.basis_book.specs.Dated.{Dated};
 ghost use Rattle.cash_projection.specs.inside.Paths.{ArePaths, AreRatesOf, IsPathKept, IsPathAt, path_slot};
-ghost use Rattle.cash_projection.specs.declared.path.Path.{Path as APath};
+ghost use Rattle.cash_projection.specs.declared.path.SurvivalPath.{SurvivalPath as APath};
 
-use crate::path::{Path, PathKey};
+use crate::path::{PathKey, SurvivalPath};
 use basis_book::Basis;
 use policy_types::NoMemory;
 use rate_table::RateTable;
@@ -15,7 +15,7 @@ use std::alloc::Global;
 /// year that have the age by the same table.
 #[derive(Drop)]
 pub struct Paths {
-    kept: Vec<Path>,
+    kept: Vec<SurvivalPath>,
 }
 
 impl Paths {
@@ -24,10 +24,8 @@ impl Paths {
         requires { 1 ≤ most }
         ensures { IfOk result (λ paths. (basis : List Dated) → ArePaths basis paths) }
     {
-        match Vec::from_elem(alloc, Path::none(), most as usize) {
-            Ok(kept) => Ok(Paths { kept }),
-            Err(_) => Err(NoMemory),
-        }
+        let kept = Vec::from_elem(alloc, SurvivalPath::none(), most as usize)?;
+        Ok(Paths { kept })
     }
 
     /// Where the path of a key lies, by the rates of its row of the basis.
@@ -45,12 +43,12 @@ impl Paths {
         if self.kept[place].key.is(key) {
             return place;
         }
-        self.kept[place] = Path::of(key, rates);
+        self.kept[place] = SurvivalPath::of(key, rates);
         place
     }
 
     /// The path at a place.
-    pub fn at(&self, place: usize) -> &Path
+    pub fn at(&self, place: usize) -> &SurvivalPath
         requires { place < length self.now.kept.items }
         ensures { (none : APath) → result.now ≡ slice_index_or self.now.kept.items place none }
     {

@@ -21,7 +21,7 @@ pub fn portions_of<'a>(
     ensures { IfOk result (λ portions. policies_of_portions portions.items ≡ policies.now) }
 {
     let size = policies.len() / many;
-    let mut portions = Vec::with_capacity(alloc, many).map_err(|_| NoMemory)?;
+    let mut portions = Vec::with_capacity(alloc, many)?;
     let mut rest = policies;
     for _ in 0..many - 1 {
         let (front, back) = rest.split_at(size.min(rest.len()));

@@ -1,6 +1,7 @@
 // The projection of a list of policies.
 ghost use Rattle.std.specs.Prelude.{◌≤◌, All, IfOk, length};
 ghost use Rattle.std.specs.List.{AllByRecursion};
+ghost use Rattle.policy_types.specs.Limits.{most_commands};
 ghost use Rattle.cash_projection.specs.Policies.{IsCashOf, IsOfIssue};
 ghost use Rattle.cash_projection.specs.Text.{IsTellable};
 ghost use Rattle.cash_projection.specs.inside.Paths.{ArePaths};
@@ -26,7 +27,7 @@ pub fn project_policies(
     years: u8,
 ) -> Result<(Years, u32), NoMemory>
     requires sound { AllByRecursion IsOfIssue policies.now }
-    requires few { length policies.now ≤ 4000000 }
+    requires few { length policies.now ≤ most_commands }
     requires years { years ≤ 131 }
     ensures cash { IfOk result (λ r. IsCashOf basis.now on policies.now years r.1 r.0) }
     ensures tellable { IfOk result (λ r. All IsTellable r.0) }
@@ -45,7 +46,7 @@ pub fn tally_policies(
     paths: &mut Paths,
 ) -> Tally
     requires sound { AllByRecursion IsOfIssue policies.now }
-    requires few { length policies.now ≤ 4000000 }
+    requires few { length policies.now ≤ most_commands }
     requires years { years ≤ 131 }
     requires right { ArePaths basis.now paths.old }
     ensures tally { IsTallyOf basis.now on years policies.now result }

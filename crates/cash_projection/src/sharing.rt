@@ -2,12 +2,13 @@
 ghost use Rattle.std.specs.Prelude.{◌≡◌, ◌≤◌, ◌+◌, ◌*◌, IfOk, length, ℤ, List};
 ghost use Rattle.std.specs.List.{AllByRecursion};
 ghost use Rattle.basis_book.specs.Dated.{Dated};
+ghost use Rattle.policy_types.specs.Limits.{most_commands};
 ghost use Rattle.cash_projection.specs.Policies.{IsOfIssue};
 ghost use Rattle.cash_projection.specs.inside.Portions.{AreTallies, AreTalliesOfFew, IsProjectorFor, policies_of_portions};
 ghost use Rattle.cash_projection.specs.inside.Tallies.{IsTallyOf};
 ghost use Rattle.cash_projection.specs.declared.portions.Portion.{Portion as APortion};
 
-use crate::path::Path;
+use crate::path::SurvivalPath;
 use crate::paths::Paths;
 use crate::portions::{Portion, portions_of};
 use crate::projector::Projector;
@@ -32,9 +33,9 @@ const PATHS_FOR_A_TALLY: usize = 3;
 const MOST_WORKERS: u8 = 60;
 
 // So it stays below 1 MiB, with 32 KiB for all else.
-const _: () = prove!(PATHS_TOGETHER * size_of::<Path>() <= 1_015_808);
+const _: () = prove!(PATHS_TOGETHER * size_of::<SurvivalPath>() <= 1_015_808);
 
-const _: () = prove!(size_of::<Tally>() <= PATHS_FOR_A_TALLY * size_of::<Path>());
+const _: () = prove!(size_of::<Tally>() <= PATHS_FOR_A_TALLY * size_of::<SurvivalPath>());
 
 /// The tally of policies on a day, in days since 1970-01-01, by as many workers as are asked for, or fewer where each
 /// would have too few policies or no room to keep a path. It is the same for any number of them.
@@ -48,7 +49,7 @@ pub fn tally_in<R: Threads + Sync>(
     workers: u8,
 ) -> Result<Tally, NoMemory>
     requires sound { AllByRecursion IsOfIssue policies.now }
-    requires few { length policies.now ≤ 4000000 }
+    requires few { length policies.now ≤ most_commands }
     requires years { years ≤ 131 }
     requires workers { (1 ≤ workers) × (workers ≤ 64) }
     ensures { IfOk result (λ tally. IsTallyOf basis.now on years policies.now tally) }
@@ -57,9 +58,7 @@ pub fn tally_in<R: Threads + Sync>(
     let many = (policies.len() / POLICIES_TO_A_WORKER).clamp(1, most);
     let mut projectors = projectors_for(alloc, basis, on, years, many)?;
     let portions = portions_of(alloc, policies, many)?;
-    let mut tallies = Vec::from_elem(alloc, Tally::new(years), portions.len()).map_err(
-        |_| NoMemory,
-    )?;
+    let mut tallies = Vec::from_elem(alloc, Tally::new(years), portions.len())?;
     let workers = projectors.as_mut_slice();
     Ok(tally_portions(
         rt,
@@ -83,7 +82,7 @@ fn projectors_for<'a>(
     ensures each { IfOk result (λ projectors. AllByRecursion (IsProjectorFor basis.now on years) projectors.items) }
 {
     let paths_kept = paths_of_a_worker(many);
-    let mut projectors = Vec::with_capacity(alloc, many).map_err(|_| NoMemory)?;
+    let mut projectors = Vec::with_capacity(alloc, many)?;
     for _ in 0..many {
         let paths = Paths::new(alloc, paths_kept)?;
         projectors.push_reserved(Projector {
@@ -118,7 +117,7 @@ fn tally_portions<R: Threads + Sync>(
     requires years { years ≤ 131 }
     requires each { (basis : List Dated) × ((on : ℤ) × AllByRecursion (IsProjectorFor basis on years) projectors.old) }
     requires sound { AllByRecursion IsOfIssue (policies_of_portions portions.now) }
-    requires few { length (policies_of_portions portions.now) ≤ 4000000 }
+    requires few { length (policies_of_portions portions.now) ≤ most_commands }
     ensures { (basis : List Dated) (on : ℤ) → AllByRecursion (IsProjectorFor basis on years) projectors.old
         → IsTallyOf basis on years (policies_of_portions portions.now) result }
 {

@@ -1,6 +1,7 @@
 // What a list of policies adds up to.
 ghost use Rattle.std.specs.Prelude.{◌≡◌, ◌≤◌, ◌<◌, ◌≤ℤ◌, ◌↔◌, ◌+◌, ◌-◌, ◌++◌, if◌then◌else◌, ℕ, ℤ, [], List, IsTrue, IfOk};
 ghost use Rattle.basis_book.specs.Dated.{Dated};
+ghost use Rattle.policy_types.specs.Limits.{most_commands};
 ghost use Rattle.policy_types.specs.declared.policy.Policy.{Policy as APolicy};
 ghost use Rattle.policy_value.specs.Rows.{IsInsured};
 ghost use Rattle.select_rates.specs.Along.{IsBelow, table_along};
@@ -10,8 +11,8 @@ ghost use Rattle.cash_projection.specs.Policies.{IsCashOf, IsOfIssue, charged, p
 ghost use Rattle.cash_projection.specs.inside.Paths.{ArePaths, IsSurvivalPath, IsTableOfRow};
 ghost use Rattle.cash_projection.specs.inside.Tallies.{Fits, HasAdded, TakesOneMore, HasCounted, HasCountedBy, IsIdle, IsSized, IsTallyOf};
 
-use crate::column::Column;
-use crate::path::{Path, PathKey};
+use crate::column::YearSums;
+use crate::path::{PathKey, SurvivalPath};
 use crate::paths::Paths;
 use crate::years::{Year, Years};
 use basis_book::Basis;
@@ -30,9 +31,9 @@ pub struct Tally {
     pub policies: u32,
     /// Those with a word why they have no value.
     pub unvalued: u32,
-    pub premium: Column,
-    pub death: Column,
-    pub maturity: Column,
+    pub premium: YearSums,
+    pub death: YearSums,
+    pub maturity: YearSums,
 }
 
 impl Tally {
@@ -40,9 +41,9 @@ impl Tally {
     pub fn new(years: u8) -> Tally
         ensures { (basis : List Dated) (on : ℤ) → IsTallyOf basis on years [] result }
     {
-        let premium = Column::new();
-        let death = Column::new();
-        let maturity = Column::new();
+        let premium = YearSums::new();
+        let death = YearSums::new();
+        let maturity = YearSums::new();
         Tally {
             years,
             policies: 0,
@@ -150,7 +151,14 @@ impl Tally {
     }
 
     /// Adds what a policy pays and is paid along the path of its age.
-    fn add_path(&mut self, policy: &Policy, rates: &RateTable, path: &Path, shape: &Shape, t: u8)
+    fn add_path(
+        &mut self,
+        policy: &Policy,
+        rates: &RateTable,
+        path: &SurvivalPath,
+        shape: &Shape,
+        t: u8,
+    )
         requires sound { IsOfIssue policy.now }
         requires room { TakesOneMore self.old }
         requires fits { Fits rates.now shape.now }
@@ -183,7 +191,7 @@ impl Tally {
     /// Adds the sums of policies behind these.
     pub fn join(&mut self, other: &Tally)
         requires years { (self.old.years ≡ other.now.years) × (self.old.years ≤ 131) }
-        requires few { self.old.policies + other.now.policies ≤ 4000000 }
+        requires few { self.old.policies + other.now.policies ≤ most_commands }
         requires ours { IsSized self.old }
         requires theirs { IsSized other.now }
         ensures { (basis : List Dated) (on : ℤ) (ps qs : List APolicy) → IsTallyOf basis on self.old.years ps self.old

@@ -1,5 +1,4 @@
 pub mod BookEntries
-pub mod Bookings
 pub mod Taking
 pub mod Numbers
 pub mod Parts

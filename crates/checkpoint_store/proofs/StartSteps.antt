@@ -1,6 +1,15 @@
 -- From where records are decided, and what stands there.
-use Rattle.std.proofs.Common.{◌≡◌, ℕ, ◌≤◌, List, [], length, take, append-nil, refl, sym, ap, ◌∙◌, subst, Result, Ok, Err, IfOk, IfErr, OnOk}
-use Rattle.std.proofs.lemmas.List.{take_at}
+use Rattle.std.proofs.Common.{◌≡◌, ℕ, ◌≤◌, List, [], length, take, sym, ap, ◌∙◌, subst, None, Result, Ok, Err, IfOk, IfErr, OnOk, arith}
+use Rattle.outside_io.specs.declared.disks.Disk.{Ghosts}
+use Rattle.policy_machine.specs.Book.{judge}
+use Rattle.policy_types.specs.declared.command.Command.{Command}
+use Rattle.posting_journal.specs.States.{StandsFor, count_of}
+use Rattle.posting_journal.specs.declared.journal.Journal.{Journal}
+use Rattle.journal_replay.specs.Keeping.{AreKept}
+use Rattle.journal_replay.specs.Replays.{Replays, Stops, bodies_of}
+use Rattle.journal_replay.specs.declared.replaying.ReplayFault.{ReplayFault}
+use Rattle.journal_replay.specs.declared.replaying.ReplayFault.TheVariants as replay
+use Rattle.journal_replay.proofs.ReplaySteps.{all_replayed}
 use Rattle.checkpoint_store.specs.declared.faults.ReopenFault.{ReopenFault}
 use Rattle.checkpoint_store.specs.declared.faults.ReopenFault.TheVariants.{DiskFault, BadRecord, NoMemory}
 use Rattle.checkpoint_store.specs.declared.front.Front.{Front}
@@ -9,7 +18,7 @@ use Rattle.checkpoint_store.specs.declared.snapshot.Snapshot.{Snapshot}
 use Rattle.checkpoint_store.specs.Checkpoints.{CheckpointBytes}
 use Rattle.checkpoint_store.specs.Reopening.{IsReopened, IsSnapshotOfAll, IsSnapshotOfFront, IsStartOf}
 use Rattle.checkpoint_store.specs.inside.Numbered.{AreBooksOf, as_snapshot}
-use Rattle.checkpoint_store.specs.inside.Replaying.{HasStoreCause, IsFaultFrom}
+use Rattle.checkpoint_store.specs.inside.Reading.{HasStoreCause, as_reopen_fault}
 use Rattle.checkpoint_store.proofs.InStore.{checkpoint_parts, front_for, front_range}
 use Rattle.checkpoint_store.proofs.Reading.{front_read}
 
@@ -50,23 +59,53 @@ not_begun file bodies before now (DiskFault count) cause = tt
 not_begun file bodies before now (BadRecord n) cause = absurd cause
 not_begun file bodies before now NoMemory cause = tt
 
-pub fault_shown : (file : List ℕ) (bodies : List (List ℕ)) (start : ℕ) (fault : ReopenFault) → IsStartOf file (length bodies) start → IsFaultFrom bodies start fault
-    → IsReopened file bodies (Err fault)
-fault_shown file bodies start (DiskFault count) begun shown = tt
-fault_shown file bodies start (BadRecord n) begun shown = record { start = start; begun = begun; from = shown.0; bad = shown.1 }
-fault_shown file bodies start NoMemory begun shown = tt
+-- the records from the books' position on, where the books are those of the front
+module _ {D : Type 0} {g : Ghosts D} (journal : Journal D g) (now : D) (bodies : List (List ℕ)) (last : List ℕ) (honest : g.honest now)
+    (stands : StandsFor journal bodies last) (before : NumberedBooks) (front : IsSnapshotOfFront bodies (as_snapshot before)) where
+  abbrev commands : List Command
+  commands = front.commands
 
--- where it succeeds the snapshot is that of all bodies
-pub all_of_front : (bodies : List (List ℕ)) (s : Snapshot) → s.position ≡ length bodies → IsSnapshotOfFront bodies s → IsSnapshotOfAll bodies s
-all_of_front bodies s whole front =
-    let all : take (length bodies) bodies ≡ bodies = ap (λ (l : List (List ℕ)). take (length bodies) l) (sym (append-nil bodies)) ∙ take_at bodies [] (length bodies) refl in
-    record {
-      commands = front.commands;
-      spelled = sym all ∙ ap (λ n. take n bodies) (sym whole) ∙ front.spelled;
-      valid = front.valid;
-      accepted = front.accepted;
-      snapshot = front.snapshot;
-    }
+  -- the front is theirs
+  pub front_books : AreBooksOf commands before
+  front_books = record { valid = front.valid; accepted = front.accepted; snapshot = front.snapshot }
+
+  first : take (length commands) bodies ≡ bodies_of commands
+  first = ap (λ n. take n bodies) (sym front.snapshot.position) ∙ front.spelled
+
+  -- with all of them replayed the books are those of all bodies
+  pub all_reopened : (after : NumberedBooks) → Replays (λ commands. AreBooksOf commands after) journal now (count_of journal) commands
+      → IsSnapshotOfAll bodies (as_snapshot after)
+  all_reopened after all = record {
+    commands = all.later;
+    spelled = all_replayed (λ commands. AreBooksOf commands after) journal now commands all bodies last honest stands first;
+    valid = all.kept.valid;
+    accepted = all.kept.accepted;
+    snapshot = all.kept.snapshot;
+  }
+
+  -- what the bodies show of a fault
+  pub fault_shown : (file : List ℕ) (fault : ReplayFault) → IsStartOf file (length bodies) before.position
+      → Stops (AreKept (λ (books : NumberedBooks) commands. AreBooksOf commands books)) (λ commands command. judge commands command ≡ None) journal now commands fault
+      → IsReopened file bodies (Err (as_reopen_fault fault))
+  fault_shown file (replay.DiskFault count) begun stops = tt
+  fault_shown file (replay.BadRecord n) begun stops =
+      let at = stops.1 bodies last honest stands first in
+      let of : AreBooksOf at.commands at.kept.0 = at.kept.1 in
+      record {
+        start = before.position;
+        begun = begun;
+        from = omega (arith, front.snapshot.position, stops.0);
+        bad = record {
+          commands = at.commands;
+          within = at.within;
+          counted = at.counted;
+          spelled = at.front;
+          valid = of.valid;
+          accepted = of.accepted;
+          none = at.none;
+        };
+      }
+  fault_shown file replay.NoMemory begun stops = tt
 
 pub all_shown : (file : List ℕ) (bodies : List (List ℕ)) (books : NumberedBooks) (result : Result Snapshot ReopenFault) → IfOk result (λ s. s ≡ as_snapshot books)
     → IfErr result (λ fault. fault ≡ NoMemory) → IsSnapshotOfAll bodies (as_snapshot books) → IsReopened file bodies result

@@ -10,7 +10,7 @@ use Rattle.policy_machine.specs.Rules.{IsSound, next}
 use Rattle.policy_machine.proofs.AcceptedLemmas.{next-own}
 use Rattle.policy_machine.proofs.BookLemmas.{IsAccepted-push, book-upgrade}
 use Rattle.policy_machine.proofs.JudgeLemmas.{accepted_upgrade, judged_none, judged_some, next-no_upgrade, upgrade_from-first, upgrade_from-other}
-use Rattle.policy_machine.proofs.LedgerLemmas.{AreWithin-wider, ledger_of-push, ledger_of-upgrade}
+use Rattle.policy_machine.proofs.LedgerLemmas.{AreWithin-wider, ledger_of-push, ledger_of-upgrade, within_added}
 use Rattle.policy_types.specs.Accounts.{AreWithin, added, booking_of}
 use Rattle.policy_types.specs.Limits.{most_commands}
 use Rattle.policy_types.specs.Valid.{IsValid, id_of, is_upgrade}
@@ -18,13 +18,13 @@ use Rattle.policy_types.specs.declared.command.Command.{Command}
 use Rattle.policy_types.specs.declared.command.Command.TheVariants.{Upgrade}
 use Rattle.policy_types.specs.declared.policy.Policy.{Policy}
 use Rattle.policy_types.specs.declared.refusal.Refusal.{Refusal}
+use Rattle.journal_replay.specs.Keeping.{IsUnkept}
+use Rattle.journal_replay.specs.declared.keeper.Unkept.{Unkept}
+use Rattle.journal_replay.specs.declared.keeper.Unkept.TheVariants.{NoMemory}
 use Rattle.checkpoint_store.specs.declared.numbered.NumberedBooks.{NumberedBooks}
-use Rattle.checkpoint_store.specs.declared.numbered.Untaken.{Untaken}
-use Rattle.checkpoint_store.specs.declared.numbered.Untaken.TheVariants.{NoMemory}
 use Rattle.checkpoint_store.specs.inside.Books.{AreKeyed, Entries, numbered_policies}
-use Rattle.checkpoint_store.specs.inside.Numbered.{AreBooksOf, AreSoundBooks, HasSetPolicy, IsUntaken}
+use Rattle.checkpoint_store.specs.inside.Numbered.{AreBooksOf, AreSoundBooks, HasSetPolicy}
 use Rattle.checkpoint_store.proofs.BookEntries.{book_lookup, book_more, insert_few, insert_keyed, insert_sound, keyed_ids}
-use Rattle.checkpoint_store.proofs.Bookings.{within_added}
 
 pub look_own : (k : ℕ) (es : Entries) → AreKeyed es → IfSome (lookup (nat_eq k) es) (λ (p : Policy). p.id ≡ k)
 look_own k [] keyed = tt
@@ -170,7 +170,7 @@ pub on_map : {T E : Type 0} (r : Result T E) (P Q : Type 0) → (P → Q) → On
 on_map (Ok x) P Q more has = more has
 on_map (Err e) P Q more has = tt
 
-pub taken_or : {T : Type 0} (r : Result T Untaken) (commands : List Command) (command : Command) (P : Type 0) → OnOk r P → IfErr r (λ why. why ≡ NoMemory)
-    → MatchResult r (λ u. P) (λ why. IsUntaken commands command why)
-taken_or (Ok x) commands command P has none = has
-taken_or (Err e) commands command P has none = subst (IsUntaken commands command) (sym none) tt
+pub kept_or : {T : Type 0} (r : Result T Unkept) (commands : List Command) (command : Command) (P : Type 0) → OnOk r P → IfErr r (λ why. why ≡ NoMemory)
+    → MatchResult r (λ u. P) (λ why. IsUnkept (λ before next. judge before next ≡ None) commands command why)
+kept_or (Ok x) commands command P has none = has
+kept_or (Err e) commands command P has none = subst (IsUnkept (λ before next. judge before next ≡ None) commands command) (sym none) tt

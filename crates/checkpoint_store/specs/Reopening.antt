@@ -7,8 +7,6 @@ use Rattle.policy_machine.specs.Book.{IsAccepted, judge}
 use Rattle.policy_types.specs.declared.command.Command.{Command}
 use Rattle.policy_types.specs.Valid.{IsValid}
 use Rattle.posting_journal.specs.Runs.{LooksOn}
-use Rattle.posting_journal.specs.States.{StandsFor, count_of, disk_of, is_clean}
-use Rattle.posting_journal.specs.declared.journal.Journal.{Journal}
 use Rattle.record_codec.specs.Spelling.{spelling_of}
 use Rattle.checkpoint_store.specs.declared.faults.ReopenFault.{ReopenFault}
 use Rattle.checkpoint_store.specs.declared.faults.ReopenFault.TheVariants.{DiskFault, BadRecord, NoMemory}
@@ -91,15 +89,6 @@ HasCauseOfTwo before now first_before first_now (Err (DiskFault count)) =
 HasCauseOfTwo before now first_before first_now (Ok s) = (now ≡ before) × (first_now ≡ first_before)
 HasCauseOfTwo before now first_before first_now (Err (BadRecord n)) = (now ≡ before) × (first_now ≡ first_before)
 HasCauseOfTwo before now first_before first_now (Err NoMemory) = (now ≡ before) × (first_now ≡ first_before)
-
--- a journal that was only read is what it was
-pub record StandsAsBefore {D : Type 0} {g : Ghosts D} (old new : Journal D g) : Type 0 where
-  pub counted : count_of new ≡ count_of old
-  pub clean : is_clean new ≡ is_clean old
-  pub honesty : g.honest (disk_of new) → g.honest (disk_of old)
-  pub looks : g.honest (disk_of new) → LooksOn g (disk_of old) (disk_of new)
-  pub stands : (bodies : List (List ℕ)) (faulted : List ℕ) → g.honest (disk_of new) → StandsFor old bodies faulted
-      → StandsFor new bodies faulted
 
 -- a store that was only read is what it was
 pub record KeepsAsBefore {E : Type 0} {g : Ghosts E} (old new : Store E g) : Type 0 where

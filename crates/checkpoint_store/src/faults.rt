@@ -1,4 +1,8 @@
 // What the calls of the store answer where they fail.
+ghost use Rattle.std.specs.Prelude.{◌≡◌};
+ghost use Rattle.checkpoint_store.specs.inside.Reading.{as_reopen_fault};
+
+use journal_replay::ReplayFault;
 
 /// Why a store wasn't started: its disk failed. `count` is the disk's count of faults, which rose in the call.
 #[derive(Debug, Drop)]
@@ -14,4 +18,15 @@ pub enum ReopenFault {
     DiskFault(u64),
     BadRecord(u32),
     NoMemory,
+}
+
+/// The same fault.
+pub(crate) fn reopen_fault(fault: ReplayFault) -> ReopenFault
+    ensures { result ≡ as_reopen_fault fault }
+{
+    match fault {
+        ReplayFault::DiskFault(count) => ReopenFault::DiskFault(count),
+        ReplayFault::BadRecord(n) => ReopenFault::BadRecord(n),
+        ReplayFault::NoMemory => ReopenFault::NoMemory,
+    }
 }

@@ -1,15 +1,15 @@
 // The books by number, while records are decided anew.
-ghost use Rattle.std.specs.Prelude.{◌≡◌, ◌+◌, ◌<◌, ◌++◌, ◌∷◌, [], nat_eq, List, false, MatchResult, IfErr, IfOk, IfSome, OnOk};
+ghost use Rattle.std.specs.Prelude.{◌≡◌, ◌<◌, [], nat_eq, false, IfErr, IfOk, IfSome, OnOk};
 ghost use Rattle.std.specs.Map.{lookup};
-ghost use Rattle.policy_types.specs.declared.command.Command.{Command as ACommand};
 ghost use Rattle.policy_types.specs.Limits.{most_commands};
 ghost use Rattle.policy_types.specs.Valid.{IsValid, id_of, is_upgrade};
 ghost use Rattle.policy_machine.specs.Book.{judged};
 ghost use Rattle.policy_machine.specs.Rules.{IsSound};
-ghost use Rattle.checkpoint_store.specs.declared.numbered.Untaken.TheVariants.{NoMemory};
-ghost use Rattle.checkpoint_store.specs.inside.Numbered.{AreBooksOf, AreSoundBooks, HasSetPolicy, IsUntaken};
+ghost use Rattle.journal_replay.specs.declared.keeper.Unkept.TheVariants.{NoMemory};
+ghost use Rattle.checkpoint_store.specs.inside.Numbered.{AreBooksOf, AreSoundBooks, HasSetPolicy};
 
 use indexmap::IndexMap;
+use journal_replay::Unkept;
 use money_ledgers::Ledger;
 use policy_machine::judge;
 use policy_types::{Command, Policy, Refusal};
@@ -26,13 +26,6 @@ pub(crate) struct NumberedBooks {
     pub(crate) ledger: Ledger,
 }
 
-/// Why a command isn't taken.
-#[derive(Drop)]
-pub(crate) enum Untaken {
-    Refused,
-    NoMemory,
-}
-
 impl NumberedBooks {
     /// The books of no command. They take no memory yet.
     pub(crate) fn new(alloc: Global) -> NumberedBooks
@@ -47,32 +40,8 @@ impl NumberedBooks {
         }
     }
 
-    /// Takes one command more, where it is accepted.
-    pub(crate) fn take(&mut self, command: &Command) -> Result<(), Untaken>
-        requires valid { IsValid command.now }
-        requires sound { AreSoundBooks self.old }
-        requires few { self.old.position < most_commands }
-        ensures sound { OnOk result (AreSoundBooks self.new) }
-        ensures position { OnOk result (self.new.position ≡ self.old.position + 1) }
-        ensures taken { (commands : List ACommand) → AreBooksOf commands self.old → MatchResult result
-            (λ u. AreBooksOf (commands ++ command.now ∷ []) self.new)
-            (λ why. IsUntaken commands command.now why) }
-    {
-        let Ok(after) = self.judgement(command) else {
-            return Err(Untaken::Refused);
-        };
-        match after {
-            Some(policy) => self.set(command, policy),
-            None => {
-                self.position += 1;
-                self.upgrade = self.position;
-                Ok(())
-            }
-        }
-    }
-
-    // What the rules make of a command: the policy that it leaves, or none where it is an upgrade.
-    fn judgement(&self, command: &Command) -> Result<Option<Policy>, Refusal>
+    /// What the rules make of a command: the policy that it leaves, or none where it is an upgrade.
+    pub(crate) fn judgement(&self, command: &Command) -> Result<Option<Policy>, Refusal>
         requires valid { IsValid command.now }
         requires sound { AreSoundBooks self.now }
         ensures sound { IfOk result (λ left. IfSome left IsSound) }
@@ -82,8 +51,8 @@ impl NumberedBooks {
         judge(self.upgrade, policy, command)
     }
 
-    // Sets the policy that an accepted command left.
-    fn set(&mut self, command: &Command, policy: Policy) -> Result<(), Untaken>
+    /// Sets the policy that an accepted command left.
+    pub(crate) fn set(&mut self, command: &Command, policy: Policy) -> Result<(), Unkept>
         requires valid { IsValid command.now }
         requires sound { AreSoundBooks self.old }
         requires few { self.old.position < most_commands }
@@ -96,7 +65,7 @@ impl NumberedBooks {
         self.position += 1;
         match self.policies.insert(command.id(), policy) {
             Ok(_) => Ok(()),
-            Err(_) => Err(Untaken::NoMemory),
+            Err(_) => Err(Unkept::NoMemory),
         }
     }
 }

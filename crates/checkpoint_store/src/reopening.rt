@@ -1,18 +1,19 @@
 // A store and a journal are reopened.
 ghost use Rattle.std.specs.Prelude.{◌≡◌, ℕ, ◌≤◌, List, length, IfErr, IfOk, OnOk};
-ghost use Rattle.posting_journal.specs.Runs.{LooksOn};
 ghost use Rattle.posting_journal.specs.States.{StandsFor, count_of, disk_of};
+ghost use Rattle.journal_replay.specs.Replays.{StaysAs};
 ghost use Rattle.checkpoint_store.specs.Checkpoints.{IsSoundSnapshot};
-ghost use Rattle.checkpoint_store.specs.Reopening.{HasCauseOfTwo, IsReopened, IsSnapshotOfFront, IsStartOf, IsTrueWhereUsed, KeepsAsBefore, StandsAsBefore, TakesSteps};
+ghost use Rattle.checkpoint_store.specs.Reopening.{HasCauseOfTwo, IsReopened, IsSnapshotOfFront, IsStartOf, IsTrueWhereUsed, KeepsAsBefore, TakesSteps};
 ghost use Rattle.checkpoint_store.specs.Stores.{store_disk};
 ghost use Rattle.checkpoint_store.specs.declared.faults.ReopenFault.TheVariants.{NoMemory as NoRoom};
 ghost use Rattle.checkpoint_store.specs.inside.Numbered.{AreSoundBooks, as_snapshot};
-ghost use Rattle.checkpoint_store.specs.inside.Replaying.{HasReadCause};
+ghost use Rattle.checkpoint_store.specs.inside.Reading.{HasReadCause};
 
+use crate::faults::reopen_fault;
 use crate::numbered::NumberedBooks;
-use crate::replaying::replay;
 use crate::stored::stored;
 use crate::{Books, ReopenFault, Snapshot, Store};
+use journal_replay::replay;
 use outside_io::{Disk, Steps};
 use posting_journal::Journal;
 use std::alloc::Global;
@@ -31,7 +32,7 @@ pub fn reopen_books<E: Disk, D: Disk, L: Ledger>(
     ensures cause { HasCauseOfTwo (E.faults (store_disk store.old)) (E.faults (store_disk store.new))
         (D.faults (disk_of journal.old)) (D.faults (disk_of journal.new)) result }
     ensures store { KeepsAsBefore store.old store.new }
-    ensures journal { StandsAsBefore journal.old journal.new }
+    ensures journal { StaysAs journal.old journal.new }
     ensures sound { IfOk result IsSoundSnapshot }
     ensures few { E.honest (store_disk store.new)
         → OnOk result (TakesSteps (E.reads (store_disk store.old)) (count_of journal.old) steps.old steps.new) }
@@ -40,8 +41,11 @@ pub fn reopen_books<E: Disk, D: Disk, L: Ledger>(
         → IsReopened (E.reads (store_disk store.old)) bodies result }
 {
     let mut books = begin(alloc, store, journal.count())?;
-    replay(journal, &mut books, steps)?;
-    Ok(Books::new(books))
+    let from = books.position;
+    match replay(journal, from, &mut books, steps) {
+        Ok(()) => Ok(Books::new(books)),
+        Err(fault) => Err(reopen_fault(fault)),
+    }
 }
 
 /// The snapshot of a journal, by `reopen_books`.
@@ -54,7 +58,7 @@ pub fn reopen<E: Disk, D: Disk, L: Ledger>(
     ensures cause { HasCauseOfTwo (E.faults (store_disk store.old)) (E.faults (store_disk store.new))
         (D.faults (disk_of journal.old)) (D.faults (disk_of journal.new)) result }
     ensures store { KeepsAsBefore store.old store.new }
-    ensures journal { StandsAsBefore journal.old journal.new }
+    ensures journal { StaysAs journal.old journal.new }
     ensures sound { IfOk result IsSoundSnapshot }
     ensures few { E.honest (store_disk store.new)
         → OnOk result (TakesSteps (E.reads (store_disk store.old)) (count_of journal.old) steps.old steps.new) }

@@ -4,6 +4,7 @@ ghost use Rattle.std.specs.List.{flat_map};
 ghost use Rattle.outside_io.specs.Disks.{HasDiskCause};
 ghost use Rattle.posting_journal.specs.Faults.{TellsFaults};
 ghost use Rattle.posting_journal.specs.Runs.{IsSafe, Leaves};
+ghost use Rattle.policy_types.specs.Limits.{most_commands};
 ghost use Rattle.checkpoint_store.specs.Checkpoints.{CheckpointBytes, IsNoCheckpoint, IsSoundSnapshot};
 ghost use Rattle.checkpoint_store.specs.Spelling.{policy_bytes, snapshot_bytes, StandBehindGate};
 ghost use Rattle.checkpoint_store.specs.Stores.{AreShut, IsKeptBy, IsKeptOrSavedBy, Knows, MightLeave, store_disk};
@@ -145,7 +146,7 @@ impl<E: Disk> Store<E> {
 
 // Writes the policies from byte 64 on, piece by piece.
 fn write_policies<E: Disk>(disk: &mut E, policies: &[Policy]) -> Result<(), Failed>
-    requires few { length policies.now ≤ 4000000 }
+    requires few { length policies.now ≤ most_commands }
     requires begun { E.honest disk.old → 64 ≤ length (E.reads disk.old) }
     ensures cause { HasDiskCause (E.faults disk.old) (E.faults disk.new) result }
     ensures honesty { E.honest disk.new → E.honest disk.old }

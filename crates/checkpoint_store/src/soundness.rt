@@ -11,12 +11,10 @@ ghost use Rattle.checkpoint_store.specs.Checkpoints.{HasFigures, IsSoundSnapshot
 use crate::Snapshot;
 use money_ledgers::Ledger;
 use policy_types::{
-    Command, END_AGE, FIRST_DAY, LAST_DAY, MOST_REINSTATEMENT_CENTS, Plan, Policy, Status,
+    Command, END_AGE, FIRST_DAY, LAST_DAY, MOST_COMMANDS, MOST_REINSTATEMENT_CENTS, Plan, Policy,
+    Status,
 };
 use std::alloc::{AllocError, Global};
-
-// The commands that an office accepts in all.
-pub(crate) const MOST_COMMANDS: u32 = 4_000_000;
 
 impl Snapshot {
     /// Whether it may be a journal's, as `Store::save` asks. It takes memory for the numbers of the policies.

@@ -2,17 +2,17 @@
 ghost use Rattle.std.specs.Prelude.{◌≡◌, ◌+◌, ◌*◌, ◌≤◌, ◌↔◌, length, take, drop, IsTrue, IfOk, IfSome, OnOk};
 ghost use Rattle.posting_journal.specs.Runs.{LooksOn};
 ghost use Rattle.checkpoint_store.specs.inside.Numbered.{AreSoundBooks};
-ghost use Rattle.checkpoint_store.specs.inside.Replaying.{HasReadCause};
+ghost use Rattle.checkpoint_store.specs.inside.Reading.{HasReadCause};
 ghost use Rattle.checkpoint_store.specs.inside.Storing.{AreBegun, AreBooksBehind, AreBytesOf, AreUpTo, BegunNext, DoFit, IsFrontOn, IsStored, UpToNext};
 
 use crate::ReopenFault;
 use crate::front::{Front, front_at};
 use crate::numbered::NumberedBooks;
 use crate::pieces::POLICIES;
-use crate::soundness::{MOST_COMMANDS, are_within};
+use crate::soundness::are_within;
 use indexmap::IndexMap;
 use outside_io::{Disk, Failed};
-use policy_types::MOST_REINSTATEMENT_CENTS;
+use policy_types::{MOST_COMMANDS, MOST_REINSTATEMENT_CENTS};
 use std::alloc::Global;
 use versioned_book::KeyHashing;
 

@@ -11,7 +11,7 @@ use Rattle.policy_types.specs.Valid.{AreYears, IsCommandDay, IsIssueAge}
 use Rattle.life_dates.specs.Calendar.{IsDay, IsTermDay}
 use Rattle.life_dates.specs.DayText.{day_text, IsDayText}
 use Rattle.life_dates.proofs.TextLemmas.{IsDayText-day_text, day_text-only}
-use Rattle.command_csv.specs.declared.fields.Fields.{Fields}
+use Rattle.command_csv.specs.declared.fields.LineFields.{LineFields}
 use Rattle.command_csv.specs.inside.Cursor.{Took, Missed, left_of}
 
 -- the field at a place, and those behind it
@@ -57,13 +57,13 @@ years_within Limited age years h = omega arith
 pub term_day : (day : ℤ) → IsDay day → IsTermDay day
 term_day day h = (h.0, omega (arith, ints))
 
-pub day_took : (found : Option ℤ) (text : List ℕ) (old new : Fields) → left_of old ≡ text ∷ left_of new → new.asked ≡ old.asked + 1
+pub day_took : (found : Option ℤ) (text : List ℕ) (old new : LineFields) → left_of old ≡ text ∷ left_of new → new.asked ≡ old.asked + 1
     → IfSome found (λ day. IsDay day × IsDayText text day)
     → IfSome found (λ day. Took (IsCommandDay day) (day_text day) old new)
 day_took None text old new e n h = tt
 day_took (Some day) text old new e n h = record { fits = h.0; spelled = e ∙ ap (λ t. t ∷ left_of new) (day_text-only text day (term_day day h.0) h.1); counted = n }
 
-pub day_missed : (found : Option ℤ) (text : List ℕ) (old new : Fields) → left_of old ≡ text ∷ left_of new → new.asked ≡ old.asked + 1
+pub day_missed : (found : Option ℤ) (text : List ℕ) (old new : LineFields) → left_of old ≡ text ∷ left_of new → new.asked ≡ old.asked + 1
     → ((day : ℤ) → IsDay day → IsDayText text day → found ≡ Some day)
     → IfNone found (Missed IsCommandDay day_text old new)
 day_missed (Some day) text old new e n exact = tt
@@ -77,14 +77,14 @@ day_missed None text old new e n exact = record {
 }
 
 -- a number that doesn't fit
-pub number_missed : (Fits : ℕ → Type 0) (n : ℕ) (text : List ℕ) (old new : Fields) → left_of old ≡ text ∷ left_of new → new.asked ≡ old.asked + 1 → text ≡ decimal n → n < 2 ^ 64
+pub number_missed : (Fits : ℕ → Type 0) (n : ℕ) (text : List ℕ) (old new : LineFields) → left_of old ≡ text ∷ left_of new → new.asked ≡ old.asked + 1 → text ≡ decimal n → n < 2 ^ 64
     → ((x : ℕ) → Fits x → x < 2 ^ 64) → (Fits n → ⊥) → Missed Fits decimal old new
 number_missed Fits n text old new e c is small all bad = record {
   none = λ x h. other_number (left_of old) (left_of new) n x (e ∙ ap (λ t. t ∷ left_of new) is) small (all x h) (λ same. bad (subst Fits same h));
   counted = c;
 }
 
-pub years_missed : (plan : Plan) (age n : ℕ) (text : List ℕ) (old new : Fields) (fits : Bool) → left_of old ≡ text ∷ left_of new → new.asked ≡ old.asked + 1 → text ≡ decimal n → n ≤ 131
+pub years_missed : (plan : Plan) (age n : ℕ) (text : List ℕ) (old new : LineFields) (fits : Bool) → left_of old ≡ text ∷ left_of new → new.asked ≡ old.asked + 1 → text ≡ decimal n → n ≤ 131
     → IsIssueAge age → (IsTrue fits ↔ (IsIssueAge age × AreYears plan age n)) → fits ≡ false → Missed (AreYears plan age) decimal old new
 years_missed plan age n text old new fits e c is small age_in says fails =
     number_missed (AreYears plan age) n text old new e c is (omega (arith, small)) (λ x h. omega (arith, years_within plan age x h))

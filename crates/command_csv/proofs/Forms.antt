@@ -8,7 +8,7 @@ use Rattle.policy_types.specs.declared.command.Plan.TheVariants.{Term, Whole, En
 use Rattle.policy_types.specs.Valid.{IsId, IsCommandDay, IsAmount, IsReinstatement, IsIssueAge, AreYears}
 use Rattle.life_dates.specs.DayText.{day_text}
 use Rattle.money_core.specs.CentsText.{cents_text}
-use Rattle.command_csv.specs.declared.fields.Fields.{Fields}
+use Rattle.command_csv.specs.declared.fields.LineFields.{LineFields}
 use Rattle.command_csv.specs.declared.kind.Kind.{Kind}
 use Rattle.command_csv.specs.declared.kind.Kind.TheVariants.{Issue, Premium, Alter, Lapse, Reinstate, Claim, Settle, Mature, PaidUp, Upgrade, Value, Trim}
 use Rattle.policy_types.specs.declared.entry.At.{At}
@@ -138,7 +138,7 @@ age_carries plan age h = λ other fits same rest more.
     subst (λ (n : ℕ). YearsOn plan n rest) (sym (decimal_injective age other (omega (arith, h)) (omega (arith, fits)) same)) more
 
 -- the same of a row that is read
-took : {X : Type 0} (Fits : X → Type 0) (text_of : X → List ℕ) (More : X → List (List ℕ) → Type 0) (x : X) (old mid new : Fields)
+took : {X : Type 0} (Fits : X → Type 0) (text_of : X → List ℕ) (More : X → List (List ℕ) → Type 0) (x : X) (old mid new : LineFields)
     → Carries Fits text_of More x → Took (Fits x) (text_of x) old mid → StopsIn (More x) mid new → StopsIn (Then Fits text_of More) old new
 took Fits text_of More x old mid new carry t h = record {
   fitting = suc h.fitting;
@@ -146,7 +146,7 @@ took Fits text_of More x old mid new carry t h = record {
   bad = subst (λ (left : List (List ℕ)). StopsAfter (Then Fits text_of More) left (suc h.fitting)) (sym t.spelled) (goes_on Fits text_of More x (left_of mid) h.fitting t.fits carry h.bad);
 }
 
-missed : {X : Type 0} (Fits : X → Type 0) (text_of : X → List ℕ) (More : X → List (List ℕ) → Type 0) (old new : Fields)
+missed : {X : Type 0} (Fits : X → Type 0) (text_of : X → List ℕ) (More : X → List (List ℕ) → Type 0) (old new : LineFields)
     → IsPossible (Then Fits text_of More) → Missed Fits text_of old new → StopsIn (Then Fits text_of More) old new
 missed Fits text_of More old new p m = record {
   fitting = 0;
@@ -154,64 +154,64 @@ missed Fits text_of More old new p m = record {
   bad = stops Fits text_of More p.0 (left_of old) p.1 m.none;
 }
 
-pub took_clerk : {valued clerk : ℕ} {old mid new : Fields} → Took (IsClerk clerk) (decimal clerk) old mid → StopsIn (KindForm valued) mid new → StopsIn (RowForm valued) old new
+pub took_clerk : {valued clerk : ℕ} {old mid new : LineFields} → Took (IsClerk clerk) (decimal clerk) old mid → StopsIn (KindForm valued) mid new → StopsIn (RowForm valued) old new
 took_clerk {valued} {clerk} {old} {mid} {new} t h = took IsClerk decimal (λ n. KindForm valued) clerk old mid new (carries_all IsClerk decimal (KindForm valued) clerk) t h
 
-pub took_kind : {valued : ℕ} (kind : Kind) {old mid new : Fields} → Took (KindMayStandBehind valued kind) (kind_spelling kind) old mid → StopsIn (form_of kind) mid new → StopsIn (KindForm valued) old new
+pub took_kind : {valued : ℕ} (kind : Kind) {old mid new : LineFields} → Took (KindMayStandBehind valued kind) (kind_spelling kind) old mid → StopsIn (form_of kind) mid new → StopsIn (KindForm valued) old new
 took_kind {valued} kind {old} {mid} {new} t h = took (KindMayStandBehind valued) kind_spelling form_of kind old mid new (kind_carries valued kind) t h
 
-pub took_position : (at : At) {old mid new : Fields} → Took (IsPosition at) (at_text at) old mid → StopsIn WorkersOn mid new → StopsIn PositionOn old new
+pub took_position : (at : At) {old mid new : LineFields} → Took (IsPosition at) (at_text at) old mid → StopsIn WorkersOn mid new → StopsIn PositionOn old new
 took_position at {old} {mid} {new} t h = took IsPosition at_text (λ a. WorkersOn) at old mid new (carries_all IsPosition at_text WorkersOn at) t h
 
-pub took_day : {More : List (List ℕ) → Type 0} {day : ℤ} {old mid new : Fields} → Took (IsCommandDay day) (day_text day) old mid → StopsIn More mid new → StopsIn (Then IsCommandDay day_text (λ day. More)) old new
+pub took_day : {More : List (List ℕ) → Type 0} {day : ℤ} {old mid new : LineFields} → Took (IsCommandDay day) (day_text day) old mid → StopsIn More mid new → StopsIn (Then IsCommandDay day_text (λ day. More)) old new
 took_day {More} {day} {old} {mid} {new} t h = took IsCommandDay day_text (λ d. More) day old mid new (carries_all IsCommandDay day_text More day) t h
 
-pub took_id : {More : List (List ℕ) → Type 0} {id : ℕ} {old mid new : Fields} → Took (IsId id) (decimal id) old mid → StopsIn (Then IsCommandDay day_text (λ day. More)) mid new → StopsIn (PolicyAndDay More) old new
+pub took_id : {More : List (List ℕ) → Type 0} {id : ℕ} {old mid new : LineFields} → Took (IsId id) (decimal id) old mid → StopsIn (Then IsCommandDay day_text (λ day. More)) mid new → StopsIn (PolicyAndDay More) old new
 took_id {More} {id} {old} {mid} {new} t h =
     took IsId decimal (λ i. Then IsCommandDay day_text (λ day. More)) id old mid new (carries_all IsId decimal (Then IsCommandDay day_text (λ day. More)) id) t h
 
-pub took_plan : (plan : Plan) {old mid new : Fields} → Took ⊤ (plan_word plan) old mid → StopsIn (AgeOn plan) mid new → StopsIn PlanOn old new
+pub took_plan : (plan : Plan) {old mid new : LineFields} → Took ⊤ (plan_word plan) old mid → StopsIn (AgeOn plan) mid new → StopsIn PlanOn old new
 took_plan plan {old} {mid} {new} t h = took (λ (p : Plan). ⊤) plan_word AgeOn plan old mid new (plan_carries plan) t h
 
-pub took_age : (plan : Plan) {age : ℕ} {old mid new : Fields} → Took (IsIssueAge age) (decimal age) old mid → StopsIn (YearsOn plan age) mid new → StopsIn (AgeOn plan) old new
+pub took_age : (plan : Plan) {age : ℕ} {old mid new : LineFields} → Took (IsIssueAge age) (decimal age) old mid → StopsIn (YearsOn plan age) mid new → StopsIn (AgeOn plan) old new
 took_age plan {age} {old} {mid} {new} t h = took IsIssueAge decimal (λ n. YearsOn plan n) age old mid new (age_carries plan age t.fits) t h
 
-pub took_years : (plan : Plan) (age years : ℕ) {old mid new : Fields} → Took (AreYears plan age years) (decimal years) old mid → StopsIn (Amount (Amount Ends)) mid new → StopsIn (YearsOn plan age) old new
+pub took_years : (plan : Plan) (age years : ℕ) {old mid new : LineFields} → Took (AreYears plan age years) (decimal years) old mid → StopsIn (Amount (Amount Ends)) mid new → StopsIn (YearsOn plan age) old new
 took_years plan age years {old} {mid} {new} t h =
     took (AreYears plan age) decimal (λ y. Amount (Amount Ends)) years old mid new (carries_all (AreYears plan age) decimal (Amount (Amount Ends)) years) t h
 
-pub took_amount : {More : List (List ℕ) → Type 0} {cents : ℕ} {old mid new : Fields} → Took (IsAmount cents) (cents_text cents) old mid → StopsIn More mid new → StopsIn (Amount More) old new
+pub took_amount : {More : List (List ℕ) → Type 0} {cents : ℕ} {old mid new : LineFields} → Took (IsAmount cents) (cents_text cents) old mid → StopsIn More mid new → StopsIn (Amount More) old new
 took_amount {More} {cents} {old} {mid} {new} t h = took IsAmount cents_text (λ c. More) cents old mid new (carries_all IsAmount cents_text More cents) t h
 
-pub no_clerk : {valued : ℕ} {old new : Fields} → Missed IsClerk decimal old new → StopsIn (RowForm valued) old new
+pub no_clerk : {valued : ℕ} {old new : LineFields} → Missed IsClerk decimal old new → StopsIn (RowForm valued) old new
 no_clerk {valued} {old} {new} m = missed IsClerk decimal (λ n. KindForm valued) old new (row_possible valued) m
 
-pub no_kind : {valued : ℕ} {old new : Fields} → Missed (KindMayStandBehind valued) kind_spelling old new → StopsIn (KindForm valued) old new
+pub no_kind : {valued : ℕ} {old new : LineFields} → Missed (KindMayStandBehind valued) kind_spelling old new → StopsIn (KindForm valued) old new
 no_kind {valued} {old} {new} m = missed (KindMayStandBehind valued) kind_spelling form_of old new (any_kind_possible valued) m
 
-pub no_position : {old new : Fields} → Missed IsPosition at_text old new → StopsIn PositionOn old new
+pub no_position : {old new : LineFields} → Missed IsPosition at_text old new → StopsIn PositionOn old new
 no_position {old} {new} m = missed IsPosition at_text (λ a. WorkersOn) old new position_possible m
 
-pub no_workers : {old new : Fields} → Missed AreWorkers decimal old new → StopsIn WorkersOn old new
+pub no_workers : {old new : LineFields} → Missed AreWorkers decimal old new → StopsIn WorkersOn old new
 no_workers {old} {new} m = missed AreWorkers decimal (λ w. Ends) old new workers_possible m
 
-pub no_id : {More : List (List ℕ) → Type 0} {old new : Fields} → IsPossible More → Missed IsId decimal old new → StopsIn (PolicyAndDay More) old new
+pub no_id : {More : List (List ℕ) → Type 0} {old new : LineFields} → IsPossible More → Missed IsId decimal old new → StopsIn (PolicyAndDay More) old new
 no_id {More} {old} {new} p m = missed IsId decimal (λ i. Then IsCommandDay day_text (λ day. More)) old new (policy_possible More p) m
 
-pub no_day : {More : List (List ℕ) → Type 0} {old new : Fields} → IsPossible More → Missed IsCommandDay day_text old new → StopsIn (Then IsCommandDay day_text (λ day. More)) old new
+pub no_day : {More : List (List ℕ) → Type 0} {old new : LineFields} → IsPossible More → Missed IsCommandDay day_text old new → StopsIn (Then IsCommandDay day_text (λ day. More)) old new
 no_day {More} {old} {new} p m = missed IsCommandDay day_text (λ d. More) old new (day_possible More p) m
 
-pub no_plan : {old new : Fields} → Missed (λ (plan : Plan). ⊤) plan_word old new → StopsIn PlanOn old new
+pub no_plan : {old new : LineFields} → Missed (λ (plan : Plan). ⊤) plan_word old new → StopsIn PlanOn old new
 no_plan {old} {new} m = missed (λ (p : Plan). ⊤) plan_word AgeOn old new plan_possible m
 
-pub no_age : (plan : Plan) {old new : Fields} → Missed IsIssueAge decimal old new → StopsIn (AgeOn plan) old new
+pub no_age : (plan : Plan) {old new : LineFields} → Missed IsIssueAge decimal old new → StopsIn (AgeOn plan) old new
 no_age plan {old} {new} m = missed IsIssueAge decimal (λ n. YearsOn plan n) old new (age_possible plan) m
 
-pub no_years : (plan : Plan) (age : ℕ) {old new : Fields} → IsIssueAge age → Missed (AreYears plan age) decimal old new → StopsIn (YearsOn plan age) old new
+pub no_years : (plan : Plan) (age : ℕ) {old new : LineFields} → IsIssueAge age → Missed (AreYears plan age) decimal old new → StopsIn (YearsOn plan age) old new
 no_years plan age {old} {new} h m = missed (AreYears plan age) decimal (λ y. Amount (Amount Ends)) old new (years_possible plan age h) m
 
-pub no_amount : {More : List (List ℕ) → Type 0} {old new : Fields} → IsPossible More → Missed IsAmount cents_text old new → StopsIn (Amount More) old new
+pub no_amount : {More : List (List ℕ) → Type 0} {old new : LineFields} → IsPossible More → Missed IsAmount cents_text old new → StopsIn (Amount More) old new
 no_amount {More} {old} {new} p m = missed IsAmount cents_text (λ c. More) old new (amount_possible More p) m
 
-pub no_reinstatement : {old new : Fields} → Missed IsReinstatement cents_text old new → StopsIn Reinstatement old new
+pub no_reinstatement : {old new : LineFields} → Missed IsReinstatement cents_text old new → StopsIn Reinstatement old new
 no_reinstatement {old} {new} m = missed IsReinstatement cents_text (λ c. Ends) old new reinstatement_possible m

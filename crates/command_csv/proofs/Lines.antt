@@ -7,7 +7,7 @@ use Rattle.policy_types.specs.declared.command.Command.TheVariants as command
 use Rattle.policy_types.specs.declared.script.Line.{Line}
 use Rattle.policy_types.specs.declared.script.Line.TheVariants.{Post, Value, Trim}
 use Rattle.policy_types.specs.Valid.{IsValid}
-use Rattle.command_csv.specs.declared.fields.Fields.{Fields}
+use Rattle.command_csv.specs.declared.fields.LineFields.{LineFields}
 use Rattle.command_csv.specs.declared.kind.Kind.{Kind}
 use Rattle.command_csv.specs.declared.kind.Kind.TheVariants as kind
 use Rattle.command_csv.specs.declared.row.ClerkLine.{ClerkLine}
@@ -241,7 +241,7 @@ bad_field valued fields n place e h =
       bad = λ other. h.bad (fits_in valued fields (suc n) (subst (λ (m : ℕ). FitsUpTo valued fields m) (sym at) other));
     }
 
-pub stopped : {valued : ℕ} {old new : Fields} → old.asked ≡ 0 → StopsIn (RowForm valued) old new → IsFirstBadField valued (left_of old) new.asked
+pub stopped : {valued : ℕ} {old new : LineFields} → old.asked ≡ 0 → StopsIn (RowForm valued) old new → IsFirstBadField valued (left_of old) new.asked
 stopped {valued} {old} {new} none h = bad_field valued (left_of old) h.fitting new.asked (omega (arith, none, h.number)) h.bad
 
 -- a line stands where one of its kind may
@@ -250,7 +250,7 @@ room_of valued (Post c) k e h = tt
 room_of valued (Value on at workers) k e h = subst (KindMayStandBehind valued) (sym e) h
 room_of valued Trim k e h = tt
 
-holds_kind : (k : Kind) (line : Line) (old new : Fields) → HoldsLine k old new line → kind_of line ≡ k
+holds_kind : (k : Kind) (line : Line) (old new : LineFields) → HoldsLine k old new line → kind_of line ≡ k
 holds_kind k line old new h =
     let left : take 1 (line_fields line ++ left_of new) ≡ kind_spelling (kind_of line) ∷ [] = ap (λ (xs : List (List ℕ)). take 1 (xs ++ left_of new)) (line_begins line) in
     let right : kind_spelling k ∷ [] ≡ take 1 (line_fields line ++ left_of new) = ap (take 1) h.spelled in
@@ -261,11 +261,11 @@ abbrev pub entry_of : ℕ → Line → ClerkLine
 entry_of clerk line = record { clerk = clerk; line = line }
 
 -- the fields of a row that is read
-pub whole_row : (valued : ℕ) (k : Kind) (line : Line) (clerk : ℕ) {old mid head new : Fields} → Took (IsClerk clerk) (decimal clerk) old mid → Took (KindMayStandBehind valued k) (kind_spelling k) mid head → HoldsLine k head new line
+pub whole_row : (valued : ℕ) (k : Kind) (line : Line) (clerk : ℕ) {old mid head new : LineFields} → Took (IsClerk clerk) (decimal clerk) old mid → Took (KindMayStandBehind valued k) (kind_spelling k) mid head → HoldsLine k head new line
     → left_of old ≡ row_fields (entry_of clerk line) ++ left_of new
 whole_row valued k line clerk {old} {mid} {head} {new} a b h = a.spelled ∙ ap (λ (xs : List (List ℕ)). decimal clerk ∷ xs) (b.spelled ∙ h.spelled)
 
-pub next_row : {valued : ℕ} (k : Kind) (line : Line) (clerk : ℕ) {old mid head new : Fields} → Took (IsClerk clerk) (decimal clerk) old mid → Took (KindMayStandBehind valued k) (kind_spelling k) mid head → HoldsLine k head new line
+pub next_row : {valued : ℕ} (k : Kind) (line : Line) (clerk : ℕ) {old mid head new : LineFields} → Took (IsClerk clerk) (decimal clerk) old mid → Took (KindMayStandBehind valued k) (kind_spelling k) mid head → HoldsLine k head new line
     → left_of new ≡ [] → IsNextRow valued (left_of old) (entry_of clerk line)
 next_row {valued} k line clerk {old} {mid} {head} {new} a b h none =
     let row : List (List ℕ) = row_fields (entry_of clerk line) in
@@ -313,7 +313,7 @@ surplus valued entry {fields} {left} {place} right room e some number =
     }
 
 -- the same of a row that is read
-pub one_more : {valued : ℕ} (k : Kind) (line : Line) (clerk : ℕ) {old mid head new : Fields} {place : ℕ} → Took (IsClerk clerk) (decimal clerk) old mid → Took (KindMayStandBehind valued k) (kind_spelling k) mid head → HoldsLine k head new line
+pub one_more : {valued : ℕ} (k : Kind) (line : Line) (clerk : ℕ) {old mid head new : LineFields} {place : ℕ} → Took (IsClerk clerk) (decimal clerk) old mid → Took (KindMayStandBehind valued k) (kind_spelling k) mid head → HoldsLine k head new line
     → left_of new ≢ [] → place ≡ length (line_fields line) + 2 → IsFirstBadField valued (left_of old) place
 one_more {valued} k line clerk {old} {mid} {head} {new} a b h some number =
     surplus valued (entry_of clerk line) record { clerk_in = a.fits; right = h.right } (room_of valued line k (holds_kind k line head new h) b.fits) (whole_row valued k line clerk a b h) some number

@@ -17,34 +17,33 @@ use csv::ByteRecord;
 use life_dates::parse_day;
 use money_core::{parse_cents, parse_number};
 use policy_types::{
-    At, END_AGE, LAST_ISSUE_AGE, MOST_CENTS, MOST_REINSTATEMENT_CENTS, Plan, are_years,
+    At, END_AGE, LAST_ISSUE_AGE, MOST_CENTS, MOST_COMMANDS, MOST_REINSTATEMENT_CENTS, Plan,
+    are_years,
 };
 
 /// The clerks are numbered from 1 to this.
 pub const LAST_LANE: u8 = 8;
 /// A script asks for so many valuations at most.
 const MOST_VALUATIONS: u32 = 16;
-/// A list of accepted commands is never longer.
-const MOST_COMMANDS: u64 = 4_000_000;
 /// A valuation is split among so many workers at most.
 const MOST_WORKERS: u64 = 64;
 
 /// A row that is read field by field.
 #[derive(Drop)]
-pub struct Fields<'a> {
+pub struct LineFields<'a> {
     pub row: &'a ByteRecord,
     /// How many fields were asked for; so the last of them is the one of this number.
     pub asked: u32,
 }
 
-impl<'a> Fields<'a> {
+impl<'a> LineFields<'a> {
     ghost use Rattle.command_csv.specs.inside.Cursor.{left_of, Took, Missed};
 
-    pub fn new(row: &'a ByteRecord) -> Fields<'a>
+    pub fn new(row: &'a ByteRecord) -> LineFields<'a>
         ensures all { left_of result ≡ fields_of row.now }
         ensures none { result.asked ≡ 0 }
     {
-        Fields { row, asked: 0 }
+        LineFields { row, asked: 0 }
     }
 
     /// The next field, if there is one more.
@@ -220,7 +219,7 @@ fn position_of(word: &[u8]) -> Option<At>
     match word {
         b"now" => Some(At::Now),
         _ => {
-            let count = parse_number(word, MOST_COMMANDS)?;
+            let count = parse_number(word, u64::from(MOST_COMMANDS))?;
             Some(At::Position(count as u32))
         }
     }

@@ -4,11 +4,11 @@ ghost use Rattle.command_csv.specs.declared.kind.Kind.TheVariants.{Issue, Premiu
 ghost use Rattle.command_csv.specs.inside.Forms.{form_of};
 ghost use Rattle.command_csv.specs.inside.Cursor.{HoldsLine, StopsIn};
 
-use crate::fields::Fields;
+use crate::fields::LineFields;
 use crate::kind::Kind;
 use policy_types::{Command, Line};
 
-impl Fields<'_> {
+impl LineFields<'_> {
     /// The line of a kind, which stands behind the kind's word.
     pub fn of_kind(&mut self, kind: Kind) -> Option<Line>
         requires head { self.old.asked ≡ 2 }

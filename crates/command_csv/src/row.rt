@@ -4,7 +4,7 @@ ghost use Rattle.csv.specs.Records.{fields_of};
 ghost use Rattle.command_csv.specs.Reads.{IsLineRow, IsFirstBadField};
 ghost use Rattle.command_csv.specs.inside.Cursor.{IsNextRow, left_of};
 
-use crate::fields::Fields;
+use crate::fields::LineFields;
 use csv::ByteRecord;
 use policy_types::Line;
 
@@ -20,14 +20,14 @@ pub fn read_row(row: &ByteRecord, valuations: u32) -> Result<ClerkLine, u32>
     ensures ok { IfOk result (IsNextRow valuations (fields_of row.now)) }
     ensures fault { IfErr result (IsFirstBadField valuations (fields_of row.now)) }
 {
-    let mut fields = Fields::new(row);
+    let mut fields = LineFields::new(row);
     match fields.line(valuations) {
         Some(line) => Ok(line),
         None => Err(fields.asked),
     }
 }
 
-impl Fields<'_> {
+impl LineFields<'_> {
     /// The line that all fields are. Where they are none, the field that was asked for last is the first that
     /// doesn't fit.
     fn line(&mut self, valuations: u32) -> Option<ClerkLine>

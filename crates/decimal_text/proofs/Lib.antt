@@ -6,3 +6,4 @@ pub mod Measures
 pub mod Answering
 pub mod Totals
 pub mod CallerLemmas
+pub mod Spelt

@@ -288,7 +288,7 @@ fn numbers_at(journal: &mut Journal<MemoryDisk>, n: u32) -> Option<(u32, u32)> {
     if n >= journal.count() {
         return None;
     }
-    let mut piece = Piece::new();
+    let mut piece = Stretch::new();
     let Ok(body) = journal.body_from(n, &mut piece) else {
         return None;
     };
@@ -304,7 +304,7 @@ fn number_in(body: &[u8; 64]) -> u32 {
 
 // The number in the last body of a piece that is read from a record on, if the piece holds just so many.
 fn last_in_piece(journal: &mut Journal<MemoryDisk>, first: u32, many: u32) -> Option<u32> {
-    let mut piece = Piece::new();
+    let mut piece = Stretch::new();
     if first > journal.count() || journal.bodies(first, &mut piece).is_err() {
         return None;
     }

@@ -120,7 +120,7 @@ told_later opening history more basis one told below is = record {
       (sym (take_within one.first.0 history more (omega arith))) is.outcome;
 }
 
-same_opened : {O : Type 0} (a b : O) → Some a ≡ Some b → a ≡ b
+pub same_opened : {O : Type 0} (a b : O) → Some a ≡ Some b → a ≡ b
 same_opened a b e = cc
 
 -- the next line has its turns

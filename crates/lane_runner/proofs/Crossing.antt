@@ -1,7 +1,16 @@
--- What is handed to the threads of lanes: an answered line may go to another thread, and a lane may be read by several
+-- What is handed to the threads of lanes: an answered line may go to another thread, and so may the ends of a lane's ring; and
+-- a lane may be read by several
+use Rattle.std.proofs.Common.{[], ◌∷◌}
+use denote.Hole.{as_row}
+use denote.Struct.Field.{Field}
+use denote.Param.SendFields.{FieldsHave}
 use denote.Param.Send.{IsSend, IsSync, sendable}
 use Rattle.std.proofs.Crossing.{crosses}
+use Rattle.rtrb.proofs.end.End.TheSendSync as ring
+use Rattle.std.specs.contracts.timed.Parker as parker
 use Rattle.policy_types.specs.contracts.script.Lane as lane
+use Rattle.lane_runner.specs.contracts.telling.Inlet as inlet
+use Rattle.lane_runner.specs.contracts.telling.Outlet as outlet
 use Rattle.lane_runner.specs.contracts.transcript.TranscriptLine as line
 
 pub line_crosses : IsSend line.the_row
@@ -9,3 +18,17 @@ line_crosses = search (sendable, crosses) depth 40 fits 50000
 
 pub lane_crosses : IsSync lane.the_row
 lane_crosses = search (sendable, crosses) depth 40 fits 50000
+
+-- whoever sleeps may be woken by several
+pub parker_crosses : IsSync parker.the_row
+parker_crosses = search (sendable, crosses) depth 40 fits 50000
+
+pub outlet_crosses : IsSend outlet.the_row
+outlet_crosses = search (line_crosses, ring.the_send, sendable, crosses) depth 100 fits 200000
+
+pub inlet_crosses : IsSend inlet.the_row
+inlet_crosses = search (line_crosses, ring.the_send, sendable, crosses) depth 100 fits 200000
+
+pub seven_sync : (A B C D E F G : Field) → IsSync (as_row A) → IsSync (as_row B) → IsSync (as_row C) → IsSync (as_row D) → IsSync (as_row E) → IsSync (as_row F)
+    → IsSync (as_row G) → FieldsHave IsSync (A ∷ B ∷ C ∷ D ∷ E ∷ F ∷ G ∷ [])
+seven_sync A B C D E F G a b c d e f g = (a, (b, (c, (d, (e, (f, (g, tt)))))))

@@ -1,7 +1,7 @@
 -- The transcript of all lanes
 use Rattle.std.proofs.Common.{◌≡◌, ◌⊎◌, ℕ, ◌<◌, ◌==◌, nat_eq, Bool, true, false, List, [], ◌∷◌, ◌++◌, map, inl, inr, refl, ap, sym, ◌∙◌, subst, arith}
 use Rattle.std.specs.List.{AllByRecursion, AllZip, Contains, IsDistinct, flat_map}
-use Rattle.std.specs.List.Sorted.{IsNonDecreasingBy, IsPermutation}
+use Rattle.std.specs.List.Sorted.{IsPermutation}
 use Rattle.std.proofs.lemmas.Bool.{eq-eqb, eqb-true, false≢true}
 use Rattle.std.proofs.lemmas.List.{map-append}
 use Rattle.std.proofs.lemmas.List.Sorted.{IsPermutation-map, IsPermutation-sym}
@@ -19,7 +19,8 @@ use Rattle.lane_runner.specs.AnsweredLines.{AnsweredLine, AreOfLanes, lines_by, 
 use Rattle.policy_types.specs.Lanes.{AreRising}
 use Rattle.lane_runner.specs.Lanes.{AreRightLanes}
 use Rattle.lane_runner.specs.Transcripts.{HasAnsweredLanes, HasRunLanes, IsTold, dry_of}
-use Rattle.lane_runner.specs.inside.Parts.{Seat}
+use Rattle.lane_runner.specs.inside.Merging.{AreInOrder}
+use Rattle.lane_runner.specs.inside.Parts.{Seat, told_in}
 use Rattle.lane_runner.proofs.AnswerSteps.{all_append, all_weaker, answers_drier, zip_append}
 use Rattle.lane_runner.proofs.RunSteps.{AreLanesOf, IsLaneOf, callers_in}
 use Rattle.lane_runner.proofs.MergeSteps.{In, IsAt, Rises, all_in, are_dry, at_one_caller, distinct_append, distinct_rises, dry_from, dry_to, differ, from_filter, in_all, in_back, in_cases, in_contains, in_filter, in_front, in_moved, lines_answered, lines_at, rises_filter, rises_of, rises_rising, rises_same, rising_sorted, zip_moved_both}
@@ -60,7 +61,7 @@ turns_are opening history basis (one ∷ answered) (told ∷ tolds) all =
     let rest = turns_are opening history basis answered tolds all.1 in λ i. all.0.turn i ∷ rest i
 
 abbrev pub items_in : {D W : Type 0} → List (Seat D W) → List TranscriptLine
-items_in {D} {W} seats = flat_map (λ (seat : Seat D W). seat.1.items) seats
+items_in {D} {W} seats = flat_map (λ (seat : Seat D W). told_in seat) seats
 
 drier : (lines tolds : List TranscriptLine) → ((told : TranscriptLine) → In told tolds → In told lines)
     → (x : ℕ) → Contains (dry_of tolds) x → Contains (dry_of lines) x
@@ -81,7 +82,7 @@ module _ {D W : Type 0} (opening : Opening) (history : List Entry) (basis : List
   tells_in [] (seat ∷ seats) are = absurd are
   tells_in (lane ∷ lanes) [] are = absurd are
   tells_in (lane ∷ lanes) (seat ∷ seats) are =
-      zip_append (IsTold opening history basis) are.0.answered (answered_in lanes seats are.1) seat.1.items (items_in seats) are.0.tells
+      zip_append (IsTold opening history basis) are.0.answered (answered_in lanes seats are.1) (told_in seat) (items_in seats) are.0.tells
       (tells_in lanes seats are.1)
 
   places_in : (lanes : List Lane) (seats : List (Seat D W)) (are : AreLanesOf opening history basis lanes seats)
@@ -143,13 +144,13 @@ module _ {D W : Type 0} (opening : Opening) (history : List Entry) (basis : List
       (λ one its. inr its) (answered_in lanes seats are.1) (clerks_in lanes seats are.1))
 
   module _ (lines : List TranscriptLine) where
-    lane_answers : (lane : Lane) (seat : Seat D W) (is : IsLaneOf opening history basis lane seat.0.caller seat.1.items)
-        → ((told : TranscriptLine) → In told seat.1.items → In told lines)
+    lane_answers : (lane : Lane) (seat : Seat D W) (is : IsLaneOf opening history basis lane seat.0.caller (told_in seat))
+        → ((told : TranscriptLine) → In told (told_in seat) → In told lines)
         → AllByRecursion (λ (one : AnsweredLine). AnswersLine (dry_of lines) one.line (turns_in one)) is.answered
     lane_answers lane seat is within =
-        all_weaker (λ (one : AnsweredLine). AnswersLine (dry_of seat.1.items) one.line (turns_in one))
+        all_weaker (λ (one : AnsweredLine). AnswersLine (dry_of (told_in seat)) one.line (turns_in one))
         (λ (one : AnsweredLine). AnswersLine (dry_of lines) one.line (turns_in one))
-        (λ one. answers_drier (dry_of seat.1.items) (dry_of lines) (drier lines seat.1.items within) one.line (turns_in one)) is.answered is.answers
+        (λ one. answers_drier (dry_of (told_in seat)) (dry_of lines) (drier lines (told_in seat) within) one.line (turns_in one)) is.answered is.answers
 
     answers_in : (lanes : List Lane) (seats : List (Seat D W)) (are : AreLanesOf opening history basis lanes seats)
         → ((told : TranscriptLine) → In told (items_in seats) → In told lines)
@@ -159,8 +160,8 @@ module _ {D W : Type 0} (opening : Opening) (history : List Entry) (basis : List
     answers_in (lane ∷ lanes) [] are within = absurd are
     answers_in (lane ∷ lanes) (seat ∷ seats) are within =
         all_append (λ (one : AnsweredLine). AnswersLine (dry_of lines) one.line (turns_in one)) are.0.answered (answered_in lanes seats are.1)
-        (lane_answers lane seat are.0 (λ told is. within told (in_front told seat.1.items (items_in seats) is)))
-        (answers_in lanes seats are.1 (λ told is. within told (in_back told seat.1.items (items_in seats) is)))
+        (lane_answers lane seat are.0 (λ told is. within told (in_front told (told_in seat) (items_in seats) is)))
+        (answers_in lanes seats are.1 (λ told is. within told (in_back told (told_in seat) (items_in seats) is)))
 
     lanes_answered : (lanes : List Lane) (seats : List (Seat D W)) → AreLanesOf opening history basis lanes seats
         → ((told : TranscriptLine) → In told (items_in seats) → In told lines) → AnswersLanes (dry_of lines) history lanes (callers_in seats)
@@ -171,8 +172,8 @@ module _ {D W : Type 0} (opening : Opening) (history : List Entry) (basis : List
       subst (λ (asked : List Line). AnswersLines (dry_of lines) asked (turns_of history seat.0.caller)) are.0.asked
           (subst (AnswersLines (dry_of lines) (map (λ (one : AnsweredLine). one.line) are.0.answered)) are.0.turns
           (lines_answered (dry_of lines) are.0.answered
-          (lane_answers lane seat are.0 (λ told is. within told (in_front told seat.1.items (items_in seats) is))))),
-      lanes_answered lanes seats are.1 (λ told is. within told (in_back told seat.1.items (items_in seats) is)),
+          (lane_answers lane seat are.0 (λ told is. within told (in_front told (told_in seat) (items_in seats) is))))),
+      lanes_answered lanes seats are.1 (λ told is. within told (in_back told (told_in seat) (items_in seats) is)),
     )
 
   -- where all lines rise, those of each clerk are its lane's
@@ -222,7 +223,7 @@ module _ {D W : Type 0} (basis : List Dated) (lanes : List Lane) (old new : Hold
     (lines : List TranscriptLine) (right : AreRightLanes lanes) (facts : PassFacts IsOfficeHistory new)
     (has_run : HasRunLanes old new (callers_in seats)) (are : AreLanesOf facts.lawful.0.opening new.seen basis lanes seats)
     (moved : IsPermutation (items_in seats) lines)
-    (sorted : IsNonDecreasingBy (λ (told : TranscriptLine). told.turn) lines) where
+    (sorted : AreInOrder lines) where
   abbrev opening : Opening
   opening = facts.lawful.0.opening
 

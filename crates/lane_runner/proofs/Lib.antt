@@ -1,8 +1,13 @@
 pub mod Places
 pub mod AnswerSteps
+pub mod EvidenceSteps
 pub mod SeatSteps
 pub mod RunSteps
 pub mod MergeSteps
+pub mod TellSteps
+pub mod GatherSteps
+pub mod TakeSteps
+pub mod SettleSteps
 pub mod LaneSteps
 pub mod FirstPass
 pub mod Crossing

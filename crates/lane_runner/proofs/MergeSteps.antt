@@ -1,7 +1,7 @@
 -- The lines of all lanes, put in the order of their first turns
 use Rattle.std.proofs.Common.{◌≡◌, ◌⊎◌, ◌↔◌, ℕ, zero, suc, ◌+◌, ◌≤◌, ◌<◌, ◌==◌, nat_eq, Bool, true, false, List, [], ◌∷◌, ◌++◌, length, map, get_or, Some, slice_get, inl, inr, refl, ap, sym, ◌∙◌, subst, append_assoc, length-append, arith}
 use Rattle.std.specs.List.{AllByRecursion, AllZip, Contains, IsDistinct, filter, flat_map, slice_set, swap}
-use Rattle.std.specs.List.Sorted.{IsNonDecreasingBy, IsPermutation}
+use Rattle.std.specs.List.Sorted.{IsPermutation}
 use Rattle.std.proofs.lemmas.Bool.{cond-true, cond-false, eq-eqb, eqb-true, false≢true}
 use Rattle.std.proofs.lemmas.List.Sorted.{Contains-permutation, IsPermutation-keeps, IsPermutation-refl, IsPermutation-swap, IsPermutation-trans}
 use Rattle.policy_types.specs.declared.entry.Entry.{Entry}
@@ -10,6 +10,7 @@ use Rattle.lane_runner.specs.declared.transcript.TranscriptLine.{TranscriptLine}
 use Rattle.lane_runner.specs.AnsweredLines.{AnsweredLine, turns_in}
 use Rattle.policy_types.specs.Lanes.{AreRising}
 use Rattle.lane_runner.specs.Transcripts.{AreDry, dry_of, lacked_memory}
+use Rattle.lane_runner.specs.inside.Merging.{AreInOrder}
 use Rattle.lane_runner.proofs.AnswerSteps.{all_later}
 use Rattle.lane_runner.proofs.Places.{turns_from}
 
@@ -188,7 +189,7 @@ rises_same n m (x ∷ xs) (y ∷ ys) up upper there back =
         let place : y.first.0 ≡ z.first.0 = ap (λ (l : AnsweredLine). l.first.0) (sym same ∙ first) in omega arith)
 
 -- turns whose places rise
-abbrev RisesThrough : ℕ → List Placed → Type 0
+abbrev pub RisesThrough : ℕ → List Placed → Type 0
 RisesThrough n [] = Unit {0}
 RisesThrough n (turn ∷ turns) = (n ≤ turn.0) × RisesThrough (turn.0 + 1) turns
 
@@ -196,7 +197,7 @@ through_lower : (n m : ℕ) (turns : List Placed) → n ≤ m → RisesThrough m
 through_lower n m [] lower rises = tt
 through_lower n m (turn ∷ turns) lower rises = (omega (arith, lower, rises.0), rises.1)
 
-through_turns : (n : ℕ) (history : List Entry) (caller : ℕ) → RisesThrough n (turns_from n history caller)
+pub through_turns : (n : ℕ) (history : List Entry) (caller : ℕ) → RisesThrough n (turns_from n history caller)
 through_turns n [] caller = tt
 through_turns n (entry ∷ history) caller = by (entry.caller == caller) refl (through_turns (n + 1) history caller)
   where
@@ -205,12 +206,12 @@ through_turns n (entry ∷ history) caller = by (entry.caller == caller) refl (t
     by true own later = rw own (omega arith, later)
     by false other later = rw other (through_lower n (n + 1) (turns_from (n + 1) history caller) (omega arith) later)
 
-through_later : (n : ℕ) (front back : List Placed) → RisesThrough n (front ++ back) → RisesThrough n back
+pub through_later : (n : ℕ) (front back : List Placed) → RisesThrough n (front ++ back) → RisesThrough n back
 through_later n [] back rises = rises
 through_later n (turn ∷ front) back rises =
     through_lower n (turn.0 + 1) back (omega (arith, rises.0)) (through_later (turn.0 + 1) front back rises.1)
 
-rises_turns : (n : ℕ) (lines : List AnsweredLine) → RisesThrough n (flat_map turns_in lines) → Rises n lines
+pub rises_turns : (n : ℕ) (lines : List AnsweredLine) → RisesThrough n (flat_map turns_in lines) → Rises n lines
 rises_turns n [] rises = tt
 rises_turns n (one ∷ more) rises =
     (rises.0, rises_turns (one.first.0 + 1) more (through_later (one.first.0 + 1) one.rest (flat_map turns_in more) rises.1))
@@ -229,13 +230,12 @@ rises_rising [] rising = tt
 rises_rising (one ∷ more) rising = rises_head 0 one more (omega arith) rising
 
 -- places that don't fall, and differ, rise
-pub rising_sorted : (lines : List TranscriptLine) → IsNonDecreasingBy (λ (told : TranscriptLine). told.turn) lines
+pub rising_sorted : (lines : List TranscriptLine) → AreInOrder lines
     → IsDistinct nat_eq (map (λ (told : TranscriptLine). told.turn) lines) → AreRising (map (λ (told : TranscriptLine). told.turn) lines)
 unfolding IsDistinct
 rising_sorted [] sorted apart = tt
 rising_sorted (told ∷ []) sorted apart = tt
-rising_sorted (told ∷ next ∷ more) sorted apart =
-    (below (sorted 0 1 told (omega arith) (omega arith)) apart.0.0, rising_sorted (next ∷ more) (λ i j d. later i j d) apart.1)
+rising_sorted (told ∷ next ∷ more) sorted apart = (below sorted.0 apart.0.0, rising_sorted (next ∷ more) sorted.1 apart.1)
   where
     below : told.turn ≤ next.turn → nat_eq told.turn next.turn ≡ false → told.turn < next.turn
     below least differs = by (told.turn == next.turn) refl
@@ -245,10 +245,6 @@ rising_sorted (told ∷ next ∷ more) sorted apart =
 
         by : (b : Bool) → (told.turn == next.turn) ≡ b → told.turn < next.turn
         by b is = omega (arith, least, apart_is)
-
-    later : (i j : ℕ) (d : TranscriptLine) → i ≤ j → j < length (next ∷ more)
-        → (get_or (next ∷ more) i d).turn ≤ (get_or (next ∷ more) j d).turn
-    later i j d up inside = sorted (suc i) (suc j) d (omega (arith, up)) (omega (arith, inside))
 
 -- numbers that differ, of which none stands in both lists
 pub distinct_append : (xs ys : List ℕ) → IsDistinct nat_eq xs → IsDistinct nat_eq ys

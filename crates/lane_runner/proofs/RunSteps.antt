@@ -1,6 +1,5 @@
 -- What the pass knows of all lanes when their passes are taken back
-use Rattle.std.proofs.Common.{◌≡◌, ℕ, suc, ◌+◌, ◌*◌, ◌≤◌, ◌<◌, nat_eq, List, [], ◌∷◌, ◌++◌, length, map, Some, Vec, refl, ap, sym, ◌∙◌, subst, length-append, arith}
-use Rattle.std.specs.Global.{Global}
+use Rattle.std.proofs.Common.{◌≡◌, ℕ, suc, ◌+◌, ◌*◌, ◌≤◌, ◌<◌, nat_eq, List, [], ◌∷◌, ◌++◌, length, map, Some, refl, ap, sym, ◌∙◌, subst, arith}
 use Rattle.std.specs.List.{AllByRecursion, AllZip, IsDistinct, filter, flat_map}
 use Rattle.std.proofs.lemmas.List.{length-map, map-append}
 use Rattle.std.proofs.lemmas.List.Elements.{recursion_from_All}
@@ -14,12 +13,13 @@ use Rattle.policy_machine.specs.Merge.{AnswersLine, Placed, turns_of}
 use Rattle.turn_lock.specs.History.{StartsWith, entries_of}
 use Rattle.turn_lock.specs.Passes.{Holding, Page, PassFacts, TableId, pages}
 use Rattle.shared_office.specs.Offices.{IsOfficeHistory, OfficeOpening}
+use Rattle.lane_runner.specs.declared.telling.Outlet.{Outlet}
 use Rattle.lane_runner.specs.declared.transcript.TranscriptLine.{TranscriptLine}
 use Rattle.lane_runner.specs.AnsweredLines.{AnsweredLine, turns_in}
 use Rattle.lane_runner.specs.Lanes.{AreRightLanes, IsRightLane, is_value}
 use Rattle.policy_types.specs.Lanes.{lines_in}
 use Rattle.lane_runner.specs.Transcripts.{HasRunLanes, IsTold, dry_of}
-use Rattle.lane_runner.specs.inside.Parts.{HasEntered, HasLeft, HasRunIn, HaveRun, IsFresh, IsReadySeat, IsRoomFor, Seat, all_left, all_shares_in, turns_needed}
+use Rattle.lane_runner.specs.inside.Parts.{HasEntered, HasLeft, HasRunIn, HaveRun, IsFresh, IsReadySeat, IsRoomFor, Seat, all_left, all_shares_in, told_in, turns_needed}
 use Rattle.lane_runner.proofs.Places.{no_turns, turns_stay}
 use Rattle.lane_runner.proofs.AnswerSteps.{all_later, needed_append, told_later, zip_moved}
 use Rattle.lane_runner.proofs.SeatSteps.{zip_length}
@@ -67,7 +67,7 @@ module _ {D W : Type 0} where
   abbrev pub AreLanesOf : Opening → List Entry → List Dated → List Lane → List (Seat D W) → Type 0
   AreLanesOf opening history basis [] [] = Unit {0}
   AreLanesOf opening history basis (lane ∷ lanes) (seat ∷ seats) =
-      IsLaneOf opening history basis lane seat.0.caller seat.1.items × AreLanesOf opening history basis lanes seats
+      IsLaneOf opening history basis lane seat.0.caller (told_in seat) × AreLanesOf opening history basis lanes seats
   AreLanesOf _ _ _ _ _ = ⊥
 
   shares_stay : (basis : List Dated) (lanes : List Lane) (olds news : List (Seat D W)) → HaveRun basis lanes olds news → all_shares_in news ≡ all_shares_in olds
@@ -136,7 +136,7 @@ module _ {D W : Type 0} where
   -- a lane that was run in a seat, as the whole history has it
   lane_of_seat : (basis : List Dated) (first : Holding (OfficeOpening D W)) (opened : OfficeOpening D W) (history : List Entry) (lane : Lane) (old new : Seat D W)
       → first.opening ≡ Some opened → IsFresh first old.0 → HasRunIn basis lane old new → StartsWith history new.0.seen
-      → entries_of history new.0.caller ≡ new.0.made → IsLaneOf opened.opening history basis lane new.0.caller new.1.items
+      → entries_of history new.0.caller ≡ new.0.made → IsLaneOf opened.opening history basis lane new.0.caller (told_in new)
   lane_of_seat basis first opened history lane old new is fresh run begins made = record {
     answered = run.answered.answered;
     theirs = run.answered.theirs;
@@ -145,7 +145,7 @@ module _ {D W : Type 0} where
         ∙ run.answered.grows.turns ∙ ap (λ (front : List Placed). front ++ flat_map turns_in run.answered.answered) none_before);
     answers = run.answered.answers;
     tells = zip_moved (λ (one : AnsweredLine). one.first.0 < length new.0.seen) (IsTold run.answered.opened.opening new.0.seen basis)
-        (IsTold opened.opening history basis) moves run.answered.answered new.1.items run.answered.reached run.answered.tells;
+        (IsTold opened.opening history basis) moves run.answered.answered (told_in new) run.answered.reached run.answered.tells;
   }
     where
       stays : turns_of (new.0.seen ++ begins.0) new.0.caller ≡ turns_of new.0.seen new.0.caller
@@ -188,20 +188,11 @@ module _ {D W : Type 0} where
   news_many basis (lane ∷ lanes) (old ∷ olds) [] run = absurd run
   news_many basis (lane ∷ lanes) (old ∷ olds) (new ∷ news) run = ap suc (news_many basis lanes olds news run.1)
 
-  -- as many lines are told of as the lanes have
-  pub told_many : (basis : List Dated) (lanes : List Lane) (olds news : List (Seat D W)) → HaveRun basis lanes olds news
-      → length (flat_map (λ (seat : Seat D W). seat.1.items) news) ≡ length (lines_in lanes)
-  told_many basis [] [] [] run = refl
-  told_many basis [] [] (new ∷ news) run = absurd run
-  told_many basis [] (old ∷ olds) news run = absurd run
-  told_many basis (lane ∷ lanes) [] news run = absurd run
-  told_many basis (lane ∷ lanes) (old ∷ olds) [] run = absurd run
-  told_many basis (lane ∷ lanes) (old ∷ olds) (new ∷ news) run =
-      let here : length new.1.items ≡ length lane.lines =
-      sym (zip_length (IsTold run.0.answered.opened.opening new.0.seen basis) run.0.answered.answered new.1.items run.0.answered.tells)
-      ∙ sym (length-map run.0.answered.answered (λ (one : AnsweredLine). one.line)) ∙ ap length run.0.answered.asked in
-      length-append new.1.items (flat_map (λ (seat : Seat D W). seat.1.items) news)
-      ∙ (λ i. here i + told_many basis lanes olds news run.1 i) ∙ sym (length-append lane.lines (lines_in lanes))
+  -- as many lines are told of as the lane has
+  pub told_lines : (basis : List Dated) (lane : Lane) (old new : Seat D W) → HasRunIn basis lane old new → length (told_in new) ≡ length lane.lines
+  told_lines basis lane old new run =
+      sym (zip_length (IsTold run.answered.opened.opening new.0.seen basis) run.answered.answered (told_in new) run.answered.tells)
+      ∙ sym (length-map run.answered.answered (λ (one : AnsweredLine). one.line)) ∙ ap length run.answered.asked
 
   pub seats_ours : (basis : List Dated) (office : TableId) (first : Holding (OfficeOpening D W)) (lanes : List Lane) (olds news : List (Seat D W))
       → HaveRun basis lanes olds news → AllByRecursion (λ (seat : Seat D W). IsFresh first seat.0) olds → first.turnstile ≡ office
@@ -232,16 +223,16 @@ module _ {D W : Type 0} where
   )
 
   -- the lanes may be run in the seats that were entered for them
-  pub are_ready : (office : TableId) (old kept : Holding (OfficeOpening D W)) (lanes : List Lane) (rooms : List (Vec TranscriptLine Global)) (seats : List (Seat D W))
-      → AreRightLanes lanes → AllZip IsRoomFor lanes rooms → HasEntered old kept rooms seats → old.turnstile ≡ office
+  pub are_ready : (office : TableId) (old kept : Holding (OfficeOpening D W)) (lanes : List Lane) (outlets : List Outlet) (seats : List (Seat D W))
+      → AreRightLanes lanes → AllZip IsRoomFor lanes outlets → HasEntered old kept outlets seats → old.turnstile ≡ office
       → AllZip (IsReadySeat office) lanes seats
-  are_ready office old kept lanes rooms seats right fitting entered ours =
-      ready office old lanes seats (subst (AllZip IsRoomFor lanes) (sym entered.rooms_are) fitting) entered.fresh ours
+  are_ready office old kept lanes outlets seats right fitting entered ours =
+      ready office old lanes seats (subst (AllZip IsRoomFor lanes) (sym entered.outlets_are) fitting) entered.fresh ours
       (recursion_from_All IsRightLane lanes right.right)
       (needed_each lanes 33554432 (omega (arith, needed_most (lines_in lanes), right.lines, right.values)))
 
-  module _ (basis : List Dated) (lanes : List Lane) (old kept new : Holding (OfficeOpening D W)) (rooms : List (Vec TranscriptLine Global))
-      (olds news : List (Seat D W)) (right : AreRightLanes lanes) (entered : HasEntered old kept rooms olds)
+  module _ (basis : List Dated) (lanes : List Lane) (old kept new : Holding (OfficeOpening D W)) (outlets : List Outlet)
+      (olds news : List (Seat D W)) (right : AreRightLanes lanes) (entered : HasEntered old kept outlets olds)
       (run : HaveRun basis lanes olds news) (left : HasLeft kept new news) (facts_old : PassFacts IsOfficeHistory old)
       (facts : PassFacts IsOfficeHistory new) where
     ended_none : AllByRecursion (λ (seat : Seat D W). seat.0.ended ≡ []) news

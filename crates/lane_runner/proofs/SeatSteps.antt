@@ -1,6 +1,5 @@
 -- Passes that are entered for lanes, and taken back
-use Rattle.std.proofs.Common.{◌≡◌, ℕ, zero, suc, ◌+◌, ◌-◌, ◌/◌, ◌≤◌, ◌<◌, ◌^◌, List, [], ◌∷◌, ◌++◌, length, map, take, drop, get_or, Some, slice_get, Vec, refl, ap, sym, ◌∙◌, subst, append-nil, append_assoc, length-append, arith}
-use Rattle.std.specs.Global.{Global}
+use Rattle.std.proofs.Common.{◌≡◌, ℕ, zero, suc, ◌+◌, ◌-◌, ◌/◌, ◌≤◌, ◌<◌, ◌^◌, List, [], ◌∷◌, ◌++◌, length, map, take, drop, get_or, Some, slice_get, refl, ap, sym, ◌∙◌, subst, append-nil, append_assoc, length-append, arith}
 use Rattle.std.specs.List.{AllZip, flat_map}
 use Rattle.std.proofs.lemmas.List.{map-append}
 use Rattle.std.proofs.lemmas.List.Concat.{flat_map-append}
@@ -10,7 +9,7 @@ use Rattle.policy_types.specs.declared.script.Lane.{Lane}
 use Rattle.turn_lock.specs.History.{StartsWith}
 use Rattle.turn_lock.specs.Passes.{Enters, Holding, LeavesLock, Page, PassFacts, pages}
 use Rattle.shared_office.specs.Offices.{IsOfficeHistory, OfficeOpening}
-use Rattle.lane_runner.specs.declared.transcript.TranscriptLine.{TranscriptLine}
+use Rattle.lane_runner.specs.declared.telling.Outlet.{Outlet}
 use Rattle.policy_types.specs.Lanes.{lines_in}
 use Rattle.lane_runner.specs.inside.Parts.{HasEntered, HasLeft, HasRunIn, HaveRun, IsFresh, Seat, all_left, all_shares_in, shares_to_enter, turns_to_enter}
 use Rattle.lane_runner.proofs.AnswerSteps.{all_append, all_weaker}
@@ -109,7 +108,7 @@ module _ {D W : Type 0} where
     left = omega arith;
     shares = omega arith;
     fresh = tt;
-    rooms_are = refl;
+    outlets_are = refl;
   }
 
   module _ (mid new given : Holding (OfficeOpening D W)) (n : ℕ) (left : turns_to_enter (suc n) ≤ mid.left) (enters : Enters mid new given) where
@@ -125,22 +124,22 @@ module _ {D W : Type 0} where
     pub left_next : turns_to_enter n ≤ new.left
     left_next = omega (arith, left_enough, new_left)
 
-    pub entered_more : (old : Holding (OfficeOpening D W)) (rooms : List (Vec TranscriptLine Global)) (seats : List (Seat D W)) (lines : Vec TranscriptLine Global)
-        → HasEntered old mid rooms seats → PassFacts IsOfficeHistory given
-        → HasEntered old new (rooms ++ lines ∷ []) (seats ++ (given, lines) ∷ [])
-    entered_more old rooms seats lines so_far facts = record {
+    pub entered_more : (old : Holding (OfficeOpening D W)) (outlets : List Outlet) (seats : List (Seat D W)) (outlet : Outlet)
+        → HasEntered old mid outlets seats → PassFacts IsOfficeHistory given
+        → HasEntered old new (outlets ++ outlet ∷ []) (seats ++ (given, outlet) ∷ [])
+    entered_more old outlets seats outlet so_far facts = record {
       turnstile = ap (λ (p : Holding (OfficeOpening D W)). p.turnstile) enters.kept_is ∙ so_far.turnstile;
       opening = ap (λ (p : Holding (OfficeOpening D W)). p.opening) enters.kept_is ∙ so_far.opening;
       caller = ap (λ (p : Holding (OfficeOpening D W)). p.caller) enters.kept_is ∙ so_far.caller;
       seen = ap (λ (p : Holding (OfficeOpening D W)). p.seen) enters.kept_is ∙ so_far.seen;
       made = ap (λ (p : Holding (OfficeOpening D W)). p.made) enters.kept_is ∙ so_far.made;
       ended = ap (λ (p : Holding (OfficeOpening D W)). p.ended) enters.kept_is ∙ so_far.ended;
-      left = omega (arith, left_enough, given_left, new_left, so_far.left, left_push seats (given, lines), length-append seats ((given, lines) ∷ []));
+      left = omega (arith, left_enough, given_left, new_left, so_far.left, left_push seats (given, outlet), length-append seats ((given, outlet) ∷ []));
       shares =
           let kept_shares : new.shares ≡ mid.shares - mid.shares / 2 = ap (λ (p : Holding (OfficeOpening D W)). p.shares) enters.kept_is in
           let given_shares : given.shares ≡ mid.shares / 2 = ap (λ (p : Holding (OfficeOpening D W)). p.shares) enters.given_is in
-          omega (arith, kept_shares, given_shares, so_far.shares, shares_push seats (given, lines));
-      fresh = all_append (λ (seat : Seat D W). IsFresh old seat.0) seats ((given, lines) ∷ []) so_far.fresh (
+          omega (arith, kept_shares, given_shares, so_far.shares, shares_push seats (given, outlet));
+      fresh = all_append (λ (seat : Seat D W). IsFresh old seat.0) seats ((given, outlet) ∷ []) so_far.fresh (
         record {
           turnstile = ap (λ (p : Holding (OfficeOpening D W)). p.turnstile) enters.given_is ∙ so_far.turnstile;
           opening = ap (λ (p : Holding (OfficeOpening D W)). p.opening) enters.given_is ∙ so_far.opening;
@@ -152,9 +151,9 @@ module _ {D W : Type 0} where
         },
         tt,
       );
-      rooms_are =
-          map-append (λ (seat : Seat D W). seat.1) seats ((given, lines) ∷ [])
-          ∙ ap (λ (front : List (Vec TranscriptLine Global)). front ++ lines ∷ []) so_far.rooms_are;
+      outlets_are =
+          map-append (λ (seat : Seat D W). seat.1) seats ((given, outlet) ∷ [])
+          ∙ ap (λ (front : List Outlet). front ++ outlet ∷ []) so_far.outlets_are;
     }
 
   pub shares_next : (mid new given : Holding (OfficeOpening D W)) (n : ℕ) → shares_to_enter (suc n) ≤ mid.shares → Enters mid new given
@@ -177,21 +176,21 @@ module _ {D W : Type 0} where
     ended = sym (append-nil pass.ended);
   }
 
-  pub left_more : (old mid new gone : Holding (OfficeOpening D W)) (seats : List (Seat D W)) (lines : Vec TranscriptLine Global)
-      → HasLeft old mid seats → LeavesLock gone mid new → HasLeft old new (seats ++ (gone, lines) ∷ [])
-  left_more old mid new gone seats lines so_far leaves = record {
+  pub left_more : (old mid new gone : Holding (OfficeOpening D W)) (seats : List (Seat D W)) (outlet : Outlet)
+      → HasLeft old mid seats → LeavesLock gone mid new → HasLeft old new (seats ++ (gone, outlet) ∷ [])
+  left_more old mid new gone seats outlet so_far leaves = record {
     turnstile = ap (λ (p : Holding (OfficeOpening D W)). p.turnstile) leaves.new_is ∙ so_far.turnstile;
     opening = ap (λ (p : Holding (OfficeOpening D W)). p.opening) leaves.new_is ∙ so_far.opening;
     caller = ap (λ (p : Holding (OfficeOpening D W)). p.caller) leaves.new_is ∙ so_far.caller;
     made = ap (λ (p : Holding (OfficeOpening D W)). p.made) leaves.new_is ∙ so_far.made;
     left =
         let new_left : new.left ≡ mid.left + gone.left = ap (λ (p : Holding (OfficeOpening D W)). p.left) leaves.new_is in
-        omega (arith, new_left, so_far.left, left_push seats (gone, lines));
+        omega (arith, new_left, so_far.left, left_push seats (gone, outlet));
     shares =
         let new_shares : new.shares ≡ mid.shares + gone.shares = ap (λ (p : Holding (OfficeOpening D W)). p.shares) leaves.new_is in
-        omega (arith, new_shares, so_far.shares, shares_push seats (gone, lines));
+        omega (arith, new_shares, so_far.shares, shares_push seats (gone, outlet));
     begins = starts_trans new.seen mid.seen old.seen leaves.begins_old so_far.begins;
-    each = all_append (λ (seat : Seat D W). StartsWith new.seen seat.0.seen) seats ((gone, lines) ∷ [])
+    each = all_append (λ (seat : Seat D W). StartsWith new.seen seat.0.seen) seats ((gone, outlet) ∷ [])
         (all_weaker (λ (seat : Seat D W). StartsWith mid.seen seat.0.seen) (λ (seat : Seat D W). StartsWith new.seen seat.0.seen)
         (λ seat starts. starts_trans new.seen mid.seen seat.0.seen leaves.begins_old starts) seats so_far.each)
         (leaves.begins_gone, tt);
@@ -201,7 +200,7 @@ module _ {D W : Type 0} where
         ∙ append_assoc old.ended (flat_map (λ (seat : Seat D W). pages seat.0) seats) (pages gone)
         ∙ ap (λ (back : List Page). old.ended ++ back)
         (ap (λ (back : List Page). flat_map (λ (seat : Seat D W). pages seat.0) seats ++ back) (sym (append-nil (pages gone)))
-        ∙ sym (flat_map-append (λ (seat : Seat D W). pages seat.0) seats ((gone, lines) ∷ [])));
+        ∙ sym (flat_map-append (λ (seat : Seat D W). pages seat.0) seats ((gone, outlet) ∷ [])));
   }
 
   -- each lane was run in its seat, where it was so at each place
@@ -219,32 +218,10 @@ module _ {D W : Type 0} where
     have_run basis lanes olds news (omega (arith, same_olds)) (omega (arith, same_news)) (λ i. at (suc i)),
   )
 
-  -- there is room for the lines of one more
-  pub lines_fit : (all yielded rest : List (Seat D W)) (seat : Seat D W) (capacity : ℕ) → all ≡ yielded ++ seat ∷ rest
-      → length (flat_map (λ (one : Seat D W). one.1.items) all) ≤ capacity
-      → length (flat_map (λ (one : Seat D W). one.1.items) yielded) + length seat.1.items ≤ capacity
-  lines_fit all yielded rest seat capacity is enough =
-      let split : flat_map (λ (one : Seat D W). one.1.items) all
-      ≡ flat_map (λ (one : Seat D W). one.1.items) yielded ++ (seat.1.items ++ flat_map (λ (one : Seat D W). one.1.items) rest)
-      = ap (flat_map (λ (one : Seat D W). one.1.items)) is ∙ flat_map-append (λ (one : Seat D W). one.1.items) yielded (seat ∷ rest) in
-      let long = ap length split in
-      omega (
-        arith,
-        long,
-        enough,
-        length-append (flat_map (λ (one : Seat D W). one.1.items) yielded) (seat.1.items ++ flat_map (λ (one : Seat D W). one.1.items) rest),
-        length-append seat.1.items (flat_map (λ (one : Seat D W). one.1.items) rest),
-      )
-
   pub callers_push : (seats : List (Seat D W)) (seat : Seat D W) (callers : List ℕ) (number : ℕ) → callers ≡ map (λ (one : Seat D W). one.0.caller) seats
       → number ≡ seat.0.caller → callers ++ number ∷ [] ≡ map (λ (one : Seat D W). one.0.caller) (seats ++ seat ∷ [])
   callers_push seats seat callers number are is =
       (λ i. are i ++ is i ∷ []) ∙ sym (map-append (λ (one : Seat D W). one.0.caller) seats (seat ∷ []))
-
-  pub items_push : (seats : List (Seat D W)) (seat : Seat D W) (lines : List TranscriptLine) → lines ≡ flat_map (λ (one : Seat D W). one.1.items) seats
-      → lines ++ seat.1.items ≡ flat_map (λ (one : Seat D W). one.1.items) (seats ++ seat ∷ [])
-  items_push seats seat lines are =
-      (ap (λ (front : List TranscriptLine). front ++ seat.1.items) are ∙ ap (λ (back : List TranscriptLine). flat_map (λ (one : Seat D W). one.1.items) seats ++ back) (sym (append-nil seat.1.items))) ∙ sym (flat_map-append (λ (one : Seat D W). one.1.items) seats (seat ∷ []))
 
 turns_few : (n : ℕ) → n ≤ 8 → turns_to_enter n ≤ 1099511627776
 turns_few zero few = omega arith

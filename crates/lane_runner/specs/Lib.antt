@@ -1,4 +1,7 @@
 pub mod AnsweredLines
 pub mod Lanes
 pub mod Transcripts
+pub mod Telling
+pub mod Evidence
+pub mod Written
 pub mod inside

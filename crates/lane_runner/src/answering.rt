@@ -1,28 +1,39 @@
 // The lines of a lane are answered in order, by turns of one pass.
-ghost use Rattle.std.specs.Prelude.{◌≡◌, ◌≤◌, List, [], ◌∷◌, All, length, vec_capacity};
+ghost use Rattle.std.specs.Prelude.{◌≡◌, ◌+◌, ◌≤◌, ◌<◌, List, [], ◌∷◌, ◌++◌, All, length};
 ghost use Rattle.basis_book.specs.Dated.{Dated};
 ghost use Rattle.policy_types.specs.Valid.{IsValid};
 ghost use Rattle.policy_types.specs.declared.script.Line.TheVariants.{Post as PostLine, Value as ValueLine, Trim as TrimLine};
+ghost use Rattle.rtrb.specs.Ring.{SameProducer, known_free, sent};
 ghost use Rattle.turn_lock.specs.Passes.{PassFacts};
 ghost use Rattle.shared_office.specs.Offices.{IsOfficeHistory};
 ghost use Rattle.snapshot_value.specs.Valuing.{most_turns};
+ghost use Rattle.lane_runner.specs.Evidence.{MayHandOver};
 ghost use Rattle.lane_runner.specs.Lanes.{IsRightLane, IsRightLine};
+ghost use Rattle.lane_runner.specs.Telling.{MayTellNext};
 ghost use Rattle.lane_runner.specs.inside.Parts.{HasAnswered, IsRoomFor, outcome_of, turns_for, turns_needed};
 
+use crate::telling::Outlet;
 use crate::transcript::{Outcome, TranscriptLine};
 use basis_book::Basis;
 use outside_io::{Disk, Gate};
 use policy_types::{At, Command, Lane, Line};
 use policy_value::Measure;
-use shared_office::{Office, OfficeCalls, OfficePass};
-use snapshot_value::{Valuation, ValueFault, value};
+use shared_office::{Office, OfficeCalls, OfficePass, Posted};
+use snapshot_value::{Query, Valuation, ValueFault, value};
 use std::alloc::Global;
 use std::sync::Wait;
-use std::thread::Threads;
+use std::thread::{Parker, Threads};
 use turn_lock::Turned;
 use watcher_set::Watching;
 
-/// Answers the lines of a lane, for which there is room.
+// An answered line, and what its posting gave back, if it is one.
+#[derive(Drop)]
+struct Answered<D: Disk, W: Watching> {
+    told: TranscriptLine,
+    posted: Option<Posted<D, W>>,
+}
+
+/// Answers the lines of a lane, and tells each as soon as it is answered. For each there is room, and the bell is rung.
 pub fn answer_lane<D: Disk, W: Watching, G: Gate, R: Threads + Wait + Sync>(
     rt: &R,
     alloc: Global,
@@ -31,14 +42,16 @@ pub fn answer_lane<D: Disk, W: Watching, G: Gate, R: Threads + Wait + Sync>(
     lane: &Lane,
     basis: &Basis,
     gate: &G,
-    lines: &mut Vec<TranscriptLine>,
+    bell: &Parker,
+    outlet: &mut Outlet,
 )
     requires right { IsRightLane lane.now }
     requires ours { pass.old.turnstile ≡ office.now }
     requires left { turns_needed lane.now.lines ≤ pass.old.left }
-    requires room { IsRoomFor lane.now lines.old }
-    ensures answered { HasAnswered basis.now lane.now.number lane.now.lines pass.old pass.new lines.new.items }
+    requires room { IsRoomFor lane.now outlet.old }
+    ensures answered { HasAnswered basis.now lane.now.number lane.now.lines pass.old pass.new (sent outlet.new.ring) }
     ensures facts { PassFacts IsOfficeHistory pass.new }
+    ensures ring { SameProducer outlet.old.ring outlet.new.ring }
 {
     // What is known of every pass (`PassFacts`) is told of this one here.
     pass.caller();
@@ -51,7 +64,8 @@ pub fn answer_lane<D: Disk, W: Watching, G: Gate, R: Threads + Wait + Sync>(
         lane.lines.as_slice(),
         basis,
         gate,
-        lines,
+        bell,
+        outlet,
     );
 }
 
@@ -64,22 +78,43 @@ fn answer_lines<D: Disk, W: Watching, G: Gate, R: Threads + Wait + Sync>(
     asked: &[Line],
     basis: &Basis,
     gate: &G,
-    lines: &mut Vec<TranscriptLine>,
+    bell: &Parker,
+    outlet: &mut Outlet,
 )
     requires right { All IsRightLine asked.now }
     requires ours { pass.old.turnstile ≡ office.now }
     requires left { turns_needed asked.now ≤ pass.old.left }
     requires facts { PassFacts IsOfficeHistory pass.old }
-    requires empty { lines.old.items ≡ [] }
-    requires room { length asked.now ≤ vec_capacity lines.old }
-    ensures answered { HasAnswered basis.now number asked.now pass.old pass.new lines.new.items }
+    requires none { sent outlet.old.ring ≡ [] }
+    requires room { length asked.now ≤ known_free outlet.old.ring }
+    ensures answered { HasAnswered basis.now number asked.now pass.old pass.new (sent outlet.new.ring) }
     ensures facts { PassFacts IsOfficeHistory pass.new }
+    ensures ring { SameProducer outlet.old.ring outlet.new.ring }
 {
     for line in asked {
         gate.at(rt, number, 0);
         let answered = answer_line(rt, alloc, office, pass, number, line, basis, gate);
-        lines.push_reserved(answered);
+        hand_over(outlet, bell, pass, answered);
     }
+}
+
+// Tells an answered line, and wakes the writer. That of an accepted posting is told only once its command outlives a crash.
+fn hand_over<D: Disk, W: Watching>(
+    outlet: &mut Outlet,
+    bell: &Parker,
+    pass: &OfficePass<D, W>,
+    answered: Answered<D, W>,
+)
+    requires room { 0 < known_free outlet.old.ring }
+    requires follows { MayTellNext (sent outlet.old.ring) answered.told }
+    requires safe { MayHandOver pass.now answered.told answered.posted }
+    ensures ring { SameProducer outlet.old.ring outlet.new.ring }
+    ensures sent { sent outlet.new.ring ≡ sent outlet.old.ring ++ answered.told ∷ [] }
+    ensures room { known_free outlet.old.ring ≡ known_free outlet.new.ring + 1 }
+{
+    let Answered { told, posted: _ } = answered;
+    outlet.ring.push_reserved(told);
+    bell.unpark();
 }
 
 // Answers a line.
@@ -92,12 +127,13 @@ fn answer_line<D: Disk, W: Watching, G: Gate, R: Threads + Wait + Sync>(
     line: &Line,
     basis: &Basis,
     gate: &G,
-) -> TranscriptLine
+) -> Answered<D, W>
     requires right { IsRightLine line.now }
     requires ours { pass.old.turnstile ≡ office.now }
     requires left { turns_for line.now ≤ pass.old.left }
     requires facts { PassFacts IsOfficeHistory pass.old }
-    ensures answered { HasAnswered basis.now lane (line.now ∷ []) pass.old pass.new (result ∷ []) }
+    ensures answered { HasAnswered basis.now lane (line.now ∷ []) pass.old pass.new (result.told ∷ []) }
+    ensures safe { MayHandOver pass.new result.told result.posted }
     ensures facts { PassFacts IsOfficeHistory pass.new }
 {
     match *line {
@@ -115,19 +151,26 @@ fn answer_post<D: Disk, W: Watching, R: Wait>(
     pass: &mut OfficePass<D, W>,
     lane: u8,
     command: Command,
-) -> TranscriptLine
+) -> Answered<D, W>
     requires valid { IsValid command }
     requires ours { pass.old.turnstile ≡ office.now }
     requires left { 1 ≤ pass.old.left }
-    ensures answered { (basis : List Dated) → HasAnswered basis lane (PostLine command ∷ []) pass.old pass.new (result ∷ []) }
+    ensures answered { (basis : List Dated) → HasAnswered basis lane (PostLine command ∷ []) pass.old pass.new (result.told ∷ []) }
+    ensures safe { MayHandOver pass.new result.told result.posted }
     ensures facts { PassFacts IsOfficeHistory pass.new }
 {
-    let Turned { turn, answer } = office.post(rt, pass, &command);
-    TranscriptLine {
-        lane,
+    let Turned {
         turn,
-        line: Line::Post(command),
-        outcome: Outcome::Posted(answer),
+        answer: posted,
+    } = office.post(rt, pass, &command);
+    Answered {
+        told: TranscriptLine {
+            lane,
+            turn,
+            line: Line::Post(command),
+            outcome: Outcome::Posted(posted.answer),
+        },
+        posted: Some(posted),
     }
 }
 
@@ -136,18 +179,22 @@ fn answer_trim<D: Disk, W: Watching, R: Wait>(
     office: &Office<D, W>,
     pass: &mut OfficePass<D, W>,
     lane: u8,
-) -> TranscriptLine
+) -> Answered<D, W>
     requires ours { pass.old.turnstile ≡ office.now }
     requires left { 1 ≤ pass.old.left }
-    ensures answered { (basis : List Dated) → HasAnswered basis lane (TrimLine ∷ []) pass.old pass.new (result ∷ []) }
+    ensures answered { (basis : List Dated) → HasAnswered basis lane (TrimLine ∷ []) pass.old pass.new (result.told ∷ []) }
+    ensures safe { MayHandOver pass.new result.told result.posted }
     ensures facts { PassFacts IsOfficeHistory pass.new }
 {
     let Turned { turn, answer } = office.trim(rt, pass);
-    TranscriptLine {
-        lane,
-        turn,
-        line: Line::Trim,
-        outcome: Outcome::Trimmed(answer),
+    Answered {
+        told: TranscriptLine {
+            lane,
+            turn,
+            line: Line::Trim,
+            outcome: Outcome::Trimmed(answer),
+        },
+        posted: None,
     }
 }
 
@@ -162,31 +209,29 @@ fn answer_value<D: Disk, W: Watching, G: Gate, R: Threads + Wait + Sync>(
     workers: u8,
     basis: &Basis,
     gate: &G,
-) -> TranscriptLine
+) -> Answered<D, W>
     requires workers { (1 ≤ workers) × (workers ≤ 64) }
     requires ours { pass.old.turnstile ≡ office.now }
     requires left { most_turns ≤ pass.old.left }
-    ensures answered { HasAnswered basis.now lane (ValueLine on at workers ∷ []) pass.old pass.new (result ∷ []) }
+    ensures answered { HasAnswered basis.now lane (ValueLine on at workers ∷ []) pass.old pass.new (result.told ∷ []) }
+    ensures safe { MayHandOver pass.new result.told result.posted }
     ensures facts { PassFacts IsOfficeHistory pass.new }
 {
-    let Turned { turn, answer } = value(
-        rt,
-        alloc,
-        office,
-        pass,
+    let query = Query {
         basis,
         on,
-        at,
-        Measure::Terminal,
+        measure: Measure::Terminal,
         workers,
-        lane,
-        gate,
-    );
-    TranscriptLine {
-        lane,
-        turn,
-        line: Line::Value { on, at, workers },
-        outcome: told_of(answer),
+    };
+    let Turned { turn, answer } = value(rt, alloc, office, pass, query, at, lane, gate);
+    Answered {
+        told: TranscriptLine {
+            lane,
+            turn,
+            line: Line::Value { on, at, workers },
+            outcome: told_of(answer),
+        },
+        posted: None,
     }
 }
 

@@ -1,9 +1,16 @@
-//! The lanes of a script, each run by a caller of its own at one office, and the transcript of their lines.
+//! The lanes of a script, each run by a caller of its own at one office, and the transcript of their lines, which is
+//! written while they run.
 #![tactic(auto)]
 
 mod answering;
+mod merging;
+mod page;
+mod rooms;
 mod running;
+mod telling;
 mod transcript;
+mod wording;
 
-pub use running::run_lanes;
+pub use running::{Ran, run_lanes};
 pub use transcript::{Callers, Outcome, Transcript, TranscriptLine, TranscriptLines};
+pub use wording::{Unwritten, Wording};

@@ -1,44 +1,55 @@
-// Lanes are run at the same time, each in a pass of its own.
-ghost use Rattle.std.specs.Prelude.{◌≡◌, ◌+◌, ◌≤◌, ◌<◌, ◌^◌, ◌++◌, [], length, map, vec_capacity, OnErr, IfOk};
+// Lanes are run at the same time, each in a pass of its own, and a writer beside them writes their lines.
+ghost use Rattle.std.specs.Prelude.{◌≡◌, ◌≤◌, ◌<◌, ◌^◌, [], None, length, map, vec_capacity, OnErr, IfOk};
 ghost use Rattle.std.specs.List.{AllByRecursion, AllZip, flat_map};
 ghost use Rattle.std.specs.Thread.{IsSync};
-ghost use Rattle.std.specs.List.Sorted.{IsNonDecreasingBy, IsPermutation};
+ghost use Rattle.std.specs.List.Sorted.{IsPermutation};
 ghost use Rattle.turn_lock.specs.Passes.{PassFacts};
 ghost use Rattle.shared_office.specs.Offices.{IsOfficeHistory};
-ghost use Rattle.lane_runner.specs.declared.transcript.TranscriptLine.{TranscriptLine};
 ghost use Rattle.lane_runner.specs.Lanes.{AreRightLanes};
 ghost use Rattle.policy_types.specs.Lanes.{lines_in};
 ghost use Rattle.lane_runner.specs.Transcripts.{HasAnsweredLanes};
-ghost use Rattle.lane_runner.specs.inside.Parts.{HasEntered, HasLeft, HasLaneRoom, HasRunAt, HaveRun, IsReadySeat, IsReadyAt, IsRoomFor, shares_to_enter, turns_to_enter};
+ghost use Rattle.lane_runner.specs.Written.{HasEnded, line_texts};
+ghost use Rattle.lane_runner.specs.inside.Gathering.{HasPutOut};
+ghost use Rattle.lane_runner.specs.inside.Merging.{AreInOrder, HasLooked, IsMerged, all_to_come};
+ghost use Rattle.lane_runner.specs.inside.Parts.{HasEntered, HasLeft, HasLaneRoom, HasRunAt, HaveRun, IsEndOf, IsInletFor, IsReadySeat, IsReadyAt, IsSameSeat, IsSpent, IsWhole, shares_to_enter, told_in, turns_to_enter};
 
 use crate::answering::answer_lane;
+use crate::merging::merge;
+use crate::page::Page;
+use crate::rooms::{Room, Seat, count_lines, room_for};
+use crate::telling::{Inlet, Outlet};
 use crate::transcript::{Callers, Transcript, TranscriptLine, TranscriptLines};
+use crate::wording::{Unwritten, Wording};
 use basis_book::Basis;
-use outside_io::{Disk, Gate};
+use outside_io::{Disk, Gate, Sink};
 use policy_types::{Lane, NoMemory};
 use shared_office::{Office, OfficePass};
 use std::alloc::Global;
 use std::sync::Wait;
-use std::thread::{Threads, for_each_mut};
+use std::thread::{Parker, Threads, for_each_mut, join_mut};
 use watcher_set::Watching;
 
-// A lane's pass, and its answered lines.
-type Seat<D, W> = (OfficePass<D, W>, Vec<TranscriptLine>);
-
-// The memory for what lanes answer.
+/// What lanes were answered, and what became of the text.
 #[derive(Drop)]
-struct Room<D: Disk, W: Watching> {
-    rooms: Vec<Vec<TranscriptLine>>,
-    seats: Vec<Seat<D, W>>,
-    callers: Vec<u64>,
-    lines: Vec<TranscriptLine>,
+pub struct Ran {
+    pub transcript: Transcript,
+    pub written: Result<(), Unwritten>,
 }
 
-/// Runs lanes at the same time, each by a caller of its own, and gives their lines by rising turns.
+/// Runs lanes at the same time, each by a caller of its own, gives their lines by rising turns, and writes the text of each
+/// line as soon as none can come before it. Where the output fails, or memory is wanting for a text, no more is written, and
+/// the lanes go on.
 ///
 /// The memory for the lines is taken before the first turn: where it is wanting, no turn is taken and the pass stays. The
 /// gate is called with a lane's number and 0 before each of its lines, and in a valuation with `k` after its `k`-th batch.
-pub fn run_lanes<D: Disk + Send, W: Watching + Send, G: Gate + Sync, R: Threads + Wait + Sync>(
+pub fn run_lanes<
+    R: Threads + Wait + Sync,
+    X: Wording + Send,
+    K: Sink + Send,
+    D: Disk + Send,
+    W: Watching + Send,
+    G: Gate + Sync,
+>(
     rt: &R,
     alloc: Global,
     office: &Office<D, W>,
@@ -46,23 +57,34 @@ pub fn run_lanes<D: Disk + Send, W: Watching + Send, G: Gate + Sync, R: Threads 
     lanes: &[Lane],
     basis: &Basis,
     gate: &G,
-) -> Result<Transcript, NoMemory>
+    output: &mut K,
+) -> Result<Ran, NoMemory>
     requires lanes { AreRightLanes lanes.now }
     requires ours { pass.old.turnstile ≡ office.now }
     requires left { 2 ^ 40 ≤ pass.old.left }
     requires shares { 2 ^ 10 ≤ pass.old.shares }
-    ensures answered { IfOk result (λ transcript. HasAnsweredLanes basis.now lanes.now pass.old pass.new transcript) }
-    ensures refused { OnErr result (pass.new ≡ pass.old) }
+    ensures answered { IfOk result (λ ran. HasAnsweredLanes basis.now lanes.now pass.old pass.new ran.transcript) }
+    ensures wrote { IfOk result (λ ran. HasEnded (K.faults output.old) (K.faults output.new) (K.written output.old) (K.written output.new)
+        (line_texts X.text ran.transcript.lines) ran.written) }
+    ensures later { K.faults output.old ≤ K.faults output.new }
+    ensures refused { OnErr result ((pass.new ≡ pass.old) × (output.new ≡ output.old)) }
     ensures facts { PassFacts IsOfficeHistory pass.new }
 {
     // What is known of every pass (`PassFacts`) is told of this one here.
     pass.caller();
     let room = room_for::<D, W>(alloc, lanes)?;
-    Ok(run_in(rt, alloc, office, pass, lanes, basis, gate, room))
+    Ok(run_in::<R, X, K, D, W, G>(rt, alloc, office, pass, lanes, basis, gate, output, room))
 }
 
 // Runs lanes, for whose lines there is room.
-fn run_in<D: Disk + Send, W: Watching + Send, G: Gate + Sync, R: Threads + Wait + Sync>(
+fn run_in<
+    R: Threads + Wait + Sync,
+    X: Wording + Send,
+    K: Sink + Send,
+    D: Disk + Send,
+    W: Watching + Send,
+    G: Gate + Sync,
+>(
     rt: &R,
     alloc: Global,
     office: &Office<D, W>,
@@ -70,120 +92,86 @@ fn run_in<D: Disk + Send, W: Watching + Send, G: Gate + Sync, R: Threads + Wait 
     lanes: &[Lane],
     basis: &Basis,
     gate: &G,
+    output: &mut K,
     room: Room<D, W>,
-) -> Transcript
+) -> Ran
     requires lanes { AreRightLanes lanes.now }
     requires ours { pass.old.turnstile ≡ office.now }
     requires left { 2 ^ 40 ≤ pass.old.left }
     requires shares { 2 ^ 10 ≤ pass.old.shares }
-    requires room { HasLaneRoom lanes.now room.rooms room.seats room.callers room.lines }
-    ensures answered { HasAnsweredLanes basis.now lanes.now pass.old pass.new result }
+    requires room { HasLaneRoom lanes.now room.outlets room.inlets room.seats room.callers room.lines }
+    requires page { (room.page.bytes.items ≡ []) × (room.page.stopped ≡ None) }
+    ensures answered { HasAnsweredLanes basis.now lanes.now pass.old pass.new result.transcript }
+    ensures wrote { HasEnded (K.faults output.old) (K.faults output.new) (K.written output.old) (K.written output.new)
+        (line_texts X.text result.transcript.lines) result.written }
+    ensures later { K.faults output.old ≤ K.faults output.new }
     ensures facts { PassFacts IsOfficeHistory pass.new }
 {
     let Room {
-        rooms,
+        outlets,
+        mut inlets,
         mut seats,
         mut callers,
         mut lines,
+        mut page,
     } = room;
     // What is known of every pass (`PassFacts`) is told of this one here.
     pass.caller();
-    enter_all(office, pass, rooms, &mut seats);
-    run_seats(rt, alloc, office, lanes, basis, gate, &mut seats);
-    leave_all(office, pass, seats, &mut callers, &mut lines);
+    enter_all(office, pass, outlets, &mut seats);
+    run_seats::<R, X, K, D, W, G>(
+        rt,
+        alloc,
+        office,
+        lanes,
+        basis,
+        gate,
+        &mut seats,
+        &mut inlets,
+        &mut lines,
+        &mut page,
+        output,
+    );
+    leave_all(office, pass, seats, &mut callers);
     // What is known of every pass (`PassFacts`) is told of this one here.
     pass.caller();
-    put_in_order(&mut lines);
-    Transcript {
-        callers: Callers::new(callers),
-        lines: TranscriptLines::new(lines),
+    Ran {
+        transcript: Transcript {
+            callers: Callers::new(callers),
+            lines: TranscriptLines::new(lines),
+        },
+        written: page.written(),
     }
-}
-
-// Puts lines in the order of their turns.
-fn put_in_order(lines: &mut Vec<TranscriptLine>)
-    ensures moved { IsPermutation lines.old.items lines.new.items }
-    ensures sorted { IsNonDecreasingBy (λ (told : TranscriptLine). told.turn) lines.new.items }
-{
-    order(lines.as_mut_slice());
-}
-
-fn order(lines: &mut [TranscriptLine])
-    ensures moved { IsPermutation lines.old lines.new }
-    ensures sorted { IsNonDecreasingBy (λ (told : TranscriptLine). told.turn) lines.new }
-{
-    lines.sort_unstable_by_key(|line| line.turn);
-}
-
-// Takes the memory for what is answered to lanes.
-fn room_for<D: Disk, W: Watching>(alloc: Global, lanes: &[Lane]) -> Result<Room<D, W>, NoMemory>
-    requires few { length (lines_in lanes.now) ≤ 2 ^ 24 }
-    ensures { IfOk result (λ room. HasLaneRoom lanes.now room.rooms room.seats room.callers room.lines) }
-{
-    let count = lanes.len();
-    let rooms = rooms_for(alloc, lanes)?;
-    let seats = Vec::with_capacity(alloc, count).map_err(|_| NoMemory)?;
-    let callers = Vec::with_capacity(alloc, count).map_err(|_| NoMemory)?;
-    let lines = Vec::with_capacity(alloc, count_lines(lanes)).map_err(|_| NoMemory)?;
-    Ok(Room {
-        rooms,
-        seats,
-        callers,
-        lines,
-    })
-}
-
-// Takes the memory for each lane's lines.
-fn rooms_for(alloc: Global, lanes: &[Lane]) -> Result<Vec<Vec<TranscriptLine>>, NoMemory>
-    ensures { IfOk result (λ rooms. AllZip IsRoomFor lanes.now rooms.items) }
-{
-    let mut rooms = Vec::with_capacity(alloc, lanes.len()).map_err(|_| NoMemory)?;
-    for lane in lanes {
-        rooms.push_reserved(room_of(alloc, lane)?);
-    }
-    Ok(rooms)
-}
-
-fn room_of(alloc: Global, lane: &Lane) -> Result<Vec<TranscriptLine>, NoMemory>
-    ensures { IfOk result (λ room. IsRoomFor lane.now room) }
-{
-    Vec::with_capacity(alloc, lane.lines.as_slice().len()).map_err(|_| NoMemory)
-}
-
-// The number of all lines.
-fn count_lines(lanes: &[Lane]) -> usize
-    requires { length (lines_in lanes.now) ≤ 2 ^ 24 }
-    ensures { result ≡ length (lines_in lanes.now) }
-{
-    let mut count = 0;
-    for lane in lanes {
-        count += lane.lines.as_slice().len();
-    }
-    count
 }
 
 // Gives each lane a pass of its own.
 fn enter_all<D: Disk, W: Watching>(
     office: &Office<D, W>,
     pass: &mut OfficePass<D, W>,
-    rooms: Vec<Vec<TranscriptLine>>,
+    outlets: Vec<Outlet>,
     seats: &mut Vec<Seat<D, W>>,
 )
     requires ours { pass.old.turnstile ≡ office.now }
-    requires left { turns_to_enter (length rooms.items) ≤ pass.old.left }
-    requires shares { shares_to_enter (length rooms.items) ≤ pass.old.shares }
+    requires left { turns_to_enter (length outlets.items) ≤ pass.old.left }
+    requires shares { shares_to_enter (length outlets.items) ≤ pass.old.shares }
     requires empty { seats.old.items ≡ [] }
-    requires room { length rooms.items ≤ vec_capacity seats.old }
-    ensures entered { HasEntered pass.old pass.new rooms.items seats.new.items }
+    requires room { length outlets.items ≤ vec_capacity seats.old }
+    ensures entered { HasEntered pass.old pass.new outlets.items seats.new.items }
 {
-    for lines in rooms {
+    for outlet in outlets {
         let given = office.enter(pass);
-        seats.push_reserved((given, lines));
+        seats.push_reserved((given, outlet));
     }
 }
 
-// Runs each lane in its seat, all at the same time.
-fn run_seats<D: Disk + Send, W: Watching + Send, G: Gate + Sync, R: Threads + Wait + Sync>(
+// Runs each lane in its seat, all at the same time, and writes what they tell.
+fn run_seats<
+    R: Threads + Wait + Sync,
+    X: Wording + Send,
+    K: Sink + Send,
+    D: Disk + Send,
+    W: Watching + Send,
+    G: Gate + Sync,
+>(
     rt: &R,
     alloc: Global,
     office: &Office<D, W>,
@@ -191,11 +179,115 @@ fn run_seats<D: Disk + Send, W: Watching + Send, G: Gate + Sync, R: Threads + Wa
     basis: &Basis,
     gate: &G,
     seats: &mut Vec<Seat<D, W>>,
+    inlets: &mut Vec<Inlet>,
+    lines: &mut Vec<TranscriptLine>,
+    page: &mut Page,
+    output: &mut K,
 )
     requires ready { AllZip (IsReadySeat office.now) lanes.now seats.old.items }
+    requires fed { AllZip IsInletFor lanes.now inlets.old.items }
+    requires ends { AllZip IsEndOf seats.old.items inlets.old.items }
+    requires few { length (lines_in lanes.now) ≤ 2 ^ 24 }
+    requires room { (lines.old.items ≡ []) × (length (lines_in lanes.now) ≤ vec_capacity lines.old) }
+    requires page { (page.old.bytes.items ≡ []) × (page.old.stopped ≡ None) }
     ensures run { HaveRun basis.now lanes.now seats.old.items seats.new.items }
+    ensures moved { IsPermutation (flat_map (λ seat. told_in seat) seats.new.items) lines.new.items }
+    ensures sorted { AreInOrder lines.new.items }
+    ensures later { K.faults output.old ≤ K.faults output.new }
+    ensures put { HasPutOut (K.faults output.old) (K.faults output.new) (K.written output.old) (K.written output.new)
+        (line_texts X.text lines.new.items) page.new.bytes.items page.new.stopped }
+    ensures flushed { page.new.stopped ≡ None → page.new.bytes.items ≡ [] }
 {
-    run_all(rt, alloc, office, lanes, basis, gate, seats.as_mut_slice());
+    let count = count_lines(lanes);
+    let bell = Parker::new();
+    run_beside::<R, X, K, D, W, G>(
+        rt,
+        alloc,
+        office,
+        lanes,
+        basis,
+        gate,
+        &bell,
+        count,
+        seats.as_mut_slice(),
+        inlets.as_mut_slice(),
+        lines,
+        page,
+        output,
+    );
+}
+
+// Runs the lanes, and beside them the writer, which takes what they tell.
+fn run_beside<
+    'a,
+    R: Threads + Wait + Sync,
+    X: Wording + Send,
+    K: Sink + Send,
+    D: Disk + Send,
+    W: Watching + Send,
+    G: Gate + Sync,
+>(
+    rt: &'a R,
+    alloc: Global,
+    office: &'a Office<D, W>,
+    lanes: &'a [Lane],
+    basis: &'a Basis,
+    gate: &'a G,
+    bell: &'a Parker,
+    count: usize,
+    seats: &'a mut [Seat<D, W>],
+    inlets: &'a mut [Inlet],
+    lines: &'a mut Vec<TranscriptLine>,
+    page: &'a mut Page,
+    output: &'a mut K,
+)
+    requires ready { AllZip (IsReadySeat office.now) lanes.now seats.old }
+    requires fed { AllZip IsInletFor lanes.now inlets.old }
+    requires ends { AllZip IsEndOf seats.old inlets.old }
+    requires count { count ≡ all_to_come inlets.old }
+    requires room { count ≤ vec_capacity lines.old }
+    requires empty { lines.old.items ≡ [] }
+    requires merged { IsMerged inlets.old lines.old.items }
+    requires page { (page.old.bytes.items ≡ []) × (page.old.stopped ≡ None) }
+    ensures run { HaveRun basis.now lanes.now seats.old seats.new }
+    ensures moved { IsPermutation (flat_map (λ seat. told_in seat) seats.new) lines.new.items }
+    ensures sorted { AreInOrder lines.new.items }
+    ensures later { K.faults output.old ≤ K.faults output.new }
+    ensures put { HasPutOut (K.faults output.old) (K.faults output.new) (K.written output.old) (K.written output.new)
+        (line_texts X.text lines.new.items) page.new.bytes.items page.new.stopped }
+    ensures flushed { page.new.stopped ≡ None → page.new.bytes.items ≡ [] }
+{
+    join_mut(
+        rt,
+        &mut ||
+            requires count { count ≡ all_to_come inlets.now }
+            requires room { count ≤ vec_capacity lines.now }
+            requires empty { lines.now.items ≡ [] }
+            requires merged { IsMerged inlets.now lines.now.items }
+            requires page { (page.now.bytes.items ≡ []) × (page.now.stopped ≡ None) }
+        { merge::<R, X, K>(rt, alloc, bell, count, inlets, lines, page, output) },
+        &mut ||
+            requires ready { AllZip (IsReadySeat office.now) lanes.now seats.now }
+        { run_all(rt, alloc, office, lanes, basis, gate, bell, seats) },
+    );
+    settle(seats, inlets);
+}
+
+// Learns that what was taken from each lane is what it told.
+fn settle<D: Disk, W: Watching>(seats: &mut [Seat<D, W>], inlets: &mut [Inlet])
+    requires spent { AllZip IsSpent seats.old inlets.old }
+    ensures seats { AllZip IsSameSeat seats.old seats.new }
+    ensures inlets { AllZip HasLooked inlets.old inlets.new }
+    ensures whole { AllZip IsWhole seats.new inlets.new }
+{
+    let Some((seat, seats)) = seats.split_first_mut() else {
+        return;
+    };
+    let Some((inlet, inlets)) = inlets.split_first_mut() else {
+        return;
+    };
+    inlet.ring.slots_beside(&mut seat.1.ring);
+    settle(seats, inlets);
 }
 
 fn run_all<D: Disk + Send, W: Watching + Send, G: Gate + Sync, R: Threads + Wait + Sync>(
@@ -205,6 +297,7 @@ fn run_all<D: Disk + Send, W: Watching + Send, G: Gate + Sync, R: Threads + Wait
     lanes: &[Lane],
     basis: &Basis,
     gate: &G,
+    bell: &Parker,
     seats: &mut [Seat<D, W>],
 )
     requires ready { AllZip (IsReadySeat office.now) lanes.now seats.old }
@@ -228,41 +321,29 @@ fn run_all<D: Disk + Send, W: Watching + Send, G: Gate + Sync, R: Threads + Wait
                 lane,
                 basis,
                 gate,
+                bell,
                 &mut seat.1,
             );
         },
     );
 }
 
-// Takes the passes of all lanes back, and puts their lines together.
+// Takes the passes of all lanes back.
 fn leave_all<D: Disk, W: Watching>(
     office: &Office<D, W>,
     pass: &mut OfficePass<D, W>,
     seats: Vec<Seat<D, W>>,
     callers: &mut Vec<u64>,
-    all: &mut Vec<TranscriptLine>,
 )
     requires ours { (pass.old.turnstile ≡ office.now)
         × AllByRecursion (λ seat. seat.0.turnstile ≡ office.now) seats.items }
     requires callers { (callers.old.items ≡ []) × (length seats.items ≤ vec_capacity callers.old) }
-    requires lines { (all.old.items ≡ []) × (length (flat_map (λ seat. seat.1.items) seats.items) ≤ vec_capacity all.old) }
     ensures left { HasLeft pass.old pass.new seats.items }
     ensures callers { callers.new.items ≡ map (λ seat. seat.0.caller) seats.items }
-    ensures lines { all.new.items ≡ flat_map (λ seat. seat.1.items) seats.items }
 {
     for seat in seats {
-        let (gone, lines) = seat;
+        let (gone, _) = seat;
         callers.push_reserved(gone.caller());
         office.leave(gone, pass);
-        put_behind(all, lines);
     }
-}
-
-// Puts lines behind others, where there is room for them.
-fn put_behind(all: &mut Vec<TranscriptLine>, mut lines: Vec<TranscriptLine>)
-    requires { length all.old.items + length lines.items ≤ vec_capacity all.old }
-    ensures lines { all.new.items ≡ all.old.items ++ lines.items }
-    ensures room { vec_capacity all.old ≤ vec_capacity all.new }
-{
-    let _ = all.append(&mut lines);
 }

@@ -2,15 +2,16 @@
 ghost use Rattle.std.specs.Prelude.{◌≡◌, ℕ, ◌≤◌, [], ◌∷◌, All, IsTrue, length, map};
 ghost use Rattle.std.specs.List.{AllByRecursion, filter};
 ghost use Rattle.policy_types.specs.Lanes.{AreRising};
+ghost use Rattle.policy_types.specs.Valid.{IsCommandDay};
 ghost use Rattle.lane_runner.specs.Lanes.{AreRightLanes, IsRightLane, IsRightLine, is_value};
 ghost use Rattle.policy_types.specs.Lanes.{lines_in};
 
 use crate::offices::{flat_basis, issue_all};
 use basis_book::Basis;
-use lane_runner::{Transcript, run_lanes};
+use lane_runner::{Transcript, TranscriptLine, Wording, run_lanes};
 use memory_disk::MemoryDisk;
-use outside_io::{Disk, Gate};
-use policy_types::{Lane, Line};
+use outside_io::{BytesSink, Disk, Gate};
+use policy_types::{Lane, Line, NoMemory};
 use shared_office::{Office, OfficeCalls, OfficePass, close};
 use std::alloc::Global;
 use std::sync::Wait;
@@ -69,12 +70,34 @@ fn is_right(line: &Line) -> bool
 {
     match *line {
         Line::Post(command) => command.is_valid(),
-        Line::Value { workers, .. } => 1 <= workers && workers <= 64,
+        Line::Value { on, workers, .. } => is_day(on) && 1 <= workers && workers <= 64,
         Line::Trim => true,
     }
 }
 
-/// Runs lanes where they may be run and there is memory.
+// From 1900-01-01 to 2199-12-31.
+fn is_day(day: i32) -> bool
+    ensures { IsTrue result → IsCommandDay day }
+{
+    -25_567 <= day && day <= 84_005
+}
+
+/// The number of its clerk, for each line.
+struct Clerks;
+
+impl Wording for Clerks {
+    ghost use Rattle.std.specs.Prelude.{[], ◌∷◌};
+
+    ghost text = { λ told. told.lane ∷ [] };
+
+    fn words(alloc: Global, told: &TranscriptLine) -> Result<Vec<u8>, NoMemory> {
+        let mut words = Vec::with_capacity(alloc, 1).map_err(|_| NoMemory)?;
+        words.push_reserved(told.lane);
+        Ok(words)
+    }
+}
+
+/// Runs lanes where they may be run and there is memory, and writes of each line the number of its clerk.
 pub(crate) fn run_right<
     D: Disk + Send,
     W: Watching + Send,
@@ -95,7 +118,33 @@ pub(crate) fn run_right<
     if pass.left() < 1 << 40 || pass.shares() < 1 << 10 || !are_right(lanes) {
         return None;
     }
-    run_lanes(rt, alloc, office, pass, lanes, basis, gate).ok()
+    let mut output = BytesSink::new(alloc, Vec::new(alloc));
+    let ran = run_lanes::<R, Clerks, BytesSink, D, W, G>(
+        rt,
+        alloc,
+        office,
+        pass,
+        lanes,
+        basis,
+        gate,
+        &mut output,
+    );
+    let Ok(ran) = ran else {
+        return None;
+    };
+    if ran.written.is_err() || !are_clerks(ran.transcript.lines.as_slice(), output.bytes()) {
+        return None;
+    }
+    Some(ran.transcript)
+}
+
+// Whether these are the numbers of the lines' clerks.
+fn are_clerks(lines: &[TranscriptLine], numbers: &[u8]) -> bool {
+    lines.len() == numbers.len()
+        && lines
+            .iter()
+            .zip(numbers)
+            .all(|(line, number)| line.lane == *number)
 }
 
 /// Runs these lanes on an office where the policies of the numbers from 1 to this one were issued, and closes it. Gives what

@@ -3,12 +3,11 @@ ghost use Rattle.std.specs.Prelude.{◌≡◌, ◌≤◌};
 ghost use denote.Param.Send.{IsSync};
 
 use crate::offices::{ONE_YEAR, flat_basis, issue, issue_all, post};
-use crate::snapshot_value_tests::{inforce, is_of};
+use crate::snapshot_value_tests::{inforce, is_of, terminal};
 use basis_book::Basis;
 use memory_disk::MemoryDisk;
 use outside_io::{Disk, Gate, OpenGate};
 use policy_types::{At, Command, Status};
-use policy_value::Measure;
 use shared_office::{Office, OfficeCalls, OfficePass, close};
 use snapshot_value::value;
 use std::alloc::Global;
@@ -64,11 +63,8 @@ fn value_issues<D: Disk, W: Watching, R: Threads + Wait + Sync>(
         alloc,
         office,
         pass,
-        basis,
-        ONE_YEAR,
+        terminal(basis, ONE_YEAR, 1),
         At::Now,
-        Measure::Terminal,
-        1,
         1,
         meeting,
     );
@@ -157,11 +153,8 @@ fn at_last<D: Disk, W: Watching, R: Threads + Wait + Sync>(
         alloc,
         office,
         pass,
-        basis,
-        ONE_YEAR,
+        terminal(basis, ONE_YEAR, 1),
         At::Now,
-        Measure::Terminal,
-        1,
         1,
         &OpenGate,
     );

@@ -3,11 +3,11 @@ ghost use Rattle.std.specs.Prelude.{◌≡◌};
 
 use crate::forty_commands::COMMANDS;
 use crate::offices::{flat_basis, post};
+use crate::snapshot_value_tests::terminal;
 use basis_book::Basis;
 use memory_disk::MemoryDisk;
 use outside_io::{Disk, OpenGate};
 use policy_types::At;
-use policy_value::Measure;
 use shared_office::{Office, OfficeCalls, OfficePass, close};
 use snapshot_value::{Valuation, value};
 use std::alloc::Global;
@@ -55,11 +55,8 @@ fn valued<D: Disk, W: Watching, R: Threads + Wait + Sync>(
         alloc,
         office,
         pass,
-        basis,
-        TWO_YEARS,
+        terminal(basis, TWO_YEARS, 4),
         at,
-        Measure::Terminal,
-        4,
         3,
         &OpenGate,
     );

@@ -9,7 +9,7 @@ use outside_io::{Disk, Gate, OpenGate};
 use policy_types::{At, Command, PinRefusal, Status};
 use policy_value::{Measure, Row, Worth};
 use shared_office::{Office, OfficeCalls, OfficePass, close};
-use snapshot_value::{Valuation, ValueFault, value};
+use snapshot_value::{Query, Valuation, ValueFault, value};
 use std::alloc::Global;
 use std::cell::Cell;
 use std::sync::Wait;
@@ -34,6 +34,18 @@ impl Gate for Steps {
         self.in_order
             .set(self.in_order.get() && lane == 3 && step == next);
         self.last.set(step);
+    }
+}
+
+// A question after terminal reserves.
+pub(crate) fn terminal(basis: &Basis, on: i32, workers: u8) -> Query<'_>
+    ensures { result.workers ≡ workers }
+{
+    Query {
+        basis,
+        on,
+        measure: Measure::Terminal,
+        workers,
     }
 }
 
@@ -100,11 +112,8 @@ pub(crate) fn first_wrong<D: Disk, W: Watching, R: Threads + Wait + Sync>(
             alloc,
             office,
             pass,
-            basis,
-            on,
+            terminal(basis, on, workers),
             at,
-            Measure::Terminal,
-            workers,
             3,
             &steps,
         );
@@ -136,11 +145,8 @@ fn now_and_ahead<D: Disk, W: Watching, R: Threads + Wait + Sync>(
         alloc,
         office,
         pass,
-        basis,
-        ONE_YEAR,
+        terminal(basis, ONE_YEAR, 1),
         At::Now,
-        Measure::Terminal,
-        1,
         3,
         &OpenGate,
     );
@@ -149,11 +155,8 @@ fn now_and_ahead<D: Disk, W: Watching, R: Threads + Wait + Sync>(
         alloc,
         office,
         pass,
-        basis,
-        ONE_YEAR,
+        terminal(basis, ONE_YEAR, 64),
         At::Position(302),
-        Measure::Terminal,
-        64,
         3,
         &OpenGate,
     );

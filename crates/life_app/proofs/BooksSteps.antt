@@ -20,20 +20,20 @@ use Rattle.program_endings.specs.Writing.{Input, Shelving, Stream, WroteAll}
 use Rattle.program_endings.specs.declared.ending.Ending.{Ending}
 use Rattle.program_endings.specs.declared.ending.Ending.TheVariants.{Done, BadJournal, WriteFault, DiskFault, NoMemory}
 use Rattle.watcher_set.specs.Noted.{Auditor}
-use Rattle.kept_books.specs.Saved.{IsSaved}
-use Rattle.kept_books.specs.Stated.{snapshot_text}
-use Rattle.kept_books.specs.Telling.{EndsTelling, IsRefusedByTwo, TellsSnapshot}
-use Rattle.kept_books.specs.TwoDisks.{AreBothQuiet, AreTrue, TwoDisks, disks_of}
-use Rattle.kept_books.specs.declared.finished.FinishedKept.{FinishedKept}
-use Rattle.life_app.specs.declared.kept.Books.{Books}
-use Rattle.life_app.specs.declared.kept.Books.TheVariants.{State as ToState, Checkpoint as ToSave}
+use Rattle.stating_modes.specs.Saved.{IsSaved}
+use Rattle.stating_modes.specs.Stated.{snapshot_text}
+use Rattle.stating_modes.specs.Telling.{EndsTelling, IsRefusedByTwo, TellsSnapshot}
+use Rattle.stating_modes.specs.TwoDisks.{AreBothQuiet, AreTrue, TwoDisks, disks_of}
+use Rattle.stating_modes.specs.declared.finished.FinishedKept.{FinishedKept}
+use Rattle.life_app.specs.declared.kept.BookMode.{BookMode}
+use Rattle.life_app.specs.declared.kept.BookMode.TheVariants.{State as ToState, Checkpoint as ToSave}
 use Rattle.life_app.specs.declared.kept.EndedKept.{EndedKept}
 use Rattle.life_app.specs.DueKept.{HasReasonOfBoth, IsDueOfBoth, IsReasonedOfBoth}
 use Rattle.life_app.specs.ObeysKept.{AskForBoth, EndsByBoth, ObeysByBoth, ObeysKept}
 use Rattle.life_app.specs.inside.Books.{GivesBooks, IsBooksOf, IsOfBoth, ended_disks}
 
 -- words that ask for a mode ask for no other
-pub gives_books : (words : List (String Global)) (mode : Mode) (books : Option Books) → AskFor words mode → IsBooksOf mode books
+pub gives_books : (words : List (String Global)) (mode : Mode) (books : Option BookMode) → AskFor words mode → IsBooksOf mode books
     → GivesBooks words (Ok books)
 gives_books words mode (Some ToState) asked is = subst (AskFor words) is asked
 gives_books words mode (Some ToSave) asked is = subst (AskFor words) is asked

@@ -25,10 +25,10 @@ use Rattle.program_endings.specs.Texts.{EndsReadOnly}
 use Rattle.program_endings.specs.Writing.{Input, Shelving, Stream, WroteAll}
 use Rattle.script_run.specs.Outcome.{EndsScript}
 use Rattle.script_run.specs.Running.{EndsLanes, EndsRun}
-use Rattle.book_state.specs.Books.{books_text, policy_account}
-use Rattle.book_state.specs.Stating.{EndsState, IsStated}
-use Rattle.book_value.specs.Valuing.{EndsValue, IsValued}
-use Rattle.book_projection.specs.Projecting.{EndsProject, IsProjected}
+use Rattle.stating_modes.specs.Books.{books_text, policy_account}
+use Rattle.stating_modes.specs.Stating.{EndsState, IsStated}
+use Rattle.valuing_modes.specs.Valuing.{EndsValue, IsValued}
+use Rattle.valuing_modes.specs.Projecting.{EndsProject, IsProjected}
 use Rattle.trial_load.specs.Loading.{EndsLoad, EndsLoading}
 use Rattle.life_app.specs.Obeys.{Does, EndsMode}
 
@@ -136,10 +136,7 @@ module _ {D : Type 0} (g : Ghosts D) (old new : D) (output : Stream) (rose : g.f
   load_told : (seed count lanes workers : ℕ) (shelf : Shelving) (ending : Ending)
       → EndsLoad g old new seed count lanes workers shelf output ending → IsTold ending
   load_told seed count lanes workers shelf ending ends = elim ends [
-    | inl by ↦ elim by.ends [
-      | inl load ↦ loading_told _ workers by.basis ending load
-      | inr none ↦ absurd (untouched none.0)
-    ]
+    | inl by ↦ loading_told _ workers by.basis ending by.ends
     | inr none ↦ absurd (untouched none.0)
   ]
 

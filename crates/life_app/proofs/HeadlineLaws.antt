@@ -241,7 +241,8 @@ module _ {D : Type 0} (g : Ghosts D) (old new : D) (output : Stream) where
   by_ending lanes basis auditors NoMemory ends = elim ends [
     | inl said ↦ inr (unrun_alone 9 (λ never. cc) _ said.0 said.1)
     | inr (inl ran) ↦
-        inl (promised lanes basis auditors _ _ 9 ran (λ text none. (0, none)) (λ text none status. elim status [ inl zero ↦ cc | inr eight ↦ cc ]))
+        inl (promised lanes basis auditors _ _ 9 ran (λ text part. (part.taken, part.written))
+        (λ text part status. elim status [ inl zero ↦ cc | inr eight ↦ cc ]))
     | inr (inr ran) ↦ inl (promised lanes basis auditors _ _ 9 ran all_of (λ text all status. all))
   ]
   by_ending lanes basis auditors _ ends = absurd ends

@@ -10,12 +10,13 @@ use Rattle.record_codec.specs.Spelling.{spelling_of}
 use Rattle.checkpoint_store.specs.Checkpoints.{IsSnapshotOf}
 use Rattle.checkpoint_store.specs.declared.snapshot.Snapshot.{Snapshot}
 use Rattle.checkpoint_store.proofs.OneSnapshot.{one_snapshot}
+use Rattle.journal_replay.specs.Replays.{bodies_of}
 use Rattle.office_state.specs.Images.{IsLeftAlone}
-use Rattle.office_state.specs.Journals.{Opens, bodies_of}
+use Rattle.office_state.specs.Journals.{Opens}
 use Rattle.office_state.proofs.JournalLaws.{opens_to_one, to_bodies}
 use Rattle.office_state.proofs.OpeningSteps.{opening_keeps}
-use Rattle.kept_books.specs.Saved.{IsNoneOrEarlierOrHeld}
-use Rattle.kept_books.specs.TwoDisks.{AreTrue, IsOnlyRead, TellsTruth, TwoDisks}
+use Rattle.stating_modes.specs.Saved.{IsNoneOrEarlierOrHeld}
+use Rattle.stating_modes.specs.TwoDisks.{AreTrue, IsOnlyRead, TellsTruth, TwoDisks}
 use Rattle.std.specs.Global.{Global}
 use Rattle.std.specs.Prelude.{String}
 use Rattle.policy_types.specs.declared.entry.Entry.{Entry}

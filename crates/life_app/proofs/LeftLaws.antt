@@ -17,10 +17,10 @@ use Rattle.program_endings.specs.Texts.{EndsReadOnly}
 use Rattle.program_endings.specs.Writing.{Input, Shelving, Stream}
 use Rattle.script_run.specs.Outcome.{EndsScript, IsRunOf}
 use Rattle.script_run.specs.Running.{EndsLanes, EndsRun}
-use Rattle.book_state.specs.Books.{books_text, policy_account}
-use Rattle.book_state.specs.Stating.{IsStated}
-use Rattle.book_value.specs.Valuing.{EndsValue, IsValued}
-use Rattle.book_projection.specs.Projecting.{EndsProject, IsProjected}
+use Rattle.stating_modes.specs.Books.{books_text, policy_account}
+use Rattle.stating_modes.specs.Stating.{IsStated}
+use Rattle.valuing_modes.specs.Valuing.{EndsValue, IsValued}
+use Rattle.valuing_modes.specs.Projecting.{EndsProject, IsProjected}
 use Rattle.trial_load.specs.Loading.{EndsLoad, EndsLoading, IsLoadOf}
 use Rattle.life_app.specs.Obeys.{Does, EndsMode}
 use Rattle.life_app.specs.Runs.{IsLeftSo}
@@ -124,10 +124,7 @@ module _ {D : Type 0} (g : Ghosts D) (old new : D) where
   load_left : (seed count lanes workers : ℕ) (shelf : Shelving) (output : Stream) (ending : Ending)
       → EndsLoad g old new seed count lanes workers shelf output ending → Left
   load_left seed count lanes workers shelf output ending ends = elim ends [
-    | inl by ↦ elim by.ends [
-      | inl load ↦ loading _ _ by.basis output ending load
-      | inr none ↦ untouched none.0
-    ]
+    | inl by ↦ loading _ _ by.basis output ending by.ends
     | inr none ↦ untouched none.0
   ]
 

@@ -29,12 +29,12 @@ use Rattle.program_endings.specs.Writing.{Input, IsWholeInput, Shelving, Stream}
 use Rattle.script_run.specs.Running.{EndsRun, HasItsBasis}
 use Rattle.script_run.specs.Script.{IsUnreadable, asks_for_values}
 use Rattle.script_run.proofs.RunStatus.{run_as_before, run_refused, run_to_end, run_too_long, run_unfit, run_unreadable}
-use Rattle.book_state.specs.Books.{books_text, policy_account}
-use Rattle.book_state.proofs.StateStatus.{state_as_before, state_refused, state_to_end}
-use Rattle.book_value.specs.Valuing.{EndsValue, position_of}
-use Rattle.book_value.proofs.ValueStatus.{value_as_before, value_beyond, value_refused, value_to_end, value_unfit}
-use Rattle.book_projection.specs.Projecting.{EndsProject}
-use Rattle.book_projection.proofs.ProjectStatus.{project_as_before, project_refused, project_to_end, project_unfit}
+use Rattle.stating_modes.specs.Books.{books_text, policy_account}
+use Rattle.stating_modes.proofs.StateStatus.{state_as_before, state_refused, state_to_end}
+use Rattle.valuing_modes.specs.Valuing.{EndsValue, position_of}
+use Rattle.valuing_modes.proofs.ValueStatus.{value_as_before, value_beyond, value_refused, value_to_end, value_unfit}
+use Rattle.valuing_modes.specs.Projecting.{EndsProject}
+use Rattle.valuing_modes.proofs.ProjectStatus.{project_as_before, project_refused, project_to_end, project_unfit}
 use Rattle.trial_load.proofs.LoadStatus.{generate_to_end, load_as_before, load_refused, load_to_end, load_unfit}
 use Rattle.life_app.specs.Needs.{filing_between}
 use Rattle.life_app.proofs.FaultsTold.{fault_told}

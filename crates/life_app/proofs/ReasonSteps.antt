@@ -20,10 +20,10 @@ use Rattle.program_endings.specs.Writing.{Input, Shelving, Stream}
 use Rattle.script_run.specs.Outcome.{EndsScript}
 use Rattle.script_run.specs.Running.{EndsLanes, EndsRun}
 use Rattle.script_run.specs.Script.{EndsUnread, asks_for_values}
-use Rattle.book_state.specs.Books.{books_text, policy_account}
-use Rattle.book_state.specs.Stating.{IsStated}
-use Rattle.book_value.specs.Valuing.{EndsValue, IsAhead, IsValued}
-use Rattle.book_projection.specs.Projecting.{EndsProject, IsProjected}
+use Rattle.stating_modes.specs.Books.{books_text, policy_account}
+use Rattle.stating_modes.specs.Stating.{IsStated}
+use Rattle.valuing_modes.specs.Valuing.{EndsValue, IsAhead, IsValued}
+use Rattle.valuing_modes.specs.Projecting.{EndsProject, IsProjected}
 use Rattle.trial_load.specs.Generating.{EndsGenerate}
 use Rattle.trial_load.specs.Loading.{EndsLoad, EndsLoading}
 use Rattle.life_app.specs.Needs.{IsPastTheEnd, NeedBasis, filing_between}
@@ -130,10 +130,7 @@ module _ {D : Type 0} (g : Ghosts D) (old new : D) (words : List (String Global)
   load_reason : (seed count lanes workers : ℕ) (ending : Ending) → AskFor words (Load seed count lanes workers)
       → EndsLoad g old new seed count lanes workers shelf output ending → Reason ending
   load_reason seed count lanes workers ending asked ends = elim ends [
-    | inl by ↦ elim by.ends [
-      | inl load ↦ loading _ workers by.basis ending load
-      | inr none ↦ subst (λ (e : Ending). Reason e) (sym none.1) tt
-    ]
+    | inl by ↦ loading _ workers by.basis ending by.ends
     | inr none ↦ no_basis (codes "basis.csv") ending (inr (inr (inl ((seed, (count, (lanes, (workers, asked)))), refl)))) none.1
   ]
 

@@ -9,7 +9,7 @@ use Rattle.life_args.proofs.WorkedWords.{asks}
 use Rattle.program_endings.proofs.WorkedEndings.{no_fault}
 use Rattle.program_endings.specs.Worked.{output_with}
 use Rattle.program_endings.specs.Writing.{WroteLine}
-use Rattle.kept_books.proofs.EmptyFiles.{hello_refused}
+use Rattle.stating_modes.proofs.EmptyFiles.{hello_refused}
 use Rattle.life_app.specs.WorkedKept.{BothRefuseHello, BothWords, NoWordsLine}
 
 pub both_words : BothWords

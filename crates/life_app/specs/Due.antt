@@ -19,7 +19,7 @@ use Rattle.program_endings.specs.Writing.{Input, IsWholeInput, Shelving, Stream}
 use Rattle.program_endings.specs.declared.ending.Ending.{Ending}
 use Rattle.program_endings.specs.declared.ending.Ending.TheVariants.{Done, Usage, BadScript, BadBasis, BadJournal, ReadFault, DiskFault, Ahead}
 use Rattle.script_run.specs.Script.{IsReadAs, IsUnreadable, asks_for_values, most_script_bytes}
-use Rattle.book_value.specs.Valuing.{position_of}
+use Rattle.valuing_modes.specs.Valuing.{position_of}
 use Rattle.life_app.specs.Needs.{Filing}
 use Rattle.life_app.specs.Words.{AskForRun, AskForValue}
 

@@ -10,7 +10,7 @@ use Rattle.program_endings.specs.Status.{status_of}
 use Rattle.program_endings.specs.Writing.{Stream}
 use Rattle.program_endings.specs.declared.ending.Ending.{Ending}
 use Rattle.program_endings.specs.declared.ending.Ending.TheVariants.{Done, BadJournal, WriteFault, DiskFault, NoMemory}
-use Rattle.kept_books.specs.TwoDisks.{AreTrue, HasOneFailed, TwoDisks}
+use Rattle.stating_modes.specs.TwoDisks.{AreTrue, HasOneFailed, TwoDisks}
 use Rattle.life_app.specs.Due.{IsHeld}
 
 -- both disks are true, and neither failed

@@ -11,8 +11,8 @@ use Rattle.posting_journal.specs.Runs.{IsSafe, Leaves}
 use Rattle.checkpoint_store.specs.Checkpoints.{CheckpointBytes, IsSnapshotOf}
 use Rattle.checkpoint_store.specs.declared.snapshot.Snapshot.{Snapshot}
 use Rattle.office_state.specs.Images.{IsLeftAlone}
-use Rattle.kept_books.specs.Saved.{IsNoneOrEarlierOrHeld}
-use Rattle.kept_books.specs.TwoDisks.{IsMadeSafe, TwoDisks}
+use Rattle.stating_modes.specs.Saved.{IsNoneOrEarlierOrHeld}
+use Rattle.stating_modes.specs.TwoDisks.{IsMadeSafe, TwoDisks}
 use Rattle.life_app.specs.Runs.{IsLeftSo, IsRunOn, OneRun}
 
 -- A run over both disks: that over the journal's; the second disk as the run gives it back, or would have; and the second

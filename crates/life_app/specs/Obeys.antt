@@ -11,10 +11,10 @@ use Rattle.program_endings.specs.Writing.{Input, Shelving, Stream, WroteLine}
 use Rattle.program_endings.specs.declared.ending.Ending.{Ending}
 use Rattle.program_endings.specs.declared.ending.Ending.TheVariants.{Usage, NoMemory}
 use Rattle.script_run.specs.Running.{EndsRun}
-use Rattle.book_state.specs.Books.{books_text, policy_account}
-use Rattle.book_state.specs.Stating.{EndsState}
-use Rattle.book_value.specs.Valuing.{EndsValue}
-use Rattle.book_projection.specs.Projecting.{EndsProject}
+use Rattle.stating_modes.specs.Books.{books_text, policy_account}
+use Rattle.stating_modes.specs.Stating.{EndsState}
+use Rattle.valuing_modes.specs.Valuing.{EndsValue}
+use Rattle.valuing_modes.specs.Projecting.{EndsProject}
 use Rattle.trial_load.specs.Generating.{EndsGenerate}
 use Rattle.trial_load.specs.Loading.{EndsLoad}
 

@@ -9,9 +9,9 @@ use Rattle.program_endings.specs.Status.{status_of}
 use Rattle.program_endings.specs.Writing.{Input, Shelving, Stream}
 use Rattle.program_endings.specs.declared.ending.Ending.{Ending}
 use Rattle.program_endings.specs.declared.ending.Ending.TheVariants.{NoMemory}
-use Rattle.kept_books.specs.Saved.{EndsCheckpoint}
-use Rattle.kept_books.specs.Stated.{EndsStateKept}
-use Rattle.kept_books.specs.TwoDisks.{TwoDisks}
+use Rattle.stating_modes.specs.Saved.{EndsCheckpoint}
+use Rattle.stating_modes.specs.Stated.{EndsStateKept}
+use Rattle.stating_modes.specs.TwoDisks.{TwoDisks}
 use Rattle.life_app.specs.Obeys.{EndsUnasked, Obeys}
 use Rattle.life_app.specs.Words.{AskForCheckpoint}
 

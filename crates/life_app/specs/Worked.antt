@@ -17,7 +17,7 @@ use Rattle.lane_runner.specs.AnsweredLines.{AnsweredLine, AreLinesOf}
 use Rattle.policy_machine.specs.History.{opened_on}
 use Rattle.policy_machine.specs.Worked.Cases.{policy_issue}
 use Rattle.transcript_text.specs.Transcript.{IsTranscript, posting_text, reports_text, trim_text, unpinned_text, unvalued_text, watcher_text}
-use Rattle.book_state.specs.Books.{books_text, policy_account}
+use Rattle.stating_modes.specs.Books.{books_text, policy_account}
 
 abbrev pub first_premium : Command
 first_premium = Premium 7001 (pos 18262) 40000

@@ -5,7 +5,7 @@ use Rattle.outside_io.specs.declared.disks.Disk.{Ghosts}
 use Rattle.program_endings.specs.Worked.{output_with}
 use Rattle.program_endings.specs.Writing.{Stream, WroteLine}
 use Rattle.program_endings.specs.declared.ending.Ending.TheVariants.{BadJournal}
-use Rattle.kept_books.specs.TwoDisks.{AreTrue, TwoDisks}
+use Rattle.stating_modes.specs.TwoDisks.{AreTrue, TwoDisks}
 use Rattle.life_app.specs.ObeysKept.{AskForBoth, EndsByBoth, HasNoWords}
 
 -- words that are these bytes ask for both disks, or don't

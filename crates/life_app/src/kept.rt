@@ -6,8 +6,8 @@ ghost use Rattle.watcher_set.specs.Limits.{most_watchers};
 ghost use Rattle.program_endings.specs.Status.{status_of};
 ghost use Rattle.program_endings.specs.Writing.{between, input_between, shelf_between};
 ghost use Rattle.program_endings.specs.declared.ending.Ending.{Ending as AnEnding};
-ghost use Rattle.kept_books.specs.Stated.{EndsStateKept};
-ghost use Rattle.kept_books.specs.TwoDisks.{disks_of};
+ghost use Rattle.stating_modes.specs.Stated.{EndsStateKept};
+ghost use Rattle.stating_modes.specs.TwoDisks.{disks_of};
 ghost use Rattle.life_app.specs.Due.{IsDueEnding};
 ghost use Rattle.life_app.specs.DueKept.{IsDueOfBoth, IsReasonedOfBoth};
 ghost use Rattle.life_app.specs.Needs.{filing_between};
@@ -16,11 +16,11 @@ ghost use Rattle.life_app.specs.Reasons.{IsReasoned};
 ghost use Rattle.life_app.specs.inside.Books.{GivesBooks, IsBooksOf, ended_disks};
 
 use crate::program::{Ended, life};
-use kept_books::{FinishedKept, checkpoint, state_kept};
 use life_args::{Mode, WordsFault, read_words};
 use outside_io::{Disk, Gate, Shelf, Sink, Source, Steps};
 use policy_types::{NoMemory, Watcher};
 use program_endings::lack_memory;
+use stating_modes::{FinishedKept, checkpoint, state_kept};
 use std::alloc::Global;
 use std::marker::Brand;
 use std::sync::Wait;
@@ -35,7 +35,7 @@ pub struct EndedKept<D, E> {
 }
 
 /// Which of the modes that open both disks.
-pub enum Books {
+pub enum BookMode {
     State,
     Checkpoint,
 }
@@ -47,7 +47,7 @@ pub enum Books {
 pub fn life_kept<
     R: Threads + Wait + Sync,
     S: Source,
-    K: Sink,
+    K: Sink + Send,
     H: Shelf,
     D: Disk + Send,
     E: Disk,
@@ -94,11 +94,11 @@ pub fn life_kept<
     ensures unopened { D.honest result.disk → OpensToNone (D.reads disk) → D.reads result.disk ≡ D.reads disk }
 {
     match books_of(alloc, words) {
-        Ok(Some(Books::State)) => {
+        Ok(Some(BookMode::State)) => {
             let blank = Blank::new(1);
             ended(state_by::<K, D, E, Brand>(alloc, output, disk, second, blank))
         }
-        Ok(Some(Books::Checkpoint)) => ended(checkpoint(alloc, output, disk, second)),
+        Ok(Some(BookMode::Checkpoint)) => ended(checkpoint(alloc, output, disk, second)),
         Ok(None) => {
             let Ended { status, disk } = life(
                 rt, alloc, words, input, output, shelf, disk, watchers, gate,
@@ -136,7 +136,7 @@ fn state_by<K: Sink, D: Disk, E: Disk, L: Ledger>(
 }
 
 // Which of the modes that open both disks the words ask for, if one.
-fn books_of(alloc: Global, words: &[String]) -> Result<Option<Books>, NoMemory>
+fn books_of(alloc: Global, words: &[String]) -> Result<Option<BookMode>, NoMemory>
     ensures { GivesBooks words.now result }
 {
     match read_words(alloc, words) {
@@ -147,12 +147,12 @@ fn books_of(alloc: Global, words: &[String]) -> Result<Option<Books>, NoMemory>
 }
 
 // Whether it is one of those modes.
-fn books_in(mode: &Mode) -> Option<Books>
+fn books_in(mode: &Mode) -> Option<BookMode>
     ensures { IsBooksOf mode.now result }
 {
     match mode {
-        Mode::State { id: None } => Some(Books::State),
-        Mode::Checkpoint => Some(Books::Checkpoint),
+        Mode::State { id: None } => Some(BookMode::State),
+        Mode::Checkpoint => Some(BookMode::Checkpoint),
         Mode::State { id: Some(_) }
         | Mode::Run { .. }
         | Mode::Value { .. }

@@ -7,7 +7,7 @@ ghost use Rattle.policy_machine.specs.History.{Opening};
 ghost use Rattle.posting_journal.specs.Runs.{IsSafe};
 ghost use Rattle.command_csv.specs.Reads.{IsFirstScriptFault};
 ghost use Rattle.life_app.specs.Crashes.{AreAllHeld, AreHeld, HasRun};
-ghost use Rattle.kept_books.specs.TwoDisks.{TellsTruth, TwoDisks};
+ghost use Rattle.stating_modes.specs.TwoDisks.{TellsTruth, TwoDisks};
 ghost use Rattle.life_app.specs.KeptRuns.{AreRunsOfTwo, IsLeftByCall, OneRunOfTwo, SavedOfFirst};
 ghost use Rattle.life_app.specs.ObeysKept.{ObeysKept};
 ghost use Rattle.life_app.specs.Runs.{AreLeft, AreRuns, IsLeftSo, OneRun};

@@ -13,18 +13,17 @@ ghost use Rattle.life_app.specs.Obeys.{Does, Obeys};
 ghost use Rattle.life_app.specs.Reasons.{IsReasoned};
 ghost use Rattle.life_app.specs.inside.Unasked.{SaysNoMode};
 
-use book_projection::project;
-use book_state::{account, state};
-use book_value::value;
 use life_args::{Mode, WordsFault, read_words};
 use outside_io::{Disk, Gate, Shelf, Sink, Source};
 use policy_types::Watcher;
 use program_endings::{Ending, Finished, end, lack_memory};
 use script_run::run;
+use stating_modes::{account, state};
 use std::alloc::Global;
 use std::sync::Wait;
 use std::thread::Threads;
 use trial_load::{generate, load};
+use valuing_modes::{project, value};
 use watcher_set::{Watchers, Watching};
 
 /// What the program leaves: its exit status, and the disk.
@@ -39,7 +38,14 @@ pub struct Ended<D> {
 /// policy is worth; `project` does so and writes what is expected to be paid by year; `state` writes the books; `generate`
 /// writes a generated script; `load` runs one, values all policies then, and writes a line about it. But in `run` the
 /// watchers are dropped. `checkpoint` needs a second disk: over one alone these words are refused.
-pub fn life<R: Threads + Wait + Sync, S: Source, K: Sink, H: Shelf, D: Disk + Send, G: Gate + Sync>(
+pub fn life<
+    R: Threads + Wait + Sync,
+    S: Source,
+    K: Sink + Send,
+    H: Shelf,
+    D: Disk + Send,
+    G: Gate + Sync,
+>(
     rt: &R,
     alloc: Global,
     words: &[String],
@@ -85,7 +91,7 @@ pub fn life<R: Threads + Wait + Sync, S: Source, K: Sink, H: Shelf, D: Disk + Se
 fn obey<
     R: Threads + Wait + Sync,
     S: Source,
-    K: Sink,
+    K: Sink + Send,
     H: Shelf,
     D: Disk + Send,
     W: Watching + Send,

@@ -9,7 +9,7 @@ use crate::fault::WordsFault;
 use basis_book::Name;
 use life_dates::parse_day;
 use money_core::parse_number;
-use policy_types::{At, NoMemory};
+use policy_types::{At, MOST_COMMANDS, NoMemory};
 use policy_value::Measure;
 use std::alloc::Global;
 
@@ -26,7 +26,7 @@ pub fn position_of(values: Option<&[&str]>) -> Result<At, WordsFault>
 {
     match values {
         None | Some([]) => Ok(At::Now),
-        Some([text]) => Ok(At::Position(number_of(text, 0, 4_000_000)? as u32)),
+        Some([text]) => Ok(At::Position(number_of(text, 0, u64::from(MOST_COMMANDS))? as u32)),
         _ => Err(WordsFault::Usage),
     }
 }

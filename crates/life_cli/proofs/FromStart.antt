@@ -12,7 +12,7 @@ use Rattle.program_endings.specs.declared.ending.Ending.{Ending}
 use Rattle.program_endings.specs.declared.ending.Ending.TheVariants.{NoMemory}
 use Rattle.script_run.specs.Running.{EndsLanes, EndsRun}
 use Rattle.policy_types.specs.declared.script.Lane.{Lane}
-use Rattle.kept_books.specs.TwoDisks.{TwoDisks}
+use Rattle.stating_modes.specs.TwoDisks.{TwoDisks}
 use Rattle.life_app.specs.DueKept.{IsDueOfBoth}
 use Rattle.life_app.specs.Needs.{Filing}
 use Rattle.life_app.specs.Obeys.{Does, EndsMode, Obeys}

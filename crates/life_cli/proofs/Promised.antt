@@ -5,7 +5,7 @@ use Rattle.outside_io.specs.declared.disks.Disk.{Ghosts}
 use Rattle.basis_book.specs.Dated.{Dated}
 use Rattle.basis_shelf.specs.Bases.{IsBasis}
 use Rattle.command_csv.specs.Reads.{Reads}
-use Rattle.kept_books.specs.TwoDisks.{TwoDisks}
+use Rattle.stating_modes.specs.TwoDisks.{TwoDisks}
 use Rattle.life_args.proofs.Answering.{ask_once}
 use Rattle.life_args.specs.declared.mode.Mode.TheVariants.{Run, State, Checkpoint}
 use Rattle.policy_types.specs.declared.script.Lane.{Lane}

@@ -8,7 +8,7 @@ use Rattle.watcher_set.specs.Premiums.{premiums_of}
 use Rattle.program_endings.specs.Status.{status_of}
 use Rattle.program_endings.specs.Writing.{Input, Shelving, Stream}
 use Rattle.program_endings.specs.declared.ending.Ending.{Ending}
-use Rattle.kept_books.specs.TwoDisks.{TwoDisks}
+use Rattle.stating_modes.specs.TwoDisks.{TwoDisks}
 use Rattle.life_app.specs.DueKept.{IsDueOfBoth, IsReasonedOfBoth}
 use Rattle.life_app.specs.Headline.{IsFirstFound}
 use Rattle.life_app.specs.Needs.{Filing}

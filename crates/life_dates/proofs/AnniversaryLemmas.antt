@@ -1,17 +1,11 @@
 -- Anniversaries are days, and come one after another.
-use Rattle.std.proofs.Common.{◌∙◌, ◌≡◌, ℕ, suc, ◌+◌, ◌-◌, ◌<◌, ◌≤◌, ◌↔◌, min, inl, inr, refl, ap, arith, ℤ, pos, ◌<ℤ◌, ◌≤ℤ◌, ◌*ℤ◌, ◌*◌, ◌+ℤ◌}
+use Rattle.std.proofs.Common.{◌≡◌, ℕ, suc, ◌+◌, ◌-◌, ◌<◌, ◌≤◌, ◌↔◌, min, inl, inr, refl, ap, arith, ℤ, pos, ◌<ℤ◌, ◌≤ℤ◌}
 use Rattle.std.proofs.lemmas.Bool.{cases_lt}
 use Rattle.std.specs.Int.{int_min}
 use Rattle.std.proofs.lemmas.Int.{clamps, by_lt_z}
 use Rattle.jiff_core.specs.declared.civil.date.Date.{Date as Plain}
-use Rattle.jiff_core.specs.declared.span.Span.{Span}
-use Rattle.jiff_core.specs.declared.unit.Unit.TheVariants.{Year}
 use Rattle.jiff_core.specs.Date.{epoch_day}
-use Rattle.jiff_core.specs.Span.{IsOnly}
-use Rattle.jiff_span.specs.Add.{date_add, CanAddToDate}
-use Rattle.jiff_span.specs.Months.{month_number, shifted_year, shifted_month, IsShiftable}
 use Rattle.jiff_core.proofs.SignedLemmas.{signed_arith}
-use Rattle.jiff.proofs.SpanFacts.{date_add-years}
 use Rattle.jiff_core.proofs.CalendarLemmas.{days_in_month_bounds}
 use Rattle.life_dates.specs.Calendar.{Date, IsDate, IsDay, IsTermDay, days_in_month, day_number, date_of}
 use Rattle.life_dates.specs.Anniversary.{years_later, anniversary_of, IsCompleted}
@@ -55,38 +49,6 @@ anniversary_zero issued h =
     let year : d.year + 0 ≡ d.year = omega arith in
     let day : min d.day (days_in_month d.year d.month) ≡ d.day = omega (arith, here.0.day_high) in
     rw (year, day) here.1
-
--- `jiff`'s date of a day
-pub record IsDateOf (day : ℤ) (date : Plain) : Type 0 where
-  pub year : date.year ≡ pos (date_of day).year
-  pub month : date.month ≡ (date_of day).month
-  pub day_in_month : date.day ≡ (date_of day).day
-
--- what `jiff` makes of twelve months a year
-years_added : (a : Plain) (y t : ℕ) → a.year ≡ pos y → (shifted_year a (pos t *ℤ pos 12) ≡ pos (y + t)) × (shifted_month a (pos t *ℤ pos 12) ≡ a.month)
-years_added a y t e =
-    let low = a.month_in.0 in
-    let high = a.month_in.1 in
-    let number : month_number a +ℤ pos t *ℤ pos 12 ≡ pos (12 * (y + t) + (a.month - 1)) = rw e (omega (arith, signed_arith)) in
-    (rw number (omega (arith, signed_arith)), rw number (omega (arith, signed_arith)))
-
--- so that an issue day's date and a span of t years add up to the anniversary
-pub date_add-anniversary : (issued : ℤ) (t : ℕ) (a : Plain) (s : Span) → IsDay issued → t ≤ 134 → IsDateOf issued a → IsOnly Year (pos t) s → date_add a s ≡ anniversary_of issued t
-unfolding anniversary_of
-date_add-anniversary issued t a s h most date only =
-    let d = date_of issued in
-    let here = IsDay-date issued h in
-    let moved = years_added a d.year t date.year in
-    let tie = days_from_civil-day_number (years_later d t) (years_later_is d t here.0 (omega (arith, here.3))) in
-    date_add-years a (pos t) s only ∙ rw (moved.0, moved.1, date.month, date.day_in_month) tie
-
--- and `jiff` has that date
-pub can_add-anniversary : (issued : ℤ) (t : ℕ) (a : Plain) (s : Span) → IsDay issued → t ≤ 134 → IsDateOf issued a → IsOnly Year (pos t) s → CanAddToDate a s
-can_add-anniversary issued t a s h most date only =
-    let here = IsDay-date issued h in
-    let range = anniversary_in issued t h most in
-    let year : IsShiftable a (pos t *ℤ pos 12) = rw ((years_added a (date_of issued).year t date.year).0) (omega (arith, signed_arith, here.3)) in
-    (rw only.months year, rw (date_add-anniversary issued t a s h most date only) (omega (arith, signed_arith, range.0, range.1)))
 
 -- a date of `jiff` with the parts of the later date has the anniversary's number
 pub epoch_day-anniversary : (issued : ℤ) (t : ℕ) (x : Plain) → IsDay issued → t ≤ 134 → let later = years_later (date_of issued) t in (x.year ≡ pos later.year) × (x.month ≡ later.month) × (x.day ≡ later.day) → epoch_day x ≡ anniversary_of issued t

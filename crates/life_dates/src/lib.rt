@@ -1,6 +1,6 @@
 //! Civil days, as days since 1970-01-01: the anniversaries of an issue day, and the texts of days.
 //!
-//! The calendar's arithmetic is `jiff`'s, and for completed years that of its core, which is faster;
+//! The calendar's arithmetic is `jiff`'s, and for anniversaries and completed years that of its core, which is faster;
 //! `specs/Calendar.antt` states the calendar anew.
 #![tactic(auto)]
 

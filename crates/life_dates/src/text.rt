@@ -7,10 +7,7 @@ ghost use Rattle.life_dates.specs.DayText.{day_text, two_digits, IsDayText};
 
 use crate::calendar::{number_of, year_month_day};
 use jiff::civil::Date;
-
-const FIRST_DAY: i32 = -25_567;
-
-const LAST_DAY: i32 = 84_005;
+use policy_types::{FIRST_DAY, LAST_DAY};
 
 /// The day whose text these bytes are, from 1900-01-01 to 2199-12-31, and `None` exactly where they
 /// aren't the text of such a day.

@@ -3,9 +3,8 @@ ghost use Rattle.std.specs.Prelude.{◌≡◌, ◌-◌, ◌≤◌, min, ◌≤�
 ghost use Rattle.life_dates.specs.Calendar.{IsDay, IsTermDay, date_of};
 ghost use Rattle.life_dates.specs.Anniversary.{anniversary_of, IsCompleted};
 
-use crate::calendar::{civil_date, number_of};
-use crate::plain::{plain_anniversary, plain_year};
-use jiff::ToSpan;
+use crate::plain::{plain_date, plain_year};
+use jiff_core::civil::Date;
 
 const LAST_TERM_DAY: i32 = 157_053;
 
@@ -17,8 +16,8 @@ pub fn anniversary(issued: i32, t: u8) -> i32
     ensures value { result ≡ anniversary_of issued t }
     ensures range { IsTermDay result }
 {
-    let years = (t as i64).years();
-    number_of(civil_date(issued).checked_add(years).unwrap())
+    let date = plain_date(issued);
+    Date::constrain(date.year + t as i16, date.month, date.day).to_unix_epoch_day()
 }
 
 /// How many whole years, up to 131, have passed on a day since the issue day: the greatest number
@@ -29,7 +28,7 @@ pub fn completed(issued: i32, on: i32) -> u8
     ensures { IsCompleted issued on result }
 {
     let years = years_between(issued, on.min(LAST_TERM_DAY));
-    if plain_anniversary(issued, years) > on {
+    if anniversary(issued, years) > on {
         return years - 1;
     }
     years

@@ -83,8 +83,6 @@ fn add_lines(lines: &mut Vec<Line>, id: u32, policy: &Drawn) -> Result<(), NoMem
         day,
         amount: premium,
     };
-    match lines.extend_from_slice(&[Line::Post(issue), Line::Post(first_premium)]) {
-        Ok(()) => Ok(()),
-        Err(_) => Err(NoMemory),
-    }
+    lines.extend_from_slice(&[Line::Post(issue), Line::Post(first_premium)])?;
+    Ok(())
 }

@@ -43,6 +43,8 @@ impl Turn<Counter> for Tick {
 
     ghost entry = { λ _ caller _. record { caller = caller; call = Trim; reply = Blank } };
 
+    ghost tells = { λ _ _ _ _. Unit {0} };
+
     fn run(self, value: &mut Counter, caller: u64) {
         value.count += 1;
     }

@@ -1,5 +1,5 @@
 -- How many policies a list of commands issues
-use Rattle.std.proofs.Common.{ℕ, suc, ◌≤◌, List, [], ◌∷◌, length, Some, None, Option, arith}
+use Rattle.std.proofs.Common.{suc, ◌≤◌, List, [], ◌∷◌, length, Some, None, Option, arith}
 use Rattle.std.specs.List.{cons_option, filter_map}
 use Rattle.policy_types.specs.declared.command.Command.{Command}
 use Rattle.policy_machine.specs.Book.{issue_id}

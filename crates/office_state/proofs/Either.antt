@@ -1,5 +1,5 @@
 -- Each file opens to commands, or shows why it doesn't
-use Rattle.std.proofs.Common.{◌≡◌, ◌⊎◌, inl, inr, ℕ, ◌+◌, ◌≤◌, ℤ, pos, negsuc, Bool, true, false, List, [], ◌∷◌, ◌++◌, map, length, Option, Some, None, refl, sym, ap, ◌∙◌, subst, append-nil, append_assoc, arith, bytes_eq, true≢false}
+use Rattle.std.proofs.Common.{◌≡◌, ◌⊎◌, inl, inr, ℕ, ◌+◌, ◌≤◌, ℤ, pos, negsuc, List, [], ◌∷◌, ◌++◌, length, Option, Some, None, refl, sym, ap, ◌∙◌, subst, append-nil, append_assoc, arith, bytes_eq, true≢false}
 use Rattle.std.specs.List.{AllByRecursion}
 use Rattle.std.proofs.lemmas.Bool.{cases_Bool, cases_lt}
 use Rattle.std.proofs.lemmas.Bool.Decides.{eqb_tells}
@@ -19,7 +19,8 @@ use Rattle.record_codec.specs.inside.Reading.{command_at}
 use Rattle.record_codec.proofs.SpellingLemmas.{read_fields, read_fields-spelling}
 use Rattle.posting_journal.specs.Files.{IsJournal}
 use Rattle.posting_journal.proofs.Either.{bodies_or_shown}
-use Rattle.office_state.specs.Journals.{CanFollow, IsOfTheFile, IsShown, IsUnfollowed, IsUnspelled, JournalBytes, Opens, bodies_of}
+use Rattle.journal_replay.specs.Replays.{bodies_of}
+use Rattle.office_state.specs.Journals.{CanFollow, IsOfTheFile, IsShown, IsUnfollowed, IsUnspelled, JournalBytes, Opens}
 use Rattle.office_state.specs.declared.faults.StartCause.{StartCause}
 use Rattle.office_state.specs.declared.faults.StartCause.TheVariants.{BadRecord, NotAJournal}
 use Rattle.office_state.proofs.KeepingSteps.{all-more}

@@ -8,8 +8,8 @@ use Rattle.policy_types.specs.declared.command.Command.{Command}
 use Rattle.policy_types.specs.declared.policy.Policy.{Policy}
 use Rattle.policy_types.specs.Limits.{most_commands}
 use Rattle.policy_machine.specs.Book.{IsAccepted}
-use Rattle.policy_versions.specs.Commands.{sets_of}
-use Rattle.policy_versions.proofs.SetSteps.{length-sets_of}
+use Rattle.office_state.specs.versions.Commands.{sets_of}
+use Rattle.office_state.proofs.SetSteps.{length-sets_of}
 use Rattle.versioned_book.specs.Settings.{Setting, own}
 use Rattle.versioned_book.specs.Versions.{AreFewSteps, trimmed_from, versions_from}
 use Rattle.office_state.specs.inside.Books.{looks_at_most}

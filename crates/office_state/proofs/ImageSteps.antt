@@ -14,8 +14,9 @@ use Rattle.posting_journal.specs.Runs.{Leaves}
 use Rattle.posting_journal.specs.States.{IsKept, disk_of as disk_under, is_clean}
 use Rattle.posting_journal.specs.declared.journal.Journal.{Journal}
 use Rattle.posting_journal.proofs.Written.{staged_either}
+use Rattle.journal_replay.specs.Replays.{bodies_of}
 use Rattle.office_state.specs.Images.{HoldsNow, HoldsOnce}
-use Rattle.office_state.specs.Journals.{JournalBytes, bodies_of}
+use Rattle.office_state.specs.Journals.{JournalBytes}
 use Rattle.office_state.specs.Standing.{LeavesSince}
 use Rattle.office_state.specs.inside.Holding.{IsLeftBehind, JournalHolds}
 use Rattle.office_state.proofs.HistorySteps.{commands-same, holds_all, holds_more, holds_once-push, pending-push}

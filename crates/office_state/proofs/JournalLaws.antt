@@ -15,9 +15,10 @@ use Rattle.posting_journal.specs.Files.{IsJournal}
 use Rattle.posting_journal.specs.Creation.{IsForeign, IsBadAt, OpensToBodies}
 use Rattle.posting_journal.proofs.Unique.{opens_once, one_journal, journal_finished, foreign_never, bad_never}
 use Rattle.posting_journal.proofs.Unique.{one_cause, one_place}
+use Rattle.journal_replay.specs.Replays.{bodies_of}
 use Rattle.office_state.specs.declared.faults.StartCause.{StartCause}
 use Rattle.office_state.specs.declared.faults.StartCause.TheVariants.{DiskFault, NotAJournal, BadRecord, NoMemory}
-use Rattle.office_state.specs.Journals.{bodies_of, Opens, OpensToNone, IsUnfollowed, IsOfTheFile, IsShown}
+use Rattle.office_state.specs.Journals.{Opens, OpensToNone, IsUnfollowed, IsOfTheFile, IsShown}
 
 -- no body spells two commands that are recorded
 pub same_command : (command other : Command) → IsValid command → IsValid other

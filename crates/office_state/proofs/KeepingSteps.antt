@@ -18,10 +18,10 @@ use Rattle.policy_machine.specs.Book.{book, policy_of, judge, upgrade_of}
 use Rattle.policy_machine.proofs.BookLemmas.{IsAccepted-push}
 use Rattle.policy_machine.proofs.JudgeLemmas.{upgrade_from-other}
 use Rattle.policy_machine.proofs.LedgerLemmas.{AreWithin-ledger, AreWithin-wider, ledger_of-push, ledger_of-upgrade}
-use Rattle.policy_versions.specs.Commands.{sets_of}
-use Rattle.policy_versions.proofs.BookValues.{key_count, keys_of-sets_of}
-use Rattle.policy_versions.proofs.PolicyValues.{newest_of-sets_of}
-use Rattle.policy_versions.proofs.SetSteps.{few_after, sets_of-accepted, sets_of-rise, sets_of-upgrade}
+use Rattle.office_state.specs.versions.Commands.{sets_of}
+use Rattle.office_state.proofs.BookValues.{key_count, keys_of-sets_of}
+use Rattle.office_state.proofs.PolicyValues.{newest_of-sets_of}
+use Rattle.office_state.proofs.SetSteps.{few_after, sets_of-accepted, sets_of-rise, sets_of-upgrade}
 use Rattle.versioned_book.specs.Books.{IsBookOf, IsSomeBook, kept_of, versions_in}
 use Rattle.versioned_book.specs.Settings.{Setting, keys_of, own, until}
 use Rattle.versioned_book.specs.Versions.{newest_of, versions_from}

@@ -1,3 +1,7 @@
+pub mod SetSteps
+pub mod PolicyValues
+pub mod Fronts
+pub mod BookValues
 pub mod BookSteps
 pub mod JournalLaws
 pub mod Walks

@@ -1,57 +1,62 @@
 -- The office of a journal that was started on a disk, and what is known where there is none
-use Rattle.std.proofs.Common.{◌≡◌, inl, inr, ℕ, ◌<◌, ◌≤◌, true, false, List, [], ◌++◌, length, ◌∙◌, sym, subst, refl, append-nil, arith}
+use Rattle.std.proofs.Common.{◌≡◌, inl, inr, ℕ, ◌<◌, ◌≤◌, true, false, List, [], ◌++◌, length, ◌∙◌, sym, subst, refl, append-nil, arith, None, Err}
 use Rattle.outside_io.specs.declared.disks.Disk.{Ghosts}
 use Rattle.outside_io.specs.Faults.{Rose}
+use Rattle.policy_machine.specs.Book.{judge}
 use Rattle.policy_machine.specs.History.{Opening, opened_on}
 use Rattle.posting_journal.specs.Creation.{OpensToBodies}
 use Rattle.posting_journal.specs.Starting.{HasStarted}
 use Rattle.posting_journal.specs.States.{StandsFor as JournalStands, disk_of as disk_under, is_clean}
 use Rattle.posting_journal.specs.declared.journal.Journal.{Journal}
 use Rattle.watcher_set.specs.declared.watching.Watching.{Ghosts as WatcherGhosts}
+use Rattle.journal_replay.specs.Replays.{HasReplayCause, IsStoppedAt, Stops, bodies_of}
+use Rattle.journal_replay.specs.declared.replaying.ReplayFault.{ReplayFault}
+use Rattle.journal_replay.specs.declared.replaying.ReplayFault.TheVariants as replay
 use Rattle.office_state.specs.declared.faults.StartCause.{StartCause}
-use Rattle.office_state.specs.declared.faults.StartCause.TheVariants.{DiskFault, NotAJournal, BadRecord, NoMemory}
+use Rattle.office_state.specs.declared.faults.StartCause.TheVariants.{BadRecord}
 use Rattle.office_state.specs.declared.state.OfficeState.{OfficeState}
 use Rattle.office_state.specs.Images.{HoldsNow}
-use Rattle.office_state.specs.Journals.{bodies_of, Opens, IsShown}
+use Rattle.office_state.specs.Journals.{Opens, IsShown}
 use Rattle.office_state.specs.Opening.{HasOpened, HasNotOpened, TellsFault}
 use Rattle.office_state.specs.Standing.{LeavesSince, StandsFor}
 use Rattle.office_state.specs.States.{commands_of, disk_of}
 use Rattle.office_state.specs.inside.Holding.{JournalHolds}
-use Rattle.office_state.specs.inside.Replays.{HasStopped, IsStoppedAt, IsOfficeOf, HasNoOffice}
-use Rattle.office_state.proofs.ReplaySteps.{all_replayed, stopped_shown}
+use Rattle.office_state.specs.inside.Replays.{IsOfficeOf, HasNoOffice, MakeJournal, as_replay_cause}
+use Rattle.office_state.proofs.ReplaySteps.{stopped_shown}
 use Rattle.office_state.proofs.OpeningSteps.{CountsNow, IsStarted, OnlyNow, ReadsImage, opening_keeps, looked_on, holds_once, looked_alone, looked_ever, synced_images, opens_commands, started_later}
 use Rattle.office_state.proofs.KeepingSteps.{promised}
 use Rattle.office_state.proofs.ImageSteps.{holds_now}
 use Rattle.office_state.proofs.KeptSteps.{keeps_first, kept_now}
 
 -- the bodies that stop a replay are those of a journal, since there are some
-unfollowed : (bytes : List ℕ) (n : ℕ) (bodies : List (List ℕ)) → OpensToBodies bytes bodies → IsStoppedAt n bodies
-    → IsShown bytes (BadRecord n)
+pub unfollowed : (bytes : List ℕ) (n : ℕ) (bodies : List (List ℕ)) → OpensToBodies bytes bodies
+    → IsStoppedAt MakeJournal (λ commands command. judge commands command ≡ None) n bodies → IsShown bytes (BadRecord n)
 unfollowed bytes n bodies (inl file) at = inr (stopped_shown bytes bodies n file at)
 unfollowed bytes n bodies (inr creation) at =
     let within : n < 0 = subst (λ (bs : List (List ℕ)). n < length bs) creation.0 at.within in absurd (omega arith)
 
 module _ {D : Type 0} (g : Ghosts D) (old : D) (journal : Journal D g) (started : IsStarted old journal) where
-  faulted : (new : D) (cause : StartCause) → HasStopped journal new cause → TellsFault (g.faults old) (g.faults new) cause
-  faulted new (DiskFault count) stopped = (stopped.0, subst (λ n. Rose n (g.faults new)) started.quiet stopped.1)
-  faulted new NotAJournal stopped = absurd stopped
-  faulted new (BadRecord n) stopped = stopped.0 ∙ started.quiet
-  faulted new NoMemory stopped = stopped ∙ started.quiet
+  pub replay_told : (new : D) (fault : ReplayFault) → HasReplayCause {T = Unit {0}} journal new (Err fault)
+      → TellsFault (g.faults old) (g.faults new) (as_replay_cause fault)
+  replay_told new (replay.DiskFault count) told = (told.0, subst (λ n. Rose n (g.faults new)) started.quiet told.1)
+  replay_told new (replay.BadRecord n) told = told ∙ started.quiet
+  replay_told new replay.NoMemory told = told ∙ started.quiet
 
-  shown : (new : D) (cause : StartCause) → (g.honest new → g.honest (disk_under journal)) → HasStopped journal new cause
-      → g.honest new → IsShown (g.reads old) cause
-  shown new (DiskFault count) honesty stopped honest = tt
-  shown new NotAJournal honesty stopped honest = absurd stopped
-  shown new NoMemory honesty stopped honest = tt
-  shown new (BadRecord n) honesty stopped honest =
+  shown : (new : D) (fault : ReplayFault) → (g.honest new → g.honest (disk_under journal))
+      → Stops MakeJournal (λ commands command. judge commands command ≡ None) journal new [] fault
+      → g.honest new → IsShown (g.reads old) (as_replay_cause fault)
+  shown new (replay.DiskFault count) honesty stops honest = tt
+  shown new replay.NoMemory honesty stops honest = tt
+  shown new (replay.BadRecord n) honesty stops honest =
       let opened = started.opened (honesty honest) in
-      unfollowed (g.reads old) n opened.bodies opened.opened (stopped.1 opened.bodies [] honest opened.stands)
+      unfollowed (g.reads old) n opened.bodies opened.opened (stops.1 opened.bodies [] honest opened.stands refl)
 
   -- a journal of which no office was made
   pub no_office : CountsNow g → ReadsImage g → (new : D) (cause : StartCause) → HasNoOffice journal new cause → HasNotOpened g old new cause
   no_office counts_now reads_image new cause none = record {
-    told = faulted new cause none.why;
-    shown = shown new cause none.looked.honesty none.why;
+    told = subst (TellsFault (g.faults old) (g.faults new)) (sym none.same) (replay_told new none.fault none.told);
+    shown = λ honest.
+        subst (IsShown (g.reads old)) (sym none.same) (shown new none.fault none.looked.honesty none.stops honest);
     alone = looked_alone g old journal started counts_now reads_image new none.looked;
   }
 
@@ -71,7 +76,7 @@ module _ {D : Type 0} (g : Ghosts D) (old : D) (journal : Journal D g) (started 
     same_bodies : (honest : g.honest (disk_of state)) → (started_so honest).bodies ≡ bodies_of (commands_of state)
     same_bodies honest =
         let opened = started_so honest in
-        all_replayed g journal state.journal state.books made.replayed opened.bodies [] honest opened.stands
+        made.bodies opened.bodies [] honest opened.stands
 
     opens_replayed : g.honest (disk_of state) → Opens (g.reads old) (commands_of state)
     opens_replayed honest =
@@ -127,7 +132,7 @@ module _ {D : Type 0} (g : Ghosts D) (old : D) (journal : Journal D g) (started 
       known_stands : StandsFor known []
       known_stands =
           let keeps = state.books.kept in
-          let quiet : g.faults (disk_of state) ≡ g.faults old = made.replayed.quiet ∙ started.quiet in
+          let quiet : g.faults (disk_of state) ≡ g.faults old = made.quiet ∙ started.quiet in
           let all : commands_of state ≡ commands_of state ++ [] = sym (append-nil (commands_of state)) in
           let held = promised state.books (commands_of state ++ []) 0 all made.floor in
           record {
@@ -165,7 +170,7 @@ module _ {D : Type 0} (g : Ghosts D) (old : D) (journal : Journal D g) (started 
       known_opened = record {
         begun = refl;
         stands = known_stands;
-        quiet = made.replayed.quiet ∙ started.quiet;
+        quiet = made.quiet ∙ started.quiet;
         opened = opens_replayed;
         honesty = honesty;
         unwritten = λ (honest : g.honest (disk_of state)). looked_on g old journal started counts_now (disk_of state) honest made.stays.disk;

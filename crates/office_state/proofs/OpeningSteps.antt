@@ -14,11 +14,12 @@ use Rattle.posting_journal.specs.declared.faults.JournalCause.{JournalCause}
 use Rattle.posting_journal.specs.declared.faults.JournalCause.TheVariants.{DiskFault as FaultyDisk, NotAJournal as IsNoJournal, BadRecord as IsBadRecord}
 use Rattle.posting_journal.specs.declared.journal.Journal.{Journal}
 use Rattle.posting_journal.proofs.Moments.{looks_on}
-use Rattle.office_state.specs.Journals.{bodies_of, Opens, OpensToNone, IsShown}
+use Rattle.journal_replay.specs.Replays.{IsLookedAt, bodies_of}
+use Rattle.office_state.specs.Journals.{Opens, OpensToNone, IsShown}
 use Rattle.office_state.specs.Images.{HoldsOnce, IsLeftAlone, OpensAlike}
 use Rattle.policy_machine.specs.History.{opened_on}
 use Rattle.office_state.specs.Opening.{HasNotOpened, TellsFault}
-use Rattle.office_state.specs.inside.Replays.{IsLookedAt, as_cause}
+use Rattle.office_state.specs.inside.Replays.{as_cause}
 use Rattle.office_state.proofs.JournalLaws.{opens_to_one}
 
 no_bodies : (commands : List Command) → bodies_of commands ≡ [] → commands ≡ []

@@ -21,12 +21,13 @@ use Rattle.posting_journal.specs.States.{StandsFor as JournalStands, IsKept, cou
 use Rattle.posting_journal.specs.declared.journal.Journal.{Journal}
 use Rattle.watcher_set.specs.declared.watching.Watching.{Ghosts as WatcherGhosts}
 use Rattle.arrayvec.specs.ArrayVec.{ArrayVec}
+use Rattle.journal_replay.specs.Replays.{bodies_of}
 use Rattle.office_state.specs.declared.books.Books.{Books}
 use Rattle.office_state.specs.declared.held.Held.{Held}
 use Rattle.office_state.specs.declared.state.OfficeState.{OfficeState}
 use Rattle.office_state.specs.declared.answer.Answer.TheVariants.{Accepted as AcceptedAt, DiskFault}
 use Rattle.office_state.specs.Images.{HasKept, HoldsAtLeast, HoldsNow, HoldsOnce, IsQuietReply, KeepsAccepted}
-use Rattle.office_state.specs.Journals.{JournalBytes, bodies_of}
+use Rattle.office_state.specs.Journals.{JournalBytes}
 use Rattle.office_state.specs.Pins.{pins_held}
 use Rattle.office_state.specs.Posting.{CrashesIn}
 use Rattle.office_state.specs.Standing.{LeavesSince, StandsFor}

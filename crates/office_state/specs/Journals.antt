@@ -1,18 +1,15 @@
 -- The journal of a list of commands, as a whole file
-use Rattle.std.specs.Prelude.{◌≡◌, ◌⊎◌, ℕ, List, [], ◌∷◌, ◌++◌, length, map, None}
+use Rattle.std.specs.Prelude.{◌≡◌, ◌⊎◌, ℕ, List, [], ◌∷◌, ◌++◌, length, None}
 use Rattle.std.specs.List.{AllByRecursion}
 use Rattle.policy_types.specs.declared.command.Command.{Command}
 use Rattle.policy_types.specs.Valid.{IsValid}
 use Rattle.policy_machine.specs.Book.{judge, IsAccepted}
 use Rattle.record_codec.specs.Spelling.{spelling_of}
 use Rattle.posting_journal.specs.Files.{IsJournal}
+use Rattle.journal_replay.specs.Replays.{bodies_of}
 use Rattle.posting_journal.specs.Creation.{IsUnfinished, IsForeign, IsBadAt}
 use Rattle.office_state.specs.declared.faults.StartCause.{StartCause}
 use Rattle.office_state.specs.declared.faults.StartCause.TheVariants.{DiskFault, NotAJournal, BadRecord, NoMemory}
-
--- the bodies of the commands' records
-abbrev pub bodies_of : List Command → List (List ℕ)
-bodies_of commands = map spelling_of commands
 
 -- The file is the journal of these commands: they are valid, they are accepted one after the other, and its records
 -- spell just them.

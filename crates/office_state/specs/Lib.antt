@@ -1,3 +1,4 @@
+pub mod versions
 pub mod Journals
 pub mod Images
 pub mod Pins

@@ -6,7 +6,7 @@ use Rattle.policy_types.specs.declared.entry.Entry.{Entry}
 use Rattle.policy_machine.specs.Accounts.{ledger_of}
 use Rattle.policy_machine.specs.Book.{book}
 use Rattle.policy_machine.specs.History.{Opening, IsLegal, accepted_of, commands_after, floor_of}
-use Rattle.policy_versions.specs.Commands.{sets_of}
+use Rattle.office_state.specs.versions.Commands.{sets_of}
 use Rattle.posting_journal.specs.Opening.{IsSynced}
 use Rattle.versioned_book.specs.Settings.{own}
 use Rattle.versioned_book.specs.Versions.{versions_from}
@@ -35,6 +35,7 @@ pub record LeavesSince {D : Type 0} (g : Ghosts D) (begun now : D) (opening : Op
 abbrev pub KeepsFew : ℕ → ℕ → List Command → Type 0
 KeepsFew kept floor commands = kept ≤ length (book commands) + length (drop floor commands)
 
+-- an office after a history of turns: what it keeps is what the commands of the opening and the accepted ones leave
 pub record StandsFor {D W : Type 0} {g : Ghosts D} {w : WatcherGhosts W} (state : OfficeState D W g w) (turns : List Entry)
     : Type 0 where
   pub history : IsHistory state turns

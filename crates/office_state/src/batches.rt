@@ -19,11 +19,11 @@ use watcher_set::Watching;
 
 /// Policies in order of issue, with room for 256. Contracts see it as their list.
 #[derive(Drop)]
-pub struct Batch {
+pub struct PolicyBatch {
     policies: Vec<Policy>,
 }
 
-impl Model for Batch {
+impl Model for PolicyBatch {
     ghost use Rattle.std.specs.Prelude.{List, ◌≤◌, vec_capacity};
     ghost use Rattle.policy_types.specs.declared.policy.Policy.{Policy};
 
@@ -34,15 +34,13 @@ impl Model for Batch {
     ghost invariant = { λ b. 256 ≤ vec_capacity b.policies };
 }
 
-impl Batch {
+impl PolicyBatch {
     /// Takes the memory for 256 policies, and holds none yet.
-    pub fn new(alloc: Global) -> Result<Batch, NoMemory>
+    pub fn new(alloc: Global) -> Result<PolicyBatch, NoMemory>
         ensures { IfOk result (λ batch. batch ≡ []) }
     {
-        match Vec::with_capacity(alloc, POLICIES_PER_READ as usize) {
-            Ok(policies) => Ok(Batch { policies }),
-            Err(_) => Err(NoMemory),
-        }
+        let policies = Vec::with_capacity(alloc, POLICIES_PER_READ as usize)?;
+        Ok(PolicyBatch { policies })
     }
 
     pub fn policies(&self) -> &[Policy]
@@ -68,7 +66,7 @@ impl<D: Disk, W: Watching> OfficeState<D, W> {
 
     /// Fills the batch with the policies at a pin's position, in order of issue, from the index `first` on and 256 of
     /// them at most. The caller holds the pin, and `first` is at most its policies.
-    pub fn read(&mut self, caller: u64, pin: u64, first: u32, batch: &mut Batch)
+    pub fn read(&mut self, caller: u64, pin: u64, first: u32, batch: &mut PolicyBatch)
         requires turns { turns_of self.old < 2 ^ 62 }
         requires held { MayRead (pins_of self.old) caller pin first }
         requires stands { (history : List Entry) × StandsFor self.old history }

@@ -53,10 +53,8 @@ impl Books {
         ensures floor { floor_in self.new ≡ floor_in self.old }
         ensures done { OnOk result (CanKeep self.new id) }
     {
-        match self.versions.reserve(id) {
-            Ok(()) => Ok(()),
-            Err(_) => Err(NoMemory),
-        }
+        self.versions.reserve(id)?;
+        Ok(())
     }
 
     /// What the rules make of a command: the policy that it leaves, or none where it is an upgrade.

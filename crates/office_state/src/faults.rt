@@ -1,3 +1,10 @@
+// Why no office is opened.
+ghost use Rattle.std.specs.Prelude.{◌≡◌};
+ghost use Rattle.office_state.specs.inside.Replays.{as_cause, as_replay_cause};
+
+use journal_replay::ReplayFault;
+use posting_journal::JournalCause;
+
 /// Why no office was opened.
 #[derive(Clone, Copy, PartialEq, Eq, Debug)]
 pub enum StartCause {
@@ -16,4 +23,26 @@ pub enum StartCause {
 pub struct StartFault<D> {
     pub cause: StartCause,
     pub disk: D,
+}
+
+/// The same cause.
+pub fn cause_of(cause: JournalCause) -> StartCause
+    ensures { result ≡ as_cause cause }
+{
+    match cause {
+        JournalCause::DiskFault(count) => StartCause::DiskFault(count),
+        JournalCause::NotAJournal => StartCause::NotAJournal,
+        JournalCause::BadRecord(n) => StartCause::BadRecord(n),
+    }
+}
+
+/// The same fault, as a cause.
+pub fn cause_of_replay(fault: ReplayFault) -> StartCause
+    ensures { result ≡ as_replay_cause fault }
+{
+    match fault {
+        ReplayFault::DiskFault(count) => StartCause::DiskFault(count),
+        ReplayFault::BadRecord(n) => StartCause::BadRecord(n),
+        ReplayFault::NoMemory => StartCause::NoMemory,
+    }
 }

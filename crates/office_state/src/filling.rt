@@ -10,7 +10,7 @@ use std::marker::Brand;
 use std::sync::ledger::{Blank, Ledger};
 
 /// The most policies that one read gives.
-pub(crate) const POLICIES_PER_READ: u32 = 256;
+pub const POLICIES_PER_READ: u32 = 256;
 
 impl Books {
     /// The policy of this index, in order of issue, after the first `p` commands, which the floor leaves.

@@ -8,20 +8,22 @@ mod books;
 mod faults;
 mod filling;
 mod held;
+mod keeping;
 mod laws;
 mod opening;
 mod pins;
 mod posting;
 mod reading;
 mod recording;
-mod replaying;
 mod state;
 mod trimming;
+pub mod version_laws;
 mod worked;
 
 pub use answer::Answer;
-pub use batches::Batch;
-pub use faults::{StartCause, StartFault};
+pub use batches::PolicyBatch;
+pub use faults::{StartCause, StartFault, cause_of, cause_of_replay};
+pub use filling::POLICIES_PER_READ;
 pub use held::{Held, PinInfo};
 pub use laws::{
     files_open_or_show_why, one_cause_of_refusal, one_list_of_commands, refused_files_open_to_none,

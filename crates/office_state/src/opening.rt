@@ -2,15 +2,15 @@
 ghost use Rattle.std.specs.Prelude.{◌≡◌, ℕ, [], IfOk, IfErr};
 ghost use Rattle.office_state.specs.Opening.{HasOpened, HasNotOpened};
 ghost use Rattle.office_state.specs.States.{auditors_of};
-ghost use Rattle.office_state.specs.inside.Replays.{IsOfficeOf, HasNoOffice, as_cause};
+ghost use Rattle.office_state.specs.inside.Replays.{IsOfficeOf, HasNoOffice};
 
 use crate::books::Books;
-use crate::faults::{StartCause, StartFault};
-use crate::replaying::replay;
+use crate::faults::{StartFault, cause_of, cause_of_replay};
 use crate::state::OfficeState;
 use arrayvec::ArrayVec;
+use journal_replay::replay_all;
 use outside_io::Disk;
-use posting_journal::{Journal, JournalCause};
+use posting_journal::Journal;
 use std::alloc::Global;
 use std::snapshot::Snapshot;
 use watcher_set::Watching;
@@ -35,17 +35,6 @@ impl<D: Disk, W: Watching> OfficeState<D, W> {
     }
 }
 
-// The same cause.
-fn cause_of(cause: JournalCause) -> StartCause
-    ensures { result ≡ as_cause cause }
-{
-    match cause {
-        JournalCause::DiskFault(count) => StartCause::DiskFault(count),
-        JournalCause::NotAJournal => StartCause::NotAJournal,
-        JournalCause::BadRecord(n) => StartCause::BadRecord(n),
-    }
-}
-
 // The office of a journal that was opened.
 fn office_of<D: Disk, W: Watching>(
     alloc: Global,
@@ -58,7 +47,7 @@ fn office_of<D: Disk, W: Watching>(
 {
     let mut journal = journal;
     let mut books = Books::new(alloc);
-    match replay(&mut journal, &mut books) {
+    match replay_all(&mut journal, &mut books) {
         Ok(()) => {
             let recovered = Snapshot::of(&books);
             Ok(OfficeState {
@@ -71,8 +60,8 @@ fn office_of<D: Disk, W: Watching>(
                 recovered,
             })
         }
-        Err(cause) => Err(StartFault {
-            cause,
+        Err(fault) => Err(StartFault {
+            cause: cause_of_replay(fault),
             disk: journal.release(),
         }),
     }

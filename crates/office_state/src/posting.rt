@@ -15,12 +15,9 @@ use crate::books::Books;
 use crate::recording::record;
 use crate::state::OfficeState;
 use outside_io::Disk;
-use policy_types::{Command, NoMemory, Policy, Refusal};
+use policy_types::{Command, MOST_COMMANDS, NoMemory, Policy, Refusal};
 use record_codec::encode;
 use watcher_set::Watching;
-
-/// The most commands that may be accepted.
-const MOST_COMMANDS: u32 = 4_000_000;
 
 impl<D: Disk, W: Watching> OfficeState<D, W> {
     /// Answers a caller's command. First all memory is taken. The command is accepted only once its record outlives a

@@ -1,7 +1,7 @@
 // The pins of an office: what they hold, what they read, and the floors that they leave.
 use crate::office_desk::{Desk, MOST_TURNS, Posting, accepted, answers, office_on, policy};
 use crate::policies::{NEW_YEAR, issue, premium};
-use office_state::{Answer, Batch, PinInfo};
+use office_state::{Answer, PinInfo, PolicyBatch};
 use policy_types::{Command, PinRefusal, Plan, Refusal, Status};
 use std::alloc::{AllocError, Global};
 use watcher_set::NoWatchers;
@@ -48,7 +48,12 @@ fn gives_up(desk: &mut Desk<NoWatchers>, pin: u64) -> bool {
 }
 
 // Reads a batch of a pin, if the caller holds it.
-pub(crate) fn reads(desk: &mut Desk<NoWatchers>, pin: u64, first: u32, batch: &mut Batch) -> bool {
+pub(crate) fn reads(
+    desk: &mut Desk<NoWatchers>,
+    pin: u64,
+    first: u32,
+    batch: &mut PolicyBatch,
+) -> bool {
     let Some(held) = desk.office.held(pin) else {
         return false;
     };
@@ -60,7 +65,7 @@ pub(crate) fn reads(desk: &mut Desk<NoWatchers>, pin: u64, first: u32, batch: &m
 }
 
 // Whether the batch has so many policies, the first and the last of these numbers.
-fn holds(batch: &Batch, many: usize, ids: (u32, u32)) -> bool {
+fn holds(batch: &PolicyBatch, many: usize, ids: (u32, u32)) -> bool {
     let policies = batch.policies();
     if policies.len() != many {
         return false;
@@ -280,7 +285,7 @@ fn reads_at_a_pins_position(rt: HostRuntime) -> Result<(), AllocError> {
     let Ok(mut desk) = office_on(alloc, &[], &[])? else {
         panic!(rt; "no office");
     };
-    let Ok(mut batch) = Batch::new(alloc) else {
+    let Ok(mut batch) = PolicyBatch::new(alloc) else {
         panic!(rt; "no batch");
     };
     assert!(rt; answers(&mut desk, &[accepted(issue(7001, NEW_YEAR), 1)]));
@@ -329,7 +334,7 @@ fn batches_of_many_policies(rt: HostRuntime) -> Result<(), AllocError> {
     let Ok(mut desk) = office_on(alloc, &[], &[])? else {
         panic!(rt; "no office");
     };
-    let Ok(mut batch) = Batch::new(alloc) else {
+    let Ok(mut batch) = PolicyBatch::new(alloc) else {
         panic!(rt; "no batch");
     };
     for id in 1..301 {

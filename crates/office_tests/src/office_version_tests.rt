@@ -3,7 +3,7 @@
 use crate::office_desk::{Desk, accepted, answers_one, office_on, shows};
 use crate::office_pin_tests::{Pinning, pinned, pins_so, reads};
 use crate::policies::{NEW_YEAR, issue, premium_of};
-use office_state::Batch;
+use office_state::PolicyBatch;
 use policy_types::{Command, PinRefusal, Plan};
 use std::alloc::{AllocError, Global};
 use watcher_set::NoWatchers;
@@ -125,7 +125,7 @@ fn reads_as_then(
     desk: &mut Desk<NoWatchers>,
     pin: u64,
     position: usize,
-    batch: &mut Batch,
+    batch: &mut PolicyBatch,
 ) -> Result<bool, AllocError> {
     let Ok(mut then) = office_on(alloc, &[], &[])? else {
         return Ok(false);
@@ -165,7 +165,8 @@ fn five_policies_paid_once(rt: HostRuntime) -> Result<(), AllocError> {
 #[test]
 fn a_pin_at_each_position(rt: HostRuntime) -> Result<(), AllocError> {
     let alloc = rt.alloc();
-    let (Ok(mut desk), Ok(mut batch)) = (office_on(alloc, &[], &[])?, Batch::new(alloc)) else {
+    let (Ok(mut desk), Ok(mut batch)) = (office_on(alloc, &[], &[])?, PolicyBatch::new(alloc))
+    else {
         panic!(rt; "no office");
     };
     assert!(rt; posts(&mut desk, 0, COMMANDS));
@@ -197,7 +198,8 @@ fn a_pin_at_each_position(rt: HostRuntime) -> Result<(), AllocError> {
 #[test]
 fn a_trim_after_each_command(rt: HostRuntime) -> Result<(), AllocError> {
     let alloc = rt.alloc();
-    let (Ok(mut desk), Ok(mut batch)) = (office_on(alloc, &[], &[])?, Batch::new(alloc)) else {
+    let (Ok(mut desk), Ok(mut batch)) = (office_on(alloc, &[], &[])?, PolicyBatch::new(alloc))
+    else {
         panic!(rt; "no office");
     };
     let policies = [1, 1, 2, 2, 2, 3, 3, 3, 3, 3, 3, 3];

@@ -54,6 +54,8 @@ impl Turn<Counter> for Tick {
 
     ghost entry = { λ _ caller answer. record { caller = caller; call = Trim; reply = Faulted answer } };
 
+    ghost tells = { λ _ _ _ _. Unit {0} };
+
     fn run(self, value: &mut Counter, caller: u64) -> u64 {
         for _ in 0..self.yields {
             yield_now();

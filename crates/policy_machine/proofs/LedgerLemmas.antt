@@ -212,6 +212,14 @@ AreWithin-added : (m n : ℕ) (a b : Booking) → AreWithin m a → AreWithin n 
 AreWithin-added m n a b first second =
     (IsWithin-added m n a.cash b.cash first.0 second.0, IsWithin-added m n a.premiums b.premiums first.1 second.1, IsWithin-added m n a.incurred b.incurred first.2 second.2, IsWithin-added m n a.payable b.payable first.3 second.3)
 
+-- and one booking more
+pub within_added : (position : ℕ) (b : Booking) (command : Command) (after : Policy) → IsValid command → after.amount ≤ 10000000000
+    → AreWithin (40000000000 * position) b → AreWithin (40000000000 * (position + 1)) (added b (booking_of command after))
+within_added position b command after valid modest within =
+    let one : 40000000000 * position + 40000000000 ≡ 40000000000 * (position + 1) = omega arith in
+    subst (λ n. AreWithin n (added b (booking_of command after))) one
+    (AreWithin-added (40000000000 * position) 40000000000 b (booking_of command after) within (booking_within command after valid modest))
+
 all-push : (P : Command → Type 0) (commands : List Command) (command : Command) → AllByRecursion P commands → P command
     → AllByRecursion P (commands ++ command ∷ [])
 all-push P [] command all last = (last, tt)

@@ -10,3 +10,4 @@ pub mod MissedLemmas
 pub mod OldLemmas
 pub mod PaidUpLemmas
 pub mod SoundLemmas
+pub mod Turns

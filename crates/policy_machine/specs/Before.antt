@@ -21,6 +21,7 @@ IsOldCommand _ = Unit {0}
 abbrev pub old_grace_over : Policy → ℤ → Check
 old_grace_over p day = refuse (nat_lt p.paid (payments_of p) && int_lt (grace_end_of p) day) (GraceOver (due_of p))
 
+-- the checks of a command by the rules of before, in their order
 abbrev pub old_checks : Policy → Command → List Check
 old_checks p (Issue id day plan age years amount premium) = refuse true Taken ∷ []
 old_checks p (Premium id day amount) =

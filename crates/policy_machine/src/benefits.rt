@@ -1,7 +1,7 @@
 // The commands about benefits: one falls due at a death or at the end of the term, and is paid out.
 ghost use Rattle.std.specs.Prelude.{◌≡◌, Some};
 ghost use Rattle.policy_types.specs.declared.command.Command.TheVariants.{Claim, Settle, Mature};
-ghost use Rattle.policy_machine.specs.Rules.{IsSound, next};
+ghost use Rattle.policy_machine.specs.Rules.{IsSound, matured, next};
 
 use crate::checks::{insured, not_before_last, within_grace, within_term};
 use crate::terms::end;
@@ -57,14 +57,23 @@ pub fn mature(policy: Policy, day: i32) -> Result<Policy, Refusal>
     if day < end {
         return Err(Refusal::NotMatured(end));
     }
+    Ok(at_end(Policy {
+        last: day,
+        ..policy
+    }))
+}
+
+// The policy when its term is over, by its plan.
+fn at_end(policy: Policy) -> Policy
+    ensures { result ≡ matured policy.plan policy }
+{
     let (status, outstanding) = match policy.plan {
         Plan::Term => (Status::Expired, 0),
         Plan::Whole | Plan::Endowment | Plan::Limited => (Status::Matured, policy.amount),
     };
-    Ok(Policy {
-        last: day,
+    Policy {
         status,
         outstanding,
         ..policy
-    })
+    }
 }

@@ -60,6 +60,7 @@ abbrev pub AreYears : Plan → ℕ → ℕ → Type 0
 AreYears Whole age years = years ≡ 0
 AreYears _ age years = (2 ≤ years) × (age + years ≤ 131)
 
+-- a valid issue: each field within its limits
 pub record IsIssue (id : ℕ) (day : ℤ) (plan : Plan) (age years amount premium : ℕ) : Type 0 where
   pub id_in : IsId id
   pub day_in : IsCommandDay day
@@ -68,6 +69,7 @@ pub record IsIssue (id : ℕ) (day : ℤ) (plan : Plan) (age years amount premiu
   pub amount_in : IsAmount amount
   pub premium_in : IsAmount premium
 
+-- a command whose fields lie within their limits; an upgrade has none, and is valid
 abbrev pub IsValid : Command → Type 0
 IsValid (Issue id day plan age years amount premium) = IsIssue id day plan age years amount premium
 IsValid (Premium id day amount) = IsId id × IsCommandDay day × IsAmount amount

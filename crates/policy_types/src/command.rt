@@ -1,6 +1,8 @@
 ghost use Rattle.std.specs.Prelude.{◌≡◌, ◌↔◌, ◌≤◌, IsTrue};
 ghost use Rattle.policy_types.specs.Valid.{IsId, IsCommandDay, IsIssueAge, AreYears};
 
+/// A journal takes so many commands at most.
+pub const MOST_COMMANDS: u32 = 4_000_000;
 /// 1900-01-01, in days since 1970-01-01.
 pub const FIRST_DAY: i32 = -25567;
 /// 2199-12-31, in days since 1970-01-01.

@@ -1,9 +1,9 @@
 ghost use Rattle.std.specs.Prelude.{◌≡◌};
 
 use crate::command::Command;
+use crate::listed::Listed;
 use crate::policy::Policy;
 use crate::refusal::Refusal;
-use std::marker::Model;
 
 /// A position in the list of accepted commands.
 #[derive(Clone, Copy, PartialEq, Eq, Debug)]
@@ -40,41 +40,8 @@ pub enum PinRefusal {
     PinsFull,
 }
 
-/// Policies in order of issue. Contracts see it as their list.
-#[derive(Drop)]
-pub struct Slice {
-    policies: Vec<Policy>,
-}
-
-impl Model for Slice {
-    ghost use Rattle.std.specs.Prelude.{List};
-    ghost use Rattle.policy_types.specs.declared.policy.Policy.{Policy};
-
-    ghost Value = { List Policy };
-
-    ghost view = { λ s. s.policies.items };
-}
-
-impl Slice {
-    pub fn new(policies: Vec<Policy>) -> Slice
-        ensures { result ≡ policies.items }
-    {
-        Slice { policies }
-    }
-
-    pub fn as_slice(&self) -> &[Policy]
-        ensures { result.now ≡ self.now }
-    {
-        self.policies.as_slice()
-    }
-
-    pub fn into_vec(self) -> Vec<Policy>
-        ensures { result.items ≡ self }
-    {
-        let Slice { policies } = self;
-        policies
-    }
-}
+/// Policies in order of issue.
+pub type Slice = Listed<Policy>;
 
 /// What a turn answers.
 #[derive(Drop)]

@@ -1,8 +1,6 @@
-ghost use Rattle.std.specs.Prelude.{◌≡◌};
-
 use crate::command::Command;
 use crate::entry::At;
-use std::marker::Model;
+use crate::listed::Listed;
 
 /// One line of a clerk.
 #[derive(Clone, Copy, PartialEq, Eq, Debug)]
@@ -13,41 +11,8 @@ pub enum Line {
     Trim,
 }
 
-/// Lines in order. Contracts see it as their list.
-#[derive(Drop)]
-pub struct Lines {
-    lines: Vec<Line>,
-}
-
-impl Model for Lines {
-    ghost use Rattle.std.specs.Prelude.{List};
-    ghost use Rattle.policy_types.specs.declared.script.Line.{Line};
-
-    ghost Value = { List Line };
-
-    ghost view = { λ l. l.lines.items };
-}
-
-impl Lines {
-    pub fn new(lines: Vec<Line>) -> Lines
-        ensures { result ≡ lines.items }
-    {
-        Lines { lines }
-    }
-
-    pub fn as_slice(&self) -> &[Line]
-        ensures { result.now ≡ self.now }
-    {
-        self.lines.as_slice()
-    }
-
-    pub fn into_vec(self) -> Vec<Line>
-        ensures { result.items ≡ self }
-    {
-        let Lines { lines } = self;
-        lines
-    }
-}
+/// Lines in order.
+pub type Lines = Listed<Line>;
 
 /// A clerk's number, from 1 to 8, and lines.
 #[derive(Drop)]
@@ -56,38 +21,5 @@ pub struct Lane {
     pub lines: Lines,
 }
 
-/// The lanes of a script, with rising numbers. Contracts see it as their list.
-#[derive(Drop)]
-pub struct Script {
-    lanes: Vec<Lane>,
-}
-
-impl Model for Script {
-    ghost use Rattle.std.specs.Prelude.{List};
-    ghost use Rattle.policy_types.specs.declared.script.Lane.{Lane};
-
-    ghost Value = { List Lane };
-
-    ghost view = { λ s. s.lanes.items };
-}
-
-impl Script {
-    pub fn new(lanes: Vec<Lane>) -> Script
-        ensures { result ≡ lanes.items }
-    {
-        Script { lanes }
-    }
-
-    pub fn as_slice(&self) -> &[Lane]
-        ensures { result.now ≡ self.now }
-    {
-        self.lanes.as_slice()
-    }
-
-    pub fn into_vec(self) -> Vec<Lane>
-        ensures { result.items ≡ self }
-    {
-        let Script { lanes } = self;
-        lanes
-    }
-}
+/// The lanes of a script, with rising numbers.
+pub type Script = Listed<Lane>;

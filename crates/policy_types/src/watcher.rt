@@ -4,10 +4,17 @@ ghost use Rattle.policy_types.specs.Limits.{most_commands};
 ghost use Rattle.policy_types.specs.Valid.{IsValid};
 
 use crate::command::Command;
+use std::alloc::AllocError;
 
 /// Memory was refused.
 #[derive(Clone, Copy, PartialEq, Eq, Debug)]
 pub struct NoMemory;
+
+impl From<AllocError> for NoMemory {
+    fn from(_refused: AllocError) -> NoMemory {
+        NoMemory
+    }
+}
 
 /// What an auditor has to say at the end.
 #[derive(Clone, Copy, PartialEq, Eq, Debug)]

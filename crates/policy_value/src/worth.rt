@@ -3,8 +3,7 @@ ghost use Rattle.policy_value.specs.Measures.{no_reserve};
 
 use deficiency_reserve::Adequacy;
 use plan_benefits::NotValued;
-use policy_types::Status;
-use std::marker::Model;
+use policy_types::{Listed, Status};
 
 /// Which reserve is asked for.
 #[derive(Clone, Copy, PartialEq, Eq, Debug)]
@@ -65,40 +64,5 @@ pub struct Row {
     pub worth: Worth,
 }
 
-/// The rows of a valuation, in order of issue. Contracts see them as their list.
-#[derive(Drop)]
-pub struct Rows {
-    rows: Vec<Row>,
-}
-
-impl Model for Rows {
-    ghost use Rattle.std.specs.Prelude.{List};
-    ghost use Rattle.policy_value.specs.declared.worth.Row.{Row};
-
-    ghost Value = { List Row };
-
-    ghost view = { λ r. r.rows.items };
-}
-
-impl Rows {
-    ghost use Rattle.std.specs.Prelude.{◌≡◌};
-
-    pub fn new(rows: Vec<Row>) -> Rows
-        ensures { result ≡ rows.items }
-    {
-        Rows { rows }
-    }
-
-    pub fn as_slice(&self) -> &[Row]
-        ensures { result.now ≡ self.now }
-    {
-        self.rows.as_slice()
-    }
-
-    pub fn into_vec(self) -> Vec<Row>
-        ensures { result.items ≡ self }
-    {
-        let Rows { rows } = self;
-        rows
-    }
-}
+/// The rows of a valuation, in order of issue.
+pub type Rows = Listed<Row>;

@@ -19,5 +19,5 @@ mod worked;
 pub use faults::{DiskFault, JournalCause, JournalFault};
 pub use journal::Journal;
 pub use laws::{files_open_or_show_why, one_list_of_bodies, refused_files_open_to_none};
-pub use pieces::Piece;
+pub use pieces::Stretch;
 pub use worked::{creations_by_hand, journals_by_hand, refused_files_by_hand};

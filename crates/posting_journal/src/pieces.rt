@@ -16,19 +16,19 @@ const ROOM: usize = 65_520;
 /// Some records in a row, each its gate and its body, as the disk read them: room for 1,008, which takes no memory but
 /// its own.
 #[derive(Drop)]
-pub struct Piece {
+pub struct Stretch {
     bytes: [u8; 65_520],
     from: u32,
     filled: usize,
 }
 
-impl Piece {
+impl Stretch {
     /// A piece that holds nothing yet.
-    pub fn new() -> Piece
+    pub fn new() -> Stretch
         ensures empty { IsEmptyPiece result }
         ensures part { (file : List ℕ) → IsPartOf result file }
     {
-        Piece {
+        Stretch {
             bytes: [0; 65_520],
             from: 0,
             filled: 0,

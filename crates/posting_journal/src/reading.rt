@@ -8,7 +8,7 @@ ghost use Rattle.posting_journal.specs.States.{StandsFor, count_of, disk_of, is_
 
 use crate::appending::body_place;
 use crate::pieces::RECORDS;
-use crate::{DiskFault, Journal, Piece};
+use crate::{DiskFault, Journal, Stretch};
 use outside_io::Disk;
 
 impl<D: Disk> Journal<D> {
@@ -36,7 +36,7 @@ impl<D: Disk> Journal<D> {
 
     /// Reads the records from `first` on into a piece, by one read: as many as it has room for, or all that are left. At
     /// a fault it holds nothing. It is what the disk reads in that place, so its bodies are the journal's.
-    pub fn bodies(&mut self, first: u32, piece: &mut Piece) -> Result<(), DiskFault>
+    pub fn bodies(&mut self, first: u32, piece: &mut Stretch) -> Result<(), DiskFault>
         requires { first ≤ count_of self.old }
         ensures count { count_of self.new ≡ count_of self.old }
         ensures clean { is_clean self.new ≡ is_clean self.old }
@@ -56,7 +56,7 @@ impl<D: Disk> Journal<D> {
 
     /// The body of record `n`, from a piece of this journal: where the piece hasn't it, it is filled from there on. So
     /// whoever asks for one record after the other reads a thousand at once.
-    pub fn body_from(&mut self, n: u32, piece: &mut Piece) -> Result<[u8; 64], DiskFault>
+    pub fn body_from(&mut self, n: u32, piece: &mut Stretch) -> Result<[u8; 64], DiskFault>
         requires within { n < count_of self.old }
         requires part { D.honest (disk_of self.old) → IsPartOf piece.old (D.reads (disk_of self.old)) }
         ensures count { count_of self.new ≡ count_of self.old }
@@ -78,7 +78,7 @@ impl<D: Disk> Journal<D> {
     }
 
     // Fills the piece from record `n` on, where it hasn't that record's body.
-    fn turn_to(&mut self, n: u32, piece: &mut Piece) -> Result<(), DiskFault>
+    fn turn_to(&mut self, n: u32, piece: &mut Stretch) -> Result<(), DiskFault>
         requires within { n < count_of self.old }
         requires part { D.honest (disk_of self.old) → IsPartOf piece.old (D.reads (disk_of self.old)) }
         ensures count { count_of self.new ≡ count_of self.old }

@@ -9,7 +9,7 @@ ghost use Rattle.posting_journal.specs.inside.Unopened.{HasUnopenedCause, CantSt
 use crate::appending::gate_place;
 use crate::faults::Unopened;
 use crate::layout::{MAX_RECORDS, OPEN};
-use crate::pieces::{Piece, RECORDS};
+use crate::pieces::{RECORDS, Stretch};
 use outside_io::{Disk, Failed};
 
 // How many records stand before the first closed gate.
@@ -23,7 +23,7 @@ pub(crate) fn count_records<D: Disk>(disk: &mut D, size: u64) -> Result<u32, Uno
     ensures bad { D.honest disk.new → IfErr result (λ cause. IsBadFrom (D.reads disk.old) cause) }
     ensures unwritten { D.honest disk.new → LooksOn D.Disk disk.old disk.new }
 {
-    let mut piece = Piece::new();
+    let mut piece = Stretch::new();
     let mut n = 0;
     while has_record(disk, size, n, &mut piece)? {
         n += 1;
@@ -32,7 +32,12 @@ pub(crate) fn count_records<D: Disk>(disk: &mut D, size: u64) -> Result<u32, Uno
 }
 
 // Whether the gate of record n is open; then the record has to stand.
-fn has_record<D: Disk>(disk: &mut D, size: u64, n: u32, piece: &mut Piece) -> Result<bool, Unopened>
+fn has_record<D: Disk>(
+    disk: &mut D,
+    size: u64,
+    n: u32,
+    piece: &mut Stretch,
+) -> Result<bool, Unopened>
     requires few { n ≤ most_records }
     requires within { gate_place n < size }
     requires told { D.honest disk.old → size ≡ length (D.reads disk.old) }
@@ -57,7 +62,7 @@ fn has_record<D: Disk>(disk: &mut D, size: u64, n: u32, piece: &mut Piece) -> Re
 }
 
 // Reads the piece from the gate of record n on, where it hasn't that gate.
-fn turn_to<D: Disk>(disk: &mut D, size: u64, n: u32, piece: &mut Piece) -> Result<(), Failed>
+fn turn_to<D: Disk>(disk: &mut D, size: u64, n: u32, piece: &mut Stretch) -> Result<(), Failed>
     requires within { gate_place n < size }
     requires told { D.honest disk.old → size ≡ length (D.reads disk.old) }
     requires part { D.honest disk.old → IsPartOf piece.old (D.reads disk.old) }

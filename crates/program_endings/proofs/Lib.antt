@@ -1,4 +1,5 @@
 pub mod ListSteps
+mod PartSteps
 pub mod TurnSteps
 pub mod QuietTurns
 pub mod FaultSteps

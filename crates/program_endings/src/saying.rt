@@ -1,12 +1,16 @@
 // What is written: a line that stands alone, or a whole text.
-ghost use Rattle.std.specs.Prelude.{◌≡◌, ◌≤◌, ◌++◌, codes, OnOk};
+ghost use Rattle.std.specs.Prelude.{◌≡◌, ◌≤◌, ◌++◌, codes, OnErr, OnOk};
+ghost use Rattle.std.specs.Io.KnownBytes.{Appends};
+ghost use Rattle.outside_io.specs.Faults.{HasCause};
+ghost use Rattle.outside_io.specs.Streams.{AppendsPart};
 ghost use Rattle.program_endings.specs.Texts.{EndsText};
 ghost use Rattle.program_endings.specs.Writing.{WroteLine, WroteOrFailed, between};
 ghost use Rattle.program_endings.specs.declared.ending.Ending.TheVariants.{NoMemory as NoRoom};
 
 use crate::ending::Ending;
-use outside_io::{Sink, write_all};
+use outside_io::{Sink, WriteFault, write_all};
 use policy_types::NoMemory;
+use report_text::TextParts;
 
 /// Writes a line. Where the output fails, a front of it was written.
 pub fn say<K: Sink>(output: &mut K, line: &[u8])
@@ -39,10 +43,8 @@ pub fn lack_memory<K: Sink>(output: &mut K) -> Ending
 pub fn add(text: &mut Vec<u8>, more: &[u8]) -> Result<(), NoMemory>
     ensures { OnOk result (text.new.items ≡ text.old.items ++ more.now) }
 {
-    match text.extend_from_slice(more) {
-        Ok(()) => Ok(()),
-        Err(_) => Err(NoMemory),
-    }
+    text.extend_from_slice(more)?;
+    Ok(())
 }
 
 /// Writes a text, or says that there was no memory for it.
@@ -56,4 +58,16 @@ pub fn write_text<K: Sink>(text: Result<Vec<u8>, NoMemory>, output: &mut K) -> E
         Ok(()) => Ending::Done,
         Err(_) => Ending::WriteFault,
     }
+}
+
+/// Writes all parts of a text, one after the other. At a fault a front of the text was written, and not all.
+pub fn write_parts<K: Sink>(output: &mut K, text: &TextParts) -> Result<(), WriteFault>
+    ensures cause { HasCause (K.faults output.old) (K.faults output.new) result }
+    ensures whole { OnOk result (Appends (K.written output.old) (K.written output.new) text.now) }
+    ensures part { OnErr result (AppendsPart (K.written output.old) (K.written output.new) text.now) }
+{
+    for part in text.as_slice() {
+        write_all(output, part.as_slice())?;
+    }
+    Ok(())
 }

@@ -26,6 +26,8 @@ mod lying_disk;
 #[cfg(test)]
 mod lying_disk_tests;
 #[cfg(test)]
+mod output_tests;
+#[cfg(test)]
 mod run_tests;
 #[cfg(test)]
 mod watcher_tests;

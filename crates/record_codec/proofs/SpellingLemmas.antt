@@ -7,7 +7,7 @@ use Rattle.policy_types.specs.declared.command.Command.{Command}
 use Rattle.policy_types.specs.declared.command.Command.TheVariants.{Issue, Premium, Alter, Lapse, Reinstate, Claim, Settle, Mature, PaidUp, Upgrade}
 use Rattle.policy_types.specs.declared.command.Plan.TheVariants.{Term, Whole, Endowment, Limited}
 use Rattle.policy_types.specs.Valid.{IsValid}
-use Rattle.record_codec.specs.declared.fields.Fields.{Fields}
+use Rattle.record_codec.specs.declared.fields.RecordFields.{RecordFields}
 use Rattle.record_codec.specs.Fields.{fields_of}
 use Rattle.record_codec.specs.Spelling.{body_of, spelling_of, IsSpelling}
 use Rattle.record_codec.specs.inside.Reading.{command_at, AreInRange}
@@ -22,7 +22,7 @@ long_at body at =
     from_be_bytes w64 (get_or body at 0 ∷ get_or body (at + 1) 0 ∷ get_or body (at + 2) 0 ∷ get_or body (at + 3) 0 ∷ get_or body (at + 4) 0 ∷ get_or body (at + 5) 0 ∷ get_or body (at + 6) 0 ∷ get_or body (at + 7) 0 ∷ [])
 
 -- what stands at the places of the fields
-abbrev pub read_fields : List ℕ → Fields
+abbrev pub read_fields : List ℕ → RecordFields
 read_fields body = record {
   kind = get_or body 0 0;
   plan = get_or body 1 0;
@@ -38,7 +38,7 @@ day_back : (day : ℤ) → FitsSigned w32 day → cast_signed w32 (from_be_bytes
 day_back day h = ap (cast_signed w32) (from_be_bytes-to_be_bytes_4 (cast_unsigned w32 day) (omega (arith, ints))) ∙ to_z-of_z h
 
 -- a body has its fields at their places
-pub read_fields-body_of : (body : List ℕ) (f : Fields) → AreInRange f → body ≡ body_of f → read_fields body ≡ f
+pub read_fields-body_of : (body : List ℕ) (f : RecordFields) → AreInRange f → body ≡ body_of f → read_fields body ≡ f
 read_fields-body_of body f h e =
     let id : word_at (body_of f) 4 ≡ f.id = from_be_bytes-to_be_bytes_4 f.id h.id_in in
     let day : cast_signed w32 (word_at (body_of f) 8) ≡ f.day = day_back f.day h.day_in in
@@ -89,7 +89,7 @@ one_command body c d h k =
     cc
 
 -- what is made of the fields that were read is the command that is spelled
-pub command_read : (body : List ℕ) (read : Fields) (made : Option Command) → ((f : Fields) → AreInRange f → body ≡ body_of f → read ≡ f) → made ≡ command_at read → (c : Command) → IsSpelling body c → made ≡ Some c
+pub command_read : (body : List ℕ) (read : RecordFields) (made : Option Command) → ((f : RecordFields) → AreInRange f → body ≡ body_of f → read ≡ f) → made ≡ command_at read → (c : Command) → IsSpelling body c → made ≡ Some c
 unfolding spelling_of
 command_read body read made is e c h =
     e ∙ ap command_at (is (fields_of c) (AreInRange-valid c h.valid) h.spelled) ∙ command_at-fields_of c

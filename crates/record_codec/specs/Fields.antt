@@ -4,7 +4,7 @@ use Rattle.policy_types.specs.declared.command.Command.{Command}
 use Rattle.policy_types.specs.declared.command.Command.TheVariants.{Issue, Premium, Alter, Lapse, Reinstate, Claim, Settle, Mature, PaidUp, Upgrade}
 use Rattle.policy_types.specs.declared.command.Plan.{Plan}
 use Rattle.policy_types.specs.declared.command.Plan.TheVariants.{Term, Whole, Endowment, Limited}
-use Rattle.record_codec.specs.declared.fields.Fields.{Fields}
+use Rattle.record_codec.specs.declared.fields.RecordFields.{RecordFields}
 
 -- the byte of a plan
 abbrev pub plan_byte : Plan → ℕ
@@ -14,7 +14,7 @@ plan_byte Endowment = 3
 plan_byte Limited = 4
 
 -- the fields of every kind but the first
-abbrev pub short_fields : (kind id : ℕ) (day : ℤ) (amount premium : ℕ) → Fields
+abbrev pub short_fields : (kind id : ℕ) (day : ℤ) (amount premium : ℕ) → RecordFields
 short_fields kind id day amount premium = record {
   kind = kind;
   plan = 0;
@@ -26,7 +26,7 @@ short_fields kind id day amount premium = record {
   premium = premium;
 }
 
-abbrev pub fields_of : Command → Fields
+abbrev pub fields_of : Command → RecordFields
 fields_of (Issue id day plan age years amount premium) = record {
   kind = 1;
   plan = plan_byte plan;

@@ -1,13 +1,13 @@
 // The bytes of the fields at their places.
 ghost use Rattle.std.specs.Prelude.{◌≡◌, ◌+◌, ◌≤◌, [], ◌∷◌, slice_index};
 ghost use Rattle.std.specs.Int.{w32, w64, from_be_bytes};
-ghost use Rattle.record_codec.specs.declared.fields.Fields.{Fields};
+ghost use Rattle.record_codec.specs.declared.fields.RecordFields.{RecordFields};
 ghost use Rattle.record_codec.specs.Spelling.{field_bytes, body_of};
 ghost use Rattle.record_codec.specs.inside.Reading.{AreInRange};
 
-use crate::fields::Fields;
+use crate::fields::RecordFields;
 
-pub fn body_with(fields: Fields) -> [u8; 64]
+pub fn body_with(fields: RecordFields) -> [u8; 64]
     ensures { result ≡ body_of fields }
 {
     let mut body = [0; 64];
@@ -16,11 +16,11 @@ pub fn body_with(fields: Fields) -> [u8; 64]
 }
 
 // The fields that stand in a body. What else it holds isn't tested.
-pub fn fields_at(body: &[u8; 64]) -> Fields
-    ensures { (fields : Fields) → AreInRange fields → body.now ≡ body_of fields
+pub fn fields_at(body: &[u8; 64]) -> RecordFields
+    ensures { (fields : RecordFields) → AreInRange fields → body.now ≡ body_of fields
         → result ≡ fields }
 {
-    Fields {
+    RecordFields {
         kind: body[0],
         plan: body[1],
         age: body[2],
@@ -32,10 +32,10 @@ pub fn fields_at(body: &[u8; 64]) -> Fields
     }
 }
 
-fn bytes_with(fields: Fields) -> [u8; 28]
+fn bytes_with(fields: RecordFields) -> [u8; 28]
     ensures { result ≡ field_bytes fields }
 {
-    let Fields {
+    let RecordFields {
         kind,
         plan,
         age,

@@ -7,7 +7,7 @@ use policy_types::{Command, Plan};
 
 /// The fields in their order, each 0 where the command's kind has none.
 #[derive(Clone, Copy)]
-pub struct Fields {
+pub struct RecordFields {
     pub kind: u8,
     pub plan: u8,
     pub age: u8,
@@ -18,7 +18,7 @@ pub struct Fields {
     pub premium: u64,
 }
 
-pub fn fields_with(command: &Command) -> Fields
+pub fn fields_with(command: &Command) -> RecordFields
     ensures { result ≡ fields_of command.now }
 {
     match *command {
@@ -30,7 +30,7 @@ pub fn fields_with(command: &Command) -> Fields
             years,
             amount,
             premium,
-        } => Fields {
+        } => RecordFields {
             kind: 1,
             plan: byte_of(plan),
             age,
@@ -57,10 +57,10 @@ pub fn fields_with(command: &Command) -> Fields
     }
 }
 
-pub fn command_with(fields: Fields) -> Option<Command>
+pub fn command_with(fields: RecordFields) -> Option<Command>
     ensures { result ≡ command_at fields }
 {
-    let Fields {
+    let RecordFields {
         kind,
         plan,
         age,
@@ -98,10 +98,10 @@ pub fn command_with(fields: Fields) -> Option<Command>
     }
 }
 
-fn short(kind: u8, id: u32, day: i32, amount: u64, premium: u64) -> Fields
+fn short(kind: u8, id: u32, day: i32, amount: u64, premium: u64) -> RecordFields
     ensures { result ≡ short_fields kind id day amount premium }
 {
-    Fields {
+    RecordFields {
         kind,
         plan: 0,
         age: 0,

@@ -1,6 +1,7 @@
 // The whole text of a valuation.
 ghost use Rattle.std.specs.Prelude.{◌≡◌, ◌≤◌, ◌++◌, length, IfOk, OnOk};
 ghost use Rattle.life_dates.specs.Calendar.{IsDay};
+ghost use Rattle.policy_types.specs.Limits.{most_commands};
 ghost use Rattle.text_lines.specs.Lines.{behind_commas};
 ghost use Rattle.report_text.specs.Block.{heading_text, measure_fields, block_text, AreSummable};
 
@@ -26,7 +27,7 @@ pub fn print_block(
     rows: &Rows,
 ) -> Result<Text, NoMemory>
     requires on { IsDay on }
-    requires few { length rows.now ≤ 4000000 }
+    requires few { length rows.now ≤ most_commands }
     requires bounded { AreSummable rows.now }
     ensures { IfOk result (λ text. text ≡ block_text lane on position measure rows.now) }
 {
@@ -39,6 +40,23 @@ pub fn print_block(
         lines.line(&line)?;
     }
     write_total(&mut lines, rows, measure)?;
+    Ok(lines.into_text())
+}
+
+// The line that says what was valued.
+pub fn print_heading(
+    alloc: Global,
+    lane: u8,
+    on: i32,
+    position: u32,
+    policies: u32,
+    measure: Measure,
+) -> Result<Text, NoMemory>
+    requires { IsDay on }
+    ensures { IfOk result (λ text. text ≡ heading_text lane on position policies measure) }
+{
+    let mut lines = LineWriter::new(alloc);
+    write_heading(&mut lines, lane, on, position, policies, measure)?;
     Ok(lines.into_text())
 }
 

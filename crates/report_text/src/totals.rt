@@ -1,5 +1,6 @@
 // What the rows of a valuation add up to.
 ghost use Rattle.std.specs.Prelude.{◌≡◌, ◌+◌, ◌<◌, ◌≤◌, ◌++◌, ◌^◌, length, IfOk, OnOk, if◌then◌else◌};
+ghost use Rattle.policy_types.specs.Limits.{most_commands};
 ghost use Rattle.text_lines.specs.Lines.{behind_commas};
 ghost use Rattle.report_text.specs.Block.{lower_bound, upper_bound, lower_minimum, upper_minimum, is_unvalued, lower_sum, upper_sum, lower_minimum_sum, upper_minimum_sum, unvalued_count, sum_fields, total_text, IsSummable, AreSummable};
 
@@ -21,7 +22,7 @@ pub struct Totals {
 impl Totals {
     /// The totals of the rows.
     pub fn of(rows: &Rows) -> Totals
-        requires few { length rows.now ≤ 4000000 }
+        requires few { length rows.now ≤ most_commands }
         requires bounded { AreSummable rows.now }
         ensures lower { result.lower ≡ lower_sum rows.now }
         ensures upper { result.upper ≡ upper_sum rows.now }
@@ -49,7 +50,7 @@ impl Totals {
         requires bounded { IsSummable worth }
         requires sums { (self.old.lower < 2 ^ 63) × (self.old.upper < 2 ^ 63) }
         requires minimums { (self.old.lower_minimum < 2 ^ 63) × (self.old.upper_minimum < 2 ^ 63) }
-        requires count { self.old.unvalued < 4000000 }
+        requires count { self.old.unvalued < most_commands }
         ensures lower { self.new.lower ≡ self.old.lower + lower_bound worth }
         ensures upper { self.new.upper ≡ self.old.upper + upper_bound worth }
         ensures lower_minimum { self.new.lower_minimum ≡ self.old.lower_minimum + lower_minimum worth }
@@ -80,7 +81,7 @@ impl Totals {
 /// The total of a valuation, as `total,127.22,127.23,0`, and by the measure of deficiency with the sums of the minimum
 /// reserves, as `total,127.22,127.23,280.00,280.00,0`. It ends with a line feed.
 pub fn print_total(alloc: Global, rows: &Rows, measure: Measure) -> Result<Text, NoMemory>
-    requires few { length rows.now ≤ 4000000 }
+    requires few { length rows.now ≤ most_commands }
     requires bounded { AreSummable rows.now }
     ensures { IfOk result (λ text. text ≡ total_text measure rows.now) }
 {
@@ -92,7 +93,7 @@ pub fn print_total(alloc: Global, rows: &Rows, measure: Measure) -> Result<Text,
 // Adds the total.
 #[tactic(auto, unfolding(crate::specs::Block::total_text))]
 pub fn write_total(lines: &mut LineWriter, rows: &Rows, measure: Measure) -> Result<(), NoMemory>
-    requires few { length rows.now ≤ 4000000 }
+    requires few { length rows.now ≤ most_commands }
     requires bounded { AreSummable rows.now }
     ensures { OnOk result (lines.new ≡ lines.old ++ total_text measure rows.now) }
 {
@@ -103,7 +104,7 @@ pub fn write_total(lines: &mut LineWriter, rows: &Rows, measure: Measure) -> Res
 
 // Adds the sums, and the number of rows without bounds.
 fn write_sums(lines: &mut LineWriter, rows: &Rows, measure: Measure) -> Result<(), NoMemory>
-    requires few { length rows.now ≤ 4000000 }
+    requires few { length rows.now ≤ most_commands }
     requires bounded { AreSummable rows.now }
     ensures { OnOk result (lines.new ≡ lines.old ++ behind_commas (sum_fields measure rows.now)) }
 {

@@ -9,9 +9,10 @@ use NotValued::{BelowTable, NoBasis, PastTable, RateHigh};
 use Status::{Claimed, Expired, InForce, Lapsed, Matured, Settled};
 use policy_types::Status;
 use policy_value::{Adequacy, Measure, NotValued, Row, Rows, Worth};
-use report_text::{Totals, print_block, print_row, print_total};
+use report_text::{TextParts, Totals, print_block, print_parts, print_row, print_total};
 use std::alloc::Global;
 use std::test::Fail;
+use std::thread::Threads;
 
 /// 2021-01-01, in days since 1970-01-01.
 const ON: i32 = 18_628;
@@ -416,5 +417,66 @@ fn many_policies(rt: HostRuntime) -> Result<(), Fail> {
     assert_eq!(rt; text.as_slice().len(), 34 + 100_000 * 45 + 44);
     assert!(rt; text.as_slice().starts_with(start.as_bytes()));
     assert!(rt; text.as_slice().ends_with(end.as_bytes()));
+    Ok(())
+}
+
+// So many rows, by so many workers, and the parts of their text. One worker for each 8,192 rows makes a part, and there
+// are the heading and the total; one alone makes the whole.
+const SHARED: &[(u32, u8, usize)] = &[
+    (0, 4, 1),
+    (16_383, 4, 1),
+    (16_384, 1, 1),
+    (16_384, 64, 4),
+    (30_000, 2, 4),
+    (30_001, 4, 5),
+];
+
+// Rows with ascending numbers.
+fn numbered(alloc: Global, count: u32) -> Result<Rows, Fail> {
+    let mut rows = Vec::new(alloc);
+    for id in 0..count {
+        let mut row = row_of((7001, InForce, 1, Bounds(12_722, 12_723)));
+        row.id = id;
+        rows.push(row)?;
+    }
+    Ok(Rows::new(rows))
+}
+
+fn are_parts_of(text: &[u8], parts: &TextParts) -> bool {
+    let mut left = text;
+    for part in parts.as_slice() {
+        let part = part.as_slice();
+        if !left.starts_with(part) {
+            return false;
+        }
+        left = &left[part.len()..];
+    }
+    left.is_empty()
+}
+
+fn is_shared<R: Threads + Sync>(
+    rt: &R,
+    alloc: Global,
+    case: (u32, u8, usize),
+) -> Result<bool, Fail> {
+    let (count, workers, many) = case;
+    let rows = numbered(alloc, count)?;
+    if !are_summable(&rows) || workers < 1 || workers > 64 {
+        return Err("summable rows and up to 64 workers".into());
+    }
+    let Ok(text) = print_block(alloc, 8, ON, 9, Measure::Mean, &rows) else {
+        return Err("memory for a block".into());
+    };
+    match print_parts(rt, alloc, 8, ON, 9, Measure::Mean, &rows, workers) {
+        Ok(parts) => Ok(parts.as_slice().len() == many && are_parts_of(text.as_slice(), &parts)),
+        Err(_) => Err("memory for a block in parts".into()),
+    }
+}
+
+#[test]
+fn blocks_by_any_number_of_workers(rt: HostRuntime) -> Result<(), Fail> {
+    for (number, case) in SHARED.iter().enumerate() {
+        assert!(rt; is_shared(&rt, rt.alloc(), *case)?, "block {number}");
+    }
     Ok(())
 }

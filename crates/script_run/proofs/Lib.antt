@@ -2,3 +2,4 @@ pub mod ScriptSteps
 pub mod RunSteps
 pub mod ScriptStatus
 pub mod RunStatus
+pub mod WrittenSteps

@@ -1,6 +1,6 @@
 -- How a run ends, by what its parts did
 use Rattle.std.proofs.Common.{◌≡◌, ℕ, Bool, true, false, List, [], ◌++◌, refl, ap, sym, ◌∙◌, subst, inl, inr, Some, Result, Ok, Err}
-use Rattle.std.specs.Prelude.{All, IfOk, OnErr, if◌then◌else◌}
+use Rattle.std.specs.Prelude.{IfOk, OnErr, if◌then◌else◌}
 use Rattle.outside_io.specs.Faults.{Rose}
 use Rattle.outside_io.specs.Streams.{AppendsPart}
 use Rattle.outside_io.specs.declared.disks.Disk.{Ghosts}
@@ -22,17 +22,18 @@ use Rattle.shared_office.specs.Starting.{HasClosed, HasStartedOffice}
 use Rattle.turn_lock.specs.Passes.{Holding, PassFacts}
 use Rattle.lane_runner.specs.Transcripts.{HasAnsweredLanes, dry_of}
 use Rattle.lane_runner.specs.declared.transcript.TranscriptLine.{TranscriptLine}
+use Rattle.lane_runner.specs.declared.running.Ran.{Ran}
 use Rattle.lane_runner.specs.declared.transcript.Transcript.{Transcript}
 use Rattle.program_endings.specs.declared.ending.Ending.{Ending}
 use Rattle.program_endings.specs.declared.ending.Ending.TheVariants.{Done, BadScript, BadJournal, ReadFault as InputFault, WriteFault, DiskFault, NoMemory}
 use Rattle.program_endings.specs.Replies.{AreAnswered, AreAny, HaveAFault, LackMemory}
-use Rattle.program_endings.specs.Writing.{Input, Shelving, Stream, WroteAll, WroteNothing}
+use Rattle.program_endings.specs.Writing.{Input, Shelving, Stream, WroteAll}
 use Rattle.program_endings.specs.Refusals.{SaysUnopened}
 use Rattle.program_endings.proofs.FaultSteps.{rose_in}
 use Rattle.program_endings.proofs.ListSteps.{same_opened}
 use Rattle.transcript_text.specs.Transcript.{IsTranscript, reports_text}
 use Rattle.transcript_text.specs.Lanes.{AreScriptLanes}
-use Rattle.transcript_text.specs.Told.{IsWritable, any_faulted, any_lacked, run_text, told_texts}
+use Rattle.transcript_text.specs.Told.{any_faulted, any_lacked, run_text, told_texts}
 use Rattle.transcript_text.proofs.Telling.{Telling, telling}
 use Rattle.script_run.specs.declared.intake.Unread.{Unread}
 use Rattle.script_run.specs.declared.intake.Unread.TheVariants.{TooLong, BadRow, ReadFault, NoMemory as OutOfMemory}
@@ -84,9 +85,6 @@ module _ {D W : Type 0} (g : Ghosts D) (w : WatcherGhosts W) (old disk : D) (lan
     all_told : Telling basis lanes closing transcript opened ran.answered
     all_told = telling basis lanes first closing transcript opened ran started.first facts closed.whole script
 
-    pub lines_writable : All IsWritable transcript.lines
-    lines_writable = all_told.writable
-
     run_of : (Wrote : List ℕ → Type 0) (Replies : List Entry → List ℕ → Type 0) → Wrote (run_text transcript.lines reports)
         → Replies closing.seen (dry_of transcript.lines) → IsRunOf g old disk lanes basis auditors Wrote Replies
     run_of Wrote Replies wrote replies = record {
@@ -118,7 +116,7 @@ module _ {D W : Type 0} (g : Ghosts D) (w : WatcherGhosts W) (old disk : D) (lan
         let legal = subst (λ (n : ℕ). IsLegal (opened_on started.opening.commands n) closing.seen) started.faults all_told.history.legal in
         let rose = rose_in (opened_on started.opening.commands (g.faults old)) closing.seen fault.0 legal.due fault.1 in
         (subst (Rose (g.faults old)) (sym left.faults) rose, inr (run_of (WroteAll output) HaveAFault ends.1 fault))
-    ends_told output NoMemory (inl unwritten) = inr (inl (run_of (WroteNothing output) AreAny unwritten tt))
+    ends_told output NoMemory (inl unwritten) = inr (inl (run_of (AppendsPart output.before output.after) AreAny unwritten tt))
     ends_told output NoMemory (inr short) =
         inr (inr (run_of (WroteAll output) LackMemory short.2 (all_told.unfaulted short.0, all_told.some_lacked short.1)))
     ends_told output _ ends = absurd ends
@@ -131,14 +129,9 @@ module _ {D W : Type 0} (g : Ghosts D) (w : WatcherGhosts W) (old disk : D) (lan
       let left = subst (IsLeftBy g old disk (opened_on started.opening.commands (g.faults old))) none (left_from is) in
       (left.alone tt, left.faults)
 
-  pub ran_writable : (ran : Result Transcript Lack) → IfOk ran (HasAnsweredLanes basis lanes first closing)
-      → IfOk ran (λ (transcript : Transcript). All IsWritable transcript.lines)
-  ran_writable (Ok transcript) answered = lines_writable transcript answered
-  ran_writable (Err lack) answered = tt
-
-  pub ends_ran : (ran : Result Transcript Lack) (output : Stream) (ending : Ending) → IfOk ran (HasAnsweredLanes basis lanes first closing)
+  pub ends_ran : (ran : Result Ran Lack) (output : Stream) (ending : Ending) → IfOk ran (λ (done : Ran). HasAnsweredLanes basis lanes first closing done.transcript)
       → OnErr ran (closing ≡ first) → EndsRan ran reports output ending → EndsScript g old disk lanes basis auditors output ending
-  ends_ran (Ok transcript) output ending answered same ends = ends_told transcript answered output ending ends
+  ends_ran (Ok ran) output ending answered same ends = ends_told ran.transcript answered output ending ends
   ends_ran (Err lack) output NoMemory answered same ends = let left = untouched same in inl (ends, left.0, left.1)
   ends_ran (Err lack) output _ answered same ends = absurd ends
 

@@ -15,7 +15,7 @@ use Rattle.office_state.specs.Images.{IsLeftAlone, IsLeftBy}
 use Rattle.office_state.specs.Journals.{Opens}
 use Rattle.program_endings.specs.declared.ending.Ending.{Ending}
 use Rattle.program_endings.specs.declared.ending.Ending.TheVariants.{Done, BadJournal, WriteFault, DiskFault, NoMemory}
-use Rattle.program_endings.specs.Writing.{Stream, WroteAll, WroteNothing, WroteLine}
+use Rattle.program_endings.specs.Writing.{Stream, WroteAll, WroteLine}
 use Rattle.program_endings.specs.Replies.{ArePins, AreAnswered, LackMemory, HaveAFault, AreAny}
 use Rattle.program_endings.specs.Refusals.{IsRefusedJournal}
 use Rattle.transcript_text.specs.Transcript.{IsTranscript, reports_text}
@@ -41,9 +41,9 @@ pub record IsRunOf {D : Type 0} (g : Ghosts D) (old new : D) (lanes : List Lane)
   pub replies : Replies history dry
   pub disk : IsLeftBy g old new (opened_on commands (g.faults old)) history
 
--- How a run ends that read its script, and has the basis that it needs. The text is written whole unless the output failed,
--- or there was no memory for it when the lanes had ended. Where no posting was made for want of memory, or no office was
--- opened, the disk is left alone.
+-- How a run ends that read its script, and has the basis that it needs. The text is written whole, but for the back of it
+-- where the output failed, or where there was no memory for a text. Where no posting was made for want of memory, or no
+-- office was opened, the disk is left alone.
 abbrev pub EndsScript : {D : Type 0} → Ghosts D → D → D → List Lane → List Dated → List Auditor → Stream → Ending → Type 0
 EndsScript g old new lanes basis auditors output Done = IsRunOf g old new lanes basis auditors (WroteAll output) AreAnswered
 EndsScript g old new lanes basis auditors output BadJournal = IsRefusedJournal g old new output
@@ -56,6 +56,6 @@ EndsScript g old new lanes basis auditors output DiskFault =
     ⊎ IsRunOf g old new lanes basis auditors (WroteAll output) HaveAFault)
 EndsScript g old new lanes basis auditors output NoMemory =
     (WroteLine output (codes "nomemory") × IsLeftAlone g old new × (g.faults new ≡ g.faults old))
-    ⊎ IsRunOf g old new lanes basis auditors (WroteNothing output) AreAny
+    ⊎ IsRunOf g old new lanes basis auditors (AppendsPart output.before output.after) AreAny
     ⊎ IsRunOf g old new lanes basis auditors (WroteAll output) LackMemory
 EndsScript g old new lanes basis auditors output _ = ⊥

@@ -1,26 +1,28 @@
 // A run of a script: the basis is fetched where a line asks for values, the office is opened, each lane of the script is run
-// by a caller of its own, the office is closed, then the transcript is written.
-ghost use Rattle.std.specs.Prelude.{◌≡◌, ℕ, ◌<◌, ◌≤◌, [], All, IfOk, length};
+// by a caller of its own while the transcript is written, and the office is closed.
+ghost use Rattle.std.specs.Prelude.{◌≡◌, ℕ, ◌<◌, ◌≤◌, [], length};
 ghost use Rattle.std.specs.List.{list_any};
+ghost use Rattle.std.specs.Io.KnownBytes.{Appends};
 ghost use Rattle.lane_runner.specs.Lanes.{is_value};
+ghost use Rattle.lane_runner.specs.Written.{HasEnded};
 ghost use Rattle.shared_office.specs.Offices.{IsOfficeHistory};
 ghost use Rattle.shared_office.specs.Starting.{HasStartedOffice};
 ghost use Rattle.turn_lock.specs.Passes.{PassFacts};
 ghost use Rattle.script_run.specs.Running.{EndsByName, EndsLanes, EndsRun};
 ghost use Rattle.script_run.specs.Outcome.{EndsScript};
 ghost use Rattle.script_run.specs.Script.{asks_for_values};
-ghost use Rattle.program_endings.specs.Writing.{between, input_between, shelf_between};
+ghost use Rattle.program_endings.specs.Writing.{Stream, between, input_between, shelf_between};
 ghost use Rattle.program_endings.specs.declared.ending.Ending.TheVariants.{ReadFault};
 ghost use Rattle.transcript_text.specs.Lanes.{AreScriptLanes};
-ghost use Rattle.script_run.specs.inside.Ran.{EndsRan, EndsTold};
-ghost use Rattle.transcript_text.specs.Told.{IsWritable};
+ghost use Rattle.script_run.specs.inside.Ran.{EndsRan, EndsTold, IsWritten, output_until};
+ghost use Rattle.transcript_text.specs.Told.{told_texts};
 
 use crate::intake::read_lanes;
 use crate::refusing::refuse;
 use basis_book::{Basis, BasisRows, Name};
 use basis_shelf::fetch_basis;
 use indexmap::IndexMap;
-use lane_runner::{Transcript, TranscriptLine, run_lanes};
+use lane_runner::{Ran, TranscriptLine, Unwritten, run_lanes};
 use outside_io::{Disk, Gate, Shelf, Sink, Source, write_all};
 use policy_types::{Lane, Line, NoMemory, Report};
 use program_endings::{Ending, Finished, lack_memory, refuse_basis, refuse_journal};
@@ -28,16 +30,16 @@ use shared_office::{Office, OfficeCalls, OfficePass, close};
 use std::alloc::Global;
 use std::sync::Wait;
 use std::thread::Threads;
-use transcript_text::{ending_of, transcript};
+use transcript_text::{ScriptWords, ending_of, report_lines};
 use watcher_set::Watching;
 
-/// Reads a script, opens the office on the disk, answers the script's lines, and writes the transcript and what the
-/// watchers report of the accepted postings. The basis of the valuations is that of this name; where there are none the
+/// Reads a script, opens the office on the disk, answers the script's lines, and writes the transcript meanwhile, and behind
+/// it what the watchers report of the accepted postings. The basis of the valuations is that of this name; where there are none the
 /// shelf isn't touched.
 pub fn run<
     R: Threads + Wait + Sync,
     S: Source,
-    K: Sink,
+    K: Sink + Send,
     H: Shelf,
     D: Disk + Send,
     W: Watching + Send,
@@ -77,7 +79,7 @@ pub fn run<
 // Runs the lanes of a script, with the basis that it needs.
 fn run_script<
     R: Threads + Wait + Sync,
-    K: Sink,
+    K: Sink + Send,
     H: Shelf,
     D: Disk + Send,
     W: Watching + Send,
@@ -110,7 +112,7 @@ fn run_script<
 // Runs lanes by the basis of this name.
 fn run_by_name<
     R: Threads + Wait + Sync,
-    K: Sink,
+    K: Sink + Send,
     H: Shelf,
     D: Disk + Send,
     W: Watching + Send,
@@ -143,7 +145,13 @@ fn run_by_name<
 }
 
 // Runs lanes by a basis.
-fn run_by<R: Threads + Wait + Sync, K: Sink, D: Disk + Send, W: Watching + Send, G: Gate + Sync>(
+fn run_by<
+    R: Threads + Wait + Sync,
+    K: Sink + Send,
+    D: Disk + Send,
+    W: Watching + Send,
+    G: Gate + Sync,
+>(
     rt: &R,
     alloc: Global,
     lanes: &[Lane],
@@ -170,7 +178,7 @@ fn run_by<R: Threads + Wait + Sync, K: Sink, D: Disk + Send, W: Watching + Send,
 // Runs the lanes, closes the office, and writes the transcript.
 fn run_office<
     R: Threads + Wait + Sync,
-    K: Sink,
+    K: Sink + Send,
     D: Disk + Send,
     W: Watching + Send,
     G: Gate + Sync,
@@ -193,40 +201,61 @@ fn run_office<
         (between K.faults K.written output.old output.new) result.ending }
 {
     let mut pass = pass;
-    let ran = run_lanes(rt, alloc, &office, &mut pass, lanes, basis, gate);
+    let ran = run_lanes::<R, ScriptWords, K, D, W, G>(
+        rt, alloc, &office, &mut pass, lanes, basis, gate, output,
+    );
     let (disk, _, reports) = close(office, pass);
-    let ending = write_ran(alloc, ran, reports.as_slice(), output);
+    let ending = end_ran(alloc, ran, reports.as_slice(), output);
     Finished { ending, disk }
 }
 
-// Writes what the lanes were answered and what the auditors report, or that there was no memory to run the lanes.
-fn write_ran<K: Sink>(
+// Writes what the auditors report behind the lines, or that there was no memory to run the lanes.
+fn end_ran<K: Sink>(
     alloc: Global,
-    ran: Result<Transcript, NoMemory>,
+    ran: Result<Ran, NoMemory>,
     reports: &[Report],
     output: &mut K,
 ) -> Ending
-    requires writable { IfOk ran (λ transcript. All IsWritable transcript.lines) }
     requires few { length reports.now ≤ 16 }
-    ensures ends { EndsRan ran reports.now (between K.faults K.written output.old output.new) result }
+    ensures later { K.faults output.old ≤ K.faults output.new }
+    ensures ends { (first : Stream) → IsWritten first (K.faults output.old) (K.written output.old) ran
+        → EndsRan ran reports.now (output_until first (K.faults output.new) (K.written output.new)) result }
 {
     match ran {
-        Ok(transcript) => write_lines(alloc, transcript.lines.as_slice(), reports, output),
+        Ok(ran) => end_told(alloc, &ran, reports, output),
         Err(_) => lack_memory(output),
     }
 }
 
-fn write_lines<K: Sink>(
+fn end_told<K: Sink>(alloc: Global, ran: &Ran, reports: &[Report], output: &mut K) -> Ending
+    requires few { length reports.now ≤ 16 }
+    ensures later { K.faults output.old ≤ K.faults output.new }
+    ensures ends { (first : Stream) → first.faults_before ≤ K.faults output.old
+        → HasEnded first.faults_before (K.faults output.old) first.before (K.written output.old)
+        (told_texts ran.now.transcript.lines) ran.now.written
+        → EndsTold ran.now.transcript.lines reports.now (output_until first (K.faults output.new) (K.written output.new)) result }
+{
+    let lines = ran.transcript.lines.as_slice();
+    match ran.written {
+        Ok(()) => write_reports(alloc, lines, reports, output),
+        Err(Unwritten::WriteFault) => Ending::WriteFault,
+        Err(Unwritten::NoMemory) => Ending::NoMemory,
+    }
+}
+
+// Writes what the auditors report, behind lines whose text is written.
+fn write_reports<K: Sink>(
     alloc: Global,
     lines: &[TranscriptLine],
     reports: &[Report],
     output: &mut K,
 ) -> Ending
-    requires writable { All IsWritable lines.now }
     requires few { length reports.now ≤ 16 }
-    ensures ends { EndsTold lines.now reports.now (between K.faults K.written output.old output.new) result }
+    ensures later { K.faults output.old ≤ K.faults output.new }
+    ensures ends { (first : Stream) → first.faults_before ≤ K.faults output.old → Appends first.before (K.written output.old) (told_texts lines.now)
+        → EndsTold lines.now reports.now (output_until first (K.faults output.new) (K.written output.new)) result }
 {
-    let Ok(text) = transcript(alloc, lines, reports) else {
+    let Ok(text) = report_lines(alloc, reports) else {
         return Ending::NoMemory;
     };
     match write_all(output, text.as_slice()) {

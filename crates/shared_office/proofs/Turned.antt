@@ -1,5 +1,5 @@
 -- A history with a turn isn't empty
-use Rattle.std.proofs.Common.{◌≡◌, ℕ, List, [], ◌∷◌, ◌++◌, length, length-append, ap, arith}
+use Rattle.std.proofs.Common.{◌≡◌, List, [], ◌∷◌, ◌++◌, length, length-append, ap, arith}
 use Rattle.policy_types.specs.declared.entry.Entry.{Entry}
 
 pub turned : {X : Type 0} (history : List Entry) (entry : Entry) → history ++ entry ∷ [] ≡ [] → X

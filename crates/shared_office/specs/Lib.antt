@@ -1,4 +1,5 @@
 pub mod Offices
 pub mod Pins
 pub mod Starting
+pub mod Telling
 pub mod inside

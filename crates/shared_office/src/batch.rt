@@ -1,4 +1,4 @@
-use office_state::Batch as Filled;
+use office_state::PolicyBatch;
 use policy_types::{NoMemory, Policy};
 use std::alloc::Global;
 use std::marker::Model;
@@ -7,7 +7,7 @@ use std::marker::Model;
 #[derive(Drop)]
 pub struct Batch {
     // It is there but in the middle of a turn.
-    pub(crate) filled: Option<Filled>,
+    pub(crate) filled: Option<PolicyBatch>,
 }
 
 impl Model for Batch {
@@ -30,7 +30,7 @@ impl Batch {
     pub fn new(alloc: Global) -> Result<Batch, NoMemory>
         ensures { IfOk result (λ batch. batch ≡ []) }
     {
-        let filled = Filled::new(alloc)?;
+        let filled = PolicyBatch::new(alloc)?;
         Ok(Batch {
             filled: Some(filled),
         })

@@ -1,5 +1,5 @@
 // The calls of an office, each through a shared reference and a caller's pass.
-ghost use Rattle.std.specs.Prelude.{◌≡◌, ℕ, ◌≤◌, [], IfOk, IfErr};
+ghost use Rattle.std.specs.Prelude.{◌≡◌, ℕ, ◌≤◌, [], take, Some, IfOk, IfErr};
 ghost use Rattle.money_ledgers.specs.Balances.{balances};
 ghost use Rattle.policy_types.specs.Valid.{IsValid};
 ghost use Rattle.policy_types.specs.declared.entry.Call.TheVariants.{Pin as PinCall, PinAt};
@@ -7,17 +7,19 @@ ghost use Rattle.office_state.specs.Opening.{HasNotOpened, HasOpened};
 ghost use Rattle.office_state.specs.Posting.{turn_of};
 ghost use Rattle.office_state.specs.Turning.{read_turn, trim_turn, unpin_turn};
 ghost use Rattle.turn_lock.specs.Passes.{PassFacts, TableId, TakesTurn, all_shares};
-ghost use Rattle.shared_office.specs.Offices.{IsOfficeHistory};
+ghost use Rattle.shared_office.specs.Offices.{IsOfficeHistory, OfficeOpening};
 ghost use Rattle.shared_office.specs.Pins.{HoldsPin, KeepsOtherPins, KeepsPins, pinning_turn};
 ghost use Rattle.shared_office.specs.Starting.{HasClosed, HasStartedOffice};
+ghost use Rattle.shared_office.specs.Telling.{IsSafeToTell};
 ghost use Rattle.shared_office.specs.inside.Pinning.{pin_told};
 
 use crate::batch::Batch;
 use crate::pin::Pin;
+use crate::posted::Posted;
 use crate::state::SharedState;
 use crate::turns::{PinNewest, PinPosition, Post, ReadPart, Trim, Unpin};
 use money_ledgers::Ledger;
-use office_state::{Answer, Held, OfficeState, PinInfo, StartCause, StartFault};
+use office_state::{Held, OfficeState, PinInfo, StartCause, StartFault};
 use outside_io::Disk;
 use policy_types::{Command, PinRefusal};
 use std::alloc::Global;
@@ -45,17 +47,19 @@ pub trait OfficeCalls<D: Disk, W: Watching> {
             × (made.1.turnstile ≡ office made.0) × PassFacts IsOfficeHistory made.1) }
         ensures refused { IfErr result (λ fault. HasNotOpened D.Disk disk fault.disk fault.cause) };
 
-    /// Posts a command.
+    /// Posts a command. An acceptance may be told: the command outlives a crash.
     fn post<R: Wait>(
         &self,
         rt: &R,
         pass: &mut OfficePass<D, W>,
         command: &Command,
-    ) -> Turned<Answer>
+    ) -> Turned<Posted<D, W>>
         requires ours { pass.old.turnstile ≡ office self.now }
         requires left { 1 ≤ pass.old.left }
         requires valid { IsValid command.now }
-        ensures turn { TakesTurn result.turn (turn_of pass.old.caller command.now result.answer) pass.old pass.new }
+        ensures turn { TakesTurn result.turn (turn_of pass.old.caller command.now result.answer.answer) pass.old pass.new }
+        ensures safe { (opened : OfficeOpening D W) → pass.new.opening ≡ Some opened
+            → IsSafeToTell opened.opening (take result.turn pass.new.seen) command.now result.answer }
         ensures facts { PassFacts IsOfficeHistory pass.new }
         ensures pins { KeepsPins pass.old pass.new };
 
@@ -145,7 +149,7 @@ impl<D: Disk, W: Watching> OfficeCalls<D, W> for Office<D, W> {
         rt: &R,
         pass: &mut OfficePass<D, W>,
         command: &Command,
-    ) -> Turned<Answer> {
+    ) -> Turned<Posted<D, W>> {
         self.turn(rt, pass, Post { command })
     }
 

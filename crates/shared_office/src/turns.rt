@@ -1,8 +1,10 @@
 // Each call of the office as a turn of its caller.
+use crate::posted::Posted;
 use crate::state::SharedState;
-use office_state::{Answer, Batch, Held, PinInfo};
+use office_state::{Held, PinInfo, PolicyBatch};
 use outside_io::Disk;
 use policy_types::{Command, PinRefusal};
+use std::snapshot::Snapshot;
 use turn_lock::Turn;
 use watcher_set::Watching;
 
@@ -16,16 +18,23 @@ impl<'a, D: Disk, W: Watching> Turn<SharedState<D, W>> for Post<'a> {
     ghost use Rattle.std.specs.Prelude.{refl};
     ghost use Rattle.policy_types.specs.Valid.{IsValid};
     ghost use Rattle.office_state.specs.Posting.{turn_of};
+    ghost use Rattle.shared_office.specs.Telling.{IsSafeToTell};
 
-    type Answer = Answer;
+    type Answer = Posted<D, W>;
 
     ghost needs = { λ post caller seen made. IsValid post.command.now };
 
-    ghost entry = { λ post caller answer. turn_of caller post.command.now answer };
+    ghost entry = { λ post caller posted. turn_of caller post.command.now posted.answer };
+
+    ghost tells = { λ post opened before posted. IsSafeToTell opened.opening before post.command.now posted };
 
     #[tactic(auto, using(crate::proofs::Turned::turned))]
-    fn run(self, value: &mut SharedState<D, W>, caller: u64) -> Answer {
-        value.state.post(caller, self.command)
+    fn run(self, value: &mut SharedState<D, W>, caller: u64) -> Posted<D, W> {
+        let answer = value.state.post(caller, self.command);
+        Posted {
+            answer,
+            stood: Snapshot::of(&value.state),
+        }
     }
 
     ghost by_caller = { λ _ _ _. refl };
@@ -44,6 +53,8 @@ impl<D: Disk, W: Watching> Turn<SharedState<D, W>> for PinNewest {
     ghost needs = { λ _ caller seen made. Unit {0} };
 
     ghost entry = { λ _ caller answer. pin_turn caller answer };
+
+    ghost tells = { λ _ _ _ _. Unit {0} };
 
     #[tactic(auto, using(crate::proofs::Turned::turned))]
     fn run(self, value: &mut SharedState<D, W>, caller: u64) -> Result<PinInfo, PinRefusal> {
@@ -69,6 +80,8 @@ impl<D: Disk, W: Watching> Turn<SharedState<D, W>> for PinPosition {
 
     ghost entry = { λ pin caller answer. pin_at_turn caller pin.position answer };
 
+    ghost tells = { λ _ _ _ _. Unit {0} };
+
     #[tactic(auto, using(crate::proofs::Turned::turned))]
     fn run(self, value: &mut SharedState<D, W>, caller: u64) -> Result<PinInfo, PinRefusal> {
         value.state.pin_at(caller, self.position)
@@ -82,7 +95,7 @@ impl<D: Disk, W: Watching> Turn<SharedState<D, W>> for PinPosition {
 pub struct ReadPart {
     pub pin: Held,
     pub first: u32,
-    pub batch: Batch,
+    pub batch: PolicyBatch,
 }
 
 impl<D: Disk, W: Watching> Turn<SharedState<D, W>> for ReadPart {
@@ -90,14 +103,16 @@ impl<D: Disk, W: Watching> Turn<SharedState<D, W>> for ReadPart {
     ghost use Rattle.office_state.specs.Turning.{read_turn};
     ghost use Rattle.shared_office.specs.Pins.{HasMadePin};
 
-    type Answer = Batch;
+    type Answer = PolicyBatch;
 
     ghost needs = { λ read caller seen made. HasMadePin read.pin caller seen made × (read.first ≤ read.pin.policies) };
 
     ghost entry = { λ read caller answer. read_turn caller read.pin.number read.first answer };
 
+    ghost tells = { λ _ _ _ _. Unit {0} };
+
     #[tactic(auto, using(crate::proofs::Turned::turned))]
-    fn run(self, value: &mut SharedState<D, W>, caller: u64) -> Batch {
+    fn run(self, value: &mut SharedState<D, W>, caller: u64) -> PolicyBatch {
         let ReadPart {
             pin,
             first,
@@ -131,6 +146,8 @@ impl<D: Disk, W: Watching> Turn<SharedState<D, W>> for Unpin {
 
     ghost entry = { λ unpin caller answer. unpin_turn caller unpin.pin.number };
 
+    ghost tells = { λ _ _ _ _. Unit {0} };
+
     #[tactic(auto, using(crate::proofs::Turned::turned))]
     fn run(self, value: &mut SharedState<D, W>, caller: u64) {
         value.state.unpin(caller, self.pin.number);
@@ -152,6 +169,8 @@ impl<D: Disk, W: Watching> Turn<SharedState<D, W>> for Trim {
     ghost needs = { λ _ caller seen made. Unit {0} };
 
     ghost entry = { λ _ caller answer. trim_turn caller answer };
+
+    ghost tells = { λ _ _ _ _. Unit {0} };
 
     #[tactic(auto, using(crate::proofs::Turned::turned))]
     fn run(self, value: &mut SharedState<D, W>, caller: u64) -> u32 {

@@ -16,7 +16,7 @@ use Rattle.schedule_laws.specs.PinnedReads.{book_at}
 use Rattle.schedule_laws.proofs.ReadsTogether.{read_holds}
 use Rattle.office_state.specs.Turning.{read_turn}
 use Rattle.office_state.specs.declared.held.Held.{Held}
-use Rattle.policy_versions.proofs.Fronts.{all-take}
+use Rattle.office_state.proofs.Fronts.{all-take}
 use Rattle.office_state.proofs.BookSteps.{length-issues}
 use Rattle.turn_lock.specs.History.{StartsWith}
 use Rattle.turn_lock.specs.Passes.{Holding, PassFacts, TakesTurn}
@@ -24,7 +24,7 @@ use Rattle.shared_office.specs.Offices.{IsOfficeHistory, OfficeOpening}
 use Rattle.shared_office.specs.Pins.{HoldsPin}
 use Rattle.shared_office.proofs.Holding.{live}
 use Rattle.snapshot_value.specs.Growing.{Grows}
-use Rattle.snapshot_value.specs.inside.Parts.{HasReadPart, policies_at}
+use Rattle.snapshot_value.specs.inside.Reads.{HasReadPart, policies_at}
 use Rattle.snapshot_value.proofs.Growth.{grows_one}
 
 -- there are no more policies than commands

@@ -1,10 +1,11 @@
 -- The reads of a pin and what is made of its policies, put together
-use Rattle.std.proofs.Common.{◌≡◌, ◌≢◌, false, true, Result, Ok, Err, IsErr, ℕ, ◌+◌, ◌*◌, ◌≤◌, ◌<◌, List, [], ◌∷◌, ◌++◌, length, take, drop, refl, sym, ap, ◌∙◌, subst, append-nil, append_assoc, length-append, lit<, arith}
+use Rattle.std.proofs.Common.{◌≡◌, ◌≢◌, false, true, Result, Ok, Err, IfOk, IsErr, ℕ, ◌+◌, ◌*◌, ◌≤◌, ◌<◌, List, [], ◌∷◌, ◌++◌, length, take, drop, refl, sym, ap, ◌∙◌, subst, append-nil, append_assoc, length-append, lit<, arith}
 use Rattle.std.specs.List.{AllByRecursion}
-use Rattle.std.proofs.lemmas.List.{length-map, length-take, map-append, take_all}
+use Rattle.std.proofs.lemmas.List.{length-map, length-take, map-append, take_all, take-append-le}
 use Rattle.std.proofs.lemmas.Option.{slice_get_within}
 use Rattle.policy_types.specs.declared.policy.Policy.{Policy}
 use Rattle.policy_types.specs.declared.entry.At.{At}
+use Rattle.policy_types.specs.declared.entry.At.TheVariants.{Now, Position}
 use Rattle.policy_types.specs.declared.entry.Call.{Call}
 use Rattle.policy_types.specs.declared.entry.Call.TheVariants.{Unpin}
 use Rattle.policy_types.specs.declared.entry.Entry.{Entry}
@@ -12,7 +13,7 @@ use Rattle.policy_types.specs.declared.entry.PinRefusal.{PinRefusal}
 use Rattle.policy_types.specs.declared.entry.Reply.TheVariants.{Pinned}
 use Rattle.policy_types.specs.declared.watcher.NoMemory.{NoMemory as Lack}
 use Rattle.policy_machine.specs.Book.{book}
-use Rattle.policy_machine.specs.History.{commands_after, policies_per_read}
+use Rattle.policy_machine.specs.History.{accepted_of, commands_after, policies_per_read}
 use Rattle.policy_machine.specs.Merge.{FollowsPin, Placed, pin_call, reads_of}
 use Rattle.policy_machine.specs.Rules.{IsSound}
 use Rattle.policy_machine.proofs.HistoryGrowth.{commands_after-append}
@@ -22,24 +23,24 @@ use Rattle.turn_lock.specs.Passes.{Holding, PassFacts, TakesTurn}
 use Rattle.shared_office.specs.Offices.{IsOfficeHistory, OfficeOpening}
 use Rattle.shared_office.specs.Pins.{HoldsPin, KeepsOtherPins, KeepsPins, pinning_turn}
 use Rattle.snapshot_value.specs.Growing.{Grows}
-use Rattle.snapshot_value.specs.Listing.{IsBookAt}
-use Rattle.snapshot_value.specs.Reading.{AnswersPinned, HasMadeOfBook}
-use Rattle.snapshot_value.specs.Valuing.{dry_pins}
-use Rattle.snapshot_value.specs.declared.valuation.Policies.{Policies}
+use Rattle.snapshot_value.specs.Reading.{AnswersPinned, HasMadeOfBook, dry_pins}
 use Rattle.snapshot_value.specs.declared.valuation.ValueFault.{ValueFault}
 use Rattle.snapshot_value.specs.declared.valuation.ValueFault.TheVariants.{Pin, NoMemory}
-use Rattle.snapshot_value.specs.inside.Parts.{HasReadPart, HasReadSome, calls_of, policies_at, reads_needed}
-use Rattle.snapshot_value.specs.inside.Reads.{FollowsReads, HasMadeOfPin, HasReadBook, HasReadEach, HasReadFirst}
+use Rattle.snapshot_value.specs.inside.Reads.{FollowsReads, HasMadeOfPin, HasMadeOfReads, HasReadEach, HasReadFirst, HasReadPart, HasReadSome, calls_of, policies_at, reads_needed}
 use Rattle.snapshot_value.proofs.Growth.{grows_more, grows_none, grows_one}
-use Rattle.snapshot_value.proofs.PartSteps.{length-reads_of, next_part, next_read}
+use Rattle.snapshot_value.proofs.PartSteps.{all_part, length-reads_of, next_part, next_read}
 use Rattle.snapshot_value.proofs.PinSteps.{IsKnown, known, policies_by}
-use Rattle.snapshot_value.proofs.ValueSteps.{nothing_posted, take_front}
 
 module _ {D W : Type 0} (pin : Held) where
-  pub first_none : (pass : Holding (OfficeOpening D W)) → HasReadFirst pin 0 pass pass
-  first_none pass = record { reads = []; grows = grows_none pass; calls = refl; stays = refl }
+  -- some reads, or none
+  pub some_none : (pass : Holding (OfficeOpening D W)) → HasReadSome pin pass pass
+  some_none pass = record { reads = []; grows = grows_none pass; many = 0; calls = refl }
 
-  module _ (k : ℕ) (old mid : Holding (OfficeOpening D W)) (is : IsKnown old pin) (so_far : HasReadFirst pin k old mid) where
+  pub first_none : (Has : List Policy → Type 0) (pass : Holding (OfficeOpening D W)) → Has [] → HasReadFirst Has pin 0 pass pass
+  first_none Has pass has = record { reads = []; grows = grows_none pass; calls = refl; stays = refl; has = has }
+
+  module _ (Has : List Policy → Type 0) (k : ℕ) (old mid : Holding (OfficeOpening D W)) (is : IsKnown old pin)
+      (so_far : HasReadFirst Has pin k old mid) where
     -- turns are left for the next
     pub first_left : k < reads_needed pin.policies → 15999 ≤ old.left → 1 ≤ mid.left
     first_left low left =
@@ -48,32 +49,41 @@ module _ {D W : Type 0} (pin : Held) where
         omega (arith, reads, calls, length-take k (reads_of pin.number pin.policies), so_far.grows.left, low, is.few, left)
 
     -- the next is read
-    module _ (part : List Policy) (new : Holding (OfficeOpening D W)) (one : HasReadPart pin k part mid new) (low : k < reads_needed pin.policies) where
-      pub first_more : HasReadFirst pin (k + 1) old new
-      first_more = record {
-        reads = so_far.reads ++ one.read ∷ [];
-        grows = grows_more old mid new so_far.reads (one.read ∷ []) so_far.grows one.grows;
-        calls =
+    module _ (part : List Policy) (new : Holding (OfficeOpening D W)) (one : HasReadPart pin k part mid new) where
+      part_is : part ≡ take policies_per_read (drop (policies_per_read * k) (policies_at old pin.position))
+      part_is = one.filled ∙ ap (λ policies. take policies_per_read (drop (policies_per_read * k) policies)) so_far.stays
+
+      pub part_sound : AllByRecursion IsSound part
+      part_sound =
+          subst (AllByRecursion IsSound) (sym part_is)
+          (all_part IsSound (policies_per_read * k) policies_per_read (policies_at old pin.position) is.sound)
+
+      module _ (low : k < reads_needed pin.policies) where
+        grew : Grows old new (so_far.reads ++ one.read ∷ [])
+        grew = grows_more old mid new so_far.reads (one.read ∷ []) so_far.grows one.grows
+
+        called : calls_of (so_far.reads ++ one.read ∷ []) ≡ take (k + 1) (reads_of pin.number pin.policies)
+        called =
             map-append (λ (turn : Placed). turn.1.call) so_far.reads (one.read ∷ [])
             ∙ ap (λ (calls : List Call). calls ++ one.read.1.call ∷ []) so_far.calls
             ∙ ap (λ call. take k (reads_of pin.number pin.policies) ++ call ∷ []) one.call
-            ∙ sym (next_read pin.number pin.policies k low);
-        stays = one.stays ∙ so_far.stays;
-      }
+            ∙ sym (next_read pin.number pin.policies k low)
 
-      -- and follows the policies that were read before
-      pub list_more : (listed more : List Policy) → listed ≡ take (policies_per_read * k) (policies_at old pin.position)
-          → more ≡ listed ++ part → more ≡ take (policies_per_read * (k + 1)) (policies_at old pin.position)
-      list_more listed more before longer =
-          longer
-          ∙ ap (λ (ps : List Policy). ps ++ part) before
-          ∙ ap (λ (p : List Policy). take (policies_per_read * k) (policies_at old pin.position) ++ p)
-          (one.filled ∙ ap (λ policies. take policies_per_read (drop (policies_per_read * k) policies)) so_far.stays)
-          ∙ sym (next_part k (policies_at old pin.position))
+        pub some_more : HasReadSome pin old new
+        some_more = record { reads = so_far.reads ++ one.read ∷ []; grows = grew; many = k + 1; calls = called }
 
-    -- some were read
-    pub first_some : HasReadSome pin old mid
-    first_some = record { reads = so_far.reads; grows = so_far.grows; many = k; calls = so_far.calls }
+        pub first_more : (Next : List Policy → Type 0) → Next (take (policies_per_read * k) (policies_at old pin.position) ++ part)
+            → HasReadFirst Next pin (k + 1) old new
+        first_more Next has = record {
+          reads = so_far.reads ++ one.read ∷ [];
+          grows = grew;
+          calls = called;
+          stays = one.stays ∙ so_far.stays;
+          has =
+              subst Next
+              (ap (λ p. take (policies_per_read * k) (policies_at old pin.position) ++ p) part_is
+              ∙ sym (next_part k (policies_at old pin.position))) has;
+        }
 
     -- that was all
     module _ (enough : reads_needed pin.policies ≤ k) where
@@ -86,12 +96,11 @@ module _ {D W : Type 0} (pin : Held) where
             ∙ take_all k (reads_of pin.number pin.policies) (omega (arith, enough, length-reads_of pin.number pin.policies));
       }
 
-      pub list_all : (listed : List Policy) → listed ≡ take (policies_per_read * k) (policies_at old pin.position)
-          → listed ≡ policies_at old pin.position
-      list_all listed before = before ∙ take_all (policies_per_read * k) (policies_at old pin.position) (omega (arith, enough, is.counted))
+      pub has_all : Has (policies_at old pin.position)
+      has_all = subst Has (take_all (policies_per_read * k) (policies_at old pin.position) (omega (arith, enough, is.counted))) so_far.has
 
   -- all reads are some
-  abbrev pub some_each : (old mid : Holding (OfficeOpening D W)) → HasReadEach pin old mid → HasReadSome pin old mid
+  abbrev some_each : (old mid : Holding (OfficeOpening D W)) → HasReadEach pin old mid → HasReadSome pin old mid
   some_each old mid read = record {
     reads = read.reads;
     grows = read.grows;
@@ -119,65 +128,72 @@ module _ {D W : Type 0} (pin : Held) where
   some_left : (old mid : Holding (OfficeOpening D W)) → IsKnown old pin → HasReadSome pin old mid → 15999 ≤ old.left → 1 ≤ mid.left
   some_left old mid is read left = omega (arith, some_few old mid is read, read.grows.left, left)
 
-  pub book_lacking : (old new : Holding (OfficeOpening D W)) (result : Result (List Policy) Lack)
-      → HasReadSome pin old new → IsErr result → HasReadBook pin old new result
-  book_lacking old new (Ok policies) some failed = let no : false ≡ true = failed in absurd (cc)
-  book_lacking old new (Err lack) some failed = some
+  module _ {Made : Type 0} (IsOf : ℕ → List Policy → Made → Type 0) where
+    -- something was made of all policies, or memory was wanting for it
+    pub made_of_reads : (old new : Holding (OfficeOpening D W)) (result : Result Made Lack) → HasReadEach pin old new
+        → IfOk result (IsOf pin.position (policies_at old pin.position)) → HasMadeOfReads IsOf pin old new result
+    made_of_reads old new (Ok made) read is = (read, is)
+    made_of_reads old new (Err lack) read is = some_each old new read
 
-  pub left_to_unpin : (old mid : Holding (OfficeOpening D W)) (read : Result (List Policy) Lack) → PassFacts IsOfficeHistory old → HoldsPin old pin
-      → HasReadBook pin old mid read → 15999 ≤ old.left → 1 ≤ mid.left
-  left_to_unpin old mid (Ok policies) facts holds read left = some_left old mid (known old pin facts holds) (some_each old mid read.0) left
-  left_to_unpin old mid (Err lack) facts holds read left = some_left old mid (known old pin facts holds) read left
+    -- memory was wanting
+    pub lacking : (old new : Holding (OfficeOpening D W)) (result : Result Made Lack) → HasReadSome pin old new → IsErr result
+        → HasMadeOfReads IsOf pin old new result
+    lacking old new (Ok made) some failed = let no : false ≡ true = failed in absurd (cc)
+    lacking old new (Err lack) some failed = some
 
-  module _ {Made : Type 0} (IsOf : ℕ → List Policy → Made → Type 0) (turn : ℕ) (old mid new : Holding (OfficeOpening D W))
-      (facts : PassFacts IsOfficeHistory old) (holds : HoldsPin old pin) (left : 15999 ≤ old.left)
-      (takes : TakesTurn turn (unpin_turn mid.caller pin.number) mid new) where
-    abbrev last : Placed
-    last = (turn, unpin_turn mid.caller pin.number)
+    pub left_to_unpin : (old mid : Holding (OfficeOpening D W)) (read : Result Made Lack) → PassFacts IsOfficeHistory old → HoldsPin old pin
+        → HasMadeOfReads IsOf pin old mid read → 15999 ≤ old.left → 1 ≤ mid.left
+    left_to_unpin old mid (Ok made) facts holds read left = some_left old mid (known old pin facts holds) (some_each old mid read.0) left
+    left_to_unpin old mid (Err lack) facts holds read left = some_left old mid (known old pin facts holds) read left
 
-    some_then : (some : HasReadSome pin old mid) → Grows old new (some.reads ++ last ∷ [])
-    some_then some =
-        grows_more old mid new some.reads (last ∷ []) some.grows
-        (grows_one turn last.1 mid new (some_left old mid (known old pin facts holds) some left) takes)
+    module _ (turn : ℕ) (old mid new : Holding (OfficeOpening D W)) (facts : PassFacts IsOfficeHistory old) (holds : HoldsPin old pin)
+        (left : 15999 ≤ old.left) (takes : TakesTurn turn (unpin_turn mid.caller pin.number) mid new) where
+      abbrev last : Placed
+      last = (turn, unpin_turn mid.caller pin.number)
 
-    -- it is given up after all reads
-    pub made_then : (made : Made) → HasReadEach pin old mid → IsOf pin.position (policies_at old pin.position) made
-        → HasMadeOfPin IsOf pin old new (Ok made)
-    made_then made read is = record {
-      later = read.reads ++ last ∷ [];
-      grows = some_then (some_each old mid read);
-      few = omega (arith, some_few old mid (known old pin facts holds) (some_each old mid read), length-append read.reads (last ∷ []));
-      follows = (
-        map-append (λ (placed : Placed). placed.1.call) read.reads (last ∷ [])
-            ∙ ap (λ (calls : List Call). calls ++ Unpin pin.number ∷ []) read.calls,
-        is,
-      );
-    }
+      some_then : (some : HasReadSome pin old mid) → Grows old new (some.reads ++ last ∷ [])
+      some_then some =
+          grows_more old mid new some.reads (last ∷ []) some.grows
+          (grows_one turn last.1 mid new (some_left old mid (known old pin facts holds) some left) takes)
 
-    -- or after some
-    pub lacking_then : HasReadSome pin old mid → HasMadeOfPin IsOf pin old new (Err NoMemory)
-    lacking_then read = record {
-      later = read.reads ++ last ∷ [];
-      grows = some_then read;
-      few = omega (arith, some_few old mid (known old pin facts holds) read, length-append read.reads (last ∷ []));
-      follows = (
-        read.many,
-        map-append (λ (placed : Placed). placed.1.call) read.reads (last ∷ [])
-            ∙ ap (λ (calls : List Call). calls ++ Unpin pin.number ∷ []) read.calls,
-      );
-    }
+      few_then : (some : HasReadSome pin old mid) → length (some.reads ++ last ∷ []) < 16000
+      few_then some = omega (arith, some_few old mid (known old pin facts holds) some, length-append some.reads (last ∷ []))
 
-  -- the policies of a pin that the pass holds are as the rules leave them
-  pub book_at_pin : (pass : Holding (OfficeOpening D W)) (listed : Policies) → PassFacts IsOfficeHistory pass → HoldsPin pass pin
-      → listed.position ≡ pin.position → listed.book ≡ policies_at pass pin.position
-      → IsBookAt pin.position (policies_at pass pin.position) listed
-  book_at_pin pass listed facts holds position same =
-      let is : IsKnown pass pin = known pass pin facts holds in record {
-        pinned = position;
-        all = same;
-        few = omega (arith, ap (λ (ps : List Policy). length ps) same, is.counted, is.few);
-        sound = subst (AllByRecursion IsSound) (sym same) is.sound;
+      -- the pin is given up after all reads
+      pub made_then : (made : Made) → HasMadeOfReads IsOf pin old mid (Ok made) → HasMadeOfPin IsOf pin old new (Ok made)
+      made_then made read = record {
+        later = read.0.reads ++ last ∷ [];
+        grows = some_then (some_each old mid read.0);
+        few = few_then (some_each old mid read.0);
+        follows = (
+          map-append (λ (placed : Placed). placed.1.call) read.0.reads (last ∷ [])
+              ∙ ap (λ (calls : List Call). calls ++ Unpin pin.number ∷ []) read.0.calls,
+          read.1,
+        );
       }
+
+      -- or after some
+      pub lacking_then : HasReadSome pin old mid → HasMadeOfPin IsOf pin old new (Err NoMemory)
+      lacking_then read = record {
+        later = read.reads ++ last ∷ [];
+        grows = some_then read;
+        few = few_then read;
+        follows = (
+          read.many,
+          map-append (λ (placed : Placed). placed.1.call) read.reads (last ∷ [])
+              ∙ ap (λ (calls : List Call). calls ++ Unpin pin.number ∷ []) read.calls,
+        );
+      }
+
+-- a pin posts nothing
+nothing_posted : (caller : ℕ) (at : At) (answer : Result Held PinRefusal) → accepted_of (pinning_turn caller (pin_call at) answer ∷ []) ≡ []
+nothing_posted caller Now (Ok pin) = refl
+nothing_posted caller Now (Err refusal) = refl
+nothing_posted caller (Position p) (Ok pin) = refl
+nothing_posted caller (Position p) (Err refusal) = refl
+
+take_front : {X : Type 0} (n : ℕ) (front back : List X) → n ≡ length front → take n (front ++ back) ≡ front
+take_front n front back is = take-append-le n front back (omega (arith, is)) ∙ take_all n front (omega (arith, is))
 
 module _ {D W Made : Type 0} (IsOf : ℕ → List Policy → Made → Type 0) (at : At) (turn : ℕ) (old : Holding (OfficeOpening D W)) where
   -- the position couldn't be pinned

@@ -1,5 +1,5 @@
 -- What a caller makes of the policies at a pinned position, whatever other callers do between its reads
-use Rattle.std.specs.Prelude.{◌≡◌, ℕ, ◌≤◌, List, ◌∷◌, length, map, take, Some, Result, Ok, Err}
+use Rattle.std.specs.Prelude.{◌≡◌, ℕ, ◌≤◌, List, [], ◌∷◌, length, map, take, Some, Result, Ok, Err}
 use Rattle.policy_types.specs.declared.command.Command.{Command}
 use Rattle.policy_types.specs.declared.policy.Policy.{Policy}
 use Rattle.policy_types.specs.declared.entry.At.{At}
@@ -11,9 +11,17 @@ use Rattle.policy_machine.specs.Merge.{FollowsPin, Placed, pin_call}
 use Rattle.turn_lock.specs.Passes.{Holding}
 use Rattle.shared_office.specs.Offices.{OfficeOpening}
 use Rattle.snapshot_value.specs.Growing.{Grows}
-use Rattle.snapshot_value.specs.Valuing.{dry_pins, most_turns}
 use Rattle.snapshot_value.specs.declared.valuation.ValueFault.{ValueFault}
 use Rattle.snapshot_value.specs.declared.valuation.ValueFault.TheVariants.{Pin, NoMemory}
+
+-- the turns that a caller may need: those of its pin, and of the reads of as many policies as there may be
+abbrev pub most_turns : ℕ
+most_turns = 16000
+
+-- the pins whose valuation or list found no memory: the one that was taken in this turn, or none
+abbrev pub dry_pins : {Made : Type 0} → ℕ → Result Made ValueFault → List ℕ
+dry_pins turn (Err NoMemory) = turn ∷ []
+dry_pins turn _ = []
 
 module _ {Made : Type 0} (IsOf : ℕ → List Policy → Made → Type 0) where
   -- what is answered after the pin's reply: its own refusal and no other; or where it was pinned, after these commands,

@@ -1,5 +1,5 @@
 -- A valuation: the rows of the policies at a pinned position, whatever other callers do between its reads
-use Rattle.std.specs.Prelude.{◌≡◌, ℕ, ◌≤◌, ℤ, List, [], ◌∷◌, length, take, All, Some, Result, Ok, Err}
+use Rattle.std.specs.Prelude.{◌≡◌, ℕ, ◌≤◌, ℤ, List, ◌∷◌, length, take, All, Some, Result}
 use Rattle.std.specs.List.{AllZip}
 use Rattle.basis_book.specs.Dated.{Dated, IsPicked}
 use Rattle.policy_types.specs.Limits.{most_commands}
@@ -7,7 +7,6 @@ use Rattle.policy_types.specs.declared.command.Command.{Command}
 use Rattle.policy_types.specs.declared.policy.Policy.{Policy}
 use Rattle.policy_types.specs.declared.entry.At.{At}
 use Rattle.policy_types.specs.declared.entry.Reply.{Reply}
-use Rattle.policy_types.specs.declared.entry.Reply.TheVariants.{Pinned, PinRefused}
 use Rattle.policy_types.specs.declared.script.Line.TheVariants.{Value}
 use Rattle.policy_machine.specs.Book.{book}
 use Rattle.policy_machine.specs.History.{commands_after}
@@ -19,13 +18,10 @@ use Rattle.policy_value.specs.declared.worth.Row.{Row}
 use Rattle.turn_lock.specs.Passes.{Holding}
 use Rattle.shared_office.specs.Offices.{OfficeOpening}
 use Rattle.snapshot_value.specs.Growing.{Grows}
+use Rattle.snapshot_value.specs.Reading.{AnswersPinned}
+pub use Rattle.snapshot_value.specs.Reading.{dry_pins, most_turns}
 use Rattle.snapshot_value.specs.declared.valuation.Valuation.{Valuation}
 use Rattle.snapshot_value.specs.declared.valuation.ValueFault.{ValueFault}
-use Rattle.snapshot_value.specs.declared.valuation.ValueFault.TheVariants.{Pin, NoMemory}
-
--- the turns that a valuation may need: those of its pin, and of the reads of as many policies as there may be
-abbrev pub most_turns : ℕ
-most_turns = 16000
 
 -- the most that a policy may insure, in cents
 abbrev pub most_amount : ℕ
@@ -44,26 +40,23 @@ pub record AreValuedRows (basis : List Dated) (on : ℤ) (measure : Measure) (po
   pub few : length rows ≤ most_commands
   pub within : All (λ (row : Row). IsWithinAmount (most_worth measure most_amount) row.worth) rows
 
--- the position was pinned, and the rows are those of the policies that the first so many commands leave
-pub record IsSnapshot (commands : List Command) (basis : List Dated) (on : ℤ) (measure : Measure) (position : ℕ) (valuation : Valuation)
+-- the position was pinned, and the rows are those of the policies there
+pub record IsValuationAt (basis : List Dated) (on : ℤ) (measure : Measure) (position : ℕ) (policies : List Policy) (valuation : Valuation)
     : Type 0 where
   pub pinned : valuation.position ≡ position
   pub day : valuation.on ≡ on
   pub measured : valuation.measure ≡ measure
-  pub rows : AreValuedRows basis on measure (book (take position commands)) valuation.rows
+  pub rows : AreValuedRows basis on measure policies valuation.rows
+
+-- they are the policies that the first so many commands leave
+abbrev pub IsSnapshot : List Command → List Dated → ℤ → Measure → ℕ → Valuation → Type 0
+IsSnapshot commands basis on measure position valuation =
+    IsValuationAt basis on measure position (book (take position commands)) valuation
 
 -- what is answered after the pin's reply: its own refusal and no other; or where it was pinned, after these commands,
 -- the valuation or want of memory
 abbrev pub AnswersPin : List Command → List Dated → ℤ → Measure → Reply → Result Valuation ValueFault → Type 0
-AnswersPin commands basis on measure (PinRefused refusal) (Err (Pin why)) = why ≡ refusal
-AnswersPin commands basis on measure (Pinned position policies) (Ok valuation) = IsSnapshot commands basis on measure position valuation
-AnswersPin commands basis on measure (Pinned position policies) (Err NoMemory) = Unit {0}
-AnswersPin _ _ _ _ _ _ = ⊥
-
--- the pins whose valuation or list found no memory: the one that was taken in this turn, or none
-abbrev pub dry_pins : {Made : Type 0} → ℕ → Result Made ValueFault → List ℕ
-dry_pins turn (Err NoMemory) = turn ∷ []
-dry_pins turn _ = []
+AnswersPin commands basis on measure reply answer = AnswersPinned (IsValuationAt basis on measure) commands reply answer
 
 -- A caller's valuation. Its turns are the pin's, then those of the reads and of giving the pin up; they answer a
 -- script's line that asks for this valuation, and the answer is of the position that was pinned.

@@ -1,7 +1,8 @@
-//! A valuation of the policies at a pinned position, while other callers go on posting.
+//! What is made of the policies at a pinned position, a list or a valuation, while other callers go on posting.
 #![tactic(auto)]
 
 mod listing;
+mod reader;
 mod reading;
 mod valuation;
 mod valuing;
@@ -9,5 +10,5 @@ mod worker;
 mod worksheet;
 
 pub use listing::policies;
-pub use valuation::{Policies, Valuation, ValueFault};
+pub use valuation::{Policies, Query, Valuation, ValueFault};
 pub use valuing::value;

@@ -1,5 +1,18 @@
+use basis_book::Basis;
 use policy_types::{PinRefusal, Slice};
 use policy_value::{Measure, Rows};
+
+/// By what policies are valued.
+#[derive(Clone, Copy)]
+pub struct Query<'a> {
+    pub basis: &'a Basis,
+    /// The day on which they are valued, in days since 1970-01-01.
+    pub on: i32,
+    /// Which reserve they have.
+    pub measure: Measure,
+    /// How many workers value them, from 1 to 64.
+    pub workers: u8,
+}
 
 /// The rows of the policies after so many commands, in order of issue.
 #[derive(Drop)]

@@ -1,26 +1,88 @@
-// A valuation: the position is pinned, read and given up again.
-ghost use Rattle.std.specs.Prelude.{◌≡◌, ◌≤◌, ◌+◌, IfOk};
-ghost use Rattle.policy_machine.specs.Merge.{pin_call};
-ghost use Rattle.turn_lock.specs.Passes.{PassFacts, TakesTurn};
+// A valuation of the policies at a position.
+ghost use Rattle.std.specs.Prelude.{◌≡◌, ◌≤◌};
+ghost use Rattle.turn_lock.specs.Passes.{PassFacts};
 ghost use Rattle.shared_office.specs.Offices.{IsOfficeHistory};
-ghost use Rattle.shared_office.specs.Pins.{HoldsPin, KeepsOtherPins, KeepsPins, pinning_turn};
-ghost use Rattle.snapshot_value.specs.Valuing.{HasValued, most_turns};
-ghost use Rattle.snapshot_value.specs.inside.Parts.{HasValuedPin};
+ghost use Rattle.shared_office.specs.Pins.{KeepsPins};
+ghost use Rattle.snapshot_value.specs.Valuing.{HasValued, IsValuationAt, most_turns};
+ghost use Rattle.snapshot_value.specs.inside.Sheets.{HasMade};
 
-use crate::reading::rows_of;
-use crate::valuation::{Valuation, ValueFault};
-use basis_book::Basis;
+use crate::reader::Reader;
+use crate::reading::read_pinned;
+use crate::valuation::{Query, Valuation, ValueFault};
+use crate::worksheet::Worksheet;
 use outside_io::{Disk, Gate};
-use policy_types::{At, PinRefusal};
-use policy_value::Measure;
-use shared_office::{Office, OfficeCalls, OfficePass, Pin};
+use policy_types::{At, NoMemory, Policy};
+use policy_value::{Measure, Rows};
+use shared_office::{Office, OfficePass};
 use std::alloc::Global;
 use std::sync::Wait;
 use std::thread::Threads;
 use turn_lock::Turned;
 use watcher_set::Watching;
 
-/// Values the policies at a position on a day, in days since 1970-01-01, by a measure, and gives the turn of the pin.
+// It values the policies as they are read, when there are enough of them.
+#[derive(Drop)]
+struct Valuer<'a> {
+    on: i32,
+    measure: Measure,
+    sheet: Worksheet<'a>,
+}
+
+impl<'a> Reader for Valuer<'a> {
+    type Plan = Query<'a>;
+
+    type Made = Valuation;
+
+    ghost can_begin = { λ query. (1 ≤ query.workers) × (query.workers ≤ 64) };
+
+    ghost has_read = { λ query valuer policies. (valuer.on ≡ query.on) × (valuer.measure ≡ query.measure)
+        × HasMade query.basis.now query.on query.measure policies valuer.sheet };
+
+    ghost gives = { λ query position policies valuation.
+        IsValuationAt query.basis.now query.on query.measure position policies valuation };
+
+    fn begin(alloc: Global, plan: Query<'a>, policies: usize) -> Result<Valuer<'a>, NoMemory> {
+        let Query {
+            basis,
+            on,
+            measure,
+            workers,
+        } = plan;
+        let sheet = Worksheet::new(alloc, basis, on, measure, workers, policies)?;
+        Ok(Valuer { on, measure, sheet })
+    }
+
+    fn part<R: Threads + Sync>(
+        &mut self,
+        rt: &R,
+        alloc: Global,
+        part: &[Policy],
+    ) -> Result<(), NoMemory> {
+        self.sheet.add(rt, alloc, part)
+    }
+
+    fn made<R: Threads + Sync>(
+        self,
+        rt: &R,
+        alloc: Global,
+        position: u32,
+    ) -> Result<Valuation, NoMemory> {
+        let Valuer {
+            on,
+            measure,
+            mut sheet,
+        } = self;
+        sheet.value_read(rt, alloc)?;
+        Ok(Valuation {
+            position,
+            on,
+            measure,
+            rows: Rows::new(sheet.into_rows()),
+        })
+    }
+}
+
+/// Values the policies at a position, and gives the turn of the pin.
 ///
 /// The position is pinned, and the memory taken; then batches of 256 policies are read, and the gate is called with the
 /// lane's number and `k` after the `k`-th of them. What was read is valued by the workers at the same time, when there
@@ -31,91 +93,18 @@ pub fn value<D: Disk, W: Watching, G: Gate, R: Threads + Wait + Sync>(
     alloc: Global,
     office: &Office<D, W>,
     pass: &mut OfficePass<D, W>,
-    basis: &Basis,
-    on: i32,
+    query: Query<'_>,
     at: At,
-    measure: Measure,
-    workers: u8,
     lane: u8,
     gate: &G,
 ) -> Turned<Result<Valuation, ValueFault>>
     requires ours { pass.old.turnstile ≡ office.now }
-    requires workers { (1 ≤ workers) × (workers ≤ 64) }
+    requires workers { (1 ≤ query.workers) × (query.workers ≤ 64) }
     requires left { most_turns ≤ pass.old.left }
-    ensures valued { HasValued basis.now on measure at workers pass.old pass.new result.turn result.answer }
+    ensures valued { HasValued query.entry.basis.now query.entry.on query.entry.measure at query.entry.workers
+        pass.old pass.new result.turn result.answer }
     ensures facts { PassFacts IsOfficeHistory pass.new }
     ensures pins { KeepsPins pass.old pass.new }
 {
-    let Turned { turn, answer } = pin_as_asked(rt, office, pass, at);
-    match answer {
-        Ok(pin) => Turned {
-            turn,
-            answer: value_pin(
-                rt, alloc, office, pass, pin, basis, on, measure, workers, lane, gate,
-            ),
-        },
-        Err(refusal) => Turned {
-            turn,
-            answer: Err(ValueFault::Pin(refusal)),
-        },
-    }
-}
-
-/// Pins the newest position, or the one that is asked for.
-pub fn pin_as_asked<D: Disk, W: Watching, R: Wait>(
-    rt: &R,
-    office: &Office<D, W>,
-    pass: &mut OfficePass<D, W>,
-    at: At,
-) -> Turned<Result<Pin, PinRefusal>>
-    requires ours { pass.old.turnstile ≡ office.now }
-    requires left { 1 ≤ pass.old.left }
-    ensures turn { TakesTurn result.turn (pinning_turn pass.old.caller (pin_call at) result.answer) pass.old pass.new }
-    ensures facts { PassFacts IsOfficeHistory pass.new }
-    ensures held { IfOk result.answer (λ pin. (pin.number ≡ result.turn) × HoldsPin pass.new pin) }
-    ensures pins { KeepsPins pass.old pass.new }
-{
-    match at {
-        At::Now => office.pin(rt, pass),
-        At::Position(p) => office.pin_at(rt, pass, p),
-    }
-}
-
-// Values the policies of a pin, and gives it up.
-fn value_pin<D: Disk, W: Watching, G: Gate, R: Threads + Wait + Sync>(
-    rt: &R,
-    alloc: Global,
-    office: &Office<D, W>,
-    pass: &mut OfficePass<D, W>,
-    pin: Pin,
-    basis: &Basis,
-    on: i32,
-    measure: Measure,
-    workers: u8,
-    lane: u8,
-    gate: &G,
-) -> Result<Valuation, ValueFault>
-    requires ours { pass.old.turnstile ≡ office.now }
-    requires workers { (1 ≤ workers) × (workers ≤ 64) }
-    requires left { most_turns ≤ pass.old.left + 1 }
-    requires facts { PassFacts IsOfficeHistory pass.old }
-    requires held { HoldsPin pass.old pin }
-    ensures valued { HasValuedPin basis.now on measure pin pass.old pass.new result }
-    ensures facts { PassFacts IsOfficeHistory pass.new }
-    ensures pins { KeepsOtherPins pin.number pass.old pass.new }
-{
-    let position = pin.position();
-    let read = rows_of(
-        rt, alloc, office, pass, &pin, basis, on, measure, workers, lane, gate,
-    );
-    office.unpin(rt, pass, pin);
-    match read {
-        Ok(rows) => Ok(Valuation {
-            position,
-            on,
-            measure,
-            rows,
-        }),
-        Err(_) => Err(ValueFault::NoMemory),
-    }
+    read_pinned::<D, W, G, R, Valuer<'_>>(rt, alloc, office, pass, query, at, lane, gate)
 }

@@ -79,10 +79,8 @@ impl PolicyLines {
     {
         let issued = self.issued.text_of(policy.issued);
         write_policy(&mut self.line, policy, &issued);
-        match self.bytes.extend_from_slice(self.line.as_slice()) {
-            Ok(()) => Ok(()),
-            Err(_) => Err(NoMemory),
-        }
+        self.bytes.extend_from_slice(self.line.as_slice())?;
+        Ok(())
     }
 
     /// The lines.

@@ -131,9 +131,7 @@ impl LineWriter {
         ensures written { OnOk result (self.new ≡ self.old ++ bytes.now) }
         ensures refused { OnErr result (self.new ≡ self.old) }
     {
-        match self.bytes.extend_from_slice(bytes) {
-            Ok(()) => Ok(()),
-            Err(_) => Err(NoMemory),
-        }
+        self.bytes.extend_from_slice(bytes)?;
+        Ok(())
     }
 }

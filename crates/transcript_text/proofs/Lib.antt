@@ -3,3 +3,4 @@ pub mod AnswerSteps
 pub mod TextSteps
 pub mod ToldSteps
 pub mod Telling
+pub mod WritableSteps

@@ -1,9 +1,8 @@
 -- What is told of the lanes that were run, against the history of their office
 use Rattle.std.proofs.Common.{◌≡◌, ◌⊎◌, ℕ, ◌-◌, ◌==◌, Bool, true, false, List, [], ◌∷◌, ◌++◌, map, take, Some, refl, ap, sym, ◌∙◌, subst, inl, inr, arith}
-use Rattle.std.specs.Prelude.{All, slice_get}
+use Rattle.std.specs.Prelude.{slice_get}
 use Rattle.std.specs.List.{AllByRecursion, AllZip, Contains, enumerate_from}
 use Rattle.std.proofs.lemmas.Bool.{eq-eqb}
-use Rattle.std.proofs.lemmas.List.Elements.{All-from_recursion}
 use Rattle.basis_book.specs.Dated.{Dated}
 use Rattle.policy_types.specs.declared.command.Command.{Command}
 use Rattle.policy_types.specs.declared.entry.Call.{Call}
@@ -16,15 +15,11 @@ use Rattle.policy_types.specs.declared.script.Line.TheVariants.{Post}
 use Rattle.policy_types.specs.declared.script.Lane.{Lane}
 use Rattle.policy_machine.specs.History.{IsDue, commands_after}
 use Rattle.policy_machine.specs.Merge.{AnswersLine, IsMerge, Placed}
-use Rattle.command_csv.specs.Reads.{IsScriptLine}
 use Rattle.office_state.specs.Images.{HasFaulted}
-use Rattle.office_state.specs.Posting.{reply_of}
-use Rattle.office_state.specs.declared.answer.Answer.{Answer}
 use Rattle.shared_office.specs.Offices.{IsOfficeHistory, OfficeOpening}
 use Rattle.turn_lock.specs.History.{entries_of}
 use Rattle.turn_lock.specs.Passes.{Holding, IsFirst, OwnsAll, Page, PassFacts, callers as numbers_of}
 use Rattle.lane_runner.specs.AnsweredLines.{AnsweredLine, turns_in}
-use Rattle.policy_types.specs.Lanes.{lines_in}
 use Rattle.lane_runner.specs.Transcripts.{HasAnsweredLanes, IsOutcome, IsTold as IsToldOf, dry_of, lacked_memory}
 use Rattle.lane_runner.specs.declared.transcript.TranscriptLine.{TranscriptLine}
 use Rattle.lane_runner.specs.declared.transcript.Transcript.{Transcript}
@@ -33,10 +28,9 @@ use Rattle.program_endings.proofs.ListSteps.{Has, all_has, any_none, any_some, c
 use Rattle.program_endings.proofs.TurnSteps.{due_at, posted_first, posts, quiet_reply, unfaulted_if_answered}
 use Rattle.transcript_text.specs.Transcript.{IsTranscript}
 use Rattle.transcript_text.specs.Lanes.{AreScriptLanes}
-use Rattle.transcript_text.specs.Told.{IsToldAnswer, IsWritable, IsWritableOutcome, any_faulted, any_lacked, has_faulted, lacks_memory, told_texts}
-use Rattle.transcript_text.proofs.AnswerSteps.{is_told}
+use Rattle.transcript_text.specs.Told.{any_faulted, any_lacked, has_faulted, lacks_memory, told_texts}
 use Rattle.transcript_text.proofs.TextSteps.{transcript_of}
-use Rattle.transcript_text.proofs.ToldSteps.{line_turn, line_in, turn_line, page_numbers, valid_front, outcome_writable, lacked_pin, told_fault, told_unfaulted, told_answered, lacked_which, not_lacked, told_blank, post_call}
+use Rattle.transcript_text.proofs.ToldSteps.{line_turn, turn_line, page_numbers, lacked_pin, told_fault, told_unfaulted, told_answered, lacked_which, not_lacked, told_blank, post_call}
 
 -- what is known of lanes that were run, once their office is closed
 pub record Telling {D W : Type 0} (basis : List Dated) (lanes : List Lane) (closing : Holding (OfficeOpening D W)) (transcript : Transcript)
@@ -44,7 +38,6 @@ pub record Telling {D W : Type 0} (basis : List Dated) (lanes : List Lane) (clos
   pub opening : closing.opening ≡ Some opened
   pub history : IsOfficeHistory opened closing.seen
   pub merge : IsMerge closing.seen lanes transcript.callers (dry_of transcript.lines)
-  pub writable : All IsWritable transcript.lines
   pub tells : IsTranscript opened.opening closing.seen basis (dry_of transcript.lines) shown (told_texts transcript.lines)
   pub pins : ArePins closing.seen (dry_of transcript.lines)
   pub none_dry : any_lacked transcript.lines ≡ false → dry_of transcript.lines ≡ []
@@ -128,30 +121,6 @@ module _ {D W : Type 0} (basis : List Dated) (lanes : List Lane) (first closing 
 
   due : (k : ℕ) (entry : Entry) → slice_get closing.seen k ≡ Some entry → IsDue opened.opening (take k closing.seen) entry.caller entry.call entry.reply
   due k entry there = due_at opened.opening [] closing.seen k entry is_history.legal.due there
-
-  -- the answers to postings can be written
-  can_tell : (one : AnsweredLine) → Has ran.answered one → (command : Command) (answer : Answer) → one.line ≡ Post command
-      → one.first.1.reply ≡ reply_of answer → IsToldAnswer answer
-  can_tell one has command answer posts_it is =
-      let there = placed one has in
-      let call : one.first.1.call ≡ PostCall command = post_call dry one.line one.first one.rest command (answers one has) posts_it in
-      let due_there = subst (λ (c : Call). IsDue opened.opening (take one.first.0 closing.seen) one.first.1.caller c one.first.1.reply) call (due one.first.0 one.first.1 there) in
-      let told_due = subst (λ (r : Reply). IsDue opened.opening (take one.first.0 closing.seen) one.first.1.caller (PostCall command) r) is due_there in
-      is_told opened.opening (take one.first.0 closing.seen) one.first.1.caller command answer
-      (valid_front opened.opening closing.seen one.first.0 is_history.valid) told_due
-
-  writable : All IsWritable transcript.lines
-  writable = All-from_recursion IsWritable transcript.lines (all_has IsWritable transcript.lines one_writable)
-    where
-      one_writable : (line : TranscriptLine) → Has transcript.lines line → IsWritable line
-      one_writable line has =
-          let pair = zip_right (IsToldOf opened.opening closing.seen basis) ran.answered transcript.lines line told has in
-          let one = pair.0 in
-          let right = of_all IsScriptLine (lines_in lanes) one.line script.lines
-          (line_in ran.answered closing.seen lanes transcript.callers one ran.lines.each (clerk_of one pair.1) pair.1) in
-          subst (λ (l : Line). IsWritableOutcome l line.outcome) (sym pair.2.line)
-          (outcome_writable one.line one.first.1.reply line.outcome (commands_after opened.opening (take one.first.0 closing.seen)) basis pair.2.outcome right
-          (can_tell one pair.1))
 
   tells : IsTranscript opened.opening closing.seen basis dry ran.answered (told_texts transcript.lines)
   tells = transcript_of opened.opening closing.seen basis dry ran.answered transcript.lines told ran.dry
@@ -269,7 +238,6 @@ module _ {D W : Type 0} (basis : List Dated) (lanes : List Lane) (first closing 
     opening = closing_opened;
     history = is_history;
     merge = merge;
-    writable = writable;
     tells = tells;
     pins = pins;
     none_dry = none_dry;

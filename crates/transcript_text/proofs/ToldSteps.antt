@@ -15,13 +15,13 @@ use Rattle.policy_types.specs.declared.script.Line.TheVariants.{Post, Value, Tri
 use Rattle.policy_types.specs.declared.script.Lane.{Lane}
 use Rattle.policy_machine.specs.History.{Opening, accepted_by, accepted_of, commands_after}
 use Rattle.policy_machine.specs.Merge.{AnswersLine, Placed, turns_of}
-use Rattle.command_csv.specs.Reads.{IsScriptLine}
 use Rattle.office_state.specs.Posting.{reply_of}
 use Rattle.office_state.specs.declared.answer.Answer.{Answer}
 use Rattle.office_state.specs.declared.answer.Answer.TheVariants.{Accepted, Refused, DiskFault, NoMemory}
 use Rattle.turn_lock.specs.History.{entries_of}
 use Rattle.turn_lock.specs.Passes.{Page}
 use Rattle.lane_runner.specs.AnsweredLines.{AnsweredLine, AreOfLanes, lines_by, turns_in}
+use Rattle.lane_runner.specs.Lanes.{IsRightLine}
 use Rattle.policy_types.specs.Lanes.{lines_in}
 use Rattle.lane_runner.specs.Transcripts.{IsOutcome, lacked_memory}
 use Rattle.lane_runner.specs.declared.transcript.Outcome.{Outcome}
@@ -44,20 +44,6 @@ line_turn answered history (lane ∷ lanes) (caller ∷ callers) one turn are (i
     (caller, subst (λ (ts : List Placed). Has ts turn) are.1 (has_flat_map turns_in (lines_by lane.number answered) one turn by_lane there))
 line_turn answered history (lane ∷ lanes) (caller ∷ callers) one turn are (inr later) has there =
     line_turn answered history lanes callers one turn are.2 later has there
-
--- and its line is one of a lane's
-pub line_in : (answered : List AnsweredLine) (history : List Entry) (lanes : List Lane) (callers : List ℕ) (one : AnsweredLine)
-    → AreOfLanes answered history lanes callers → Has (map (λ (lane : Lane). lane.number) lanes) one.clerk → Has answered one
-    → Has (lines_in lanes) one.line
-line_in answered history [] callers one are clerk has = absurd clerk
-line_in answered history (lane ∷ lanes) [] one are clerk has = absurd are
-line_in answered history (lane ∷ lanes) (caller ∷ callers) one are (inl same) has =
-    let own : (one.clerk == lane.number) ≡ true = eq-eqb one.clerk lane.number (sym same) in
-    let by_lane = has_filter (λ (other : AnsweredLine). other.clerk == lane.number) answered one own has in
-    let line = has_map (λ (other : AnsweredLine). other.line) (lines_by lane.number answered) one by_lane in
-    has_left lane.lines (lines_in lanes) one.line (subst (λ (ls : List Line). Has ls one.line) are.0 line)
-line_in answered history (lane ∷ lanes) (caller ∷ callers) one are (inr later) has =
-    has_right lane.lines (lines_in lanes) one.line (line_in answered history lanes callers one are.2 later has)
 
 -- each entry of a caller is a turn of an answered line
 pub turn_line : (answered : List AnsweredLine) (history : List Entry) (lanes : List Lane) (callers : List ℕ) (entry : Entry)
@@ -96,7 +82,7 @@ valid_front opening history k valid =
     front (x ∷ xs) ys zs all = (all.0, front xs ys zs all.1)
 
 pub outcome_writable : (line : Line) (reply : Reply) (outcome : Outcome) (commands : List Command) (basis : List Dated)
-    → IsOutcome commands basis line reply outcome → IsScriptLine line
+    → IsOutcome commands basis line reply outcome → IsRightLine line
     → ((command : Command) (answer : Answer) → line ≡ Post command → reply ≡ reply_of answer → IsToldAnswer answer)
     → IsWritableOutcome line outcome
 outcome_writable (Post command) reply (Posted answer) commands basis told right can = can command answer refl told

@@ -6,5 +6,6 @@ mod lines;
 mod reporting;
 mod told;
 
-pub use lines::transcript;
+pub use lines::ScriptWords;
+pub use reporting::report_lines;
 pub use told::ending_of;

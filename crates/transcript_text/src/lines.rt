@@ -1,6 +1,5 @@
-// The text of a run.
-ghost use Rattle.std.specs.Prelude.{◌≡◌, ◌++◌, ◌<◌, ◌≤◌, ◌^◌, ℕ, [], ◌∷◌, decimal, length, IfOk, OnOk};
-ghost use Rattle.std.specs.List.{All};
+// The text of an answered line.
+ghost use Rattle.std.specs.Prelude.{◌≡◌, ◌++◌, ◌<◌, ◌^◌, ℕ, [], ◌∷◌, decimal, IfOk, OnOk};
 ghost use Rattle.policy_types.specs.declared.entry.At.{At as AnAt};
 ghost use Rattle.policy_types.specs.declared.script.Line.TheVariants.{Value as ValueLine};
 ghost use Rattle.life_dates.specs.Calendar.{IsDay, IsTermDay};
@@ -9,45 +8,27 @@ ghost use Rattle.money_core.specs.CentsText.{cents_text};
 ghost use Rattle.office_state.specs.Posting.{reply_of};
 ghost use Rattle.text_lines.specs.Lines.{behind_commas};
 ghost use Rattle.transcript_text.specs.Transcript.{pin_refusal_fields, posting_text, refusal_fields, reply_fields, trim_text, unpinned_text, unvalued_text};
-ghost use Rattle.transcript_text.specs.Told.{IsPrintable, IsToldAnswer, IsWritable, IsWritableOutcome, outcome_text, run_text, told_text, told_texts};
+ghost use Rattle.transcript_text.specs.Told.{IsPrintable, IsToldAnswer, IsWritable, IsWritableOutcome, outcome_text, told_text};
 
-use crate::reporting::report_lines;
 use itoa::Buffer;
-use lane_runner::{Outcome, TranscriptLine};
+use lane_runner::{Outcome, TranscriptLine, Wording};
 use office_state::Answer;
-use policy_types::{Command, Line, NoMemory, PinRefusal, Refusal, Report};
-use program_endings::add;
+use policy_types::{Command, Line, NoMemory, PinRefusal, Refusal};
 use report_text::print_block;
 use std::alloc::Global;
 use text_lines::{LineWriter, Text, kind_word, status_word};
 
-/// The text of answered lines, one after the other, and behind them the lines of the auditors' reports.
-pub fn transcript(
-    alloc: Global,
-    lines: &[TranscriptLine],
-    reports: &[Report],
-) -> Result<Vec<u8>, NoMemory>
-    requires writable { All IsWritable lines.now }
-    requires few { length reports.now ≤ 16 }
-    ensures { IfOk result (λ text. text.items ≡ run_text lines.now reports.now) }
-{
-    let mut text = answers(alloc, lines)?;
-    let more = report_lines(alloc, reports)?;
-    add(&mut text, more.as_slice())?;
-    Ok(text)
-}
+/// The words of a script's run.
+pub struct ScriptWords;
 
-// The text of answered lines.
-fn answers(alloc: Global, lines: &[TranscriptLine]) -> Result<Vec<u8>, NoMemory>
-    requires writable { All IsWritable lines.now }
-    ensures { IfOk result (λ text. text.items ≡ told_texts lines.now) }
-{
-    let mut text = Vec::new(alloc);
-    for line in lines {
-        let more = line_text(alloc, line)?;
-        add(&mut text, more.as_slice())?;
+impl Wording for ScriptWords {
+    ghost use Rattle.transcript_text.specs.Told.{told_text};
+
+    ghost text = { told_text };
+
+    fn words(alloc: Global, told: &TranscriptLine) -> Result<Vec<u8>, NoMemory> {
+        Ok(line_text(alloc, told)?.into_vec())
     }
-    Ok(text)
 }
 
 // The text of an answered line.

@@ -1,5 +1,5 @@
 // The lines of the auditors' reports.
-ghost use Rattle.std.specs.Prelude.{◌≡◌, ◌≤◌, IfOk, length};
+ghost use Rattle.std.specs.Prelude.{◌≡◌, ◌≤◌, ◌<◌, IfOk, OnErr, length};
 ghost use Rattle.transcript_text.specs.Transcript.{reports_text, watcher_text};
 
 use itoa::Buffer;
@@ -8,10 +8,11 @@ use program_endings::add;
 use std::alloc::Global;
 use text_lines::{LineWriter, Text};
 
-/// The lines of the reports, numbered from 1.
+/// The lines of the reports, numbered from 1. Memory can be wanting only for some.
 pub fn report_lines(alloc: Global, reports: &[Report]) -> Result<Vec<u8>, NoMemory>
     requires few { length reports.now ≤ 16 }
-    ensures { IfOk result (λ text. text.items ≡ reports_text reports.now) }
+    ensures text { IfOk result (λ text. text.items ≡ reports_text reports.now) }
+    ensures some { OnErr result (0 < length (reports_text reports.now)) }
 {
     let mut text = Vec::new(alloc);
     let mut number = 0;

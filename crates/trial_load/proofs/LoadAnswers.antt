@@ -1,8 +1,8 @@
 -- What a load's turns and answers are
-use Rattle.std.proofs.Common.{◌≡◌, ℕ, zero, suc, Bool, false, cond, List, [], ◌∷◌, ◌++◌, map, Some, Ok, Err, refl, ap, sym, ◌∙◌, subst, arith, append-nil, append_assoc}
+use Rattle.std.proofs.Common.{◌≡◌, ℕ, zero, suc, ◌==◌, Bool, true, false, cond, List, [], ◌∷◌, ◌++◌, map, Some, Ok, Err, inl, inr, refl, ap, sym, ◌∙◌, subst, arith, append-nil, append_assoc}
 use Rattle.std.specs.Prelude.{slice_get}
 use Rattle.std.specs.List.{AllByRecursion, AllZip}
-use Rattle.std.proofs.lemmas.Bool.{cond-false, false≢true}
+use Rattle.std.proofs.lemmas.Bool.{cond-false, eq-eqb, false≢true}
 use Rattle.std.proofs.lemmas.List.{take_all}
 use Rattle.std.proofs.lemmas.List.Sums.{sum_by-cons}
 use Rattle.basis_book.specs.Dated.{Dated}
@@ -13,19 +13,24 @@ use Rattle.policy_types.specs.declared.entry.Entry.{Entry}
 use Rattle.policy_types.specs.declared.entry.PinRefusal.{PinRefusal}
 use Rattle.policy_types.specs.declared.entry.Reply.{Reply}
 use Rattle.policy_types.specs.declared.entry.Reply.TheVariants.{Accepted, Refused, Faulted, Pinned, PinRefused, Slice, Unpinned, Floor, Blank}
+use Rattle.policy_types.specs.declared.script.Line.{Line}
 use Rattle.policy_types.specs.declared.script.Line.TheVariants.{Post}
+use Rattle.policy_types.specs.declared.script.Lane.{Lane}
+use Rattle.policy_types.specs.Lanes.{lines_in}
 use Rattle.policy_machine.specs.Book.{book}
 use Rattle.policy_machine.specs.History.{Opening, IsDue, IsLegalAfter, commands_after}
 use Rattle.policy_value.specs.declared.worth.Measure.TheVariants.{Terminal}
 use Rattle.snapshot_value.specs.Valuing.{AnswersPin as IsValueAnswer, IsValuedRow}
 use Rattle.snapshot_value.specs.declared.valuation.Valuation.{Valuation}
 use Rattle.snapshot_value.specs.declared.valuation.ValueFault.TheVariants.{Pin as NoPin, NoMemory as NoValues}
+use Rattle.lane_runner.specs.AnsweredLines.{AnsweredLine, AreOfLanes, lines_by}
 use Rattle.lane_runner.specs.Transcripts.{IsOutcome, dry_of, lacked_memory}
 use Rattle.lane_runner.specs.declared.transcript.TranscriptLine.{TranscriptLine}
 use Rattle.lane_runner.specs.declared.transcript.Outcome.{Outcome}
 use Rattle.lane_runner.specs.declared.transcript.Outcome.TheVariants.{Posted, Trimmed, Valued, ValueRefused, ValueNoMemory}
 use Rattle.program_endings.specs.Replies.{IsAnswered, IsPinned}
 use Rattle.program_endings.specs.Blocks.{IsWritableBlock}
+use Rattle.program_endings.proofs.ListSteps.{Has, has_filter, has_left, has_map, has_right}
 use Rattle.program_endings.proofs.QuietTurns.{ArePostless}
 use Rattle.program_endings.proofs.TurnSteps.{posts, quiet_reply}
 use Rattle.program_endings.proofs.BlockSteps.{block_writable}
@@ -131,3 +136,17 @@ pub none_dry_of : (lines : List TranscriptLine) → AllByRecursion (λ (line : T
 none_dry_of [] none = refl
 none_dry_of (line ∷ lines) none =
     ap (map (λ (told : TranscriptLine). told.turn)) (cond-false (lacked_memory line.outcome) _ _ none.0) ∙ none_dry_of lines none.1
+
+-- the line of an answered line is one of a lane's
+pub line_in : (answered : List AnsweredLine) (history : List Entry) (lanes : List Lane) (callers : List ℕ) (one : AnsweredLine)
+    → AreOfLanes answered history lanes callers → Has (map (λ (lane : Lane). lane.number) lanes) one.clerk → Has answered one
+    → Has (lines_in lanes) one.line
+line_in answered history [] callers one are clerk has = absurd clerk
+line_in answered history (lane ∷ lanes) [] one are clerk has = absurd are
+line_in answered history (lane ∷ lanes) (caller ∷ callers) one are (inl same) has =
+    let own : (one.clerk == lane.number) ≡ true = eq-eqb one.clerk lane.number (sym same) in
+    let by_lane = has_filter (λ (other : AnsweredLine). other.clerk == lane.number) answered one own has in
+    let line = has_map (λ (other : AnsweredLine). other.line) (lines_by lane.number answered) one by_lane in
+    has_left lane.lines (lines_in lanes) one.line (subst (λ (ls : List Line). Has ls one.line) are.0 line)
+line_in answered history (lane ∷ lanes) (caller ∷ callers) one are (inr later) has =
+    has_right lane.lines (lines_in lanes) one.line (line_in answered history lanes callers one are.2 later has)

@@ -83,39 +83,27 @@ module _ {D : Type 0} (g : Ghosts D) (old new : D) where
     pub load_as_before : (ending : Ending) → EndsLoad g old new seed count lanes workers shelf output ending
         → g.honest new → OpensToNone (g.reads old) → g.reads new ≡ g.reads old
     load_as_before ending ends honest none = elim ends [
-      | inl by ↦ elim by.ends [
-        | inl load ↦ loading_as_before all_lanes workers by.basis output ending load honest none
-        | inr early ↦ ap g.reads early.0
-      ]
+      | inl by ↦ loading_as_before all_lanes workers by.basis output ending by.ends honest none
       | inr no_basis ↦ ap g.reads no_basis.0
     ]
 
     -- no load ends so
     pub load_usage : EndsLoad g old new seed count lanes workers shelf output Usage → ⊥
     load_usage ends = elim ends [
-      | inl by ↦ elim by.ends [
-        | inl load ↦ load
-        | inr early ↦ (let other : Usage ≡ NoMemory = early.1 in absurd (cc))
-      ]
+      | inl by ↦ by.ends
       | inr no_basis ↦ no_basis.1
     ]
 
     pub load_ahead : EndsLoad g old new seed count lanes workers shelf output Ahead → ⊥
     load_ahead ends = elim ends [
-      | inl by ↦ elim by.ends [
-        | inl load ↦ load
-        | inr early ↦ (let other : Ahead ≡ NoMemory = early.1 in absurd (cc))
-      ]
+      | inl by ↦ by.ends
       | inr no_basis ↦ no_basis.1
     ]
 
     pub load_bad_file : EndsLoad g old new seed count lanes workers shelf output BadBasis
         → EndsNoBasis (codes "basis.csv") shelf output BadBasis
     load_bad_file ends = elim ends [
-      | inl by ↦ elim by.ends [
-        | inl load ↦ absurd load
-        | inr early ↦ (let other : BadBasis ≡ NoMemory = early.1 in absurd (cc))
-      ]
+      | inl by ↦ absurd by.ends
       | inr no_basis ↦ no_basis.1
     ]
 
@@ -125,10 +113,7 @@ module _ {D : Type 0} (g : Ghosts D) (old new : D) where
           → (Rose shelf.faults_before shelf.faults_after → ⊥) → (Rose output.faults_before output.faults_after → ⊥)
           → (Rose (g.faults old) (g.faults new) → ⊥) → (status_of ending ≡ 0) ⊎ (status_of ending ≡ 9)
       load_to_end ending basis commands ends is honest opens shelf_held output_held disk_held = elim ends [
-        | inl by ↦ elim by.ends [
-          | inl load ↦ loading_to_end all_lanes workers by.basis output ending commands load honest opens output_held disk_held
-          | inr early ↦ inr (ap status_of early.1)
-        ]
+        | inl by ↦ loading_to_end all_lanes workers by.basis output ending commands by.ends honest opens output_held disk_held
         | inr no_basis ↦ inr (basis_refused output (codes "basis.csv") shelf files agrees shelf_held ending basis is no_basis.1)
       ]
 
@@ -137,10 +122,7 @@ module _ {D : Type 0} (g : Ghosts D) (old new : D) where
           → (Rose shelf.faults_before shelf.faults_after → ⊥) → (Rose (g.faults old) (g.faults new) → ⊥)
           → (status_of ending ≡ 5) ⊎ (status_of ending ≡ 9)
       load_refused ending basis ends is honest none shelf_held disk_held = elim ends [
-        | inl by ↦ elim by.ends [
-          | inl load ↦ loading_refused all_lanes workers by.basis output ending load honest none disk_held
-          | inr early ↦ inr (ap status_of early.1)
-        ]
+        | inl by ↦ loading_refused all_lanes workers by.basis output ending by.ends honest none disk_held
         | inr no_basis ↦ inr (basis_refused output (codes "basis.csv") shelf files agrees shelf_held ending basis is no_basis.1)
       ]
 

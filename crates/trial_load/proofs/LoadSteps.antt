@@ -52,13 +52,13 @@ use Rattle.program_endings.proofs.QuietTurns.{none_accepted}
 use Rattle.program_endings.proofs.TurnSteps.{unfaulted_if_answered}
 use Rattle.transcript_text.specs.Told.{any_faulted, any_lacked}
 use Rattle.transcript_text.proofs.Telling.{Telling, telling}
-use Rattle.transcript_text.proofs.ToldSteps.{line_in, page_numbers}
+use Rattle.transcript_text.proofs.ToldSteps.{page_numbers}
 use Rattle.trial_load.specs.Loading.{EndsLoading, HasLine, HasNoLine, IsLoadOf, is_refusal, load_day, load_text, refused_in, valuation_lane}
 use Rattle.trial_load.specs.inside.Loaded.{AreLoadLanes, EndsLine, EndsLoaded, IsLoadAnswer, accepted_lines, refused_lines}
 use Rattle.trial_load.proofs.LoadCounts.{accepted_is, only_turn, refused_is}
 use Rattle.trial_load.proofs.LoadPins.{entries_post, not_full}
 use Rattle.trial_load.proofs.LoadTurns.{IsBehind, is_behind}
-use Rattle.trial_load.proofs.LoadAnswers.{legal_back, legal_front, answered_turns, none_refused, in_front, pinned_if_dry, refused_pin, AreLastRows, last_rows, posting_found, none_dry_of}
+use Rattle.trial_load.proofs.LoadAnswers.{legal_back, legal_front, line_in, answered_turns, none_refused, in_front, pinned_if_dry, refused_pin, AreLastRows, last_rows, posting_found, none_dry_of}
 
 -- An office ran lanes, valued its policies then, and was closed.
 module _ {D W : Type 0} (g : Ghosts D) (w : WatcherGhosts W) (old disk : D) (lanes : List Lane) (workers turn : ℕ) (basis : List Dated) (watchers : W)

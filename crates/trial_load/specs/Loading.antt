@@ -3,7 +3,6 @@ use Rattle.std.specs.Prelude.{◌≡◌, ◌≢◌, ℕ, ◌⊎◌, ℤ, pos, Bo
 use Rattle.std.specs.Io.KnownBytes.{Appends}
 use Rattle.std.specs.List.{AllByRecursion, AllZip, count_by}
 use Rattle.outside_io.specs.Faults.{Rose}
-use Rattle.outside_io.specs.Shelves.{Files}
 use Rattle.outside_io.specs.Streams.{AppendsPart}
 use Rattle.outside_io.specs.declared.disks.Disk.{Ghosts}
 use Rattle.policy_types.specs.declared.command.Command.{Command}
@@ -19,7 +18,6 @@ use Rattle.policy_machine.specs.Book.{book}
 use Rattle.policy_machine.specs.History.{Opening, IsLegal, accepted_of, commands_after, opened_on}
 use Rattle.policy_machine.specs.Merge.{IsMerge}
 use Rattle.basis_book.specs.Dated.{Dated}
-use Rattle.basis_shelf.specs.Bases.{IsBasis}
 use Rattle.policy_value.specs.declared.worth.Measure.TheVariants.{Terminal}
 use Rattle.policy_value.specs.declared.worth.Row.{Row}
 use Rattle.report_text.specs.Block.{lower_sum, unvalued_count, upper_sum}
@@ -31,7 +29,7 @@ use Rattle.text_lines.specs.Lines.{line_of}
 use Rattle.load_maker.specs.GeneratedLanes.{generated_lanes}
 use Rattle.program_endings.specs.Replies.{AreAnswered, AreAny, ArePins, HaveAFault, LackMemory}
 use Rattle.program_endings.specs.Refusals.{IsRefusedJournal}
-use Rattle.program_endings.specs.WithoutBasis.{EndsNoBasis}
+use Rattle.lone_office.specs.Beginning.{EndsOverBasis}
 use Rattle.program_endings.specs.Writing.{Shelving, Stream, WroteAll, WroteLine}
 use Rattle.program_endings.specs.declared.ending.Ending.{Ending}
 use Rattle.program_endings.specs.declared.ending.Ending.TheVariants.{Done, BadJournal, WriteFault, DiskFault, NoMemory}
@@ -113,21 +111,8 @@ EndsLoading g old new lanes workers basis output NoMemory =
     ⊎ IsLoadOf g old new lanes workers (HasLine basis (WroteAll output) LackMemory)
 EndsLoading g old new lanes workers basis output _ = ⊥
 
--- how `load` ends that has its basis; where there was no memory for the lanes, nothing is touched
-abbrev pub EndsBegun : {D : Type 0} → Ghosts D → D → D → (seed count lanes workers : ℕ) → List Dated → Stream → Ending → Type 0
-EndsBegun g old new seed count lanes workers basis output ending =
-    EndsLoading g old new (generated_lanes seed lanes count) workers basis output ending
-    ⊎ ((new ≡ old) × (ending ≡ NoMemory) × WroteLine output (codes "nomemory"))
-
--- the shelf has the basis, and `load` ended so by it
-pub record EndsLoadBy {D : Type 0} (g : Ghosts D) (old new : D) (seed count lanes workers : ℕ) (shelf : Shelving)
-    (output : Stream) (ending : Ending) : Type 0 where
-  pub basis : List Dated
-  pub is : (files : Files) → shelf.Agrees files → IsBasis files (codes "basis.csv") basis
-  pub ends : EndsBegun g old new seed count lanes workers basis output ending
-
--- how `load` ends; without a basis the disk isn't touched
+-- how `load` ends; without a basis, or without memory for the lanes, the disk isn't touched
 abbrev pub EndsLoad : {D : Type 0} → Ghosts D → D → D → (seed count lanes workers : ℕ) → Shelving → Stream → Ending → Type 0
 EndsLoad g old new seed count lanes workers shelf output ending =
-    EndsLoadBy g old new seed count lanes workers shelf output ending
-    ⊎ ((new ≡ old) × EndsNoBasis (codes "basis.csv") shelf output ending)
+    EndsOverBasis old new (λ basis. EndsLoading g old new (generated_lanes seed lanes count) workers basis output ending)
+    (codes "basis.csv") shelf output ending

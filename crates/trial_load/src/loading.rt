@@ -3,7 +3,7 @@ ghost use Rattle.std.specs.Prelude.{◌≡◌, ◌<◌, ◌≤◌, ◌^◌, IfOk
 ghost use Rattle.shared_office.specs.Offices.{IsOfficeHistory};
 ghost use Rattle.shared_office.specs.Starting.{HasStartedOffice};
 ghost use Rattle.turn_lock.specs.Passes.{PassFacts};
-ghost use Rattle.trial_load.specs.Loading.{EndsBegun, EndsLoad, EndsLoading, load_text};
+ghost use Rattle.trial_load.specs.Loading.{EndsLoad, EndsLoading, load_text};
 ghost use Rattle.program_endings.specs.Writing.{between, shelf_between};
 ghost use Rattle.program_endings.specs.declared.ending.Ending.TheVariants.{ReadFault};
 ghost use Rattle.trial_load.specs.inside.Loaded.{AreLoadLanes, EndsLine, EndsLoaded, IsLoadAnswer, accepted_lines, refused_lines, tells_accepted, tells_refused};
@@ -11,23 +11,23 @@ ghost use Rattle.program_endings.specs.Blocks.{IsWritableBlock};
 ghost use Rattle.report_text.specs.Block.{AreSummable};
 
 use basis_book::{Basis, Name};
-use basis_shelf::fetch_basis;
 use itoa::Buffer;
-use lane_runner::{Outcome, TranscriptLine, run_lanes};
+use lane_runner::{Outcome, TranscriptLine, Wording, run_lanes};
 use load_maker::make_lanes;
-use outside_io::{Disk, Gate, Shelf, Sink, write_all};
+use lone_office::{Begun, begin};
+use outside_io::{BytesSink, Disk, Gate, Shelf, Sink, write_all};
 use policy_types::{At, Lane, NoMemory};
 use policy_value::{Measure, Rows};
-use program_endings::{Ending, Finished, lack_memory, refuse_basis, refuse_journal};
+use program_endings::{Ending, Finished, lack_memory};
 use report_text::Totals;
-use shared_office::{Answer, Office, OfficeCalls, OfficePass, close};
-use snapshot_value::{Valuation, ValueFault};
+use shared_office::{Answer, Office, OfficePass, close};
+use snapshot_value::{Query, Valuation, ValueFault};
 use std::alloc::Global;
 use std::sync::Wait;
 use std::thread::Threads;
 use text_lines::{LineWriter, Text};
 use transcript_text::ending_of;
-use watcher_set::{NoWatchers, Watching};
+use watcher_set::Watching;
 
 /// 2020-12-31, in days since 1970-01-01.
 const LOAD_DAY: i32 = 18_627;
@@ -67,16 +67,25 @@ pub fn load<R: Threads + Wait + Sync, K: Sink, H: Shelf, D: Disk + Send, G: Gate
             disk,
         };
     };
-    match fetch_basis(alloc, &name, shelf) {
-        Ok(basis) => {
-            load_by(
-                rt, alloc, seed, count, lanes, workers, &basis, output, disk, gate,
+    let Ok(script) = make_lanes(alloc, seed, count, lanes) else {
+        return Finished {
+            ending: lack_memory(output),
+            disk,
+        };
+    };
+    match begin(alloc, &name, shelf, output, disk) {
+        Ok(begun) => {
+            let Begun {
+                basis,
+                office,
+                pass,
+            } = begun;
+            let lanes = script.as_slice();
+            load_office(
+                rt, alloc, lanes, workers, &basis, office, pass, output, gate,
             )
         }
-        Err(cause) => Finished {
-            ending: refuse_basis(alloc, cause, output),
-            disk,
-        },
+        Err(finished) => finished,
     }
 }
 
@@ -91,41 +100,16 @@ fn basis_name(alloc: Global) -> Result<Name, NoMemory>
     }
 }
 
-// Runs the generated lanes by a basis.
-fn load_by<R: Threads + Wait + Sync, K: Sink, D: Disk + Send, G: Gate + Sync>(
-    rt: &R,
-    alloc: Global,
-    seed: u32,
-    count: u32,
-    lanes: u8,
-    workers: u8,
-    basis: &Basis,
-    output: &mut K,
-    disk: D,
-    gate: &G,
-) -> Finished<D>
-    requires seed { seed < 2 ^ 31 }
-    requires count { (1 ≤ count) × (count ≤ 100000) }
-    requires lanes { (1 ≤ lanes) × (lanes ≤ 8) }
-    requires workers { (1 ≤ workers) × (workers ≤ 64) }
-    ensures { EndsBegun D.Disk disk result.disk seed count lanes workers basis.now
-        (between K.faults K.written output.old output.new) result.ending }
-{
-    let Ok(script) = make_lanes(alloc, seed, count, lanes) else {
-        return Finished {
-            ending: lack_memory(output),
-            disk,
-        };
-    };
-    let lanes = script.as_slice();
-    match Office::start(alloc, disk, NoWatchers) {
-        Ok((office, pass)) => {
-            load_office(rt, alloc, lanes, workers, basis, office, pass, output, gate)
-        }
-        Err(fault) => Finished {
-            ending: refuse_journal(alloc, fault.cause, output),
-            disk: fault.disk,
-        },
+// No words: of a load's lines nothing is written.
+struct NoWords;
+
+impl Wording for NoWords {
+    ghost use Rattle.std.specs.Prelude.{[]};
+
+    ghost text = { λ told. [] };
+
+    fn words(alloc: Global, _told: &TranscriptLine) -> Result<Vec<u8>, NoMemory> {
+        Ok(Vec::new(alloc))
     }
 }
 
@@ -157,28 +141,47 @@ fn load_office<
         (between K.faults K.written output.old output.new) result.ending }
 {
     let mut pass = pass;
-    let Ok(transcript) = run_lanes(rt, alloc, &office, &mut pass, lanes, basis, gate) else {
+    let mut nowhere = BytesSink::new(alloc, Vec::new(alloc));
+    let ran = run_lanes::<R, NoWords, BytesSink, D, W, G>(
+        rt,
+        alloc,
+        &office,
+        &mut pass,
+        lanes,
+        basis,
+        gate,
+        &mut nowhere,
+    );
+    let Ok(ran) = ran else {
         let (disk, _, _) = close(office, pass);
         return Finished {
             ending: lack_memory(output),
             disk,
         };
     };
+    let query = Query {
+        basis,
+        on: LOAD_DAY,
+        measure: Measure::Terminal,
+        workers,
+    };
     let valued = snapshot_value::value(
         rt,
         alloc,
         &office,
         &mut pass,
-        basis,
-        LOAD_DAY,
+        query,
         At::Now,
-        Measure::Terminal,
-        workers,
         NO_LANE,
         gate,
     );
     let (disk, _, _) = close(office, pass);
-    let ending = write_loaded(alloc, transcript.lines.as_slice(), valued.answer, output);
+    let ending = write_loaded(
+        alloc,
+        ran.transcript.lines.as_slice(),
+        valued.answer,
+        output,
+    );
     Finished { ending, disk }
 }
 

@@ -15,13 +15,13 @@ const MOST_BEFORE_OTHERS: u64 = 8;
 #[derive(Drop)]
 pub(crate) struct Door {
     taken: AtomicBool,
-    brief: Line,
-    others: Line,
+    brief: Queue,
+    others: Queue,
 }
 
 /// Callers that wait, in the order in which they came.
 #[derive(Drop)]
-struct Line {
+struct Queue {
     /// So many turns on end may pass the first.
     most: u64,
     came: AtomicU64,
@@ -43,8 +43,8 @@ impl Door {
     pub(crate) fn new() -> Door {
         Door {
             taken: AtomicBool::new(false),
-            brief: Line::new(MOST_BEFORE_BRIEF),
-            others: Line::new(MOST_BEFORE_OTHERS),
+            brief: Queue::new(MOST_BEFORE_BRIEF),
+            others: Queue::new(MOST_BEFORE_OTHERS),
         }
     }
 
@@ -95,7 +95,7 @@ impl Door {
     }
 
     /// Whether the door was handed to this caller, or the caller is the first of its line and takes it free.
-    fn lets_in(&self, line: &Line, number: u64) -> bool {
+    fn lets_in(&self, line: &Queue, number: u64) -> bool {
         let let_in = line.let_in.load(SeqCst);
         if let_in == number && self.take() {
             line.let_first_in();
@@ -105,9 +105,9 @@ impl Door {
     }
 }
 
-impl Line {
-    fn new(most: u64) -> Line {
-        Line {
+impl Queue {
+    fn new(most: u64) -> Queue {
+        Queue {
             most,
             came: AtomicU64::new(0),
             let_in: AtomicU64::new(0),

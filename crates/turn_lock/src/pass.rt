@@ -1,12 +1,12 @@
 ghost use Rattle.std.specs.Prelude.{◌≡◌};
 
-use crate::seats::Place;
+use crate::seats::CallerSeat;
 use crate::stands::Stands;
 use std::marker::Model;
 
 /// One caller's right to take turns. Contracts see it as what it has, has seen and has made.
 pub struct Pass<T: Stands> {
-    pub(crate) place: Place<T>,
+    pub(crate) place: CallerSeat<T>,
     pub(crate) caller: u64,
     pub(crate) left: u64,
     pub(crate) shares: u64,
@@ -50,7 +50,7 @@ impl<T: Stands> Pass<T> {
     }
 
     /// The pass's seat.
-    pub(crate) fn into_place(self) -> Place<T>
+    pub(crate) fn into_place(self) -> CallerSeat<T>
         ensures same { holding result ≡ self }
         ensures pass { IsPass T.legal result.me self.caller self.left self.shares }
     {

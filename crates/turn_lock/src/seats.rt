@@ -69,7 +69,7 @@ pub(crate) type SharedBoard<T> = Shared<
     Law<T>,
 >;
 
-pub(crate) type Place<T> = Seat<Option<T>, View<<T as Stands>::Opening>>;
+pub(crate) type CallerSeat<T> = Seat<Option<T>, View<<T as Stands>::Opening>>;
 
 /// The word of the turns served.
 pub(crate) const SERVED: usize = 0;

@@ -7,13 +7,13 @@ ghost use Rattle.turn_lock.specs.inside.Seats.{SeatFacts, shorter, kept_half, gi
 ghost use Rattle.turn_lock.specs.inside.Places.{IsBoard, IsNow, TookOut};
 
 use crate::plays::{Appended, Compares, Draws, Halves, HandsOn, Joins, Looks, Names};
-use crate::seats::{NAMES, Place, SERVED, SharedBoard, TICKETS, VALUE};
+use crate::seats::{CallerSeat, NAMES, SERVED, SharedBoard, TICKETS, VALUE};
 use crate::stands::Stands;
 use crate::turn::Turn;
 use std::snapshot::Snapshot;
 
 /// Split: half of what the seat has goes to a new seat.
-pub(crate) fn split<T: Stands>(board: &SharedBoard<T>, place: &mut Place<T>) -> Place<T>
+pub(crate) fn split<T: Stands>(board: &SharedBoard<T>, place: &mut CallerSeat<T>) -> CallerSeat<T>
     requires ours { IsBoard board.now.table_id × (place.old.table_id ≡ board.now.table_id) }
     requires idle { (place.old.me.0.stage ≡ Idle) × (1 ≤ place.old.me.0.left) × (2 ≤ place.old.me.0.shares) }
     ensures kept { IsNow place.old place.new (kept_half place.old.me.0, place.old.me.1) }
@@ -23,7 +23,7 @@ pub(crate) fn split<T: Stands>(board: &SharedBoard<T>, place: &mut Place<T>) -> 
 }
 
 /// Name: a new seat gets its number, which is given back.
-pub(crate) fn name<T: Stands>(board: &SharedBoard<T>, place: &mut Place<T>) -> u64
+pub(crate) fn name<T: Stands>(board: &SharedBoard<T>, place: &mut CallerSeat<T>) -> u64
     requires ours { IsBoard board.now.table_id × (place.old.table_id ≡ board.now.table_id) }
     requires unnamed { place.old.me.0.stage ≡ Unnamed }
     ensures now { IsNow place.old place.new (named place.old.me.0 result, place.old.me.1) }
@@ -34,7 +34,7 @@ pub(crate) fn name<T: Stands>(board: &SharedBoard<T>, place: &mut Place<T>) -> u
 }
 
 /// Draw: a seat gets a ticket, which is given back.
-pub(crate) fn draw<T: Stands>(board: &SharedBoard<T>, place: &mut Place<T>) -> u64
+pub(crate) fn draw<T: Stands>(board: &SharedBoard<T>, place: &mut CallerSeat<T>) -> u64
     requires ours { IsBoard board.now.table_id × (place.old.table_id ≡ board.now.table_id) }
     requires idle { (place.old.me.0.stage ≡ Idle) × (1 ≤ place.old.me.0.left) }
     ensures { IsNow place.old place.new (queued place.old.me.0 result, place.old.me.1) }
@@ -45,7 +45,7 @@ pub(crate) fn draw<T: Stands>(board: &SharedBoard<T>, place: &mut Place<T>) -> u
 /// Look: where the ticket is due the seat takes the value out; else nothing changes.
 pub(crate) fn look<T: Stands>(
     board: &SharedBoard<T>,
-    place: &mut Place<T>,
+    place: &mut CallerSeat<T>,
     ticket: u64,
 ) -> Option<T>
     requires ours { IsBoard board.now.table_id × (place.old.table_id ≡ board.now.table_id) }
@@ -63,7 +63,7 @@ pub(crate) fn look<T: Stands>(
 /// Hand on: the value goes back into the slot, and the turn's entry is one more of the history. Gives the entry's place.
 pub(crate) fn hand_on<T: Stands, E: Appended, C: Turn<T>>(
     board: &SharedBoard<T>,
-    place: &mut Place<T>,
+    place: &mut CallerSeat<T>,
     value: T,
     asked: &Snapshot<C>,
     caller: u64,
@@ -86,7 +86,11 @@ pub(crate) fn hand_on<T: Stands, E: Appended, C: Turn<T>>(
 }
 
 /// Join: a seat takes another back, and looks whether the lists of both are beginnings of one history.
-pub(crate) fn join<T: Stands>(board: &SharedBoard<T>, place: &mut Place<T>, other: Place<T>)
+pub(crate) fn join<T: Stands>(
+    board: &SharedBoard<T>,
+    place: &mut CallerSeat<T>,
+    other: CallerSeat<T>,
+)
     requires ours { IsBoard board.now.table_id × (place.old.table_id ≡ board.now.table_id) × (other.table_id ≡ board.now.table_id) }
     requires idle { (place.old.me.0.stage ≡ Idle) × (other.me.0.stage ≡ Idle) × (other.me.1 ≡ []) }
     ensures now { IsNow place.old place.new (compared (joined place.old.me.0 other.me.0), place.old.me.1) }

@@ -14,11 +14,15 @@ pub trait Turn<T: Stands> {
     // The entry that the call adds, by its caller and its answer.
     ghost entry: { Self → ℕ → Self.Answer → Entry };
 
+    // What the answer tells, by what the value was opened on and its history before the call.
+    ghost tells: { Self → T.Opening → List Entry → Self.Answer → Type 0 };
+
     /// Does the call on the value, and answers.
     fn run(self, value: &mut T, caller: u64) -> Self::Answer
         requires lent { (history : List Entry) × (seen : List Entry) × (made : List Entry) × IsLent T.stands (needs self) value.old caller history seen made }
         ensures stood { (history seen made : List Entry) → IsLent T.stands (needs self) value.old caller history seen made → T.stands value.new (history ++ entry self caller result ∷ []) }
-        ensures opening { T.opening value.new ≡ T.opening value.old };
+        ensures opening { T.opening value.new ≡ T.opening value.old }
+        ensures tells { (history seen made : List Entry) → IsLent T.stands (needs self) value.old caller history seen made → tells self (T.opening value.old) history result };
 
     /// Whether the call is over so soon that others lose little by waiting for it. No contract rests on the answer.
     fn is_brief(&self) -> bool {

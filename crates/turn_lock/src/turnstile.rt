@@ -1,4 +1,4 @@
-ghost use Rattle.std.specs.Prelude.{◌≡◌, ℕ, ◌≤◌, List, [], ◌∷◌, length, Some, None, IfOk, IfErr};
+ghost use Rattle.std.specs.Prelude.{◌≡◌, ℕ, ◌≤◌, List, [], ◌∷◌, length, take, Some, None, IfOk, IfErr};
 ghost use Rattle.policy_types.specs.declared.entry.Entry.{Entry};
 ghost use Rattle.turn_lock.specs.Passes.{IsLent};
 ghost use Rattle.turn_lock.specs.declared.seats.Stage.TheVariants.{Inside};
@@ -7,7 +7,7 @@ ghost use Rattle.turn_lock.specs.inside.Places.{IsBoard, IsNow};
 
 use crate::door::Door;
 use crate::pass::Pass;
-use crate::seats::{Board, Place, SharedBoard, VALUE};
+use crate::seats::{Board, CallerSeat, SharedBoard, VALUE};
 use crate::stands::Stands;
 use crate::steps::{draw, hand_on, join, name, split};
 use crate::turn::{Turn, Turned};
@@ -126,6 +126,7 @@ impl<T: Stands> Turnstile<T> {
         requires left { 1 ≤ pass.old.left }
         requires needs { C.needs call pass.old.caller pass.old.seen pass.old.made }
         ensures turn { TakesTurn result.turn (C.entry call pass.old.caller result.answer) pass.old pass.new }
+        ensures tells { (opening : T.Opening) → pass.new.opening ≡ Some opening → C.tells call opening (take result.turn pass.new.seen) result.answer }
         ensures facts { PassFacts T.legal pass.new }
     {
         let shared = &self.board.shared;
@@ -159,7 +160,7 @@ impl<T: Stands> Turnstile<T> {
 /// Runs the call on the value that is out with the seat, and hands on.
 fn serve<T: Stands, C: Turn<T>>(
     board: &SharedBoard<T>,
-    place: &mut Place<T>,
+    place: &mut CallerSeat<T>,
     mut value: T,
     call: C,
     caller: u64,
@@ -171,6 +172,7 @@ fn serve<T: Stands, C: Turn<T>>(
     requires opened { place.old.me.0.opened ≡ Some (T.opening value) }
     ensures now { IsNow place.old place.new (handed_on place.old.me.0 (C.entry call caller result.answer), []) }
     ensures place { result.turn ≡ length place.old.me.0.seen }
+    ensures tells { C.tells call (T.opening value) place.old.me.0.seen result.answer }
     ensures facts { SeatFacts T.legal place.new.me.0 }
 {
     let asked = Snapshot::of(&call);

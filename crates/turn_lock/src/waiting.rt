@@ -3,7 +3,7 @@ ghost use Rattle.std.specs.Prelude.{◌≡◌, []};
 ghost use Rattle.turn_lock.specs.declared.seats.Stage.TheVariants.{Queued};
 ghost use Rattle.turn_lock.specs.inside.Places.{IsBoard, IsNow, TookOut};
 
-use crate::seats::{Place, SharedBoard};
+use crate::seats::{CallerSeat, SharedBoard};
 use crate::stands::Stands;
 use crate::steps::look;
 use std::sync::Wait;
@@ -14,7 +14,7 @@ use std::thread::yield_now;
 pub(crate) fn wait<T: Stands, R: Wait>(
     rt: &R,
     board: &SharedBoard<T>,
-    place: &mut Place<T>,
+    place: &mut CallerSeat<T>,
     ticket: u64,
 ) -> T
     requires ours { IsBoard board.now.table_id × (place.old.table_id ≡ board.now.table_id) }

@@ -56,10 +56,8 @@ impl Watcher for TightWatcher {
         if calls_left == 1 {
             return Err(NoMemory);
         }
-        match self.noted.reserve(1) {
-            Ok(()) => Ok(()),
-            Err(_) => Err(NoMemory),
-        }
+        self.noted.reserve(1)?;
+        Ok(())
     }
 
     fn note(&mut self, position: u32, command: &Command) -> Attention {

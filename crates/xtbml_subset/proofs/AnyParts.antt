@@ -8,7 +8,7 @@ use Rattle.xtbml_subset.specs.SelectChecks.{behind_first, select_parts, IsSelect
 use Rattle.xtbml_subset.specs.AnyChecks.{AnyParts, aggregate, selected, parts_by_axes, any_parts_of, aggregated, as_select, IsAnyTable}
 use Rattle.xtbml_subset.specs.inside.Elements.{Found, children_at, siblings_at}
 use Rattle.xtbml_subset.specs.inside.Rows.{found_asks}
-use Rattle.xtbml_subset.specs.inside.Searches.{Path, hit, IsFirstIn, IsFirstUnder, IsFound}
+use Rattle.xtbml_subset.specs.inside.Searches.{ElementPath, hit, IsFirstIn, IsFirstUnder, IsFound}
 
 -- the answer of a table by age alone, as one of either kind
 pub lifted : (parts : Result Parts TableFault) (answer : Result Rates TableFault) → IsTable parts answer → IsAnyTable (parts >=> λ one. Ok (aggregate one)) (aggregated answer)
@@ -45,7 +45,7 @@ any_aggregate total root table axis answer e axes is =
 
 -- ---- what the searches found
 
-pub axes_of_values : (total : ℕ) (root table values axis : Found) (found : Path) → IsFound root found → found.table ≡ hit table → found.values ≡ hit values → found.axis ≡ hit axis
+pub axes_of_values : (total : ℕ) (root table values axis : Found) (found : ElementPath) → IsFound root found → found.table ≡ hit table → found.values ≡ hit values → found.axis ≡ hit axis
     → in_first (found_asks total) (codes "Axis") (children_at (codes "Values") table) ≡ axis ∷ siblings_at (codes "Axis") axis
 axes_of_values total root table values axis found is t v a =
     let under_table : IsFirstIn (codes "Values") table found.values = subst (λ s. IsFirstUnder (codes "Values") s found.values) t is.values in
@@ -54,10 +54,10 @@ axes_of_values total root table values axis found is t v a =
     let in_values : children_at (codes "Axis") values ≡ axis ∷ siblings_at (codes "Axis") axis = subst (λ s. IsFirstIn (codes "Axis") values s) a under_values in
     ap (λ (fs : List Found). in_first (found_asks total) (codes "Axis") fs) in_table ∙ in_values
 
-pub tables_of_root : (root table : Found) (found : Path) → IsFound root found → found.table ≡ hit table → children_at (codes "Table") root ≡ table ∷ siblings_at (codes "Table") table
+pub tables_of_root : (root table : Found) (found : ElementPath) → IsFound root found → found.table ≡ hit table → children_at (codes "Table") root ≡ table ∷ siblings_at (codes "Table") table
 tables_of_root root table found is t = subst (λ s. IsFirstIn (codes "Table") root s) t is.table
 
-pub axes_of_axis : (root axis inner : Found) (found : Path) → IsFound root found → found.axis ≡ hit axis → found.inner ≡ hit inner
+pub axes_of_axis : (root axis inner : Found) (found : ElementPath) → IsFound root found → found.axis ≡ hit axis → found.inner ≡ hit inner
     → children_at (codes "Axis") axis ≡ inner ∷ siblings_at (codes "Axis") inner
 axes_of_axis root axis inner found is a i =
     let under : IsFirstIn (codes "Axis") axis found.inner = subst (λ s. IsFirstUnder (codes "Axis") s found.inner) a is.inner in

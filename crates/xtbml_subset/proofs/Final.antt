@@ -9,7 +9,7 @@ use Rattle.xtbml_subset.specs.inside.Walk.{fault_at}
 use Rattle.xtbml_subset.specs.declared.found.Element.{Element}
 use Rattle.xtbml_subset.specs.declared.search.Search.{Search}
 use Rattle.xtbml_subset.specs.declared.search.Search.TheVariants.{Seeking, Hit, Missed}
-use Rattle.xtbml_subset.specs.declared.path.Path.{Path as APath}
+use Rattle.xtbml_subset.specs.declared.path.ElementPath.{ElementPath as APath}
 use Rattle.xtbml_subset.specs.inside.Elements.{Found, depth_in, elements_from, elements_at}
 use Rattle.xtbml_subset.specs.inside.Searches.{Stands, IsPath, IsFound}
 use Rattle.xtbml_subset.specs.inside.Views.{found_of, sought_of, path_of}

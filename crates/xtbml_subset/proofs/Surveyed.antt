@@ -2,9 +2,9 @@
 use Rattle.std.proofs.Common.{◌≡◌, ℕ, ◌+◌, ◌-◌, ◌<◌, ◌≤◌, Bool, true, false, cond, eqb, List, [], length, Option, Some, None, refl, sym, ap, subst, ◌∙◌, arith, codes}
 use Rattle.std.proofs.lemmas.Bool.{ne_eqb}
 use Rattle.std.specs.Prelude.{MatchBool}
-use Rattle.xtbml_subset.specs.declared.search.Tally.{Tally}
+use Rattle.xtbml_subset.specs.declared.search.Passed.{Passed}
 use Rattle.xtbml_subset.specs.inside.Elements.{Found, elements_at, children_at}
-use Rattle.xtbml_subset.specs.inside.Searches.{Passing, Sought, seeking, hit, missed, sought_at, opens, sought_under, tallied, tally_under, no_tally, Path, no_path, path_after, Stands, StandsUnder, TalliesUnder, IsPath, IsFirstIn, IsFirstUnder, IsCountUnder, IsFound}
+use Rattle.xtbml_subset.specs.inside.Searches.{Passing, Sought, seeking, hit, missed, sought_at, opens, sought_under, tallied, tally_under, no_tally, ElementPath, no_path, path_after, Stands, StandsUnder, TalliesUnder, IsPath, IsFirstIn, IsFirstUnder, IsCountUnder, IsFound}
 
 -- ---- bytes that are passed over
 
@@ -29,7 +29,7 @@ under_run level depth name from rest (hit f) s same under = inside f.is_open und
     inside true stands = stands_run level depth (Some name) from rest (children_at name f) s same stands
     inside false none = none
 
-tally_run : (level depth : ℕ) (name from rest : List ℕ) (above : Sought) (t : Tally) → SameElements rest from → TalliesUnder level name depth from above t → TalliesUnder level name depth rest above t
+tally_run : (level depth : ℕ) (name from rest : List ℕ) (above : Sought) (t : Passed) → SameElements rest from → TalliesUnder level name depth from above t → TalliesUnder level name depth rest above t
 tally_run level depth name from rest seeking t same under = under
 tally_run level depth name from rest missed t same under = under
 tally_run level depth name from rest (hit f) t same under = inside f.is_open t.is_over under
@@ -41,7 +41,7 @@ tally_run level depth name from rest (hit f) t same under = inside f.is_open t.i
     inside true false tallies = (tallies.0, tallies.1 ∙ ap (λ (fs : List Found). t.count + length fs) (sym (same (depth - level) (Some name))))
     inside false over none = none
 
-pub path_run : (bytes : List ℕ) (depth : ℕ) (from rest : List ℕ) (path : Path) → SameElements rest from → IsPath bytes depth from path → IsPath bytes depth rest path
+pub path_run : (bytes : List ℕ) (depth : ℕ) (from rest : List ℕ) (path : ElementPath) → SameElements rest from → IsPath bytes depth from path → IsPath bytes depth rest path
 path_run bytes depth from rest path same is = record {
   root = stands_run 0 depth None from rest (elements_at 0 None bytes) path.root same is.root;
   table = under_run 1 depth (codes "Table") from rest path.root path.table same is.table;
@@ -80,7 +80,7 @@ ends_any level name seeking s low under = tt
 ends_any level name missed s low under = tt
 ends_any level name (hit f) s low under = ends_under level name f s low under
 
-counts_any : (level : ℕ) (name : List ℕ) (above : Sought) (t : Tally) → 1 ≤ level → TalliesUnder level name 0 [] above t → IsCountUnder name above t
+counts_any : (level : ℕ) (name : List ℕ) (above : Sought) (t : Passed) → 1 ≤ level → TalliesUnder level name 0 [] above t → IsCountUnder name above t
 counts_any level name seeking t low under = tt
 counts_any level name missed t low under = tt
 counts_any level name (hit f) t low under = inside f.is_open t.is_over refl under
@@ -92,9 +92,9 @@ counts_any level name (hit f) t low under = inside f.is_open t.is_over refl unde
     inside true false e tallies = absurd (let le : level ≤ 0 = tallies.0 in omega arith)
     inside false over e none =
         let empty : children_at name f ≡ [] = rw e refl in
-        ap (λ (fs : List Found). length fs) empty ∙ ap (λ (u : Tally). u.count) (sym none)
+        ap (λ (fs : List Found). length fs) empty ∙ ap (λ (u : Passed). u.count) (sym none)
 
-pub path_found : (bytes : List ℕ) (path : Path) (root : Found) → path.root ≡ hit root → IsPath bytes 0 [] path → IsFound root path
+pub path_found : (bytes : List ℕ) (path : ElementPath) (root : Found) → path.root ≡ hit root → IsPath bytes 0 [] path → IsFound root path
 path_found bytes path root e is =
     let table : StandsUnder 1 (codes "Table") 0 [] (hit root) path.table = subst (λ above. StandsUnder 1 (codes "Table") 0 [] above path.table) e is.table in
     record {
@@ -123,11 +123,11 @@ kept_under level name p above s low deep = by_gate (opens above)
     by_gate true = kept_at level (Some name) p s low deep
     by_gate false = refl
 
-abbrev path_with : Sought → Sought → Sought → Sought → Sought → Sought → Sought → Tally → Path
+abbrev path_with : Sought → Sought → Sought → Sought → Sought → Sought → Sought → Passed → ElementPath
 path_with root table about values axis inner first tally =
     record { root = root; table = table; about = about; values = values; axis = axis; inner = inner; first = first; tally = tally }
 
-kept_tally : (level : ℕ) (name : List ℕ) (p : Passing) (above : Sought) (t : Tally) → level ≤ 4 → 4 < p.depth → t ≡ tally_under level name p above t
+kept_tally : (level : ℕ) (name : List ℕ) (p : Passing) (above : Sought) (t : Passed) → level ≤ 4 → 4 < p.depth → t ≡ tally_under level name p above t
 kept_tally level name p above t low deep = by_gate (opens above) t.is_over (sought_at level (Some name) p seeking) (kept_at level (Some name) p seeking low deep)
   where
     by_gate : (b over : Bool) (s : Sought) → seeking ≡ s → t ≡ cond b (cond over t (tallied t s)) t
@@ -135,7 +135,7 @@ kept_tally level name p above t low deep = by_gate (opens above) t.is_over (soug
     by_gate true false s e = ap (tallied t) e
     by_gate false over s e = refl
 
-pub path_kept : (p : Passing) (path : Path) → 4 < p.depth → path ≡ path_after p path
+pub path_kept : (p : Passing) (path : ElementPath) → 4 < p.depth → path ≡ path_after p path
 path_kept p path deep =
     let root = kept_at 0 None p path.root (omega arith) deep in
     let table = kept_under 1 (codes "Table") p path.root path.table (omega arith) deep in

@@ -6,13 +6,13 @@ use Rattle.std.specs.Prelude.{MatchBool}
 use Rattle.xtbml_subset.specs.declared.class.Class.TheVariants.{White}
 use Rattle.xtbml_subset.specs.declared.state.Phase.{Phase}
 use Rattle.xtbml_subset.specs.declared.state.Phase.TheVariants.{Opening, Prolog, Epilog}
-use Rattle.xtbml_subset.specs.declared.search.Tally.{Tally}
+use Rattle.xtbml_subset.specs.declared.search.Passed.{Passed}
 use Rattle.xtbml_subset.specs.Classes.{is_in}
 use Rattle.xtbml_subset.specs.Pieces.{Tag, Piece, byte, comment, declaration, start, whole, finish}
 use Rattle.xtbml_subset.specs.inside.Machine.{State, outside, past, after_names, after_piece}
 use Rattle.xtbml_subset.specs.inside.Reading.{piece_at}
 use Rattle.xtbml_subset.specs.inside.Elements.{depth_in, Found, on, found, closed, is_wanted, is_hit, step_of, elements_at, children_at}
-use Rattle.xtbml_subset.specs.inside.Searches.{Passing, Sought, seeking, hit, missed, by_step, sought_at, opens, sought_under, tallied, tally_at, tally_under, no_tally, Path, path_after, Stands, StandsUnder, Tallies, TalliesUnder, IsPath}
+use Rattle.xtbml_subset.specs.inside.Searches.{Passing, Sought, seeking, hit, missed, by_step, sought_at, opens, sought_under, tallied, tally_at, tally_under, no_tally, ElementPath, path_after, Stands, StandsUnder, Tallies, TalliesUnder, IsPath}
 use Rattle.xtbml_subset.proofs.Options.{chosen}
 use Rattle.xtbml_subset.proofs.Searching.{elements_by}
 
@@ -327,7 +327,7 @@ tally_fresh level depth name rest (hit f) under = inside f.is_open under
     inside true stands = (stands.0, let all : length (children_at name f) ≡ length (elements_at (depth - level) (Some name) rest) = ap (λ (fs : List Found). length fs) stands.1 in omega arith)
     inside false none = refl
 
-tally_step : (level depth next : ℕ) (wanted : Option (List ℕ)) (name : List ℕ) (p : Passing) (above now : Sought) (t : Tally) → p.depth ≡ depth → piece_at p.from ≡ Some (p.piece, p.rest)
+tally_step : (level depth next : ℕ) (wanted : Option (List ℕ)) (name : List ℕ) (p : Passing) (above now : Sought) (t : Passed) → p.depth ≡ depth → piece_at p.from ≡ Some (p.piece, p.rest)
     → Moves p.piece depth next → IsAbove level wanted p above now → TalliesUnder (suc level) name depth p.from above t
     → TalliesUnder (suc level) name next p.rest now (tally_under (suc level) name p above t)
 tally_step level depth next wanted name p seeking now t at read move is under =
@@ -343,7 +343,7 @@ tally_step level depth next wanted name p (hit f) now t at read move is under =
     inside true tallies = tallies_step (suc level) depth next (Some name) p (children_at name f) t.count t.is_over at read move tallies
     inside false none = none
 
-pub tally_low : (level : ℕ) (name : List ℕ) (p : Passing) (above : Sought) (t : Tally) → (tally_under level name p above t).count ≤ t.count + 1
+pub tally_low : (level : ℕ) (name : List ℕ) (p : Passing) (above : Sought) (t : Passed) → (tally_under level name p above t).count ≤ t.count + 1
 tally_low level name p above t = by_gate (opens above) t.is_over (sought_at level (Some name) p seeking)
   where
     low : (s : Sought) → (tallied t s).count ≤ t.count + 1
@@ -358,7 +358,7 @@ tally_low level name p above t = by_gate (opens above) t.is_over (sought_at leve
 
 -- ---- all searches
 
-pub path_step : (bytes : List ℕ) (state next : State) (p : Passing) (path : Path) → p.depth ≡ length state.names → piece_at p.from ≡ Some (p.piece, p.rest) → after_piece state p.piece ≡ Some next
+pub path_step : (bytes : List ℕ) (state next : State) (p : Passing) (path : ElementPath) → p.depth ≡ length state.names → piece_at p.from ≡ Some (p.piece, p.rest) → after_piece state p.piece ≡ Some next
     → IsPath bytes (length state.names) p.from path → IsPath bytes (length next.names) p.rest (path_after p path)
 path_step bytes state next p path at read goes is =
     let depth = length state.names in

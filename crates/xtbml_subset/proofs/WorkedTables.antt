@@ -2,6 +2,7 @@
 use Rattle.std.proofs.Common.{◌≡◌, ℕ, List, [], ◌∷◌, length, None, Result, refl, inl, inr, codes, lit≤}
 use Rattle.std.specs.Prelude.{⊤}
 use Rattle.decimal_text.specs.Rate.{IsRate}
+use Rattle.decimal_text.proofs.Spelt.{spelt}
 use Rattle.rate_table.specs.Rates.{Rates}
 use Rattle.xtbml_subset.specs.declared.fault.TableFault.{TableFault}
 use Rattle.xtbml_subset.specs.Answers.{IsJudged}
@@ -35,16 +36,7 @@ judged bytes answer e is = by (elements_at 0 None bytes) refl is
 pub a_tenth : IsRate (codes "0.1") 100000000
 a_tenth = (
   record { whole = codes "0"; fraction = codes "1"; raised = 0; lowered = 0 },
-  record {
-    plain = codes "0.1";
-    exponent = [];
-    joined = refl;
-    plain_is = inr refl;
-    exponent_is = (refl, refl);
-    whole_digits = ((lit≤ tt, lit≤ tt), tt);
-    fraction_digits = ((lit≤ tt, lit≤ tt), tt);
-    some_digit = lit≤ tt;
-  },
+  spelt (codes "0.1") (codes "0") (codes "1") (inr refl) ((lit≤ tt, lit≤ tt), tt) ((lit≤ tt, lit≤ tt), tt) (lit≤ tt),
   refl,
   lit≤ tt,
 )
@@ -52,16 +44,7 @@ a_tenth = (
 pub a_half : IsRate (codes ".5") 500000000
 a_half = (
   record { whole = []; fraction = codes "5"; raised = 0; lowered = 0 },
-  record {
-    plain = codes ".5";
-    exponent = [];
-    joined = refl;
-    plain_is = inr refl;
-    exponent_is = (refl, refl);
-    whole_digits = tt;
-    fraction_digits = ((lit≤ tt, lit≤ tt), tt);
-    some_digit = lit≤ tt;
-  },
+  spelt (codes ".5") [] (codes "5") (inr refl) tt ((lit≤ tt, lit≤ tt), tt) (lit≤ tt),
   refl,
   lit≤ tt,
 )
@@ -69,16 +52,7 @@ a_half = (
 pub one : IsRate (codes "1") 1000000000
 one = (
   record { whole = codes "1"; fraction = []; raised = 0; lowered = 0 },
-  record {
-    plain = codes "1";
-    exponent = [];
-    joined = refl;
-    plain_is = inl (refl, refl);
-    exponent_is = (refl, refl);
-    whole_digits = ((lit≤ tt, lit≤ tt), tt);
-    fraction_digits = tt;
-    some_digit = lit≤ tt;
-  },
+  spelt (codes "1") (codes "1") [] (inl (refl, refl)) ((lit≤ tt, lit≤ tt), tt) tt (lit≤ tt),
   refl,
   lit≤ tt,
 )

@@ -7,7 +7,7 @@ ghost use Rattle.xtbml_subset.specs.inside.Views.{found_of, path_of};
 
 use crate::fault::TableFault;
 use crate::found::Element;
-use crate::path::Path;
+use crate::path::ElementPath;
 use crate::search::Search;
 use crate::select::select_of;
 use crate::table::{table_and_axis, table_of};
@@ -18,7 +18,7 @@ use std::alloc::Global;
 pub fn any_of(
     alloc: Global,
     root: &Element<'_>,
-    found: &Path<'_>,
+    found: &ElementPath<'_>,
     total: u32,
 ) -> Result<AnyTable, TableFault>
     requires { IsFound (found_of root.now) (path_of found.now) }

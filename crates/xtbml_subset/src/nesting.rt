@@ -10,7 +10,7 @@ ghost use Rattle.xtbml_subset.specs.inside.Walk.{state_of, after_mark, fault_at,
 
 use crate::class::{Class, is_in};
 use crate::passing::Passing;
-use crate::path::Path;
+use crate::path::ElementPath;
 use crate::state::{DEEPEST, Nesting, Phase};
 use crate::text::{after_text, skip};
 use crate::token::{Token, next_token};
@@ -224,7 +224,7 @@ fn place_at_end(bytes: &[u8], rest: &[u8], nesting: &Nesting) -> Option<usize>
 /// The elements that a document's table is read from, or the place up to which the pieces of the bytes nest,
 /// which are none.
 #[tactic(auto, unfolding(crate::specs::inside::Walk::fault_at))]
-pub fn survey(bytes: &[u8]) -> Result<Path<'_>, usize>
+pub fn survey(bytes: &[u8]) -> Result<ElementPath<'_>, usize>
     requires short { length bytes.now ≤ 4194304 }
     ensures document { OnOk result (None ≡ fault_at bytes.now) }
     ensures path { IfOk result (λ path. IsPath bytes.now 0 [] (path_of path)) }
@@ -232,7 +232,7 @@ pub fn survey(bytes: &[u8]) -> Result<Path<'_>, usize>
     ensures within { IfErr result (λ at. at ≤ length bytes.now) }
 {
     let mut nesting = Nesting::new(bytes);
-    let mut path = Path::new();
+    let mut path = ElementPath::new();
     let mut rest = after_mark(bytes);
     while let Some((token, after)) = next_token(rest) {
         let passing = Passing {

@@ -3,11 +3,11 @@ ghost use Rattle.xtbml_subset.specs.inside.Searches.{path_after, no_path};
 ghost use Rattle.xtbml_subset.specs.inside.Views.{path_of, passing_of};
 
 use crate::passing::Passing;
-use crate::search::{Search, Tally};
+use crate::search::{Passed, Search};
 
 /// The elements that a table is read from, each the first of its name in the one before it.
 #[derive(Clone, Copy)]
-pub struct Path<'a> {
+pub struct ElementPath<'a> {
     pub root: Search<'a>,
     pub table: Search<'a>,
     pub about: Search<'a>,
@@ -18,14 +18,14 @@ pub struct Path<'a> {
     /// The first rate of the axis.
     pub first: Search<'a>,
     /// How many rates the axis has.
-    pub tally: Tally,
+    pub tally: Passed,
 }
 
-impl<'a> Path<'a> {
-    pub fn new() -> Path<'a>
+impl<'a> ElementPath<'a> {
+    pub fn new() -> ElementPath<'a>
         ensures { path_of result ≡ no_path }
     {
-        Path {
+        ElementPath {
             root: Search::Seeking,
             table: Search::Seeking,
             about: Search::Seeking,
@@ -33,7 +33,7 @@ impl<'a> Path<'a> {
             axis: Search::Seeking,
             inner: Search::Seeking,
             first: Search::Seeking,
-            tally: Tally {
+            tally: Passed {
                 count: 0,
                 is_over: false,
             },

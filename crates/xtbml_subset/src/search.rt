@@ -69,13 +69,13 @@ impl<'a> Search<'a> {
 
 /// How many elements of a level that are wanted passed so far.
 #[derive(Clone, Copy)]
-pub struct Tally {
+pub struct Passed {
     pub count: usize,
     /// Whether the level has ended.
     pub is_over: bool,
 }
 
-impl Tally {
+impl Passed {
     /// Takes the next piece.
     fn pass(&mut self, passing: &Passing<'_>, level: usize, wanted: Option<&[u8]>)
         requires { self.old.count < 4194304 }

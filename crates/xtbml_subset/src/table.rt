@@ -10,7 +10,7 @@ ghost use Rattle.xtbml_subset.specs.inside.Views.{found_of, found_result, found_
 use crate::class::Class;
 use crate::fault::{TableFault, TableKind};
 use crate::found::Element;
-use crate::path::Path;
+use crate::path::ElementPath;
 use crate::row::{age_at, rate_in, read_rows};
 use crate::search::Search;
 use crate::text::skip;
@@ -40,7 +40,7 @@ fn within<'a>(
 #[tactic(auto, unfolding(crate::specs::Checks::path))]
 pub fn table_and_axis<'a>(
     root: &Element<'a>,
-    found: &Path<'a>,
+    found: &ElementPath<'a>,
     total: u32,
 ) -> Result<(Element<'a>, Element<'a>), TableFault>
     requires { IsFound (found_of root.now) (path_of found.now) }
@@ -66,7 +66,7 @@ pub fn table_and_axis<'a>(
 #[tactic(auto, unfolding(crate::specs::Checks::rates_of))]
 fn check_axis<'a>(
     axis: &Element<'a>,
-    found: &Path<'a>,
+    found: &ElementPath<'a>,
     total: u32,
 ) -> Result<Element<'a>, TableFault>
     requires inner { IsFirstIn (codes "Axis") (found_of axis.now) (sought_of found.now.inner) }
@@ -159,7 +159,7 @@ pub fn rates_table(
 pub fn table_of(
     alloc: Global,
     root: &Element<'_>,
-    found: &Path<'_>,
+    found: &ElementPath<'_>,
     total: u32,
 ) -> Result<RateTable, TableFault>
     requires { IsFound (found_of root.now) (path_of found.now) }

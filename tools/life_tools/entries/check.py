@@ -1,10 +1,11 @@
 """Looks a script over before it is sent, beside a folder's journal; nothing is posted.
 
-A row is told where its day is behind today, or more than 400 days before or behind its policy's newest posting, or before
-that of its lane's posting above; where its policy's number is unknown; where an accepted posting equals it, as where a
-settlement is sent twice; where its amount isn't the policy's premium, or more than is outstanding; and where the program
-refuses it on a copy of the journal. The rows are looked at in the order in which that dry run answered them. The status
-is 1 where a row is told. The copy lies in TMPDIR: a long script is done sooner with TMPDIR=/dev/shm, as `dry-run` tells.
+A row is told where its day is behind today, or before that of its lane's posting above; where it is more than 400 days from
+its policy's newest posting, a maturity from the end of the term, and a claim only while premiums are awaited; where its
+policy's number is unknown; where an accepted posting equals it, as where a settlement is sent twice; where its
+amount isn't the policy's premium, or more than is outstanding; and where the program refuses it on a copy of the journal.
+The rows are looked at in the order in which that dry run answered them. The status is 1 where a row is told. The copy lies
+in TMPDIR: a long script is done sooner with TMPDIR=/dev/shm, as `dry-run` tells.
 """
 from __future__ import annotations
 

@@ -19,9 +19,9 @@ from life_tools.formats import MOST_LANES, MOST_SCRIPT_BYTES, Wrong, demand, num
 assert __doc__ and foreign_books.__doc__
 __doc__ += foreign_books.__doc__.partition("\n\n")[2].partition("\n\n")[2] + """
 The file and the map are UTF-8. Each premium is of the day on which it was due, and of the present premium. Lines of one
-policy are of one clerk. A script has at most 16 MiB: what goes on behind that is SCRIPT.2, SCRIPT.3 and so on, to be sent
-in order, each by its name, since *.csv doesn't name them. A row that can't be mapped is left out whole, and stands in the
-file LEFT with its line and the reason.
+policy are of one clerk. A script has at most 16 MiB: a longer one is written in parts, SCRIPT with -1, -2 and so on before
+its ending, to be sent in this order, which is that of their names. A row that can't be mapped is left out whole, and stands
+in the file LEFT with its line and the reason.
 """
 
 
@@ -45,7 +45,10 @@ def parts_of(lines: Iterator[str]) -> list[list[str]]:
 
 
 def names_of(script: str, parts: int) -> list[str]:
-    return [script if part == 1 else f"{script}.{part}" for part in range(1, parts + 1)]
+    """The script's own name, or those of its parts, of one length, so that `*.csv` names them in order."""
+    front, ending = os.path.splitext(script)
+    width = len(str(parts))
+    return [script] if parts == 1 else [f"{front}-{part:0{width}}{ending}" for part in range(1, parts + 1)]
 
 
 def write_left(path: str, made: Mapped) -> None:

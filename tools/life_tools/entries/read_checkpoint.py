@@ -2,6 +2,7 @@
 
 With a journal it also compares them with the books that the first commands of that journal leave, worked out anew by the
 rules: a checkpoint of another journal, which the program can't tell from one of this journal, is found so, with status 1.
+So is one of more commands than the journal has, which the program doesn't use.
 """
 from __future__ import annotations
 
@@ -28,11 +29,11 @@ def print_books(checkpoint: Checkpoint) -> None:
 
 
 def is_of(checkpoint: Checkpoint, path: str) -> bool:
-    """Whether these are the books of the first commands of a journal, as far as it has so many."""
+    """Whether these are the books of the first commands of a journal, which has to have so many."""
     commands = journal_at(path).commands
     if checkpoint.position > len(commands):
         remark(f"{path} has {len(commands)} commands, so the program doesn't use a checkpoint of {checkpoint.position}")
-        return True
+        return False
     return checkpoint == checkpoint_of(commands[:checkpoint.position])
 
 

@@ -1,14 +1,15 @@
 """The rows of a script that a killed run didn't reach, as a script for the next run.
 
-A killed run prints nothing. What it had accepted stands in the journal, and a lane's rows are answered in their order.
-So of each lane the rows up to the last one that the journal shows were answered, and the rest is to be run. BEFORE says
-where the run began: the number of commands accepted before it (the `count` that `life state` printed), or a copy of the
-journal from before.
+What it had accepted stands in the journal, and a lane's rows are answered in their order. So of each lane the rows up to
+the last one that the journal shows were answered, and the rest is to be run. With --printed FILE, which holds what the
+run printed before it ended, the rows that are answered there are so for certain, and their refusals and valuations
+aren't asked for again. BEFORE says where the run began: the number of commands accepted before it (the `count` that
+`life state` printed), or a copy of the journal from before; it isn't needed where an accepted line was printed.
 
 A record doesn't say whose it is. Where equal rows stand in several lanes, the records are dealt out so that each row
 in between was refused at some moment, or asked for a value or a trim: the killed run together with the rest is then one
 run of the whole script. It ends with status 1 where no run of the script leaves this journal: another script, another
-BEFORE, or a disk that failed in the run.
+BEFORE, another printed file, or a disk that failed in the run.
 """
 from __future__ import annotations
 
@@ -17,16 +18,19 @@ import os
 import sys
 
 from life_tools.commands import Command
-from life_tools.formats import MOST_COMMANDS, Wrong, demand, number_of, remark
+from life_tools.formats import MOST_COMMANDS, Wrong, demand, number_of, printed_text, remark
 from life_tools.journals import journal_at
-from life_tools.rests import History, NoRun, rest_of
+from life_tools.printed_fronts import Printed, read_front
+from life_tools.rests import History, NoRun, demand_records, rest_of
 from life_tools.script_lines import Line, lanes_of, script_at
 
 
 def arguments(parser: argparse.ArgumentParser) -> None:
     parser.add_argument("script", metavar="SCRIPT", help="the script of the killed run")
     parser.add_argument("journal", metavar="JOURNAL", help="journal.life as it is now")
-    parser.add_argument("before", metavar="BEFORE", help="how many commands were accepted before, or a journal from before")
+    parser.add_argument("before", metavar="BEFORE", nargs="?",
+                        help="how many commands were accepted before, or a journal from before")
+    parser.add_argument("--printed", metavar="FILE", help="what the run printed before it ended")
 
 
 def begun_with(before: str) -> list[Command] | int:
@@ -39,9 +43,21 @@ def begun_with(before: str) -> list[Command] | int:
     return count
 
 
-def history_at(path: str, before: str) -> History:
+def beginning(before: str | None, printed: Printed) -> list[Command] | int:
+    """Where the run began, as BEFORE says, or what was printed."""
+    if before is not None:
+        begun = begun_with(before)
+        count = begun if isinstance(begun, int) else len(begun)
+        demand(printed.begun in (None, count), f"before the run there were {count}, and by what is printed {printed.begun}")
+        return begun
+    if printed.begun is None:
+        raise Wrong("no accepted line is printed: BEFORE is needed, the number of commands accepted before the run")
+    return printed.begun
+
+
+def history_at(path: str, before: str | None, printed: Printed) -> History:
     """What the run has made of the journal, which has to go on from what was before it."""
-    begun = begun_with(before)
+    begun = beginning(before, printed)
     count = begun if isinstance(begun, int) else len(begun)
     history = History(count)
     commands = journal_at(path, history).commands
@@ -50,14 +66,16 @@ def history_at(path: str, before: str) -> History:
     return history
 
 
-def tell(lanes: dict[int, list[Line]], rest: dict[int, list[Line]], records: int) -> None:
-    """What was answered of each lane, and which valuations were lost, on standard error."""
+def tell(lanes: dict[int, list[Line]], rest: dict[int, list[Line]], records: int, printed: Printed) -> None:
+    """What was answered of each lane, which valuations were lost, and what was printed and not posted, on standard error."""
     remark(f"accepted in the run: {records}")
+    for word, line in printed.unposted:
+        remark(f"row {line.row.number} was answered {word}, and isn't in the rest: {line.row.text}")
     for lane, lines in sorted(lanes.items()):
         answered = lines[:len(lines) - len(rest[lane])]
         remark(f"lane {lane}: {len(answered)} of {len(lines)} rows were answered")
         for line in answered:
-            if line.kind == "value":
+            if line.kind == "value" and line.row.number not in printed.rows:
                 remark(f"  lost: {line.row.text}, row {line.row.number}: life value {line.day} --at POSITION prints it")
 
 
@@ -81,14 +99,18 @@ def tell_equal(answered: list[Line], rest: list[Line]) -> None:
 
 
 def run(options: argparse.Namespace) -> int:
-    lines, history = script_at(options.script), history_at(options.journal, options.before)
+    lines = script_at(options.script)
+    printed = read_front(printed_text(options.printed), lines) if options.printed else Printed()
+    history = history_at(options.journal, options.before, printed)
     try:
-        rest = rest_of(lines, history)
+        demand_records(printed, history)
+        rest = rest_of(lines, history, printed)
     except NoRun as none:
         remark(str(none))
         return 1
     left = {line.row.number for lane in rest.values() for line in lane}
-    tell(lanes_of(lines), rest, history.records)
-    tell_equal([line for line in lines if line.row.number not in left], [line for line in lines if line.row.number in left])
+    tell(lanes_of(lines), rest, history.records, printed)
+    tell_equal([line for line in lines if line.row.number not in left | printed.rows],
+               [line for line in lines if line.row.number in left])
     sys.stdout.writelines(line.row.text + "\n" for line in lines if line.row.number in left)
     return 0

@@ -8,7 +8,7 @@ use Rattle.present_value.specs.Values.{pair_of, pair_at}
 use Rattle.present_value.specs.declared.pair.Pair.{Pair}
 use Rattle.basis_book.specs.Dated.{Dated}
 use Rattle.cash_projection.specs.Survival.{alive_by, dying_by}
-use Rattle.cash_projection.specs.declared.path.Path.{Path}
+use Rattle.cash_projection.specs.declared.path.SurvivalPath.{SurvivalPath}
 use Rattle.cash_projection.specs.declared.path.PathKey.{PathKey}
 use Rattle.cash_projection.specs.declared.paths.Paths.{Paths}
 
@@ -30,7 +30,7 @@ pub record KnowsYears (rates : ℕ → ℕ) (count : ℕ) (living dead : List Pa
   pub dying : (j : ℕ) → j < count → pair_at dead j ≡ dying_pair rates j
 
 -- the years to the end of the table are known
-pub record IsSurvivalPath (table : Rates) (age : ℕ) (path : Path) : Type 0 where
+pub record IsSurvivalPath (table : Rates) (age : ℕ) (path : SurvivalPath) : Type 0 where
   pub years : ℕ
   pub whole : age + years ≡ table.first_age + length table.rates
   pub knows : KnowsYears (rates_after table age) years path.alive path.dying
@@ -44,7 +44,7 @@ abbrev pub AreRatesOf : List Dated → PathKey → Rates → Type 0
 AreRatesOf basis key rates = (entry : Dated) × (slice_get basis key.row ≡ Some entry) × (rates ≡ table_along entry.table key.issue)
 
 -- a path of an age is that of its key by its row of the basis
-abbrev pub IsRightPath : List Dated → Path → Type 0
+abbrev pub IsRightPath : List Dated → SurvivalPath → Type 0
 IsRightPath basis path = path.key.age ≤ 130 → (rates : Rates) → AreRatesOf basis path.key rates → IsSurvivalPath rates path.key.age path
 
 -- some are kept, and each that is one is right by the basis
@@ -53,13 +53,13 @@ pub record ArePaths (basis : List Dated) (paths : Paths) : Type 0 where
   pub right : All (IsRightPath basis) paths.kept.items
 
 -- the path of an age lies at a place
-pub record IsPathAt (table : Rates) (age : ℕ) (kept : List Path) (place : ℕ) : Type 0 where
+pub record IsPathAt (table : Rates) (age : ℕ) (kept : List SurvivalPath) (place : ℕ) : Type 0 where
   pub within : place < length kept
-  pub here : (none : Path) → IsSurvivalPath table age (slice_index_or kept place none)
+  pub here : (none : SurvivalPath) → IsSurvivalPath table age (slice_index_or kept place none)
 
 -- the path of a key lies at a place
-abbrev pub IsPathKept : List Path → PathKey → ℕ → Type 0
-IsPathKept kept key place = (none : Path) → (slice_index_or kept place none).key ≡ key
+abbrev pub IsPathKept : List SurvivalPath → PathKey → ℕ → Type 0
+IsPathKept kept key place = (none : SurvivalPath) → (slice_index_or kept place none).key ≡ key
 
 -- the place of a key among so many
 abbrev pub path_slot : PathKey → ℕ → ℕ

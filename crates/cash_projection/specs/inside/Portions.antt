@@ -1,6 +1,7 @@
 -- The portions of a list of policies, and what the workers of a projection make of them
 use Rattle.std.specs.Prelude.{◌≡◌, ℕ, ◌≤◌, List, [], ◌∷◌, ◌++◌, length, ℤ}
 use Rattle.std.specs.List.{AllByRecursion, AllZip}
+use Rattle.policy_types.specs.Limits.{most_commands}
 use Rattle.policy_types.specs.declared.policy.Policy.{Policy}
 use Rattle.basis_book.specs.Dated.{Dated}
 use Rattle.cash_projection.specs.Policies.{IsOfIssue}
@@ -20,7 +21,7 @@ pub record TakesPortion (projector : Projector) (portion : Portion) : Type 0 whe
   pub years : projector.years ≤ 131
   pub right : ArePaths projector.basis.now projector.paths
   pub sound : AllByRecursion IsOfIssue portion.policies.now
-  pub few : length portion.policies.now ≤ 4000000
+  pub few : length portion.policies.now ≤ most_commands
 
 -- and what it gives
 abbrev pub GivesTally : Projector → Portion → Tally → Type 0
@@ -45,4 +46,4 @@ pub record AreTalliesOfFew (years : ℕ) (tallies : List Tally) : Type 0 where
   pub on : ℤ
   pub portions : List Portion
   pub each : AreTallies basis on years portions tallies
-  pub few : length (policies_of_portions portions) ≤ 4000000
+  pub few : length (policies_of_portions portions) ≤ most_commands

@@ -1,6 +1,7 @@
 -- The sums of what policies pay and are paid.
 use Rattle.std.specs.Prelude.{◌≡◌, ℕ, ◌+◌, ◌*◌, ◌<◌, ◌≤◌, List, length, slice_index_or, ℤ, Result}
 use Rattle.std.specs.List.{AllByRecursion, AllZip}
+use Rattle.policy_types.specs.Limits.{most_commands}
 use Rattle.policy_types.specs.declared.policy.Policy.{Policy}
 use Rattle.rate_table.specs.Rates.{Rates}
 use Rattle.rate_table.specs.declared.shape.Shape.{Shape}
@@ -68,8 +69,8 @@ pub record IsTallyOf (basis : List Dated) (on : ℤ) (years : ℕ) (policies : L
 -- no sum of so many years is above what 4,000,000 policies add up to
 pub record IsRoomy (years : ℕ) (sums : List Sums) : Type 0 where
   pub places : length sums ≡ 131
-  pub lo : (j : ℕ) → j < years → (sum_at sums j).lo ≤ 4000000 * MOST_PART
-  pub hi : (j : ℕ) → j < years → (sum_at sums j).hi ≤ 4000000 * MOST_PART
+  pub lo : (j : ℕ) → j < years → (sum_at sums j).lo ≤ most_commands * MOST_PART
+  pub hi : (j : ℕ) → j < years → (sum_at sums j).hi ≤ most_commands * MOST_PART
 
 -- each sum of so many years is that of both
 pub record AreBothSums (years : ℕ) (ours theirs new : List Sums) : Type 0 where
@@ -79,7 +80,7 @@ pub record AreBothSums (years : ℕ) (ours theirs new : List Sums) : Type 0 wher
 
 -- the tally is of at most 4,000,000 policies
 pub record IsSized (tally : Tally) : Type 0 where
-  pub policies : tally.policies ≤ 4000000
+  pub policies : tally.policies ≤ most_commands
   pub unvalued : tally.unvalued ≤ tally.policies
   pub years : tally.years ≤ 131
   pub premium : IsRoomy tally.years tally.premium.sums
@@ -88,7 +89,7 @@ pub record IsSized (tally : Tally) : Type 0 where
 
 -- there is room for one policy more
 abbrev pub TakesOneMore : Tally → Type 0
-TakesOneMore tally = IsSized tally × (tally.policies < 4000000)
+TakesOneMore tally = IsSized tally × (tally.policies < most_commands)
 
 -- nothing is due in any year
 pub record IsIdle (p : Prospect) : Type 0 where

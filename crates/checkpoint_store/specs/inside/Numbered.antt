@@ -1,17 +1,15 @@
 -- What the books by number are the books of, for the contracts of the steps alone
-use Rattle.std.specs.Prelude.{◌≡◌, nat_eq, ◌+◌, List, None}
+use Rattle.std.specs.Prelude.{◌≡◌, nat_eq, ◌+◌, List}
 use Rattle.std.specs.List.{AllByRecursion, IsDistinct}
 use Rattle.std.specs.Map.{keys_of}
 use Rattle.indexmap.specs.IndexMap.{insert_entry}
 use Rattle.money_ledgers.specs.Balances.{balances}
-use Rattle.policy_machine.specs.Book.{IsAccepted, judge}
+use Rattle.policy_machine.specs.Book.{IsAccepted}
 use Rattle.policy_types.specs.Accounts.{added, booking_of}
 use Rattle.policy_types.specs.declared.command.Command.{Command}
 use Rattle.policy_types.specs.declared.policy.Policy.{Policy}
 use Rattle.policy_types.specs.Valid.{IsValid, id_of}
 use Rattle.checkpoint_store.specs.declared.numbered.NumberedBooks.{NumberedBooks}
-use Rattle.checkpoint_store.specs.declared.numbered.Untaken.{Untaken}
-use Rattle.checkpoint_store.specs.declared.numbered.Untaken.TheVariants.{Refused, NoMemory}
 use Rattle.checkpoint_store.specs.declared.snapshot.Snapshot.{Snapshot}
 use Rattle.checkpoint_store.specs.Checkpoints.{IsSnapshotOf, IsSoundSnapshot}
 use Rattle.checkpoint_store.specs.inside.Books.{AreKeyed, numbered_policies}
@@ -42,8 +40,3 @@ pub record HasSetPolicy (old new : NumberedBooks) (command : Command) (policy : 
   pub position : new.position ≡ old.position + 1
   pub upgrade : new.upgrade ≡ old.upgrade
   pub ledger : balances new.ledger ≡ added (balances old.ledger) (booking_of command policy)
-
--- why a command isn't taken after these
-abbrev pub IsUntaken : List Command → Command → Untaken → Type 0
-IsUntaken commands command Refused = judge commands command ≡ None → ⊥
-IsUntaken commands command NoMemory = Unit {0}

@@ -1,7 +1,7 @@
 -- A row that is read field by field
 use Rattle.std.specs.Prelude.{◌≡◌, ◌≢◌, ℕ, ◌+◌, List, [], ◌∷◌, ◌++◌, length, drop, take}
 use Rattle.csv.specs.Records.{fields_of}
-use Rattle.command_csv.specs.declared.fields.Fields.{Fields}
+use Rattle.command_csv.specs.declared.fields.LineFields.{LineFields}
 use Rattle.policy_types.specs.declared.script.Line.{Line}
 use Rattle.command_csv.specs.declared.kind.Kind.{Kind}
 use Rattle.command_csv.specs.declared.row.ClerkLine.{ClerkLine}
@@ -10,28 +10,28 @@ use Rattle.command_csv.specs.Spelling.{line_fields}
 use Rattle.command_csv.specs.inside.Forms.{StopsAfter, kind_spelling}
 
 -- the fields that weren't asked for yet
-abbrev pub left_of : Fields → List (List ℕ)
+abbrev pub left_of : LineFields → List (List ℕ)
 left_of fields = drop fields.asked (fields_of fields.row.now)
 
 -- the next field was asked for: it is this text, of what fits
-pub record Took (Fits : Type 0) (text : List ℕ) (old new : Fields) : Type 0 where
+pub record Took (Fits : Type 0) (text : List ℕ) (old new : LineFields) : Type 0 where
   pub fits : Fits
   pub spelled : left_of old ≡ text ∷ left_of new
   pub counted : new.asked ≡ old.asked + 1
 
 -- the next field was asked for: it is missing, or the text of nothing that fits
-pub record Missed {X : Type 0} (Fits : X → Type 0) (text_of : X → List ℕ) (old new : Fields) : Type 0 where
+pub record Missed {X : Type 0} (Fits : X → Type 0) (text_of : X → List ℕ) (old new : LineFields) : Type 0 where
   pub none : (x : X) → Fits x → take 1 (left_of old) ≢ text_of x ∷ []
   pub counted : new.asked ≡ old.asked + 1
 
 -- the field that was asked for last is the first that doesn't fit the form
-pub record StopsIn (Form : List (List ℕ) → Type 0) (old new : Fields) : Type 0 where
+pub record StopsIn (Form : List (List ℕ) → Type 0) (old new : LineFields) : Type 0 where
   pub fitting : ℕ
   pub number : new.asked ≡ old.asked + fitting + 1
   pub bad : StopsAfter Form (left_of old) fitting
 
 -- the fields that were asked for are those of a right line of the kind, behind the kind's word
-pub record HoldsLine (kind : Kind) (old new : Fields) (line : Line) : Type 0 where
+pub record HoldsLine (kind : Kind) (old new : LineFields) (line : Line) : Type 0 where
   pub right : IsScriptLine line
   pub spelled : kind_spelling kind ∷ left_of old ≡ line_fields line ++ left_of new
   pub counted : new.asked ≡ length (line_fields line) + 1

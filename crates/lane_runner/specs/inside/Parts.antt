@@ -1,5 +1,6 @@
 -- The parts of running lanes
 use Rattle.std.specs.Prelude.{◌≡◌, ℕ, zero, suc, ◌+◌, ◌≤◌, ◌<◌, Some, slice_get, List, [], ◌∷◌, ◌++◌, length, map, Result, Ok, Err, Vec, vec_capacity}
+use Rattle.rtrb.specs.Ring.{IsPair, SameProducer, known_free, received, sent}
 use Rattle.std.specs.Global.{Global}
 use Rattle.std.specs.List.{AllByRecursion, AllZip, flat_map}
 use Rattle.basis_book.specs.Dated.{Dated}
@@ -16,6 +17,8 @@ use Rattle.snapshot_value.specs.declared.valuation.Valuation.{Valuation}
 use Rattle.snapshot_value.specs.declared.valuation.ValueFault.{ValueFault}
 use Rattle.snapshot_value.specs.declared.valuation.ValueFault.TheVariants.{Pin, NoMemory}
 use Rattle.lane_runner.specs.declared.transcript.TranscriptLine.{TranscriptLine}
+use Rattle.lane_runner.specs.declared.telling.Outlet.{Outlet}
+use Rattle.lane_runner.specs.declared.telling.Inlet.{Inlet}
 use Rattle.lane_runner.specs.declared.transcript.Outcome.{Outcome}
 use Rattle.lane_runner.specs.declared.transcript.Outcome.TheVariants.{Valued, ValueRefused, ValueNoMemory}
 use Rattle.lane_runner.specs.AnsweredLines.{AnsweredLine, turns_in}
@@ -53,19 +56,30 @@ pub record HasAnswered {D W : Type 0} (basis : List Dated) (number : ℕ) (lines
   pub opening : new.opening ≡ Some opened
   pub tells : AllZip (IsTold opened.opening new.seen basis) answered tolds
 
--- a lane's pass, and the memory for its lines
+-- a lane's pass, and where it tells its lines
 abbrev pub Seat : Type 0 → Type 0 → Type 0
-Seat D W = Holding (OfficeOpening D W) × Vec TranscriptLine Global
+Seat D W = Holding (OfficeOpening D W) × Outlet
 
--- nothing stands in it yet, and there is room for the lane's lines
-pub record IsRoomFor (lane : Lane) (memory : Vec TranscriptLine Global) : Type 0 where
-  pub empty : memory.items ≡ []
-  pub enough : length lane.lines ≤ vec_capacity memory
+-- nothing was told yet, and there is room for the lane's lines
+pub record IsRoomFor (lane : Lane) (outlet : Outlet) : Type 0 where
+  pub none : sent outlet.ring ≡ []
+  pub enough : length lane.lines ≤ known_free outlet.ring
 
--- the memory for lanes: a room for each, and room for as many passes and callers, and for all lines
-pub record HasLaneRoom {D W : Type 0} (lanes : List Lane) (rooms : Vec (Vec TranscriptLine Global) Global) (seats : Vec (Seat D W) Global)
-    (callers : Vec ℕ Global) (lines : Vec TranscriptLine Global) : Type 0 where
-  pub fitting : AllZip IsRoomFor lanes rooms.items
+-- the lane's lines have yet to come
+pub record IsInletFor (lane : Lane) (inlet : Inlet) : Type 0 where
+  pub none : received inlet.ring ≡ []
+  pub left : inlet.left ≡ length lane.lines
+
+-- the two ends of one ring
+abbrev pub AreEnds : Outlet → Inlet → Type 0
+AreEnds outlet inlet = IsPair outlet.ring inlet.ring
+
+-- the memory for lanes: a ring for each, and room for as many passes and callers, and for all lines
+pub record HasLaneRoom {D W : Type 0} (lanes : List Lane) (outlets : Vec Outlet Global) (inlets : Vec Inlet Global)
+    (seats : Vec (Seat D W) Global) (callers : Vec ℕ Global) (lines : Vec TranscriptLine Global) : Type 0 where
+  pub fitting : AllZip IsRoomFor lanes outlets.items
+  pub fed : AllZip IsInletFor lanes inlets.items
+  pub ends : AllZip AreEnds outlets.items inlets.items
   pub no_seats : seats.items ≡ []
   pub seats_enough : length lanes ≤ vec_capacity seats
   pub no_callers : callers.items ≡ []
@@ -83,6 +97,10 @@ shares_to_enter zero = 1
 shares_to_enter (suc n) = shares_to_enter n + shares_to_enter n
 
 module _ {D W : Type 0} where
+  -- the lines that a lane has told
+  abbrev pub told_in : Seat D W → List TranscriptLine
+  told_in seat = sent seat.1.ring
+
   -- what all passes have left, and their shares
   abbrev pub all_left : List (Seat D W) → ℕ
   all_left [] = 0
@@ -102,8 +120,8 @@ module _ {D W : Type 0} where
     pub left : 33554432 ≤ given.left
     pub facts : PassFacts IsOfficeHistory given
 
-  -- passes were entered, one for each room
-  pub record HasEntered (old new : Holding (OfficeOpening D W)) (rooms : List (Vec TranscriptLine Global)) (seats : List (Seat D W))
+  -- passes were entered, one for each outlet
+  pub record HasEntered (old new : Holding (OfficeOpening D W)) (outlets : List Outlet) (seats : List (Seat D W))
       : Type 0 where
     pub turnstile : new.turnstile ≡ old.turnstile
     pub opening : new.opening ≡ old.opening
@@ -114,7 +132,7 @@ module _ {D W : Type 0} where
     pub left : new.left + all_left seats + length seats ≡ old.left
     pub shares : new.shares + all_shares_in seats ≡ old.shares
     pub fresh : AllByRecursion (λ (seat : Seat D W). IsFresh old seat.0) seats
-    pub rooms_are : map (λ (seat : Seat D W). seat.1) seats ≡ rooms
+    pub outlets_are : map (λ (seat : Seat D W). seat.1) seats ≡ outlets
 
   -- the lane may be run in this seat
   pub record IsReadySeat (office : TableId) (lane : Lane) (seat : Seat D W) : Type 0 where
@@ -125,8 +143,9 @@ module _ {D W : Type 0} where
 
   -- the lane was run in this seat
   pub record HasRunIn (basis : List Dated) (lane : Lane) (old new : Seat D W) : Type 0 where
-    pub answered : HasAnswered basis lane.number lane.lines old.0 new.0 new.1.items
+    pub answered : HasAnswered basis lane.number lane.lines old.0 new.0 (told_in new)
     pub facts : PassFacts IsOfficeHistory new.0
+    pub ring : SameProducer old.1.ring new.1.ring
 
   abbrev pub IsReadyAt : TableId → List Lane → ℕ → Seat D W → Type 0
   IsReadyAt office lanes index seat = (lane : Lane) → slice_get lanes index ≡ Some lane → IsReadySeat office lane seat
@@ -139,6 +158,25 @@ module _ {D W : Type 0} where
   HaveRun basis [] [] [] = Unit {0}
   HaveRun basis (lane ∷ lanes) (old ∷ olds) (new ∷ news) = HasRunIn basis lane old new × HaveRun basis lanes olds news
   HaveRun _ _ _ _ = ⊥
+
+  -- the ends of the lane's ring
+  abbrev pub IsEndOf : Seat D W → Inlet → Type 0
+  IsEndOf seat inlet = AreEnds seat.1 inlet
+
+  -- no line more was told
+  pub record IsSameSeat (old new : Seat D W) : Type 0 where
+    pub pass : new.0 ≡ old.0
+    pub ring : SameProducer old.1.ring new.1.ring
+    pub told : told_in new ≡ told_in old
+
+  -- as many lines were taken as the lane has told
+  pub record IsSpent (seat : Seat D W) (inlet : Inlet) : Type 0 where
+    pub ends : AreEnds seat.1 inlet
+    pub many : length (received inlet.ring) ≡ length (told_in seat)
+
+  -- the lines that were taken are those that the lane has told
+  abbrev pub IsWhole : Seat D W → Inlet → Type 0
+  IsWhole seat inlet = received inlet.ring ≡ told_in seat
 
   -- the passes were taken back
   pub record HasLeft (old new : Holding (OfficeOpening D W)) (seats : List (Seat D W)) : Type 0 where

@@ -9,16 +9,16 @@ use Rattle.checkpoint_store.specs.Spelling.{balance_bytes, policy_bytes, positio
 use Rattle.checkpoint_store.specs.Worked.{issued_file, issued_snapshot}
 use Rattle.checkpoint_store.proofs.ClaimedFile.{issued_checkpoint, issued_sound}
 use Rattle.checkpoint_store.proofs.OneSnapshot.{one_snapshot}
-use Rattle.book_state.specs.Books.{books_text}
-use Rattle.book_state.specs.Stating.{EndsState}
+use Rattle.stating_modes.specs.Books.{books_text}
+use Rattle.stating_modes.specs.Stating.{EndsState}
 use Rattle.life_dates.specs.Anniversary.{anniversary_of}
 use Rattle.life_dates.specs.Calendar.{day_number, date_of, date_at, year_of, month_of, days_before, days_before_year, days_of_months}
 use Rattle.life_dates.specs.DayText.{day_text}
 use Rattle.policy_machine.proofs.LedgerLemmas.{sum_of-ledger}
 use Rattle.statements.specs.Statements.{account_line, count_text, policy_text}
-use Rattle.kept_books.specs.Stated.{EndsStateKept, snapshot_text}
-use Rattle.kept_books.specs.Saved.{EndsCheckpoint, IsNoneOrEarlierOrHeld}
-use Rattle.kept_books.specs.TwoDisks.{AreTrue, IsHeldWhereTrue, IsMadeSafe, TellsTruth}
+use Rattle.stating_modes.specs.Stated.{EndsStateKept, snapshot_text}
+use Rattle.stating_modes.specs.Saved.{EndsCheckpoint, IsNoneOrEarlierOrHeld}
+use Rattle.stating_modes.specs.TwoDisks.{AreTrue, IsHeldWhereTrue, IsMadeSafe, TellsTruth}
 use Rattle.life_args.specs.declared.mode.Mode.TheVariants.{Checkpoint, Run, State}
 use Rattle.life_args.proofs.Answering.{ask_once}
 use Rattle.life_args.proofs.WorkedWords.{asks, asks_nothing}

@@ -10,8 +10,8 @@ use Rattle.life_dates.specs.Calendar.{day_number, date_of, date_at, year_of, mon
 use Rattle.basis_shelf.specs.Lines.{bad_basis_text}
 use Rattle.basis_shelf.specs.declared.fault.BasisWord.TheVariants.{Absent}
 use Rattle.basis_book.specs.Dated.{Dated, IsPicked}
-use Rattle.book_value.specs.Worked.Valued.{five_endowments, from_2000, from_2020}
-use Rattle.book_value.proofs.WorkedValuation.{first_row, second_row, third_row, fourth_row, fifth_row}
+use Rattle.valuing_modes.specs.Worked.Valued.{five_endowments, from_2000, from_2020}
+use Rattle.valuing_modes.proofs.WorkedValuation.{first_row, second_row, third_row, fourth_row, fifth_row}
 use Rattle.life_dates.specs.DayText.{day_text}
 use Rattle.plan_benefits.specs.declared.fault.NotValued.TheVariants.{BelowTable, NoBasis}
 use Rattle.policy_value.specs.declared.worth.Worth.TheVariants.{Bounds, Word}

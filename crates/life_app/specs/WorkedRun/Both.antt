@@ -10,11 +10,11 @@ use Rattle.policy_types.specs.declared.command.Command.{Command}
 use Rattle.program_endings.specs.Status.{status_of}
 use Rattle.program_endings.specs.declared.ending.Ending.{Ending}
 use Rattle.program_endings.specs.declared.ending.Ending.TheVariants.{Done, Usage, BadJournal}
-use Rattle.book_state.specs.Books.{books_text}
-use Rattle.book_state.specs.Stating.{EndsState}
-use Rattle.kept_books.specs.Saved.{EndsCheckpoint}
-use Rattle.kept_books.specs.Stated.{EndsStateKept}
-use Rattle.kept_books.specs.TwoDisks.{AreTrue, IsMadeSafe, TellsTruth, TwoDisks}
+use Rattle.stating_modes.specs.Books.{books_text}
+use Rattle.stating_modes.specs.Stating.{EndsState}
+use Rattle.stating_modes.specs.Saved.{EndsCheckpoint}
+use Rattle.stating_modes.specs.Stated.{EndsStateKept}
+use Rattle.stating_modes.specs.TwoDisks.{AreTrue, IsMadeSafe, TellsTruth, TwoDisks}
 use Rattle.life_app.specs.DueKept.{AreGood, IsDueOfBoth}
 use Rattle.life_app.specs.KeptRuns.{AreRunsOfTwo, IsLeftByCall, IsRunOfTwo, IsSnapshotOfFirst, KeepsSecond, LeavesSaved, LeavesSecond, OneRunOfTwo, SavedOfFirst, SavesBooks, WasCutAfter, WasCutBefore, WasLeftOf}
 use Rattle.life_app.specs.Obeys.{EndsUnasked, SaysUnasked}

@@ -2,7 +2,7 @@
 use Rattle.std.specs.Prelude.{ℕ, List, None, [], ◌∷◌, ◌++◌, codes, pos, String}
 use Rattle.std.specs.Global.{Global}
 use Rattle.basis_book.specs.Dated.{Dated, IsPicked}
-use Rattle.book_value.specs.Worked.Valued.{five_endowments, from_2000, from_2020}
+use Rattle.valuing_modes.specs.Worked.Valued.{five_endowments, from_2000, from_2020}
 use Rattle.outside_io.specs.Shelves.{Absent}
 use Rattle.plan_benefits.specs.Shapes.{shape_of}
 use Rattle.policy_types.specs.declared.entry.Reply.TheVariants.{Faulted}
@@ -17,8 +17,8 @@ use Rattle.office_state.specs.Journals.{Opens}
 use Rattle.office_state.specs.Worked.{hand_issue, hand_premium, premium_turn}
 use Rattle.program_endings.specs.Writing.{Shelving}
 use Rattle.program_endings.specs.declared.ending.Ending.TheVariants.{Done, BadBasis, NoMemory}
-use Rattle.book_projection.specs.Projecting.{EndsProject}
-use Rattle.book_value.specs.Valuing.{EndsValue}
+use Rattle.valuing_modes.specs.Projecting.{EndsProject}
+use Rattle.valuing_modes.specs.Valuing.{EndsValue}
 use Rattle.life_args.specs.declared.mode.Mode.TheVariants.{State}
 use Rattle.policy_types.specs.declared.entry.At.TheVariants.{Now}
 use Rattle.policy_value.specs.declared.worth.Measure.TheVariants.{Terminal}

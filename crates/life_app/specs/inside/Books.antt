@@ -4,9 +4,9 @@ use Rattle.std.specs.Global.{Global}
 use Rattle.policy_types.specs.declared.watcher.NoMemory.{NoMemory as Lack}
 use Rattle.life_args.specs.declared.mode.Mode.{Mode}
 use Rattle.life_args.specs.declared.mode.Mode.TheVariants.{State, Checkpoint as ACheckpoint}
-use Rattle.kept_books.specs.TwoDisks.{TwoDisks}
-use Rattle.life_app.specs.declared.kept.Books.{Books}
-use Rattle.life_app.specs.declared.kept.Books.TheVariants.{State as ToState, Checkpoint as ToSave}
+use Rattle.stating_modes.specs.TwoDisks.{TwoDisks}
+use Rattle.life_app.specs.declared.kept.BookMode.{BookMode}
+use Rattle.life_app.specs.declared.kept.BookMode.TheVariants.{State as ToState, Checkpoint as ToSave}
 use Rattle.life_app.specs.declared.kept.EndedKept.{EndedKept}
 use Rattle.life_app.specs.ObeysKept.{AskForBooks, AskForBoth}
 use Rattle.life_app.specs.Words.{AskForCheckpoint}
@@ -22,13 +22,13 @@ IsOfBoth ACheckpoint = Unit {0}
 IsOfBoth _ = ⊥
 
 -- which one it is, if it is one
-abbrev pub IsBooksOf : Mode → Option Books → Type 0
+abbrev pub IsBooksOf : Mode → Option BookMode → Type 0
 IsBooksOf mode (Some ToState) = mode ≡ State None
 IsBooksOf mode (Some ToSave) = mode ≡ ACheckpoint
 IsBooksOf mode None = ¬ IsOfBoth mode
 
 -- which one the words ask for, if one; or there was no memory to read them
-abbrev pub GivesBooks : List (String Global) → Result (Option Books) Lack → Type 0
+abbrev pub GivesBooks : List (String Global) → Result (Option BookMode) Lack → Type 0
 GivesBooks words (Ok (Some ToState)) = AskForBooks words
 GivesBooks words (Ok (Some ToSave)) = AskForCheckpoint words
 GivesBooks words (Ok None) = ¬ AskForBoth words

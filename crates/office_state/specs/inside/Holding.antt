@@ -10,8 +10,8 @@ use Rattle.policy_machine.specs.History.{Opening, commands_after, fault_of}
 use Rattle.record_codec.specs.Spelling.{spelling_of}
 use Rattle.posting_journal.specs.States.{StandsFor, disk_of, is_clean}
 use Rattle.posting_journal.specs.declared.journal.Journal.{Journal}
+use Rattle.journal_replay.specs.Replays.{bodies_of}
 use Rattle.office_state.specs.Images.{IsPending}
-use Rattle.office_state.specs.Journals.{bodies_of}
 
 -- a fault left this body behind the commands' records, and the posting of its command is pending
 pub record IsLeftBehind (opening : Opening) (turns : List Entry) (body : List ℕ) : Type 0 where

@@ -13,7 +13,7 @@ use Rattle.money_ledgers.specs.Balances.{balances}
 use Rattle.money_ledgers.specs.declared.ledger.Ledger.{Ledger}
 use Rattle.policy_machine.specs.Accounts.{ledger_of}
 use Rattle.policy_machine.specs.Book.{IsAccepted, IsAcceptedAfter, upgrade_of}
-use Rattle.policy_versions.specs.Commands.{sets_of}
+use Rattle.office_state.specs.versions.Commands.{sets_of}
 use Rattle.versioned_book.specs.Books.{IsBookOf, IsBookOf-prop}
 use Rattle.versioned_book.specs.declared.book.VersionedBook.{VersionedBook}
 

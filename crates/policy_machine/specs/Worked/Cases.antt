@@ -3,9 +3,10 @@
 use Rattle.std.specs.Prelude.{◌≡◌, ℕ, List, [], ◌∷◌, ℤ, pos, Some, None}
 use Rattle.policy_types.specs.declared.command.Command.{Command}
 use Rattle.policy_types.specs.declared.command.Command.TheVariants.{Issue, Premium, Lapse, Claim}
-use Rattle.policy_types.specs.declared.command.Plan.TheVariants.{Endowment}
+use Rattle.policy_types.specs.declared.command.Plan.TheVariants.{Endowment, Term}
 use Rattle.policy_types.specs.declared.policy.Policy.{Policy}
 use Rattle.policy_types.specs.declared.policy.Status.{Status}
+use Rattle.policy_types.specs.declared.policy.Status.TheVariants.{InForce}
 use Rattle.policy_types.specs.declared.refusal.Refusal.{Refusal}
 use Rattle.policy_types.specs.declared.entry.Call.{Call}
 use Rattle.policy_types.specs.declared.entry.Call.TheVariants.{Post}
@@ -43,6 +44,22 @@ policy_with last paid status outstanding = record {
   paid = paid;
   status = status;
   outstanding = outstanding;
+}
+
+-- a term policy of 50,000.00 for twenty years at age 30, with an annual premium of 200.00, as it is issued on the same day
+abbrev pub term_policy : ℕ → Policy
+term_policy id = record {
+  id = id;
+  plan = Term;
+  age = 30;
+  years = 20;
+  amount = 5000000;
+  premium = 20000;
+  issued = pos 18262;
+  last = pos 18262;
+  paid = 0;
+  status = InForce;
+  outstanding = 0;
 }
 
 -- the right premium, on a day

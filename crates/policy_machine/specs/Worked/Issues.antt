@@ -6,7 +6,7 @@ use Rattle.policy_types.specs.declared.policy.Status.TheVariants.{InForce}
 use Rattle.policy_types.specs.declared.refusal.Refusal.TheVariants.{Taken}
 use Rattle.policy_types.specs.declared.entry.Reply.TheVariants.{Accepted, Refused}
 use Rattle.policy_machine.specs.History.{IsLegalAfter}
-use Rattle.policy_machine.specs.Worked.Cases.{LeavePolicies, Refuses, policy_issue, claimed, empty_office, posting}
+use Rattle.policy_machine.specs.Worked.Cases.{LeavePolicies, Refuses, policy_issue, term_policy, claimed, empty_office, posting}
 
 -- the policy is accepted as number 1 of the journal, and a second time refused as taken
 abbrev pub IssuedTwice : Type 0
@@ -23,19 +23,7 @@ FourPlans = LeavePolicies
     ∷ Issue 7003 (pos 18293) Whole 129 0 100001 40000
     ∷ Issue 7002 (pos 18294) Endowment 1 3 100002 40001
     ∷ Issue 7001 (pos 18322) Limited 128 2 300000 50000 ∷ [])
-    (record {
-      id = 7004;
-      plan = Term;
-      age = 30;
-      years = 20;
-      amount = 5000000;
-      premium = 20000;
-      issued = pos 18262;
-      last = pos 18262;
-      paid = 0;
-      status = InForce;
-      outstanding = 0;
-    }
+    (term_policy 7004
     ∷ record {
       id = 7003;
       plan = Whole;

@@ -11,26 +11,14 @@ use Rattle.policy_types.specs.declared.entry.Reply.TheVariants.{Accepted, Pinned
 use Rattle.policy_types.specs.declared.entry.PinRefusal.TheVariants.{Ahead, Trimmed, PinsFull}
 use Rattle.policy_types.specs.declared.entry.Entry.{Entry}
 use Rattle.policy_machine.specs.History.{IsDue, IsLegalAfter}
-use Rattle.policy_machine.specs.Worked.Cases.{policy_issue, policy_with, premium_on, empty_office, turn, posting}
+use Rattle.policy_machine.specs.Worked.Cases.{policy_issue, policy_with, premium_on, term_policy, empty_office, turn, posting}
 
 -- another policy, and as it is issued
 abbrev pub second_issue : Command
 second_issue = Issue 7002 (pos 18262) Term 30 20 5000000 20000
 
 abbrev pub second_policy : Policy
-second_policy = record {
-  id = 7002;
-  plan = Term;
-  age = 30;
-  years = 20;
-  amount = 5000000;
-  premium = 20000;
-  issued = pos 18262;
-  last = pos 18262;
-  paid = 0;
-  status = InForce;
-  outstanding = 0;
-}
+second_policy = term_policy 7002
 
 -- turn 1 pins one policy, unpaid; turn 4 pins two, the first of them paid
 abbrev pub pinned_turns : List Entry

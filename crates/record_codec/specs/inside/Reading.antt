@@ -5,10 +5,10 @@ use Rattle.policy_types.specs.declared.command.Command.{Command}
 use Rattle.policy_types.specs.declared.command.Command.TheVariants.{Issue, Premium, Alter, Lapse, Reinstate, Claim, Settle, Mature, PaidUp, Upgrade}
 use Rattle.policy_types.specs.declared.command.Plan.{Plan}
 use Rattle.policy_types.specs.declared.command.Plan.TheVariants.{Term, Whole, Endowment, Limited}
-use Rattle.record_codec.specs.declared.fields.Fields.{Fields}
+use Rattle.record_codec.specs.declared.fields.RecordFields.{RecordFields}
 
 -- the numbers fit their bytes
-pub record AreInRange (f : Fields) : Type 0 where
+pub record AreInRange (f : RecordFields) : Type 0 where
   pub id_in : f.id < 2 ^ 32
   pub day_in : FitsSigned w32 f.day
   pub amount_in : f.amount < 2 ^ 64
@@ -21,7 +21,7 @@ plan_at byte =
     else if byte == 3 then Some Endowment else if byte == 4 then Some Limited else None
 
 -- the command of which these may be the fields
-abbrev pub command_at : Fields → Option Command
+abbrev pub command_at : RecordFields → Option Command
 command_at f =
     if f.kind == 1 then option_map (λ plan. Issue f.id f.day plan f.age f.years f.amount f.premium) (plan_at f.plan)
     else if f.kind == 2 then Some (Premium f.id f.day f.amount)

@@ -1,15 +1,16 @@
 -- How a run ends by what was told of its lines
-use Rattle.std.specs.Prelude.{◌≡◌, ◌⊎◌, true, false, List, codes, Result, Ok, Err}
+use Rattle.std.specs.Prelude.{◌≡◌, ◌⊎◌, ℕ, ◌≤◌, Option, true, false, List, codes, Result, Ok, Err}
 use Rattle.outside_io.specs.Faults.{Rose}
 use Rattle.outside_io.specs.Streams.{AppendsPart}
 use Rattle.policy_types.specs.declared.watcher.NoMemory.{NoMemory as Lack}
 use Rattle.policy_types.specs.declared.watcher.Report.{Report}
 use Rattle.lane_runner.specs.declared.transcript.TranscriptLine.{TranscriptLine}
-use Rattle.lane_runner.specs.declared.transcript.Transcript.{Transcript}
+use Rattle.lane_runner.specs.declared.running.Ran.{Ran}
+use Rattle.lane_runner.specs.Written.{HasEnded}
 use Rattle.program_endings.specs.declared.ending.Ending.{Ending}
 use Rattle.program_endings.specs.declared.ending.Ending.TheVariants.{Done, WriteFault, DiskFault as DiskFailed, NoMemory as NoRoom}
-use Rattle.program_endings.specs.Writing.{Stream, WroteAll, WroteLine, WroteNothing}
-use Rattle.transcript_text.specs.Told.{any_faulted, any_lacked, run_text}
+use Rattle.program_endings.specs.Writing.{Stream, WroteAll, WroteLine}
+use Rattle.transcript_text.specs.Told.{any_faulted, any_lacked, run_text, told_texts}
 
 -- How a run ends whose lines were answered: by what was written of its text, and then by whether the disk failed in one of
 -- them, or memory was lacking
@@ -20,12 +21,23 @@ EndsTold lines reports output DiskFailed = (any_faulted lines ≡ true) × Wrote
 EndsTold lines reports output WriteFault =
     Rose output.faults_before output.faults_after × AppendsPart output.before output.after (run_text lines reports)
 EndsTold lines reports output NoRoom =
-    WroteNothing output (run_text lines reports)
+    AppendsPart output.before output.after (run_text lines reports)
     ⊎ ((any_faulted lines ≡ false) × (any_lacked lines ≡ true) × WroteAll output (run_text lines reports))
 EndsTold lines reports output _ = ⊥
 
+-- an output since a first moment, up to where its count of faults and its bytes are these
+abbrev pub output_until : Stream → ℕ → Option (List ℕ) → Stream
+output_until first faults after =
+    record { faults_before = first.faults_before; faults_after = faults; before = first.before; after = after }
+
+-- since a first moment of the output the text of the answered lines was written, or a front of it
+abbrev pub IsWritten : Stream → ℕ → Option (List ℕ) → Result Ran Lack → Type 0
+IsWritten first faults after (Ok ran) =
+    (first.faults_before ≤ faults) × HasEnded first.faults_before faults first.before after (told_texts ran.transcript.lines) ran.written
+IsWritten first faults after (Err lack) = (faults ≡ first.faults_before) × (after ≡ first.before)
+
 -- the lanes were run, or there was no memory to run them
-abbrev pub EndsRan : Result Transcript Lack → List Report → Stream → Ending → Type 0
-EndsRan (Ok transcript) reports output ending = EndsTold transcript.lines reports output ending
+abbrev pub EndsRan : Result Ran Lack → List Report → Stream → Ending → Type 0
+EndsRan (Ok ran) reports output ending = EndsTold ran.transcript.lines reports output ending
 EndsRan (Err lack) reports output NoRoom = WroteLine output (codes "nomemory")
 EndsRan (Err lack) reports output _ = ⊥

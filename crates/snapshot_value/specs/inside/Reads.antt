@@ -1,26 +1,59 @@
 -- What the reads of a pin's policies do, whatever is made of the policies
-use Rattle.std.specs.Prelude.{◌≡◌, ℕ, ◌<◌, List, [], ◌∷◌, ◌++◌, length, take, Result, Ok, Err}
+use Rattle.std.specs.Prelude.{◌≡◌, ℕ, ◌+◌, ◌*◌, ◌/◌, ◌<◌, List, [], ◌∷◌, ◌++◌, length, map, take, drop, Option, None, Some, Result, Ok, Err}
 use Rattle.policy_types.specs.declared.policy.Policy.{Policy}
 use Rattle.policy_types.specs.declared.entry.Call.{Call}
-use Rattle.policy_types.specs.declared.entry.Call.TheVariants.{Unpin}
+use Rattle.policy_types.specs.declared.entry.Call.TheVariants.{Read, Unpin}
 use Rattle.policy_types.specs.declared.watcher.NoMemory.{NoMemory as Lack}
+use Rattle.policy_machine.specs.History.{policies_per_read}
 use Rattle.policy_machine.specs.Merge.{Placed, reads_of}
+use Rattle.schedule_laws.specs.PinnedReads.{book_at}
 use Rattle.office_state.specs.declared.held.Held.{Held}
 use Rattle.turn_lock.specs.Passes.{Holding}
 use Rattle.shared_office.specs.Offices.{OfficeOpening}
 use Rattle.snapshot_value.specs.Growing.{Grows}
-use Rattle.snapshot_value.specs.Valuing.{most_turns}
-use Rattle.snapshot_value.specs.inside.Parts.{HasReadSome, calls_of, policies_at}
+use Rattle.snapshot_value.specs.Reading.{most_turns}
 use Rattle.snapshot_value.specs.declared.valuation.ValueFault.{ValueFault}
 use Rattle.snapshot_value.specs.declared.valuation.ValueFault.TheVariants.{Pin, NoMemory}
 
+-- the calls of some turns
+abbrev pub calls_of : List Placed → List Call
+calls_of placed = map (λ (turn : Placed). turn.1.call) placed
+
+-- the reads that so many policies need
+abbrev pub reads_needed : ℕ → ℕ
+reads_needed policies = (policies + 255) / policies_per_read
+
 module _ {D W : Type 0} where
-  -- the first k reads of a pin
-  pub record HasReadFirst (pin : Held) (k : ℕ) (old new : Holding (OfficeOpening D W)) : Type 0 where
+  -- the policies at a position, by what the pass has seen
+  abbrev pub policies_at : Holding (OfficeOpening D W) → ℕ → List Policy
+  policies_at pass position = after pass.opening
+    where
+      after : Option (OfficeOpening D W) → List Policy
+      after None = []
+      after (Some opened) = book_at opened.opening pass.seen position
+
+  -- the read of a pin's k-th part
+  pub record HasReadPart (pin : Held) (k : ℕ) (part : List Policy) (old new : Holding (OfficeOpening D W)) : Type 0 where
+    pub read : Placed
+    pub grows : Grows old new (read ∷ [])
+    pub call : read.1.call ≡ Read pin.number (policies_per_read * k)
+    pub stays : policies_at new pin.position ≡ policies_at old pin.position
+    pub filled : part ≡ take policies_per_read (drop (policies_per_read * k) (policies_at old pin.position))
+
+  -- the first k reads of a pin, by whose policies something stands so
+  pub record HasReadFirst (Has : List Policy → Type 0) (pin : Held) (k : ℕ) (old new : Holding (OfficeOpening D W)) : Type 0 where
     pub reads : List Placed
     pub grows : Grows old new reads
     pub calls : calls_of reads ≡ take k (reads_of pin.number pin.policies)
     pub stays : policies_at new pin.position ≡ policies_at old pin.position
+    pub has : Has (take (policies_per_read * k) (policies_at old pin.position))
+
+  -- the first reads of a pin, or none
+  pub record HasReadSome (pin : Held) (old new : Holding (OfficeOpening D W)) : Type 0 where
+    pub reads : List Placed
+    pub grows : Grows old new reads
+    pub many : ℕ
+    pub calls : calls_of reads ≡ take many (reads_of pin.number pin.policies)
 
   -- all reads of a pin
   pub record HasReadEach (pin : Held) (old new : Holding (OfficeOpening D W)) : Type 0 where
@@ -28,12 +61,12 @@ module _ {D W : Type 0} where
     pub grows : Grows old new reads
     pub calls : calls_of reads ≡ reads_of pin.number pin.policies
 
-  -- all reads of a pin, which gave its policies, or for want of memory just some
-  abbrev pub HasReadBook : Held → Holding (OfficeOpening D W) → Holding (OfficeOpening D W) → Result (List Policy) Lack → Type 0
-  HasReadBook pin old new (Ok policies) = HasReadEach pin old new × (policies ≡ policies_at old pin.position)
-  HasReadBook pin old new (Err lack) = HasReadSome pin old new
-
   module _ {Made : Type 0} (IsOf : ℕ → List Policy → Made → Type 0) where
+    -- all reads of a pin, and what was made of its policies, or for want of memory just some
+    abbrev pub HasMadeOfReads : Held → Holding (OfficeOpening D W) → Holding (OfficeOpening D W) → Result Made Lack → Type 0
+    HasMadeOfReads pin old new (Ok made) = HasReadEach pin old new × IsOf pin.position (policies_at old pin.position) made
+    HasMadeOfReads pin old new (Err lack) = HasReadSome pin old new
+
     -- what follows a pin, and what is answered
     abbrev pub FollowsReads : Held → Holding (OfficeOpening D W) → List Call → Result Made ValueFault → Type 0
     FollowsReads pin old calls (Ok made) =

@@ -1,6 +1,6 @@
 -- The searches for the elements that a table is read from, as the pieces of a file pass.
 use Rattle.std.specs.Prelude.{◌≡◌, ℕ, ◌+◌, ◌-◌, ◌≤◌, Bool, true, false, length, if◌then◌else◌, ◌==◌, List, [], ◌∷◌, Option, None, Some, MatchBool, codes}
-use Rattle.xtbml_subset.specs.declared.search.Tally.{Tally}
+use Rattle.xtbml_subset.specs.declared.search.Passed.{Passed}
 use Rattle.xtbml_subset.specs.Pieces.{Piece}
 use Rattle.xtbml_subset.specs.inside.Elements.{Found, Step, on, found, closed, step_of, depth_in, elements_at, children_at, siblings_at}
 
@@ -37,23 +37,23 @@ opens missed = false
 abbrev pub sought_under : ℕ → List ℕ → Passing → Sought → Sought → Sought
 sought_under level name passing above search = if opens above then sought_at level (Some name) passing search else search
 
-abbrev pub tallied : Tally → Sought → Tally
+abbrev pub tallied : Passed → Sought → Passed
 tallied tally seeking = tally
 tallied tally (hit f) = record { count = tally.count + 1; is_over = tally.is_over }
 tallied tally missed = record { count = tally.count; is_over = true }
 
 -- the elements of a level are counted as they pass, until the level ends
-abbrev pub tally_at : ℕ → Option (List ℕ) → Passing → Tally → Tally
+abbrev pub tally_at : ℕ → Option (List ℕ) → Passing → Passed → Passed
 tally_at level wanted passing tally = if tally.is_over then tally else tallied tally (sought_at level wanted passing seeking)
 
-abbrev pub tally_under : ℕ → List ℕ → Passing → Sought → Tally → Tally
+abbrev pub tally_under : ℕ → List ℕ → Passing → Sought → Passed → Passed
 tally_under level name passing above tally = if opens above then tally_at level (Some name) passing tally else tally
 
-abbrev pub no_tally : Tally
+abbrev pub no_tally : Passed
 no_tally = record { count = 0; is_over = false }
 
 -- the root, and below it the first element of each name
-pub record Path : Type 0 where
+pub record ElementPath : Type 0 where
   pub root : Sought
   pub table : Sought
   pub about : Sought
@@ -61,12 +61,12 @@ pub record Path : Type 0 where
   pub axis : Sought
   pub inner : Sought
   pub first : Sought
-  pub tally : Tally
+  pub tally : Passed
 
-abbrev pub no_path : Path
+abbrev pub no_path : ElementPath
 no_path = record { root = seeking; table = seeking; about = seeking; values = seeking; axis = seeking; inner = seeking; first = seeking; tally = no_tally }
 
-abbrev pub path_after : Passing → Path → Path
+abbrev pub path_after : Passing → ElementPath → ElementPath
 path_after passing path = record {
   root = sought_at 0 None passing path.root;
   table = sought_under 1 (codes "Table") passing path.root path.table;
@@ -92,19 +92,19 @@ StandsUnder level name depth rest (hit f) search =
 StandsUnder level name depth rest missed search = Unit {0}
 
 -- where a count of elements stands
-abbrev pub Tallies : ℕ → Option (List ℕ) → ℕ → List ℕ → List Found → Tally → Type 0
+abbrev pub Tallies : ℕ → Option (List ℕ) → ℕ → List ℕ → List Found → Passed → Type 0
 Tallies level wanted depth rest elements tally =
     MatchBool tally.is_over
     (length elements ≡ tally.count)
     ((level ≤ depth) × (length elements ≡ tally.count + length (elements_at (depth - level) wanted rest)))
 
-abbrev pub TalliesUnder : ℕ → List ℕ → ℕ → List ℕ → Sought → Tally → Type 0
+abbrev pub TalliesUnder : ℕ → List ℕ → ℕ → List ℕ → Sought → Passed → Type 0
 TalliesUnder level name depth rest seeking tally = tally ≡ no_tally
 TalliesUnder level name depth rest (hit f) tally =
     MatchBool f.is_open (Tallies level (Some name) depth rest (children_at name f) tally) (tally ≡ no_tally)
 TalliesUnder level name depth rest missed tally = Unit {0}
 
-pub record IsPath (bytes : List ℕ) (depth : ℕ) (rest : List ℕ) (path : Path) : Type 0 where
+pub record IsPath (bytes : List ℕ) (depth : ℕ) (rest : List ℕ) (path : ElementPath) : Type 0 where
   pub root : Stands 0 None depth rest (elements_at 0 None bytes) path.root
   pub table : StandsUnder 1 (codes "Table") depth rest path.root path.table
   pub about : StandsUnder 2 (codes "MetaData") depth rest path.table path.about
@@ -127,12 +127,12 @@ IsFirstUnder name seeking search = Unit {0}
 IsFirstUnder name (hit parent) search = IsFirstIn name parent search
 IsFirstUnder name missed search = Unit {0}
 
-abbrev pub IsCountUnder : List ℕ → Sought → Tally → Type 0
+abbrev pub IsCountUnder : List ℕ → Sought → Passed → Type 0
 IsCountUnder name seeking tally = Unit {0}
 IsCountUnder name (hit parent) tally = length (children_at name parent) ≡ tally.count
 IsCountUnder name missed tally = Unit {0}
 
-pub record IsFound (root : Found) (path : Path) : Type 0 where
+pub record IsFound (root : Found) (path : ElementPath) : Type 0 where
   pub table : IsFirstIn (codes "Table") root path.table
   pub about : IsFirstUnder (codes "MetaData") path.table path.about
   pub values : IsFirstUnder (codes "Values") path.table path.values

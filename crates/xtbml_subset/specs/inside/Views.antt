@@ -6,9 +6,9 @@ use Rattle.xtbml_subset.specs.declared.finder.Seen.TheVariants as seen
 use Rattle.xtbml_subset.specs.declared.search.Search.{Search}
 use Rattle.xtbml_subset.specs.declared.search.Search.TheVariants as search
 use Rattle.xtbml_subset.specs.declared.passing.Passing.{Passing as APassing}
-use Rattle.xtbml_subset.specs.declared.path.Path.{Path as APath}
+use Rattle.xtbml_subset.specs.declared.path.ElementPath.{ElementPath as APath}
 use Rattle.xtbml_subset.specs.inside.Tokens.{piece_of, tag_of}
-use Rattle.xtbml_subset.specs.inside.Searches.{Sought, seeking, hit, missed, Passing, Path}
+use Rattle.xtbml_subset.specs.inside.Searches.{Sought, seeking, hit, missed, Passing, ElementPath}
 use Rattle.xtbml_subset.specs.inside.Elements.{Found, Step, on, found, closed}
 
 abbrev pub found_of : Element → Found
@@ -27,7 +27,7 @@ sought_of search.Missed = missed
 abbrev pub passing_of : APassing → Passing
 passing_of passing = record { piece = piece_of passing.token; depth = passing.depth; from = passing.from.now; rest = passing.after.now }
 
-abbrev pub path_of : APath → Path
+abbrev pub path_of : APath → ElementPath
 path_of path = record {
   root = sought_of path.root;
   table = sought_of path.table;

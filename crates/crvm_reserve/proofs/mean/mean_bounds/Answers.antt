@@ -3,6 +3,19 @@ use Rattle.crvm_reserve.proofs.MeanValues.{mean_parts_at}
 use Rattle.crvm_reserve.proofs.MeanEnclosed.{net-close, mean_end, mean_reserve_end}
 use Rattle.crvm_reserve.proofs.mean.mean_bounds.Goals as goal
 
+pub mean_by-requires-clause-made : goal.mean_by-requires-clause-made
+mean_by-requires-clause-made c =
+    let made = c.requires.made in
+    let before : c.args.t < made.cover.n = omega (arith, made.made.columns_are.years, c.requires.year, c.if-t-columns.false) in
+    let now = c.at.ensures made.cover made.made.columns_are (omega (arith, before)) in
+    let next = c.at-2.ensures made.cover made.made.columns_are (omega (arith, before)) in
+    record {
+      cover = made.cover;
+      cap = made.cap;
+      year = c.args.t;
+      are = mean_parts_at made.cover made.cap c.args.columns.now c.args.premium.now c.args.t _ _ made.made before now next;
+    }
+
 pub returns-then-t-columns-clause-rounded : goal.returns-then-t-columns-clause-rounded
 returns-then-t-columns-clause-rounded c = λ cover cap made.
     c.reserve_bounds.ensures.rounded cover cap made

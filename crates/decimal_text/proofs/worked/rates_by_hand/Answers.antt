@@ -1,5 +1,6 @@
 use Rattle.std.proofs.Common.{◌≡◌, ℕ, List, [], ◌∷◌, ◌++◌, ◌+◌, ◌<◌, length, refl, inl, inr, codes, lit≤, arith}
 use Rattle.decimal_text.specs.Decimal.{Decimal, IsPlain, Spells}
+use Rattle.decimal_text.proofs.Spelt.{spelt}
 use Rattle.decimal_text.proofs.worked.rates_by_hand.Goals as goal
 
 -- a text that is empty has no digit, and so it is with a point alone
@@ -15,76 +16,31 @@ pub returns-clause-plain : goal.returns-clause-plain
 returns-clause-plain c = (
   (
     record { whole = codes "0"; fraction = codes "00042"; raised = 0; lowered = 0 },
-    record {
-      plain = codes "0.00042";
-      exponent = [];
-      joined = refl;
-      plain_is = inr refl;
-      exponent_is = (refl, refl);
-      whole_digits = ((lit≤ tt, lit≤ tt), tt);
-      fraction_digits = ((lit≤ tt, lit≤ tt), ((lit≤ tt, lit≤ tt), ((lit≤ tt, lit≤ tt), ((lit≤ tt, lit≤ tt), ((lit≤ tt, lit≤ tt), tt)))));
-      some_digit = lit≤ tt;
-    },
+    spelt (codes "0.00042") (codes "0") (codes "00042") (inr refl) ((lit≤ tt, lit≤ tt), tt) ((lit≤ tt, lit≤ tt), ((lit≤ tt, lit≤ tt), ((lit≤ tt, lit≤ tt), ((lit≤ tt, lit≤ tt), ((lit≤ tt, lit≤ tt), tt))))) (lit≤ tt),
     refl,
     lit≤ tt,
   ),
   (
     record { whole = codes "1"; fraction = []; raised = 0; lowered = 0 },
-    record {
-      plain = codes "1";
-      exponent = [];
-      joined = refl;
-      plain_is = inl (refl, refl);
-      exponent_is = (refl, refl);
-      whole_digits = ((lit≤ tt, lit≤ tt), tt);
-      fraction_digits = tt;
-      some_digit = lit≤ tt;
-    },
+    spelt (codes "1") (codes "1") [] (inl (refl, refl)) ((lit≤ tt, lit≤ tt), tt) tt (lit≤ tt),
     refl,
     lit≤ tt,
   ),
   (
     record { whole = []; fraction = codes "5"; raised = 0; lowered = 0 },
-    record {
-      plain = codes ".5";
-      exponent = [];
-      joined = refl;
-      plain_is = inr refl;
-      exponent_is = (refl, refl);
-      whole_digits = tt;
-      fraction_digits = ((lit≤ tt, lit≤ tt), tt);
-      some_digit = lit≤ tt;
-    },
+    spelt (codes ".5") [] (codes "5") (inr refl) tt ((lit≤ tt, lit≤ tt), tt) (lit≤ tt),
     refl,
     lit≤ tt,
   ),
   (
     record { whole = codes "1"; fraction = []; raised = 0; lowered = 0 },
-    record {
-      plain = codes "1.";
-      exponent = [];
-      joined = refl;
-      plain_is = inr refl;
-      exponent_is = (refl, refl);
-      whole_digits = ((lit≤ tt, lit≤ tt), tt);
-      fraction_digits = tt;
-      some_digit = lit≤ tt;
-    },
+    spelt (codes "1.") (codes "1") [] (inr refl) ((lit≤ tt, lit≤ tt), tt) tt (lit≤ tt),
     refl,
     lit≤ tt,
   ),
   (
     record { whole = codes "0"; fraction = []; raised = 0; lowered = 0 },
-    record {
-      plain = codes "0";
-      exponent = [];
-      joined = refl;
-      plain_is = inl (refl, refl);
-      exponent_is = (refl, refl);
-      whole_digits = ((lit≤ tt, lit≤ tt), tt);
-      fraction_digits = tt;
-      some_digit = lit≤ tt;
-    },
+    spelt (codes "0") (codes "0") [] (inl (refl, refl)) ((lit≤ tt, lit≤ tt), tt) tt (lit≤ tt),
     refl,
     lit≤ tt,
   ),

@@ -1,13 +1,15 @@
-use Rattle.std.proofs.Common.{refl, sym, subst, [], ◌∙◌, arith, rules}
+use Rattle.std.proofs.Common.{◌+◌, [], ◌∷◌, ◌++◌, take, refl, sym, subst, ◌∙◌, arith, rules}
+use Rattle.rtrb.specs.Ring.{sent}
 use Rattle.lane_runner.specs.inside.Parts.{HasAnswered}
 use Rattle.lane_runner.proofs.AnswerSteps.{answered_next, answered_none, next_left}
+use Rattle.lane_runner.proofs.TellSteps.{may_follow}
 use Rattle.lane_runner.proofs.answering.answer_lines.Goals as goal
 
 pub loop-line-init : goal.loop-line-init
 loop-line-init g c = record {
-  each_len = search rules;
-  room = refl;
-  answered = subst (HasAnswered c.args.basis.now c.args.number [] c.args.pass.now c.args.pass.now) (sym c.requires.empty)
+  ring = ((refl, refl, refl, refl), refl);
+  room = omega arith;
+  answered = subst (HasAnswered c.args.basis.now c.args.number [] c.args.pass.now c.args.pass.now) (sym c.requires.none)
       (answered_none c.args.basis.now c.args.number c.args.pass.now c.requires.facts);
   facts = c.requires.facts;
 }
@@ -17,12 +19,32 @@ answer_line-answered-requires-clause-left g c κs within =
     next_left c.args.asked.now c.loop-line.line-index _ c.loop-line.pass.left _ c.args.pass.now.left c.loop-line-test.true c.requires.left
     c.loop-line.invariant.answered.grows.left c.loop-line.invariant.answered.few
 
+pub hand_over-requires-clause-room : goal.hand_over-requires-clause-room
+hand_over-requires-clause-room g c = omega (arith, c.requires.room, c.loop-line.invariant.room, c.loop-line-test.true)
+
+pub hand_over-requires-clause-follows : goal.hand_over-requires-clause-follows
+hand_over-requires-clause-follows g c =
+    may_follow c.args.basis.now c.args.number (take (c.loop-line.line-index + 1) c.args.asked.now) _ c.args.pass.now c.loop-line.pass
+    c.answer_line-answered.new.pass (sent c.loop-line.outlet.ring) c.answer_line-answered.result.told c.answer_line-answered.ensures.facts
+    (answered_next c.args.basis.now c.args.number c.args.asked.now c.loop-line.line-index _ c.args.pass.now c.loop-line.pass
+    c.answer_line-answered.new.pass (sent c.loop-line.outlet.ring) (sent c.loop-line.outlet.ring ++ c.answer_line-answered.result.told ∷ [])
+    c.answer_line-answered.result.told c.loop-line-test.true refl c.loop-line.invariant.answered c.answer_line-answered.ensures.answered)
+    c.answer_line-answered.ensures.answered (search rules)
+
 pub loop-line-preserved : goal.loop-line-preserved
 loop-line-preserved g c = record {
-  each_len = omega (arith, c.push_reserved.ensures.len, c.loop-line.invariant.each_len);
-  room = c.push_reserved.ensures.capacity ∙ c.loop-line.invariant.room;
+  ring = (
+    (
+      c.hand_over.ensures.ring.0.0 ∙ c.loop-line.invariant.ring.0.0,
+      c.hand_over.ensures.ring.0.1 ∙ c.loop-line.invariant.ring.0.1,
+      c.hand_over.ensures.ring.0.2 ∙ c.loop-line.invariant.ring.0.2,
+      c.hand_over.ensures.ring.0.3 ∙ c.loop-line.invariant.ring.0.3,
+    ),
+    c.hand_over.ensures.ring.1 ∙ c.loop-line.invariant.ring.1,
+  );
+  room = omega (arith, c.hand_over.ensures.room, c.loop-line.invariant.room);
   answered = answered_next c.args.basis.now c.args.number c.args.asked.now c.loop-line.line-index _ c.args.pass.now c.loop-line.pass
-      c.answer_line-answered.new.pass c.loop-line.lines.items c.push_reserved.new.self.items c.answer_line-answered.result
-      c.loop-line-test.true c.push_reserved.ensures.items c.loop-line.invariant.answered c.answer_line-answered.ensures.answered;
+      c.answer_line-answered.new.pass (sent c.loop-line.outlet.ring) (sent c.hand_over.new.outlet.ring) c.answer_line-answered.result.told
+      c.loop-line-test.true c.hand_over.ensures.sent c.loop-line.invariant.answered c.answer_line-answered.ensures.answered;
   facts = c.answer_line-answered.ensures.facts;
 }

@@ -1,15 +1,8 @@
 use Rattle.std.proofs.Common.{◌≡◌, [], ◌∷◌, ◌++◌, length, sym, ap, ◌∙◌, subst, append_assoc, length-append, arith, rules}
 use Rattle.std.specs.List.{AllByRecursion}
 use Rattle.std.specs.Vec.Iter.{into_iter_items}
-use Rattle.lane_runner.proofs.SeatSteps.{callers_push, items_push, left_more, lines_fit}
+use Rattle.lane_runner.proofs.SeatSteps.{callers_push, left_more}
 use Rattle.lane_runner.proofs.running.leave_all.Goals as goal
-
-pub put_behind-requires : goal.put_behind-requires
-put_behind-requires g c =
-    let fit = lines_fit c.args.seats.items c.loop-seat.yielded (into_iter_items c.next.new.self) c.in-Some.seat _
-    (c.loop-seat.invariant.rest ∙ ap (λ back. c.loop-seat.yielded ++ back) c.in-Some.ensures.steps.0) c.requires.lines.1 in
-    let long = ap length c.loop-seat.invariant.lines in
-    omega (arith, fit, long, c.loop-seat.invariant.lines_enough)
 
 pub loop-seat-preserved : goal.loop-seat-preserved
 loop-seat-preserved g c = record {
@@ -26,8 +19,6 @@ loop-seat-preserved g c = record {
       ∙ callers_push c.loop-seat.yielded c.in-Some.seat c.loop-seat.callers.items c.caller.result c.loop-seat.invariant.callers c.caller.ensures.number;
   callers_len = omega (arith, c.push_reserved.ensures.len, c.loop-seat.invariant.callers_len, length-append c.loop-seat.yielded (c.in-Some.seat ∷ []));
   callers_enough = c.push_reserved.ensures.capacity ∙ c.loop-seat.invariant.callers_enough;
-  lines = c.put_behind.ensures.lines ∙ items_push c.loop-seat.yielded c.in-Some.seat c.loop-seat.all.items c.loop-seat.invariant.lines;
-  lines_enough = omega (arith, c.put_behind.ensures.room, c.loop-seat.invariant.lines_enough);
   left = left_more c.args.pass.now c.loop-seat.pass c.leave.new.pass c.in-Some.seat.0 c.loop-seat.yielded c.in-Some.seat.1 c.loop-seat.invariant.left
       c.leave.ensures.leaves;
 }

@@ -1,5 +1,5 @@
-use Rattle.std.proofs.Common.{◌≡◌, ◌≤◌, ◌++◌, length, map, vec_len, vec_capacity}
-use Rattle.std.specs.List.{AllByRecursion, flat_map}
+use Rattle.std.proofs.Common.{◌≡◌, ◌++◌, length, map, vec_len, vec_capacity}
+use Rattle.std.specs.List.{AllByRecursion}
 use Rattle.std.specs.Vec.Iter.{into_iter_items, into_iter_len}
 use Rattle.lane_runner.specs.inside.Parts.{HasLeft}
 use Rattle.lane_runner.proofs.running.leave_all.Given as goal
@@ -14,7 +14,5 @@ invariant-loop-seat g l = record {
   callers : l.callers.items ≡ map (λ seat. seat.0.caller) l.yielded;
   callers_len : vec_len l.callers ≡ length l.yielded;
   callers_enough : vec_capacity l.callers ≡ vec_capacity l.fn.callers;
-  lines : l.all.items ≡ flat_map (λ seat. seat.1.items) l.yielded;
-  lines_enough : vec_capacity l.fn.all ≤ vec_capacity l.all;
   left : HasLeft l.fn.pass l.pass l.yielded;
 }

@@ -1,30 +1,35 @@
-use Rattle.std.proofs.Common.{List, length, ◌∙◌, subst, arith}
-use Rattle.std.specs.List.Sorted.{IsPermutation}
+use Rattle.std.proofs.Common.{List, length, sym, ◌∙◌, subst, arith}
 use Rattle.lane_runner.specs.declared.transcript.TranscriptLine.{TranscriptLine}
+use Rattle.lane_runner.specs.Written.{HasEnded, line_texts}
 use Rattle.lane_runner.specs.inside.Parts.{IsRoomFor}
 use Rattle.lane_runner.proofs.SeatSteps.{shares_for_all, turns_for_all, zip_length}
-use Rattle.lane_runner.proofs.RunSteps.{are_ready, has_run, lanes_are, news_many, seats_ours, told_many}
+use Rattle.lane_runner.proofs.RunSteps.{are_ready, has_run, lanes_are, news_many, seats_ours}
+use Rattle.lane_runner.proofs.SettleSteps.{ends_entered}
 use Rattle.lane_runner.proofs.LaneSteps.{answered_as}
 use Rattle.lane_runner.proofs.running.run_in.Goals as goal
 
 pub enter_all-requires-clause-left : goal.enter_all-requires-clause-left
 enter_all-requires-clause-left g c =
-    let many = zip_length IsRoomFor c.args.lanes.now c.args.room.rooms.items c.requires.room.fitting in
-    turns_for_all (length c.args.room.rooms.items) c.args.pass.now.left (omega (arith, many, c.requires.lanes.few)) c.requires.left
+    let many = zip_length IsRoomFor c.args.lanes.now c.args.room.outlets.items c.requires.room.fitting in
+    turns_for_all (length c.args.room.outlets.items) c.args.pass.now.left (omega (arith, many, c.requires.lanes.few)) c.requires.left
 
 pub enter_all-requires-clause-shares : goal.enter_all-requires-clause-shares
 enter_all-requires-clause-shares g c =
-    let many = zip_length IsRoomFor c.args.lanes.now c.args.room.rooms.items c.requires.room.fitting in
-    shares_for_all (length c.args.room.rooms.items) c.args.pass.now.shares (omega (arith, many, c.requires.lanes.few)) c.requires.shares
+    let many = zip_length IsRoomFor c.args.lanes.now c.args.room.outlets.items c.requires.room.fitting in
+    shares_for_all (length c.args.room.outlets.items) c.args.pass.now.shares (omega (arith, many, c.requires.lanes.few)) c.requires.shares
 
 pub enter_all-requires-clause-room : goal.enter_all-requires-clause-room
 enter_all-requires-clause-room g c =
-    let many = zip_length IsRoomFor c.args.lanes.now c.args.room.rooms.items c.requires.room.fitting in
+    let many = zip_length IsRoomFor c.args.lanes.now c.args.room.outlets.items c.requires.room.fitting in
     omega (arith, many, c.requires.room.seats_enough)
 
 pub run_seats-requires-clause-ready : goal.run_seats-requires-clause-ready
 run_seats-requires-clause-ready g c κs within = are_ready c.args.office.now c.args.pass.now c.enter_all.new.pass c.args.lanes.now
-    c.args.room.rooms.items c.enter_all.new.seats.items c.requires.lanes c.requires.room.fitting c.enter_all.ensures.entered c.requires.ours
+    c.args.room.outlets.items c.enter_all.new.seats.items c.requires.lanes c.requires.room.fitting c.enter_all.ensures.entered c.requires.ours
+
+pub run_seats-requires-clause-ends : goal.run_seats-requires-clause-ends
+run_seats-requires-clause-ends g c κs within = ends_entered c.enter_all.new.seats.items c.args.room.outlets.items c.args.room.inlets.items
+    c.enter_all.ensures.entered.outlets_are c.requires.room.ends
 
 pub leave_all-requires-clause-ours : goal.leave_all-requires-clause-ours
 leave_all-requires-clause-ours g c = (
@@ -38,20 +43,20 @@ leave_all-requires-clause-callers g c =
     let many = news_many c.args.basis.now c.args.lanes.now c.enter_all.new.seats.items c.run_seats.new.seats.items c.run_seats.ensures.run in
     (c.requires.room.no_callers, omega (arith, many, c.requires.room.callers_enough))
 
-pub leave_all-requires-clause-lines : goal.leave_all-requires-clause-lines
-leave_all-requires-clause-lines g c =
-    let many = told_many c.args.basis.now c.args.lanes.now c.enter_all.new.seats.items c.run_seats.new.seats.items c.run_seats.ensures.run in
-    (c.requires.room.no_lines, omega (arith, many, c.requires.room.lines_enough))
-
 pub returns-clause-answered : goal.returns-clause-answered
 returns-clause-answered g c =
-    answered_as c.args.basis.now c.args.lanes.now c.args.pass.now c.leave_all.new.pass c.run_seats.new.seats.items c.put_in_order.new.lines.items
+    answered_as c.args.basis.now c.args.lanes.now c.args.pass.now c.leave_all.new.pass c.run_seats.new.seats.items c.run_seats.new.lines.items
     c.requires.lanes c.caller-2.ensures.facts
-    (has_run c.args.basis.now c.args.lanes.now c.args.pass.now c.enter_all.new.pass c.leave_all.new.pass c.args.room.rooms.items c.enter_all.new.seats.items
+    (has_run c.args.basis.now c.args.lanes.now c.args.pass.now c.enter_all.new.pass c.leave_all.new.pass c.args.room.outlets.items c.enter_all.new.seats.items
     c.run_seats.new.seats.items c.requires.lanes c.enter_all.ensures.entered c.run_seats.ensures.run c.leave_all.ensures.left c.caller.ensures.facts
     c.caller-2.ensures.facts)
-    (lanes_are c.args.basis.now c.args.lanes.now c.args.pass.now c.enter_all.new.pass c.leave_all.new.pass c.args.room.rooms.items
+    (lanes_are c.args.basis.now c.args.lanes.now c.args.pass.now c.enter_all.new.pass c.leave_all.new.pass c.args.room.outlets.items
     c.enter_all.new.seats.items c.run_seats.new.seats.items c.requires.lanes c.enter_all.ensures.entered c.run_seats.ensures.run
     c.leave_all.ensures.left c.caller.ensures.facts c.caller-2.ensures.facts)
-    (subst (λ (l : List TranscriptLine). IsPermutation l c.put_in_order.new.lines.items) c.leave_all.ensures.lines c.put_in_order.ensures.moved)
-    c.put_in_order.ensures.sorted c.new.result c.new-2.result (c.new.ensures ∙ c.leave_all.ensures.callers) c.new-2.ensures
+    c.run_seats.ensures.moved c.run_seats.ensures.sorted c.new.result c.new-2.result (c.new.ensures ∙ c.leave_all.ensures.callers) c.new-2.ensures
+
+pub returns-clause-wrote : goal.returns-clause-wrote
+returns-clause-wrote g c =
+    subst (λ (lines : List TranscriptLine). HasEnded (g.K.Sink.faults c.args.output.now) (g.K.Sink.faults c.run_seats.new.output)
+    (g.K.Sink.written c.args.output.now) (g.K.Sink.written c.run_seats.new.output) (line_texts g.X.Wording.text lines) c.written.result) (sym c.new-2.ensures)
+    (c.written.ensures _ _ _ _ _ c.run_seats.ensures.put)

@@ -1,10 +1,9 @@
-use Rattle.std.proofs.Common.{◌≡◌, ◌≤◌, ◌<◌, ◌++◌, ℕ, zero, suc, [], ◌∷◌, List, ap, refl, inl, inr, lit<, lit≤, arith}
-use Rattle.std.specs.Prelude.{slice_index, replicate}
+use Rattle.std.proofs.Common.{◌≡◌, ◌≤◌, ◌++◌, ℕ, zero, suc, [], ◌∷◌, List, ap, refl, inl, inr, lit<, lit≤, arith}
+use Rattle.std.specs.Prelude.{slice_index}
 use Rattle.record_codec.specs.Spelling.{spelling_of}
 use Rattle.posting_journal.specs.Files.{HasRecords}
 use Rattle.posting_journal.specs.Layout.{gate_place}
 use Rattle.posting_journal.proofs.WorkedFiles.{not_unfinished}
-use Rattle.office_state.specs.Journals.{bodies_of}
 use Rattle.office_state.specs.Worked.{hand_issue, issue_body, issue_record}
 use Rattle.office_state.proofs.WorkedOffices.{valid_issue, not_again}
 use Rattle.office_state.proofs.worked.shown_by_hand.Goals as goal

@@ -1,29 +1,42 @@
-use Rattle.std.proofs.Common.{◌≡◌, List, ℕ, ap, inl, inr, refl, subst, Err}
+use Rattle.std.proofs.Common.{List, ℕ, codes, inl, subst, sym, ◌∙◌}
 use Rattle.outside_io.specs.Shelves.{Files}
+use Rattle.policy_types.specs.declared.script.Lane.{Lane}
+use Rattle.load_maker.specs.GeneratedLanes.{generated_lanes}
 use Rattle.basis_shelf.specs.Bases.{IsBasis}
-use Rattle.basis_shelf.specs.declared.fault.NoBasis.TheVariants.{ReadFault}
-use Rattle.program_endings.specs.WithoutBasis.{EndsNoBasis}
+use Rattle.lone_office.specs.Beginning.{HasNotBegun}
+use Rattle.lone_office.proofs.BeginningSteps.{ends_not_begun}
 use Rattle.program_endings.specs.Writing.{Shelving, Stream, between, shelf_between}
-use Rattle.program_endings.proofs.BasisSteps.{no_basis}
+use Rattle.trial_load.specs.Loading.{EndsLoading}
+use Rattle.trial_load.specs.inside.Loaded.{AreLoadLanes}
+use Rattle.trial_load.proofs.LoadLanes.{load_lanes}
+use Rattle.trial_load.proofs.LoadSteps.{ends_unbegun}
 use Rattle.trial_load.proofs.loading.load.Goals as goal
+
+pub load_office-requires-clause-lanes : goal.load_office-requires-clause-lanes
+load_office-requires-clause-lanes g c κs within =
+    subst (λ (lanes : List Lane). AreLoadLanes lanes) (sym c.as_slice-lanes.ensures)
+    (load_lanes c.args.lanes c.args.count c.in-Ok-make_lanes.script c.in-Ok-make_lanes.ensures.dealt c.requires.lanes.1 c.requires.count.1)
+
+pub returns-in-Ok-begin-clause-ends : goal.returns-in-Ok-begin-clause-ends
+returns-in-Ok-begin-clause-ends g c =
+    let out : Stream = between g.K.Sink.faults g.K.Sink.written c.begin.new.output c.load_office.new.output in
+    let begun = c.in-Ok-begin.ensures.begun in
+    inl (record {
+      basis = c.in-Ok-begin.begun.basis;
+      is = λ (files : Files) (agrees : g.H.Shelf.agrees c.begin.new.shelf files).
+          subst (λ (name : List ℕ). IsBasis files name c.in-Ok-begin.begun.basis) c.in-Ok.ensures (begun.is files agrees);
+      ends = rw c.in-Ok-begin.ensures.silent at
+          (subst (λ (lanes : List Lane). EndsLoading g.D.Disk c.args.disk c.load_office.result.disk lanes c.args.workers c.in-Ok-begin.begun.basis out c.load_office.result.ending)
+          (c.as_slice-lanes.ensures ∙ c.in-Ok-make_lanes.ensures.lanes) (c.load_office.ensures.ends c.args.disk begun.watchers begun.started));
+    })
 
 pub returns-clause-ends : goal.returns-clause-ends
 returns-clause-ends g c =
-    let shelf : Shelving = shelf_between g.H.Shelf.faults g.H.Shelf.agrees c.args.shelf.now c.fetch_basis.new.shelf in
-    let out : Stream = between g.K.Sink.faults g.K.Sink.written c.args.output.now c.refuse_basis.new.output in
-    inr (
-      refl,
-      subst (λ (name : List ℕ). EndsNoBasis name shelf out c.refuse_basis.result) c.in-Ok.ensures
-          (no_basis c.in-Ok.name shelf out c.refuse_basis.result c.in-Err.cause c.in-Err.ensures.bad
-          (λ (is : c.in-Err.cause ≡ ReadFault). c.in-Err.ensures.failed (ap Err is)) c.refuse_basis.ensures.says),
-    )
-
-pub returns-in-Ok-fetch_basis-clause-ends : goal.returns-in-Ok-fetch_basis-clause-ends
-returns-in-Ok-fetch_basis-clause-ends g c =
-    inl (record {
-      basis = c.in-Ok-fetch_basis.basis;
-      is = λ (files : Files) (agrees : g.H.Shelf.agrees c.fetch_basis.new.shelf files).
-          subst (λ (name : List ℕ). IsBasis files name c.in-Ok-fetch_basis.basis) c.in-Ok.ensures
-          (c.in-Ok-fetch_basis.ensures.basis files agrees);
-      ends = c.load_by.ensures;
-    })
+    let disk = c.in-Err.finished.disk in
+    let ending = c.in-Err.finished.ending in
+    let shelf : Shelving = shelf_between g.H.Shelf.faults g.H.Shelf.agrees c.args.shelf.now c.begin.new.shelf in
+    let out : Stream = between g.K.Sink.faults g.K.Sink.written c.args.output.now c.begin.new.output in
+    let lanes = generated_lanes c.args.seed c.args.lanes c.args.count in
+    ends_not_begun g.D.Disk c.args.disk disk (λ basis. EndsLoading g.D.Disk c.args.disk disk lanes c.args.workers basis out ending) (codes "basis.csv") shelf out ending
+    (λ basis why. ends_unbegun g.D.Disk c.args.disk disk lanes c.args.workers basis out why.cause ending why.refused why.says)
+    (subst (λ (name : List ℕ). HasNotBegun g.D.Disk c.args.disk disk name shelf out ending) c.in-Ok.ensures c.in-Err.ensures.ended)

@@ -10,7 +10,7 @@ write_loaded-ending-requires g c =
     let started = c.requires.started.1 in
     record {
       answer = load_answer g.D.Disk g.W.Watching c.requires.started.0 c.close-disk-2.result.0 c.args.lanes.now c.args.workers c.value-valued.result.turn
-          c.args.basis.now started.0 c.args.pass c.run_lanes.new.pass c.value-valued.new.pass _ _ c.in-Ok.transcript c.value-valued.result.answer started.1
+          c.args.basis.now started.0 c.args.pass c.run_lanes-ran.new.pass c.value-valued.new.pass _ _ c.in-Ok.ran.transcript c.value-valued.result.answer started.1
           c.in-Ok.ensures.answered c.in-Ok.ensures.facts c.value-valued.ensures.valued c.close-disk-2.ensures.facts c.close-disk-2.ensures.closed c.requires.lanes;
     }
 
@@ -20,7 +20,7 @@ returns g c =
     record {
       ends = λ old watchers started.
           ends_loaded g.D.Disk g.W.Watching old c.close-disk-2.result.0 c.args.lanes.now c.args.workers c.value-valued.result.turn c.args.basis.now watchers
-          c.args.pass c.run_lanes.new.pass c.value-valued.new.pass _ _ c.in-Ok.transcript c.value-valued.result.answer started c.in-Ok.ensures.answered
+          c.args.pass c.run_lanes-ran.new.pass c.value-valued.new.pass _ _ c.in-Ok.ran.transcript c.value-valued.result.answer started c.in-Ok.ensures.answered
           c.in-Ok.ensures.facts c.value-valued.ensures.valued c.close-disk-2.ensures.facts c.close-disk-2.ensures.closed c.requires.lanes
           out c.write_loaded-ending.result
           (subst (λ (lines : List TranscriptLine). EndsLoaded lines c.value-valued.result.answer out c.write_loaded-ending.result) c.as_slice.ensures c.write_loaded-ending.ensures);

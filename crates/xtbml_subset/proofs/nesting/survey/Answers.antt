@@ -2,7 +2,7 @@ use Rattle.std.proofs.Common.{◌+◌, ◌<◌, ◌≤◌, length, None, sym, ap
 use Rattle.xtbml_subset.specs.declared.state.Phase.TheVariants.{Opening}
 use Rattle.xtbml_subset.specs.inside.Machine.{State, outside}
 use Rattle.xtbml_subset.specs.inside.Elements.{elements_at}
-use Rattle.xtbml_subset.specs.inside.Searches.{Passing, Path, no_path, IsPath}
+use Rattle.xtbml_subset.specs.inside.Searches.{Passing, ElementPath, no_path, IsPath}
 use Rattle.xtbml_subset.specs.inside.Tokens.{piece_of}
 use Rattle.xtbml_subset.specs.inside.Views.{path_of}
 use Rattle.xtbml_subset.specs.inside.Walk.{state_of, walk_at, fault_place, fault_at}
@@ -27,7 +27,7 @@ loop-token-init c =
     record {
       same_end = ap (λ (s : State). walk_at s rest) begins ∙ ap (walk_at (outside Opening)) c.after_mark-rest.ensures.rest;
       within = c.after_mark-rest.ensures.length;
-      low = (let none_yet = ap (λ (p : Path). p.tally.count) c.new-path.ensures in let shorter : length rest ≤ length bytes = c.after_mark-rest.ensures.length in omega arith);
+      low = (let none_yet = ap (λ (p : ElementPath). p.tally.count) c.new-path.ensures in let shorter : length rest ≤ length bytes = c.after_mark-rest.ensures.length in omega arith);
       is_path = subst (IsPath bytes (length (state_of c.new-nesting.result).names) rest) (sym c.new-path.ensures) there;
     }
 
@@ -73,7 +73,7 @@ loop-token-preserved c =
     let depth_is = sym (length-names_of old.depth (texts old.names)) in
     let step = path_step bytes (state_of old) next passing (path_of c.loop-token.path) depth_is read c.if-not-take.ensures c.loop-token.invariant.is_path in
     let passed = subst (IsPath bytes (length next.names) after) (sym c.pass.ensures) step in
-    let count_is = ap (λ (p : Path). p.tally.count) c.pass.ensures in
+    let count_is = ap (λ (p : ElementPath). p.tally.count) c.pass.ensures in
     let count_low = tally_low 4 (codes "Y") passing (path_of c.loop-token.path).axis c.loop-token.path.tally in
     let room : c.loop-token.path.tally.count + length rest ≤ length bytes = c.loop-token.invariant.low in
     record {

@@ -2,7 +2,7 @@ use Rattle.std.proofs.Common.{◌≡◌, arith, ap, sym, ◌∙◌, ◌<◌, len
 use Rattle.std.proofs.lemmas.List.{length-set, get_or_read}
 use Rattle.std.proofs.lemmas.List.Elements.{All-set}
 use Rattle.cash_projection.specs.inside.Paths.{IsRightPath}
-use Rattle.cash_projection.specs.declared.path.Path.{Path}
+use Rattle.cash_projection.specs.declared.path.SurvivalPath.{SurvivalPath}
 use Rattle.cash_projection.proofs.PathSteps.{kept_here, put_here, right_by_key}
 use Rattle.cash_projection.proofs.paths.Paths.place_of.Goals as goal
 
@@ -12,7 +12,7 @@ returns-then-is-clause-here c =
     let within : c.slot_of-place.result < length kept = omega arith in
     kept_here c.args.basis.now c.args.key c.args.rates.now kept c.slot_of-place.result c.requires.right.right within
     c.requires.age.1 c.requires.rates
-    (λ none. ap (λ (p : Path). p.key) (sym (get_or_read kept _ _ within c.index.ensures none)) ∙ c.is.ensures.equal c.if-is.true)
+    (λ none. ap (λ (p : SurvivalPath). p.key) (sym (get_or_read kept _ _ within c.index.ensures none)) ∙ c.is.ensures.equal c.if-is.true)
 
 pub returns-clause-right : goal.returns-clause-right
 returns-clause-right c = record {
@@ -30,5 +30,5 @@ pub returns-clause-found : goal.returns-clause-found
 returns-clause-found c = λ kept_there.
     let kept = c.args.self.now.kept.items in
     let within : c.slot_of-place.result < length kept = omega arith in
-    let same = ap (λ (p : Path). p.key) (get_or_read kept _ _ within c.index.ensures c.of.result) ∙ kept_there c.of.result in
+    let same = ap (λ (p : SurvivalPath). p.key) (get_or_read kept _ _ within c.index.ensures c.of.result) ∙ kept_there c.of.result in
     absurd (true≢false (sym (c.is.ensures.same same) ∙ c.if-is.false))

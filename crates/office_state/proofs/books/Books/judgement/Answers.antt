@@ -4,8 +4,8 @@ use Rattle.std.proofs.Common.{◌≡◌, ap, subst, sym, ◌∙◌, IfSome}
 use Rattle.policy_machine.specs.Book.{judged, policy_of}
 use Rattle.policy_machine.specs.Rules.{IsSound}
 use Rattle.policy_machine.proofs.BookLemmas.{policy_of-own, policy_of-sound}
-use Rattle.policy_versions.specs.Commands.{sets_of}
-use Rattle.policy_versions.proofs.PolicyValues.{newest_of-sets_of}
+use Rattle.office_state.specs.versions.Commands.{sets_of}
+use Rattle.office_state.proofs.PolicyValues.{newest_of-sets_of}
 use Rattle.office_state.proofs.books.Books.judgement.Goals as goal
 
 pub judge-requires-clause-own : goal.judge-requires-clause-own

@@ -1,5 +1,5 @@
 -- What was accepted made a policy, or is an upgrade.
-use Rattle.std.proofs.Common.{◌≡◌, Ok, Option, ap, ◌∙◌}
+use Rattle.std.proofs.Common.{Ok, Option, ap, ◌∙◌}
 use Rattle.policy_types.specs.declared.policy.Policy.{Policy}
 use Rattle.policy_types.specs.Valid.{id_of}
 use Rattle.policy_machine.specs.Book.{policy_of, refusal_in, upgrade_of}

@@ -1,5 +1,5 @@
 -- The command makes its policy's newest version, at its own number.
-use Rattle.std.proofs.Common.{◌≡◌, IfOk, subst}
+use Rattle.std.proofs.Common.{IfOk, subst}
 use Rattle.policy_types.specs.Valid.{id_of}
 use Rattle.policy_machine.specs.Book.{policy_of}
 use Rattle.policy_machine.specs.Rules.{IsSound}

@@ -1,7 +1,7 @@
 -- The keys that were set by a position are the policies issued by then.
 use Rattle.std.proofs.Common.{◌∙◌}
-use Rattle.policy_versions.specs.Commands.{sets_of}
-use Rattle.policy_versions.proofs.BookValues.{key_count}
+use Rattle.office_state.specs.versions.Commands.{sets_of}
+use Rattle.office_state.proofs.BookValues.{key_count}
 use Rattle.office_state.proofs.books.Books.policies.Goals as goal
 
 pub returns : goal.returns

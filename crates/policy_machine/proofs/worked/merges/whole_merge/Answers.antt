@@ -6,27 +6,15 @@ use Rattle.policy_types.specs.declared.policy.Status.TheVariants.{InForce}
 use Rattle.policy_types.specs.declared.entry.Call.TheVariants.{Post, Pin, Read, Unpin, Trim}
 use Rattle.policy_types.specs.declared.entry.Reply.TheVariants.{Accepted, Pinned, Slice as Policies, Unpinned, Floor}
 use Rattle.policy_machine.specs.Worked.Cases.{policy_issue, policy_with, premium_on, turn}
+use Rattle.policy_machine.proofs.Turns.{◌then◌}
 use Rattle.policy_machine.proofs.worked.merges.whole_merge.Goals as goal
 
 pub returns-clause-legal : goal.returns-clause-legal
 unfolding anniversary_of day_number date_of date_at year_of month_of days_before days_before_year days_of_months
 returns-clause-legal c =
-    let pin = turn 5 Pin (Pinned 1 1) in (
-      (refl, refl),
-      (
-        (omega arith, refl, refl),
-        (
-          (refl, refl),
-          (
-            refl,
-            (
-              ((1, 1), refl, (pin, refl, refl), omega arith, refl),
-              (((1, 1), refl, (pin, refl, refl)), tt),
-            ),
-          ),
-        ),
-      ),
-    )
+    let pin = turn 5 Pin (Pinned 1 1) in
+    (refl, refl) then (omega arith, refl, refl) then (refl, refl) then refl then
+    ((1, 1), refl, (pin, refl, refl), omega arith, refl) then ((1, 1), refl, (pin, refl, refl)) then tt
 
 pub returns-clause-merge : goal.returns-clause-merge
 unfolding IsDistinct

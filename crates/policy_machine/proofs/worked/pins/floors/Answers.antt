@@ -4,6 +4,7 @@ use Rattle.life_dates.specs.Calendar.{day_number, date_of, date_at, year_of, mon
 use Rattle.policy_types.specs.declared.entry.Call.TheVariants.{PinAt}
 use Rattle.policy_types.specs.declared.entry.Reply.TheVariants.{Pinned}
 use Rattle.policy_machine.specs.Worked.Cases.{turn}
+use Rattle.policy_machine.proofs.Turns.{◌then◌}
 use Rattle.policy_machine.proofs.worked.pins.floors.Goals as goal
 
 pub returns : goal.returns
@@ -11,52 +12,10 @@ unfolding anniversary_of day_number date_of date_at year_of month_of days_before
 returns c =
     let first = turn 2 (PinAt 0) (Pinned 0 0) in
     let second = turn 2 (PinAt 2) (Pinned 2 1) in
-    let third = turn 2 (PinAt 3) (Pinned 3 2) in (
-      (refl, refl),
-      (
-        (omega arith, omega arith, omega arith, refl, refl),
-        (
-          ((0, 0), refl, (first, refl, refl)),
-          (
-            (refl, refl),
-            (
-              refl,
-              (
-                (omega arith, omega arith, refl),
-                (
-                  (omega arith, omega arith, omega arith, refl, refl),
-                  (
-                    (omega arith, refl),
-                    (
-                      (refl, refl),
-                      (
-                        (omega arith, omega arith, omega arith, refl, refl),
-                        (
-                          refl,
-                          (
-                            ((2, 1), refl, (second, refl, refl), omega arith, refl),
-                            (
-                              ((2, 1), refl, (second, refl, refl)),
-                              (
-                                refl,
-                                (
-                                  (omega arith, omega arith, refl),
-                                  (
-                                    ((3, 2), refl, (third, refl, refl)),
-                                    (refl, tt),
-                                  ),
-                                ),
-                              ),
-                            ),
-                          ),
-                        ),
-                      ),
-                    ),
-                  ),
-                ),
-              ),
-            ),
-          ),
-        ),
-      ),
-    )
+    let third = turn 2 (PinAt 3) (Pinned 3 2) in
+    (refl, refl) then (omega arith, omega arith, omega arith, refl, refl) then
+    ((0, 0), refl, (first, refl, refl)) then (refl, refl) then refl then (omega arith, omega arith, refl) then
+    (omega arith, omega arith, omega arith, refl, refl) then (omega arith, refl) then (refl, refl) then
+    (omega arith, omega arith, omega arith, refl, refl) then refl then
+    ((2, 1), refl, (second, refl, refl), omega arith, refl) then ((2, 1), refl, (second, refl, refl)) then refl then
+    (omega arith, omega arith, refl) then ((3, 2), refl, (third, refl, refl)) then refl then tt

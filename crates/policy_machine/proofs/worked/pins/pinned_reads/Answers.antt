@@ -4,43 +4,17 @@ use Rattle.life_dates.specs.Calendar.{day_number, date_of, date_at, year_of, mon
 use Rattle.policy_types.specs.declared.entry.Call.TheVariants.{Pin}
 use Rattle.policy_types.specs.declared.entry.Reply.TheVariants.{Pinned}
 use Rattle.policy_machine.specs.Worked.Cases.{turn}
+use Rattle.policy_machine.proofs.Turns.{◌then◌}
 use Rattle.policy_machine.proofs.worked.pins.pinned_reads.Goals as goal
 
 pub returns : goal.returns
 unfolding anniversary_of day_number date_of date_at year_of month_of days_before days_before_year days_of_months
 returns c =
     let first = turn 2 Pin (Pinned 1 1) in
-    let second = turn 2 Pin (Pinned 3 2) in (
-      (refl, refl),
-      (
-        (omega arith, refl, refl),
-        (
-          (refl, refl),
-          (
-            (refl, refl),
-            (
-              (omega arith, refl, refl),
-              (
-                ((1, 1), refl, (first, refl, refl), omega arith, refl),
-                (
-                  ((1, 1), refl, (first, refl, refl), omega arith, refl),
-                  (
-                    ((3, 2), refl, (second, refl, refl), omega arith, refl),
-                    (
-                      ((3, 2), refl, (second, refl, refl), omega arith, refl),
-                      (
-                        ((1, 1), refl, (first, refl, refl)),
-                        (
-                          ((3, 2), refl, (second, refl, refl), omega arith, refl),
-                          (((3, 2), refl, (second, refl, refl)), tt),
-                        ),
-                      ),
-                    ),
-                  ),
-                ),
-              ),
-            ),
-          ),
-        ),
-      ),
-    )
+    let second = turn 2 Pin (Pinned 3 2) in
+    (refl, refl) then (omega arith, refl, refl) then (refl, refl) then (refl, refl) then
+    (omega arith, refl, refl) then ((1, 1), refl, (first, refl, refl), omega arith, refl) then
+    ((1, 1), refl, (first, refl, refl), omega arith, refl) then
+    ((3, 2), refl, (second, refl, refl), omega arith, refl) then
+    ((3, 2), refl, (second, refl, refl), omega arith, refl) then ((1, 1), refl, (first, refl, refl)) then
+    ((3, 2), refl, (second, refl, refl), omega arith, refl) then ((3, 2), refl, (second, refl, refl)) then tt

@@ -2,73 +2,18 @@ use Rattle.std.proofs.Common.{refl, arith}
 use Rattle.policy_types.specs.declared.entry.Call.TheVariants.{Pin}
 use Rattle.policy_types.specs.declared.entry.Reply.TheVariants.{Pinned}
 use Rattle.policy_machine.specs.Worked.Cases.{turn}
+use Rattle.policy_machine.proofs.Turns.{◌then◌}
 use Rattle.policy_machine.proofs.worked.pins.sixteen_pins.Goals as goal
 
 pub returns-clause-sixteen : goal.returns-clause-sixteen
-returns-clause-sixteen c = (
-  (omega arith, refl, refl),
-  (
-    (omega arith, omega arith, omega arith, refl, refl),
-    (
-      (omega arith, refl, refl),
-      (
-        (omega arith, omega arith, omega arith, refl, refl),
-        (
-          (omega arith, refl, refl),
-          (
-            (omega arith, omega arith, omega arith, refl, refl),
-            (
-              (omega arith, refl, refl),
-              (
-                (omega arith, omega arith, omega arith, refl, refl),
-                (
-                  (omega arith, refl, refl),
-                  (
-                    (omega arith, omega arith, omega arith, refl, refl),
-                    (
-                      (omega arith, refl, refl),
-                      (
-                        (omega arith, omega arith, omega arith, refl, refl),
-                        (
-                          (omega arith, refl, refl),
-                          (
-                            (omega arith, omega arith, omega arith, refl, refl),
-                            (
-                              (omega arith, refl, refl),
-                              (
-                                (omega arith, omega arith, omega arith, refl, refl),
-                                (
-                                  omega arith,
-                                  (
-                                    (omega arith, omega arith, omega arith),
-                                    (
-                                      (omega arith, refl),
-                                      (
-                                        ((0, 0), refl, (turn 1 Pin (Pinned 0 0), refl, refl)),
-                                        (
-                                          (omega arith, refl, refl),
-                                          (
-                                            omega arith,
-                                            tt,
-                                          ),
-                                        ),
-                                      ),
-                                    ),
-                                  ),
-                                ),
-                              ),
-                            ),
-                          ),
-                        ),
-                      ),
-                    ),
-                  ),
-                ),
-              ),
-            ),
-          ),
-        ),
-      ),
-    ),
-  ),
-)
+returns-clause-sixteen c =
+    (omega arith, refl, refl) then (omega arith, omega arith, omega arith, refl, refl) then
+    (omega arith, refl, refl) then (omega arith, omega arith, omega arith, refl, refl) then
+    (omega arith, refl, refl) then (omega arith, omega arith, omega arith, refl, refl) then
+    (omega arith, refl, refl) then (omega arith, omega arith, omega arith, refl, refl) then
+    (omega arith, refl, refl) then (omega arith, omega arith, omega arith, refl, refl) then
+    (omega arith, refl, refl) then (omega arith, omega arith, omega arith, refl, refl) then
+    (omega arith, refl, refl) then (omega arith, omega arith, omega arith, refl, refl) then
+    (omega arith, refl, refl) then (omega arith, omega arith, omega arith, refl, refl) then
+    omega arith then (omega arith, omega arith, omega arith) then (omega arith, refl) then
+    ((0, 0), refl, (turn 1 Pin (Pinned 0 0), refl, refl)) then (omega arith, refl, refl) then omega arith then tt

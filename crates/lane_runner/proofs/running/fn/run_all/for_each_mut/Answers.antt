@@ -33,6 +33,6 @@ pub returns : goal.returns
 returns g c = λ lane is.
     let at : slice_get c.captures.lanes.now c.args.index ≡ Some c.index-lanes-index.result =
     slice_get-get_or c.captures.lanes.now c.args.index c.index-lanes-index.result c.requires.ready.0 ∙ ap Some (sym c.index-lanes-index.is) in
-    subst (λ l. HasRunIn c.captures.basis.now l c.args.seat.now (c.answer_lane.new.pass, c.answer_lane.new.lines))
+    subst (λ l. HasRunIn c.captures.basis.now l c.args.seat.now (c.answer_lane.new.pass, c.answer_lane.new.outlet))
     (one_some c.index-lanes-index.result lane (sym at ∙ is))
-    (record { answered = c.answer_lane.ensures.answered; facts = c.answer_lane.ensures.facts })
+    (record { answered = c.answer_lane.ensures.answered; facts = c.answer_lane.ensures.facts; ring = c.answer_lane.ensures.ring })

@@ -1,0 +1,140 @@
+"""A transcript that is seen while the run goes on.
+
+usage: python3 streamed.py PROGRAM FOLDER SEED KILLS
+
+Each line comes as soon as its place is settled; a reader that stops, or that leaves, holds up no posting; what a killed run
+has printed is a front that its journal bears out; and at no moment of a run of eight clerks are more accepted lines written
+than gates are safe.
+"""
+import os
+import random
+import re
+import subprocess
+import sys
+import time
+
+from judge import demand, judge_front, judge_transcript, judge_unanswered
+from life_tools.journals import file_of
+from life_tools.tables import read_basis
+from runs import Desk, Ended, default_signals
+from scenes import eight_clerks, many_policies
+
+LINES, BEFORE, EACH, MANY = 20000, 150, 60, 500
+
+
+def started(desk, words):
+    with open(desk.path("script.csv"), "rb") as script:
+        return subprocess.Popen([desk.program, *words], cwd=desk.folder, stdin=script, stdout=subprocess.PIPE, bufsize=0,
+                                preexec_fn=default_signals)
+
+
+def try_arrivals(desk):
+    """A clerk's first line is read while most of its postings have yet to be made."""
+    desk.lay(b"", b"".join(b"1,issue,%d,2020-01-01,endowment,0,3,1000.00,400.00\n" % n for n in range(1, LINES + 1)))
+    run = started(desk, ["run"])
+    text = run.stdout.read(65536)
+    posted = (len(desk.journal()) - 18) // 65
+    while piece := run.stdout.read(65536):
+        text += piece
+    demand(run.wait(60) == 0 and text.count(b",accepted,") == LINES, f"it ended with {run.returncode}")
+    demand(posted < LINES / 2, f"when the first line was read {posted} of {LINES} postings had been made")
+
+
+def try_stopped_reader(desk, before, basis):
+    """A reader that stops after a byte of more text than a pipe holds, while all postings are made, and then reads the rest."""
+    script = eight_clerks(MANY, BEFORE)
+    desk.lay(before, script)
+    run = started(desk, ["run"])
+    text = run.stdout.read(1)
+    end = time.monotonic() + 60
+    while os.path.getsize(desk.path("journal.life")) < len(before) + 65 * 16 * MANY and time.monotonic() < end:
+        time.sleep(0.05)
+    demand(run.poll() is None, "it ended before its text was read")
+    judge_unanswered(script, before, desk.journal(), True)
+    while piece := run.stdout.read(65536):
+        text += piece
+    ended = Ended(run.wait(60), text.decode("ascii", "replace"), "", desk.journal())
+    judge_transcript(script, ended, before, basis, {})
+
+
+def try_left_reader(desk, before):
+    """A reader that leaves after a byte while the postings go on: 7, and all of them are made."""
+    script = eight_clerks(MANY, BEFORE)
+    desk.lay(before, script)
+    run = started(desk, ["run"])
+    run.stdout.read(1)
+    run.stdout.close()
+    demand(run.wait(60) == 7, f"it ended with {run.returncode}, and its reader had left")
+    judge_unanswered(script, before, desk.journal(), True)
+
+
+def wait_for_records(desk, run, count):
+    while run.poll() is None and os.path.getsize(desk.path("journal.life")) < 18 + 65 * count:
+        time.sleep(0.0002)
+
+
+def try_kills(desk, before, script, basis, draw, kills):
+    """Runs that are killed: what they printed is a front, and stands in the journal. Tells how many had printed."""
+    desk.lay(before, script)
+    begun = time.perf_counter()
+    desk.run(["run"])
+    span, printed, known = time.perf_counter() - begun, 0, {}
+    for number in range(kills):
+        desk.lay(before, script)
+        run = desk.start(["run"])
+        # at a moment, or once so many records are begun, which other work doesn't put off
+        if number % 2:
+            time.sleep(draw.uniform(0, span))
+        else:
+            wait_for_records(desk, run, BEFORE + draw.randrange(1, 16 * EACH))
+        run.kill()
+        ended = desk.ended(run)
+        judge_unanswered(script, before, ended.after, False)
+        judge_front(script, ended.text, before, ended.after, basis, known)
+        printed += ended.status < 0 and bool(ended.text)
+    return printed
+
+
+def try_calls(desk, before, script):
+    """At no moment are more accepted lines written than gates are safe."""
+    desk.lay(before, script)
+    ended = desk.run(["run"], ["strace", "-f", "-y", "-qq", "-s", "70000", "-o", desk.path("record"),
+                               "-e", "trace=pwrite64,write,fsync"])
+    demand(ended.status == 0, f"under strace it ends with {ended.status}")
+    told = safe = 0
+    gates, syncing = {}, {}
+    with open(desk.path("record"), errors="replace") as lines:
+        for line in lines:
+            thread, call = line.rstrip("\n").split(None, 1)
+            if call.startswith("write(1"):
+                told += call.count(",accepted,")
+                demand(told <= safe, f"{told} accepted lines are written, and {safe} gates are safe")
+            elif call.startswith("pwrite64(") and re.search(r'"\\1", 1, \d\d+', call):
+                gates[thread] = True
+            elif call.startswith("fsync(") and "unfinished" in call:
+                syncing[thread] = gates.pop(thread, False)
+            elif call.startswith("fsync("):
+                safe += gates.pop(thread, False)
+            elif call.startswith("<... fsync resumed>"):
+                safe += syncing.pop(thread, False)
+    demand(told == ended.text.count(",accepted,") and told, f"{told} accepted lines were seen")
+
+
+def main():
+    program, folder, seed, kills = *sys.argv[1:4], int(sys.argv[4])
+    draw = random.Random(f"streamed {seed}")
+    before, script = file_of(many_policies(BEFORE).commands), eight_clerks(EACH, BEFORE)
+    desk = Desk(program, os.path.join(folder, "streamed"))
+    basis = read_basis(desk.path("basis.csv"))
+    try_arrivals(desk)
+    try_stopped_reader(desk, before, basis)
+    try_left_reader(desk, before)
+    printed = try_kills(desk, before, script, basis, draw, kills)
+    demand(printed * 8 >= kills, f"of {kills} killed runs {printed} had printed a line")
+    try_calls(desk, before, script)
+    print("streamed: lines come while a run goes on; a reader that stops or leaves holds up no posting; "
+          f"of {kills} killed runs {printed} had printed a front, which stands in the journal; "
+          "no line is written before its record is safe")
+
+
+main()

@@ -1,0 +1,97 @@
+"""The layers: each crate of crates.txt stands only on crates above its own heading; docs/ARCHITECTURE.md lists the same
+crates under the same headings, in the same order. And each file of a crate that the page names is there, with the
+functions that a table has beside it; and its table of the gate names each check."""
+
+import fnmatch
+import pathlib
+import re
+import sys
+
+TOP = pathlib.Path(__file__).resolve().parent.parent
+PAGE = "docs/ARCHITECTURE.md"
+
+
+def crates_by_heading(text: str) -> list[tuple[str, list[tuple[str, list[str]]]]]:
+    """The headings of crates.txt, each with its crates and their libraries."""
+    found: list[tuple[str, list[tuple[str, list[str]]]]] = []
+    for line in text.splitlines():
+        heading = re.match(r"# (\d+\. .*)", line)
+        crate = re.match(r"([a-z_]+)[^:#]*:([^#]*)", line)
+        if heading:
+            found.append((heading[1], []))
+        elif crate:
+            if not found:
+                found.append(("", []))
+            found[-1][1].append((crate[1], crate[2].split()))
+    return found
+
+
+def listed_in(page: str) -> list[tuple[str, list[str]]]:
+    """The headings of the page's layers, each with the crates that its items begin with."""
+    layers = page.partition("\n## Layers\n")[2].partition("\n## ")[0]
+    parts = re.split(r"^### (.*)$", layers, flags=re.M)[1:]
+    return [(heading, re.findall(r"^- `(\w+)`: ", items, re.M)) for heading, items in zip(parts[::2], parts[1::2])]
+
+
+def wrong_order(layers: list[tuple[str, list[tuple[str, list[str]]]]]):
+    """Crates that stand on one below, or beside them."""
+    ours = {crate for _, crates in layers for crate, _ in crates}
+    above: set[str] = set()
+    for heading, crates in layers:
+        for crate, libraries in crates:
+            for library in libraries:
+                if library in ours and library not in above:
+                    yield f"crates.txt: {crate} stands on {library}, which isn't above its heading {heading!r}"
+        above.update(crate for crate, _ in crates)
+
+
+def wrong_page(layers: list[tuple[str, list[tuple[str, list[str]]]]], page: str):
+    """Where the page's layers aren't those of crates.txt, and files that it names and that aren't there."""
+    wanted = [(heading, [crate for crate, _ in crates]) for heading, crates in layers]
+    told = listed_in(page)
+    for heading, crates in wanted:
+        listed = dict(told).get(heading)
+        if listed != crates:
+            yield f"{PAGE}: under {heading!r} stand {listed}, and in crates.txt {crates}"
+    if [heading for heading, _ in told] != [heading for heading, _ in wanted]:
+        yield f"{PAGE}: its layers have other headings than crates.txt, or another order"
+
+
+def wrong_files(page: str):
+    """Files of crates that the page names and that aren't there, and functions that aren't in the files beside them."""
+    for line in page.splitlines():
+        files = [TOP / "crates" / name for name in re.findall(r"`(\w+/(?:src|specs|proofs)/[\w/.]*)`", line)]
+        for file in files:
+            if not file.exists():
+                yield f"{PAGE}: there is no {file.relative_to(TOP / 'crates')}"
+        cells = line.split("|")
+        if not line.startswith("|") or not files or not all(file.is_file() for file in files):
+            continue
+        code = "".join(file.read_text(encoding="utf-8") for file in files)
+        for name in re.findall(r"`(?:\w+::)?(\w+)`", cells[1]):
+            if not re.search(rf"\bfn {name}\b", code):
+                yield f"{PAGE}: {name} isn't in {cells[2].strip()}"
+
+
+def wrong_checks(page: str):
+    """Checks that the page's table of the gate doesn't name."""
+    rows = [line.split("|")[1] for line in page.partition("\n## The gate\n")[2].splitlines() if line.startswith("|")]
+    named = [name for row in rows for name in re.findall(r"`([\w*]+)`", row)]
+    for check in sorted(TOP.glob(".ci/checks/*.sh")):
+        if not any(fnmatch.fnmatch(check.stem, name) for name in named):
+            yield f"{PAGE}: the table of the gate doesn't name the check {check.stem}"
+
+
+def main() -> int:
+    layers = crates_by_heading((TOP / "crates.txt").read_text(encoding="utf-8"))
+    page = (TOP / PAGE).read_text(encoding="utf-8")
+    wrong = [*wrong_order(layers), *wrong_page(layers, page), *wrong_files(page), *wrong_checks(page)]
+    for what in wrong:
+        print(f"layers: {what}", file=sys.stderr)
+    if not wrong:
+        print(f"layers: {sum(len(crates) for _, crates in layers)} crates in {len(layers)} layers")
+    return 1 if wrong else 0
+
+
+if __name__ == "__main__":
+    sys.exit(main())

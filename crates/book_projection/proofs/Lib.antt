@@ -1,3 +1,0 @@
-pub mod Nobody
-pub mod ProjectingSteps
-pub mod ProjectStatus

@@ -1,9 +1,0 @@
-use Rattle.program_endings.specs.Writing.{shelf_between}
-use Rattle.book_projection.proofs.Nobody.{never_ahead, projects_nothing}
-use Rattle.book_projection.proofs.worked.an_empty_file_is_projected.Goals as goal
-
-pub returns : goal.returns
-returns g c = record {
-  projected = λ shelf asked. projects_nothing g.D.Disk (shelf_between g.H.Shelf.faults g.H.Shelf.agrees shelf asked);
-  unasked = λ shelf asked. never_ahead g.D.Disk (shelf_between g.H.Shelf.faults g.H.Shelf.agrees shelf asked);
-}

@@ -1,3 +1,0 @@
-pub mod Projecting
-pub mod Worked
-pub mod inside

@@ -1,5 +1,0 @@
-use Rattle.std.proofs.Common.{refl}
-use Rattle.book_state.proofs.worked.balances_are_added.Goals as goal
-
-pub returns : goal.returns
-returns c = (refl, refl)

@@ -1,4 +1,0 @@
-pub mod Books
-pub mod Stating
-pub mod Worked
-pub mod inside

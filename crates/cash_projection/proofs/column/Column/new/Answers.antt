@@ -1,7 +1,0 @@
-use Rattle.std.proofs.Common.{ap}
-use Rattle.cash_projection.proofs.Columns.{empty_sum}
-use Rattle.cash_projection.specs.declared.column.Sums.{Sums}
-use Rattle.cash_projection.proofs.column.Column.new.Goals as goal
-
-pub returns-clause-none : goal.returns-clause-none
-returns-clause-none c = λ j. (ap (λ (s : Sums). s.lo) (empty_sum 131 j), ap (λ (s : Sums). s.hi) (empty_sum 131 j))

@@ -1,0 +1,11 @@
+use Rattle.command_csv.proofs.Forms.{no_day, no_id, no_reinstatement, reinstatement_possible, took_day, took_id}
+use Rattle.command_csv.proofs.fields.LineFields.reinstate.Goals as goal
+
+pub returns-in_err-id-clause-none : goal.returns-in_err-id-clause-none
+returns-in_err-id-clause-none c = rw c.from_residual.ensures (no_id reinstatement_possible c.in_err-id.ensures.none)
+
+pub returns-in_err-day-clause-none : goal.returns-in_err-day-clause-none
+returns-in_err-day-clause-none c = rw c.from_residual-in_err-day.ensures (took_id c.in_ok-id.ensures.some (no_day reinstatement_possible c.in_err-day.ensures.none))
+
+pub returns-in_err-amount-clause-none : goal.returns-in_err-amount-clause-none
+returns-in_err-amount-clause-none c = rw c.from_residual-in_err-amount.ensures (took_id c.in_ok-id.ensures.some (took_day c.in_ok-day.ensures.some (no_reinstatement c.in_err-amount.ensures.none)))

@@ -1,4 +1,0 @@
-pub mod OpenedTwo
-pub mod SavingSteps
-pub mod EndingSteps
-pub mod EmptyFiles

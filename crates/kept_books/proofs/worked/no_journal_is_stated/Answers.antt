@@ -1,5 +1,0 @@
-use Rattle.kept_books.proofs.EmptyFiles.{refuses_by_two}
-use Rattle.kept_books.proofs.worked.no_journal_is_stated.Goals as goal
-
-pub returns : goal.returns
-returns g c = λ disks output are reads ends. refuses_by_two g.D.Disk g.E.Disk disks output are reads ends

@@ -1,6 +1,0 @@
-pub mod TwoDisks
-pub mod Telling
-pub mod Stated
-pub mod Saved
-pub mod Worked
-pub mod inside

@@ -1,0 +1,18 @@
+use Rattle.std.proofs.Common.{◌≡◌, ◌+◌, ◌≤◌, length, vec_capacity}
+use Rattle.std.specs.List.{AllZip}
+use Rattle.lane_runner.specs.Written.{line_texts}
+use Rattle.lane_runner.specs.inside.Gathering.{HasPutOut}
+use Rattle.lane_runner.specs.inside.Merging.{HasTakenLines, IsMerged, all_to_come}
+use Rattle.lane_runner.proofs.merging.merge.Given as goal
+
+abbrev pub invariant-loop : goal.invariant-loop
+invariant-loop g l = record {
+  taken : AllZip HasTakenLines l.initial.inlets l.inlets;
+  count : all_to_come l.inlets + l.counter ≡ l.count;
+  merged : IsMerged l.inlets l.lines.items;
+  long : length l.lines.items ≡ l.counter;
+  room : vec_capacity l.lines ≡ vec_capacity l.initial.lines;
+  later : g.K.Sink.faults l.initial.output ≤ g.K.Sink.faults l.output;
+  put : HasPutOut (g.K.Sink.faults l.initial.output) (g.K.Sink.faults l.output) (g.K.Sink.written l.initial.output) (g.K.Sink.written l.output)
+      (line_texts g.X.Wording.text l.lines.items) l.page.bytes.items l.page.stopped;
+}

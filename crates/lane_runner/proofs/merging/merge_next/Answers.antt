@@ -1,0 +1,52 @@
+use Rattle.std.proofs.Common.{◌≡◌, ℕ, List, ◌++◌, ap, sym, ◌∙◌, subst}
+use Rattle.std.specs.List.{slice_set}
+use Rattle.std.proofs.lemmas.Option.{slice_get-get_or}
+use Rattle.lane_runner.specs.Written.{line_texts}
+use Rattle.lane_runner.specs.inside.Gathering.{HasPutOut}
+use Rattle.lane_runner.specs.inside.Merging.{IsMerged}
+use Rattle.lane_runner.proofs.TakeSteps.{can_take, looked_is_taken, looked_merged, looked_to_come, one_fewer, one_taken, taken_merged, taken_more, texts_push}
+use Rattle.lane_runner.proofs.merging.merge_next.Goals as goal
+
+pub take-told-requires-clause-some : goal.take-told-requires-clause-some
+take-told-requires-clause-some g c =
+    (can_take c.wait_for_next-near.new.inlets c.wait_for_next-near.result _ c.wait_for_next-near.ensures.next
+    (slice_get-get_or c.wait_for_next-near.new.inlets c.wait_for_next-near.result.place c.index-inlets-near.result c.wait_for_next-near.ensures.place)).0
+
+pub take-told-requires-clause-next : goal.take-told-requires-clause-next
+take-told-requires-clause-next g c =
+    (can_take c.wait_for_next-near.new.inlets c.wait_for_next-near.result _ c.wait_for_next-near.ensures.next
+    (slice_get-get_or c.wait_for_next-near.new.inlets c.wait_for_next-near.result.place c.index-inlets-near.result c.wait_for_next-near.ensures.place)).1
+
+pub returns-clause-taken : goal.returns-clause-taken
+returns-clause-taken g c =
+    taken_more c.args.inlets.now c.wait_for_next-near.new.inlets (slice_set c.wait_for_next-near.new.inlets c.wait_for_next-near.result.place c.take-told.new.self)
+    (looked_is_taken c.args.inlets.now c.wait_for_next-near.new.inlets c.wait_for_next-near.ensures.looked)
+    (one_taken c.wait_for_next-near.new.inlets c.wait_for_next-near.result _ c.take-told.new.self c.take-told.result c.wait_for_next-near.ensures.next
+    (slice_get-get_or c.wait_for_next-near.new.inlets c.wait_for_next-near.result.place c.index-inlets-near.result c.wait_for_next-near.ensures.place)
+    c.take-told.ensures.ring c.take-told.ensures.received c.take-told.ensures.known c.take-told.ensures.left c.take-told.ensures.follows)
+
+pub returns-clause-fewer : goal.returns-clause-fewer
+returns-clause-fewer g c =
+    sym (looked_to_come c.args.inlets.now c.wait_for_next-near.new.inlets c.wait_for_next-near.ensures.looked)
+    ∙ one_fewer c.wait_for_next-near.new.inlets c.wait_for_next-near.result _ c.take-told.new.self c.take-told.result c.wait_for_next-near.ensures.next
+    (slice_get-get_or c.wait_for_next-near.new.inlets c.wait_for_next-near.result.place c.index-inlets-near.result c.wait_for_next-near.ensures.place)
+    c.take-told.ensures.ring c.take-told.ensures.received c.take-told.ensures.known c.take-told.ensures.left c.take-told.ensures.follows
+
+pub returns-clause-merged : goal.returns-clause-merged
+returns-clause-merged g c =
+    subst (IsMerged (slice_set c.wait_for_next-near.new.inlets c.wait_for_next-near.result.place c.take-told.new.self)) (sym c.push_reserved.ensures.items)
+    (taken_merged c.wait_for_next-near.new.inlets c.wait_for_next-near.result _ c.take-told.new.self c.take-told.result c.wait_for_next-near.ensures.next
+    (slice_get-get_or c.wait_for_next-near.new.inlets c.wait_for_next-near.result.place c.index-inlets-near.result c.wait_for_next-near.ensures.place)
+    c.take-told.ensures.ring c.take-told.ensures.received c.take-told.ensures.known c.take-told.ensures.left c.take-told.ensures.follows
+    c.args.lines.now.items
+    (looked_merged c.args.inlets.now c.wait_for_next-near.new.inlets c.args.lines.now.items c.wait_for_next-near.ensures.looked c.requires.merged))
+
+pub returns-clause-put : goal.returns-clause-put
+returns-clause-put g c = λ faults first put.
+    let texts : line_texts g.X.Wording.text c.push_reserved.new.self.items
+    ≡ line_texts g.X.Wording.text c.args.lines.now.items ++ g.X.Wording.text c.take-told.result
+    = ap (line_texts g.X.Wording.text) c.push_reserved.ensures.items ∙ texts_push g.X.Wording.text c.args.lines.now.items c.take-told.result in
+    subst (λ (text : List ℕ). HasPutOut faults (g.K.Sink.faults c.put.new.output) first (g.K.Sink.written c.put.new.output) text c.put.new.self.bytes.items
+    c.put.new.self.stopped) (sym texts)
+    (c.put.ensures.put faults first (line_texts g.X.Wording.text c.args.lines.now.items)
+    (c.wait_for_next-near.ensures.put faults first (line_texts g.X.Wording.text c.args.lines.now.items) put))

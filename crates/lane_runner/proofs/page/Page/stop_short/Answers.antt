@@ -1,0 +1,13 @@
+use Rattle.std.proofs.Common.{Some, refl}
+use Rattle.lane_runner.specs.declared.wording.Unwritten.TheVariants.{NoMemory}
+use Rattle.lane_runner.proofs.GatherSteps.{put_held, put_short}
+use Rattle.lane_runner.proofs.page.Page.stop_short.Goals as goal
+
+pub returns-in-None-clause-put : goal.returns-in-None-clause-put
+returns-in-None-clause-put g c = λ faults first text more some put.
+    put_short faults (g.K.Sink.faults c.flush.new.output) first (g.K.Sink.written c.flush.new.output) text more c.flush.new.self.bytes.items
+    c.flush.new.self.stopped (Some NoMemory) c.in-None.is (c.flush.ensures.empty c.in-None.is) refl some (c.flush.ensures.put faults first text put)
+
+pub returns-in-Some-clause-put : goal.returns-in-Some-clause-put
+returns-in-Some-clause-put g c = λ faults first text more some put.
+    put_held faults _ first _ text more _ _ _ c.in-Some.is (c.flush.ensures.put faults first text put)

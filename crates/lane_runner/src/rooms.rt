@@ -1,0 +1,86 @@
+// The memory for what lanes answer is taken before they run.
+ghost use Rattle.std.specs.Prelude.{◌≡◌, ◌≤◌, ◌^◌, [], None, length, IfOk};
+ghost use Rattle.std.specs.List.{AllZip};
+ghost use Rattle.policy_types.specs.Lanes.{lines_in};
+ghost use Rattle.lane_runner.specs.inside.Parts.{AreEnds, HasLaneRoom, IsInletFor, IsRoomFor};
+
+use crate::page::Page;
+use crate::telling::{Inlet, Outlet, ring_for};
+use crate::transcript::TranscriptLine;
+use outside_io::Disk;
+use policy_types::{Lane, NoMemory};
+use shared_office::OfficePass;
+use std::alloc::Global;
+use watcher_set::Watching;
+
+/// A lane's pass, and where it tells its lines.
+pub type Seat<D, W> = (OfficePass<D, W>, Outlet);
+
+/// The memory for what lanes answer.
+#[derive(Drop)]
+pub struct Room<D: Disk, W: Watching> {
+    pub outlets: Vec<Outlet>,
+    pub inlets: Vec<Inlet>,
+    pub seats: Vec<Seat<D, W>>,
+    pub callers: Vec<u64>,
+    pub lines: Vec<TranscriptLine>,
+    pub page: Page,
+}
+
+/// Takes the memory for what is answered to lanes.
+pub fn room_for<D: Disk, W: Watching>(alloc: Global, lanes: &[Lane]) -> Result<Room<D, W>, NoMemory>
+    requires few { length (lines_in lanes.now) ≤ 2 ^ 24 }
+    ensures room { IfOk result (λ room. HasLaneRoom lanes.now room.outlets room.inlets room.seats room.callers room.lines) }
+    ensures page { IfOk result (λ room. (room.page.bytes.items ≡ []) × (room.page.stopped ≡ None)) }
+{
+    let count = lanes.len();
+    let (outlets, inlets) = rings_for(alloc, lanes)?;
+    let seats = Vec::with_capacity(alloc, count).map_err(|_| NoMemory)?;
+    let callers = Vec::with_capacity(alloc, count).map_err(|_| NoMemory)?;
+    let lines = Vec::with_capacity(alloc, count_lines(lanes)).map_err(|_| NoMemory)?;
+    let page = Page::new(alloc)?;
+    Ok(Room {
+        outlets,
+        inlets,
+        seats,
+        callers,
+        lines,
+        page,
+    })
+}
+
+// Takes the memory for each lane's lines.
+fn rings_for(alloc: Global, lanes: &[Lane]) -> Result<(Vec<Outlet>, Vec<Inlet>), NoMemory>
+    ensures outlets { IfOk result (λ rings. AllZip IsRoomFor lanes.now rings.0.items) }
+    ensures inlets { IfOk result (λ rings. AllZip IsInletFor lanes.now rings.1.items) }
+    ensures ends { IfOk result (λ rings. AllZip AreEnds rings.0.items rings.1.items) }
+{
+    let mut outlets = Vec::with_capacity(alloc, lanes.len()).map_err(|_| NoMemory)?;
+    let mut inlets = Vec::with_capacity(alloc, lanes.len()).map_err(|_| NoMemory)?;
+    for lane in lanes {
+        let (outlet, inlet) = ring_of(alloc, lane)?;
+        outlets.push_reserved(outlet);
+        inlets.push_reserved(inlet);
+    }
+    Ok((outlets, inlets))
+}
+
+fn ring_of(alloc: Global, lane: &Lane) -> Result<(Outlet, Inlet), NoMemory>
+    ensures outlet { IfOk result (λ ring. IsRoomFor lane.now ring.0) }
+    ensures inlet { IfOk result (λ ring. IsInletFor lane.now ring.1) }
+    ensures ends { IfOk result (λ ring. AreEnds ring.0 ring.1) }
+{
+    ring_for(alloc, lane.lines.as_slice().len())
+}
+
+/// The number of all lines.
+pub fn count_lines(lanes: &[Lane]) -> usize
+    requires { length (lines_in lanes.now) ≤ 2 ^ 24 }
+    ensures { result ≡ length (lines_in lanes.now) }
+{
+    let mut count = 0;
+    for lane in lanes {
+        count += lane.lines.as_slice().len();
+    }
+    count
+}

@@ -1,0 +1,2 @@
+pub mod LoneTurns
+pub mod BeginningSteps

@@ -1,0 +1,48 @@
+-- How a mode begins that one caller alone runs, over the basis on a shelf and the disk's file; and how it ends, by that basis
+use Rattle.std.specs.Prelude.{◌≡◌, ◌⊎◌, ℕ, List}
+use Rattle.outside_io.specs.Shelves.{Files}
+use Rattle.outside_io.specs.declared.disks.Disk.{Ghosts}
+use Rattle.basis_book.specs.Dated.{Dated}
+use Rattle.basis_shelf.specs.Bases.{IsBasis}
+use Rattle.office_state.specs.Opening.{HasNotOpened}
+use Rattle.office_state.specs.declared.faults.StartCause.{StartCause}
+use Rattle.turn_lock.specs.Passes.{Holding}
+use Rattle.shared_office.specs.Offices.{OfficeOpening}
+use Rattle.shared_office.specs.Starting.{HasStartedOffice}
+use Rattle.program_endings.specs.Refusals.{SaysUnopened}
+use Rattle.program_endings.specs.WithoutBasis.{EndsNoBasis}
+use Rattle.program_endings.specs.Writing.{Shelving, Stream}
+use Rattle.program_endings.specs.declared.ending.Ending.{Ending}
+
+-- the shelf has a basis under the name, and the mode ended so by it
+pub record EndsByBasis (Ends : List Dated → Type 0) (name : List ℕ) (shelf : Shelving) : Type 0 where
+  pub basis : List Dated
+  pub is : (files : Files) → shelf.Agrees files → IsBasis files name basis
+  pub ends : Ends basis
+
+-- how a mode ends that needs a basis; without one the disk isn't touched
+abbrev pub EndsOverBasis : {D : Type 0} → D → D → (List Dated → Type 0) → List ℕ → Shelving → Stream → Ending → Type 0
+EndsOverBasis old new Ends name shelf output ending =
+    EndsByBasis Ends name shelf ⊎ ((new ≡ old) × EndsNoBasis name shelf output ending)
+
+-- an office was opened on the disk, with some watchers, and this is its first pass
+abbrev pub HasFirstPass : {D W : Type 0} → Ghosts D → D → Holding (OfficeOpening D W) → Type 0
+HasFirstPass {D} {W} g old pass = (watchers : W) × HasStartedOffice g old watchers pass
+
+-- the shelf has this basis under the name, and an office was opened on the disk
+pub record HasBegun {D W : Type 0} (g : Ghosts D) (old : D) (name : List ℕ) (shelf : Shelving) (basis : List Dated)
+    (pass : Holding (OfficeOpening D W)) : Type 0 where
+  pub is : (files : Files) → shelf.Agrees files → IsBasis files name basis
+  pub watchers : W
+  pub started : HasStartedOffice g old watchers pass
+
+-- no office was opened on the disk, and the line says why
+pub record IsUnopened {D : Type 0} (g : Ghosts D) (old new : D) (output : Stream) (ending : Ending) : Type 0 where
+  pub cause : StartCause
+  pub refused : HasNotOpened g old new cause
+  pub says : SaysUnopened cause output ending
+
+-- there was no basis, or no office
+abbrev pub HasNotBegun : {D : Type 0} → Ghosts D → D → D → List ℕ → Shelving → Stream → Ending → Type 0
+HasNotBegun g old new name shelf output ending =
+    EndsOverBasis old new (λ basis. IsUnopened g old new output ending) name shelf output ending

@@ -1,4 +1,0 @@
-pub mod SetSteps
-pub mod PolicyValues
-pub mod Fronts
-pub mod BookValues

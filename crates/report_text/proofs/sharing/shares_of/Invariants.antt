@@ -1,0 +1,10 @@
+use Rattle.std.proofs.Common.{◌≡◌, ◌≤◌, ◌++◌, length, vec_capacity}
+use Rattle.report_text.specs.Parts.{rows_of_parts}
+use Rattle.report_text.proofs.sharing.shares_of.Given as goal
+
+abbrev pub invariant-loop : goal.invariant-loop
+invariant-loop l = record {
+  room : l.many ≤ vec_capacity l.shares;
+  many : length l.shares.items ≡ l.counter;
+  whole : rows_of_parts l.shares.items ++ l.rest ≡ l.rows;
+}

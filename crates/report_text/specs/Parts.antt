@@ -1,0 +1,21 @@
+-- The rows of a valuation in parts, and what the workers write of them
+use Rattle.std.specs.Prelude.{◌≡◌, ℕ, List, [], ◌∷◌, ◌++◌, Result, Ok, Err, IfOk}
+use Rattle.std.specs.List.{flat_map}
+use Rattle.policy_types.specs.declared.watcher.NoMemory.{NoMemory}
+use Rattle.policy_value.specs.declared.worth.Row.{Row}
+use Rattle.report_text.specs.Block.{row_text}
+use Rattle.report_text.specs.declared.printer.RowPart.{RowPart}
+
+-- the rows of the parts, one behind the other
+abbrev pub rows_of_parts : List RowPart → List Row
+rows_of_parts [] = []
+rows_of_parts (part ∷ more) = part.rows.now ++ rows_of_parts more
+
+-- the part's text, or there was no memory for it
+abbrev pub IsTextOfPart : RowPart → Result (List ℕ) NoMemory → Type 0
+IsTextOfPart part text = IfOk text (λ written. written ≡ flat_map row_text part.rows.now)
+
+-- the text, where there is one
+abbrev pub had_text : Result (List ℕ) NoMemory → List ℕ
+had_text (Ok text) = text
+had_text (Err lack) = []

@@ -1,0 +1,118 @@
+// The whole text of a valuation, of which several workers write the rows at the same time.
+ghost use Rattle.std.specs.Prelude.{◌≡◌, ◌≤◌, ◌++◌, length, IfOk, OnOk, IsOk, Err};
+ghost use Rattle.std.specs.List.{AllByRecursion, flat_map};
+ghost use Rattle.life_dates.specs.Calendar.{IsDay};
+ghost use Rattle.report_text.specs.Block.{row_text, block_text, AreSummable};
+ghost use Rattle.report_text.specs.Parts.{rows_of_parts, had_text};
+
+use crate::block::{print_block, print_heading};
+use crate::parts::TextParts;
+use crate::printer::{RowPart, RowPrinter};
+use crate::totals::print_total;
+use parallel_value::map_into;
+use policy_types::NoMemory;
+use policy_value::{Measure, Row, Rows};
+use std::alloc::Global;
+use std::thread::Threads;
+use text_lines::Text;
+
+/// The rows that are worth a worker's thread.
+const ROWS_TO_A_WORKER: usize = 8_192;
+
+/// More workers have ever smaller parts.
+const MOST_WORKERS: u8 = 16;
+
+/// The whole of a valuation, as `print_block` prints it, in parts: the rows are written by as many workers as are asked
+/// for, at most sixteen, or fewer where each would have too few. One worker alone makes one part.
+pub fn print_parts<R: Threads + Sync>(
+    rt: &R,
+    alloc: Global,
+    lane: u8,
+    on: i32,
+    position: u32,
+    measure: Measure,
+    rows: &Rows,
+    workers: u8,
+) -> Result<TextParts, NoMemory>
+    requires on { IsDay on }
+    requires few { length rows.now ≤ 4000000 }
+    requires bounded { AreSummable rows.now }
+    requires workers { (1 ≤ workers) × (workers ≤ 64) }
+    ensures { IfOk result (λ text. text ≡ block_text lane on position measure rows.now) }
+{
+    let most = usize::from(workers.min(MOST_WORKERS));
+    let policies = rows.as_slice().len();
+    let many = (policies / ROWS_TO_A_WORKER).clamp(1, most);
+    let mut parts = TextParts::new(alloc);
+    if many < 2 {
+        parts.push(print_block(alloc, lane, on, position, measure, rows)?)?;
+        return Ok(parts);
+    }
+    parts.push(print_heading(alloc, lane, on, position, policies as u32, measure)?)?;
+    add_rows(rt, alloc, rows.as_slice(), many, &mut parts)?;
+    parts.push(print_total(alloc, rows, measure)?)?;
+    Ok(parts)
+}
+
+// Adds the rows, each worker's behind those of the one before.
+fn add_rows<R: Threads + Sync>(
+    rt: &R,
+    alloc: Global,
+    rows: &[Row],
+    many: usize,
+    parts: &mut TextParts,
+) -> Result<(), NoMemory>
+    requires { (1 ≤ many) × (many ≤ 64) }
+    ensures { OnOk result (parts.new ≡ parts.old ++ flat_map row_text rows.now) }
+{
+    let mut printers = Vec::from_elem(alloc, RowPrinter { alloc }, many).map_err(|_| NoMemory)?;
+    let shares = shares_of(alloc, rows, many)?;
+    let mut texts = unwritten(alloc, many)?;
+    map_into(
+        rt,
+        printers.as_mut_slice(),
+        shares.as_slice(),
+        texts.as_mut_slice(),
+    );
+    add_texts(texts, parts)
+}
+
+// So many parts, as long as one another or with a longer last, which are the rows one behind the other.
+fn shares_of<'a>(alloc: Global, rows: &'a [Row], many: usize) -> Result<Vec<RowPart<'a>>, NoMemory>
+    requires { 1 ≤ many }
+    ensures many { IfOk result (λ shares. length shares.items ≡ many) }
+    ensures whole { IfOk result (λ shares. rows_of_parts shares.items ≡ rows.now) }
+{
+    let size = rows.len() / many;
+    let mut shares = Vec::with_capacity(alloc, many).map_err(|_| NoMemory)?;
+    let mut rest = rows;
+    for _ in 0..many - 1 {
+        let (front, back) = rest.split_at(size.min(rest.len()));
+        shares.push_reserved(RowPart { rows: front });
+        rest = back;
+    }
+    shares.push_reserved(RowPart { rows: rest });
+    Ok(shares)
+}
+
+// Places for so many texts.
+fn unwritten(alloc: Global, many: usize) -> Result<Vec<Result<Text, NoMemory>>, NoMemory>
+    ensures { IfOk result (λ texts. length texts.items ≡ many) }
+{
+    let mut texts = Vec::with_capacity(alloc, many).map_err(|_| NoMemory)?;
+    for _ in 0..many {
+        texts.push_reserved(Err(NoMemory));
+    }
+    Ok(texts)
+}
+
+// Adds the texts, where there was memory for each.
+fn add_texts(texts: Vec<Result<Text, NoMemory>>, parts: &mut TextParts) -> Result<(), NoMemory>
+    ensures had { OnOk result (AllByRecursion IsOk texts.items) }
+    ensures added { OnOk result (parts.new ≡ parts.old ++ flat_map had_text texts.items) }
+{
+    for text in texts {
+        parts.push(text?)?;
+    }
+    Ok(())
+}

@@ -1,0 +1,67 @@
+-- How a run ends by what was written of the text of its lines
+use Rattle.std.proofs.Common.{◌≡◌, ℕ, ◌+◌, ◌≤◌, ◌<◌, List, ◌++◌, length, Option, Result, Ok, Err, refl, sym, ap, ◌∙◌, subst, inl, inr}
+use Rattle.std.specs.Prelude.{IfOk, OnErr}
+use Rattle.std.specs.Io.KnownBytes.{Appends}
+use Rattle.std.proofs.KnownBytes.{Appends-trans}
+use Rattle.outside_io.specs.Faults.{Rose}
+use Rattle.outside_io.specs.Streams.{AppendsPart}
+use Rattle.policy_types.specs.declared.watcher.NoMemory.{NoMemory as Lack}
+use Rattle.policy_types.specs.declared.watcher.Report.{Report}
+use Rattle.office_state.proofs.HistorySteps.{rose_since}
+use Rattle.lane_runner.specs.declared.running.Ran.{Ran}
+use Rattle.lane_runner.specs.declared.transcript.TranscriptLine.{TranscriptLine}
+use Rattle.lane_runner.specs.declared.wording.Unwritten.{Unwritten}
+use Rattle.lane_runner.specs.declared.wording.Unwritten.TheVariants.{WriteFault, NoMemory}
+use Rattle.lane_runner.specs.Written.{HasEnded}
+use Rattle.lane_runner.proofs.GatherSteps.{part_behind, part_more, part_whole}
+use Rattle.program_endings.specs.Writing.{Stream}
+use Rattle.program_endings.specs.declared.ending.Ending.TheVariants.{WriteFault as Failed, NoMemory as NoRoom}
+use Rattle.transcript_text.specs.Transcript.{reports_text}
+use Rattle.transcript_text.specs.Told.{run_text, told_texts}
+use Rattle.script_run.specs.inside.Ran.{EndsTold, IsWritten, output_until}
+
+-- what was written of the lines' text, or nothing where they weren't run
+pub written_of : {K P : Type 0} (faults : K → ℕ) (written : K → Option (List ℕ)) (old new : K) (first closing : P) (ran : Result Ran Lack) (output : Stream)
+    → output.faults_before ≡ faults old → output.before ≡ written old → faults old ≤ faults new
+    → IfOk ran (λ (done : Ran). HasEnded (faults old) (faults new) (written old) (written new) (told_texts done.transcript.lines) done.written)
+    → OnErr ran ((closing ≡ first) × (new ≡ old)) → IsWritten output (faults new) (written new) ran
+written_of faults written old new first closing (Ok done) output count bytes passed wrote same = (
+  subst (λ (n : ℕ). n ≤ faults new) (sym count) passed,
+  subst (λ (n : ℕ). HasEnded n (faults new) output.before (written new) (told_texts done.transcript.lines) done.written) (sym count)
+      (subst (λ (b : Option (List ℕ)). HasEnded (faults old) (faults new) b (written new) (told_texts done.transcript.lines) done.written) (sym bytes) wrote),
+)
+written_of faults written old new first closing (Err lack) output count bytes passed wrote same =
+    (ap faults same.1 ∙ sym count, ap written same.1 ∙ sym bytes)
+
+pub stays : (P Q : Type 0) (ran : Result Ran Lack) → OnErr ran (P × Q) → OnErr ran P
+stays P Q (Ok done) same = tt
+stays P Q (Err lack) same = same.0
+
+module _ (lines : List TranscriptLine) (reports : List Report) (first : Stream) (faults later : ℕ) (mid last : Option (List ℕ)) where
+  -- the output failed in the lines
+  pub told_failed : HasEnded first.faults_before faults first.before mid (told_texts lines) (Err WriteFault)
+      → EndsTold lines reports (output_until first faults mid) Failed
+  told_failed ended = (ended.0, part_more first.before mid (told_texts lines) (reports_text reports) ended.1)
+
+  -- memory was wanting for a line
+  pub told_short : HasEnded first.faults_before faults first.before mid (told_texts lines) (Err NoMemory)
+      → EndsTold lines reports (output_until first faults mid) NoRoom
+  told_short ended = inl (part_more first.before mid (told_texts lines) (reports_text reports) ended)
+
+  -- or for the reports
+  pub reports_short : Appends first.before mid (told_texts lines) → 0 < length (reports_text reports)
+      → EndsTold lines reports (output_until first faults mid) NoRoom
+  reports_short whole some = inl (part_whole first.before mid (told_texts lines) (reports_text reports) some whole)
+
+  -- the output failed in them
+  pub reports_failed : first.faults_before ≤ faults → Rose faults later → Appends first.before mid (told_texts lines)
+      → AppendsPart mid last (reports_text reports) → EndsTold lines reports (output_until first later last) Failed
+  reports_failed passed rose whole part = (
+    rose_since first.faults_before faults later passed rose,
+    part_behind first.before mid last (told_texts lines) (reports_text reports) (run_text lines reports) whole refl part,
+  )
+
+  -- they were written
+  pub reports_whole : Appends first.before mid (told_texts lines) → Appends mid last (reports_text reports)
+      → Appends first.before last (run_text lines reports)
+  reports_whole whole more = Appends-trans first.before mid last (told_texts lines) (reports_text reports) whole more

@@ -1,0 +1,27 @@
+-- What is told of an empty file.
+use Rattle.std.proofs.Common.{◌≡◌, ℕ, List, [], inr, inl, refl, subst, lit≤}
+use Rattle.std.specs.Fmt.{digits}
+use Rattle.outside_io.specs.declared.disks.Disk.{Ghosts}
+use Rattle.policy_types.specs.declared.command.Command.{Command}
+use Rattle.statements.specs.Statements.{account_line, count_text}
+use Rattle.office_state.specs.Journals.{Opens}
+use Rattle.office_state.proofs.JournalLaws.{opens_to_one}
+use Rattle.program_endings.specs.Writing.{Stream, WroteAll}
+use Rattle.stating_modes.specs.Books.{books_text, policy_account}
+use Rattle.stating_modes.specs.Worked.{KnowsNobody, StatesAnEmptyFile}
+
+no_commands : (bytes : List ℕ) (commands : List Command) → bytes ≡ [] → Opens bytes commands → commands ≡ []
+no_commands bytes commands empty opens =
+    opens_to_one [] commands [] (subst (λ (xs : List ℕ). Opens xs commands) empty opens) (inr (refl, inl (lit≤ tt)))
+
+pub states_nothing : {D : Type 0} (g : Ghosts D) → StatesAnEmptyFile g
+unfolding digits account_line count_text
+states_nothing g old new output honest empty h =
+    let none = no_commands (g.reads old) h.commands empty (h.opened honest) in
+    subst (λ (commands : List Command). WroteAll output (books_text commands)) none h.wrote
+
+pub knows_nobody : {D : Type 0} (g : Ghosts D) → KnowsNobody g
+unfolding digits
+knows_nobody g old new output honest empty h =
+    let none = no_commands (g.reads old) h.commands empty (h.opened honest) in
+    subst (λ (commands : List Command). WroteAll output (policy_account 7 commands)) none h.wrote

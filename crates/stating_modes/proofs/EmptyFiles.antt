@@ -1,0 +1,128 @@
+-- What is told of an empty file over two disks
+use Rattle.std.proofs.Common.{◌≡◌, ◌⊎◌, ℕ, List, [], ◌∷◌, ◌++◌, length, codes, decimal, arith, inr, inl, refl, sym, ap, ap₂, ◌∙◌, subst, lit≤}
+use Rattle.std.specs.Fmt.{digits}
+use Rattle.outside_io.specs.Faults.{Rose}
+use Rattle.outside_io.specs.Streams.{AppendsPart}
+use Rattle.outside_io.specs.declared.disks.Disk.{Ghosts}
+use Rattle.money_ledgers.specs.Balances.{balances}
+use Rattle.std.specs.List.{flat_map}
+use Rattle.policy_types.specs.Accounts.{Booking}
+use Rattle.policy_types.specs.declared.command.Command.{Command}
+use Rattle.policy_types.specs.declared.policy.Policy.{Policy}
+use Rattle.policy_machine.specs.Book.{book}
+use Rattle.policy_machine.proofs.LedgerLemmas.{sum_of-ledger}
+use Rattle.text_lines.specs.Lines.{line_of}
+use Rattle.stating_modes.specs.Stating.{EndsState, IsStated}
+use Rattle.statements.specs.Statements.{account_line, balance_text, count_text, policy_text}
+use Rattle.checkpoint_store.specs.Checkpoints.{IsSnapshotOf}
+use Rattle.checkpoint_store.specs.declared.snapshot.Snapshot.{Snapshot}
+use Rattle.office_state.specs.Images.{IsLeftAlone}
+use Rattle.office_state.specs.Journals.{Opens}
+use Rattle.program_endings.proofs.WorkedEndings.{refuses_hello}
+use Rattle.office_state.proofs.JournalLaws.{opens_to_one}
+use Rattle.program_endings.specs.declared.ending.Ending.{Ending}
+use Rattle.program_endings.specs.declared.ending.Ending.TheVariants.{Done, BadJournal, WriteFault, DiskFault, NoMemory}
+use Rattle.program_endings.specs.Writing.{Stream, WroteAll, WroteLine}
+use Rattle.stating_modes.specs.Books.{books_text}
+use Rattle.stating_modes.specs.Saved.{IsSaved, checkpoint_text}
+use Rattle.stating_modes.specs.Stated.{EndsStateKept, snapshot_text}
+use Rattle.stating_modes.specs.Telling.{EndsTelling, IsRefusedByTwo, TellsSnapshot}
+use Rattle.stating_modes.specs.TwoDisks.{AreTrue, IsHeldWhereTrue, IsSnapshotHeld, TellsTruth, TwoDisks}
+use Rattle.stating_modes.specs.Worked.{KeepsAnEmptyFile, RefusesHelloByTwo, SavesNothing, TellsNoLie}
+
+no_commands : (bytes : List ℕ) (commands : List Command) → bytes ≡ [] → Opens bytes commands → commands ≡ []
+no_commands bytes commands empty opens =
+    opens_to_one [] commands [] (subst (λ (xs : List ℕ). Opens xs commands) empty opens) (inr (refl, inl (lit≤ tt)))
+
+-- a snapshot of commands has their text
+pub text_same : (commands : List Command) (s : Snapshot) → IsSnapshotOf commands s → snapshot_text s ≡ books_text commands
+text_same commands s of =
+    ap (λ (ps : List Policy). flat_map policy_text ps ++ balance_text (balances s.ledger) s.position) of.policies
+    ∙ ap₂ (λ (b : Booking) (n : ℕ). flat_map policy_text (book commands) ++ balance_text b n) of.ledger of.position
+
+-- so `state` writes what it writes without the second disk
+pub stated_so : {D E : Type 0} (g : Ghosts D) (e : Ghosts E) (disks : TwoDisks D E) (Wrote : List ℕ → Type 0) → AreTrue g e disks
+    → TellsSnapshot g e disks snapshot_text Wrote → IsStated g disks.old disks.new books_text Wrote
+stated_so g e disks Wrote are told =
+    let held = told.held are in
+    record {
+      commands = held.commands;
+      opened = λ honest. held.opened;
+      wrote = subst Wrote (text_same held.commands told.snapshot held.leave) told.wrote;
+      balanced = sum_of-ledger held.commands;
+      disk = held.disk;
+    }
+
+pub ends_the_same : {D E : Type 0} (g : Ghosts D) (e : Ghosts E) (disks : TwoDisks D E) (output : Stream) (ending : Ending) → AreTrue g e disks
+    → ¬ Rose (e.faults disks.second) (e.faults disks.kept) → EndsStateKept g e disks output ending
+    → EndsState g disks.old disks.new books_text output ending
+ends_the_same g e disks output ending are held ends = by ending ends.telling
+  where
+    by : (ending : Ending) → EndsTelling g e disks (TellsSnapshot g e disks snapshot_text) output ending → EndsState g disks.old disks.new books_text output ending
+    by Done told = stated_so g e disks (WroteAll output) are told
+    by WriteFault told = (told.0, stated_so g e disks (AppendsPart output.before output.after) are told.1)
+    by BadJournal refused = record {
+      cause = refused.cause;
+      line = refused.line;
+      shown = λ honest. refused.shown are;
+      quiet = refused.quiet.first;
+      alone = ends.first;
+    }
+    by DiskFault told = elim told.0 [
+      | inl rose ↦ (rose, told.1, ends.first)
+      | inr rose ↦ absurd (held rose)
+    ]
+    by NoMemory told = (told.0, ends.first, told.1.first)
+    by _ told = absurd told
+
+pub keeps_nothing : {D E : Type 0} (g : Ghosts D) (e : Ghosts E) → KeepsAnEmptyFile g e
+unfolding digits account_line count_text
+keeps_nothing g e disks output are empty = (
+  λ told.
+      let held = told.held are in
+      let none = no_commands (g.reads disks.old) held.commands empty held.opened in
+      subst (λ (commands : List Command). WroteAll output (books_text commands)) none
+      (subst (WroteAll output) (text_same held.commands told.snapshot held.leave) told.wrote),
+  λ saved.
+      let held = saved.told.held are in
+      let none = no_commands (g.reads disks.old) held.commands empty held.opened in
+      let zero : saved.told.snapshot.position ≡ 0 = held.leave.position ∙ ap length none in
+      subst (λ (n : ℕ). WroteAll output (line_of (codes "checkpoint") (decimal n ∷ []))) zero saved.told.wrote,
+)
+
+pub no_lie : TellsNoLie
+no_lie bytes bodies opened s is within = let no : 0 ≡ 1 = is.opened in absurd (omega (arith, no))
+
+empty_position : {D E : Type 0} (g : Ghosts D) (e : Ghosts E) (disks : TwoDisks D E) (s : Snapshot) → AreTrue g e disks → g.reads disks.old ≡ []
+    → IsHeldWhereTrue g e disks s → s.position ≡ 0
+empty_position g e disks s are empty held =
+    let of = held are in
+    of.leave.position ∙ ap length (no_commands (g.reads disks.old) of.commands empty of.opened)
+
+pub saves_nothing : {D E : Type 0} (g : Ghosts D) (e : Ghosts E) → SavesNothing g e
+saves_nothing g e disks output image are empty left = (
+  λ ends.
+      let saved = ends.telling in
+      (saved.told.snapshot, saved.saved are.second_honest image left, empty_position g e disks saved.told.snapshot are empty saved.told.held),
+  λ ends. elim (ends.now are.second_honest image left) [
+    | inl none ↦ inl none
+    | inr (inl earlier) ↦ inr (inl earlier)
+    | inr (inr held) ↦ inr (inr (held.0, held.1, empty_position g e disks held.0 are empty held.2))
+  ],
+)
+
+-- a file that is no journal is refused as one alone is
+pub hello_refused : {D E : Type 0} (g : Ghosts D) (e : Ghosts E) (disks : TwoDisks D E) (output : Stream) → AreTrue g e disks
+    → g.reads disks.old ≡ codes "hello" → IsLeftAlone g disks.old disks.new → IsRefusedByTwo g e disks output
+    → WroteLine output (codes "badjournal,notajournal")
+hello_refused g e disks output are reads alone refused = refuses_hello g disks.old disks.new output are.first_honest reads (record {
+  cause = refused.cause;
+  line = refused.line;
+  shown = λ honest. refused.shown are;
+  quiet = refused.quiet.first;
+  alone = alone;
+})
+
+pub refuses_by_two : {D E : Type 0} (g : Ghosts D) (e : Ghosts E) → RefusesHelloByTwo g e
+refuses_by_two g e disks output are reads ends =
+    (hello_refused g e disks output are reads ends.first ends.telling, (ends.second.looks are.second_honest).facts.reads)

@@ -1,0 +1,9 @@
+pub mod LookSteps
+pub mod ReadingSteps
+pub mod StateSteps
+pub mod StateStatus
+pub mod EmptyFile
+pub mod OpenedTwo
+pub mod SavingSteps
+pub mod EndingSteps
+pub mod EmptyFiles

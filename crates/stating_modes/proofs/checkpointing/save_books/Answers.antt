@@ -1,0 +1,12 @@
+use Rattle.std.proofs.Common.{subst}
+use Rattle.checkpoint_store.specs.declared.snapshot.Snapshot.{Snapshot}
+use Rattle.program_endings.specs.Writing.{between}
+use Rattle.stating_modes.specs.inside.Saving.{EndsSaving}
+use Rattle.stating_modes.proofs.checkpointing.save_books.Goals as goal
+
+pub returns-in-Ok : goal.returns-in-Ok
+returns-in-Ok g c =
+    subst
+    (λ (s : Snapshot). EndsSaving c.args.store.now c.save.new.store s
+    (between g.K.Sink.faults g.K.Sink.written c.args.output.now c.save.new.output) c.save.result)
+    c.in-Ok.ensures c.save.ensures

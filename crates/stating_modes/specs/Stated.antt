@@ -1,0 +1,44 @@
+-- What `state` writes of a snapshot, and how it ends over two disks
+use Rattle.std.specs.Prelude.{ℕ, List, ◌++◌, length}
+use Rattle.std.specs.List.{flat_map}
+use Rattle.outside_io.specs.declared.disks.Disk.{Ghosts}
+use Rattle.money_ledgers.specs.Balances.{balances}
+use Rattle.statements.specs.Statements.{balance_text, policy_text}
+use Rattle.posting_journal.specs.Creation.{OpensToBodies}
+use Rattle.checkpoint_store.specs.Reopening.{TakesSteps}
+use Rattle.checkpoint_store.specs.declared.snapshot.Snapshot.{Snapshot}
+use Rattle.office_state.specs.Images.{IsLeftAlone}
+use Rattle.program_endings.specs.Writing.{Stream}
+use Rattle.program_endings.specs.declared.ending.Ending.{Ending}
+use Rattle.program_endings.specs.declared.ending.Ending.TheVariants.{Done, WriteFault}
+use Rattle.stating_modes.specs.Telling.{EndsTelling, TellsSnapshot}
+use Rattle.stating_modes.specs.TwoDisks.{IsOnlyRead, TwoDisks}
+
+-- all policies in order of issue, the four balances, and the number of commands
+abbrev pub snapshot_text : Snapshot → List ℕ
+snapshot_text s = flat_map policy_text s.book ++ balance_text (balances s.ledger) s.position
+
+-- the snapshot's books were written, and the second disk was only read
+pub record EndsStateKept {D E : Type 0} (g : Ghosts D) (e : Ghosts E) (disks : TwoDisks D E) (output : Stream)
+    (ending : Ending) : Type 0 where
+  pub telling : EndsTelling g e disks (TellsSnapshot g e disks snapshot_text) output ending
+  pub first : IsLeftAlone g disks.old disks.new
+  pub second : IsOnlyRead e disks.second disks.kept
+
+-- the text was written, whole or a front of it
+abbrev pub IsStateTold : Ending → Type 0
+IsStateTold Done = Unit {0}
+IsStateTold WriteFault = Unit {0}
+IsStateTold _ = ⊥
+
+-- one step was taken for each record of the journal from the checkpoint's position on, where the file has one that isn't
+-- above the journal's count, and else for each record
+pub record TakesFewSteps (journal checkpoint : List ℕ) (before now : ℕ) : Type 0 where
+  pub bodies : List (List ℕ)
+  pub opened : OpensToBodies journal bodies
+  pub taken : TakesSteps checkpoint (length bodies) before now
+
+-- it is so where both disks come back honest
+abbrev pub ReadsFew : {D E : Type 0} → Ghosts D → Ghosts E → TwoDisks D E → ℕ → ℕ → Type 0
+ReadsFew g e disks before now =
+    g.honest disks.new → e.honest disks.kept → TakesFewSteps (g.reads disks.old) (e.reads disks.second) before now

@@ -1,0 +1,70 @@
+-- The journal's disk and a second one, which may hold a checkpoint of its journal
+use Rattle.std.specs.Prelude.{◌≡◌, ◌⊎◌, ℕ, List, []}
+use Rattle.outside_io.specs.Faults.{Rose}
+use Rattle.outside_io.specs.declared.disks.Disk.{Ghosts}
+use Rattle.policy_types.specs.declared.command.Command.{Command}
+use Rattle.policy_machine.specs.History.{opened_on}
+use Rattle.posting_journal.specs.Creation.{OpensToBodies}
+use Rattle.posting_journal.specs.Opening.{IsOpenedOn, IsSynced}
+use Rattle.posting_journal.specs.Runs.{LooksOn}
+use Rattle.checkpoint_store.specs.Checkpoints.{IsSnapshotOf}
+use Rattle.checkpoint_store.specs.Reopening.{IsTrueWhereUsed}
+use Rattle.checkpoint_store.specs.declared.snapshot.Snapshot.{Snapshot}
+use Rattle.office_state.specs.Images.{IsLeftBy}
+use Rattle.office_state.specs.Journals.{Opens}
+use Rattle.stating_modes.specs.declared.finished.FinishedKept.{FinishedKept}
+
+-- the two disks as a call gets them and as it gives them back
+pub record TwoDisks (D E : Type 0) : Type 0 where
+  pub old : D
+  pub new : D
+  pub second : E
+  pub kept : E
+
+-- the disks of a mode that ended
+abbrev pub disks_of : {D E : Type 0} → D → E → FinishedKept D E → TwoDisks D E
+disks_of disk second finished = record { old = disk; new = finished.disk; second = second; kept = finished.second }
+
+-- A checkpoint in the file tells the truth of the journal in these bytes: it has more commands than the journal, or is
+-- the snapshot of the journal's first ones. Every file that is no checkpoint does so.
+abbrev pub TellsTruth : List ℕ → List ℕ → Type 0
+TellsTruth file bytes = (bodies : List (List ℕ)) → OpensToBodies bytes bodies → IsTrueWhereUsed file bodies
+
+-- both disks come back honest, and what the second one held told the truth
+pub record AreTrue {D E : Type 0} (g : Ghosts D) (e : Ghosts E) (disks : TwoDisks D E) : Type 0 where
+  pub first_honest : g.honest disks.new
+  pub second_honest : e.honest disks.kept
+  pub truth : TellsTruth (e.reads disks.second) (g.reads disks.old)
+
+-- The snapshot is that of the commands to which the journal's file opens, and its disk holds them still.
+pub record IsSnapshotHeld {D : Type 0} (g : Ghosts D) (old new : D) (snapshot : Snapshot) : Type 0 where
+  pub commands : List Command
+  pub opened : Opens (g.reads old) commands
+  pub leave : IsSnapshotOf commands snapshot
+  pub disk : IsLeftBy g old new (opened_on commands (g.faults old)) []
+
+-- it is so wherever the two disks are true
+abbrev pub IsHeldWhereTrue : {D E : Type 0} → Ghosts D → Ghosts E → TwoDisks D E → Snapshot → Type 0
+IsHeldWhereTrue g e disks snapshot = AreTrue g e disks → IsSnapshotHeld g disks.old disks.new snapshot
+
+-- a disk was synced and read, and not written to
+pub record IsOnlyRead {E : Type 0} (e : Ghosts E) (old new : E) : Type 0 where
+  pub honesty : e.honest new → e.honest old
+  pub looks : e.honest new → LooksOn e old new
+
+-- The journal's disk was made safe: from the end of a sync on a crash leaves the file as it was, or a creation that goes
+-- on or has just ended.
+abbrev pub IsMadeSafe : {D : Type 0} → Ghosts D → D → D → Type 0
+IsMadeSafe {D} g old new =
+    (mid : D) × IsSynced g old mid new
+    × ((image : List ℕ) → g.left_since new (g.clock mid) image → IsOpenedOn (g.reads old) image)
+
+-- neither disk failed
+pub record AreBothQuiet {D E : Type 0} (g : Ghosts D) (e : Ghosts E) (disks : TwoDisks D E) : Type 0 where
+  pub first : g.faults disks.new ≡ g.faults disks.old
+  pub second : e.faults disks.kept ≡ e.faults disks.second
+
+-- one of them did
+abbrev pub HasOneFailed : {D E : Type 0} → Ghosts D → Ghosts E → TwoDisks D E → Type 0
+HasOneFailed g e disks =
+    Rose (g.faults disks.old) (g.faults disks.new) ⊎ Rose (e.faults disks.second) (e.faults disks.kept)

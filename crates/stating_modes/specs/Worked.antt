@@ -1,0 +1,61 @@
+-- Worked texts of an empty file, over one disk and over two, put down by hand from the format
+use Rattle.std.specs.Prelude.{◌≡◌, [], ◌∷◌, ◌++◌, codes, pos, negsuc, ◌⊎◌, ℕ, List}
+use Rattle.outside_io.specs.declared.disks.Disk.{Ghosts}
+use Rattle.policy_types.specs.Accounts.{sum_of}
+use Rattle.program_endings.specs.Writing.{Stream, WroteAll, WroteLine}
+use Rattle.stating_modes.specs.Books.{books_text, policy_account}
+use Rattle.stating_modes.specs.Stating.{IsStated}
+use Rattle.checkpoint_store.specs.Checkpoints.{CheckpointBytes, IsNoCheckpoint}
+use Rattle.checkpoint_store.specs.declared.snapshot.Snapshot.{Snapshot}
+use Rattle.program_endings.specs.declared.ending.Ending.TheVariants.{BadJournal, DiskFault, Done}
+use Rattle.stating_modes.specs.Saved.{EndsCheckpoint, IsSaved}
+use Rattle.stating_modes.specs.Stated.{EndsStateKept, snapshot_text}
+use Rattle.stating_modes.specs.Telling.{TellsSnapshot}
+use Rattle.stating_modes.specs.TwoDisks.{AreTrue, TellsTruth, TwoDisks}
+
+-- whatever the disk, of an empty file `state` writes four balances of 0.00 and no commands
+abbrev pub StatesAnEmptyFile : {D : Type 0} → Ghosts D → Type 0
+StatesAnEmptyFile {D} g = (old new : D) (output : Stream) → g.honest new → g.reads old ≡ []
+    → IsStated g old new books_text (WroteAll output)
+    → WroteAll output (codes "balance,cash,0.00" ++ (10 ∷ []) ++ codes "balance,premiums,0.00" ++ (10 ∷ [])
+    ++ codes "balance,incurred,0.00" ++ (10 ∷ []) ++ codes "balance,payable,0.00" ++ (10 ∷ []) ++ codes "count,0" ++ 10 ∷ [])
+
+-- and `state 7` that there is no policy of this number
+abbrev pub KnowsNobody : {D : Type 0} → Ghosts D → Type 0
+KnowsNobody {D} g = (old new : D) (output : Stream) → g.honest new → g.reads old ≡ []
+    → IsStated g old new (λ commands. policy_account 7 commands) (WroteAll output) → WroteAll output (codes "unknown,7" ++ 10 ∷ [])
+
+-- each of the four balances is added, by its sign: 400.00 paid, 1000.00 claimed, of which 250.00 are settled
+abbrev pub FourBalances : Type 0
+FourBalances = (sum_of (record { cash = pos 15000; premiums = negsuc 39999; incurred = pos 100000; payable = negsuc 74999 }) ≡ pos 0)
+    × (sum_of (record { cash = pos 1; premiums = pos 20; incurred = pos 300; payable = pos 4000 }) ≡ pos 4321)
+
+-- whatever the disks, of an empty file `state` writes four balances of 0.00 and no commands, and `checkpoint` saves none
+abbrev pub KeepsAnEmptyFile : {D E : Type 0} → Ghosts D → Ghosts E → Type 0
+KeepsAnEmptyFile {D} {E} g e = (disks : TwoDisks D E) (output : Stream) → AreTrue g e disks → g.reads disks.old ≡ []
+    → (TellsSnapshot g e disks snapshot_text (WroteAll output)
+    → WroteAll output (codes "balance,cash,0.00" ++ (10 ∷ []) ++ codes "balance,premiums,0.00" ++ (10 ∷ [])
+    ++ codes "balance,incurred,0.00" ++ (10 ∷ []) ++ codes "balance,payable,0.00" ++ (10 ∷ []) ++ codes "count,0" ++ 10 ∷ []))
+    × (IsSaved g e disks (WroteAll output) → WroteAll output (codes "checkpoint,0" ++ 10 ∷ []))
+
+-- an empty second file is no checkpoint, so it tells the truth of any journal
+abbrev pub TellsNoLie : Type 0
+TellsNoLie = (bytes : List ℕ) → TellsTruth [] bytes
+
+-- whatever the disks, over five bytes that are no journal `state` is refused with that line, and the second file stays
+abbrev pub RefusesHelloByTwo : {D E : Type 0} → Ghosts D → Ghosts E → Type 0
+RefusesHelloByTwo {D} {E} g e = (disks : TwoDisks D E) (output : Stream) → AreTrue g e disks
+    → g.reads disks.old ≡ codes "hello" → EndsStateKept g e disks output BadJournal
+    → WroteLine output (codes "badjournal,notajournal") × (e.reads disks.kept ≡ e.reads disks.second)
+
+-- a checkpoint of no command
+abbrev pub IsEmptyCheckpoint : List ℕ → Type 0
+IsEmptyCheckpoint image = (s : Snapshot) × CheckpointBytes image s × (s.position ≡ 0)
+
+-- over an empty file `checkpoint` leaves that in each image, once it is done; where a disk failed, none but that is new
+abbrev pub SavesNothing : {D E : Type 0} → Ghosts D → Ghosts E → Type 0
+SavesNothing {D} {E} g e = (disks : TwoDisks D E) (output : Stream) (image : List ℕ) → AreTrue g e disks
+    → g.reads disks.old ≡ [] → e.may_leave disks.kept image
+    → (EndsCheckpoint g e disks output Done → IsEmptyCheckpoint image)
+    × (EndsCheckpoint g e disks output DiskFault
+    → IsNoCheckpoint image ⊎ e.may_leave disks.second image ⊎ IsEmptyCheckpoint image)

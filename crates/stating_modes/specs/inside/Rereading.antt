@@ -1,0 +1,97 @@
+-- What reading a journal's records again tells, for one policy
+use Rattle.std.specs.Prelude.{◌≡◌, ℕ, List, [], ◌⊎◌, Err, IsOk, codes}
+use Rattle.std.specs.List.{AllByRecursion}
+use Rattle.outside_io.specs.Faults.{Rose}
+use Rattle.outside_io.specs.Streams.{AppendsPart}
+use Rattle.outside_io.specs.declared.disks.Disk.{Ghosts}
+use Rattle.policy_types.specs.declared.command.Command.{Command}
+use Rattle.policy_types.specs.declared.command.Command.TheVariants.{Upgrade}
+use Rattle.policy_types.specs.Valid.{IsValid, id_of}
+use Rattle.policy_machine.specs.Book.{policy_of}
+use Rattle.policy_machine.specs.Rules.{next}
+use Rattle.posting_journal.specs.Creation.{IsUnfinished}
+use Rattle.posting_journal.specs.Runs.{LooksOn}
+use Rattle.posting_journal.specs.States.{disk_of}
+use Rattle.posting_journal.specs.declared.journal.Journal.{Journal}
+use Rattle.journal_replay.specs.Replays.{BodiesHave, HasReplayCause, IsLookedAt, IsQuiet, Stops, bodies_of}
+use Rattle.journal_replay.specs.declared.replaying.ReplayFault.{ReplayFault}
+use Rattle.office_state.specs.declared.faults.StartCause.{StartCause}
+use Rattle.office_state.specs.declared.faults.StartCause.TheVariants.{DiskFault as FaultyDisk}
+use Rattle.office_state.specs.Journals.{IsOfTheFile, Opens, OpensToNone}
+use Rattle.office_state.specs.Opening.{TellsFault}
+use Rattle.office_state.specs.inside.Replays.{as_replay_cause}
+use Rattle.program_endings.specs.declared.ending.Ending.{Ending}
+use Rattle.program_endings.specs.declared.ending.Ending.TheVariants.{Done, BadJournal, WriteFault, DiskFault, NoMemory}
+use Rattle.program_endings.specs.Refusals.{SaysWhy}
+use Rattle.program_endings.specs.Writing.{Stream, WroteAll, WroteLine}
+use Rattle.stating_modes.specs.declared.rereading.Account.{Account}
+use Rattle.stating_modes.specs.Books.{policy_entries, policy_account}
+
+-- the account is that of its policy after the commands
+pub record IsAccount (account : Account) (commands : List Command) : Type 0 where
+  pub valid : AllByRecursion IsValid commands
+  pub entries : account.entries.items ≡ policy_entries commands account.id
+  pub policy : account.policy ≡ policy_of commands account.id
+
+-- the rules accept the command of its policy after these, or it is an upgrade
+abbrev pub CanBeNext : List Command → Command → Type 0
+CanBeNext commands command = (command ≡ Upgrade) ⊎ IsOk (next (policy_of commands (id_of command)) command)
+
+-- the account was read from a journal
+pub record IsReadFrom {D : Type 0} {g : Ghosts D} (journal : Journal D g) (disk : D) (account : Account) (id : ℕ)
+    : Type 0 where
+  pub named : account.id ≡ id
+  pub looked : IsLookedAt g (disk_of journal) disk
+  pub commands : List Command
+  pub holds : IsAccount account commands
+  pub quiet : IsQuiet journal disk
+  pub bodies : BodiesHave journal disk (λ bodies. bodies ≡ bodies_of commands)
+
+-- the account couldn't be read from a journal
+pub record IsStoppedFrom {D : Type 0} {g : Ghosts D} (journal : Journal D g) (disk : D) (cause : StartCause) : Type 0 where
+  pub looked : IsLookedAt g (disk_of journal) disk
+  pub fault : ReplayFault
+  pub same : cause ≡ as_replay_cause fault
+  pub told : HasReplayCause {T = Unit {0}} journal disk (Err fault)
+  pub stops : Stops (AllByRecursion IsValid) CanBeNext journal disk [] fault
+
+-- The account was read from the commands of the disk's file, where the disk comes back honest, as it was before then. A
+-- file that is no unfinished creation was only looked at.
+pub record HasRead {D : Type 0} (g : Ghosts D) (old new : D) (account : Account) (id : ℕ) : Type 0 where
+  pub named : account.id ≡ id
+  pub commands : List Command
+  pub holds : IsAccount account commands
+  pub opened : g.honest new → (others : List Command) → Opens (g.reads old) others → commands ≡ others
+  pub honesty : g.honest new → g.honest old
+  pub quiet : g.faults new ≡ g.faults old
+  pub unwritten : g.honest new → ¬ IsUnfinished (g.reads old) → LooksOn g old new
+
+-- The account wasn't read from the disk's file, since the disk failed, or the file opens to no commands, or for want of
+-- memory.
+pub record HasNotRead {D : Type 0} (g : Ghosts D) (old new : D) (cause : StartCause) : Type 0 where
+  pub told : TellsFault (g.faults old) (g.faults new) cause
+  pub shown : g.honest new → IsOfTheFile cause → OpensToNone (g.reads old)
+  pub honesty : g.honest new → g.honest old
+  pub unwritten : g.honest new → ¬ IsUnfinished (g.reads old) → LooksOn g old new
+
+-- how an account's text was written, of the commands that were read again
+pub record IsAccounted {D : Type 0} (g : Ghosts D) (old new : D) (id : ℕ) (Wrote : List ℕ → Type 0) : Type 0 where
+  pub account : Account
+  pub read : HasRead g old new account id
+  pub wrote : Wrote (policy_account id read.commands)
+
+-- how a second reading of the journal ends
+abbrev pub EndsReading : {D : Type 0} → Ghosts D → D → D → ℕ → Stream → Ending → Type 0
+EndsReading g old new id output Done = IsAccounted g old new id (WroteAll output)
+EndsReading g old new id output WriteFault =
+    Rose output.faults_before output.faults_after
+    × IsAccounted g old new id (AppendsPart output.before output.after)
+EndsReading g old new id output BadJournal =
+    (cause : StartCause) × SaysWhy cause output × HasNotRead g old new cause
+EndsReading g old new id output DiskFault =
+    (count : ℕ) × WroteLine output (codes "diskfault") × HasNotRead g old new (FaultyDisk count)
+EndsReading g old new id output NoMemory =
+    WroteLine output (codes "nomemory")
+    × (g.honest new → g.honest old) × (g.faults new ≡ g.faults old)
+    × (g.honest new → ¬ IsUnfinished (g.reads old) → LooksOn g old new)
+EndsReading g old new id output _ = ⊥

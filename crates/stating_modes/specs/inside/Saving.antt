@@ -1,0 +1,41 @@
+-- How the saving of a snapshot ends, by the store before and after it
+use Rattle.std.specs.Prelude.{◌≡◌, ℕ, List, codes}
+use Rattle.outside_io.specs.Faults.{Rose}
+use Rattle.outside_io.specs.Streams.{AppendsPart}
+use Rattle.outside_io.specs.declared.disks.Disk.{Ghosts}
+use Rattle.posting_journal.specs.Runs.{Leaves}
+use Rattle.checkpoint_store.specs.Checkpoints.{CheckpointBytes}
+use Rattle.checkpoint_store.specs.Stores.{IsKeptOrSavedBy, Knows, MightLeave, store_disk}
+use Rattle.checkpoint_store.specs.declared.snapshot.Snapshot.{Snapshot}
+use Rattle.checkpoint_store.specs.declared.store.Store.{Store}
+use Rattle.program_endings.specs.Writing.{Stream, WroteAll, WroteLine}
+use Rattle.program_endings.specs.declared.ending.Ending.{Ending}
+use Rattle.program_endings.specs.declared.ending.Ending.TheVariants.{Done, WriteFault, DiskFault, NoMemory}
+use Rattle.stating_modes.specs.Saved.{checkpoint_text}
+
+-- whether or not the saving succeeded, a crash leaves no checkpoint, or an earlier one, or the new one
+pub record HasTried {E : Type 0} {e : Ghosts E} (old new : Store E e) (snapshot : Snapshot) : Type 0 where
+  pub honesty : e.honest (store_disk new) → e.honest (store_disk old)
+  pub moments : e.honest (store_disk new) → Knows old
+      → Leaves e (store_disk old) (store_disk new) (IsKeptOrSavedBy old snapshot)
+  pub kept : (image : List ℕ) → e.honest (store_disk new) → Knows old → MightLeave new image
+      → IsKeptOrSavedBy old snapshot image
+
+-- it did
+pub record HasSaved {E : Type 0} {e : Ghosts E} (old new : Store E e) (snapshot : Snapshot) : Type 0 where
+  pub tried : HasTried old new snapshot
+  pub quiet : e.faults (store_disk new) ≡ e.faults (store_disk old)
+  pub saved : e.honest (store_disk new) → Knows old → (image : List ℕ)
+      → e.may_leave (store_disk new) image → CheckpointBytes image snapshot
+
+-- the line of the snapshot was written behind it, or a front of the line; or the disk failed, or there was no memory
+abbrev pub EndsSaving : {E : Type 0} {e : Ghosts E} → Store E e → Store E e → Snapshot → Stream → Ending → Type 0
+EndsSaving old new snapshot output Done = HasSaved old new snapshot × WroteAll output (checkpoint_text snapshot)
+EndsSaving old new snapshot output WriteFault =
+    HasSaved old new snapshot × Rose output.faults_before output.faults_after
+    × AppendsPart output.before output.after (checkpoint_text snapshot)
+EndsSaving {e = e} old new snapshot output DiskFault =
+    HasTried old new snapshot × Rose (e.faults (store_disk old)) (e.faults (store_disk new))
+    × WroteLine output (codes "diskfault")
+EndsSaving old new snapshot output NoMemory = (new ≡ old) × WroteLine output (codes "nomemory")
+EndsSaving old new snapshot output _ = ⊥

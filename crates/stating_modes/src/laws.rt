@@ -1,0 +1,18 @@
+// What the definitions have to mean, as a function that does nothing.
+ghost use Rattle.outside_io.specs.Faults.{Rose};
+ghost use Rattle.stating_modes.specs.Books.{books_text};
+ghost use Rattle.stating_modes.specs.Stating.{EndsState};
+ghost use Rattle.program_endings.specs.Writing.{Stream};
+ghost use Rattle.program_endings.specs.declared.ending.Ending.{Ending};
+ghost use Rattle.stating_modes.specs.Stated.{EndsStateKept};
+ghost use Rattle.stating_modes.specs.TwoDisks.{AreTrue, TwoDisks};
+
+use outside_io::Disk;
+
+/// Where the two disks are true and the second doesn't fail, `state` ends as it does by the journal alone, and writes the
+/// same: with a checkpoint, without one, and with one that is out of date.
+pub fn states_the_same<D: Disk, E: Disk>()
+    ensures { (disks : TwoDisks D E) (output : Stream) (ending : Ending) → AreTrue D.Disk E.Disk disks
+        → ¬ Rose (E.faults disks.second) (E.faults disks.kept) → EndsStateKept D.Disk E.Disk disks output ending
+        → EndsState D.Disk disks.old disks.new books_text output ending }
+{}

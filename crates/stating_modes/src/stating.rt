@@ -1,0 +1,71 @@
+// What an administrator reads: all policies, and the balances.
+ghost use Rattle.std.specs.Prelude.{◌≡◌, IfOk};
+ghost use Rattle.std.specs.List.{AllByRecursion, flat_map};
+ghost use Rattle.policy_machine.specs.Rules.{IsSound};
+ghost use Rattle.statements.specs.Statements.{policy_text};
+ghost use Rattle.checkpoint_store.specs.Checkpoints.{IsSoundSnapshot};
+ghost use Rattle.program_endings.specs.Writing.{between};
+ghost use Rattle.stating_modes.specs.Stated.{EndsStateKept, IsStateTold, ReadsFew, snapshot_text};
+ghost use Rattle.stating_modes.specs.TwoDisks.{disks_of};
+
+use crate::finished::FinishedKept;
+use crate::reopened::reopen_both;
+use checkpoint_store::Books;
+use outside_io::{Disk, Sink, Steps};
+use policy_types::{NoMemory, Policy};
+use program_endings::{add, refuse_journal, write_text};
+use statements::{PolicyLines, balance};
+use std::alloc::Global;
+use std::sync::ledger::Ledger;
+use text_lines::Text;
+
+/// Writes all policies in order of issue, and the balances. The journal's records are decided anew from the position of
+/// the second disk's checkpoint on, where it has one that isn't above the journal's count, and else from the first on. The
+/// second disk is synced and read, and not written to. Each record that is read is a step.
+pub fn state_kept<K: Sink, D: Disk, E: Disk, L: Ledger>(
+    alloc: Global,
+    output: &mut K,
+    disk: D,
+    second: E,
+    steps: &mut Steps<L>,
+) -> FinishedKept<D, E>
+    ensures few { IsStateTold result.ending → ReadsFew D.Disk E.Disk (disks_of disk second result) steps.old steps.new }
+    ensures ends { EndsStateKept D.Disk E.Disk (disks_of disk second result)
+        (between K.faults K.written output.old output.new) result.ending }
+{
+    match reopen_both(alloc, disk, second, steps) {
+        Ok(opened) => {
+            let text = text_of(alloc, &opened.books);
+            let ending = write_text(text, output);
+            opened.close(ending)
+        }
+        Err(none) => FinishedKept {
+            ending: refuse_journal(alloc, none.cause, output),
+            disk: none.disk,
+            second: none.second,
+        },
+    }
+}
+
+// The text of the books.
+fn text_of(alloc: Global, books: &Books) -> Result<Vec<u8>, NoMemory>
+    requires { IsSoundSnapshot books.now }
+    ensures { IfOk result (λ text. text.items ≡ snapshot_text books.now) }
+{
+    let mut text = policies_of(alloc, books.policies())?.into_vec();
+    let balances = balance(alloc, &books.ledger(), books.position())?;
+    add(&mut text, balances.as_slice())?;
+    Ok(text)
+}
+
+// The lines of policies.
+fn policies_of(alloc: Global, policies: &[Policy]) -> Result<Text, NoMemory>
+    requires { AllByRecursion IsSound policies.now }
+    ensures { IfOk result (λ text. text ≡ flat_map policy_text policies.now) }
+{
+    let mut lines = PolicyLines::new(alloc);
+    for index in 0..policies.len() {
+        lines.add(&policies[index])?;
+    }
+    Ok(lines.into_text())
+}

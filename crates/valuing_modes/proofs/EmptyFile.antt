@@ -1,0 +1,42 @@
+-- What is told of an empty file.
+use Rattle.std.proofs.Common.{◌≡◌, ℕ, List, [], ◌∷◌, inr, inl, refl, subst, lit≤, pos}
+use Rattle.std.specs.Fmt.{digits}
+use Rattle.std.specs.List.{AllZip}
+use Rattle.outside_io.specs.declared.disks.Disk.{Ghosts}
+use Rattle.life_dates.specs.Calendar.{date_of, date_at, year_of, month_of, days_before_year, days_of_months}
+use Rattle.life_dates.specs.DayText.{day_text}
+use Rattle.policy_types.specs.declared.command.Command.{Command}
+use Rattle.policy_types.specs.declared.policy.Policy.{Policy}
+use Rattle.policy_types.specs.declared.entry.At.TheVariants.{Now, Position}
+use Rattle.policy_value.specs.declared.worth.Measure.TheVariants.{Terminal}
+use Rattle.policy_value.specs.declared.worth.Row.{Row}
+use Rattle.report_text.specs.Block.{block_text, total_text, heading_text}
+use Rattle.snapshot_value.specs.Valuing.{IsValuedRow}
+use Rattle.office_state.specs.Journals.{Opens}
+use Rattle.office_state.proofs.JournalLaws.{opens_to_one}
+use Rattle.program_endings.specs.Writing.{WroteAll}
+use Rattle.valuing_modes.specs.Valuing.{IsBeyond, IsValuation}
+use Rattle.valuing_modes.specs.Worked.{IsAheadOfAnEmptyFile, ValuesAnEmptyFile}
+
+pub no_commands : (bytes : List ℕ) (commands : List Command) → bytes ≡ [] → Opens bytes commands → commands ≡ []
+no_commands bytes commands empty opens =
+    opens_to_one [] commands [] (subst (λ (xs : List ℕ). Opens xs commands) empty opens) (inr (refl, inl (lit≤ tt)))
+
+no_rows : (P : Policy → Row → Type 0) (rows : List Row) → AllZip P [] rows → rows ≡ []
+no_rows P [] each = refl
+no_rows P (row ∷ rows) each = absurd each
+
+pub ahead_of_nothing : {D : Type 0} (g : Ghosts D) → IsAheadOfAnEmptyFile g
+unfolding digits
+ahead_of_nothing g old new output honest empty h =
+    let none = no_commands (g.reads old) h.commands empty (h.opened honest) in
+    let beyond : IsBeyond [] (Position 3) output = subst (λ (commands : List Command). IsBeyond commands (Position 3) output) none h.beyond in
+    beyond.line
+
+pub values_nothing : {D : Type 0} (g : Ghosts D) → ValuesAnEmptyFile g
+unfolding heading_text total_text day_text date_of date_at year_of month_of days_before_year days_of_months digits
+values_nothing g old new output honest empty h =
+    let none = no_commands (g.reads old) h.commands empty (h.opened honest) in
+    let valuation : IsValuation [] (pos 18628) Now Terminal [] (WroteAll output)
+    = subst (λ (commands : List Command). IsValuation commands (pos 18628) Now Terminal [] (WroteAll output)) none h.valuation in
+    subst (λ (rows : List Row). WroteAll output (block_text 0 (pos 18628) 0 Terminal rows)) (no_rows (IsValuedRow [] (pos 18628) Terminal) valuation.rows valuation.each) valuation.wrote

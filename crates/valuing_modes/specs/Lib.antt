@@ -1,0 +1,5 @@
+pub mod Projecting
+pub mod Valuing
+pub mod Worked
+pub mod WorkedProjections
+pub mod inside

@@ -1,0 +1,40 @@
+-- Worked valuations of a journal without commands, of an empty file, and of positions
+use Rattle.std.specs.Prelude.{◌≡◌, [], ◌∷◌, ◌++◌, codes, pos}
+use Rattle.outside_io.specs.declared.disks.Disk.{Ghosts}
+use Rattle.policy_types.specs.declared.entry.At.TheVariants.{Now, Position}
+use Rattle.policy_value.specs.declared.worth.Measure.TheVariants.{Terminal, Mean, Deficiency}
+use Rattle.program_endings.specs.Worked.{output_with}
+use Rattle.program_endings.specs.Writing.{Stream, WroteAll, WroteLine}
+use Rattle.valuing_modes.specs.Valuing.{IsAhead, IsBeyond, IsValuation, IsValued, position_of}
+pub mod Files
+pub mod Valued
+
+abbrev pub PositionsAsked : Type 0
+PositionsAsked = (position_of Now 7 ≡ 7) × (position_of (Position 2) 7 ≡ 2) × (position_of (Position 9) 7 ≡ 9)
+
+-- nobody is valued, and there is no need of a basis for it
+abbrev pub NobodyValued : Type 0
+NobodyValued = IsValuation [] (pos 18628) Now Terminal [] (λ text.
+    text ≡ codes "0,value,2021-01-01,0,0" ++ (10 ∷ []) ++ codes "total,0.00,0.00,0" ++ 10 ∷ [])
+    × IsValuation [] (pos 18628) Now Mean [] (λ text.
+    text ≡ codes "0,value,2021-01-01,0,0,mean" ++ (10 ∷ []) ++ codes "total,0.00,0.00,0" ++ 10 ∷ [])
+    × IsValuation [] (pos 18628) Now Deficiency [] (λ text.
+    text ≡ codes "0,value,2021-01-01,0,0,deficiency" ++ (10 ∷ []) ++ codes "total,0.00,0.00,0.00,0.00,0" ++ 10 ∷ [])
+
+-- three commands are asked for of none
+abbrev pub AheadOfNone : Type 0
+AheadOfNone = IsBeyond [] (Position 3) (output_with 0 [] (codes "refused,ahead,0" ++ 10 ∷ []))
+    × (IsBeyond [] (Position 3) (output_with 0 [] (codes "refused,ahead,3" ++ 10 ∷ [])) → ⊥)
+    × (IsBeyond [] (Position 0) (output_with 0 [] (codes "refused,ahead,0" ++ 10 ∷ [])) → ⊥)
+    × (IsBeyond [] Now (output_with 0 [] (codes "refused,ahead,0" ++ 10 ∷ [])) → ⊥)
+
+-- whatever the disk, of an empty file nobody is valued
+abbrev pub ValuesAnEmptyFile : {D : Type 0} → Ghosts D → Type 0
+ValuesAnEmptyFile {D} g = (old new : D) (output : Stream) → g.honest new → g.reads old ≡ []
+    → IsValued g old new (pos 18628) Now Terminal [] (WroteAll output)
+    → WroteAll output (codes "0,value,2021-01-01,0,0" ++ (10 ∷ []) ++ codes "total,0.00,0.00,0" ++ 10 ∷ [])
+
+-- and where more is asked of it, it has no commands
+abbrev pub IsAheadOfAnEmptyFile : {D : Type 0} → Ghosts D → Type 0
+IsAheadOfAnEmptyFile {D} g = (old new : D) (output : Stream) → g.honest new → g.reads old ≡ []
+    → IsAhead g old new (Position 3) output → WroteLine output (codes "refused,ahead,0")

@@ -1,0 +1,46 @@
+-- How the parts of `project` end
+use Rattle.std.specs.Prelude.{ℕ, ◌≤◌, ℤ, List, codes, length, Result, Ok, Err}
+use Rattle.std.specs.List.{All}
+use Rattle.outside_io.specs.Faults.{Rose}
+use Rattle.outside_io.specs.Streams.{AppendsPart}
+use Rattle.life_dates.specs.Calendar.{IsTermDay}
+use Rattle.policy_types.specs.declared.command.Command.{Command}
+use Rattle.basis_book.specs.Dated.{Dated}
+use Rattle.snapshot_value.specs.declared.valuation.ValueFault.{ValueFault}
+use Rattle.snapshot_value.specs.declared.valuation.ValueFault.TheVariants.{Pin, NoMemory as NoValues}
+use Rattle.cash_projection.specs.Text.{IsTellable, projection_text}
+use Rattle.cash_projection.specs.declared.printing.Projection.{Projection}
+use Rattle.program_endings.specs.Writing.{Stream, WroteAll, WroteLine}
+use Rattle.program_endings.specs.declared.ending.Ending.{Ending}
+use Rattle.program_endings.specs.declared.ending.Ending.TheVariants.{Done, NoMemory, WriteFault}
+use Rattle.valuing_modes.specs.Projecting.{IsProjectionText}
+
+-- it can be printed
+pub record CanBePrinted (projection : Projection) : Type 0 where
+  pub day : IsTermDay projection.on
+  pub few : length projection.years ≤ 131
+  pub bounded : All IsTellable projection.years
+
+-- the only answers of an office that nobody else calls: the projection, which can be printed, or want of memory
+abbrev pub IsLoneProjection : Result Projection ValueFault → Type 0
+IsLoneProjection (Ok projection) = CanBePrinted projection
+IsLoneProjection (Err (Pin refusal)) = ⊥
+IsLoneProjection (Err NoValues) = Unit {0}
+
+-- how the answer is written
+abbrev pub EndsPrinted : Result Projection ValueFault → Stream → Ending → Type 0
+EndsPrinted (Ok projection) output Done = WroteAll output (projection_text projection)
+EndsPrinted (Ok projection) output WriteFault =
+    Rose output.faults_before output.faults_after × AppendsPart output.before output.after (projection_text projection)
+EndsPrinted (Ok projection) output NoMemory = WroteLine output (codes "nomemory")
+EndsPrinted (Err NoValues) output NoMemory = WroteLine output (codes "nomemory")
+EndsPrinted _ _ _ = ⊥
+
+-- how the projection of these commands' policies is written
+abbrev pub EndsProjected : List Command → ℤ → ℕ → List Dated → Stream → Ending → Type 0
+EndsProjected commands on years basis output Done = IsProjectionText commands on years basis (WroteAll output)
+EndsProjected commands on years basis output WriteFault =
+    Rose output.faults_before output.faults_after
+    × IsProjectionText commands on years basis (AppendsPart output.before output.after)
+EndsProjected commands on years basis output NoMemory = WroteLine output (codes "nomemory")
+EndsProjected commands on years basis output _ = ⊥

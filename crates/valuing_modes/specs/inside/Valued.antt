@@ -1,0 +1,54 @@
+-- How the parts of `value` end
+use Rattle.std.specs.Prelude.{ℕ, ℤ, List, ◌++◌, codes, decimal, Result, Ok, Err}
+use Rattle.outside_io.specs.Faults.{Rose}
+use Rattle.outside_io.specs.Streams.{AppendsPart}
+use Rattle.policy_types.specs.declared.command.Command.{Command}
+use Rattle.policy_types.specs.declared.entry.At.{At}
+use Rattle.basis_book.specs.Dated.{Dated}
+use Rattle.policy_types.specs.declared.entry.PinRefusal.TheVariants.{Ahead as PastTheEnd, Trimmed, PinsFull}
+use Rattle.policy_value.specs.declared.worth.Measure.{Measure}
+use Rattle.report_text.specs.Block.{block_text}
+use Rattle.snapshot_value.specs.declared.valuation.Valuation.{Valuation}
+use Rattle.snapshot_value.specs.declared.valuation.ValueFault.{ValueFault}
+use Rattle.snapshot_value.specs.declared.valuation.ValueFault.TheVariants.{Pin, NoMemory as NoValues}
+use Rattle.program_endings.specs.Blocks.{IsWritableBlock}
+use Rattle.program_endings.specs.Writing.{Stream, WroteAll, WroteLine}
+use Rattle.program_endings.specs.declared.ending.Ending.{Ending}
+use Rattle.program_endings.specs.declared.ending.Ending.TheVariants.{Ahead, Done, NoMemory, WriteFault}
+use Rattle.valuing_modes.specs.Valuing.{IsBeyond, IsValuation}
+
+-- the line that says how many commands there are
+abbrev pub SaysAhead : ℕ → Stream → Ending → Type 0
+SaysAhead count output Ahead = WroteLine output (codes "refused,ahead," ++ decimal count)
+SaysAhead count output NoMemory = WroteLine output (codes "nomemory")
+SaysAhead count output _ = ⊥
+
+-- how the values of these commands' policies are written
+abbrev pub EndsValued : List Command → ℤ → At → Measure → List Dated → Stream → Ending → Type 0
+EndsValued commands on at measure basis output Done = IsValuation commands on at measure basis (WroteAll output)
+EndsValued commands on at measure basis output WriteFault =
+    Rose output.faults_before output.faults_after
+    × IsValuation commands on at measure basis (AppendsPart output.before output.after)
+EndsValued commands on at measure basis output Ahead = IsBeyond commands at output
+EndsValued commands on at measure basis output NoMemory = WroteLine output (codes "nomemory")
+EndsValued commands on at measure basis output _ = ⊥
+
+-- the only answers of an office that nobody else calls: the values, which can be written, or that there are fewer commands
+-- than are asked for, or want of memory
+abbrev pub IsLoneAnswer : Result Valuation ValueFault → Type 0
+IsLoneAnswer (Ok valuation) = IsWritableBlock valuation
+IsLoneAnswer (Err (Pin (PastTheEnd count))) = Unit {0}
+IsLoneAnswer (Err (Pin (Trimmed floor))) = ⊥
+IsLoneAnswer (Err (Pin PinsFull)) = ⊥
+IsLoneAnswer (Err NoValues) = Unit {0}
+
+-- how the answer is written
+abbrev pub EndsAnswer : ℤ → Result Valuation ValueFault → Stream → Ending → Type 0
+EndsAnswer on (Ok valuation) output Done = WroteAll output (block_text 0 on valuation.position valuation.measure valuation.rows)
+EndsAnswer on (Ok valuation) output WriteFault =
+    Rose output.faults_before output.faults_after
+    × AppendsPart output.before output.after (block_text 0 on valuation.position valuation.measure valuation.rows)
+EndsAnswer on (Ok valuation) output NoMemory = WroteLine output (codes "nomemory")
+EndsAnswer on (Err (Pin (PastTheEnd count))) output ending = SaysAhead count output ending
+EndsAnswer on (Err NoValues) output NoMemory = WroteLine output (codes "nomemory")
+EndsAnswer _ _ _ _ = ⊥

@@ -1,0 +1,169 @@
+// The values of the policies on a day, by the basis on the shelf.
+ghost use Rattle.std.specs.Prelude.{◌≡◌, ◌<◌, ◌≤◌};
+ghost use Rattle.life_dates.specs.Calendar.{IsDay};
+ghost use Rattle.shared_office.specs.Offices.{IsOfficeHistory};
+ghost use Rattle.shared_office.specs.Starting.{HasStartedOffice};
+ghost use Rattle.turn_lock.specs.Passes.{PassFacts};
+ghost use Rattle.valuing_modes.specs.Valuing.{EndsValue, EndsValuing};
+ghost use Rattle.program_endings.specs.Writing.{between, shelf_between};
+ghost use Rattle.program_endings.specs.declared.ending.Ending.TheVariants.{ReadFault};
+ghost use Rattle.program_endings.specs.Blocks.{IsWritableBlock};
+ghost use Rattle.valuing_modes.specs.inside.Valued.{EndsAnswer, IsLoneAnswer, SaysAhead};
+
+use basis_book::{Basis, Name};
+use lone_office::{Begun, begin};
+use outside_io::{Disk, Gate, Shelf, Sink};
+use policy_types::{At, PinRefusal};
+use policy_value::Measure;
+use program_endings::{Ending, Finished, end, lack_memory, write_parts};
+use report_text::print_parts;
+use shared_office::{Office, OfficePass, close};
+use snapshot_value::{Query, Valuation, ValueFault};
+use std::alloc::Global;
+use std::sync::Wait;
+use std::thread::Threads;
+use watcher_set::Watching;
+
+/// A valuation that no lane of a script asks for.
+const NO_LANE: u8 = 0;
+
+/// Writes what each policy is worth on a day, in days since 1970-01-01, by a measure, after as many commands as are asked
+/// for. The basis is fetched before the disk is touched.
+pub fn value<R: Threads + Wait + Sync, K: Sink, H: Shelf, D: Disk, G: Gate>(
+    rt: &R,
+    alloc: Global,
+    on: i32,
+    at: At,
+    measure: Measure,
+    workers: u8,
+    basis: &Name,
+    shelf: &mut H,
+    output: &mut K,
+    disk: D,
+    gate: &G,
+) -> Finished<D>
+    requires day { IsDay on }
+    requires workers { (1 ≤ workers) × (workers ≤ 64) }
+    ensures ends { EndsValue D.Disk disk result.disk on at measure basis.now
+        (shelf_between H.faults H.agrees shelf.old shelf.new)
+        (between K.faults K.written output.old output.new) result.ending }
+    // Where the shelf failed this is told, and nothing else.
+    ensures counted { H.faults shelf.old < H.faults shelf.new → result.ending ≡ ReadFault }
+    ensures files { H.files shelf.new ≡ H.files shelf.old }
+{
+    match begin(alloc, basis, shelf, output, disk) {
+        Ok(begun) => {
+            let Begun {
+                basis,
+                office,
+                pass,
+            } = begun;
+            value_office(
+                rt, alloc, on, at, measure, workers, &basis, office, pass, output, gate,
+            )
+        }
+        Err(finished) => finished,
+    }
+}
+
+// Values an office's policies, closes it, and writes the values.
+fn value_office<R: Threads + Wait + Sync, K: Sink, D: Disk, W: Watching, G: Gate>(
+    rt: &R,
+    alloc: Global,
+    on: i32,
+    at: At,
+    measure: Measure,
+    workers: u8,
+    basis: &Basis,
+    office: Office<D, W>,
+    pass: OfficePass<D, W>,
+    output: &mut K,
+    gate: &G,
+) -> Finished<D>
+    requires day { IsDay on }
+    requires workers { (1 ≤ workers) × (workers ≤ 64) }
+    requires ours { pass.turnstile ≡ office }
+    requires started { (old : D) × ((watchers : W) × HasStartedOffice D.Disk old watchers pass) }
+    requires facts { PassFacts IsOfficeHistory pass }
+    ensures ends { (old : D) (watchers : W) → HasStartedOffice D.Disk old watchers pass
+        → EndsValuing D.Disk old result.disk on at measure basis.now
+        (between K.faults K.written output.old output.new) result.ending }
+{
+    let mut pass = pass;
+    let query = Query {
+        basis,
+        on,
+        measure,
+        workers,
+    };
+    let valued = snapshot_value::value(rt, alloc, &office, &mut pass, query, at, NO_LANE, gate);
+    let (disk, _, _) = close(office, pass);
+    let ending = write_answer(rt, alloc, on, valued.answer, workers, output);
+    Finished { ending, disk }
+}
+
+// Writes the values, or why there are none.
+fn write_answer<R: Threads + Sync, K: Sink>(
+    rt: &R,
+    alloc: Global,
+    on: i32,
+    answer: Result<Valuation, ValueFault>,
+    workers: u8,
+    output: &mut K,
+) -> Ending
+    requires day { IsDay on }
+    requires workers { (1 ≤ workers) × (workers ≤ 64) }
+    requires lone { IsLoneAnswer answer }
+    ensures ends { EndsAnswer on answer (between K.faults K.written output.old output.new) result }
+{
+    match answer {
+        Ok(valuation) => write_values(rt, alloc, on, &valuation, workers, output),
+        Err(ValueFault::Pin(PinRefusal::Ahead(count))) => refuse_position(alloc, count, output),
+        Err(ValueFault::Pin(_)) => unreachable!(),
+        Err(ValueFault::NoMemory) => lack_memory(output),
+    }
+}
+
+// Writes the values, once there is memory for the text of all.
+fn write_values<R: Threads + Sync, K: Sink>(
+    rt: &R,
+    alloc: Global,
+    on: i32,
+    valuation: &Valuation,
+    workers: u8,
+    output: &mut K,
+) -> Ending
+    requires day { IsDay on }
+    requires workers { (1 ≤ workers) × (workers ≤ 64) }
+    requires writable { IsWritableBlock valuation.now }
+    ensures ends { EndsAnswer on (Ok valuation.now) (between K.faults K.written output.old output.new) result }
+{
+    let printed = print_parts(
+        rt,
+        alloc,
+        NO_LANE,
+        on,
+        valuation.position,
+        valuation.measure,
+        &valuation.rows,
+        workers,
+    );
+    let Ok(text) = printed else {
+        return lack_memory(output);
+    };
+    match write_parts(output, &text) {
+        Ok(()) => Ending::Done,
+        Err(_) => Ending::WriteFault,
+    }
+}
+
+// Says that there are only so many commands.
+fn refuse_position<K: Sink>(alloc: Global, count: u32, output: &mut K) -> Ending
+    ensures later { K.faults output.old ≤ K.faults output.new }
+    ensures says { SaysAhead count (between K.faults K.written output.old output.new) result }
+{
+    match format!(in alloc; "refused,ahead,{count}\n") {
+        Ok(line) => end(output, line.as_bytes(), Ending::Ahead),
+        Err(_) => lack_memory(output),
+    }
+}
