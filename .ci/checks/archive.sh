@@ -1,6 +1,7 @@
 #!/bin/sh
 # A journal that can't be written, as in an archive: what only reads is answered as over files that can be written, a
 # posting is answered `fault`, and nothing is made or changed.
+# By the clock: kills and waits.
 . "$(dirname "$0")/../common.sh"
 
 # a case: an archive with this journal, and with this checkpoint if there is one

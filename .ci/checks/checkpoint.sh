@@ -2,6 +2,7 @@
 # Checkpoints: rows that were worked out by hand; a second file that is no checkpoint, or is held, can't be opened or fails;
 # one that is older than the journal or than its upgrade; drawn books, whose every checkpoint is made anew without the
 # program, byte by byte; `state`, which writes with a checkpoint what it writes without; and programs that are killed.
+# By the clock: kills and waits.
 # it syncs thousands of times, so but for the kills in memory, where there is such a folder
 slow=$(mktemp -d) || exit 2
 [ ! -w /dev/shm ] || export TMPDIR=/dev/shm

@@ -1,5 +1,6 @@
 #!/bin/sh
 # Runs of the program that are killed over a real file: each time it has to reopen to the records that were open.
+# By the clock: kills and waits.
 . "$(dirname "$0")/../common.sh"
 
 export LIFE_PROGRAM="$program"

@@ -3,6 +3,7 @@
 # word of the program is answered; a preview is built once, runs on copies, and is never taken for the proved program; a
 # program that is older than a source, contract or proof of its crates isn't run. Who waits for a book gets it; an
 # installation is whole or isn't made, and runs without the clone. A signal leaves nothing half done.
+# By the clock: kills and waits.
 . "$(dirname "$0")/../common.sh"
 copy=$work/copy
 mkdir "$copy"

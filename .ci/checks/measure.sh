@@ -1,6 +1,7 @@
 #!/bin/sh
 # The program that measures, run once for each of its words: it prints the lines that it has to, and each caller's
 # turns and postings are among those that are counted.
+# By the clock: kills and waits.
 . "$(dirname "$0")/../common.sh"
 measure=$root/crates/measure/out/measure
 [ -x "$measure" ] || {

@@ -2,6 +2,7 @@
 # The page for the one who runs the program every day, followed word by word in an empty home: install, a week by
 # day.sh, a book that is held, a kill, the recovery, a backup and its restore. The clone is taken away once the page has
 # left it.
+# By the clock: kills and waits.
 . "$(dirname "$0")/../common.sh"
 cd "$root" || exit 2
 python3 .ci/documents/run_blocks.py "$program" "$root" "$work" docs/OPERATIONS.md || failed=1

@@ -1,6 +1,7 @@
 #!/bin/sh
 # The program as a clerk runs it, through the launcher: what a script prints, its status, and what then stands in
 # journal.life, with each kind of file before, and where the output or the disk fails.
+# By the clock: kills and waits.
 . "$(dirname "$0")/../common.sh"
 
 first=$examples/first-issues

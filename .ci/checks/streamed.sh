@@ -1,6 +1,7 @@
 #!/bin/sh
 # A transcript that is seen while the run goes on: when its lines come, readers that stop, runs that are killed, and what is
 # written before a record is safe. `long/streamed_kills.sh` kills a thousand.
+# By the clock: kills and waits.
 . "$(dirname "$0")/../common.sh"
 needs strace
 quick=$(mktemp -d -p /dev/shm 2>/dev/null) || quick=$work
