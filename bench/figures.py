@@ -4,15 +4,17 @@ import os
 import sys
 
 sys.path.insert(0, os.path.dirname(os.path.abspath(__file__)))
+import figures_lines
 import figures_opening
 import figures_postings
 import figures_reading
 import figures_tables
+import figures_tools
 import figures_value
 import timing
 
 FIGURES = figures_postings.FIGURES | figures_value.FIGURES | figures_opening.FIGURES | figures_reading.FIGURES
-FIGURES |= figures_tables.FIGURES
+FIGURES |= figures_tables.FIGURES | figures_lines.FIGURES | figures_tools.FIGURES
 
 # the program, a folder on a real disk, one in memory where there is any, and how many rounds
 Setting = collections.namedtuple("Setting", "program disk memory rounds")

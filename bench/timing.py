@@ -46,9 +46,13 @@ def below_watcher():
         set_priority(TIMED)
 
 
+def start_to(words, folder, given, out, told=None):
+    return subprocess.Popen(words, stdin=given, stdout=out, stderr=told, cwd=folder, preexec_fn=below_watcher)
+
+
 def start(words, folder, script=os.devnull, written=os.devnull, told=None):
     with open(script, "rb") as given, open(written, "wb") as out:
-        return subprocess.Popen(words, stdin=given, stdout=out, stderr=told, cwd=folder, preexec_fn=below_watcher)
+        return start_to(words, folder, given, out, told)
 
 
 def need_right(status, words):

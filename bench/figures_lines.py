@@ -1,0 +1,88 @@
+"""Figures of a transcript's lines: when they come, and what many of them take."""
+import os
+import re
+import time
+
+import timing
+import workload
+from timing import Folder, median
+
+POSTINGS, MANY, TRIMS = 3000, 300000, 400000
+ACCEPTED = re.compile(rb",accepted,(\d+)$")
+
+
+class Arrivals:
+    """One run whose output and journal are looked at again and again: by when a record stood, and by when its line was read."""
+
+    def __init__(self, setting, clerks):
+        self.records, self.lines = [], {}
+        with Folder(setting.disk) as folder:
+            workload.write_lines(folder.at("script.csv"), workload.issue_lines(list(range(1, clerks + 1)), POSTINGS))
+            gives, takes = os.pipe()
+            with open(folder.at("script.csv"), "rb") as script:
+                run = timing.start_to([setting.program, "run"], folder.path, script, takes)
+            os.close(takes)
+            os.set_blocking(gives, False)
+            self.look_on(folder, gives)
+            os.close(gives)
+            timing.need_right(run.wait(), [setting.program, "run"])
+
+    def look_on(self, folder, gives):
+        rest = b""
+        while True:
+            standing = (timing.size_of(folder.journal) - 18) // 65
+            while len(self.records) < standing:
+                self.records.append(time.perf_counter())
+            try:
+                read = os.read(gives, 1 << 20)
+            except BlockingIOError:
+                continue
+            if not read:
+                return
+            now = time.perf_counter()
+            *whole, rest = (rest + read).split(b"\n")
+            for line in whole:
+                found = ACCEPTED.search(line)
+                if found:
+                    self.lines[int(found[1])] = now
+
+    def behind(self):
+        """Milliseconds from each record's standing in the file, where its gate has yet to be synced, to its line's coming."""
+        return [1000 * (when - self.records[position - 1]) for position, when in self.lines.items()]
+
+
+def lines(setting):
+    found = timing.in_turn(setting.rounds, {n: lambda n=n: Arrivals(setting, n) for n in (1, 8)})
+    first = {n: median([run.lines[1] - run.records[0] for run in runs]) * 1000 for n, runs in found.items()}
+    middle = {n: median([median(run.behind()) for run in runs]) for n, runs in found.items()}
+    yield ("the first line of a run at its reader, behind its record in the file", f"{first[1]:.2f} ms",
+           f"the run's lines in the median {middle[1]:.2f} ms")
+    yield ("with eight clerks", f"{first[8]:.2f} ms", f"the run's lines in the median {middle[8]:.2f} ms")
+
+
+def short_issues(clerks):
+    """So many as a script of 16 MiB holds."""
+    return [f"{1 + n % clerks},issue,{n + 1},2020-01-01,endowment,0,3,1000.00,400.00" for n in range(MANY)]
+
+
+def timed_run(setting, script):
+    with Folder(setting.memory) as folder:
+        workload.write_lines(folder.at("script.csv"), script)
+        return timing.timed([setting.program, "run"], folder.path, folder.at("script.csv"))
+
+
+def told(runs):
+    return f"{median(runs, 'clock'):.2f} s, {median(runs, 'peak'):.0f} MiB"
+
+
+def many(setting):
+    found = timing.in_turn(setting.rounds, {
+        "one": lambda: timed_run(setting, short_issues(1)),
+        "eight": lambda: timed_run(setting, short_issues(8)),
+        "one trims": lambda: timed_run(setting, ["1,trim"] * TRIMS),
+        "eight trim": lambda: timed_run(setting, [f"{1 + n % 8},trim" for n in range(TRIMS)])})
+    yield f"{MANY:,} issues by one clerk, where a sync costs nothing", told(found["one"]), f"by eight {told(found['eight'])}"
+    yield f"{TRIMS:,} trims by eight lanes", told(found["eight trim"]), f"by one {told(found['one trims'])}"
+
+
+FIGURES = {"lines": lines, "many": many}

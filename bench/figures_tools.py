@@ -1,0 +1,58 @@
+"""Figures of the tools over large books, and of the program that they stand beside."""
+import os
+import shutil
+import sys
+
+import timing
+import workload
+from figures_opening import paid_policies, told
+from timing import Folder, median
+
+MILLION = 1000000
+TOOLS = os.path.join(timing.ROOT, "tools", "life-tools")
+
+
+def tool(folder, *words):
+    return timing.timed([sys.executable, "-B", TOOLS, *words], folder.path)
+
+
+def due(setting):
+    with Folder(setting.memory) as folder:
+        workload.write_journal(folder.journal, workload.drawn_policies(MILLION))
+        runs = [tool(folder, "due", "2010-01-01") for _ in range(setting.rounds)]
+    yield f"`due` over {MILLION:,} policies", told(runs), ""
+
+
+def rest(setting):
+    """The rest of a run of eight lanes that was killed half-way: the journal has the first half of the rows."""
+    with Folder(setting.memory) as folder:
+        lines = workload.issue_lines(list(range(1, 9)), MILLION, 1)
+        workload.write_lines(folder.at("half.csv"), lines[:MILLION // 2])
+        workload.write_lines(folder.at("script.csv"), lines)
+        timing.timed([setting.program, "run"], folder.path, folder.at("half.csv"))
+        runs = [tool(folder, "rest", "script.csv", "journal.life", "0") for _ in range(setting.rounds)]
+    yield f"`rest` of {MILLION:,} rows of eight lanes, half of them answered", told(runs), ""
+
+
+def export(setting):
+    """A journal of as many commands, with a valuation of its policies."""
+    with Folder(setting.memory) as folder:
+        workload.write_journal(folder.journal, list(paid_policies(MILLION // 4)))
+        timing.timed([setting.program, "value", "2023-01-01"], folder.path, written=folder.at("value.csv"))
+        found = {}
+        for form in ("sqlite", "csv", "pandas"):
+            found[form] = [exported(folder, form) for _ in range(setting.rounds)]
+    yield (f"`export sqlite` of {MILLION:,} commands and a valuation of their policies", told(found["sqlite"]),
+           f"`csv` {told(found['csv'])}; `pandas` {told(found['pandas'])}")
+
+
+def exported(folder, form):
+    made = folder.at("made")
+    shutil.rmtree(made, ignore_errors=True)
+    if os.path.exists(made):
+        os.remove(made)
+    words = [form, "journal.life"] if form == "csv" else [form, "--valuation", "value.csv", "journal.life", "made"]
+    return tool(folder, "export", *words)
+
+
+FIGURES = {"due": due, "rest": rest, "export": export}
