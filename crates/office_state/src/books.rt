@@ -7,6 +7,7 @@ ghost use Rattle.policy_machine.specs.Accounts.{ledger_of};
 ghost use Rattle.policy_machine.specs.Book.{book, judge as judge_of, judged_after, policy_of};
 ghost use Rattle.money_ledgers.specs.Balances.{balances};
 ghost use Rattle.policy_machine.specs.Rules.{next};
+ghost use Rattle.versioned_book.specs.Books.{IsPlaceIn};
 ghost use Rattle.office_state.specs.inside.Keeping.{Keeps, Keeps-prop};
 
 use crate::accepted_list::AcceptedList;
@@ -14,7 +15,7 @@ use money_ledgers::Ledger;
 use policy_machine::{judge, upgrade_place};
 use policy_types::{Command, NoMemory, Policy, Refusal};
 use std::alloc::Global;
-use versioned_book::VersionedBook;
+use versioned_book::{KeyPlace, VersionedBook};
 
 /// What is kept of the accepted commands: how many there are, the place of the upgrade, each policy's versions by the
 /// numbers of the commands that made them, from the floor on, and the ledger.
@@ -31,7 +32,7 @@ pub(crate) struct Books {
 }
 
 impl Books {
-    ghost use Rattle.office_state.specs.inside.Books.{CanKeep, commands_in, floor_in, kept_in};
+    ghost use Rattle.office_state.specs.inside.Books.{CanKeep, IsPlaceOf, commands_in, floor_in, kept_in};
 
     /// The books of no command. They take no memory yet.
     pub(crate) fn new(alloc: Global) -> Books
@@ -47,54 +48,71 @@ impl Books {
         }
     }
 
-    /// Makes room for one command more of this policy's number.
-    pub(crate) fn reserve(&mut self, id: u32) -> Result<(), NoMemory>
+    /// Where the versions of a command's policy stand, or that there are none. It is looked up once for what follows.
+    pub(crate) fn place_of(&self, command: &Command) -> KeyPlace
+        ensures { IsPlaceOf self.now result command.now }
+    {
+        self.versions.place_of(command.id())
+    }
+
+    /// Makes room for one command more of the policy with this place, which it keeps.
+    pub(crate) fn reserve(&mut self, place: KeyPlace) -> Result<(), NoMemory>
+        requires place { IsPlaceIn self.old.versions place }
         ensures commands { commands_in self.new ≡ commands_in self.old }
         ensures floor { floor_in self.new ≡ floor_in self.old }
-        ensures done { OnOk result (CanKeep self.new id) }
+        ensures place { IsPlaceIn self.new.versions place }
+        ensures done { OnOk result (CanKeep self.new place.key) }
     {
-        self.versions.reserve(id)?;
+        self.versions.reserve_at(place)?;
         Ok(())
     }
 
-    /// What the rules make of a command: the policy that it leaves, or none where it is an upgrade.
-    pub(crate) fn judgement(&self, command: &Command) -> Result<Option<Policy>, Refusal>
+    /// What the rules make of a command, whose policy has this place: the policy that it leaves, or none where it is an
+    /// upgrade.
+    pub(crate) fn judgement(
+        &self,
+        place: KeyPlace,
+        command: &Command,
+    ) -> Result<Option<Policy>, Refusal>
+        requires place { IsPlaceOf self.now place command.now }
         requires valid { IsValid command.now }
         ensures { result ≡ judged_after (commands_in self.now) command.now }
     {
-        let policy = self.versions.get(command.id());
+        let policy = self.versions.newest_at(place);
         judge(self.upgrade, policy.as_ref(), command)
     }
 
-    /// Keeps an accepted command, and the policy that it left. There is room for it.
-    pub(crate) fn keep(&mut self, command: &Command, after: Option<Policy>)
+    /// Keeps an accepted command, and the policy that it left, at its place. There is room for it.
+    pub(crate) fn keep(&mut self, place: KeyPlace, command: &Command, after: Option<Policy>)
+        requires place { IsPlaceOf self.old place command.now }
         requires valid { IsValid command.now }
         requires accepted { judged_after (commands_in self.old) command.now ≡ Ok after }
         requires few { length (commands_in self.old) < most_commands }
-        requires room { CanKeep self.old (id_of command.now) }
+        requires room { CanKeep self.old place.key }
         ensures commands { commands_in self.new ≡ commands_in self.old ++ command.now ∷ [] }
         ensures floor { floor_in self.new ≡ floor_in self.old }
     {
         match after {
-            Some(policy) => self.keep_policy(command, policy),
+            Some(policy) => self.keep_policy(place, command, policy),
             None => self.keep_upgrade(command),
         }
     }
 
     // Keeps a command as what it made of its policy.
-    fn keep_policy(&mut self, command: &Command, policy: Policy)
+    fn keep_policy(&mut self, place: KeyPlace, command: &Command, policy: Policy)
+        requires place { IsPlaceOf self.old place command.now }
         requires valid { IsValid command.now }
         requires accepted { next (policy_of (commands_in self.old) (id_of command.now)) command.now ≡ Ok policy }
         requires judged { judge_of (commands_in self.old) command.now ≡ None }
         requires named { is_upgrade command.now ≡ false }
         requires few { length (commands_in self.old) < most_commands }
-        requires room { CanKeep self.old (id_of command.now) }
+        requires room { CanKeep self.old place.key }
         ensures commands { commands_in self.new ≡ commands_in self.old ++ command.now ∷ [] }
         ensures floor { floor_in self.new ≡ floor_in self.old }
     {
         self.ledger.post(command, &policy);
         self.count += 1;
-        self.versions.set(command.id(), self.count, policy);
+        self.versions.set_at(place, self.count, policy);
         self.accepted = self.accepted.with(command);
     }
 

@@ -17,13 +17,14 @@ impl Keeper for Books {
     ghost mark = { λ books. floor_in books };
 
     fn add(&mut self, _: u32, command: &Command) -> Result<(), Unkept> {
-        let Ok(after) = self.judgement(command) else {
+        let place = self.place_of(command);
+        let Ok(after) = self.judgement(place, command) else {
             return Err(Unkept::Refused);
         };
-        if self.reserve(command.id()).is_err() {
+        if self.reserve(place).is_err() {
             return Err(Unkept::NoMemory);
         }
-        self.keep(command, after);
+        self.keep(place, command, after);
         Ok(())
     }
 }

@@ -1,14 +1,15 @@
 // A command is posted.
 ghost use Rattle.std.specs.Prelude.{◌≡◌, ◌≢◌, ◌^◌, ◌<◌, ◌++◌, [], ◌∷◌, Ok, OnOk, List, ℕ};
-ghost use Rattle.policy_types.specs.Valid.{IsValid, id_of};
+ghost use Rattle.policy_types.specs.Valid.{IsValid};
 ghost use Rattle.policy_types.specs.declared.command.Command.{Command as ACommand};
 ghost use Rattle.policy_types.specs.declared.entry.Entry.{Entry};
 ghost use Rattle.policy_machine.specs.Book.{judged_after};
 ghost use Rattle.office_state.specs.Posting.{CrashesIn, IsBeforeWriting, turn_of};
 ghost use Rattle.office_state.specs.Standing.{StandsFor};
 ghost use Rattle.office_state.specs.States.{commands_of, disk_of, opened_of, opening_of, turns_of};
-ghost use Rattle.office_state.specs.inside.Books.{CanKeep, commands_in, floor_in};
+ghost use Rattle.office_state.specs.inside.Books.{CanKeep, IsPlaceOf, commands_in, floor_in};
 ghost use Rattle.office_state.specs.inside.Turns.{one_more};
+ghost use Rattle.versioned_book.specs.Books.{IsPlaceIn};
 
 use crate::answer::Answer;
 use crate::books::Books;
@@ -17,6 +18,7 @@ use crate::state::OfficeState;
 use outside_io::Disk;
 use policy_types::{Command, MOST_COMMANDS, NoMemory, Policy, Refusal};
 use record_codec::encode;
+use versioned_book::KeyPlace;
 use watcher_set::Watching;
 
 impl<D: Disk, W: Watching> OfficeState<D, W> {
@@ -53,17 +55,19 @@ impl<D: Disk, W: Watching> OfficeState<D, W> {
         ensures crash { (history : List Entry) → StandsFor self.old history → D.honest (disk_of self.new)
             → CrashesIn D.Disk (disk_of self.old) (disk_of self.new) (opening_of self.old) history command.now result }
     {
-        if take_memory(&mut self.books, command.id(), &mut self.watchers).is_err() {
+        let place = self.books.place_of(command);
+        if take_memory(&mut self.books, place, &mut self.watchers).is_err() {
             return Answer::NoMemory;
         }
-        self.decide_ready(command)
+        self.decide_ready(place, command)
     }
 
     // The same, once its memory is taken: so no more can be wanting.
-    fn decide_ready(&mut self, command: &Command) -> Answer
+    fn decide_ready(&mut self, place: KeyPlace, command: &Command) -> Answer
+        requires place { IsPlaceOf self.old.books place command.now }
         requires valid { IsValid command.now }
         requires stands { (history : List Entry) × StandsFor self.old history }
-        requires room { CanKeep self.old.books (id_of command.now) }
+        requires room { CanKeep self.old.books place.key }
         requires ready { W.has_room self.old.watchers }
         ensures ample { result ≢ Answer.NoMemory }
         ensures opened { opened_of self.new ≡ opened_of self.old }
@@ -75,18 +79,19 @@ impl<D: Disk, W: Watching> OfficeState<D, W> {
         ensures crash { (history : List Entry) → StandsFor self.old history → D.honest (disk_of self.new)
             → CrashesIn D.Disk (disk_of self.old) (disk_of self.new) (opening_of self.old) history command.now result }
     {
-        match self.books.judgement(command) {
-            Ok(after) => self.accept(command, after),
+        match self.books.judgement(place, command) {
+            Ok(after) => self.accept(place, command, after),
             Err(refusal) => Answer::Refused(refusal),
         }
     }
 
     // Records a command that the rules accept, keeps it and the policy that it left, and tells the watchers.
-    fn accept(&mut self, command: &Command, after: Option<Policy>) -> Answer
+    fn accept(&mut self, place: KeyPlace, command: &Command, after: Option<Policy>) -> Answer
+        requires place { IsPlaceOf self.old.books place command.now }
         requires valid { IsValid command.now }
         requires stands { (history : List Entry) × StandsFor self.old history }
         requires accepted { judged_after (commands_of self.old) command.now ≡ Ok after }
-        requires room { CanKeep self.old.books (id_of command.now) }
+        requires room { CanKeep self.old.books place.key }
         requires ready { W.has_room self.old.watchers }
         ensures ample { result ≢ Answer.NoMemory }
         ensures opened { opened_of self.new ≡ opened_of self.old }
@@ -103,7 +108,7 @@ impl<D: Disk, W: Watching> OfficeState<D, W> {
         }
         match record(&mut self.journal, &encode(command)) {
             Ok(()) => {
-                self.books.keep(command, after);
+                self.books.keep(place, command, after);
                 let position = self.books.count();
                 self.watchers.note(position, command);
                 Answer::Accepted(position)
@@ -113,15 +118,21 @@ impl<D: Disk, W: Watching> OfficeState<D, W> {
     }
 }
 
-// Takes the memory that a posting of this policy's number may need: that of the books, and that of the watchers.
-fn take_memory<W: Watching>(books: &mut Books, id: u32, watchers: &mut W) -> Result<(), NoMemory>
+// Takes the memory that a posting to the policy with this place may need: that of the books, and that of the watchers.
+fn take_memory<W: Watching>(
+    books: &mut Books,
+    place: KeyPlace,
+    watchers: &mut W,
+) -> Result<(), NoMemory>
+    requires place { IsPlaceIn books.old.versions place }
     ensures commands { commands_in books.new ≡ commands_in books.old }
     ensures floor { floor_in books.new ≡ floor_in books.old }
     ensures handed { W.handed watchers.new ≡ W.handed watchers.old }
     ensures told { (before : ℕ) (commands : List ACommand) → W.told watchers.old before commands → W.told watchers.new before commands }
-    ensures room { OnOk result (CanKeep books.new id) }
+    ensures place { IsPlaceIn books.new.versions place }
+    ensures room { OnOk result (CanKeep books.new place.key) }
     ensures ready { OnOk result (W.has_room watchers.new) }
 {
-    books.reserve(id)?;
+    books.reserve(place)?;
     watchers.ready()
 }

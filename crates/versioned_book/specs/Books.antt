@@ -3,10 +3,11 @@ use Rattle.std.specs.Prelude.{◌≡◌, ℕ, ◌+◌, ◌<◌, ◌≤◌, Bool,
 use Rattle.std.specs.Coded.{×_prop}
 use Rattle.std.specs.List.{list_any}
 use Rattle.std.proofs.Props.{props}
-use Rattle.indexmap.specs.IndexMap.{get, keys, spare}
+use Rattle.indexmap.specs.IndexMap.{get, index_of, keys, spare}
 use Rattle.versioned_book.specs.Versions.{IsRisingTo, first_position, versions_from, versions}
 use Rattle.versioned_book.specs.Settings.{Setting, keys_of, own, positions, until}
 use Rattle.versioned_book.specs.declared.chain.Chain.{Chain}
+use Rattle.versioned_book.specs.declared.place.KeyPlace.{KeyPlace}
 use Rattle.versioned_book.specs.declared.book.VersionedBook.{VersionedBook}
 
 module _ {V : Type 0} where
@@ -54,6 +55,10 @@ module _ {V : Type 0} where
   -- the book stands for some settings, as each book does that the calls have made
   abbrev pub IsSomeBook : VersionedBook V → Type 0
   IsSomeBook book = (sets : List (Setting V)) × IsBookOf book sets
+
+  -- the place is where its key stands among the keys of the book, if it is there
+  abbrev pub IsPlaceIn : VersionedBook V → KeyPlace → Type 0
+  IsPlaceIn book place = place.index ≡ index_of nat_eq book.chains place.key
 
   -- one more setting of this key needs no memory
   pub record CanSet (book : VersionedBook V) (key : ℕ) : Type 0 where

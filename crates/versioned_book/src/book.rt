@@ -1,13 +1,14 @@
 // The book: a chain of versions for each key, in the order in which the keys were first set.
 ghost use Rattle.std.specs.Prelude.{◌≡◌, ℕ, ◌+◌, ◌<◌, ◌≤◌, [], ◌∷◌, ◌++◌, List, filter, length, min, nat_eq, nat_le, slice_get, Some, IfOk, OnOk, vec_len};
 ghost use Rattle.indexmap.specs.IndexMap.{keys, index_map_len};
-ghost use Rattle.versioned_book.specs.Books.{CanSet, IsBookOf, IsSomeBook, has_several, kept_of};
+ghost use Rattle.versioned_book.specs.Books.{CanSet, IsBookOf, IsPlaceIn, IsSomeBook, has_several, kept_of};
 ghost use Rattle.versioned_book.specs.Settings.{Setting, settings_after, keys_of, own, until};
 ghost use Rattle.versioned_book.specs.Versions.{AreFewSteps, IsRisingTo, newest_of, versions_from, value_at};
 
 use crate::Chain;
 use crate::halving::at;
 use crate::hashing::KeyHashing;
+use crate::place::KeyPlace;
 use indexmap::IndexMap;
 use outside_io::Steps;
 use std::alloc::{AllocError, Global};
@@ -44,13 +45,35 @@ impl<V: Copy> VersionedBook<V> {
         }
     }
 
+    /// Where a key stands, or that it isn't there.
+    pub fn place_of(&self, key: u32) -> KeyPlace
+        ensures place { IsPlaceIn self.now result }
+        ensures key { result.key ≡ key }
+    {
+        KeyPlace {
+            key,
+            index: self.chains.get_index_of(&key),
+        }
+    }
+
     /// Makes room for one setting of the key. What the book holds stays, also on an error.
     pub fn reserve(&mut self, key: u32) -> Result<(), AllocError>
         ensures room { OnOk result (CanSet self.new key) }
         ensures book { (sets : List (Setting V)) → IsBookOf self.old sets → IsBookOf self.new sets }
         ensures floor { (self.new.floor ≡ self.old.floor) × (self.new.last ≡ self.old.last) }
     {
-        match self.chains.get_index_of(&key) {
+        self.reserve_at(self.place_of(key))
+    }
+
+    /// The same of a key whose place is known. The key keeps it, also on an error.
+    pub fn reserve_at(&mut self, place: KeyPlace) -> Result<(), AllocError>
+        requires place { IsPlaceIn self.old place }
+        ensures room { OnOk result (CanSet self.new place.key) }
+        ensures book { (sets : List (Setting V)) → IsBookOf self.old sets → IsBookOf self.new sets }
+        ensures floor { (self.new.floor ≡ self.old.floor) × (self.new.last ≡ self.old.last) }
+        ensures place { IsPlaceIn self.new place }
+    {
+        match place.index {
             Some(index) => {
                 self.several.reserve(1)?;
                 let (_key, chain) = self.chains.pair_mut(index);
@@ -71,9 +94,21 @@ impl<V: Copy> VersionedBook<V> {
         ensures book { (sets : List (Setting V)) → IsBookOf self.old sets → IsBookOf self.new (sets ++ record { key = key; position = position; value = value } ∷ []) }
         ensures floor { (self.new.floor ≡ self.old.floor) × (self.new.last ≡ position) }
     {
+        self.set_at(self.place_of(key), position, value);
+    }
+
+    /// The same of a key whose place is known.
+    pub fn set_at(&mut self, place: KeyPlace, position: u32, value: V)
+        requires place { IsPlaceIn self.old place }
+        requires room { CanSet self.old place.key }
+        requires rising { self.old.last < position }
+        requires stands { IsSomeBook self.old }
+        ensures book { (sets : List (Setting V)) → IsBookOf self.old sets → IsBookOf self.new (sets ++ record { key = place.key; position = position; value = value } ∷ []) }
+        ensures floor { (self.new.floor ≡ self.old.floor) × (self.new.last ≡ position) }
+    {
         self.last = position;
         self.kept += 1;
-        match self.chains.get_index_of(&key) {
+        match place.index {
             Some(index) => {
                 let (_key, chain) = self.chains.pair_mut(index);
                 chain.push(position, value);
@@ -83,7 +118,7 @@ impl<V: Copy> VersionedBook<V> {
             }
             None => {
                 let chain = Chain::of(self.alloc, position, value);
-                self.chains.insert(key, chain).unwrap();
+                self.chains.insert(place.key, chain).unwrap();
                 self.firsts.push_reserved(position);
             }
         }
@@ -102,8 +137,19 @@ impl<V: Copy> VersionedBook<V> {
     pub fn get(&self, key: u32) -> Option<V>
         ensures { (sets : List (Setting V)) → IsBookOf self.now sets → result ≡ newest_of (own key sets) }
     {
-        match self.chains.get(&key) {
-            Some(chain) => Some(chain.newest().1),
+        self.newest_at(self.place_of(key))
+    }
+
+    /// The same of a key whose place is known.
+    pub fn newest_at(&self, place: KeyPlace) -> Option<V>
+        requires { IsPlaceIn self.now place }
+        ensures { (sets : List (Setting V)) → IsBookOf self.now sets → result ≡ newest_of (own place.key sets) }
+    {
+        match place.index {
+            Some(index) => {
+                let (_key, chain) = self.chains.get_index(index).unwrap();
+                Some(chain.newest().1)
+            }
             None => None,
         }
     }

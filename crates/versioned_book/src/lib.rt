@@ -5,7 +5,9 @@ mod book;
 mod chain;
 mod halving;
 mod hashing;
+mod place;
 
 pub use book::VersionedBook;
 pub use chain::Chain;
 pub use hashing::{KeyHasher, KeyHashing};
+pub use place::KeyPlace;

@@ -1,12 +1,14 @@
 -- What is seen of the books
-use Rattle.std.specs.Prelude.{ℕ, List, filter_map}
+use Rattle.std.specs.Prelude.{◌≡◌, ℕ, List, filter_map}
 use Rattle.indexmap.specs.IndexMap.{keys}
 use Rattle.policy_types.specs.declared.command.Command.{Command}
 use Rattle.policy_types.specs.declared.policy.Policy.{Policy}
 use Rattle.policy_types.specs.Accounts.{Booking}
 use Rattle.money_ledgers.specs.Balances.{balances}
-use Rattle.versioned_book.specs.Books.{CanSet, kept_of, versions_in}
+use Rattle.policy_types.specs.Valid.{id_of}
+use Rattle.versioned_book.specs.Books.{CanSet, IsPlaceIn, kept_of, versions_in}
 use Rattle.versioned_book.specs.Versions.{newest_of}
+use Rattle.versioned_book.specs.declared.place.KeyPlace.{KeyPlace}
 use Rattle.office_state.specs.declared.books.Books.{Books}
 
 -- the commands for which they stand, in order
@@ -27,6 +29,10 @@ floor_in books = books.versions.floor
 -- how many versions are kept
 abbrev pub kept_in : Books → ℕ
 kept_in books = kept_of books.versions
+
+-- where the versions of the command's policy stand, or that there are none
+abbrev pub IsPlaceOf : Books → KeyPlace → Command → Type 0
+IsPlaceOf books place command = IsPlaceIn books.versions place × (place.key ≡ id_of command)
 
 -- one command more of a policy's number needs no memory
 abbrev pub CanKeep : Books → ℕ → Type 0

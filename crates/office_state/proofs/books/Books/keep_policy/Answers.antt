@@ -21,14 +21,14 @@ pub post-requires-clause-room : goal.post-requires-clause-room
 post-requires-clause-room c =
     let old = c.args.self.now in has_room old.versions old.count old.upgrade old.ledger old.accepted.commands old.kept
 
-pub set-requires-clause-stands : goal.set-requires-clause-stands
-set-requires-clause-stands c =
+pub set_at-requires-clause-stands : goal.set_at-requires-clause-stands
+set_at-requires-clause-stands c =
     let old = c.args.self.now in some_book old.versions old.count old.upgrade old.ledger old.accepted.commands old.kept
 
 pub invariant_of-self : goal.invariant_of-self
 invariant_of-self c =
     let old = c.args.self.now in
     record {
-      kept = rw c.with-self.ensures (keeps_more old.versions c.set.new.self old.count old.upgrade old.ledger c.post.new.self old.accepted.commands c.args.command.now c.args.policy c.requires.valid
-          c.requires.few old.kept c.requires.accepted c.requires.judged c.requires.named (rw c.id.ensures at c.set.ensures.book) c.set.ensures.floor.1 c.post.ensures);
+      kept = rw c.with-self.ensures (keeps_more old.versions c.set_at.new.self old.count old.upgrade old.ledger c.post.new.self old.accepted.commands c.args.command.now c.args.policy c.requires.valid
+          c.requires.few old.kept c.requires.accepted c.requires.judged c.requires.named (rw c.requires.place.1 at c.set_at.ensures.book) c.set_at.ensures.floor.1 c.post.ensures);
     }

@@ -1,0 +1,8 @@
+// Where a key stands in a book, so that several calls for one key look it up once.
+
+/// Where a key stands in a book, or that it isn't there. It holds until a new key is set.
+#[derive(Clone, Copy)]
+pub struct KeyPlace {
+    pub(crate) key: u32,
+    pub(crate) index: Option<usize>,
+}
