@@ -65,7 +65,7 @@ fn add_rows<R: Threads + Sync>(
     requires { (1 ≤ many) × (many ≤ 64) }
     ensures { OnOk result (parts.new ≡ parts.old ++ flat_map row_text rows.now) }
 {
-    let mut printers = Vec::from_elem(alloc, RowPrinter { alloc }, many).map_err(|_| NoMemory)?;
+    let mut printers = Vec::from_elem(alloc, RowPrinter { alloc }, many)?;
     let shares = shares_of(alloc, rows, many)?;
     let mut texts = unwritten(alloc, many)?;
     map_into(
@@ -84,7 +84,7 @@ fn shares_of<'a>(alloc: Global, rows: &'a [Row], many: usize) -> Result<Vec<RowP
     ensures whole { IfOk result (λ shares. rows_of_parts shares.items ≡ rows.now) }
 {
     let size = rows.len() / many;
-    let mut shares = Vec::with_capacity(alloc, many).map_err(|_| NoMemory)?;
+    let mut shares = Vec::with_capacity(alloc, many)?;
     let mut rest = rows;
     for _ in 0..many - 1 {
         let (front, back) = rest.split_at(size.min(rest.len()));
@@ -99,7 +99,7 @@ fn shares_of<'a>(alloc: Global, rows: &'a [Row], many: usize) -> Result<Vec<RowP
 fn unwritten(alloc: Global, many: usize) -> Result<Vec<Result<Text, NoMemory>>, NoMemory>
     ensures { IfOk result (λ texts. length texts.items ≡ many) }
 {
-    let mut texts = Vec::with_capacity(alloc, many).map_err(|_| NoMemory)?;
+    let mut texts = Vec::with_capacity(alloc, many)?;
     for _ in 0..many {
         texts.push_reserved(Err(NoMemory));
     }
