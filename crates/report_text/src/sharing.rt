@@ -2,6 +2,7 @@
 ghost use Rattle.std.specs.Prelude.{◌≡◌, ◌≤◌, ◌++◌, length, IfOk, OnOk, IsOk, Err};
 ghost use Rattle.std.specs.List.{AllByRecursion, flat_map};
 ghost use Rattle.life_dates.specs.Calendar.{IsDay};
+ghost use Rattle.policy_types.specs.Limits.{most_commands};
 ghost use Rattle.report_text.specs.Block.{row_text, block_text, AreSummable};
 ghost use Rattle.report_text.specs.Parts.{rows_of_parts, had_text};
 
@@ -35,7 +36,7 @@ pub fn print_parts<R: Threads + Sync>(
     workers: u8,
 ) -> Result<TextParts, NoMemory>
     requires on { IsDay on }
-    requires few { length rows.now ≤ 4000000 }
+    requires few { length rows.now ≤ most_commands }
     requires bounded { AreSummable rows.now }
     requires workers { (1 ≤ workers) × (workers ≤ 64) }
     ensures { IfOk result (λ text. text ≡ block_text lane on position measure rows.now) }
