@@ -17,7 +17,6 @@ ALLOWED = {
 
 ALLOWED_TYPES = {
     "Books": "of an office and of a checkpoint: what is kept of the accepted commands",
-    "NoMemory": "of parallel_value, which stands on no crate, and of all others",
 }
 
 DEFINITION = re.compile(

@@ -1,6 +1,7 @@
 -- For callers: what the years of a list of policies are.
 use Rattle.std.proofs.Common.{ℕ, ◌*◌, ◌<◌, ◌≤◌, arith, List, length, get_or, All, ℤ, subst, le_trans, le_of_mul-le-mul_right}
 use Rattle.std.proofs.lemmas.List.{get_or_default}
+use Rattle.policy_types.specs.Limits.{most_commands}
 use Rattle.policy_types.specs.declared.policy.Policy.{Policy}
 use Rattle.present_value.specs.Fractions.{Fraction}
 use Rattle.present_value.specs.declared.pair.Pair.{Pair}
@@ -12,14 +13,14 @@ use Rattle.cash_projection.specs.declared.years.Year.{Year}
 use Rattle.cash_projection.proofs.Tallying.{zip_length}
 
 -- bounds of at most 4,000,000 policies
-few_cents : (count : ℕ) (exact : Fraction) (pair : Pair) → IsCash count exact pair → count ≤ 4000000
+few_cents : (count : ℕ) (exact : Fraction) (pair : Pair) → IsCash count exact pair → count ≤ most_commands
     → (pair.lo ≤ 100000000000000000) × (pair.hi ≤ 100000000000000000)
 few_cents count exact pair is few =
     let order : pair.lo * exact.den ≤ pair.hi * exact.den = le_trans is.between.above is.between.below in
     let least : pair.lo ≤ pair.hi = le_of_mul-le-mul_right order is.between.proper in
     (omega (arith, is.most, least), omega (arith, is.most))
 
-tellable : (count : ℕ) (a b d : Fraction) (year : Year) → IsCash count a year.premium → IsCash count b year.death → IsCash count d year.maturity → count ≤ 4000000
+tellable : (count : ℕ) (a b d : Fraction) (year : Year) → IsCash count a year.premium → IsCash count b year.death → IsCash count d year.maturity → count ≤ most_commands
     → IsTellable year
 tellable count a b d year premium death maturity few =
     let p = few_cents count a year.premium premium few in
@@ -29,10 +30,10 @@ tellable count a b d year premium death maturity few =
 
 -- they can be printed
 pub cash_tellable : (basis : List Dated) (on : ℤ) (policies : List Policy) (count unvalued : ℕ) (years : List Year)
-    → IsCashOf basis on policies count unvalued years → length policies ≤ 4000000 → All IsTellable years
+    → IsCashOf basis on policies count unvalued years → length policies ≤ most_commands → All IsTellable years
 cash_tellable basis on policies count unvalued years is few =
     λ j none below.
-    let all : length is.prospects ≤ 4000000 = omega (arith, zip_length (IsProspect basis on) policies is.prospects is.each) in
+    let all : length is.prospects ≤ most_commands = omega (arith, zip_length (IsProspect basis on) policies is.prospects is.each) in
     let within : j < count = omega (arith, is.rounded.many) in
     let year = is.exact j within in
     subst IsTellable (get_or_default years j no_year none below)

@@ -3,6 +3,7 @@ use Rattle.std.proofs.Common.{◌≡◌, ℕ, zero, suc, ◌+◌, ◌<◌, ◌�
 use Rattle.std.specs.List.{AllByRecursion, AllZip}
 use Rattle.std.proofs.lemmas.List.{take_all}
 use Rattle.std.proofs.lemmas.Slice.Zip.{AllZip-long}
+use Rattle.policy_types.specs.Limits.{most_commands}
 use Rattle.policy_types.specs.declared.policy.Policy.{Policy}
 use Rattle.basis_book.specs.Dated.{Dated}
 use Rattle.parallel_value.specs.Pieces.{AreValues, MayGive, TakeAll}
@@ -44,7 +45,7 @@ portions_whole policies cut more portion rest whole longer last =
 -- the workers take each portion
 module _ (basis : List Dated) (on : ℤ) (years : ℕ) (most : years ≤ 131) where
   one_takes : (projector : Projector) → IsProjectorFor basis on years projector → (portions : List Portion)
-      → AllByRecursion IsOfIssue (policies_of_portions portions) → length (policies_of_portions portions) ≤ 4000000 → AllByRecursion (TakesPortion projector) portions
+      → AllByRecursion IsOfIssue (policies_of_portions portions) → length (policies_of_portions portions) ≤ most_commands → AllByRecursion (TakesPortion projector) portions
   one_takes projector is [] sound few = tt
   one_takes projector is (portion ∷ more) sound few = (
     record {
@@ -58,7 +59,7 @@ module _ (basis : List Dated) (on : ℤ) (years : ℕ) (most : years ≤ 131) wh
   )
 
   pub all_take : (projectors : List Projector) (portions : List Portion) → AllByRecursion (IsProjectorFor basis on years) projectors
-      → AllByRecursion IsOfIssue (policies_of_portions portions) → length (policies_of_portions portions) ≤ 4000000 → TakeAll TakesPortion projectors portions
+      → AllByRecursion IsOfIssue (policies_of_portions portions) → length (policies_of_portions portions) ≤ most_commands → TakeAll TakesPortion projectors portions
   all_take projectors portions each sound few =
       all_more (IsProjectorFor basis on years) (λ (projector : Projector). AllByRecursion (TakesPortion projector) portions) projectors
       (λ projector is. one_takes projector is portions sound few) each
@@ -102,7 +103,7 @@ AreJoined years tallies i all = (basis : List Dated) (on : ℤ) (portions : List
 
 pub record CanJoin (all tally : Tally) : Type 0 where
   pub years : (all.years ≡ tally.years) × (all.years ≤ 131)
-  pub few : all.policies + tally.policies ≤ 4000000
+  pub few : all.policies + tally.policies ≤ most_commands
   pub ours : IsSized all
   pub theirs : IsSized tally
 

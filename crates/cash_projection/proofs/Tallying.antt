@@ -2,6 +2,7 @@
 use Rattle.std.proofs.Common.{◌≡◌, ℕ, zero, suc, ◌+◌, ◌*◌, ◌^◌, ◌<◌, ◌≤◌, refl, ap, ap₂, sym, subst, ◌∙◌, arith, List, [], ◌∷◌, ◌++◌, length, take, get_or, ℤ, le_trans, le_of_mul-le-mul_right, length-append, length-take-le}
 use Rattle.std.specs.List.{AllByRecursion, AllZip}
 use Rattle.std.proofs.lemmas.List.{take_more}
+use Rattle.policy_types.specs.Limits.{most_commands}
 use Rattle.policy_types.specs.declared.policy.Policy.{Policy}
 use Rattle.rate_table.specs.Rates.{ONE}
 use Rattle.present_value.specs.Rounding.{UNIT, down, up}
@@ -103,7 +104,7 @@ one_more_tallied basis on years policies i none old new below was taken =
 
 -- the sums of at most 4,000,000 policies
 roomy : (years : ℕ) (part : (ℕ → ℕ → ℕ) → ℕ → Prospect → ℕ) (exact : ℕ → Prospect → ℕ) (den : ℕ → ℕ) (ps : List Prospect) (sums : List Sums) → AreSums years part ps sums
-    → AllByRecursion IsSmall ps → years ≤ 131 → length ps ≤ 4000000 → ((j : ℕ) → 0 < den j)
+    → AllByRecursion IsSmall ps → years ≤ 131 → length ps ≤ most_commands → ((j : ℕ) → 0 < den j)
     → ((p : Prospect) (j : ℕ) → IsSmall p → j ≤ 131 → IsPart 1 (exact j p) (den j) (part down j p) (part up j p)) → IsRoomy years sums
 roomy years part exact den ps sums are small most few positive each = record {
   places = are.places;
@@ -117,9 +118,9 @@ roomy years part exact den ps sums are small most few positive each = record {
     whole : (j : ℕ) → j < years → IsPart (length ps) (total_of (exact j) ps) (den j) (total_of (part down j) ps) (total_of (part up j) ps)
     whole j below = list_part (exact j) (part down j) (part up j) (den j) ps small (λ p s. each p j s (omega arith))
 
-pub sized : (years : ℕ) (ps : List Prospect) (tally : Tally) → IsTally years ps tally → years ≤ 131 → tally.policies ≤ 4000000 → IsSized tally
+pub sized : (years : ℕ) (ps : List Prospect) (tally : Tally) → IsTally years ps tally → years ≤ 131 → tally.policies ≤ most_commands → IsSized tally
 sized years ps tally is most few =
-    let count : length ps ≤ 4000000 = omega (arith, is.policies) in
+    let count : length ps ≤ most_commands = omega (arith, is.policies) in
     record {
       policies = few;
       unvalued = omega (arith, is.unvalued, is.policies, words_few ps is.small);
@@ -140,7 +141,7 @@ zip_length P (x ∷ xs) (y ∷ ys) all = omega (arith, zip_length P xs ys all.1)
 
 -- the tally of a list is of as many policies, and there is room for them
 pub tally_sized : (basis : List Dated) (on : ℤ) (years : ℕ) (policies : List Policy) (tally : Tally) → IsTallyOf basis on years policies tally → years ≤ 131
-    → length policies ≤ 4000000 → IsSized tally × (tally.policies ≡ length policies)
+    → length policies ≤ most_commands → IsSized tally × (tally.policies ≡ length policies)
 tally_sized basis on years policies tally is most few =
     let many : tally.policies ≡ length policies = is.tallied.policies ∙ zip_length (IsProspect basis on) policies is.prospects is.each in
     (sized years is.prospects tally is.tallied most (omega (arith, many)), many)
@@ -152,7 +153,7 @@ tallied_years basis on years policies tally is = subst (λ n. IsTallyOf basis on
 
 -- before each of so many there is room for one more
 pub room_for_one : (basis : List Dated) (on : ℤ) (years : ℕ) (policies : List Policy) (i : ℕ) (tally : Tally) → IsTallyOf basis on years (take i policies) tally
-    → years ≤ 131 → length policies ≤ 4000000 → i < length policies → TakesOneMore tally
+    → years ≤ 131 → length policies ≤ most_commands → i < length policies → TakesOneMore tally
 room_for_one basis on years policies i tally is most few below =
     let count : length (take i policies) ≡ i = length-take-le i policies (omega arith) in
     let sized = tally_sized basis on years (take i policies) tally is most (omega arith) in

@@ -212,9 +212,7 @@ impl Tally {
             → IfOk result (λ years. IsCashOf basis on ps self.now.years self.now.unvalued years) }
     {
         let count = self.years as usize;
-        let Ok(mut years) = Vec::with_capacity(alloc, count) else {
-            return Err(NoMemory);
-        };
+        let mut years = Vec::with_capacity(alloc, count)?;
         for j in 0..count {
             let premium = self.premium.pair(j);
             let death = self.death.pair(j);

@@ -1,5 +1,5 @@
 -- From where records are decided, and what stands there.
-use Rattle.std.proofs.Common.{◌≡◌, ℕ, ◌≤◌, List, [], length, take, sym, ap, ◌∙◌, subst, None, Result, Ok, Err, IfOk, IfErr, OnOk, arith}
+use Rattle.std.proofs.Common.{◌≡◌, ℕ, ◌≤◌, List, [], length, take, sym, ap, ◌∙◌, subst, None, Err, arith}
 use Rattle.outside_io.specs.declared.disks.Disk.{Ghosts}
 use Rattle.policy_machine.specs.Book.{judge}
 use Rattle.policy_types.specs.declared.command.Command.{Command}
@@ -106,12 +106,3 @@ module _ {D : Type 0} {g : Ghosts D} (journal : Journal D g) (now : D) (bodies :
         };
       }
   fault_shown file replay.NoMemory begun stops = tt
-
-pub all_shown : (file : List ℕ) (bodies : List (List ℕ)) (books : NumberedBooks) (result : Result Snapshot ReopenFault) → IfOk result (λ s. s ≡ as_snapshot books)
-    → IfErr result (λ fault. fault ≡ NoMemory) → IsSnapshotOfAll bodies (as_snapshot books) → IsReopened file bodies result
-all_shown file bodies books (Ok s) same memory all = subst (IsSnapshotOfAll bodies) (sym same) all
-all_shown file bodies books (Err fault) same memory all = subst (λ f. IsReopened file bodies (Err f)) (sym memory) tt
-
-pub on_ok : {T E : Type 0} (result : Result T E) (P : Type 0) → P → OnOk result P
-on_ok (Ok x) P has = has
-on_ok (Err e) P has = tt

@@ -1,18 +1,21 @@
 -- What reopening answers: the snapshot of a journal, or why there is none
-use Rattle.std.specs.Prelude.{◌≡◌, ◌⊎◌, ℕ, ◌+◌, ◌-◌, ◌<◌, ◌≤◌, List, [], length, map, take, None, slice_index_or, Result, Ok, Err}
+use Rattle.std.specs.Prelude.{◌≡◌, ◌⊎◌, ℕ, ◌+◌, ◌-◌, ◌<◌, ◌≤◌, List, [], length, map, take, None, slice_index_or, IfOk, OnOk, Result, Ok, Err}
 use Rattle.std.specs.List.{AllByRecursion}
 use Rattle.outside_io.specs.Faults.{Rose}
 use Rattle.outside_io.specs.declared.disks.Disk.{Ghosts}
 use Rattle.policy_machine.specs.Book.{IsAccepted, judge}
 use Rattle.policy_types.specs.declared.command.Command.{Command}
 use Rattle.policy_types.specs.Valid.{IsValid}
+use Rattle.journal_replay.specs.Replays.{StaysAs}
 use Rattle.posting_journal.specs.Runs.{LooksOn}
+use Rattle.posting_journal.specs.States.{StandsFor, count_of, disk_of}
+use Rattle.posting_journal.specs.declared.journal.Journal.{Journal}
 use Rattle.record_codec.specs.Spelling.{spelling_of}
 use Rattle.checkpoint_store.specs.declared.faults.ReopenFault.{ReopenFault}
 use Rattle.checkpoint_store.specs.declared.faults.ReopenFault.TheVariants.{DiskFault, BadRecord, NoMemory}
 use Rattle.checkpoint_store.specs.declared.snapshot.Snapshot.{Snapshot}
 use Rattle.checkpoint_store.specs.declared.store.Store.{Store}
-use Rattle.checkpoint_store.specs.Checkpoints.{CheckpointBytes, IsSnapshotOf}
+use Rattle.checkpoint_store.specs.Checkpoints.{CheckpointBytes, IsSnapshotOf, IsSoundSnapshot}
 use Rattle.checkpoint_store.specs.Stores.{Knows, MightLeave, store_disk}
 
 -- The first so many bodies spell commands, accepted one after the other, and the snapshot is theirs.
@@ -96,3 +99,20 @@ pub record KeepsAsBefore {E : Type 0} {g : Ghosts E} (old new : Store E g) : Typ
   pub looks : g.honest (store_disk new) → LooksOn g (store_disk old) (store_disk new)
   pub knows : g.honest (store_disk new) → Knows old → Knows new
   pub leaves : (image : List ℕ) → g.honest (store_disk new) → MightLeave new image → MightLeave old image
+
+-- What reopening answers, and what it leaves: of a store, a journal and a count of steps, each before and behind it.
+pub record Reopens {E D : Type 0} {e : Ghosts E} {g : Ghosts D} (old new : Store E e) (before now : Journal D g)
+    (first last : ℕ) (result : Result Snapshot ReopenFault) : Type 0 where
+  -- only a disk that failed is told as faulty
+  pub cause : HasCauseOfTwo (e.faults (store_disk old)) (e.faults (store_disk new))
+      (g.faults (disk_of before)) (g.faults (disk_of now)) result
+  -- neither disk was written to
+  pub store : KeepsAsBefore old new
+  pub journal : StaysAs before now
+  pub sound : IfOk result IsSoundSnapshot
+  -- no record is read twice, and none before the start
+  pub few : e.honest (store_disk new) → OnOk result (TakesSteps (e.reads (store_disk old)) (count_of before) first last)
+  -- the answer is that of the journal's records, where the checkpoint is one of them
+  pub reopened : (bodies : List (List ℕ)) (faulted : List ℕ) → e.honest (store_disk new) → g.honest (disk_of now)
+      → StandsFor before bodies faulted → IsTrueWhereUsed (e.reads (store_disk old)) bodies
+      → IsReopened (e.reads (store_disk old)) bodies result

@@ -56,9 +56,7 @@ impl Books {
     pub fn snapshot(&self, alloc: Global) -> Result<Snapshot, NoMemory>
         ensures { IfOk result (λ snapshot. snapshot ≡ self.now) }
     {
-        let Ok(book) = Vec::from_slice(alloc, self.policies()) else {
-            return Err(NoMemory);
-        };
+        let book = Vec::from_slice(alloc, self.policies())?;
         Ok(Snapshot {
             position: self.books.position,
             upgrade: self.books.upgrade,

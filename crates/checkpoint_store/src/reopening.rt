@@ -1,11 +1,7 @@
 // A store and a journal are reopened.
-ghost use Rattle.std.specs.Prelude.{◌≡◌, ℕ, ◌≤◌, List, length, IfErr, IfOk, OnOk};
-ghost use Rattle.posting_journal.specs.States.{StandsFor, count_of, disk_of};
-ghost use Rattle.journal_replay.specs.Replays.{StaysAs};
-ghost use Rattle.checkpoint_store.specs.Checkpoints.{IsSoundSnapshot};
-ghost use Rattle.checkpoint_store.specs.Reopening.{HasCauseOfTwo, IsReopened, IsSnapshotOfFront, IsStartOf, IsTrueWhereUsed, KeepsAsBefore, TakesSteps};
+ghost use Rattle.std.specs.Prelude.{◌≡◌, ℕ, ◌≤◌, List, length, IfOk};
+ghost use Rattle.checkpoint_store.specs.Reopening.{IsSnapshotOfFront, IsStartOf, IsTrueWhereUsed, KeepsAsBefore, Reopens};
 ghost use Rattle.checkpoint_store.specs.Stores.{store_disk};
-ghost use Rattle.checkpoint_store.specs.declared.faults.ReopenFault.TheVariants.{NoMemory as NoRoom};
 ghost use Rattle.checkpoint_store.specs.inside.Numbered.{AreSoundBooks, as_snapshot};
 ghost use Rattle.checkpoint_store.specs.inside.Reading.{HasReadCause};
 
@@ -29,16 +25,7 @@ pub fn reopen_books<E: Disk, D: Disk, L: Ledger>(
     journal: &mut Journal<D>,
     steps: &mut Steps<L>,
 ) -> Result<Books, ReopenFault>
-    ensures cause { HasCauseOfTwo (E.faults (store_disk store.old)) (E.faults (store_disk store.new))
-        (D.faults (disk_of journal.old)) (D.faults (disk_of journal.new)) result }
-    ensures store { KeepsAsBefore store.old store.new }
-    ensures journal { StaysAs journal.old journal.new }
-    ensures sound { IfOk result IsSoundSnapshot }
-    ensures few { E.honest (store_disk store.new)
-        → OnOk result (TakesSteps (E.reads (store_disk store.old)) (count_of journal.old) steps.old steps.new) }
-    ensures reopened { (bodies : List (List ℕ)) (faulted : List ℕ) → E.honest (store_disk store.new) → D.honest (disk_of journal.new)
-        → StandsFor journal.old bodies faulted → IsTrueWhereUsed (E.reads (store_disk store.old)) bodies
-        → IsReopened (E.reads (store_disk store.old)) bodies result }
+    ensures { Reopens store.old store.new journal.old journal.new steps.old steps.new result }
 {
     let mut books = begin(alloc, store, journal.count())?;
     let from = books.position;
@@ -55,16 +42,7 @@ pub fn reopen<E: Disk, D: Disk, L: Ledger>(
     journal: &mut Journal<D>,
     steps: &mut Steps<L>,
 ) -> Result<Snapshot, ReopenFault>
-    ensures cause { HasCauseOfTwo (E.faults (store_disk store.old)) (E.faults (store_disk store.new))
-        (D.faults (disk_of journal.old)) (D.faults (disk_of journal.new)) result }
-    ensures store { KeepsAsBefore store.old store.new }
-    ensures journal { StaysAs journal.old journal.new }
-    ensures sound { IfOk result IsSoundSnapshot }
-    ensures few { E.honest (store_disk store.new)
-        → OnOk result (TakesSteps (E.reads (store_disk store.old)) (count_of journal.old) steps.old steps.new) }
-    ensures reopened { (bodies : List (List ℕ)) (faulted : List ℕ) → E.honest (store_disk store.new) → D.honest (disk_of journal.new)
-        → StandsFor journal.old bodies faulted → IsTrueWhereUsed (E.reads (store_disk store.old)) bodies
-        → IsReopened (E.reads (store_disk store.old)) bodies result }
+    ensures { Reopens store.old store.new journal.old journal.new steps.old steps.new result }
 {
     let books = reopen_books(alloc, store, journal, steps)?;
     match books.snapshot(alloc) {

@@ -5,7 +5,7 @@ use Rattle.std.proofs.lemmas.List.Elements.{All-from_recursion}
 use Rattle.std.proofs.Math.Seq.{take-add}
 use Rattle.std.specs.List.{AllByRecursion, AllZip, IsAmong}
 use Rattle.parallel_value.specs.Pieces.{AddsBehind, AreBoth, AreValues, IsAsBefore, MayGive, StandBehind, TakeAll}
-use Rattle.parallel_value.specs.declared.piece.NoMemory.{NoMemory}
+use Rattle.std.specs.declared.alloc.AllocError.{AllocError}
 use Rattle.parallel_value.specs.declared.sharing.Made.{Made}
 use Rattle.parallel_value.specs.inside.Parts.{AreMadeParts, IsMadePart, IsOneOf}
 use Rattle.parallel_value.proofs.PieceSteps.{all_more, may_alone, may_back, may_front, still_as_before, values_next, zip_append, zip_more}
@@ -81,7 +81,7 @@ module _ {P I O : Type 0} (takes : P → I → Type 0) (gives : P → I → O �
   pub made_before : (one two : P) (items : List I) (m : Made O) → IsAsBefore takes gives one two → IsMadePart (gives two) items m → IsMadePart (gives one) items m
   made_before one two items m before is = (is.0, zip_more (gives two) (gives one) _ _ (λ item value given. before.gives_only item value given) is.1)
 
-  pub made_alone : (ps : List P) (d : P) (items : List I) (result : Result (Vec (Made O) Global) NoMemory) → length ps ≡ 1
+  pub made_alone : (ps : List P) (d : P) (items : List I) (result : Result (Vec (Made O) Global) AllocError) → length ps ≡ 1
       → IfOk result (λ made. AllByRecursion (IsMadePart (gives (get_or ps 0 d)) items) made.items) → IfOk result (λ made. AreMadeParts gives ps items made.items)
   made_alone ps d items (Ok made) one is = made_more _ _ items made.items (may_alone takes gives ps d one) is
   made_alone ps d items (Err fault) one is = tt
@@ -91,7 +91,7 @@ module _ {P I O : Type 0} (takes : P → I → Type 0) (gives : P → I → O �
   made_append ps qs items front back first last =
       all_append _ front back (made_more _ _ items front (may_front takes gives ps qs) first) (made_more _ _ items back (may_back takes gives ps qs) last)
 
-  pub made_of_both : (ps qs : List P) (items : List I) (left right result : Result (Vec (Made O) Global) NoMemory)
+  pub made_of_both : (ps qs : List P) (items : List I) (left right result : Result (Vec (Made O) Global) AllocError)
       → IfOk left (λ one. AreMadeParts gives ps items one.items) → IfOk right (λ other. AreMadeParts gives qs items other.items)
       → IfOk result (λ made. AreBoth left right made.items) → IfOk result (λ made. AreMadeParts gives (ps ++ qs) items made.items)
   made_of_both ps qs items (Ok one) (Ok other) (Ok made) first last both =
@@ -105,7 +105,7 @@ module _ {P I O : Type 0} (takes : P → I → Type 0) (gives : P → I → O �
       → AddsBehind (AreValues gives ps items) old ys
   adds_of_one ps piece items old ys one adds = (adds.0, adds.1, zip_more _ _ items adds.0 one adds.2)
 
-  pub adds_of_result : (ps : List P) (piece : P) (items : List I) (old ys : List O) {U : Type 0} (result : Result U NoMemory) → IsOneOf gives ps piece
+  pub adds_of_result : (ps : List P) (piece : P) (items : List I) (old ys : List O) {U : Type 0} (result : Result U AllocError) → IsOneOf gives ps piece
       → OnOk result (AddsBehind (AllZip (gives piece) items) old ys) → OnOk result (AddsBehind (AreValues gives ps items) old ys)
   adds_of_result ps piece items old ys (Ok u) one adds = adds_of_one ps piece items old ys one adds
   adds_of_result ps piece items old ys (Err fault) one adds = tt

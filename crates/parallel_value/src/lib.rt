@@ -8,5 +8,5 @@ mod share;
 mod sharing;
 
 pub use filling::map_into;
-pub use piece::{NoMemory, Piece};
+pub use piece::Piece;
 pub use sharing::{map_in, map_onto};

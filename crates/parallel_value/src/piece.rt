@@ -1,10 +1,6 @@
 // What one worker does.
 ghost use Rattle.std.specs.Prelude.{ℕ};
 
-/// Memory was refused.
-#[derive(Clone, Copy, PartialEq, Eq, Debug)]
-pub struct NoMemory;
-
 /// A worker that computes the value of one item after another. What it keeps from one item to the next, as a cache,
 /// changes neither which items it takes nor which values it may give.
 pub trait Piece<I, O> {

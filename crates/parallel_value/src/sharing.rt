@@ -9,9 +9,9 @@ ghost use Rattle.std.specs.Thread.{IsSync, IsSend};
 ghost use Rattle.parallel_value.specs.Pieces.{AddsBehind, AreAsBefore, AreValues, Compute, IsAsBefore, StandBehind, TakeAll};
 ghost use Rattle.parallel_value.specs.inside.Parts.{AreMadeParts, IsMadePart, IsOneOf};
 
+use crate::Piece;
 use crate::mapping::{both, map_alone};
-use crate::{NoMemory, Piece};
-use std::alloc::Global;
+use std::alloc::{AllocError, Global};
 use std::sync::atomic::{AtomicUsize, Ordering};
 use std::thread::{Threads, join_mut};
 
@@ -31,7 +31,7 @@ pub fn map_in<R: Threads + Sync, I: Sync, O: Copy + Send + Drop, P: Piece<I, O> 
     alloc: Global,
     pieces: &mut [P],
     items: &[I],
-) -> Result<Vec<O>, NoMemory>
+) -> Result<Vec<O>, AllocError>
     requires workers { (1 ≤ length pieces.old) × (length pieces.old ≤ 64) }
     requires taken { TakeAll P.takes pieces.old items.now }
     ensures values { IfOk result (λ values. AreValues P.gives pieces.old items.now values.items) }
@@ -43,7 +43,7 @@ pub fn map_in<R: Threads + Sync, I: Sync, O: Copy + Send + Drop, P: Piece<I, O> 
     Ok(values)
 }
 
-/// Adds the values of the items to those that are there, in their order; after `NoMemory` those alone are there. Each
+/// Adds the values of the items to those that are there, in their order; after `AllocError` those alone are there. Each
 /// worker but one has a thread of its own; one worker alone starts no thread.
 pub fn map_onto<R: Threads + Sync, I: Sync, O: Copy + Send + Drop, P: Piece<I, O> + Send>(
     rt: &R,
@@ -51,7 +51,7 @@ pub fn map_onto<R: Threads + Sync, I: Sync, O: Copy + Send + Drop, P: Piece<I, O
     pieces: &mut [P],
     items: &[I],
     values: &mut Vec<O>,
-) -> Result<(), NoMemory>
+) -> Result<(), AllocError>
     requires workers { (1 ≤ length pieces.old) × (length pieces.old ≤ 64) }
     requires taken { TakeAll P.takes pieces.old items.now }
     ensures values { OnOk result (AddsBehind (AreValues P.gives pieces.old items.now) values.old.items values.new.items) }
@@ -73,7 +73,7 @@ fn add_all<R: Threads + Sync, I: Sync, O: Copy + Send + Drop, P: Piece<I, O> + S
     pieces: &mut [P],
     items: &[I],
     values: &mut Vec<O>,
-) -> Result<(), NoMemory>
+) -> Result<(), AllocError>
     requires workers { (1 ≤ length pieces.old) × (length pieces.old ≤ 64) }
     requires taken { TakeAll P.takes pieces.old items.now }
     ensures values { OnOk result (AddsBehind (AreValues P.gives pieces.old items.now) values.old.items values.new.items) }
@@ -95,7 +95,7 @@ fn make_parts<R: Threads + Sync, I: Sync, O: Copy + Send + Drop, P: Piece<I, O> 
     pieces: &mut [P],
     items: &[I],
     next: &AtomicUsize,
-) -> Result<Vec<Made<O>>, NoMemory>
+) -> Result<Vec<Made<O>>, AllocError>
     requires workers { (1 ≤ length pieces.old) × (length pieces.old ≤ 64) }
     requires taken { TakeAll P.takes pieces.old items.now }
     ensures made { IfOk result (λ made. AreMadeParts P.gives pieces.old items.now made.items) }
@@ -117,7 +117,7 @@ fn make_both<R: Threads + Sync, I: Sync, O: Copy + Send + Drop, P: Piece<I, O> +
     back: &mut [P],
     items: &[I],
     next: &AtomicUsize,
-) -> Result<Vec<Made<O>>, NoMemory>
+) -> Result<Vec<Made<O>>, AllocError>
     requires front { (1 ≤ length front.old) × (length front.old ≤ 64) }
     requires back { (1 ≤ length back.old) × (length back.old ≤ 64) }
     requires first { TakeAll P.takes front.old items.now }
@@ -128,14 +128,14 @@ fn make_both<R: Threads + Sync, I: Sync, O: Copy + Send + Drop, P: Piece<I, O> +
 {
     let (left, right) = join_mut(
         rt,
-        &mut || -> Result<Vec<Made<O>>, NoMemory>
+        &mut || -> Result<Vec<Made<O>>, AllocError>
             requires sync { IsSync R.row × IsSync I.row × IsSend O.row × IsSend P.row }
             requires workers { (1 ≤ length front.now) × (length front.now ≤ 64) }
             requires taken { TakeAll P.takes front.now items.now }
             ensures made { IfOk result (λ made. AreMadeParts P.gives front.entry.now items.entry.now made.items) }
             ensures pieces { AreAsBefore P.takes P.gives front.entry.now front.exit.now }
         { make_parts(rt, alloc, front, items, next) },
-        &mut || -> Result<Vec<Made<O>>, NoMemory>
+        &mut || -> Result<Vec<Made<O>>, AllocError>
             requires sync { IsSync R.row × IsSync I.row × IsSend O.row × IsSend P.row }
             requires workers { (1 ≤ length back.now) × (length back.now ≤ 64) }
             requires taken { TakeAll P.takes back.now items.now }
@@ -152,7 +152,7 @@ fn make_by_one<I, O: Drop, P: Piece<I, O>>(
     pieces: &mut [P],
     items: &[I],
     next: &AtomicUsize,
-) -> Result<Vec<Made<O>>, NoMemory>
+) -> Result<Vec<Made<O>>, AllocError>
     requires one { length pieces.old ≡ 1 }
     requires taken { TakeAll P.takes pieces.old items.now }
     ensures made { IfOk result (λ made. AreMadeParts P.gives pieces.old items.now made.items) }
@@ -167,7 +167,7 @@ fn make_alone<I, O: Drop, P: Piece<I, O>>(
     piece: &mut P,
     items: &[I],
     next: &AtomicUsize,
-) -> Result<Vec<Made<O>>, NoMemory>
+) -> Result<Vec<Made<O>>, AllocError>
     requires taken { AllByRecursion (P.takes piece.old) items.now }
     ensures made { IfOk result (λ made. AllByRecursion (IsMadePart (P.gives piece.old) items.now) made.items) }
     ensures piece { IsAsBefore P.takes P.gives piece.old piece.new }
@@ -180,9 +180,7 @@ fn make_alone<I, O: Drop, P: Piece<I, O>>(
             break;
         }
         let one = make_part(alloc, piece, items, part * ITEMS_IN_PART)?;
-        if made.push(one).is_err() {
-            return Err(NoMemory);
-        }
+        made.push(one)?;
     }
     Ok(made)
 }
@@ -193,7 +191,7 @@ fn make_part<I, O: Drop, P: Piece<I, O>>(
     piece: &mut P,
     items: &[I],
     first: usize,
-) -> Result<Made<O>, NoMemory>
+) -> Result<Made<O>, AllocError>
     requires within { first ≤ length items.now }
     requires taken { AllByRecursion (P.takes piece.old) items.now }
     ensures made { IfOk result (IsMadePart (P.gives piece.old) items.now) }
@@ -218,7 +216,7 @@ fn add_parts<I, O: Copy + Drop, P: Piece<I, O>>(
     items: &[I],
     made: &[Made<O>],
     values: &mut Vec<O>,
-) -> Result<(), NoMemory>
+) -> Result<(), AllocError>
     requires taken { AllByRecursion (P.takes piece.old) items.now }
     ensures values { (workers : List P) → IsOneOf P.gives workers piece.old → AreMadeParts P.gives workers items.now made.now
         → OnOk result (AddsBehind (AreValues P.gives workers items.now) values.old.items values.new.items) }
@@ -240,7 +238,7 @@ fn add_part<I, O: Copy + Drop, P: Piece<I, O>>(
     part: &[I],
     made: Option<&Made<O>>,
     values: &mut Vec<O>,
-) -> Result<(), NoMemory>
+) -> Result<(), AllocError>
     requires taken { AllByRecursion (P.takes piece.old) part.now }
     ensures values { (workers : List P) → IsOneOf P.gives workers piece.old
         → IfSome made.entry (λ one. AreValues P.gives workers part.now one.now.values.items)
@@ -255,14 +253,11 @@ fn add_part<I, O: Copy + Drop, P: Piece<I, O>>(
 }
 
 // Adds the values of a part that was made.
-fn add_made<O: Copy + Drop>(made: &Made<O>, values: &mut Vec<O>) -> Result<(), NoMemory>
+fn add_made<O: Copy + Drop>(made: &Made<O>, values: &mut Vec<O>) -> Result<(), AllocError>
     ensures added { OnOk result (values.new.items ≡ values.old.items ++ made.now.values.items) }
     ensures behind { StandBehind values.old.items values.new.items }
 {
-    match values.extend_from_slice(made.values.as_slice()) {
-        Ok(()) => Ok(()),
-        Err(_) => Err(NoMemory),
-    }
+    values.extend_from_slice(made.values.as_slice())
 }
 
 // The part of this first item, where it was made.
@@ -282,7 +277,7 @@ fn add_by_one<I, O: Drop, P: Piece<I, O>>(
     pieces: &mut [P],
     items: &[I],
     values: &mut Vec<O>,
-) -> Result<(), NoMemory>
+) -> Result<(), AllocError>
     requires one { length pieces.old ≡ 1 }
     requires taken { TakeAll P.takes pieces.old items.now }
     ensures values { OnOk result (AddsBehind (AreValues P.gives pieces.old items.now) values.old.items values.new.items) }
@@ -297,16 +292,14 @@ fn add_alone<I, O: Drop, P: Piece<I, O>>(
     piece: &mut P,
     items: &[I],
     values: &mut Vec<O>,
-) -> Result<(), NoMemory>
+) -> Result<(), AllocError>
     requires taken { AllByRecursion (P.takes piece.old) items.now }
     ensures values { OnOk result (AddsBehind (AllZip (P.gives piece.old) items.now) values.old.items values.new.items) }
     ensures behind { StandBehind values.old.items values.new.items }
     ensures piece { IsAsBefore P.takes P.gives piece.old piece.new }
 {
     for item in items {
-        if values.push(piece.one(item)).is_err() {
-            return Err(NoMemory);
-        }
+        values.push(piece.one(item))?;
     }
     Ok(())
 }

@@ -2,6 +2,7 @@
 ghost use Rattle.std.specs.Prelude.{◌≡◌, ◌≤◌, ◌++◌, length, IfOk, OnOk, IsOk, Err};
 ghost use Rattle.std.specs.List.{AllByRecursion, flat_map};
 ghost use Rattle.life_dates.specs.Calendar.{IsDay};
+ghost use Rattle.policy_types.specs.Limits.{most_commands};
 ghost use Rattle.report_text.specs.Block.{row_text, block_text, AreSummable};
 ghost use Rattle.report_text.specs.Parts.{rows_of_parts, had_text};
 
@@ -35,7 +36,7 @@ pub fn print_parts<R: Threads + Sync>(
     workers: u8,
 ) -> Result<TextParts, NoMemory>
     requires on { IsDay on }
-    requires few { length rows.now ≤ 4000000 }
+    requires few { length rows.now ≤ most_commands }
     requires bounded { AreSummable rows.now }
     requires workers { (1 ≤ workers) × (workers ≤ 64) }
     ensures { IfOk result (λ text. text ≡ block_text lane on position measure rows.now) }
@@ -65,7 +66,7 @@ fn add_rows<R: Threads + Sync>(
     requires { (1 ≤ many) × (many ≤ 64) }
     ensures { OnOk result (parts.new ≡ parts.old ++ flat_map row_text rows.now) }
 {
-    let mut printers = Vec::from_elem(alloc, RowPrinter { alloc }, many).map_err(|_| NoMemory)?;
+    let mut printers = Vec::from_elem(alloc, RowPrinter { alloc }, many)?;
     let shares = shares_of(alloc, rows, many)?;
     let mut texts = unwritten(alloc, many)?;
     map_into(
@@ -84,7 +85,7 @@ fn shares_of<'a>(alloc: Global, rows: &'a [Row], many: usize) -> Result<Vec<RowP
     ensures whole { IfOk result (λ shares. rows_of_parts shares.items ≡ rows.now) }
 {
     let size = rows.len() / many;
-    let mut shares = Vec::with_capacity(alloc, many).map_err(|_| NoMemory)?;
+    let mut shares = Vec::with_capacity(alloc, many)?;
     let mut rest = rows;
     for _ in 0..many - 1 {
         let (front, back) = rest.split_at(size.min(rest.len()));
@@ -99,7 +100,7 @@ fn shares_of<'a>(alloc: Global, rows: &'a [Row], many: usize) -> Result<Vec<RowP
 fn unwritten(alloc: Global, many: usize) -> Result<Vec<Result<Text, NoMemory>>, NoMemory>
     ensures { IfOk result (λ texts. length texts.items ≡ many) }
 {
-    let mut texts = Vec::with_capacity(alloc, many).map_err(|_| NoMemory)?;
+    let mut texts = Vec::with_capacity(alloc, many)?;
     for _ in 0..many {
         texts.push_reserved(Err(NoMemory));
     }

@@ -36,7 +36,7 @@ impl Reader for Lister {
     ghost gives = { λ plan position policies listed. IsBookAt position policies listed };
 
     fn begin(alloc: Global, _plan: (), policies: usize) -> Result<Lister, NoMemory> {
-        let book = Vec::with_capacity(alloc, policies).map_err(|_| NoMemory)?;
+        let book = Vec::with_capacity(alloc, policies)?;
         Ok(Lister { book })
     }
 
@@ -46,7 +46,8 @@ impl Reader for Lister {
         _alloc: Global,
         part: &[Policy],
     ) -> Result<(), NoMemory> {
-        self.book.extend_from_slice(part).map_err(|_| NoMemory)
+        self.book.extend_from_slice(part)?;
+        Ok(())
     }
 
     fn made<R: Threads + Sync>(

@@ -64,8 +64,8 @@ impl<'a> Worksheet<'a> {
             usize::from(workers.min(MOST_WORKERS)),
         );
         let workers = workers_for(alloc, basis, on, measure, many)?;
-        let read = Vec::with_capacity(alloc, together(many).min(policies)).map_err(|_| NoMemory)?;
-        let rows = Vec::with_capacity(alloc, policies).map_err(|_| NoMemory)?;
+        let read = Vec::with_capacity(alloc, together(many).min(policies))?;
+        let rows = Vec::with_capacity(alloc, policies)?;
         Ok(Worksheet {
             workers,
             read,
@@ -131,7 +131,8 @@ impl<'a> Worksheet<'a> {
             → OnOk result (HasMade basis on measure (policies ++ part.now) self.new) }
         ensures longer { OnOk result (length self.new.read.items ≡ length self.old.read.items + length part.now) }
     {
-        self.read.extend_from_slice(part).map_err(|_| NoMemory)
+        self.read.extend_from_slice(part)?;
+        Ok(())
     }
 
     /// The rows of the policies that were valued.
@@ -165,7 +166,7 @@ fn workers_for<'a>(
     ensures by { IfOk result (λ workers. AllByRecursion (ValuesBy basis.now on measure) workers.items) }
 {
     let share = many as u32;
-    let mut workers = Vec::with_capacity(alloc, many).map_err(|_| NoMemory)?;
+    let mut workers = Vec::with_capacity(alloc, many)?;
     for _ in 0..many {
         let cache = ColumnCache::with_room(alloc, COLUMNS_KEPT / share, PREMIUMS_KEPT / share)?;
         workers.push_reserved(Worker {
@@ -194,8 +195,6 @@ fn value_all<R: Threads + Sync>(
         → OnOk result (AddsBehind (AreSmallRows basis on measure policies.now) rows.old.items rows.new.items) }
     ensures workers { AreAsBefore TakesPolicy GivesRow workers.old workers.new }
 {
-    match map_onto(rt, alloc, workers, policies, rows) {
-        Ok(()) => Ok(()),
-        Err(_) => Err(NoMemory),
-    }
+    map_onto(rt, alloc, workers, policies, rows)?;
+    Ok(())
 }

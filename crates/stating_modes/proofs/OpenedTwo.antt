@@ -14,8 +14,7 @@ use Rattle.posting_journal.specs.declared.faults.JournalCause.TheVariants.{DiskF
 use Rattle.posting_journal.specs.declared.journal.Journal.{Journal}
 use Rattle.posting_journal.proofs.Moments.{looks_none, looks_on}
 use Rattle.journal_replay.specs.Replays.{IsStoppedAt, StaysAs}
-use Rattle.checkpoint_store.specs.Checkpoints.{IsSoundSnapshot}
-use Rattle.checkpoint_store.specs.Reopening.{HasCauseOfTwo, IsFirstBadBody, IsReopened, IsSnapshotOfAll, IsTrueWhereUsed, KeepsAsBefore, TakesSteps}
+use Rattle.checkpoint_store.specs.Reopening.{HasCauseOfTwo, IsFirstBadBody, IsReopened, IsSnapshotOfAll, IsTrueWhereUsed, KeepsAsBefore, Reopens, TakesSteps}
 use Rattle.checkpoint_store.specs.Starts.{HasLookedAt}
 use Rattle.checkpoint_store.specs.Stores.{store_disk}
 use Rattle.checkpoint_store.specs.declared.faults.ReopenFault.{ReopenFault}
@@ -187,24 +186,17 @@ module _ {E : Type 0} (e : Ghosts E) (second : E) (store after : Store E e) (und
   same_file : e.honest (store_disk after) → e.reads (store_disk store) ≡ e.reads second
   same_file honest = (under.read.looks (keeps.honesty honest)).facts.reads
 
--- what the reopening answers of the bodies of a journal, where both disks come back honest
-abbrev pub Answers : {D E : Type 0} {g : Ghosts D} {e : Ghosts E} → Journal D g → Journal D g → Store E e → Store E e → Result Snapshot ReopenFault → Type 0
-Answers {g = g} {e = e} journal now store after result =
-    (bodies : List (List ℕ)) (faulted : List ℕ) → e.honest (store_disk after) → g.honest (disk_of now)
-    → StandsFor journal bodies faulted → IsTrueWhereUsed (e.reads (store_disk store)) bodies
-    → IsReopened (e.reads (store_disk store)) bodies result
-
 module _ {D E : Type 0} (g : Ghosts D) (e : Ghosts E) (reads_image : ReadsImage g) (counts_now : CountsNow g)
     (disk : D) (journal now : Journal D g) (on : HasJournalOn disk journal) (stays : StaysAs journal now)
     (second : E) (store after : Store E e) (under : HasStoreOn second store) (keeps : KeepsAsBefore store after) where
   abbrev disks : TwoDisks D E
   disks = record { old = disk; new = disk_of now; second = second; kept = store_disk after }
 
-  answered : (result : Result Snapshot ReopenFault) → Answers journal now store after result → (are : AreTrue g e disks)
+  answered : (first last : ℕ) (result : Result Snapshot ReopenFault) → Reopens store after journal now first last result → (are : AreTrue g e disks)
       → IsReopened (e.reads (store_disk store)) (opened_so g reads_image counts_now disk journal now on stays are.first_honest).bodies result
-  answered result answers are =
+  answered first last result reopens are =
       let opened = opened_so g reads_image counts_now disk journal now on stays are.first_honest in
-      answers opened.bodies [] are.second_honest are.first_honest opened.stands
+      reopens.reopened opened.bodies [] are.second_honest are.first_honest opened.stands
       (subst (λ file. IsTrueWhereUsed file opened.bodies) (sym (same_file e second store after under keeps are.second_honest))
       (are.truth opened.bodies opened.opened))
 
@@ -225,18 +217,16 @@ module _ {D E : Type 0} (g : Ghosts D) (e : Ghosts E) (reads_image : ReadsImage 
       → AreBothQuiet g e disks
   both_quiet second_quiet first_quiet = record { first = first_quiet ∙ on.quiet; second = second_quiet ∙ under.quiet }
 
-  pub has_reopened : OnlyNow g → (opened : Reopened D E g e) → opened.journal ≡ now → opened.store ≡ after
-      → IsSoundSnapshot opened.books
-      → HasCauseOfTwo (e.faults (store_disk store)) (e.faults (store_disk after)) (g.faults (disk_of journal)) (g.faults (disk_of now)) (Ok opened.books)
-      → Answers journal now store after (Ok opened.books) → HasReopened disk second opened
-  has_reopened only_now opened same_journal same_store sound cause answers =
-      let quiet = both_quiet cause.0 cause.1 in
-      let first : IsLeftAlone g disk (disk_of now) = first_alone g reads_image counts_now disk journal now on stays in
+  pub has_reopened : OnlyNow g → (opened : Reopened D E g e) → opened.journal ≡ now → opened.store ≡ after → (first last : ℕ)
+      → Reopens store after journal now first last (Ok opened.books) → HasReopened disk second opened
+  has_reopened only_now opened same_journal same_store first last reopens =
+      let quiet = both_quiet reopens.cause.0 reopens.cause.1 in
+      let alone : IsLeftAlone g disk (disk_of now) = first_alone g reads_image counts_now disk journal now on stays in
       let held : IsHeldWhereTrue g e disks opened.books =
       λ are. snapshot_held g reads_image counts_now disk journal now on stays only_now quiet.first are.first_honest opened.books
-      (answered (Ok opened.books) answers are) in
+      (answered first last (Ok opened.books) reopens are) in
       by opened.journal opened.store same_journal same_store
-      (record { sound = sound; quiet = quiet; alone = first; safe = made_safe g reads_image counts_now disk journal now on stays; only_read = second_read e second store after under keeps; looked = looked e second store after under keeps; held = held })
+      (record { sound = reopens.sound; quiet = quiet; alone = alone; safe = made_safe g reads_image counts_now disk journal now on stays; only_read = second_read e second store after under keeps; looked = looked e second store after under keeps; held = held })
     where
       by : (j : Journal D g) (s : Store E e) → j ≡ now → s ≡ after
           → HasReopened disk second (record { books = opened.books; journal = now; store = after })
@@ -245,12 +235,11 @@ module _ {D E : Type 0} (g : Ghosts D) (e : Ghosts E) (reads_image : ReadsImage 
           subst (λ j. HasReopened disk second (record { books = opened.books; journal = j; store = s })) (sym same)
           (subst (λ s. HasReopened disk second (record { books = opened.books; journal = now; store = s })) (sym other) h)
 
-  pub has_no_snapshot : (fault : ReopenFault)
-      → HasCauseOfTwo (e.faults (store_disk store)) (e.faults (store_disk after)) (g.faults (disk_of journal)) (g.faults (disk_of now)) (Err fault)
-      → Answers journal now store after (Err fault) → HasNoSnapshot g e disks (as_start_cause fault)
-  has_no_snapshot fault cause answers = record {
-    told = told fault cause;
-    shown = λ are. shown fault (answered (Err fault) answers are) (opened_so g reads_image counts_now disk journal now on stays are.first_honest).opened;
+  pub has_no_snapshot : (fault : ReopenFault) (first last : ℕ) → Reopens store after journal now first last (Err fault)
+      → HasNoSnapshot g e disks (as_start_cause fault)
+  has_no_snapshot fault first last reopens = record {
+    told = told fault reopens.cause;
+    shown = λ are. shown fault (answered first last (Err fault) reopens are) (opened_so g reads_image counts_now disk journal now on stays are.first_honest).opened;
     first = first_alone g reads_image counts_now disk journal now on stays;
     second = second_read e second store after under keeps;
   }

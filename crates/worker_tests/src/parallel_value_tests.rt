@@ -1,7 +1,7 @@
 ghost use Rattle.std.specs.Prelude.{◌≡◌, ◌≤◌, ◌*◌, ⊤, length};
 
-use parallel_value::{NoMemory, Piece, map_in, map_into, map_onto};
-use std::alloc::Global;
+use parallel_value::{Piece, map_in, map_into, map_onto};
+use std::alloc::{AllocError, Global};
 use std::sync::atomic::{AtomicU32, Ordering};
 use std::test::Fail;
 use std::thread::{Threads, yield_now};
@@ -69,7 +69,7 @@ fn all_squared<R: Threads + Sync>(
     alloc: Global,
     pieces: &mut [Squares],
     items: &[u32],
-) -> Result<Vec<u64>, NoMemory>
+) -> Result<Vec<u64>, AllocError>
     requires { (1 ≤ length pieces.old) × (length pieces.old ≤ 64) }
 {
     map_in(rt, alloc, pieces, items)
@@ -93,7 +93,7 @@ fn add_squared<R: Threads + Sync>(
     pieces: &mut [Squares],
     items: &[u32],
     values: &mut Vec<u64>,
-) -> Result<(), NoMemory>
+) -> Result<(), AllocError>
     requires { (1 ≤ length pieces.old) × (length pieces.old ≤ 64) }
 {
     map_onto(rt, alloc, pieces, items, values)
@@ -105,7 +105,7 @@ fn add_held<R: Threads + Sync>(
     pieces: &mut [Held<'_>],
     items: &[u32],
     values: &mut Vec<u64>,
-) -> Result<(), NoMemory>
+) -> Result<(), AllocError>
     requires { (1 ≤ length pieces.old) × (length pieces.old ≤ 64) }
 {
     map_onto(rt, alloc, pieces, items, values)
@@ -118,7 +118,7 @@ fn squared_by_held<R: Threads + Sync>(
     until: &[u32],
     items: &[u32],
     missed: &AtomicU32,
-) -> Result<Vec<u64>, NoMemory>
+) -> Result<Vec<u64>, AllocError>
     requires { (1 ≤ length until.now) × (length until.now ≤ 64) }
 {
     let begun = AtomicU32::new(0);

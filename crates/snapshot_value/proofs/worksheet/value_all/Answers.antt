@@ -10,6 +10,6 @@ map_onto-requires-clause-taken g c κs within = ready_take c.args.workers.now c.
 pub map_onto-requires-send-P : goal.map_onto-requires-send-P
 map_onto-requires-send-P g c κs within = search (worker_crosses, sendable, crosses) depth 20
 
-pub returns-in-Ok-clause-rows : goal.returns-in-Ok-clause-rows
-returns-in-Ok-clause-rows g c = λ basis on measure by.
-    added_rows basis on measure c.args.workers.now c.args.policies.now c.args.rows.now.items c.map_onto.new.values.items by c.in-Ok.ensures.values
+pub returns-clause-rows : goal.returns-clause-rows
+returns-clause-rows g c = λ basis on measure by.
+    added_rows basis on measure c.args.workers.now c.args.policies.now c.args.rows.now.items c.map_onto.new.values.items by c.in_ok-map_onto.ensures.values

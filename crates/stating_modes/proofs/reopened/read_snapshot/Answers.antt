@@ -6,8 +6,7 @@ pub returns-in-Ok-clause-reopened : goal.returns-in-Ok-clause-reopened
 returns-in-Ok-clause-reopened g c disk second on under =
     let done = c.in-Ok.ensures in
     has_reopened g.D.Disk g.E.Disk g.met.D.Disk.reads_as_image g.met.D.Disk.counts_now disk c.args.journal c.reopen_books.new.journal on done.journal
-    second c.args.store c.reopen_books.new.store under done.store g.met.D.Disk.only_now _ refl refl done.sound done.cause
-    (λ bodies faulted second_honest honest stands are. done.reopened bodies faulted second_honest honest stands are)
+    second c.args.store c.reopen_books.new.store under done.store g.met.D.Disk.only_now _ refl refl _ _ done
 
 pub returns-in-Ok-clause-few : goal.returns-in-Ok-clause-few
 returns-in-Ok-clause-few g c disk second on under =
@@ -21,5 +20,4 @@ returns-in-Err-clause-none g c disk second on under =
     renamed g.D.Disk g.E.Disk disk _ c.unread.result.disk second _ c.unread.result.second _ c.unread.result.cause
     c.unread.ensures.disk c.unread.ensures.second c.unread.ensures.cause
     (has_no_snapshot g.D.Disk g.E.Disk g.met.D.Disk.reads_as_image g.met.D.Disk.counts_now disk c.args.journal c.reopen_books.new.journal on done.journal
-    second c.args.store c.reopen_books.new.store under done.store c.in-Err.fault done.cause
-    (λ bodies faulted second_honest honest stands are. done.reopened bodies faulted second_honest honest stands are))
+    second c.args.store c.reopen_books.new.store under done.store c.in-Err.fault _ _ done)
