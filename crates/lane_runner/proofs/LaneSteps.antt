@@ -275,8 +275,6 @@ module _ {D W : Type 0} (basis : List Dated) (lanes : List Lane) (old new : Hold
     dry = are_dry lines apart;
   }
 
-  pub answered_as : (callers : List ℕ) (written : List TranscriptLine) → callers ≡ callers_in seats → written ≡ lines
-      → HasAnsweredLanes basis lanes old new (record { callers = callers; lines = written })
-  answered_as callers written callers_are lines_are =
-      subst (λ (cs : List ℕ). HasAnsweredLanes basis lanes old new (record { callers = cs; lines = written })) (sym callers_are)
-      (subst (λ (ls : List TranscriptLine). HasAnsweredLanes basis lanes old new (record { callers = callers_in seats; lines = ls })) (sym lines_are) has_answered)
+  pub answered_as : (callers : List ℕ) → callers ≡ callers_in seats → HasAnsweredLanes basis lanes old new (record { callers = callers; lines = lines })
+  answered_as callers callers_are =
+      subst (λ (cs : List ℕ). HasAnsweredLanes basis lanes old new (record { callers = cs; lines = lines })) (sym callers_are) has_answered

@@ -10,4 +10,5 @@ pub mod TakeSteps
 pub mod SettleSteps
 pub mod LaneSteps
 pub mod FirstPass
+pub mod TallySteps
 pub mod Crossing

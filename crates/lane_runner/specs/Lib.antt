@@ -4,4 +4,5 @@ pub mod Transcripts
 pub mod Telling
 pub mod Evidence
 pub mod Written
+pub mod Tallies
 pub mod inside

@@ -9,8 +9,10 @@ mod rooms;
 mod running;
 mod telling;
 mod transcript;
+mod transcript_lines;
 mod wording;
 
 pub use running::{Ran, run_lanes};
-pub use transcript::{Callers, Outcome, Transcript, TranscriptLine, TranscriptLines};
+pub use transcript::{Callers, Outcome, Transcript, TranscriptLine};
+pub use transcript_lines::TranscriptLines;
 pub use wording::{Unwritten, Wording};

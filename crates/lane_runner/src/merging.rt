@@ -1,5 +1,5 @@
 // The lines of all lanes are merged by their turns, and written while the lanes go on.
-ghost use Rattle.std.specs.Prelude.{◌≡◌, ℕ, ◌+◌, ◌≤◌, ◌<◌, ◌^◌, List, [], Option, length, vec_capacity, IsTrue, IfSome};
+ghost use Rattle.std.specs.Prelude.{◌≡◌, ℕ, ◌+◌, ◌≤◌, ◌<◌, ◌^◌, List, [], Option, length, IsTrue, IfSome};
 ghost use Rattle.std.specs.List.{AllByRecursion, AllZip};
 ghost use Rattle.lane_runner.specs.Written.{line_texts};
 ghost use Rattle.lane_runner.specs.inside.Gathering.{HasPutOut};
@@ -7,7 +7,7 @@ ghost use Rattle.lane_runner.specs.inside.Merging.{HasLooked, HasNext, HasTakenL
 
 use crate::page::Page;
 use crate::telling::Inlet;
-use crate::transcript::TranscriptLine;
+use crate::transcript_lines::TranscriptLines;
 use crate::wording::Wording;
 use outside_io::Sink;
 use std::alloc::Global;
@@ -29,21 +29,21 @@ pub fn merge<R: Wait, X: Wording, K: Sink>(
     bell: &Parker,
     count: usize,
     inlets: &mut [Inlet],
-    lines: &mut Vec<TranscriptLine>,
+    lines: &mut TranscriptLines,
     page: &mut Page,
     output: &mut K,
 )
     requires count { count ≡ all_to_come inlets.old }
-    requires room { count ≤ vec_capacity lines.old }
-    requires empty { lines.old.items ≡ [] }
-    requires merged { IsMerged inlets.old lines.old.items }
+    requires few { count ≤ 2 ^ 24 }
+    requires none { lines.old ≡ [] }
+    requires merged { IsMerged inlets.old lines.old }
     requires page { (page.old.bytes.items ≡ []) × (page.old.stopped ≡ None) }
     ensures taken { AllZip HasTakenLines inlets.old inlets.new }
     ensures whole { all_to_come inlets.new ≡ 0 }
-    ensures merged { IsMerged inlets.new lines.new.items }
+    ensures merged { IsMerged inlets.new lines.new }
     ensures later { K.faults output.old ≤ K.faults output.new }
     ensures put { HasPutOut (K.faults output.old) (K.faults output.new) (K.written output.old) (K.written output.new)
-        (line_texts X.text lines.new.items) page.new.bytes.items page.new.stopped }
+        (line_texts X.text lines.new) page.new.bytes.items page.new.stopped }
     ensures flushed { page.new.stopped ≡ None → page.new.bytes.items ≡ [] }
 {
     for _ in 0..count {
@@ -58,27 +58,26 @@ fn merge_next<R: Wait, X: Wording, K: Sink>(
     alloc: Global,
     bell: &Parker,
     inlets: &mut [Inlet],
-    lines: &mut Vec<TranscriptLine>,
+    lines: &mut TranscriptLines,
     page: &mut Page,
     output: &mut K,
 )
     requires some { 0 < all_to_come inlets.old }
-    requires room { length lines.old.items < vec_capacity lines.old }
-    requires merged { IsMerged inlets.old lines.old.items }
+    requires few { length lines.old < 2 ^ 24 }
+    requires merged { IsMerged inlets.old lines.old }
     ensures taken { AllZip HasTakenLines inlets.old inlets.new }
     ensures fewer { all_to_come inlets.old ≡ all_to_come inlets.new + 1 }
-    ensures merged { IsMerged inlets.new lines.new.items }
-    ensures room { vec_capacity lines.new ≡ vec_capacity lines.old }
-    ensures more { length lines.new.items ≡ length lines.old.items + 1 }
+    ensures merged { IsMerged inlets.new lines.new }
+    ensures more { length lines.new ≡ length lines.old + 1 }
     ensures later { K.faults output.old ≤ K.faults output.new }
     ensures put { (faults : ℕ) (first : Option (List ℕ))
-        → HasPutOut faults (K.faults output.old) first (K.written output.old) (line_texts X.text lines.old.items) page.old.bytes.items page.old.stopped
-        → HasPutOut faults (K.faults output.new) first (K.written output.new) (line_texts X.text lines.new.items) page.new.bytes.items page.new.stopped }
+        → HasPutOut faults (K.faults output.old) first (K.written output.old) (line_texts X.text lines.old) page.old.bytes.items page.old.stopped
+        → HasPutOut faults (K.faults output.new) first (K.written output.new) (line_texts X.text lines.new) page.new.bytes.items page.new.stopped }
 {
     let near = wait_for_next(rt, bell, inlets, page, output);
     let told = inlets[near.place].take();
     page.put::<X, K>(alloc, &told, output);
-    lines.push_reserved(told);
+    lines.add(told);
 }
 
 // Waits until each lane that has lines left has told its next one, and finds the first of these. What is gathered is

@@ -6,7 +6,6 @@ ghost use Rattle.lane_runner.specs.inside.Parts.{AreEnds, HasLaneRoom, IsInletFo
 
 use crate::page::Page;
 use crate::telling::{Inlet, Outlet, ring_for};
-use crate::transcript::TranscriptLine;
 use outside_io::Disk;
 use policy_types::{Lane, NoMemory};
 use shared_office::OfficePass;
@@ -23,28 +22,24 @@ pub struct Room<D: Disk, W: Watching> {
     pub inlets: Vec<Inlet>,
     pub seats: Vec<Seat<D, W>>,
     pub callers: Vec<u64>,
-    pub lines: Vec<TranscriptLine>,
     pub page: Page,
 }
 
 /// Takes the memory for what is answered to lanes.
 pub fn room_for<D: Disk, W: Watching>(alloc: Global, lanes: &[Lane]) -> Result<Room<D, W>, NoMemory>
-    requires few { length (lines_in lanes.now) ≤ 2 ^ 24 }
-    ensures room { IfOk result (λ room. HasLaneRoom lanes.now room.outlets room.inlets room.seats room.callers room.lines) }
+    ensures room { IfOk result (λ room. HasLaneRoom lanes.now room.outlets room.inlets room.seats room.callers) }
     ensures page { IfOk result (λ room. (room.page.bytes.items ≡ []) × (room.page.stopped ≡ None)) }
 {
     let count = lanes.len();
     let (outlets, inlets) = rings_for(alloc, lanes)?;
     let seats = Vec::with_capacity(alloc, count).map_err(|_| NoMemory)?;
     let callers = Vec::with_capacity(alloc, count).map_err(|_| NoMemory)?;
-    let lines = Vec::with_capacity(alloc, count_lines(lanes)).map_err(|_| NoMemory)?;
     let page = Page::new(alloc)?;
     Ok(Room {
         outlets,
         inlets,
         seats,
         callers,
-        lines,
         page,
     })
 }

@@ -18,7 +18,8 @@ use crate::merging::merge;
 use crate::page::Page;
 use crate::rooms::{Room, Seat, count_lines, room_for};
 use crate::telling::{Inlet, Outlet};
-use crate::transcript::{Callers, Transcript, TranscriptLine, TranscriptLines};
+use crate::transcript::{Callers, Transcript};
+use crate::transcript_lines::TranscriptLines;
 use crate::wording::{Unwritten, Wording};
 use basis_book::Basis;
 use outside_io::{Disk, Gate, Sink};
@@ -99,7 +100,7 @@ fn run_in<
     requires ours { pass.old.turnstile ≡ office.now }
     requires left { 2 ^ 40 ≤ pass.old.left }
     requires shares { 2 ^ 10 ≤ pass.old.shares }
-    requires room { HasLaneRoom lanes.now room.outlets room.inlets room.seats room.callers room.lines }
+    requires room { HasLaneRoom lanes.now room.outlets room.inlets room.seats room.callers }
     requires page { (room.page.bytes.items ≡ []) × (room.page.stopped ≡ None) }
     ensures answered { HasAnsweredLanes basis.now lanes.now pass.old pass.new result.transcript }
     ensures wrote { HasEnded (K.faults output.old) (K.faults output.new) (K.written output.old) (K.written output.new)
@@ -112,11 +113,11 @@ fn run_in<
         mut inlets,
         mut seats,
         mut callers,
-        mut lines,
         mut page,
     } = room;
     // What is known of every pass (`PassFacts`) is told of this one here.
     pass.caller();
+    let mut lines = TranscriptLines::new();
     enter_all(office, pass, outlets, &mut seats);
     run_seats::<R, X, K, D, W, G>(
         rt,
@@ -137,7 +138,7 @@ fn run_in<
     Ran {
         transcript: Transcript {
             callers: Callers::new(callers),
-            lines: TranscriptLines::new(lines),
+            lines,
         },
         written: page.written(),
     }
@@ -180,7 +181,7 @@ fn run_seats<
     gate: &G,
     seats: &mut Vec<Seat<D, W>>,
     inlets: &mut Vec<Inlet>,
-    lines: &mut Vec<TranscriptLine>,
+    lines: &mut TranscriptLines,
     page: &mut Page,
     output: &mut K,
 )
@@ -188,14 +189,14 @@ fn run_seats<
     requires fed { AllZip IsInletFor lanes.now inlets.old.items }
     requires ends { AllZip IsEndOf seats.old.items inlets.old.items }
     requires few { length (lines_in lanes.now) ≤ 2 ^ 24 }
-    requires room { (lines.old.items ≡ []) × (length (lines_in lanes.now) ≤ vec_capacity lines.old) }
+    requires none { lines.old ≡ [] }
     requires page { (page.old.bytes.items ≡ []) × (page.old.stopped ≡ None) }
     ensures run { HaveRun basis.now lanes.now seats.old.items seats.new.items }
-    ensures moved { IsPermutation (flat_map (λ seat. told_in seat) seats.new.items) lines.new.items }
-    ensures sorted { AreInOrder lines.new.items }
+    ensures moved { IsPermutation (flat_map (λ seat. told_in seat) seats.new.items) lines.new }
+    ensures sorted { AreInOrder lines.new }
     ensures later { K.faults output.old ≤ K.faults output.new }
     ensures put { HasPutOut (K.faults output.old) (K.faults output.new) (K.written output.old) (K.written output.new)
-        (line_texts X.text lines.new.items) page.new.bytes.items page.new.stopped }
+        (line_texts X.text lines.new) page.new.bytes.items page.new.stopped }
     ensures flushed { page.new.stopped ≡ None → page.new.bytes.items ≡ [] }
 {
     let count = count_lines(lanes);
@@ -237,7 +238,7 @@ fn run_beside<
     count: usize,
     seats: &'a mut [Seat<D, W>],
     inlets: &'a mut [Inlet],
-    lines: &'a mut Vec<TranscriptLine>,
+    lines: &'a mut TranscriptLines,
     page: &'a mut Page,
     output: &'a mut K,
 )
@@ -245,25 +246,25 @@ fn run_beside<
     requires fed { AllZip IsInletFor lanes.now inlets.old }
     requires ends { AllZip IsEndOf seats.old inlets.old }
     requires count { count ≡ all_to_come inlets.old }
-    requires room { count ≤ vec_capacity lines.old }
-    requires empty { lines.old.items ≡ [] }
-    requires merged { IsMerged inlets.old lines.old.items }
+    requires few { count ≤ 2 ^ 24 }
+    requires none { lines.old ≡ [] }
+    requires merged { IsMerged inlets.old lines.old }
     requires page { (page.old.bytes.items ≡ []) × (page.old.stopped ≡ None) }
     ensures run { HaveRun basis.now lanes.now seats.old seats.new }
-    ensures moved { IsPermutation (flat_map (λ seat. told_in seat) seats.new) lines.new.items }
-    ensures sorted { AreInOrder lines.new.items }
+    ensures moved { IsPermutation (flat_map (λ seat. told_in seat) seats.new) lines.new }
+    ensures sorted { AreInOrder lines.new }
     ensures later { K.faults output.old ≤ K.faults output.new }
     ensures put { HasPutOut (K.faults output.old) (K.faults output.new) (K.written output.old) (K.written output.new)
-        (line_texts X.text lines.new.items) page.new.bytes.items page.new.stopped }
+        (line_texts X.text lines.new) page.new.bytes.items page.new.stopped }
     ensures flushed { page.new.stopped ≡ None → page.new.bytes.items ≡ [] }
 {
     join_mut(
         rt,
         &mut ||
             requires count { count ≡ all_to_come inlets.now }
-            requires room { count ≤ vec_capacity lines.now }
-            requires empty { lines.now.items ≡ [] }
-            requires merged { IsMerged inlets.now lines.now.items }
+            requires few { count ≤ 2 ^ 24 }
+            requires none { lines.now ≡ [] }
+            requires merged { IsMerged inlets.now lines.now }
             requires page { (page.now.bytes.items ≡ []) × (page.now.stopped ≡ None) }
         { merge::<R, X, K>(rt, alloc, bell, count, inlets, lines, page, output) },
         &mut ||

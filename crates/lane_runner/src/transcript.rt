@@ -1,3 +1,4 @@
+use crate::transcript_lines::TranscriptLines;
 use office_state::Answer;
 use policy_types::{Line, Listed, PinRefusal};
 use snapshot_value::Valuation;
@@ -24,9 +25,6 @@ pub struct TranscriptLine {
 
 /// The callers of lanes, in the lanes' order.
 pub type Callers = Listed<u64>;
-
-/// Answered lines by rising turns.
-pub type TranscriptLines = Listed<TranscriptLine>;
 
 /// The lanes' callers, and what is told of the lanes' lines.
 #[derive(Drop)]

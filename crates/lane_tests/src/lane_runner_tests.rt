@@ -2,13 +2,10 @@
 // years at age 0, after one year, 127.22 to 127.23. Each run has memory, so none may say that it wants any.
 use crate::lane_gates::InTurn;
 use crate::lane_trials::{run_on, run_watched};
+use crate::line_words::{Told, Written};
 use crate::offices::{ONE_YEAR, issue};
-use lane_runner::{Outcome, TranscriptLine};
-use office_state::Answer;
 use outside_io::OpenGate;
-use policy_types::{At, Command, Lane, Line, Lines, PinRefusal, Plan, Report, Status, Watcher};
-use policy_value::{Row, Worth};
-use snapshot_value::Valuation;
+use policy_types::{At, Command, Lane, Line, Lines, PinRefusal, Plan, Report, Watcher};
 use std::alloc::{AllocError, Global};
 use std::test::Fail;
 use watcher_set::{CountWatcher, PremiumWatcher, Watchers};
@@ -21,67 +18,22 @@ pub(crate) fn lane(alloc: Global, number: u8, lines: &[Line]) -> Result<Lane, Al
     })
 }
 
-// The row of a policy in force one year after it was issued.
-fn due(id: u32) -> Row {
-    Row {
-        id,
-        status: Status::InForce,
-        t: 1,
-        worth: Worth::Bounds {
-            lo: 12_722,
-            hi: 12_723,
-        },
-    }
-}
-
-// What is told of a valuation where each policy is in force and was issued a year ago.
-fn valued(valuation: &Valuation) -> Told {
-    for row in valuation.rows.as_slice() {
-        if *row != due(row.id) {
-            return Told::Other;
-        }
-    }
-    Told::Valued(valuation.position, valuation.rows.as_slice().len())
-}
-
-// What a test expects of a line: the position, the floor, or the position and the number of rows.
-#[derive(Clone, Copy, PartialEq, Eq, Debug)]
-enum Told {
-    Accepted(u32),
-    Trimmed(u32),
-    Valued(u32, usize),
-    Refused(PinRefusal),
-    Other,
-}
-
-fn answer_of(line: &TranscriptLine) -> (u8, Told) {
-    let told = match &line.outcome {
-        Outcome::Posted(Answer::Accepted(position)) => Told::Accepted(*position),
-        Outcome::Trimmed(floor) => Told::Trimmed(*floor),
-        Outcome::Valued(valuation) => valued(valuation),
-        Outcome::ValueRefused(refusal) => Told::Refused(*refusal),
-        _ => Told::Other,
-    };
-    (line.lane, told)
-}
-
 // Whether the turns rise, and each posting has the next position, and each valuation that of the postings before it, with
 // as many policies.
-fn are_as_one(lines: &[TranscriptLine]) -> bool {
+fn are_as_one(lines: &[Written]) -> bool {
     let mut accepted = 0u32;
     let mut least = 0u64;
     for line in lines {
-        let (_, told) = answer_of(line);
-        let right = match told {
+        let right = match line.told {
             Told::Accepted(position) => position == accepted.wrapping_add(1),
             Told::Valued(position, policies) => position == accepted
-                && policies == accepted as usize,
+                && policies == u64::from(accepted),
             _ => false,
         };
         if !right || line.turn < least {
             return false;
         }
-        if let Told::Accepted(position) = told {
+        if let Told::Accepted(position) = line.told {
             accepted = position;
         }
         least = line.turn.wrapping_add(1);
@@ -90,10 +42,10 @@ fn are_as_one(lines: &[TranscriptLine]) -> bool {
 }
 
 // How many policies a lane issues in order, from this number on.
-fn count_issues(lines: &[TranscriptLine], lane: u8, first: u32) -> u32 {
+fn count_issues(lines: &[Written], lane: u8, first: u32) -> u32 {
     let mut next = first;
     for line in lines {
-        if line.lane == lane && line.line == Line::Post(issue(next)) {
+        if line.lane == lane && line.command == Some(issue(next)) {
             next = next.wrapping_add(1);
         }
     }
@@ -101,12 +53,12 @@ fn count_issues(lines: &[TranscriptLine], lane: u8, first: u32) -> u32 {
 }
 
 // Whether just these lines were answered, each by its lane and so.
-fn are_told(lines: &[TranscriptLine], dues: &[(u8, Told)]) -> bool {
+fn are_told(lines: &[Written], dues: &[(u8, Told)]) -> bool {
     if lines.len() != dues.len() {
         return false;
     }
     for (line, due) in lines.iter().zip(dues) {
-        if answer_of(line) != *due {
+        if (line.lane, line.told) != *due {
             return false;
         }
     }
@@ -158,8 +110,8 @@ fn a_line_between_each_two_batches(rt: HostRuntime) -> Result<(), Fail> {
     let alloc = rt.alloc();
     let lanes = [lane(alloc, 1, POSTED)?, lane(alloc, 2, &[VALUE_NOW])?];
     let gate = InTurn::new(5);
-    let transcript = run_on(&rt, alloc, 1_200, lanes.as_slice(), &gate)?;
-    assert!(rt; are_told(transcript.lines.as_slice(), BETWEEN));
+    let run = run_on(&rt, alloc, 1_200, lanes.as_slice(), &gate)?;
+    assert!(rt; are_told(run.lines.as_slice(), BETWEEN));
     assert_eq!(rt; gate.missed(), 0);
     Ok(())
 }
@@ -186,8 +138,8 @@ fn eight_busy_lanes(rt: HostRuntime) -> Result<(), Fail> {
     for number in 1..=8u8 {
         lanes.push(busy_lane(alloc, number)?)?;
     }
-    let transcript = run_on(&rt, alloc, 0, lanes.as_slice(), &OpenGate)?;
-    let lines = transcript.lines.as_slice();
+    let run = run_on(&rt, alloc, 0, lanes.as_slice(), &OpenGate)?;
+    let lines = run.lines.as_slice();
     assert_eq!(rt; lines.len(), 8 * 202);
     assert!(rt; are_as_one(lines));
     for number in 1..=8u8 {
@@ -245,8 +197,8 @@ const TOLD: &[(u8, Told)] = &[
 #[test]
 fn trims_and_refused_valuations(rt: HostRuntime) -> Result<(), Fail> {
     let lanes = [lane(rt.alloc(), 7, ASKED)?];
-    let transcript = run_on(&rt, rt.alloc(), 5, lanes.as_slice(), &OpenGate)?;
-    assert!(rt; are_told(transcript.lines.as_slice(), TOLD));
+    let run = run_on(&rt, rt.alloc(), 5, lanes.as_slice(), &OpenGate)?;
+    assert!(rt; are_told(run.lines.as_slice(), TOLD));
     Ok(())
 }
 
@@ -274,7 +226,7 @@ fn watchers_of_eight_lanes(rt: HostRuntime) -> Result<(), Fail> {
         });
         lanes.push(lane(alloc, number, &[Line::Post(issue(id)), paid])?)?;
     }
-    let (transcript, reports) = run_watched(
+    let (run, reports) = run_watched(
         &rt,
         alloc,
         Watchers::new(boxes),
@@ -282,7 +234,7 @@ fn watchers_of_eight_lanes(rt: HostRuntime) -> Result<(), Fail> {
         lanes.as_slice(),
         &OpenGate,
     )?;
-    let lines = transcript.lines.as_slice();
+    let lines = run.lines.as_slice();
     assert_eq!(rt; lines.len(), 16);
     assert!(rt; are_as_one(lines));
     assert!(rt; reports.as_slice() == REPORTS);
@@ -293,14 +245,14 @@ fn watchers_of_eight_lanes(rt: HostRuntime) -> Result<(), Fail> {
 fn no_lanes_and_empty_lanes(rt: HostRuntime) -> Result<(), Fail> {
     let alloc = rt.alloc();
     let none = run_on(&rt, alloc, 0, &[], &OpenGate)?;
-    assert_eq!(rt; none.lines.as_slice().len(), 0);
-    assert_eq!(rt; none.callers.as_slice().len(), 0);
+    assert_eq!(rt; none.lines.len(), 0);
+    assert_eq!(rt; none.callers, 0);
     let lanes = [lane(alloc, 3, &[])?, lane(alloc, 7, &[Line::Trim])?];
     let one = run_on(&rt, alloc, 1, lanes.as_slice(), &OpenGate)?;
-    assert_eq!(rt; one.callers.as_slice().len(), 2);
+    assert_eq!(rt; one.callers, 2);
     let [trim] = one.lines.as_slice() else {
         panic!(rt; "one line");
     };
-    assert_eq!(rt; answer_of(trim), (7, Told::Trimmed(1)));
+    assert_eq!(rt; (trim.lane, trim.told), (7, Told::Trimmed(1)));
     Ok(())
 }

@@ -6,12 +6,13 @@ ghost use Rattle.policy_types.specs.Valid.{IsCommandDay};
 ghost use Rattle.lane_runner.specs.Lanes.{AreRightLanes, IsRightLane, IsRightLine, is_value};
 ghost use Rattle.policy_types.specs.Lanes.{lines_in};
 
+use crate::line_words::{LineWords, Written, count_accepted, read_lines};
 use crate::offices::{flat_basis, issue_all};
 use basis_book::Basis;
-use lane_runner::{Transcript, TranscriptLine, Wording, run_lanes};
+use lane_runner::{TranscriptLines, run_lanes};
 use memory_disk::MemoryDisk;
 use outside_io::{BytesSink, Disk, Gate};
-use policy_types::{Lane, Line, NoMemory};
+use policy_types::{Lane, Line};
 use shared_office::{Office, OfficeCalls, OfficePass, close};
 use std::alloc::Global;
 use std::sync::Wait;
@@ -82,22 +83,14 @@ fn is_day(day: i32) -> bool
     -25_567 <= day && day <= 84_005
 }
 
-/// The number of its clerk, for each line.
-struct Clerks;
-
-impl Wording for Clerks {
-    ghost use Rattle.std.specs.Prelude.{[], ◌∷◌};
-
-    ghost text = { λ told. told.lane ∷ [] };
-
-    fn words(alloc: Global, told: &TranscriptLine) -> Result<Vec<u8>, NoMemory> {
-        let mut words = Vec::with_capacity(alloc, 1).map_err(|_| NoMemory)?;
-        words.push_reserved(told.lane);
-        Ok(words)
-    }
+/// What lanes were answered, as it was written, and how many callers ran them.
+#[derive(Drop)]
+pub struct Run {
+    pub callers: usize,
+    pub lines: Vec<Written>,
 }
 
-/// Runs lanes where they may be run and there is memory, and writes of each line the number of its clerk.
+/// Runs lanes where they may be run and there is memory, and reads what is written of their lines.
 pub(crate) fn run_right<
     D: Disk + Send,
     W: Watching + Send,
@@ -111,7 +104,7 @@ pub(crate) fn run_right<
     lanes: &[Lane],
     basis: &Basis,
     gate: &G,
-) -> Option<Transcript>
+) -> Option<Run>
     requires { pass.old.turnstile ≡ office.now }
     ensures { (pass.new.turnstile ≡ pass.old.turnstile) × (pass.new.shares ≡ pass.old.shares) }
 {
@@ -119,7 +112,7 @@ pub(crate) fn run_right<
         return None;
     }
     let mut output = BytesSink::new(alloc, Vec::new(alloc));
-    let ran = run_lanes::<R, Clerks, BytesSink, D, W, G>(
+    let ran = run_lanes::<R, LineWords, BytesSink, D, W, G>(
         rt,
         alloc,
         office,
@@ -132,19 +125,22 @@ pub(crate) fn run_right<
     let Ok(ran) = ran else {
         return None;
     };
-    if ran.written.is_err() || !are_clerks(ran.transcript.lines.as_slice(), output.bytes()) {
+    let lines = read_lines(alloc, output.bytes())?;
+    if ran.written.is_err() || !are_tallied(&ran.transcript.lines, lines.as_slice()) {
         return None;
     }
-    Some(ran.transcript)
+    Some(Run {
+        callers: ran.transcript.callers.as_slice().len(),
+        lines,
+    })
 }
 
-// Whether these are the numbers of the lines' clerks.
-fn are_clerks(lines: &[TranscriptLine], numbers: &[u8]) -> bool {
-    lines.len() == numbers.len()
-        && lines
-            .iter()
-            .zip(numbers)
-            .all(|(line, number)| line.lane == *number)
+// Whether these are the tallies of lines that were all answered, none of them refused.
+fn are_tallied(tallies: &TranscriptLines, lines: &[Written]) -> bool {
+    tallies.accepted() == count_accepted(lines)
+        && tallies.refused() == 0
+        && !tallies.any_faulted()
+        && !tallies.any_lacked()
 }
 
 /// Runs these lanes on an office where the policies of the numbers from 1 to this one were issued, and closes it. Gives what
@@ -156,7 +152,7 @@ pub fn run_watched<W: Watching + Send, G: Gate + Sync, R: Threads + Wait + Sync>
     issued: u32,
     lanes: &[Lane],
     gate: &G,
-) -> Result<(Transcript, Reports), Fail>
+) -> Result<(Run, Reports), Fail>
     requires { (before : ℕ) → W.told watchers before [] }
 {
     let basis = flat_basis(alloc)?;
@@ -168,7 +164,7 @@ pub fn run_watched<W: Watching + Send, G: Gate + Sync, R: Threads + Wait + Sync>
     let run = run_right(rt, alloc, &office, &mut pass, lanes, &basis, gate);
     let (_, _, reports) = close(office, pass);
     match run {
-        Some(transcript) => Ok((transcript, reports)),
+        Some(run) => Ok((run, reports)),
         None => Err("right lanes, and memory".into()),
     }
 }
@@ -180,7 +176,7 @@ pub fn run_on<G: Gate + Sync, R: Threads + Wait + Sync>(
     issued: u32,
     lanes: &[Lane],
     gate: &G,
-) -> Result<Transcript, Fail> {
-    let (transcript, _) = run_watched(rt, alloc, NoWatchers, issued, lanes, gate)?;
-    Ok(transcript)
+) -> Result<Run, Fail> {
+    let (run, _) = run_watched(rt, alloc, NoWatchers, issued, lanes, gate)?;
+    Ok(run)
 }

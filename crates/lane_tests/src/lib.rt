@@ -10,6 +10,8 @@ mod lane_runner_tests;
 #[cfg(test)]
 mod lane_trials;
 #[cfg(test)]
+mod line_words;
+#[cfg(test)]
 mod offices;
 #[cfg(test)]
 mod projection_lanes;

@@ -4,13 +4,12 @@ ghost use Rattle.std.specs.Prelude.{◌≡◌, ◌≤◌};
 use crate::lane_gates::Seven;
 use crate::lane_runner_tests::{claim, lane};
 use crate::lane_trials::run_right;
+use crate::line_words::count_accepted;
 use crate::offices::{flat_basis, issue, issue_all};
 use crate::projection_meeting::{ISSUED, project_issues};
 use crate::projection_tests::Case;
 use basis_book::Basis;
-use lane_runner::{Outcome, TranscriptLine};
 use memory_disk::MemoryDisk;
-use office_state::Answer;
 use outside_io::{Disk, OpenGate};
 use policy_types::{Lane, Line};
 use shared_office::{Office, OfficeCalls, OfficePass, close};
@@ -44,14 +43,6 @@ fn seven_lanes(alloc: Global) -> Result<Vec<Lane>, AllocError> {
     Ok(lanes)
 }
 
-// How many lines were accepted.
-fn accepted(lines: &[TranscriptLine]) -> usize {
-    lines
-        .iter()
-        .filter(|line| matches!(line.outcome, Outcome::Posted(Answer::Accepted(_))))
-        .count()
-}
-
 // The projection beside the lanes. Gives whether it is that of the position that was pinned, and how many lines were
 // accepted.
 fn both<D: Disk + Send, W: Watching + Send, R: Threads + Wait + Sync>(
@@ -81,7 +72,7 @@ fn both<D: Disk + Send, W: Watching + Send, R: Threads + Wait + Sync>(
             ensures { (result.0.turnstile ≡ other.turnstile) × (result.0.shares ≡ other.shares) }
         {
             let posted = match run_right(rt, alloc, office, &mut other, lanes, basis, gate) {
-                Some(transcript) => accepted(transcript.lines.as_slice()),
+                Some(run) => count_accepted(run.lines.as_slice()),
                 None => 0,
             };
             (other, posted)

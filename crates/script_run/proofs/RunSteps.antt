@@ -33,7 +33,8 @@ use Rattle.program_endings.proofs.FaultSteps.{rose_in}
 use Rattle.program_endings.proofs.ListSteps.{same_opened}
 use Rattle.transcript_text.specs.Transcript.{IsTranscript, reports_text}
 use Rattle.transcript_text.specs.Lanes.{AreScriptLanes}
-use Rattle.transcript_text.specs.Told.{any_faulted, any_lacked, run_text, told_texts}
+use Rattle.lane_runner.specs.Tallies.{any_faulted, any_lacked}
+use Rattle.transcript_text.specs.Told.{run_text, told_texts}
 use Rattle.transcript_text.proofs.Telling.{Telling, telling}
 use Rattle.script_run.specs.declared.intake.Unread.{Unread}
 use Rattle.script_run.specs.declared.intake.Unread.TheVariants.{TooLong, BadRow, ReadFault, NoMemory as OutOfMemory}

@@ -22,7 +22,7 @@ use crate::refusing::refuse;
 use basis_book::{Basis, BasisRows, Name};
 use basis_shelf::fetch_basis;
 use indexmap::IndexMap;
-use lane_runner::{Ran, TranscriptLine, Unwritten, run_lanes};
+use lane_runner::{Ran, TranscriptLines, Unwritten, run_lanes};
 use outside_io::{Disk, Gate, Shelf, Sink, Source, write_all};
 use policy_types::{Lane, Line, NoMemory, Report};
 use program_endings::{Ending, Finished, lack_memory, refuse_basis, refuse_journal};
@@ -235,9 +235,8 @@ fn end_told<K: Sink>(alloc: Global, ran: &Ran, reports: &[Report], output: &mut 
         (told_texts ran.now.transcript.lines) ran.now.written
         → EndsTold ran.now.transcript.lines reports.now (output_until first (K.faults output.new) (K.written output.new)) result }
 {
-    let lines = ran.transcript.lines.as_slice();
     match ran.written {
-        Ok(()) => write_reports(alloc, lines, reports, output),
+        Ok(()) => write_reports(alloc, &ran.transcript.lines, reports, output),
         Err(Unwritten::WriteFault) => Ending::WriteFault,
         Err(Unwritten::NoMemory) => Ending::NoMemory,
     }
@@ -246,7 +245,7 @@ fn end_told<K: Sink>(alloc: Global, ran: &Ran, reports: &[Report], output: &mut 
 // Writes what the auditors report, behind lines whose text is written.
 fn write_reports<K: Sink>(
     alloc: Global,
-    lines: &[TranscriptLine],
+    lines: &TranscriptLines,
     reports: &[Report],
     output: &mut K,
 ) -> Ending

@@ -28,7 +28,8 @@ use Rattle.program_endings.proofs.ListSteps.{Has, all_has, any_none, any_some, c
 use Rattle.program_endings.proofs.TurnSteps.{due_at, posted_first, posts, quiet_reply, unfaulted_if_answered}
 use Rattle.transcript_text.specs.Transcript.{IsTranscript}
 use Rattle.transcript_text.specs.Lanes.{AreScriptLanes}
-use Rattle.transcript_text.specs.Told.{any_faulted, any_lacked, has_faulted, lacks_memory, told_texts}
+use Rattle.lane_runner.specs.Tallies.{any_faulted, any_lacked, has_faulted, lacks_memory}
+use Rattle.transcript_text.specs.Told.{told_texts}
 use Rattle.transcript_text.proofs.TextSteps.{transcript_of}
 use Rattle.transcript_text.proofs.ToldSteps.{line_turn, turn_line, page_numbers, lacked_pin, told_fault, told_unfaulted, told_answered, lacked_which, not_lacked, told_blank, post_call}
 

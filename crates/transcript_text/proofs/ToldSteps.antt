@@ -30,7 +30,8 @@ use Rattle.program_endings.specs.Replies.{IsAnswered, IsPinned, IsUnfaulted}
 use Rattle.program_endings.proofs.ListSteps.{Has, front_back, has_enumerate, has_filter, has_flat_map, has_left, has_map, has_right, of_filter, of_flat_map}
 use Rattle.policy_value.specs.declared.worth.Measure.TheVariants.{Terminal}
 use Rattle.program_endings.proofs.BlockSteps.{block_writable}
-use Rattle.transcript_text.specs.Told.{IsToldAnswer, IsWritableOutcome, has_faulted, is_faulted, lacks_memory}
+use Rattle.lane_runner.specs.Tallies.{has_faulted, is_faulted, lacks_memory}
+use Rattle.transcript_text.specs.Told.{IsToldAnswer, IsWritableOutcome}
 
 -- the turns of an answered line are those of a caller
 pub line_turn : (answered : List AnsweredLine) (history : List Entry) (lanes : List Lane) (callers : List ℕ) (one : AnsweredLine) (turn : Placed)

@@ -1,6 +1,6 @@
--- What answers can be written, the text of what is told of answered lines, and what it tells of the run
-use Rattle.std.specs.Prelude.{◌<◌, ℕ, ◌^◌, Bool, true, false, List, [], ◌++◌}
-use Rattle.std.specs.List.{flat_map, list_any}
+-- What answers can be written, and the text of what is told of answered lines
+use Rattle.std.specs.Prelude.{◌<◌, ℕ, ◌^◌, List, [], ◌++◌}
+use Rattle.std.specs.List.{flat_map}
 use Rattle.policy_types.specs.declared.refusal.Refusal.{Refusal}
 use Rattle.policy_types.specs.declared.refusal.Refusal.TheVariants.{Taken, Unknown, BeforeLast, WrongStatus, TermOver, NothingDue, TooEarly, GraceOver, NotInArrears, TooLate, WrongAmount, NotAReduction, NotMatured, OverSettled, Full, NotUpgraded, Upgraded}
 use Rattle.policy_types.specs.declared.script.Line.{Line}
@@ -8,7 +8,7 @@ use Rattle.policy_types.specs.declared.script.Line.TheVariants.{Post, Value, Tri
 use Rattle.policy_types.specs.declared.watcher.Report.{Report}
 use Rattle.life_dates.specs.Calendar.{IsDay, IsTermDay}
 use Rattle.office_state.specs.declared.answer.Answer.{Answer}
-use Rattle.office_state.specs.declared.answer.Answer.TheVariants.{Refused, DiskFault, NoMemory}
+use Rattle.office_state.specs.declared.answer.Answer.TheVariants.{Refused}
 use Rattle.office_state.specs.Posting.{reply_of}
 use Rattle.report_text.specs.Block.{block_text}
 use Rattle.lane_runner.specs.declared.transcript.TranscriptLine.{TranscriptLine}
@@ -73,24 +73,3 @@ told_texts lines = flat_map told_text lines
 -- the text of a run: what is told of the lines, then the auditors' reports
 abbrev pub run_text : List TranscriptLine → List Report → List ℕ
 run_text lines reports = told_texts lines ++ reports_text reports
-
-abbrev pub is_faulted : Answer → Bool
-is_faulted (DiskFault count) = true
-is_faulted _ = false
-
--- the disk failed in the line's posting
-abbrev pub has_faulted : Outcome → Bool
-has_faulted (Posted answer) = is_faulted answer
-has_faulted _ = false
-
-abbrev pub any_faulted : List TranscriptLine → Bool
-any_faulted lines = list_any (λ (told : TranscriptLine). has_faulted told.outcome) lines
-
--- memory was lacking for the line's posting, or for its valuation
-abbrev pub lacks_memory : Outcome → Bool
-lacks_memory (Posted NoMemory) = true
-lacks_memory ValueNoMemory = true
-lacks_memory _ = false
-
-abbrev pub any_lacked : List TranscriptLine → Bool
-any_lacked lines = list_any (λ (told : TranscriptLine). lacks_memory told.outcome) lines

@@ -26,7 +26,7 @@ use Rattle.lane_runner.specs.declared.transcript.Outcome.TheVariants.{Posted, Tr
 use Rattle.load_maker.specs.GeneratedLanes.{IsValidPosting}
 use Rattle.program_endings.proofs.ListSteps.{Has, has_of_contains, of_all, of_filter}
 use Rattle.trial_load.specs.Loading.{is_refusal, refused_in}
-use Rattle.trial_load.specs.inside.Loaded.{accepted_lines, refused_lines, tells_accepted, tells_refused}
+use Rattle.lane_runner.specs.Tallies.{accepted_lines, refused_lines, tells_accepted, tells_refused}
 
 -- Sums over a list, key by key.
 module _ {A : Type 0} (key : A → ℕ) (size : A → ℕ) where

@@ -50,11 +50,11 @@ use Rattle.program_endings.proofs.FaultSteps.{rose_in}
 use Rattle.program_endings.proofs.ListSteps.{Has, all_and, all_has, has_of_contains, of_all, zip_right, same_opened}
 use Rattle.program_endings.proofs.QuietTurns.{none_accepted}
 use Rattle.program_endings.proofs.TurnSteps.{unfaulted_if_answered}
-use Rattle.transcript_text.specs.Told.{any_faulted, any_lacked}
+use Rattle.lane_runner.specs.Tallies.{accepted_lines, any_faulted, any_lacked, refused_lines}
 use Rattle.transcript_text.proofs.Telling.{Telling, telling}
 use Rattle.transcript_text.proofs.ToldSteps.{page_numbers}
 use Rattle.trial_load.specs.Loading.{EndsLoading, HasLine, HasNoLine, IsLoadOf, is_refusal, load_day, load_text, refused_in, valuation_lane}
-use Rattle.trial_load.specs.inside.Loaded.{AreLoadLanes, EndsLine, EndsLoaded, IsLoadAnswer, accepted_lines, refused_lines}
+use Rattle.trial_load.specs.inside.Loaded.{AreLoadLanes, EndsLine, EndsLoaded, IsLoadAnswer}
 use Rattle.trial_load.proofs.LoadCounts.{accepted_is, only_turn, refused_is}
 use Rattle.trial_load.proofs.LoadPins.{entries_post, not_full}
 use Rattle.trial_load.proofs.LoadTurns.{IsBehind, is_behind}

@@ -6,13 +6,13 @@ ghost use Rattle.turn_lock.specs.Passes.{PassFacts};
 ghost use Rattle.trial_load.specs.Loading.{EndsLoad, EndsLoading, load_text};
 ghost use Rattle.program_endings.specs.Writing.{between, shelf_between};
 ghost use Rattle.program_endings.specs.declared.ending.Ending.TheVariants.{ReadFault};
-ghost use Rattle.trial_load.specs.inside.Loaded.{AreLoadLanes, EndsLine, EndsLoaded, IsLoadAnswer, accepted_lines, refused_lines, tells_accepted, tells_refused};
+ghost use Rattle.trial_load.specs.inside.Loaded.{AreLoadLanes, EndsLine, EndsLoaded, IsLoadAnswer};
 ghost use Rattle.program_endings.specs.Blocks.{IsWritableBlock};
 ghost use Rattle.report_text.specs.Block.{AreSummable};
 
 use basis_book::{Basis, Name};
 use itoa::Buffer;
-use lane_runner::{Outcome, TranscriptLine, Wording, run_lanes};
+use lane_runner::{TranscriptLine, TranscriptLines, Wording, run_lanes};
 use load_maker::make_lanes;
 use lone_office::{Begun, begin};
 use outside_io::{BytesSink, Disk, Gate, Shelf, Sink, write_all};
@@ -20,7 +20,7 @@ use policy_types::{At, Lane, NoMemory};
 use policy_value::{Measure, Rows};
 use program_endings::{Ending, Finished, lack_memory};
 use report_text::Totals;
-use shared_office::{Answer, Office, OfficePass, close};
+use shared_office::{Office, OfficePass, close};
 use snapshot_value::{Query, Valuation, ValueFault};
 use std::alloc::Global;
 use std::sync::Wait;
@@ -176,19 +176,14 @@ fn load_office<
         gate,
     );
     let (disk, _, _) = close(office, pass);
-    let ending = write_loaded(
-        alloc,
-        ran.transcript.lines.as_slice(),
-        valued.answer,
-        output,
-    );
+    let ending = write_loaded(alloc, &ran.transcript.lines, valued.answer, output);
     Finished { ending, disk }
 }
 
 // Writes the line of a load, but not where its valuation found no memory.
 fn write_loaded<K: Sink>(
     alloc: Global,
-    lines: &[TranscriptLine],
+    lines: &TranscriptLines,
     answer: Result<Valuation, ValueFault>,
     output: &mut K,
 ) -> Ending
@@ -204,7 +199,7 @@ fn write_loaded<K: Sink>(
 
 fn write_line<K: Sink>(
     alloc: Global,
-    lines: &[TranscriptLine],
+    lines: &TranscriptLines,
     rows: &Rows,
     output: &mut K,
 ) -> Ending
@@ -212,41 +207,13 @@ fn write_line<K: Sink>(
     requires bounded { AreSummable rows.now }
     ensures { EndsLine lines.now rows.now (between K.faults K.written output.old output.new) result }
 {
-    let accepted = count_accepted(lines);
-    let refused = count_refused(lines);
-    let Ok(line) = load_line(alloc, accepted, refused, rows) else {
+    let Ok(line) = load_line(alloc, lines.accepted(), lines.refused(), rows) else {
         return Ending::NoMemory;
     };
     match write_all(output, line.as_slice()) {
         Ok(()) => ending_of(lines),
         Err(_) => Ending::WriteFault,
     }
-}
-
-// How many postings were accepted.
-fn count_accepted(lines: &[TranscriptLine]) -> usize
-    ensures { result ≡ accepted_lines lines.now }
-{
-    lines.iter().filter(|line| accepted(&line.outcome)).count()
-}
-
-fn accepted(outcome: &Outcome) -> bool
-    ensures { result ≡ tells_accepted outcome.now }
-{
-    matches!(*outcome, Outcome::Posted(Answer::Accepted(_)))
-}
-
-// How many postings were refused.
-fn count_refused(lines: &[TranscriptLine]) -> usize
-    ensures { result ≡ refused_lines lines.now }
-{
-    lines.iter().filter(|line| refused(&line.outcome)).count()
-}
-
-fn refused(outcome: &Outcome) -> bool
-    ensures { result ≡ tells_refused outcome.now }
-{
-    matches!(*outcome, Outcome::Posted(Answer::Refused(_)))
 }
 
 // The line of a load, as `load,2,0,1,0.00,0.00,1`.

@@ -23,7 +23,6 @@ use Rattle.lane_runner.specs.declared.transcript.Outcome.{Outcome}
 use Rattle.lane_runner.specs.declared.transcript.Outcome.TheVariants.{Valued, ValueRefused, ValueNoMemory}
 use Rattle.lane_runner.specs.AnsweredLines.{AnsweredLine, turns_in}
 use Rattle.lane_runner.specs.Lanes.{IsRightLane}
-use Rattle.policy_types.specs.Lanes.{lines_in}
 use Rattle.lane_runner.specs.Transcripts.{IsTold, dry_of}
 
 -- the turns that a line may need
@@ -74,9 +73,9 @@ pub record IsInletFor (lane : Lane) (inlet : Inlet) : Type 0 where
 abbrev pub AreEnds : Outlet → Inlet → Type 0
 AreEnds outlet inlet = IsPair outlet.ring inlet.ring
 
--- the memory for lanes: a ring for each, and room for as many passes and callers, and for all lines
+-- the memory for lanes: a ring for each, and room for as many passes and callers
 pub record HasLaneRoom {D W : Type 0} (lanes : List Lane) (outlets : Vec Outlet Global) (inlets : Vec Inlet Global)
-    (seats : Vec (Seat D W) Global) (callers : Vec ℕ Global) (lines : Vec TranscriptLine Global) : Type 0 where
+    (seats : Vec (Seat D W) Global) (callers : Vec ℕ Global) : Type 0 where
   pub fitting : AllZip IsRoomFor lanes outlets.items
   pub fed : AllZip IsInletFor lanes inlets.items
   pub ends : AllZip AreEnds outlets.items inlets.items
@@ -84,8 +83,6 @@ pub record HasLaneRoom {D W : Type 0} (lanes : List Lane) (outlets : Vec Outlet 
   pub seats_enough : length lanes ≤ vec_capacity seats
   pub no_callers : callers.items ≡ []
   pub callers_enough : length lanes ≤ vec_capacity callers
-  pub no_lines : lines.items ≡ []
-  pub lines_enough : length (lines_in lanes) ≤ vec_capacity lines
 
 -- the turns and the shares that are needed where so many passes are to be entered
 abbrev pub turns_to_enter : ℕ → ℕ

@@ -10,7 +10,8 @@ use Rattle.lane_runner.specs.Written.{HasEnded}
 use Rattle.program_endings.specs.declared.ending.Ending.{Ending}
 use Rattle.program_endings.specs.declared.ending.Ending.TheVariants.{Done, WriteFault, DiskFault as DiskFailed, NoMemory as NoRoom}
 use Rattle.program_endings.specs.Writing.{Stream, WroteAll, WroteLine}
-use Rattle.transcript_text.specs.Told.{any_faulted, any_lacked, run_text, told_texts}
+use Rattle.lane_runner.specs.Tallies.{any_faulted, any_lacked}
+use Rattle.transcript_text.specs.Told.{run_text, told_texts}
 
 -- How a run ends whose lines were answered: by what was written of its text, and then by whether the disk failed in one of
 -- them, or memory was lacking

@@ -1,47 +1,29 @@
 -- How the parts of `load` end
-use Rattle.std.specs.Prelude.{◌≡◌, ◌⊎◌, ℕ, Bool, true, false, List, [], Result, Ok, Err}
+use Rattle.std.specs.Prelude.{◌≡◌, ◌⊎◌, true, false, List, [], Result, Ok, Err}
 use Rattle.std.specs.Io.KnownBytes.{Appends}
-use Rattle.std.specs.List.{AllByRecursion, count_by}
+use Rattle.std.specs.List.{AllByRecursion}
 use Rattle.outside_io.specs.Faults.{Rose}
 use Rattle.outside_io.specs.Streams.{AppendsPart}
 use Rattle.policy_types.specs.declared.script.Lane.{Lane}
-use Rattle.office_state.specs.declared.answer.Answer.TheVariants.{Accepted, Refused}
 use Rattle.policy_value.specs.declared.worth.Row.{Row}
 use Rattle.snapshot_value.specs.declared.valuation.Valuation.{Valuation}
 use Rattle.snapshot_value.specs.declared.valuation.ValueFault.{ValueFault}
 use Rattle.snapshot_value.specs.declared.valuation.ValueFault.TheVariants.{Pin, NoMemory as NoValues}
 use Rattle.policy_types.specs.Lanes.{lines_in}
 use Rattle.lane_runner.specs.declared.transcript.TranscriptLine.{TranscriptLine}
-use Rattle.lane_runner.specs.declared.transcript.Outcome.{Outcome}
-use Rattle.lane_runner.specs.declared.transcript.Outcome.TheVariants.{Posted}
+use Rattle.lane_runner.specs.Tallies.{accepted_lines, any_faulted, any_lacked, refused_lines}
 use Rattle.load_maker.specs.GeneratedLanes.{IsValidPosting}
 use Rattle.program_endings.specs.Writing.{Stream, WroteAll}
 use Rattle.program_endings.specs.declared.ending.Ending.{Ending}
 use Rattle.program_endings.specs.declared.ending.Ending.TheVariants.{Done, WriteFault, DiskFault, NoMemory}
 use Rattle.program_endings.specs.Blocks.{IsWritableBlock}
 use Rattle.transcript_text.specs.Lanes.{AreScriptLanes}
-use Rattle.transcript_text.specs.Told.{any_faulted, any_lacked}
 use Rattle.trial_load.specs.Loading.{load_text}
 
 -- lanes that can be run, and only post
 pub record AreLoadLanes (lanes : List Lane) : Type 0 where
   pub script : AreScriptLanes lanes
   pub postings : AllByRecursion IsValidPosting (lines_in lanes)
-
--- what is told of a posting that was accepted, and of one that was refused
-abbrev pub tells_accepted : Outcome → Bool
-tells_accepted (Posted (Accepted position)) = true
-tells_accepted _ = false
-
-abbrev pub tells_refused : Outcome → Bool
-tells_refused (Posted (Refused refusal)) = true
-tells_refused _ = false
-
-abbrev pub accepted_lines : List TranscriptLine → ℕ
-accepted_lines lines = count_by (λ (told : TranscriptLine). tells_accepted told.outcome) lines
-
-abbrev pub refused_lines : List TranscriptLine → ℕ
-refused_lines lines = count_by (λ (told : TranscriptLine). tells_refused told.outcome) lines
 
 -- the answers to a valuation behind postings alone: its rows, which can be written, or that it found no memory
 abbrev pub IsLoadAnswer : Result Valuation ValueFault → Type 0

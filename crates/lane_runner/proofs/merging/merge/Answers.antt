@@ -1,4 +1,4 @@
-use Rattle.std.proofs.Common.{List, length, refl, ap, sym, subst, ◌∙◌, arith}
+use Rattle.std.proofs.Common.{List, length, ap, sym, subst, arith}
 use Rattle.lane_runner.specs.Written.{line_texts}
 use Rattle.lane_runner.specs.declared.transcript.TranscriptLine.{TranscriptLine}
 use Rattle.lane_runner.specs.inside.Gathering.{HasPutOut}
@@ -11,12 +11,11 @@ loop-init g c = record {
   taken = taken_none c.args.inlets.now;
   count = omega (arith, c.requires.count);
   merged = c.requires.merged;
-  long = ap length c.requires.empty;
-  room = refl;
+  long = ap length c.requires.none;
   later = omega arith;
   put = subst (λ (lines : List TranscriptLine). HasPutOut (g.K.Sink.faults c.args.output.now) (g.K.Sink.faults c.args.output.now)
       (g.K.Sink.written c.args.output.now) (g.K.Sink.written c.args.output.now) (line_texts g.X.Wording.text lines) c.args.page.now.bytes.items
-      c.args.page.now.stopped) (sym c.requires.empty)
+      c.args.page.now.stopped) (sym c.requires.none)
       (put_none (g.K.Sink.faults c.args.output.now) (g.K.Sink.written c.args.output.now) c.args.page.now.bytes.items c.args.page.now.stopped
       c.requires.page.0 c.requires.page.1);
 }
@@ -27,7 +26,6 @@ loop-preserved g c = record {
   count = omega (arith, c.merge_next.ensures.fewer, c.loop.invariant.count);
   merged = c.merge_next.ensures.merged;
   long = omega (arith, c.merge_next.ensures.more, c.loop.invariant.long);
-  room = c.merge_next.ensures.room ∙ c.loop.invariant.room;
   later = omega (arith, c.merge_next.ensures.later, c.loop.invariant.later);
   put = c.merge_next.ensures.put _ _ c.loop.invariant.put;
 }

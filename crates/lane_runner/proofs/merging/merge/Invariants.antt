@@ -1,4 +1,4 @@
-use Rattle.std.proofs.Common.{◌≡◌, ◌+◌, ◌≤◌, length, vec_capacity}
+use Rattle.std.proofs.Common.{◌≡◌, ◌+◌, ◌≤◌, length}
 use Rattle.std.specs.List.{AllZip}
 use Rattle.lane_runner.specs.Written.{line_texts}
 use Rattle.lane_runner.specs.inside.Gathering.{HasPutOut}
@@ -9,10 +9,9 @@ abbrev pub invariant-loop : goal.invariant-loop
 invariant-loop g l = record {
   taken : AllZip HasTakenLines l.initial.inlets l.inlets;
   count : all_to_come l.inlets + l.counter ≡ l.count;
-  merged : IsMerged l.inlets l.lines.items;
-  long : length l.lines.items ≡ l.counter;
-  room : vec_capacity l.lines ≡ vec_capacity l.initial.lines;
+  merged : IsMerged l.inlets l.lines;
+  long : length l.lines ≡ l.counter;
   later : g.K.Sink.faults l.initial.output ≤ g.K.Sink.faults l.output;
   put : HasPutOut (g.K.Sink.faults l.initial.output) (g.K.Sink.faults l.output) (g.K.Sink.written l.initial.output) (g.K.Sink.written l.output)
-      (line_texts g.X.Wording.text l.lines.items) l.page.bytes.items l.page.stopped;
+      (line_texts g.X.Wording.text l.lines) l.page.bytes.items l.page.stopped;
 }

@@ -34,19 +34,19 @@ returns-clause-fewer g c =
 
 pub returns-clause-merged : goal.returns-clause-merged
 returns-clause-merged g c =
-    subst (IsMerged (slice_set c.wait_for_next-near.new.inlets c.wait_for_next-near.result.place c.take-told.new.self)) (sym c.push_reserved.ensures.items)
+    subst (IsMerged (slice_set c.wait_for_next-near.new.inlets c.wait_for_next-near.result.place c.take-told.new.self)) (sym c.add.ensures)
     (taken_merged c.wait_for_next-near.new.inlets c.wait_for_next-near.result _ c.take-told.new.self c.take-told.result c.wait_for_next-near.ensures.next
     (slice_get-get_or c.wait_for_next-near.new.inlets c.wait_for_next-near.result.place c.index-inlets-near.result c.wait_for_next-near.ensures.place)
     c.take-told.ensures.ring c.take-told.ensures.received c.take-told.ensures.known c.take-told.ensures.left c.take-told.ensures.follows
-    c.args.lines.now.items
-    (looked_merged c.args.inlets.now c.wait_for_next-near.new.inlets c.args.lines.now.items c.wait_for_next-near.ensures.looked c.requires.merged))
+    c.args.lines.now
+    (looked_merged c.args.inlets.now c.wait_for_next-near.new.inlets c.args.lines.now c.wait_for_next-near.ensures.looked c.requires.merged))
 
 pub returns-clause-put : goal.returns-clause-put
 returns-clause-put g c = λ faults first put.
-    let texts : line_texts g.X.Wording.text c.push_reserved.new.self.items
-    ≡ line_texts g.X.Wording.text c.args.lines.now.items ++ g.X.Wording.text c.take-told.result
-    = ap (line_texts g.X.Wording.text) c.push_reserved.ensures.items ∙ texts_push g.X.Wording.text c.args.lines.now.items c.take-told.result in
+    let texts : line_texts g.X.Wording.text c.add.new.self
+    ≡ line_texts g.X.Wording.text c.args.lines.now ++ g.X.Wording.text c.take-told.result
+    = ap (line_texts g.X.Wording.text) c.add.ensures ∙ texts_push g.X.Wording.text c.args.lines.now c.take-told.result in
     subst (λ (text : List ℕ). HasPutOut faults (g.K.Sink.faults c.put.new.output) first (g.K.Sink.written c.put.new.output) text c.put.new.self.bytes.items
     c.put.new.self.stopped) (sym texts)
-    (c.put.ensures.put faults first (line_texts g.X.Wording.text c.args.lines.now.items)
-    (c.wait_for_next-near.ensures.put faults first (line_texts g.X.Wording.text c.args.lines.now.items) put))
+    (c.put.ensures.put faults first (line_texts g.X.Wording.text c.args.lines.now)
+    (c.wait_for_next-near.ensures.put faults first (line_texts g.X.Wording.text c.args.lines.now) put))

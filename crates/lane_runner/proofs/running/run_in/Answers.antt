@@ -1,6 +1,4 @@
-use Rattle.std.proofs.Common.{List, length, sym, ◌∙◌, subst, arith}
-use Rattle.lane_runner.specs.declared.transcript.TranscriptLine.{TranscriptLine}
-use Rattle.lane_runner.specs.Written.{HasEnded, line_texts}
+use Rattle.std.proofs.Common.{length, ◌∙◌, arith}
 use Rattle.lane_runner.specs.inside.Parts.{IsRoomFor}
 use Rattle.lane_runner.proofs.SeatSteps.{shares_for_all, turns_for_all, zip_length}
 use Rattle.lane_runner.proofs.RunSteps.{are_ready, has_run, lanes_are, news_many, seats_ours}
@@ -45,7 +43,7 @@ leave_all-requires-clause-callers g c =
 
 pub returns-clause-answered : goal.returns-clause-answered
 returns-clause-answered g c =
-    answered_as c.args.basis.now c.args.lanes.now c.args.pass.now c.leave_all.new.pass c.run_seats.new.seats.items c.run_seats.new.lines.items
+    answered_as c.args.basis.now c.args.lanes.now c.args.pass.now c.leave_all.new.pass c.run_seats.new.seats.items c.run_seats.new.lines
     c.requires.lanes c.caller-2.ensures.facts
     (has_run c.args.basis.now c.args.lanes.now c.args.pass.now c.enter_all.new.pass c.leave_all.new.pass c.args.room.outlets.items c.enter_all.new.seats.items
     c.run_seats.new.seats.items c.requires.lanes c.enter_all.ensures.entered c.run_seats.ensures.run c.leave_all.ensures.left c.caller.ensures.facts
@@ -53,10 +51,7 @@ returns-clause-answered g c =
     (lanes_are c.args.basis.now c.args.lanes.now c.args.pass.now c.enter_all.new.pass c.leave_all.new.pass c.args.room.outlets.items
     c.enter_all.new.seats.items c.run_seats.new.seats.items c.requires.lanes c.enter_all.ensures.entered c.run_seats.ensures.run
     c.leave_all.ensures.left c.caller.ensures.facts c.caller-2.ensures.facts)
-    c.run_seats.ensures.moved c.run_seats.ensures.sorted c.new.result c.new-2.result (c.new.ensures ∙ c.leave_all.ensures.callers) c.new-2.ensures
+    c.run_seats.ensures.moved c.run_seats.ensures.sorted c.new.result (c.new.ensures ∙ c.leave_all.ensures.callers)
 
 pub returns-clause-wrote : goal.returns-clause-wrote
-returns-clause-wrote g c =
-    subst (λ (lines : List TranscriptLine). HasEnded (g.K.Sink.faults c.args.output.now) (g.K.Sink.faults c.run_seats.new.output)
-    (g.K.Sink.written c.args.output.now) (g.K.Sink.written c.run_seats.new.output) (line_texts g.X.Wording.text lines) c.written.result) (sym c.new-2.ensures)
-    (c.written.ensures _ _ _ _ _ c.run_seats.ensures.put)
+returns-clause-wrote g c = c.written.ensures _ _ _ _ _ c.run_seats.ensures.put

@@ -16,8 +16,8 @@ run_beside-requires-clause-count g c κs within =
 
 pub run_beside-requires-clause-merged : goal.run_beside-requires-clause-merged
 run_beside-requires-clause-merged g c κs within =
-    subst (λ (inlets : List Inlet). IsMerged inlets c.args.lines.now.items) (sym c.as_mut_slice-2.ensures.value)
-    (subst (IsMerged c.args.inlets.now.items) (sym c.requires.room.0)
+    subst (λ (inlets : List Inlet). IsMerged inlets c.args.lines.now) (sym c.as_mut_slice-2.ensures.value)
+    (subst (IsMerged c.args.inlets.now.items) (sym c.requires.none)
     (merged_none c.args.inlets.now.items (fed_none c.args.lanes.now c.args.inlets.now.items c.requires.fed)))
 
 pub returns : goal.returns
@@ -31,7 +31,7 @@ returns g c =
     let whole = slice_whole c.args.seats.now.len c.run_beside.new.seats c.args.seats.now.items long counted in
     record {
       run = subst (HaveRun c.args.basis.now c.args.lanes.now c.args.seats.now.items) (sym whole) run;
-      moved = subst (λ (news : List _). IsPermutation (flat_map (λ seat. told_in seat) news) c.run_beside.new.lines.items) (sym whole) c.run_beside.ensures.moved;
+      moved = subst (λ (news : List _). IsPermutation (flat_map (λ seat. told_in seat) news) c.run_beside.new.lines) (sym whole) c.run_beside.ensures.moved;
       sorted = c.run_beside.ensures.sorted;
       later = c.run_beside.ensures.later;
       put = c.run_beside.ensures.put;
