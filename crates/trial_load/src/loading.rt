@@ -1,5 +1,6 @@
 // A generated script is run, and its policies are valued then.
 ghost use Rattle.std.specs.Prelude.{◌≡◌, ◌<◌, ◌≤◌, ◌^◌, IfOk, All, codes, length};
+ghost use Rattle.policy_types.specs.Limits.{most_commands};
 ghost use Rattle.shared_office.specs.Offices.{IsOfficeHistory};
 ghost use Rattle.shared_office.specs.Starting.{HasStartedOffice};
 ghost use Rattle.turn_lock.specs.Passes.{PassFacts};
@@ -203,7 +204,7 @@ fn write_line<K: Sink>(
     rows: &Rows,
     output: &mut K,
 ) -> Ending
-    requires rows { length rows.now ≤ 4000000 }
+    requires rows { length rows.now ≤ most_commands }
     requires bounded { AreSummable rows.now }
     ensures { EndsLine lines.now rows.now (between K.faults K.written output.old output.new) result }
 {
@@ -218,7 +219,7 @@ fn write_line<K: Sink>(
 
 // The line of a load, as `load,2,0,1,0.00,0.00,1`.
 fn load_line(alloc: Global, accepted: usize, refused: usize, rows: &Rows) -> Result<Text, NoMemory>
-    requires rows { length rows.now ≤ 4000000 }
+    requires rows { length rows.now ≤ most_commands }
     requires bounded { AreSummable rows.now }
     ensures { IfOk result (λ text. text ≡ load_text accepted refused rows.now) }
 {
