@@ -1,7 +1,4 @@
-use Rattle.std.proofs.Common.{List, subst}
-use Rattle.lane_runner.specs.declared.transcript.TranscriptLine.{TranscriptLine}
 use Rattle.program_endings.specs.Writing.{Stream, between}
-use Rattle.trial_load.specs.inside.Loaded.{EndsLoaded}
 use Rattle.trial_load.proofs.LoadSteps.{ends_loaded, load_answer}
 use Rattle.trial_load.proofs.loading.load_office.Goals as goal
 
@@ -23,5 +20,5 @@ returns g c =
           c.args.pass c.run_lanes-ran.new.pass c.value-valued.new.pass _ _ c.in-Ok.ran.transcript c.value-valued.result.answer started c.in-Ok.ensures.answered
           c.in-Ok.ensures.facts c.value-valued.ensures.valued c.close-disk-2.ensures.facts c.close-disk-2.ensures.closed c.requires.lanes
           out c.write_loaded-ending.result
-          (subst (λ (lines : List TranscriptLine). EndsLoaded lines c.value-valued.result.answer out c.write_loaded-ending.result) c.as_slice.ensures c.write_loaded-ending.ensures);
+          c.write_loaded-ending.ensures;
     }
