@@ -5,8 +5,9 @@ import sys
 
 import timing
 import workload
+from figures_lines import short_issues
 from figures_opening import paid_policies, told
-from timing import Folder, median
+from timing import Folder
 
 MILLION = 1000000
 TOOLS = os.path.join(timing.ROOT, "tools", "life-tools")
@@ -25,13 +26,13 @@ def due(setting):
 
 def rest(setting):
     """The rest of a run of eight lanes that was killed half-way: the journal has the first half of the rows."""
+    rows = short_issues(8)
     with Folder(setting.memory) as folder:
-        lines = workload.issue_lines(list(range(1, 9)), MILLION, 1)
-        workload.write_lines(folder.at("half.csv"), lines[:MILLION // 2])
-        workload.write_lines(folder.at("script.csv"), lines)
-        timing.timed([setting.program, "run"], folder.path, folder.at("half.csv"))
+        workload.write_lines(folder.at("script.csv"), rows)
+        workload.write_journal(folder.journal, (workload.record(workload.ISSUE, number, 18262, (3, 0, 3), 100000, 40000)
+                                                for number in range(1, len(rows) // 2 + 1)))
         runs = [tool(folder, "rest", "script.csv", "journal.life", "0") for _ in range(setting.rounds)]
-    yield f"`rest` of {MILLION:,} rows of eight lanes, half of them answered", told(runs), ""
+    yield f"`rest` of {len(rows):,} rows of eight lanes, half of them answered", told(runs), ""
 
 
 def export(setting):

@@ -110,7 +110,8 @@ def run(options: argparse.Namespace) -> int:
         return 1
     left = {line.row.number for lane in rest.values() for line in lane}
     tell(lanes_of(lines), rest, history.records, printed)
-    tell_equal([line for line in lines if line.row.number not in left | printed.rows],
+    certain = left | printed.rows
+    tell_equal([line for line in lines if line.row.number not in certain],
                [line for line in lines if line.row.number in left])
     sys.stdout.writelines(line.row.text + "\n" for line in lines if line.row.number in left)
     return 0
