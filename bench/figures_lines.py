@@ -5,6 +5,7 @@ import time
 
 import timing
 import workload
+from figures_opening import told
 from timing import Folder, median
 
 POSTINGS, MANY, TRIMS = 3000, 300000, 400000
@@ -69,10 +70,6 @@ def timed_run(setting, script):
     with Folder(setting.memory) as folder:
         workload.write_lines(folder.at("script.csv"), script)
         return timing.timed([setting.program, "run"], folder.path, folder.at("script.csv"))
-
-
-def told(runs):
-    return f"{median(runs, 'clock'):.2f} s, {median(runs, 'peak'):.0f} MiB"
 
 
 def many(setting):
