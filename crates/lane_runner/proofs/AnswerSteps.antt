@@ -1,5 +1,7 @@
 -- The answered lines of one pass, put together
 use Rattle.std.proofs.Common.{◌≡◌, ℕ, zero, suc, ◌+◌, ◌≤◌, ◌<◌, ℤ, List, [], ◌∷◌, ◌++◌, length, map, take, get_or, Some, Result, Ok, Err, refl, ap, sym, ◌∙◌, subst, append-nil, length-append, arith}
+use Rattle.std.specs.Prelude.{Box}
+use Rattle.std.specs.Global.{Global}
 use Rattle.std.specs.List.{AllByRecursion, AllZip, Contains, filter, flat_map}
 use Rattle.std.proofs.lemmas.List.{map-append}
 use Rattle.std.proofs.lemmas.List.Concat.{flat_map-append}
@@ -32,7 +34,7 @@ use Rattle.lane_runner.specs.declared.transcript.TranscriptLine.{TranscriptLine}
 use Rattle.lane_runner.specs.declared.transcript.Outcome.TheVariants.{Posted, Trimmed}
 use Rattle.lane_runner.specs.AnsweredLines.{AnsweredLine, turns_in}
 use Rattle.lane_runner.specs.Transcripts.{IsOutcome, IsTold, dry_of, lacked_memory}
-use Rattle.lane_runner.specs.inside.Parts.{HasAnswered, outcome_of, turns_for, turns_needed}
+use Rattle.lane_runner.specs.inside.Parts.{HasAnswered, IsBoxed, in_box, outcome_of, turns_for, turns_needed}
 use Rattle.lane_runner.proofs.Places.{turns_inside}
 
 pub all_append : {A : Type 0} (P : A → Type 0) (xs ys : List A) → AllByRecursion P xs → AllByRecursion P ys → AllByRecursion P (xs ++ ys)
@@ -128,8 +130,8 @@ pub next_left : (asked : List Line) (i : ℕ) (d : Line) (left spent old : ℕ) 
     → spent ≤ turns_needed (take i asked) → turns_for (get_or asked i d) ≤ left
 next_left asked i d left spent old below enough is few = omega (arith, needed_next asked i d below, enough, is, few)
 
-outcomes : (basis : List Dated) (commands : List Command) (on : ℤ) (at : At) (workers : ℕ) (reply : Reply) (answer : Result Valuation ValueFault)
-    → AnswersPin commands basis on Terminal reply answer → IsOutcome commands basis (Value on at workers) reply (outcome_of answer)
+outcomes : (basis : List Dated) (commands : List Command) (on : ℤ) (at : At) (workers : ℕ) (reply : Reply) (answer : Result (Box Valuation Global) ValueFault)
+    → AnswersPin commands basis on Terminal reply (in_box answer) → IsOutcome commands basis (Value on at workers) reply (outcome_of answer)
 outcomes basis commands on at workers (PinRefused refusal) (Err (Pin why)) h = ap PinRefused (sym h)
 outcomes basis commands on at workers (PinRefused refusal) (Err NoMemory) h = absurd h
 outcomes basis commands on at workers (PinRefused refusal) (Ok valuation) h = absurd h
@@ -144,14 +146,48 @@ outcomes basis commands on at workers Unpinned answer h = absurd h
 outcomes basis commands on at workers (Floor n) answer h = absurd h
 outcomes basis commands on at workers Blank answer h = absurd h
 
-abbrev pub valued_line : ℕ → ℤ → At → ℕ → ℕ → Result Valuation ValueFault → TranscriptLine
+abbrev pub valued_line : ℕ → ℤ → At → ℕ → ℕ → Result (Box Valuation Global) ValueFault → TranscriptLine
 valued_line number on at workers turn answer = record { lane = number; turn = turn; line = Value on at workers; outcome = outcome_of answer }
 
-dry_same : (number : ℕ) (on : ℤ) (at : At) (workers turn : ℕ) (answer : Result Valuation ValueFault)
-    → dry_of (valued_line number on at workers turn answer ∷ []) ≡ dry_pins turn answer
+dry_same : (number : ℕ) (on : ℤ) (at : At) (workers turn : ℕ) (answer : Result (Box Valuation Global) ValueFault)
+    → dry_of (valued_line number on at workers turn answer ∷ []) ≡ dry_pins turn (in_box answer)
 dry_same number on at workers turn (Ok valuation) = refl
 dry_same number on at workers turn (Err (Pin why)) = refl
 dry_same number on at workers turn (Err NoMemory) = refl
+
+-- a pin that is answered by a valuation may be answered by want of memory
+pinned_dry : (basis : List Dated) (commands : List Command) (on : ℤ) (reply : Reply) (valuation : Valuation)
+    → AnswersPin commands basis on Terminal reply (Ok valuation) → AnswersPin commands basis on Terminal reply (Err NoMemory)
+pinned_dry basis commands on (Pinned position policies) valuation h = tt
+pinned_dry basis commands on (PinRefused refusal) valuation h = absurd h
+pinned_dry basis commands on (Accepted n) valuation h = absurd h
+pinned_dry basis commands on (Refused refusal) valuation h = absurd h
+pinned_dry basis commands on (Faulted n) valuation h = absurd h
+pinned_dry basis commands on (Slice policies) valuation h = absurd h
+pinned_dry basis commands on Unpinned valuation h = absurd h
+pinned_dry basis commands on (Floor n) valuation h = absurd h
+pinned_dry basis commands on Blank valuation h = absurd h
+
+-- what lies in a box is answered so, too
+pub valued_boxed : {D W : Type 0} (basis : List Dated) (on : ℤ) (at : At) (workers turn : ℕ) (answer : Result Valuation ValueFault)
+    (kept : Result (Box Valuation Global) ValueFault) (old new : Holding (OfficeOpening D W)) → IsBoxed answer kept
+    → HasValued basis on Terminal at workers old new turn answer → HasValued basis on Terminal at workers old new turn (in_box kept)
+valued_boxed basis on at workers turn (Err fault) kept old new is v =
+    subst (λ (answer : Result (Box Valuation Global) ValueFault). HasValued basis on Terminal at workers old new turn (in_box answer)) (sym is) v
+valued_boxed basis on at workers turn (Ok valuation) (Ok kept) old new is v =
+    subst (λ (valued : Valuation). HasValued basis on Terminal at workers old new turn (Ok valued)) (sym is) v
+valued_boxed basis on at workers turn (Ok valuation) (Err fault) old new is v =
+    subst (λ (why : ValueFault). HasValued basis on Terminal at workers old new turn (Err why)) (sym is) (record {
+      pin = v.pin;
+      later = v.later;
+      grows = v.grows;
+      few = v.few;
+      place = v.place;
+      answers = answers_drier [] (turn ∷ []) (λ x is. absurd (omega (arith, is.1))) (Value on at workers) (v.pin ∷ v.later) v.answers;
+      opened = v.opened;
+      opening = v.opening;
+      answered = pinned_dry basis (commands_after v.opened.opening (take turn new.seen)) on v.pin.1.reply valuation v.answered;
+    })
 
 module _ {D W : Type 0} (basis : List Dated) (number : ℕ) where
   -- no lines
@@ -277,8 +313,8 @@ module _ {D W : Type 0} (basis : List Dated) (number : ℕ) where
     tells = (record { lane = refl; line = refl; turn = refl; outcome = refl }, tt);
   }
 
-  pub answered_value : (on : ℤ) (at : At) (workers turn : ℕ) (answer : Result Valuation ValueFault) (old new : Holding (OfficeOpening D W))
-      → HasValued basis on Terminal at workers old new turn answer
+  pub answered_value : (on : ℤ) (at : At) (workers turn : ℕ) (answer : Result (Box Valuation Global) ValueFault) (old new : Holding (OfficeOpening D W))
+      → HasValued basis on Terminal at workers old new turn (in_box answer)
       → HasAnswered basis number (Value on at workers ∷ []) old new (valued_line number on at workers turn answer ∷ [])
   answered_value on at workers turn answer old new v = record {
     answered = record { clerk = number; line = Value on at workers; first = v.pin; rest = v.later } ∷ [];

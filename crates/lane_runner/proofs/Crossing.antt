@@ -14,7 +14,7 @@ use Rattle.lane_runner.specs.contracts.telling.Outlet as outlet
 use Rattle.lane_runner.specs.contracts.transcript.TranscriptLine as line
 
 pub line_crosses : IsSend line.the_row
-line_crosses = search (sendable, crosses) depth 40 fits 50000
+line_crosses = search (sendable, crosses) depth 100 fits 200000
 
 pub lane_crosses : IsSync lane.the_row
 lane_crosses = search (sendable, crosses) depth 40 fits 50000

@@ -1,5 +1,7 @@
 -- What is told of an answered line, and by what
 use Rattle.std.proofs.Common.{◌≡◌, ℕ, List, take, Some, None, Result, Ok, Err, refl}
+use Rattle.std.specs.Prelude.{Box}
+use Rattle.std.specs.Global.{Global}
 use Rattle.outside_io.specs.declared.disks.Disk.{Ghosts}
 use Rattle.policy_types.specs.declared.command.Command.{Command}
 use Rattle.policy_types.specs.declared.entry.Entry.{Entry}
@@ -20,7 +22,7 @@ use Rattle.lane_runner.specs.inside.Parts.{outcome_of}
 
 module _ {D W : Type 0} (g : Ghosts D) (w : WatcherGhosts W) where
   -- what is told of a valuation is no posting's outcome
-  valued_freely : (opening : Opening) (before : List Entry) (line : Line) (answer : Result Valuation ValueFault)
+  valued_freely : (opening : Opening) (before : List Entry) (line : Line) (answer : Result (Box Valuation Global) ValueFault)
       → IsSafeOutcome {g = g} {w = w} opening before line (outcome_of answer) None
   valued_freely opening before line (Ok valuation) = tt
   valued_freely opening before line (Err (Pin refusal)) = tt
@@ -38,7 +40,7 @@ module _ {D W : Type 0} (g : Ghosts D) (w : WatcherGhosts W) where
     }
 
     -- and a valuation freely
-    pub valuation_may : (lane turn : ℕ) (line : Line) (answer : Result Valuation ValueFault)
+    pub valuation_may : (lane turn : ℕ) (line : Line) (answer : Result (Box Valuation Global) ValueFault)
         → MayHandOver {g = g} {w = w} pass (record { lane = lane; turn = turn; line = line; outcome = outcome_of answer }) None
     valuation_may lane turn line answer = record {
       opened = facts.lawful.0;

@@ -30,7 +30,7 @@ IsOutcome commands basis (Post command) reply (Posted answer) = reply ≡ reply_
 IsOutcome commands basis Trim reply (Trimmed floor) = reply ≡ Floor floor
 IsOutcome commands basis (Value on at workers) reply (ValueRefused refusal) = reply ≡ PinRefused refusal
 IsOutcome commands basis (Value on at workers) reply (Valued valuation) =
-    (position : ℕ) × ((policies : ℕ) × (reply ≡ Pinned position policies) × IsSnapshot commands basis on Terminal position valuation)
+    (position : ℕ) × ((policies : ℕ) × (reply ≡ Pinned position policies) × IsSnapshot commands basis on Terminal position valuation.value)
 IsOutcome commands basis (Value on at workers) reply ValueNoMemory =
     (position : ℕ) × ((policies : ℕ) × (reply ≡ Pinned position policies))
 IsOutcome _ _ _ _ _ = ⊥

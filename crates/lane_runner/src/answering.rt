@@ -10,7 +10,7 @@ ghost use Rattle.snapshot_value.specs.Valuing.{most_turns};
 ghost use Rattle.lane_runner.specs.Evidence.{MayHandOver};
 ghost use Rattle.lane_runner.specs.Lanes.{IsRightLane, IsRightLine};
 ghost use Rattle.lane_runner.specs.Telling.{MayTellNext};
-ghost use Rattle.lane_runner.specs.inside.Parts.{HasAnswered, IsRoomFor, outcome_of, turns_for, turns_needed};
+ghost use Rattle.lane_runner.specs.inside.Parts.{HasAnswered, IsBoxed, IsRoomFor, outcome_of, turns_for, turns_needed};
 
 use crate::telling::Outlet;
 use crate::transcript::{Outcome, TranscriptLine};
@@ -229,14 +229,24 @@ fn answer_value<D: Disk, W: Watching, G: Gate, R: Threads + Wait + Sync>(
             lane,
             turn,
             line: Line::Value { on, at, workers },
-            outcome: told_of(answer),
+            outcome: told_of(boxed(alloc, answer)),
         },
         posted: None,
     }
 }
 
+// A valuation in a box, as it is told. Without memory for the box there is none.
+fn boxed(alloc: Global, answer: Result<Valuation, ValueFault>) -> Result<Box<Valuation>, ValueFault>
+    ensures { IsBoxed answer result }
+{
+    match Box::new(alloc, answer?) {
+        Ok(kept) => Ok(kept),
+        Err(_) => Err(ValueFault::NoMemory),
+    }
+}
+
 // What is told of a valuation.
-fn told_of(answer: Result<Valuation, ValueFault>) -> Outcome
+fn told_of(answer: Result<Box<Valuation>, ValueFault>) -> Outcome
     ensures { result ≡ outcome_of answer }
 {
     match answer {

@@ -9,7 +9,8 @@ pub enum Outcome {
     Posted(Answer),
     /// The position before which nothing is kept.
     Trimmed(u32),
-    Valued(Valuation),
+    /// In a box, so that no other line has to have its room.
+    Valued(Box<Valuation>),
     ValueRefused(PinRefusal),
     ValueNoMemory,
 }

@@ -47,7 +47,7 @@ answer_words _ = numbered 0 0 0
 abbrev pub outcome_words : Outcome → List ℕ
 outcome_words (Posted answer) = answer_words answer
 outcome_words (TrimmedTo floor) = numbered 2 floor 0
-outcome_words (Valued valuation) = valued_words valuation.position (length valuation.rows) (list_all is_year_row valuation.rows)
+outcome_words (Valued valuation) = valued_words valuation.value.position (length valuation.value.rows) (list_all is_year_row valuation.value.rows)
 outcome_words (ValueRefused refusal) = refused_words refusal
 outcome_words _ = numbered 0 0 0
 

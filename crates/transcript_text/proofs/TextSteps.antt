@@ -37,12 +37,12 @@ reply_text clerk Trim reply (Trimmed floor) commands basis IsDry told dry =
 reply_text clerk (Value on at workers) reply (ValueRefused refusal) commands basis IsDry told dry =
     subst (λ (r : Reply). IsReplyText clerk (Value on at workers) r commands basis IsDry (unpinned_text clerk on refusal)) (sym told) refl
 reply_text clerk (Value on at workers) reply (Valued valuation) commands basis IsDry (position, (policies, pinned, snapshot)) dry =
-    let valued : IsValuedText clerk on commands basis position IsDry (block_text clerk on valuation.position valuation.measure valuation.rows) =
+    let valued : IsValuedText clerk on commands basis position IsDry (block_text clerk on valuation.value.position valuation.value.measure valuation.value.rows) =
     inr (
       λ is. absurd (false≢true (dry.0 is)),
-      (valuation.rows, snapshot.rows.each, ap₂ (λ p m. block_text clerk on p m valuation.rows) snapshot.pinned snapshot.measured),
+      (valuation.value.rows, snapshot.rows.each, ap₂ (λ p m. block_text clerk on p m valuation.value.rows) snapshot.pinned snapshot.measured),
     ) in
-    subst (λ (r : Reply). IsReplyText clerk (Value on at workers) r commands basis IsDry (block_text clerk on valuation.position valuation.measure valuation.rows)) (sym pinned) valued
+    subst (λ (r : Reply). IsReplyText clerk (Value on at workers) r commands basis IsDry (block_text clerk on valuation.value.position valuation.value.measure valuation.value.rows)) (sym pinned) valued
 reply_text clerk (Value on at workers) reply ValueNoMemory commands basis IsDry (position, (policies, pinned)) dry =
     subst (λ (r : Reply). IsReplyText clerk (Value on at workers) r commands basis IsDry (unvalued_text clerk on)) (sym pinned) (inl (dry.1 refl, refl))
 reply_text clerk (Post command) reply (Trimmed floor) commands basis IsDry told dry = absurd told

@@ -90,7 +90,7 @@ outcome_writable (Post command) reply (Posted answer) commands basis told right 
 outcome_writable Trim reply (Trimmed floor) commands basis told right can = tt
 outcome_writable (Value on at workers) reply (ValueRefused refusal) commands basis told right can = right.0
 outcome_writable (Value on at workers) reply (Valued valuation) commands basis (position, (policies, pinned, snapshot)) right can =
-    (right.0, block_writable commands basis on Terminal position valuation snapshot)
+    (right.0, block_writable commands basis on Terminal position valuation.value snapshot)
 outcome_writable (Value on at workers) reply ValueNoMemory commands basis told right can = right.0
 outcome_writable (Post command) reply (Trimmed floor) commands basis told right can = absurd told
 outcome_writable (Post command) reply (Valued valuation) commands basis told right can = absurd told

@@ -60,10 +60,10 @@ some_text clerk (Post command) (Posted answer) can =
     line_some (decimal clerk) (kind_word command ∷ decimal (id_of command) ∷ reply_fields (reply_of answer))
 some_text clerk Trim (Trimmed floor) can = line_some (decimal clerk) (codes "trim" ∷ decimal floor ∷ [])
 some_text clerk (Value on at workers) (Valued valuation) can =
-    front_some (heading_text clerk on valuation.position (length valuation.rows) valuation.measure ++ flat_map row_text valuation.rows)
-    (total_text valuation.measure valuation.rows)
-    (front_some (heading_text clerk on valuation.position (length valuation.rows) valuation.measure) (flat_map row_text valuation.rows)
-    (heading_some clerk on valuation.position (length valuation.rows) valuation.measure))
+    front_some (heading_text clerk on valuation.value.position (length valuation.value.rows) valuation.value.measure ++ flat_map row_text valuation.value.rows)
+    (total_text valuation.value.measure valuation.value.rows)
+    (front_some (heading_text clerk on valuation.value.position (length valuation.value.rows) valuation.value.measure) (flat_map row_text valuation.value.rows)
+    (heading_some clerk on valuation.value.position (length valuation.value.rows) valuation.value.measure))
 some_text clerk (Value on at workers) (ValueRefused refusal) can =
     line_some (decimal clerk) (codes "value" ∷ day_text on ∷ codes "refused" ∷ pin_refusal_fields refusal)
 some_text clerk (Value on at workers) ValueNoMemory can =

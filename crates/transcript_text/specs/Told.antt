@@ -46,7 +46,7 @@ IsToldAnswer _ = Unit {0}
 abbrev pub IsWritableOutcome : Line → Outcome → Type 0
 IsWritableOutcome (Post command) (Posted answer) = IsToldAnswer answer
 IsWritableOutcome Trim (Trimmed floor) = Unit {0}
-IsWritableOutcome (Value on at workers) (Valued valuation) = IsDay on × IsWritableBlock valuation
+IsWritableOutcome (Value on at workers) (Valued valuation) = IsDay on × IsWritableBlock valuation.value
 IsWritableOutcome (Value on at workers) (ValueRefused refusal) = IsDay on
 IsWritableOutcome (Value on at workers) ValueNoMemory = IsDay on
 IsWritableOutcome _ _ = ⊥
@@ -59,7 +59,7 @@ abbrev pub outcome_text : ℕ → Line → Outcome → List ℕ
 outcome_text clerk (Post command) (Posted answer) = posting_text clerk command (reply_of answer)
 outcome_text clerk Trim (Trimmed floor) = trim_text clerk floor
 outcome_text clerk (Value on at workers) (Valued valuation) =
-    block_text clerk on valuation.position valuation.measure valuation.rows
+    block_text clerk on valuation.value.position valuation.value.measure valuation.value.rows
 outcome_text clerk (Value on at workers) (ValueRefused refusal) = unpinned_text clerk on refusal
 outcome_text clerk (Value on at workers) ValueNoMemory = unvalued_text clerk on
 outcome_text clerk _ _ = []

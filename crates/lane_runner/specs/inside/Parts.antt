@@ -1,5 +1,5 @@
 -- The parts of running lanes
-use Rattle.std.specs.Prelude.{◌≡◌, ℕ, zero, suc, ◌+◌, ◌≤◌, ◌<◌, Some, slice_get, List, [], ◌∷◌, ◌++◌, length, map, Result, Ok, Err, Vec, vec_capacity}
+use Rattle.std.specs.Prelude.{◌≡◌, ℕ, zero, suc, ◌+◌, ◌≤◌, ◌<◌, Some, slice_get, List, [], ◌∷◌, ◌++◌, length, map, Result, Ok, Err, Box, Vec, vec_capacity}
 use Rattle.rtrb.specs.Ring.{IsPair, SameProducer, known_free, received, sent}
 use Rattle.std.specs.Global.{Global}
 use Rattle.std.specs.List.{AllByRecursion, AllZip, flat_map}
@@ -35,8 +35,19 @@ abbrev pub turns_needed : List Line → ℕ
 turns_needed [] = 0
 turns_needed (line ∷ lines) = turns_for line + turns_needed lines
 
+-- the answer lies in the box, or there was no memory for it
+abbrev pub IsBoxed : Result Valuation ValueFault → Result (Box Valuation Global) ValueFault → Type 0
+IsBoxed (Ok valuation) (Ok kept) = kept.value ≡ valuation
+IsBoxed (Ok valuation) (Err fault) = fault ≡ NoMemory
+IsBoxed (Err fault) kept = kept ≡ Err fault
+
+-- the answer that lies in a box
+abbrev pub in_box : Result (Box Valuation Global) ValueFault → Result Valuation ValueFault
+in_box (Ok kept) = Ok kept.value
+in_box (Err fault) = Err fault
+
 -- what is told of a valuation
-abbrev pub outcome_of : Result Valuation ValueFault → Outcome
+abbrev pub outcome_of : Result (Box Valuation Global) ValueFault → Outcome
 outcome_of (Ok valuation) = Valued valuation
 outcome_of (Err (Pin refusal)) = ValueRefused refusal
 outcome_of (Err NoMemory) = ValueNoMemory
