@@ -38,7 +38,7 @@ pub record EndsCheckpoint {D E : Type 0} (g : Ghosts D) (e : Ghosts E) (disks : 
   pub telling : EndsTelling g e disks (IsSaved g e disks) output ending
   pub first : IsLeftAlone g disks.old disks.new
   pub honesty : e.honest disks.kept → e.honest disks.second
-  -- nothing was written to the second disk before the journal's was made safe
+  -- where something was written to the second disk, the call made the journal's safe
   pub order : g.honest disks.new → e.honest disks.kept
       → IsOnlyRead e disks.second disks.kept ⊎ IsMadeSafe g disks.old disks.new
   pub since : e.honest disks.kept → Leaves e disks.second disks.kept (IsNoneOrEarlierOrHeld g e disks)
