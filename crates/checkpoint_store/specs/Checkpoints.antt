@@ -16,7 +16,7 @@ use Rattle.checkpoint_store.specs.Spelling.{snapshot_bytes, StandBehindGate}
 abbrev pub policy_ids : List Policy → List ℕ
 policy_ids policies = map (λ (p : Policy). p.id) policies
 
--- There are no more policies than commands, and no command has moved a balance by more than 4 * 10^10 cents.
+-- There are no more policies than commands, and no balance is above 4 * 10^10 cents for each command, on either side.
 pub record HasFigures (s : Snapshot) : Type 0 where
   pub position_in : s.position ≤ most_commands
   pub upgrade_in : s.upgrade ≤ s.position

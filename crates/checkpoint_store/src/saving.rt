@@ -20,7 +20,7 @@ use policy_types::Policy;
 use posting_journal::DiskFault;
 
 impl<E: Disk> Store<E> {
-    /// Makes the snapshot the disk's checkpoint. At `Ok` each crash leaves it from then on. A crash at any moment of the
+    /// Makes the snapshot the disk's checkpoint. At `Ok` each crash leaves it until the next call. A crash at any moment of the
     /// call, and after one that failed, leaves no checkpoint, or one that it might have left before, or this one.
     pub fn save(&mut self, snapshot: &Snapshot) -> Result<(), DiskFault>
         requires { IsSoundSnapshot snapshot.now }

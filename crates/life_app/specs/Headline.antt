@@ -110,7 +110,8 @@ pub record IsPromised {D : Type 0} (g : Ghosts D) (Opens : List ℕ → List Com
   pub distinct : IsDistinct nat_eq callers
   pub theirs : AllByRecursion (λ entry. Contains callers entry.caller) history
   pub answered : AreLinesOf lines history lanes callers dry
-  -- a front of the transcript was written, and all of it at the statuses 0 and 8; the auditors' lines stand behind
+  -- a front of the transcript and of some bytes behind it was written, and all of these at the statuses 0 and 8; that they
+  -- are the auditors' lines is said in `IsRunOf`
   pub texts : List (List ℕ)
   pub behind : List ℕ
   pub told : AllZip (IsToldLine commands history basis dry) lines texts
@@ -127,8 +128,8 @@ pub record IsPromised {D : Type 0} (g : Ghosts D) (Opens : List ℕ → List Com
       × (g.clock old ≤ moment) × (moment ≤ g.clock new) × ((image : List ℕ) → g.left_since new moment image
       → (more : List Command) × Opens image (commands ++ accepted_of front ++ more))
 
--- A run in which no line was answered: one line says why, and a crash leaves what it might have left before, or what opens
--- to what the file did.
+-- A run that failed and added no command: a text was written in place of a transcript, or the output failed; and a crash
+-- leaves what it might have left before, or what opens to what the file did.
 pub record IsUnrun {D : Type 0} (g : Ghosts D) (Opens : List ℕ → List Command → Type 0) (old new : D) (output : Stream)
     (status : ℕ) : Type 0 where
   pub failed : status ≢ 0
@@ -142,7 +143,7 @@ pub record IsFirstFound {D : Type 0} (g : Ghosts D) (bytes : List ℕ) (old : D)
   pub first : g.clock old ≡ 0
   pub reads : g.reads old ≡ bytes
 
--- The run of these lanes, by a basis, over a disk as it was found: it was as is promised, or none of the lines was answered.
+-- The run of these lanes, by a basis, over a disk as it was found: it was as is promised, or failed and added no command.
 pub record IsPromisedFromStart {D : Type 0} (g : Ghosts D) (Opens : List ℕ → List Command → Type 0) (bytes : List ℕ) (new : D)
     (lanes : List Lane) (basis : List Dated) (output : Stream) (status : ℕ) : Type 0 where
   pub old : D

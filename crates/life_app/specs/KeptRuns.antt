@@ -35,8 +35,9 @@ pub record LeavesSecond {E : Type 0} (e : Ghosts E) (old new : E) : Type 0 where
   pub since : Leaves e old new (e.may_leave old)
   pub now : (image : List ℕ) → e.may_leave new image → e.may_leave old image
 
--- A call saved the books, or tried to: the journal's disk was made safe first, and no office was opened; and a crash leaves
--- no checkpoint on the second disk, or one that it might have left before, or that of the journal.
+-- A call saved the books, or tried to: no office was opened, and the journal's disk was made safe at some moment of it; and a
+-- crash leaves no checkpoint on the second disk, one that it might have left before, or one that is the journal's where the
+-- disks are true.
 pub record LeavesSaved {D E : Type 0} (g : Ghosts D) (e : Ghosts E) (disks : TwoDisks D E) : Type 0 where
   pub alone : IsLeftAlone g disks.old disks.new
   pub safe : IsMadeSafe g disks.old disks.new
@@ -53,7 +54,7 @@ pub record WasCutBefore {E : Type 0} (e : Ghosts E) (second next : E) : Type 0 w
   pub left : e.may_leave second (e.reads next)
   pub safe : IsSafe e next
 
--- It came later, and so since the journal's disk was made safe.
+-- It came later, and it is supposed that the journal's disk was made safe before.
 pub record WasCutAfter {D E : Type 0} (g : Ghosts D) (e : Ghosts E) (old : D) (second : E) (run : OneRunOfTwo D E)
     (safe : IsMadeSafe g old run.one.new) : Type 0 where
   pub first_left : g.left_since run.one.new (g.clock safe.0) (g.reads run.one.next)

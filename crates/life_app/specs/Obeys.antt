@@ -39,7 +39,7 @@ EndsMode g old new (Generate seed count lanes) auditors input output shelf Input
 EndsMode g old new (Load seed count lanes workers) auditors input output shelf InputStays ShelfStays ending =
     InputStays × EndsLoad g old new seed count lanes workers shelf output ending
 
--- why the words weren't obeyed, in a line: they ask for nothing, or there was no memory to read them
+-- why the words weren't obeyed, in a line: they ask for nothing, or memory was wanting
 abbrev pub SaysUnasked : List (String Global) → Stream → Ending → Type 0
 SaysUnasked words output Usage = AskForNothing words × WroteLine output (codes "usage")
 SaysUnasked words output NoMemory = WroteLine output (codes "nomemory")

@@ -23,12 +23,12 @@ AskForBooks words = AskFor words (State None)
 abbrev pub AskForBoth : List (String Global) → Type 0
 AskForBoth words = AskForBooks words ⊎ AskForCheckpoint words
 
--- how the two modes end that open both disks
+-- how the two modes end that are of both disks
 abbrev pub EndsByBoth : {D E : Type 0} → Ghosts D → Ghosts E → TwoDisks D E → List (String Global) → Stream → Ending → Type 0
 EndsByBoth g e disks words output ending =
     (AskForBooks words × EndsStateKept g e disks output ending) ⊎ (AskForCheckpoint words × EndsCheckpoint g e disks output ending)
 
--- Both disks were opened; nothing was read from the input or fetched from the shelf.
+-- Nothing was read from the input or fetched from the shelf, and the mode ended by what the two disks gave.
 pub record ObeysByBoth {D E : Type 0} (g : Ghosts D) (e : Ghosts E) (disks : TwoDisks D E) (words : List (String Global))
     (output : Stream) (InputStays ShelfStays : Type 0) (status : ℕ) : Type 0 where
   pub ending : Ending
@@ -45,7 +45,7 @@ pub record ObeysByOne {D E : Type 0} (g : Ghosts D) (disks : TwoDisks D E) (word
   pub obeys : Obeys g disks.old disks.new words auditors input output shelf InputStays ShelfStays status
   pub second : disks.kept ≡ disks.second
 
--- There was no memory to read the words, and nothing was touched.
+-- There was no memory to read the words, or for the auditors before that; and nothing was touched.
 pub record HasNoWords {D E : Type 0} (disks : TwoDisks D E) (words : List (String Global)) (output : Stream)
     (InputStays ShelfStays : Type 0) (status : ℕ) : Type 0 where
   pub exits : status ≡ 9

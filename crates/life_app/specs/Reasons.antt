@@ -14,8 +14,8 @@ use Rattle.script_run.specs.Script.{IsRefused}
 use Rattle.life_app.specs.Needs.{Filing, HasBadFile, IsPastTheEnd}
 use Rattle.life_app.specs.Words.{AskForCheckpoint, AskForRun}
 
--- Why the program ends so: what the words, the script, a basis file or the journal are, and then the line that names it; or
--- which device's count of faults rose. Want of memory has none that can be shown.
+-- Why the program ends so: what the words are, or that too few commands are there; what the script, a basis file or the
+-- journal is, and the line that names it; or which device's count of faults rose. Success and want of memory have none.
 abbrev pub HasReason : List (String Global) → Input → Stream → Shelving → Filing → Ending → Type 0
 HasReason words input output shelf disk Done = Unit {0}
 HasReason words input output shelf disk Usage = AskForNothing words ⊎ AskForCheckpoint words

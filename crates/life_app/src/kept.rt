@@ -41,9 +41,9 @@ pub enum BookMode {
 }
 
 /// Does what `life` does, and the words `checkpoint`, with a second disk for a checkpoint of the journal. `state` of all
-/// policies decides the journal's records anew from the checkpoint's position on, where the second disk has one that isn't
-/// above the journal's count, and only syncs and reads the second disk; `checkpoint` saves the books there. In every other
-/// mode the second disk isn't touched.
+/// policies begins with that checkpoint, where there is one that isn't above the journal's count, and at most syncs and reads
+/// the second disk (how few records it decides is said of `state_kept` alone); `checkpoint` saves the books there. In every
+/// other mode the second disk isn't touched.
 pub fn life_kept<
     R: Threads + Wait + Sync,
     S: Source,
@@ -73,7 +73,7 @@ pub fn life_kept<
         (input.new ≡ input.old) (shelf.new ≡ shelf.old) result.status }
     ensures shelf { H.files shelf.new ≡ H.files shelf.old }
 
-    // Where the words ask for nothing of both disks, each status has its reason, and what is due comes about.
+    // Where the words ask for nothing of both disks, each status but 0 and 9 has its reason, and what is due comes about.
     ensures reason { ¬ AskForBoth words.now → IsReasoned words.now (input_between S.faults S.left S.given S.ended input.old input.new)
         (between K.faults K.written output.old output.new)
         (shelf_between H.faults H.agrees shelf.old shelf.new) (filing_between D.Disk disk result.disk) result.status }
@@ -90,7 +90,7 @@ pub fn life_kept<
         → IsDueOfBoth D.Disk E.Disk (ended_disks disk second result) (between K.faults K.written output.old output.new) ending
         → (result.status ≡ status_of ending) ⊎ (result.status ≡ 9) }
 
-    // A file that opens to no commands reads as before, however the run ends.
+    // A file that opens to no commands reads as before, however the run ends, where its disk comes back honest.
     ensures unopened { D.honest result.disk → OpensToNone (D.reads disk) → D.reads result.disk ≡ D.reads disk }
 {
     match books_of(alloc, words) {

@@ -20,7 +20,7 @@ ghost use Rattle.script_run.specs.Script.{IsReadable, IsUnreadable};
 
 use outside_io::{Disk, Shelf, Sink, Source};
 
-/// Every script is read or refused, and none is both; one that isn't too long has one first fault.
+/// Every script is read or refused, and none is both; none has two first faults.
 pub fn scripts_are_read_or_refused()
     ensures either { (bytes : List ℕ) → IsReadable bytes ⊎ IsUnreadable bytes }
     ensures not_both { (bytes : List ℕ) → IsReadable bytes → IsUnreadable bytes → ⊥ }
@@ -57,8 +57,8 @@ pub fn crashes_of_an_opening<D: Disk>()
 {}
 
 /// The runs of a list, each ended by its return or by a crash at any moment, leave in their order what each had answered to
-/// be accepted, and of each at most one more, that was answered `fault`. The first begins on a disk of which a crash leaves
-/// just what is read. Each call of the program leaves the disk as such a run does.
+/// be accepted, perhaps more of what it accepted, and at most one more, that was answered `fault`. The first begins on a disk
+/// of which a crash leaves just what is read. Each call of the program leaves the disk as such a run does.
 pub fn runs_in_a_row<S: Source, K: Sink, H: Shelf, D: Disk>()
     ensures left { (first last : D) (commands : List Command) (runs : List (OneRun D)) (image : List ℕ) → IsSafe D.Disk first
         → Opens (D.reads first) commands → AreRuns D.Disk first runs last → D.may_leave last image
@@ -71,11 +71,11 @@ pub fn runs_in_a_row<S: Source, K: Sink, H: Shelf, D: Disk>()
         → (opening : Opening) × ((history : List Entry) × IsLeftSo D.Disk old new opening history) }
 {}
 
-/// The runs of a list over both disks, each ended by its return or by a crash at any moment, leave a second disk that tells
-/// the truth of the journal: each checkpoint that it may leave is the snapshot of the first of the commands to which the
-/// journal's file opens, whatever the two disks leave. The first run begins with disks of which a crash leaves just what is
-/// read, and where a checkpoint on the second, if there is one, is so too. Each call of the program over both disks leaves
-/// them as such a run does.
+/// The runs of a list over both disks, each ended by its return or by a crash, leave a second disk that tells the truth of
+/// the journal: each checkpoint that it may leave is the snapshot of the first of the commands to which the journal's file
+/// opens, whatever the two disks leave. The first run begins with disks of which a crash leaves just what is read, and where
+/// a checkpoint on the second, if there is one, is so too. It is supposed that a crash which finds the second disk changed
+/// came after the journal's was made safe. Each call of the program over both disks that come back honest leaves them so.
 pub fn runs_over_both<S: Source, K: Sink, H: Shelf, D: Disk, E: Disk>()
     ensures left { (first last : D) (second last_second : E) (commands : List Command) (runs : List (OneRunOfTwo D E)) (image file : List ℕ)
         → IsSafe D.Disk first → IsSafe E.Disk second → Opens (D.reads first) commands → SavedOfFirst (E.reads second) commands

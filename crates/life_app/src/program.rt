@@ -65,7 +65,7 @@ pub fn life<
         (input.new ≡ input.old) (shelf.new ≡ shelf.old) result.status }
     ensures shelf { H.files shelf.new ≡ H.files shelf.old }
 
-    // Each status has its reason: what the words, the script, a basis file or the journal are, or the device that failed.
+    // Each status but 0 and 9 has its reason: what the words, the script, a basis file or the journal are, or the device that failed.
     ensures reason { IsReasoned words.now (input_between S.faults S.left S.given S.ended input.old input.new)
         (between K.faults K.written output.old output.new)
         (shelf_between H.faults H.agrees shelf.old shelf.new) (filing_between D.Disk disk result.disk) result.status }
@@ -76,7 +76,7 @@ pub fn life<
         (shelf_between H.faults H.agrees shelf.old shelf.new) (filing_between D.Disk disk result.disk) ending
         → (result.status ≡ status_of ending) ⊎ (result.status ≡ 9) }
 
-    // A file that opens to no commands reads as before, however the run ends.
+    // A file that opens to no commands reads as before, however the run ends, where its disk comes back honest.
     ensures unopened { D.honest result.disk → OpensToNone (D.reads disk) → D.reads result.disk ≡ D.reads disk }
 {
     let watchers = Watchers::new(watchers);

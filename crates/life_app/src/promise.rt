@@ -17,8 +17,8 @@ ghost use Rattle.life_app.specs.Words.{AskForRun};
 use outside_io::{Disk, Shelf, Sink, Source};
 
 /// Where the program obeys words that ask to run a script, and the input gave that of these lanes, it ran them as is
-/// promised, with the basis that it was given, or answered none of them. A file opens to one list of commands at most, and
-/// an empty one to none; and files make one basis at most under a name.
+/// promised, with the basis that it was given, or failed and added no command. A file opens to one list of commands at most,
+/// and an empty one to none; and files make one basis at most under a name.
 pub fn headline<S: Source, K: Sink, H: Shelf, D: Disk>()
     ensures promised { (old new : D) (input read : S) (output written : K) (shelf asked : H)
         (words : List (String Global)) (auditors : List Auditor) (status : ℕ) (name bytes : List ℕ)

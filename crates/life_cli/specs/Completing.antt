@@ -17,5 +17,5 @@ pub record EndsDuly (words : List (String Global)) (input : Input) (output : Str
   -- and an ending that is due comes about, but for want of memory
   pub due : (ending : Ending) → ¬ AskForBoth words → IsDueEnding words input output shelf disk ending
       → (status ≡ status_of ending) ⊎ (status ≡ 9)
-  -- a file that opens to no commands reads as before
+  -- a file that opens to no commands reads as before, where its disk comes back honest
   pub unopened : disk.Honest → OpensToNone disk.before → disk.after ≡ disk.before

@@ -62,9 +62,9 @@ pub struct Left<D, E> {
 
 /// Does what the words ask for, over standard input and output, the folder and its `journal.life` and `checkpoint.life`.
 ///
-/// What it promises is said of what these devices noted, and holds whatever the two files were before (`F`, `C`). The one
-/// premise on them is that each answer of a file is one that the disk model allows, and it is asked only of what is said of
-/// that file.
+/// What it promises is said of what these devices noted, and holds whatever the two files were before (`F`, `C`). It has two
+/// premises. A file of which something is said gave only answers that the disk model allows. And where `state` of all and
+/// `checkpoint` say something of the journal, both files did, and a checkpoint in the second tells the truth of it.
 pub fn run_shipped<R: Threads + Wait + Sync, F: FoundFile, C: FoundFile>(
     rt: &R,
     system: HostRuntime,

@@ -14,7 +14,7 @@ use Rattle.program_endings.specs.WithoutBasis.{EndsNoBasis}
 use Rattle.program_endings.specs.Writing.{Shelving, Stream}
 use Rattle.program_endings.specs.declared.ending.Ending.{Ending}
 
--- the shelf has a basis under the name, and the mode ended so by it
+-- whatever files agree with the shelf's answers make this basis under the name, and the mode ended so by it
 pub record EndsByBasis (Ends : List Dated → Type 0) (name : List ℕ) (shelf : Shelving) : Type 0 where
   pub basis : List Dated
   pub is : (files : Files) → shelf.Agrees files → IsBasis files name basis
@@ -29,7 +29,7 @@ EndsOverBasis old new Ends name shelf output ending =
 abbrev pub HasFirstPass : {D W : Type 0} → Ghosts D → D → Holding (OfficeOpening D W) → Type 0
 HasFirstPass {D} {W} g old pass = (watchers : W) × HasStartedOffice g old watchers pass
 
--- the shelf has this basis under the name, and an office was opened on the disk
+-- whatever files agree with the shelf's answers make this basis under the name, and an office was opened on the disk
 pub record HasBegun {D W : Type 0} (g : Ghosts D) (old : D) (name : List ℕ) (shelf : Shelving) (basis : List Dated)
     (pass : Holding (OfficeOpening D W)) : Type 0 where
   pub is : (files : Files) → shelf.Agrees files → IsBasis files name basis

@@ -8,7 +8,8 @@ ghost use Rattle.office_state.specs.inside.Records.{Records};
 use outside_io::Disk;
 use posting_journal::{DiskFault, Journal};
 
-/// Adds a record of this body. At `Ok` each crash leaves it from then on; at a fault it is none of the journal's.
+/// Adds a record of this body. At `Ok` each crash leaves it from then on; at a fault it isn't counted, and a crash may
+/// leave it or not until the journal is repaired.
 pub fn record<D: Disk>(journal: &mut Journal<D>, body: &[u8; 64]) -> Result<(), DiskFault>
     requires few { count_of journal.old < most_records }
     ensures count { count_of journal.new

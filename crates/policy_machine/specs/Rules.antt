@@ -53,7 +53,7 @@ due_of p = anniversary_of p.issued p.paid
 abbrev pub grace_end_of : Policy → ℤ
 grace_end_of p = due_of p +ℤ pos 31
 
--- the last day on which a lapsed policy can be reinstated
+-- the last day on which a lapsed policy can be reinstated, where its term isn't over before
 abbrev pub reinstatement_end_of : Policy → ℤ
 reinstatement_end_of p = anniversary_of p.issued (p.paid + 3)
 

@@ -56,7 +56,7 @@ pub fn due(policy: Policy) -> i32
     anniversary(policy.issued, policy.paid)
 }
 
-// The last day on which the policy can be reinstated once it has lapsed.
+// The last day on which the policy can be reinstated once it has lapsed, where its term isn't over before.
 pub fn reinstatement_end(policy: Policy) -> i32
     requires { IsSound policy }
     ensures { result ≡ reinstatement_end_of policy }

@@ -55,7 +55,7 @@ pub enum Command {
         amount: u64,
         premium: u64,
     },
-    /// A policy in arrears leaves the books.
+    /// A policy in arrears lapses.
     Lapse {
         id: u32,
         day: i32,

@@ -19,7 +19,7 @@ pub enum Refusal {
     TooEarly(i32),
     /// The premium that fell due on the day given is out of its days of grace.
     GraceOver(i32),
-    /// The premium that fell due on the day given is still in its days of grace.
+    /// The premium of the day given isn't due yet, or is still in its days of grace.
     NotInArrears(i32),
     /// The last day for it is given.
     TooLate(i32),

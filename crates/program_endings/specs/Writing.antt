@@ -62,7 +62,7 @@ WroteAll output bytes = Appends output.before output.after bytes
 abbrev pub WrotePart : Stream → List ℕ → Type 0
 WrotePart output bytes = Rose output.faults_before output.faults_after × AppendsPart output.before output.after bytes
 
--- nothing of the bytes was written, since memory was refused
+-- nothing of the bytes was written
 abbrev pub WroteNothing : Stream → List ℕ → Type 0
 WroteNothing output bytes = Appends output.before output.after []
 

@@ -3,7 +3,7 @@ ghost use Rattle.std.specs.Prelude.{◌≡◌};
 /// How a run of the program ends.
 #[derive(Clone, Copy, PartialEq, Eq, Debug)]
 pub enum Ending {
-    /// All was read to the end, and every line is answered.
+    /// What was asked for was done.
     Done,
     /// The words aren't of a command.
     Usage,
@@ -11,13 +11,13 @@ pub enum Ending {
     BadScript,
     /// A file of the basis is absent, too long or refused.
     BadBasis,
-    /// The disk's file is no journal.
+    /// The disk's file is no journal, or has a record that can't stand.
     BadJournal,
     /// The input failed, or the shelf.
     ReadFault,
     /// The output failed.
     WriteFault,
-    /// The disk failed, at the opening or in a posting.
+    /// A disk failed.
     DiskFault,
     /// Memory was refused.
     NoMemory,

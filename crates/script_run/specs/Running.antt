@@ -12,7 +12,7 @@ use Rattle.program_endings.specs.declared.ending.Ending.{Ending}
 use Rattle.script_run.specs.Outcome.{EndsScript}
 use Rattle.script_run.specs.Script.{EndsUnread, IsReadAs, asks_for_values}
 
--- the shelf has this basis under the name, and a script's run ended so by it
+-- whatever files agree with the shelf's answers make this basis under the name, and a script's run ended so by it
 pub record EndsScriptBy {D : Type 0} (g : Ghosts D) (old new : D) (lanes : List Lane) (name : List ℕ) (auditors : List Auditor)
     (shelf : Shelving) (output : Stream) (ending : Ending) : Type 0 where
   pub basis : List Dated
@@ -41,7 +41,7 @@ pub record EndsRead {D : Type 0} (g : Ghosts D) (old new : D) (name : List ℕ) 
   pub read : IsReadAs bytes lanes
   pub ends : EndsLanes g old new lanes name auditors shelf output ShelfStays ending
 
--- a run that read no script leaves the shelf and the disk, and has nobody told
+-- a run that read no script leaves the shelf and the disk as they were
 abbrev pub EndsRun : {D : Type 0} → Ghosts D → D → D → List ℕ → List Auditor → Input → Stream → Shelving
     → (ShelfStays : Type 0) → Ending → Type 0
 EndsRun g old new name auditors input output shelf ShelfStays ending =

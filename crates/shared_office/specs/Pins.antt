@@ -43,7 +43,7 @@ abbrev pub pinned_reply : Result Held PinRefusal → Reply
 pinned_reply (Ok pin) = Pinned pin.position pin.policies
 pinned_reply (Err refusal) = PinRefused refusal
 
--- a caller's turn that asks for a pin at the newest position
+-- a caller's turn of a call that asks for a pin
 abbrev pub pinning_turn : ℕ → Call → Result Held PinRefusal → Entry
 pinning_turn caller call answer = record { caller = caller; call = call; reply = pinned_reply answer }
 

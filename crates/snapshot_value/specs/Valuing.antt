@@ -34,7 +34,7 @@ pub record IsValuedRow (basis : List Dated) (on : ℤ) (measure : Measure) (poli
       → IsExact measure policy entry.table entry.bp row.t row.worth
 
 -- the rows of the policies, one for each and in their order; they are not more than policies may be, and no bound is
--- above what a policy may insure
+-- above what a policy may insure, or of a mean reserve twice that
 pub record AreValuedRows (basis : List Dated) (on : ℤ) (measure : Measure) (policies : List Policy) (rows : List Row) : Type 0 where
   pub each : AllZip (IsValuedRow basis on measure) policies rows
   pub few : length rows ≤ most_commands

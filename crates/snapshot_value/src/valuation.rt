@@ -10,7 +10,7 @@ pub struct Query<'a> {
     pub on: i32,
     /// Which reserve they have.
     pub measure: Measure,
-    /// How many workers value them, from 1 to 64.
+    /// How many workers are asked for, from 1 to 64; at most sixteen value.
     pub workers: u8,
 }
 

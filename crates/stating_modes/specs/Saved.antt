@@ -15,24 +15,25 @@ use Rattle.stating_modes.specs.TwoDisks.{IsHeldWhereTrue, IsMadeSafe, IsOnlyRead
 abbrev pub checkpoint_text : Snapshot → List ℕ
 checkpoint_text s = line_of (codes "checkpoint") (decimal s.position ∷ [])
 
--- A snapshot was saved, and its line written: each crash leaves its checkpoint from then on.
+-- A snapshot was saved, and its line written: of an honest disk a crash now leaves its checkpoint.
 pub record IsSaved {D E : Type 0} (g : Ghosts D) (e : Ghosts E) (disks : TwoDisks D E) (Wrote : List ℕ → Type 0)
     : Type 0 where
   pub told : TellsSnapshot g e disks checkpoint_text Wrote
   pub saved : e.honest disks.kept → (image : List ℕ) → e.may_leave disks.kept image
       → CheckpointBytes image told.snapshot
 
--- it is a checkpoint of the snapshot that the journal's commands leave
+-- it is a checkpoint: where the disks are true, of the snapshot that the journal's commands leave
 abbrev pub IsCheckpointHeld : {D E : Type 0} → Ghosts D → Ghosts E → TwoDisks D E → List ℕ → Type 0
 IsCheckpointHeld g e disks image =
     (snapshot : Snapshot) × CheckpointBytes image snapshot × IsHeldWhereTrue g e disks snapshot
 
--- no checkpoint, or one that a crash might have left before the call, or that of the journal
+-- no checkpoint, or one that a crash might have left before the call, or such a one
 abbrev pub IsNoneOrEarlierOrHeld : {D E : Type 0} → Ghosts D → Ghosts E → TwoDisks D E → List ℕ → Type 0
 IsNoneOrEarlierOrHeld g e disks image =
     IsNoCheckpoint image ⊎ e.may_leave disks.second image ⊎ IsCheckpointHeld g e disks image
 
--- the journal's snapshot was saved, and whatever the ending, a crash since the call leaves one of the three
+-- a snapshot was saved, or it is told why none was; and whatever the ending, of an honest disk a crash since the call leaves
+-- one of the three
 pub record EndsCheckpoint {D E : Type 0} (g : Ghosts D) (e : Ghosts E) (disks : TwoDisks D E) (output : Stream)
     (ending : Ending) : Type 0 where
   pub telling : EndsTelling g e disks (IsSaved g e disks) output ending

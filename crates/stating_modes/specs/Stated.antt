@@ -18,7 +18,7 @@ use Rattle.stating_modes.specs.TwoDisks.{IsOnlyRead, TwoDisks}
 abbrev pub snapshot_text : Snapshot → List ℕ
 snapshot_text s = flat_map policy_text s.book ++ balance_text (balances s.ledger) s.position
 
--- the snapshot's books were written, and the second disk was only read
+-- the snapshot's books were written, or it is told why not; and the second disk was not written to
 pub record EndsStateKept {D E : Type 0} (g : Ghosts D) (e : Ghosts E) (disks : TwoDisks D E) (output : Stream)
     (ending : Ending) : Type 0 where
   pub telling : EndsTelling g e disks (TellsSnapshot g e disks snapshot_text) output ending

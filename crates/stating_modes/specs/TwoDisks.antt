@@ -47,7 +47,7 @@ pub record IsSnapshotHeld {D : Type 0} (g : Ghosts D) (old new : D) (snapshot : 
 abbrev pub IsHeldWhereTrue : {D E : Type 0} → Ghosts D → Ghosts E → TwoDisks D E → Snapshot → Type 0
 IsHeldWhereTrue g e disks snapshot = AreTrue g e disks → IsSnapshotHeld g disks.old disks.new snapshot
 
--- a disk was synced and read, and not written to
+-- a disk was not written to: it was synced and read at most
 pub record IsOnlyRead {E : Type 0} (e : Ghosts E) (old new : E) : Type 0 where
   pub honesty : e.honest new → e.honest old
   pub looks : e.honest new → LooksOn e old new

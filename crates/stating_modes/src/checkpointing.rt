@@ -17,8 +17,8 @@ use std::marker::Brand;
 use std::sync::ledger::{Blank, Ledger};
 use text_lines::LineWriter;
 
-/// Saves the journal's snapshot on the second disk, and writes the number of its commands. The snapshot is read as
-/// `state_kept` reads it. The journal's disk is only read, but for an unfinished creation.
+/// Saves the journal's snapshot on the second disk, and writes the number of its commands. The journal's disk is only read,
+/// but for an unfinished creation. How few records are read is said of `state_kept` alone.
 pub fn checkpoint<K: Sink, D: Disk, E: Disk>(
     alloc: Global,
     output: &mut K,

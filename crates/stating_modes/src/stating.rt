@@ -21,7 +21,7 @@ use text_lines::Text;
 
 /// Writes all policies in order of issue, and the balances. The journal's records are decided anew from the position of
 /// the second disk's checkpoint on, where it has one that isn't above the journal's count, and else from the first on. The
-/// second disk is synced and read, and not written to. Each record that is read is a step.
+/// second disk is synced and read at most. Each record that is read is a step.
 pub fn state_kept<K: Sink, D: Disk, E: Disk, L: Ledger>(
     alloc: Global,
     output: &mut K,

@@ -79,8 +79,8 @@ abbrev pub unvalued_text : ℕ → ℤ → List ℕ
 unvalued_text clerk on = line_of (decimal clerk) (codes "value" ∷ day_text on ∷ codes "nomemory" ∷ [])
 
 -- The text of a valuation that was pinned at a position after these commands: the block of the rows of the policies that
--- the first so many of them leave, each row with bounds that enclose the exact terminal reserve. Where the pin is dry, it is the
--- line that there was no memory.
+-- the first so many of them leave, in which the bounds of each insured policy enclose its exact terminal reserve, or a word
+-- says why it has none. Where the pin is dry, it is the line that there was no memory.
 abbrev pub IsValuedText : ℕ → ℤ → List Command → List Dated → ℕ → (IsDry : Type 0) → List ℕ → Type 0
 IsValuedText clerk on commands basis position IsDry text =
     (IsDry × (text ≡ unvalued_text clerk on))

@@ -79,8 +79,8 @@ pub record IsLoadOf {D : Type 0} (g : Ghosts D) (old new : D) (lanes : List Lane
   pub tells : Tells (opened_on commands (g.faults old)) (postings ++ valuation) dry
   pub disk : IsLeftBy g old new (opened_on commands (g.faults old)) (postings ++ valuation)
 
--- the line was written of the history, and of the rows of the policies that all its commands leave, each of which
--- encloses the exact terminal reserve; the valuation found memory
+-- the line was written of the history, and of the rows of the policies that all its commands leave, in which the bounds of
+-- each insured policy enclose its exact terminal reserve, or a word says why it has none; the valuation found memory
 pub record HasLine (basis : List Dated) (Wrote : List ℕ → Type 0) (Replies : List Entry → List ℕ → Type 0)
     (opening : Opening) (history : List Entry) (dry : List ℕ) : Type 0 where
   pub rows : List Row
@@ -89,7 +89,7 @@ pub record HasLine (basis : List Dated) (Wrote : List ℕ → Type 0) (Replies :
   pub found : dry ≡ []
   pub replies : Replies history dry
 
--- nothing was written, since there was no memory for the valuation or for its line
+-- nothing was written
 abbrev pub HasNoLine : Stream → Opening → List Entry → List ℕ → Type 0
 HasNoLine output opening history dry = Appends output.before output.after []
 
