@@ -32,6 +32,20 @@ needs() {
     }
 }
 
+# Something that a check can't do without, and that CI always has: where CI is set, the check fails without it.
+lacks() {
+    [ -z "${CI:-}" ] || {
+        echo "$check: $1, and CI is set" >&2
+        exit 1
+    }
+    echo "$check: skipped: $1"
+    exit 0
+}
+
+needs_in_ci() {
+    command -v "$1" >/dev/null || lacks "$1 isn't installed"
+}
+
 # what takes too long over a preview, or is timed for a built program, isn't tried on one by `sh life test --all`
 needs_proved() {
     [ -z "${LIFE_PREVIEW:-}" ] || {

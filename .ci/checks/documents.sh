@@ -4,7 +4,7 @@
 # docs/FORMATS.md; and no page, sentence or cell of a table is too long.
 . "$(dirname "$0")/../common.sh"
 cd "$root" || exit 2
-python3 .ci/documents/look_over.py "$root" README.md docs/*.md || failed=1
+python3 .ci/documents/look_over.py "$root" ./*.md docs/*.md || failed=1
 python3 .ci/pages.py || failed=1
 python3 .ci/documents/run_blocks.py "$program" "$root" "$work" README.md \
     $(ls docs/*.md | grep -v OPERATIONS) || failed=1

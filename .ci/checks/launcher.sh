@@ -90,7 +90,7 @@ none_is_left() {
 begin "wrong words build nothing"
 echo usage >wanted
 for words in "" --help stat "prove it" try "try stat" "try try run" "test all" "install a b" "help me" --wait \
-    "install --help" "--wait 5" "--wait x run" "--wait 5 stat" "--wait 5 try run" "--wait -1 run" "--wait 1234567 run"; do
+    "install --help" "pack all" "--wait 5" "--wait x run" "--wait 5 stat" "--wait 5 try run" "--wait -1 run" "--wait 1234567 run"; do
     # shellcheck disable=SC2086
     launch $words </dev/null
     judge "$status" 2 wanted
@@ -100,7 +100,7 @@ done
 
 begin "help"
 launch help </dev/null
-for word in run state checkpoint value project generate --wait try prove test install tools help; do
+for word in run state checkpoint value project generate --wait try prove test install pack tools help; do
     grep -q "sh life $word" out || complain "$word isn't told"
 done
 
@@ -111,6 +111,7 @@ for words in run state "state 7001" checkpoint "value 2021-01-01" "project 2021-
     says_alone 69 "sh life try .* sh life prove" $words
 done
 says_alone 69 "sh life prove" install "$work/nowhere"
+says_alone 69 "sh life prove" pack
 [ ! -e "$work/nowhere" ] || complain "it made a folder for it"
 
 begin "no kit"

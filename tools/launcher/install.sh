@@ -16,27 +16,13 @@ name_places() {
     done
 }
 
-revision() {
-    found=$(git -C "$root" rev-parse HEAD 2>/dev/null) || { echo "unknown: there is no repository"; return; }
-    changes=$(git -C "$root" status --porcelain -- life crates crates.txt tools 2>/dev/null)
-    echo "$found${changes:+, with changes}"
-}
-
-kit() {
-    rt version 2>/dev/null || echo "unknown: rt isn't on the path"
-}
-
-sum_of() {
-    sha256sum <"$1" | cut -d ' ' -f 1
-}
-
 # each file in a folder beside its place, whole and on the disk, so that a rename is all that is left
 make_files() {
     cp "$program" "$staged/life" &&
         { echo '#!/bin/sh' && cat "$launcher/waiting.sh" "$root/tools/installed/life-wait.sh"; } >"$staged/life-wait" &&
-        python3 "$launcher/pack_tools.py" "$root/tools/life_tools" "$staged/life-tools" "$(revision)" "$(kit)" "$sum" &&
+        python3 "$root/tools/packing/tools_file.py" "$root/tools/life_tools" "$staged/life-tools" "$(revision)" "$(kit)" "$sum" &&
         cp "$root/tools/installed/life.1" "$staged_share/life.1" &&
-        python3 "$launcher/pack_tools.py" --completion "$root/tools/installed/life.bash" "$staged_share/life" &&
+        python3 "$root/tools/packing/tools_file.py" --completion "$root/tools/installed/life.bash" "$staged_share/life" &&
         chmod 755 "$staged/life" "$staged/life-wait" "$staged/life-tools" &&
         chmod 644 "$staged_share/life.1" "$staged_share/life" &&
         sync "$staged/life" "$staged/life-wait" "$staged/life-tools" "$staged_share/life.1" "$staged_share/life" &&

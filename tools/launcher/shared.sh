@@ -96,3 +96,18 @@ ends_by_signal() {
         echo "life: stopped; '"$2"'" >&2
         exit 130' INT TERM HUP
 }
+
+# the revision of what is installed or packed, the kit that proves, and a file's SHA-256
+revision() {
+    found=$(git -C "$root" rev-parse HEAD 2>/dev/null) || { echo "unknown: there is no repository"; return; }
+    changes=$(git -C "$root" status --porcelain -- life crates crates.txt tools 2>/dev/null)
+    echo "$found${changes:+, with changes}"
+}
+
+kit() {
+    rt version 2>/dev/null || echo "unknown: rt isn't on the path"
+}
+
+sum_of() {
+    sha256sum <"$1" | cut -d ' ' -f 1
+}

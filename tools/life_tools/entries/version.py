@@ -1,4 +1,7 @@
-"""Tells which program these tools were installed with, and whether the one beside them still is that."""
+"""Tells the version and the revision of these tools, and whether the program beside them is the one they belong to.
+
+The status is 1 where it isn't, or where a clone's program isn't as new as its sources.
+"""
 from __future__ import annotations
 
 import argparse
@@ -6,9 +9,14 @@ import hashlib
 import json
 import os
 import pkgutil
+import re
+import subprocess
 import sys
 
-from life_tools.formats import demand
+from life_tools.formats import Wrong, bytes_of, demand
+
+# whether a clone's program is newer than each of its sources, as its launcher decides that
+IS_CURRENT = 'root=$0; . "$root/tools/launcher/shared.sh"; is_current "$1"'
 
 
 def arguments(parser: argparse.ArgumentParser) -> None:
@@ -16,7 +24,7 @@ def arguments(parser: argparse.ArgumentParser) -> None:
 
 
 def built_with() -> dict[str, str] | None:
-    """What `life install` noted; nothing in a clone."""
+    """What `life install` or the package noted; nothing in a clone."""
     try:
         noted = pkgutil.get_data("life_tools", "built.json")
     except OSError:
@@ -24,20 +32,52 @@ def built_with() -> dict[str, str] | None:
     return json.loads(noted) if noted else None
 
 
-def run(options: argparse.Namespace) -> int:
-    here = os.path.dirname(os.path.realpath(sys.argv[0]))
-    built = built_with()
-    if built is None:
-        print(f"not installed: the tools of the clone {os.path.dirname(here)}")
-        return 0
-    for name in ("revision", "kit", "sum"):
+def version_of(clone: str) -> str:
+    """The newest version of a clone's changelog."""
+    found = re.search(r"^## (\S+)", bytes_of(os.path.join(clone, "CHANGELOG.md")).decode("utf-8", "replace"), re.M)
+    if not found:
+        raise Wrong(f"{clone}/CHANGELOG.md has no version")
+    return found[1]
+
+
+def revision_of(clone: str) -> str:
+    try:
+        asked = subprocess.run(["git", "-C", clone, "rev-parse", "HEAD"], stdout=subprocess.PIPE, stderr=subprocess.DEVNULL,
+                               check=False)
+    except OSError:
+        return "unknown"
+    return asked.stdout.decode().strip() or "unknown: there is no repository"
+
+
+def tell_of_clone(clone: str) -> int:
+    print(f"version: {version_of(clone)}, not installed: the tools of the clone {clone}")
+    print(f"revision: {revision_of(clone)}")
+    program = os.path.join(clone, "crates", "life_cli", "out", "life_cli")
+    if not os.path.isfile(program):
+        print(f"wrong: there is no proved program {program}: sh life prove")
+        return 1
+    print(f"sum: {hashlib.sha256(bytes_of(program)).hexdigest()}")
+    if subprocess.run(["sh", "-c", IS_CURRENT, clone, program], check=False).returncode:
+        print(f"wrong: {program} is older than its sources: sh life prove")
+        return 1
+    print(f"program: {program} is as new as its sources")
+    return 0
+
+
+def tell_of_installed(here: str, built: dict[str, str]) -> int:
+    for name in ("version", "revision", "kit", "sum"):
         print(f"{name}: {built[name]}")
-    program = os.path.join(here, "life")
+    program = os.path.realpath(os.path.join(here, "life"))
     demand(os.path.isfile(program), f"{program} isn't there")
-    with open(program, "rb") as file:
-        found = hashlib.sha256(file.read()).hexdigest()
+    found = hashlib.sha256(bytes_of(program)).hexdigest()
     if found != built["sum"]:
         print(f"wrong: {program} has the sum {found}")
         return 1
     print(f"program: {program} has this sum")
     return 0
+
+
+def run(options: argparse.Namespace) -> int:
+    here = os.path.dirname(os.path.realpath(sys.argv[0]))
+    built = built_with()
+    return tell_of_clone(os.path.dirname(here)) if built is None else tell_of_installed(here, built)

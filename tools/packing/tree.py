@@ -1,0 +1,151 @@
+"""The files of a release, as they lie below a folder: bin/ and share/, as in /usr or in the folder of a tar file."""
+from __future__ import annotations
+
+import gzip
+import os
+import shutil
+import subprocess
+from dataclasses import dataclass
+
+from packing.changelog import changelog_of, debians
+from packing.html_pages import write_pages
+from packing.manual import manual_of_tools
+from packing.tools_file import built_of, completion_of, contents_of
+
+NAME = "life"
+COPYRIGHT = """Format: https://www.debian.org/doc/packaging-manuals/copyright-format/1.0/
+Upstream-Name: life
+Source: the repository from which this was packed, at the revision that proved.txt names
+
+Files: *
+Copyright: 2026 the owner of the repository
+License: none
+ No licence is given: the owner has granted none, so nothing but what the law
+ allows anyway may be done with it.
+"""
+# the tools, by whichever Python is on the path; each names a package that it misses
+TOOLS = """#!/bin/sh
+# The tools beside the program: `life-tools --help` names them.
+command -v python3 >/dev/null || {
+    echo "life-tools: python3 is missing: apt-get install python3" >&2
+    exit 2
+}
+here=$(dirname "$(readlink -f -- "$0")")
+exec python3 "$here/../share/life/life-tools.py" "$@"
+"""
+
+
+@dataclass
+class Release:
+    """What is packed: the clone, its program, and how they are named."""
+
+    root: str
+    program: str
+    program_sum: str
+    sources_sum: str
+    version: str
+    revision: str
+    kit: str
+    seconds: int
+    maintainer: str
+
+    @property
+    def logic(self) -> str:
+        return self.kit.partition(" logic ")[2] or "unknown"
+
+
+def write(path: str, content: str | bytes, mode: int = 0o644) -> None:
+    os.makedirs(os.path.dirname(path), exist_ok=True)
+    with open(path, "wb") as file:
+        file.write(content.encode() if isinstance(content, str) else content)
+    os.chmod(path, mode)
+
+
+def write_zipped(path: str, content: str) -> None:
+    write(path, gzip.compress(content.encode(), 9, mtime=0))
+
+
+def link(path: str, target: str) -> None:
+    os.makedirs(os.path.dirname(path), exist_ok=True)
+    os.symlink(target, path)
+
+
+def text_of(release: Release, *names: str) -> str:
+    with open(os.path.join(release.root, *names), encoding="utf-8") as file:
+        return file.read()
+
+
+def proved_of(release: Release) -> str:
+    """What was proved, in the package: what one who has the kit needs for the same bytes."""
+    return f"""life {release.version}: what was proved
+
+revision: {release.revision}
+kit: {release.kit.partition(" logic ")[0]}
+logic: {release.logic}
+program: {release.program_sum}
+sources: {release.sources_sum}
+
+These are SHA-256 sums: of bin/life as it was proved and built, and of the list of all sources, contracts, proofs and
+wrong bodies that `python3 tools/packing/sources.py --list` prints. With this kit, `sh life prove` and `sh life pack` in a clone
+of this revision make the same bytes.
+"""
+
+
+def lay_programs(release: Release, top: str) -> None:
+    with open(release.program, "rb") as file:
+        write(f"{top}/bin/life", file.read(), 0o755)
+    waiting = text_of(release, "tools", "launcher", "waiting.sh") + text_of(release, "tools", "installed", "life-wait.sh")
+    write(f"{top}/bin/life-wait", "#!/bin/sh\n" + waiting, 0o755)
+    write(f"{top}/bin/life-tools", TOOLS, 0o755)
+
+
+def lay_tools(release: Release, top: str) -> None:
+    """The tools' package, and the file that runs it, which finds the program beside itself."""
+    built = built_of(release.revision, release.kit, release.program_sum)
+    for name, content in contents_of(os.path.join(release.root, "tools", "life_tools"), built).items():
+        write(f"{top}/share/life/{name}", content)
+    write(f"{top}/share/life/life-tools.py", text_of(release, "tools", "life-tools").partition("\n")[2])
+    link(f"{top}/share/life/life", "../../bin/life")
+
+
+def lay_manuals(release: Release, top: str) -> None:
+    write_zipped(f"{top}/share/man/man1/life.1.gz", text_of(release, "tools", "installed", "life.1"))
+    write_zipped(f"{top}/share/man/man1/life-tools.1.gz", manual_of_tools())
+    link(f"{top}/share/man/man1/life-wait.1.gz", "life.1.gz")
+    completions = f"{top}/share/bash-completion/completions"
+    write(f"{completions}/life", completion_of(os.path.join(release.root, "tools", "installed", "life.bash")))
+    for name in ("life-tools", "life-wait"):
+        link(f"{completions}/{name}", "life")
+
+
+def lay_documents(release: Release, top: str) -> None:
+    folder = f"{top}/share/doc/{NAME}"
+    os.makedirs(f"{folder}/html")
+    write_pages(release.root, f"{folder}/html", release.version)
+    examples = subprocess.run(["git", "ls-files", "-z", "examples"], cwd=release.root, stdout=subprocess.PIPE, check=True).stdout
+    for name in filter(None, examples.decode().split("\0")):
+        with open(os.path.join(release.root, name), "rb") as file:
+            write(f"{folder}/{name}", file.read())
+    write(f"{folder}/copyright", COPYRIGHT)
+    write(f"{folder}/proved.txt", proved_of(release))
+    write_zipped(f"{folder}/changelog.gz", debians(changelog_of(release.root), NAME, release.maintainer))
+
+
+def settle(top: str, seconds: int) -> None:
+    """Each file and folder with the modes and the time of a release, whatever this process would give them."""
+    for folder, _, names in os.walk(top):
+        for name in names:
+            os.utime(os.path.join(folder, name), (seconds, seconds), follow_symlinks=False)
+            if not os.path.islink(os.path.join(folder, name)) and not os.access(os.path.join(folder, name), os.X_OK):
+                os.chmod(os.path.join(folder, name), 0o644)
+    for folder, _, _ in os.walk(top, topdown=False):
+        os.chmod(folder, 0o755)
+        os.utime(folder, (seconds, seconds))
+
+
+def lay(release: Release, top: str) -> None:
+    """All files of a release below a folder that isn't there yet."""
+    shutil.rmtree(top, ignore_errors=True)
+    os.makedirs(top)
+    for part in (lay_programs, lay_tools, lay_manuals, lay_documents):
+        part(release, top)
