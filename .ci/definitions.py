@@ -22,10 +22,11 @@ WORD = re.compile(r"(?<![.\w])[^\s:{}()\[\],.;⦃⦄×⊎λ→≡]+")
 
 
 class Definition:
-    """A definition: its place, its text, and the comment right above it."""
+    """A definition: its place, the line at which it begins, its text, and the comment right above it."""
 
-    def __init__(self, place: str, name: str, comment: list[str]) -> None:
-        self.place, self.name, self.lines, self.comment = place, name, [], " ".join(comment)
+    def __init__(self, place: str, name: str, line: int, comment: list[str]) -> None:
+        self.place, self.name, self.line, self.comment = place, name, line, " ".join(comment)
+        self.lines: list[str] = []
 
     @property
     def key(self) -> str:
@@ -66,7 +67,7 @@ def read_file(place: str, text: str, definitions: dict[str, Definition]) -> None
     """The definitions of a file, each with its lines: those that begin it, and those that go on by indentation."""
     current, comment = None, []
     indent_of_module = 0
-    for line in text.splitlines():
+    for number, line in enumerate(text.splitlines(), 1):
         bare = line.strip()
         if bare.startswith("--"):
             comment.append(bare[2:].strip())
@@ -86,7 +87,7 @@ def read_file(place: str, text: str, definitions: dict[str, Definition]) -> None
             name = (begins or private).group(1)
             key = f"{place}.{name}"
             if key not in definitions:
-                definitions[key] = Definition(place, name, above)
+                definitions[key] = Definition(place, name, number, above)
             current = definitions[key]
         if current is not None:
             current.lines.append(line)

@@ -4,7 +4,7 @@ usage: python3 .ci/pages.py [PAGE..]      without one: each page at the top and 
 
 A page's words are those that `wc -w` counts. A sentence ends with a full stop, a question mark or an exclamation mark
 before a space; an item of a list, a heading and a cell of a table end one too. What stands in backticks is one word
-there, and a link counts by its text. Blocks of code aren't looked at. docs/INDEX.md is made by a script, and isn't.
+there, and a link counts by its text. Blocks of code aren't looked at.
 """
 
 import pathlib
@@ -24,11 +24,10 @@ LIMITS = {
     "docs/OPERATIONS.md": 1700,
     "docs/FORMATS.md": 6000,
     "docs/ARCHITECTURE.md": 4700,
-    "docs/PROOF.md": 8000,
+    "docs/PROOF.md": 8200,
     "docs/DECISIONS.md": 4000,
     "docs/FIGURES.md": 1500,
 }
-MADE = {"docs/INDEX.md"}
 MOST_IN_A_SENTENCE = 35
 MOST_IN_A_CELL = 30
 
@@ -99,7 +98,7 @@ def wrong_in(page: str, text: str):
 
 def main() -> int:
     written = [*sorted(page.name for page in TOP.glob("*.md")), *sorted(str(page.relative_to(TOP)) for page in TOP.glob("docs/*.md"))]
-    pages = [page for page in sys.argv[1:] or written if page not in MADE]
+    pages = sys.argv[1:] or written
     wrong, total = 0, 0
     for page in pages:
         text = (TOP / page).read_text(encoding="utf-8")

@@ -90,7 +90,7 @@ none_is_left() {
 begin "wrong words build nothing"
 echo usage >wanted
 for words in "" --help stat "prove it" try "try stat" "try try run" "test all" "install a b" "help me" --wait \
-    "install --help" "pack all" "--wait 5" "--wait x run" "--wait 5 stat" "--wait 5 try run" "--wait -1 run" "--wait 1234567 run"; do
+    "install --help" "pack all" "doc all" "--wait 5" "--wait x run" "--wait 5 stat" "--wait 5 try run" "--wait -1 run" "--wait 1234567 run"; do
     # shellcheck disable=SC2086
     launch $words </dev/null
     judge "$status" 2 wanted
@@ -100,7 +100,7 @@ done
 
 begin "help"
 launch help </dev/null
-for word in run state checkpoint value project generate --wait try prove test install pack tools help; do
+for word in run state checkpoint value project generate --wait try prove test install pack doc tools help; do
     grep -q "sh life $word" out || complain "$word isn't told"
 done
 

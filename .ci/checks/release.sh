@@ -3,7 +3,7 @@
 # finds no error, what is said of sums is so, and each link of the pages leads somewhere. Then as a new user: a fresh
 # Debian without the kit installs the package, posts, values and looks, takes the next version over it, and removes it.
 . "$(dirname "$0")/../common.sh"
-for each in git dpkg-deb lintian rt; do needs_in_ci "$each"; done
+for each in git dpkg-deb lintian rt chromedriver; do needs_in_ci "$each"; done
 /usr/bin/python3 -c "import markdown" 2>"$nothing" || lacks "python3-markdown isn't installed"
 tree=$(sh "$root/.ci/release/fresh_tree.sh") || lacks "$tree"
 : >"$nothing"
@@ -110,6 +110,7 @@ echo more >>"$top/bin/life"
 PATH=$PWD/bin:$PATH life-tools version >out 2>&1
 [ $? = 1 ] && grep -q "^wrong: " out || complain "a changed program isn't found: $(cat out)"
 python3 "$root/.ci/documents/follow_links.py" "$top/share/doc/life/html" 150 >out || complain "links: $(cat out)"
+timeout 100 /usr/bin/python3 "$root/.ci/documents/widths.py" "$top/share/doc/life/html" >out || complain "widths: $(cat out)"
 
 begin "a fresh Debian"
 fresh=$PWD/fresh

@@ -88,9 +88,7 @@ a_second_disk's_fault_not_told  stating_modes/second_disks_fault_told_as_want_of
 watchers_told_of_refusals       office_state/told_of_refused_commands watcher_set/a_done_watcher_is_kept
 EDITS
 
-# docs/INDEX.md is what the comments beside definitions and clauses make now
-python3 .ci/index.py --check || failed=1
-# and the names that pages for engineers tell are there
+# the names that pages for engineers tell are there
 python3 .ci/told_names.py || failed=1
 
 [ "$failed" = 0 ] && echo "repository: in order"

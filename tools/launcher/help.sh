@@ -16,6 +16,7 @@ anywhere, and nothing of it touches a book:
   sh life test [--all]            all tests, unproved, in minutes; with --all also every check of the repository
   sh life install [DIR]           the proved program for daily use, without this clone (~/.local/bin)
   sh life pack                    a package for Debian and a tar file of the proved program, in out/release
+  sh life doc                     linked pages of each public clause and the definitions under it, in out/doc
   sh life tools NAME WORDS        one of the tools beside the program: sh life tools --help
   sh life help                    this
 

@@ -1,0 +1,59 @@
+"""How much is to be read for the main statements: the table in docs/PROOF.md.
+
+usage: python3 .ci/counts.py            prints the table as it is now
+       python3 .ci/counts.py --check    fails where the page has another one
+       python3 .ci/counts.py --write    writes it into the page
+"""
+from __future__ import annotations
+
+import re
+import sys
+
+import definitions as known
+from public_clauses import Public, all_public
+
+PAGE = known.TOP / "docs" / "PROOF.md"
+HEAD = "| what | definitions | files | lines | words |\n|---|---|---|---|---|\n"
+COUNTED: tuple[tuple[str, list[str]], ...] = (
+    ("the headline's two cases", ["life_app.specs.Headline.IsPromised", "life_app.specs.Headline.IsUnrun"]),
+    ("the headline over a disk as it was found", ["life_app.specs.Headline.IsPromisedFromStart"]),
+    ("the contract of `life`", ["life_app/src/program.rt"]),
+    ("the contracts of `life` and `life_kept`", ["life_app/src/program.rt", "life_app/src/kept.rt"]),
+    ("all public clauses of `life_app` and `life_cli`", []),
+)
+
+
+def row_of(what: str, names: list[str], public: Public) -> str:
+    texts = public.texts
+    roots = set().union(*(known.roots_of(name, texts.definitions) for name in names))
+    seen = known.reach(roots, texts.definitions, texts.imports, set())[0] if names else public.promise
+    lines = [line for key in seen for line in texts.definitions[key].lines]
+    words = sum(len(line.split(" -- ")[0].split()) for line in lines)
+    files = len({texts.definitions[key].place for key in seen})
+    return f"| {what} | {len(seen)} | {files} | {len(lines)} | {words} |\n"
+
+
+def table_of(public: Public) -> str:
+    return HEAD + "".join(row_of(what, names, public) for what, names in COUNTED)
+
+
+def main() -> int:
+    table = table_of(all_public())
+    if len(sys.argv) < 2:
+        print(table, end="")
+        return 0
+    text = PAGE.read_text(encoding="utf-8")
+    found = re.search(re.escape(HEAD) + r"(?:\|.*\n)*", text)
+    if found and found[0] == table:
+        print("counts: the table of docs/PROOF.md is what the definitions make")
+        return 0
+    if found and sys.argv[1] == "--write":
+        PAGE.write_text(text.replace(found[0], table), encoding="utf-8")
+        return 0
+    why = "isn't what the definitions make now: python3 .ci/counts.py --write" if found else "isn't there"
+    print(f"counts: the table of docs/PROOF.md {why}", file=sys.stderr)
+    return 1
+
+
+if __name__ == "__main__":
+    sys.exit(main())
