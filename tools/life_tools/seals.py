@@ -15,6 +15,7 @@ from __future__ import annotations
 import datetime
 import hashlib
 import os
+from dataclasses import dataclass
 from typing import NamedTuple, Sequence
 
 from life_tools.bulk import day_at
@@ -37,7 +38,8 @@ class Sealed(NamedTuple):
     sum: str
 
 
-class Seal(NamedTuple):
+@dataclass(frozen=True)
+class Seal:
     """What a seal says: of a front of so many commands, of which day, with which sum; and of the files of bases."""
 
     made: datetime.date
