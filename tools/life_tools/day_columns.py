@@ -63,7 +63,7 @@ def completed_years(issued: Array, on: Array | int) -> Array:
 
 def texts_at(days: Array) -> Array:
     """The texts YYYY-MM-DD of days of the calendar, as bytes."""
-    first = STARTS[0]
+    first = int(STARTS[0])
     known = np.arange(first, first + len(YEAR), dtype="datetime64[D]")
     texts: Array = np.datetime_as_string(known).astype("S10")[days - first]
     return texts
